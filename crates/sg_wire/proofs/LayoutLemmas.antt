@@ -1,0 +1,56 @@
+-- A command descriptor block, byte by byte.
+use Rattle.std.proofs.Common.{◌≡◌, ◌<◌, ◌≤◌, ℕ, ◌+◌, ◌*◌, ◌^◌, ◌%◌, ◌==◌, List, [], ◌∷◌, ◌++◌, length, drop, get_or, Bool, true, false, Some, None, cond, eqb, eq-eqb, refl, ap, ◌∙◌, arith}
+use Rattle.std.specs.Prelude.{bit_and}
+use Rattle.std.proofs.lemmas.List.{drop_more, drop_all}
+use Rattle.std.proofs.lemmas.Nat.{and_mask}
+use Rattle.std.proofs.Math.Nat.{mod-eq_of_lt}
+use Rattle.byteorder.specs.Endian.{big_bytes, big_number}
+use Rattle.byteorder.specs.Numbers.{big_from-bytes}
+use Rattle.sg_wire.specs.declared.command.Command.TheVariants.{TestUnitReady, Inquiry}
+use Rattle.sg_wire.specs.Layout.{first_bad, read, read_as, is_bare, Encodes}
+
+-- one more byte
+pub first_bad-more : (masks bytes : List ℕ) (k : ℕ) → k < length masks → k < length bytes →
+    first_bad k (drop k masks) (drop k bytes) ≡ cond (eqb (bit_and (get_or bytes k 0) (get_or masks k 0)) (get_or bytes k 0)) (first_bad (k + 1) (drop (k + 1) masks) (drop (k + 1) bytes)) (Some k)
+first_bad-more masks bytes k h l = rw (drop_more masks k 0 h, drop_more bytes k 0 l) refl
+
+-- past the masks no byte is looked at
+pub first_bad-end : (masks bytes : List ℕ) (k : ℕ) → length masks ≤ k → first_bad k (drop k masks) (drop k bytes) ≡ None
+first_bad-end masks bytes k h = rw (drop_all k masks h) refl
+
+pub ruleset byte_by_byte = (first_bad-more, first_bad-end)
+
+-- a byte has no bit outside a whole mask
+pub is_whole : (x : ℕ) → x < 256 → (bit_and x 255 == x) ≡ true
+is_whole x h = let same : bit_and x 255 ≡ x = and_mask x 8 ∙ mod-eq_of_lt h in ap (λ y. y == x) same ∙ eq-eqb x x refl
+
+pub is_whole-mod : (x : ℕ) → (bit_and (x % 256) 255 == x % 256) ≡ true
+is_whole-mod x = is_whole (x % 256) (omega arith)
+
+-- a number is read again
+pub number_again : (n x : ℕ) (rest : List ℕ) → x < 256 ^ n → big_number n (big_bytes n x ++ rest) ≡ x
+number_again n x rest h = big_from-bytes n x rest ∙ mod-eq_of_lt h
+
+-- a block with a byte is read by its operation code
+pub read-some : (bytes : List ℕ) → 0 < length bytes → read bytes ≡ read_as (get_or bytes 0 0) bytes
+unfolding read
+read-some [] h = absurd (omega arith)
+read-some (opcode ∷ rest) h = refl
+
+-- ---- the block of each command
+
+pub encodes-test_unit_ready : Encodes TestUnitReady (0x00 ∷ 0 ∷ 0 ∷ 0 ∷ 0 ∷ 0 ∷ [])
+unfolding read read_as is_bare
+encodes-test_unit_ready = record { reads_back = refl; bare = refl }
+
+pub encodes-inquiry : (evpd : Bool) (page_code allocation_length : ℕ) → page_code < 256 → allocation_length < 2 ^ 16 →
+    Encodes (Inquiry evpd page_code allocation_length) ((0x12 ∷ cond evpd 1 0 ∷ page_code ∷ []) ++ big_bytes 2 allocation_length ++ (0 ∷ []))
+unfolding read read_as is_bare
+encodes-inquiry true page_code allocation_length p a =
+    let e : page_code * 1 + 0 ≡ page_code = omega arith in
+    let f = number_again 2 allocation_length [] a in
+    record { reads_back = simp (is_whole page_code p, is_whole-mod) cc; bare = simp (is_whole page_code p, is_whole-mod) }
+encodes-inquiry false page_code allocation_length p a =
+    let e : page_code * 1 + 0 ≡ page_code = omega arith in
+    let f = number_again 2 allocation_length [] a in
+    record { reads_back = simp (is_whole page_code p, is_whole-mod) cc; bare = simp (is_whole page_code p, is_whole-mod) }

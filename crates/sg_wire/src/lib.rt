@@ -1,0 +1,15 @@
+//! What passes between an initiator and the disk: command descriptor blocks, sense data, answers cut
+//! at their allocation length, and the readers and writers that a session runs over.
+#![tactic(auto)]
+
+mod bytes;
+mod command;
+mod cut;
+mod initiator;
+mod sense;
+
+pub use bytes::{CdbBytes, ShortBytes};
+pub use command::{CdbFault, Class, Command};
+pub use cut::Cut;
+pub use initiator::Initiator;
+pub use sense::{Format, Pointer, Sense};
