@@ -1,5 +1,4 @@
 // The commands.
-mod opcode;
 mod read;
 mod reservation_class;
 mod write;

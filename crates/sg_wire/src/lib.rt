@@ -6,6 +6,7 @@ mod bytes;
 mod command;
 mod cut;
 mod initiator;
+pub mod opcode;
 mod sense;
 
 pub use bytes::{CdbBytes, ShortBytes};

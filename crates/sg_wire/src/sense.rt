@@ -54,6 +54,11 @@ impl Sense {
     ghost use Rattle.sg_wire.specs.SenseData.{sense_data, read_sense, read_fixed};
     ghost use Rattle.sg_wire.specs.declared.sense.Format.TheVariants.{Fixed, Descriptor};
 
+    /// The sense key ILLEGAL REQUEST (SPC-4, 4.5.6).
+    pub const ILLEGAL_REQUEST: u8 = 5;
+    /// The sense key UNIT ATTENTION.
+    pub const UNIT_ATTENTION: u8 = 6;
+
     /// Writes the sense data in a format: 18 bytes in fixed format, 8 to 28 in descriptor format. Fixed
     /// format leaves INFORMATION out where it does not fit its four bytes; otherwise it is read again as
     /// it was.

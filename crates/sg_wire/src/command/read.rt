@@ -2,7 +2,8 @@
 ghost use Rattle.std.specs.Prelude.{◌≡◌, ◌≤◌, ◌<◌, length, OnOk, IfSome};
 ghost use Rattle.sg_wire.specs.Layout.{read, read_as, first_bad, checked};
 
-use super::{CdbFault, Command, opcode};
+use super::{CdbFault, Command};
+use crate::opcode;
 use byteorder::{BigEndian, ByteOrder};
 
 // The bits of each byte that a command allows; CONTROL, the last byte, has to be zero.

@@ -2,7 +2,8 @@
 ghost use Rattle.std.specs.Prelude.{◌≡◌};
 ghost use Rattle.sg_wire.specs.Layout.{class_of};
 
-use super::{Class, Command, opcode};
+use super::{Class, Command};
+use crate::opcode;
 
 impl Command {
     /// The reservation class of a block's command, by its operation code. None where the block is empty

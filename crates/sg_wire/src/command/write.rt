@@ -3,8 +3,9 @@ ghost use Rattle.std.specs.Prelude.{◌≡◌, [], ◌∷◌, ◌++◌, if◌the
 ghost use Rattle.byteorder.specs.Endian.{big_bytes};
 ghost use Rattle.sg_wire.specs.Layout.{Encodes};
 
-use super::{Command, opcode};
+use super::Command;
 use crate::bytes::CdbBytes;
+use crate::opcode;
 use byteorder::{BigEndian, ByteOrder};
 
 impl Command {

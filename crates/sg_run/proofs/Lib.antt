@@ -1,0 +1,4 @@
+pub mod AttentionLemmas
+mod Lemmas
+pub mod SenseLemmas
+pub mod StepLemmas

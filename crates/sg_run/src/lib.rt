@@ -1,0 +1,5 @@
+//! A disk behind a script: the target that executes commands, and the runner that reads them line by
+//! line.
+#![tactic(auto)]
+
+pub mod target;

@@ -1,0 +1,70 @@
+// Why a command is refused.
+use super::attentions::UnitAttention;
+use sg_wire::{CdbFault, Pointer, Sense};
+
+/// Why a command ends with CHECK CONDITION (SPC-4, 4.5.6).
+#[derive(Clone, Copy, Debug, PartialEq, Eq)]
+pub(super) enum Refusal {
+    /// INVALID FIELD IN CDB, at the byte of this place.
+    InvalidFieldInCdb { byte: u16 },
+    /// INVALID COMMAND OPERATION CODE.
+    InvalidCommandOperationCode,
+    /// A unit attention condition is reported.
+    UnitAttention(UnitAttention),
+}
+
+ghost use Rattle.std.specs.Prelude.{◌≡◌, ◌≤◌};
+ghost use Rattle.sg_wire.specs.Sense.{fields_of};
+ghost use Rattle.sg_run.specs.Refusal.{plain_sense, refusal_for, sense_of};
+
+impl Refusal {
+    /// The sense that tells it.
+    pub(super) fn sense(self) -> Sense
+        ensures { fields_of result ≡ sense_of self }
+    {
+        match self {
+            Refusal::InvalidFieldInCdb { byte } => Sense {
+                key: Sense::ILLEGAL_REQUEST,
+                asc: 0x24,
+                ascq: 0x00,
+                information: None,
+                pointer: Some(Pointer {
+                    in_command: true,
+                    byte,
+                }),
+            },
+            Refusal::InvalidCommandOperationCode => plain(Sense::ILLEGAL_REQUEST, 0x20, 0x00),
+            Refusal::UnitAttention(condition) => {
+                let (asc, ascq) = condition.code();
+                plain(Sense::UNIT_ATTENTION, asc, ascq)
+            }
+        }
+    }
+}
+
+impl From<CdbFault> for Refusal {
+    ghost from_gives = { λ fault refusal. refusal ≡ refusal_for fault };
+
+    fn from(fault: CdbFault) -> Refusal {
+        match fault {
+            CdbFault::Empty => Refusal::InvalidFieldInCdb { byte: 0 },
+            CdbFault::Opcode => Refusal::InvalidCommandOperationCode,
+            CdbFault::Short(place) | CdbFault::Field(place) => Refusal::InvalidFieldInCdb {
+                byte: u16::from(place),
+            },
+        }
+    }
+}
+
+fn plain(key: u8, asc: u8, ascq: u8) -> Sense
+    requires { key ≤ 15 }
+    ensures { fields_of result ≡ plain_sense key asc ascq }
+{
+    Sense {
+        key,
+        asc,
+        ascq,
+        information: None,
+        pointer: None,
+    }
+}
