@@ -2,5 +2,8 @@ pub mod Attentions
 pub mod Checks
 pub mod Config
 pub mod Refusal
+pub mod Request
+pub mod RequestLines
 pub mod State
 pub mod Step
+pub mod Words

@@ -2,4 +2,5 @@
 //! line.
 #![tactic(auto)]
 
+mod request;
 pub mod target;
