@@ -7,4 +7,4 @@ use Rattle.sg_run.specs.declared.request.Request.TheVariants.{Nothing, Faulty, S
 abbrev pub seen : Request → LineRequest
 seen Nothing = nothing
 seen (Faulty fault) = faulty fault
-seen (Send initiator cdb data_out) = send initiator cdb.now data_out.now
+seen (Send call) = send call.initiator call.cdb.now call.data_out.now

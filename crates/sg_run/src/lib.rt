@@ -2,5 +2,17 @@
 //! line.
 #![tactic(auto)]
 
+mod buffers;
+mod execute;
+mod exit_status;
+mod hex_text;
+mod line;
+mod line_text;
+mod next_line;
+mod read_ahead;
 mod request;
+mod run;
+mod sense_text;
 pub mod target;
+
+pub use run::{RunFault, Session, run_script};

@@ -5,6 +5,7 @@ ghost use Rattle.std.specs.Str.Lines.{strip_carriage_return};
 ghost use Rattle.sg_run.specs.Words.{words};
 ghost use Rattle.sg_run.specs.Request.{by_verb, is_allowed, request_of, text_request};
 ghost use Rattle.sg_run.specs.RequestLines.{seen};
+ghost use Rattle.sg_run.specs.LineFault.{fault_words};
 
 mod raw;
 mod words;
@@ -20,12 +21,16 @@ pub(crate) enum Request<'a> {
     Nothing,
     /// The line has a fault, and nothing is executed.
     Faulty(LineFault),
-    /// A command is sent, with its data-out.
-    Send {
-        initiator: Initiator,
-        cdb: &'a [u8],
-        data_out: &'a [u8],
-    },
+    /// A command is sent.
+    Send(Call<'a>),
+}
+
+/// A command descriptor block with its data-out, and who sends it.
+#[derive(Clone, Copy)]
+pub(crate) struct Call<'a> {
+    pub(crate) initiator: Initiator,
+    pub(crate) cdb: &'a [u8],
+    pub(crate) data_out: &'a [u8],
 }
 
 /// Why a line is refused. The first that holds is told.
@@ -45,6 +50,23 @@ pub(crate) enum LineFault {
     Hex,
     /// The first word is no verb.
     UnknownVerb,
+}
+
+impl LineFault {
+    /// What is said of it.
+    pub(crate) fn words(self) -> &'static [u8]
+        ensures { result.now ≡ fault_words self }
+    {
+        match self {
+            LineFault::TooLong => b"too long",
+            LineFault::BadByte => b"bad byte",
+            LineFault::TooManyWords => b"too many words",
+            LineFault::Usage => b"usage",
+            LineFault::Initiator => b"initiator",
+            LineFault::Hex => b"hex",
+            LineFault::UnknownVerb => b"unknown verb",
+        }
+    }
 }
 
 #[tactic(auto, unfolding(crate::specs::Request::request_of))]

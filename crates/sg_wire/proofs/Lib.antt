@@ -1,3 +1,5 @@
 pub mod CutLemmas
 pub mod LayoutLemmas
+pub mod PrintingLemmas
+pub mod SendingLemmas
 pub mod SenseLemmas

@@ -7,10 +7,14 @@ mod command;
 mod cut;
 mod initiator;
 pub mod opcode;
+mod printer;
 mod sense;
+mod watched;
 
 pub use bytes::{CdbBytes, ShortBytes};
 pub use command::{CdbFault, Class, Command};
 pub use cut::Cut;
 pub use initiator::Initiator;
+pub use printer::Printer;
 pub use sense::{Format, Pointer, Sense};
+pub use watched::Watched;

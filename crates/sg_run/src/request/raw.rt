@@ -5,7 +5,7 @@ ghost use Rattle.sg_run.specs.Request.{hex_bytes, initiator_of, raw};
 ghost use Rattle.sg_run.specs.RequestLines.{seen};
 
 use super::words::next_word;
-use super::{LineFault, Request};
+use super::{Call, LineFault, Request};
 use sg_wire::Initiator;
 
 // The command of `raw`, by the words after the verb.
@@ -27,11 +27,11 @@ pub(super) fn read_raw<'a>(text: &[u8], buffer: &'a mut [u8]) -> Request<'a>
         return Request::Faulty(LineFault::Hex);
     };
     let bytes: &'a [u8] = buffer;
-    Request::Send {
+    Request::Send(Call {
         initiator,
         cdb: &bytes[..cdb],
         data_out: &bytes[cdb..cdb + data_out],
-    }
+    })
 }
 
 // The words of `raw`. DATA may be left out.

@@ -1,0 +1,43 @@
+-- What a line of a script does.
+use Rattle.std.specs.Prelude.{ℕ, List, [], ◌++◌, Option, codes}
+use Rattle.sg_run.specs.ExitStatus.{exit_status}
+use Rattle.sg_run.specs.HexText.{hex_lines}
+use Rattle.sg_run.specs.LineFault.{fault_words}
+use Rattle.sg_run.specs.LineText.{line_header}
+use Rattle.sg_run.specs.Request.{LineRequest, nothing, faulty, send, request_of}
+use Rattle.sg_run.specs.SenseText.{sense_lines}
+use Rattle.sg_run.specs.State.{State}
+use Rattle.sg_run.specs.Step.{Step, step}
+use Rattle.sg_run.specs.declared.target.reply.Status.{Status}
+use Rattle.sg_run.specs.declared.target.reply.Status.TheVariants.{Good, CheckCondition}
+
+-- What is printed, the exit status, and the state of the disk afterwards.
+pub record Outcome : Type 0 where
+  pub text : List ℕ
+  pub status : ℕ
+  pub state : State
+
+-- Nothing is printed, and the state stays.
+abbrev pub silent : State → Outcome
+silent state = record { text = []; status = 0; state = state }
+
+abbrev pub status_words : Status → List ℕ
+status_words Good = codes "GOOD"
+status_words CheckCondition = codes "CHECK CONDITION"
+
+-- A command's status, its sense data where it has some, and its data-in.
+abbrev pub answered : ℕ → Step → Outcome
+answered number s = record {
+  text = line_header number (status_words s.status) ++ (sense_lines s.sense ++ hex_lines s.data_in);
+  status = exit_status s.status s.sense;
+  state = s.state;
+}
+
+abbrev pub by_request : ℕ → State → LineRequest → Outcome
+by_request number state nothing = silent state
+by_request number state (faulty fault) = record { text = line_header number (fault_words fault); status = 1; state = state }
+by_request number state (send initiator cdb data_out) = answered number (step state initiator cdb data_out)
+
+-- What the line with a number does, by what is kept of it, which is nothing where it is too long.
+unfoldable pub outcome : (number : ℕ) → (line : Option (List ℕ)) → State → Outcome
+outcome number line state = by_request number state (request_of line)

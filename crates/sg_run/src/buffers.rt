@@ -1,0 +1,33 @@
+// The memory that a command is answered in.
+ghost use Rattle.std.specs.Prelude.{◌≡◌, vec_len};
+
+use std::alloc::{AllocError, Global};
+
+// The most bytes of a command's data-in.
+const DATA_IN: usize = 131_072;
+
+// The most bytes of text that wait before they are written.
+const TEXT: usize = 65_536;
+
+/// Buffers for the bytes of a line's hexadecimal words, for data-in and for the text of the answer.
+#[derive(Drop)]
+pub(crate) struct Buffers {
+    pub(crate) decoded: [u8; 4_096],
+    pub(crate) data_in: Vec<u8>,
+    pub(crate) text: Vec<u8>,
+    ghost room: { vec_len data_in ≡ 131072 },
+}
+
+impl Buffers {
+    /// Takes the memory of the buffers.
+    ///
+    /// # Errors
+    /// Memory was refused.
+    pub(crate) fn new(alloc: Global) -> Result<Buffers, AllocError> {
+        Ok(Buffers {
+            decoded: [0; 4_096],
+            data_in: vec![in alloc; 0; DATA_IN]?,
+            text: vec![in alloc; 0; TEXT]?,
+        })
+    }
+}

@@ -1,0 +1,88 @@
+// Bytes as hexadecimal text.
+ghost use Rattle.std.specs.Prelude.{◌≡◌, ◌<◌, ◌≤◌, ◌^◌, [], ◌∷◌, ◌++◌, length, codes};
+ghost use Rattle.std.specs.List.{flat_map};
+ghost use Rattle.hex.specs.Hex.{encode_lower};
+ghost use Rattle.sg_wire.specs.Printing.{Prints};
+ghost use Rattle.sg_wire.specs.Printer.{printing};
+ghost use Rattle.sg_run.specs.HexText.{hex_byte, hex_offset, hex_line, hex_lines, upper_hex_byte};
+
+use sg_wire::Printer;
+use std::io::Write;
+
+const LOWER_DIGITS: [u8; 16] = *b"0123456789abcdef";
+
+const UPPER_DIGITS: [u8; 16] = *b"0123456789ABCDEF";
+
+/// Prints some bytes in lines of sixteen: the offset of the first in eight digits, and each byte as
+/// two digits, all in lower case.
+#[tactic(auto, using(crate::proofs::TextLemmas::prints), unfolding(crate::specs::HexText::first_hex_lines))]
+pub(crate) fn print_hex<W: Write>(bytes: &[u8], out: &mut Printer<'_, W>)
+    requires { length bytes.now < 2 ^ 32 }
+    ensures { Prints (printing W.contents out.old) (printing W.contents out.new) (hex_lines bytes.now) }
+{
+    for (number, chunk) in bytes.chunks(16).enumerate() {
+        print_hex_line((16 * number) as u32, chunk, out);
+    }
+}
+
+// Prints a line of at most sixteen bytes.
+#[tactic(auto, using(crate::proofs::TextLemmas::prints), unfolding(crate::specs::HexText::hex_line))]
+fn print_hex_line<W: Write>(offset: u32, bytes: &[u8], out: &mut Printer<'_, W>)
+    requires some { 0 < length bytes.now }
+    requires most { length bytes.now ≤ 16 }
+    ensures { Prints (printing W.contents out.old) (printing W.contents out.new) (hex_line offset bytes.now) }
+{
+    print_offset(offset, out);
+    print_bytes(bytes, out);
+    out.put(b"\n");
+}
+
+// Prints the offset between two blanks and one.
+fn print_offset<W: Write>(offset: u32, out: &mut Printer<'_, W>)
+    ensures { Prints (printing W.contents out.old) (printing W.contents out.new) (codes "  " ++ (hex_offset offset ++ codes " ")) }
+{
+    let mut text = *b"  00000000 ";
+    hex::encode_to_slice(offset.to_be_bytes(), &mut text[2..10]).unwrap();
+    out.put(&text);
+}
+
+// Prints at most sixteen bytes with a blank before each.
+fn print_bytes<W: Write>(bytes: &[u8], out: &mut Printer<'_, W>)
+    requires { length bytes.now ≤ 16 }
+    ensures { Prints (printing W.contents out.old) (printing W.contents out.new) (flat_map (λ byte. 32 ∷ hex_byte byte) bytes.now) }
+{
+    let mut text = [b' '; 48];
+    for (place, byte) in bytes.iter().enumerate() {
+        let [high, low] = digits_of(*byte);
+        text[3 * place] = b' ';
+        text[3 * place + 1] = high;
+        text[3 * place + 2] = low;
+    }
+    out.put(&text[..3 * bytes.len()]);
+}
+
+// The two digits of a byte.
+#[tactic(auto, unfolding(hex::specs::Hex::encode_with))]
+fn digits_of(byte: u8) -> [u8; 2]
+    ensures { result ≡ hex_byte byte }
+{
+    [
+        LOWER_DIGITS[(byte >> 4) as usize],
+        LOWER_DIGITS[(byte & 0x0f) as usize],
+    ]
+}
+
+/// Prints a byte as two upper-case digits and an h, as in `29h`.
+#[tactic(auto, unfolding(hex::specs::Hex::encode_with))]
+pub(crate) fn print_hex_byte<W: Write>(byte: u8, out: &mut Printer<'_, W>)
+    ensures { Prints (printing W.contents out.old) (printing W.contents out.new) (upper_hex_byte byte) }
+{
+    out.put(&[
+        UPPER_DIGITS[(byte >> 4) as usize],
+        UPPER_DIGITS[(byte & 0x0f) as usize],
+        b'h',
+    ]);
+}
+
+#[cfg(test)]
+mod tests;
