@@ -12,12 +12,14 @@ pub struct Identity {
 }
 
 impl Model for Identity {
-    ghost use Rattle.std.specs.Prelude.{◌<◌, ◌^◌, IsTrue};
+    ghost use Rattle.std.specs.Prelude.{◌<◌, ◌^◌};
     ghost use Rattle.sg_pages.specs.Identity.{IdentityFields, is_text};
 
     ghost Value = { IdentityFields };
 
     ghost view = { λ i. record { vendor = i.vendor; product = i.product; revision = i.revision; serial = i.serial; local = i.local } };
+
+    ghost invariant = { λ i. i.local < 2 ^ 60 };
 
     ghost inverse = { λ i. record { vendor = i.vendor; product = i.product; revision = i.revision; serial = i.serial; local = i.local } };
 }
@@ -31,13 +33,13 @@ pub enum IdentityFault {
     Local,
 }
 
-ghost use Rattle.std.specs.Prelude.{◌≡◌, codes};
+ghost use Rattle.std.specs.Prelude.{◌≡◌, ◌<◌, ◌^◌, length, codes};
 ghost use Rattle.std.specs.List.{list_all};
 ghost use Rattle.sg_pages.specs.Identity.{is_printable, checked_identity};
 
 impl Identity {
     /// An identity of these texts, padded with spaces, and the 60 bits of a locally assigned NAA
-    /// identifier (SPC-4, 7.8.6.6.4).
+    /// identifier (SPC-4, 7.8.6.6).
     ///
     /// # Errors
     /// The first fault of [`IdentityFault`], in the order given there.
@@ -80,23 +82,42 @@ impl Identity {
 
     /// The T10 vendor identification, left-aligned.
     pub fn vendor(&self) -> &[u8; 8]
-        ensures { result.now ≡ self.now.vendor }
+        ensures value { result.now ≡ self.now.vendor }
+        ensures length { length result.now ≡ 8 }
     {
         &self.vendor
     }
 
     /// The product identification, left-aligned.
     pub fn product(&self) -> &[u8; 16]
-        ensures { result.now ≡ self.now.product }
+        ensures value { result.now ≡ self.now.product }
+        ensures length { length result.now ≡ 16 }
     {
         &self.product
     }
 
     /// The product revision level.
     pub fn revision(&self) -> &[u8; 4]
-        ensures { result.now ≡ self.now.revision }
+        ensures value { result.now ≡ self.now.revision }
+        ensures length { length result.now ≡ 4 }
     {
         &self.revision
+    }
+
+    /// The unit serial number, left-aligned.
+    pub fn serial(&self) -> &[u8; 8]
+        ensures value { result.now ≡ self.now.serial }
+        ensures length { length result.now ≡ 8 }
+    {
+        &self.serial
+    }
+
+    /// The 60 bits of the locally assigned identifier.
+    pub fn local(&self) -> u64
+        ensures value { result ≡ self.now.local }
+        ensures bound { result < 2 ^ 60 }
+    {
+        self.local
     }
 }
 
@@ -105,3 +126,6 @@ fn is_text(bytes: &[u8]) -> bool
 {
     bytes.iter().all(|byte| matches!(byte, 0x20..=0x7E))
 }
+
+#[cfg(test)]
+mod tests;

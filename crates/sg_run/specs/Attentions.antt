@@ -1,4 +1,4 @@
--- Unit attentions (SPC-4, 5.14).
+-- Unit attentions (SAM-5, 5.14).
 use Rattle.std.specs.Prelude.{ℕ, List, [], ◌∷◌, drop, slice_get, slice_index_or, slice_set, replicate, Option}
 use Rattle.sg_run.specs.declared.target.attentions.UnitAttention.{UnitAttention}
 use Rattle.sg_run.specs.declared.target.attentions.UnitAttention.TheVariants.{PowerOn, ModeParametersChanged, ReservationsPreempted, ReservationsReleased, RegistrationsPreempted}

@@ -1,11 +1,12 @@
 -- The checks that a command passes before it is executed.
-use Rattle.std.specs.Prelude.{ℕ, List, [], ◌∷◌, Option, Some, None, Result, Ok, Err, Bool, ◌||◌, not, ◌==◌, slice_index, if◌then◌else◌}
+use Rattle.std.specs.Prelude.{ℕ, List, [], ◌∷◌, Option, Some, None, Result, Ok, Err, Bool, ◌||◌, ◌==◌, slice_index, if◌then◌else◌}
 use Rattle.std.specs.Option.{option_map}
 use Rattle.sg_wire.specs.Layout.{read}
 use Rattle.sg_wire.specs.declared.command.Command.{Command}
-use Rattle.sg_wire.specs.declared.command.Command.TheVariants.{TestUnitReady, Inquiry}
+use Rattle.sg_wire.specs.declared.command.Command.TheVariants.{TestUnitReady, RequestSense, Inquiry}
 use Rattle.sg_wire.specs.declared.command.CdbFault.{CdbFault}
 use Rattle.sg_wire.specs.declared.command.CdbFault.TheVariants.{Empty, Opcode, Short, Field}
+use Rattle.sg_pages.specs.VitalProductData.{is_supported}
 use Rattle.sg_run.specs.Attentions.{oldest}
 use Rattle.sg_run.specs.State.{State}
 use Rattle.sg_run.specs.declared.target.refusal.Refusal.{Refusal}
@@ -16,7 +17,7 @@ abbrev pub empty_block : Result Command CdbFault → Option Refusal
 empty_block (Err Empty) = Some (InvalidFieldInCdb 0)
 empty_block _ = None
 
--- INQUIRY and REQUEST SENSE are executed beside a pending unit attention (SPC-4, 5.14).
+-- INQUIRY and REQUEST SENSE are executed beside a pending unit attention (SPC-4, 6.6.1 and 6.39; SAM-5, 5.14).
 abbrev pub passes_attention : ℕ → Bool
 passes_attention opcode = opcode == 0x12 || opcode == 0x03
 
@@ -38,11 +39,15 @@ abbrev pub bad_field : Result Command CdbFault → Option Refusal
 bad_field (Err (Field place)) = Some (InvalidFieldInCdb place)
 bad_field _ = None
 
--- The byte of the first field whose value the disk does not support. INQUIRY: no page without EVPD, and no page
--- of vital product data.
+-- The page that INQUIRY asks for: one of vital product data with EVPD, and without it none.
+abbrev pub has_page : (evpd : Bool) (page_code : ℕ) → Bool
+has_page evpd page_code = if evpd then is_supported page_code else page_code == 0
+
+-- The byte of the first field whose value the disk does not support.
 abbrev pub unsupported_value : Command → Option ℕ
 unsupported_value TestUnitReady = None
-unsupported_value (Inquiry evpd page_code allocation_length) = if evpd || not (page_code == 0) then Some 2 else None
+unsupported_value (RequestSense desc allocation_length) = None
+unsupported_value (Inquiry evpd page_code allocation_length) = if has_page evpd page_code then None else Some 2
 
 abbrev pub bad_value : Result Command CdbFault → Option Refusal
 bad_value (Ok command) = option_map InvalidFieldInCdb (unsupported_value command)

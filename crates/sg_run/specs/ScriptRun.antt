@@ -11,15 +11,18 @@ use Rattle.sg_run.specs.Transcript.{run_lines, outcome_after, transcript}
 use Rattle.sg_run.specs.declared.run.RunFault.{RunFault}
 use Rattle.sg_run.specs.declared.run.RunFault.TheVariants.{Read, Write}
 
--- What a run stands on: the bytes that the reader still gives, where it tells them, and whether it has failed; the bytes that the writer holds, where it tells them, and whether it has failed; and the target's state.
+-- what a run works on, at one moment
 pub record Snapshot : Type 0 where
+  -- the bytes that the reader still gives, where it tells them
   pub input : Option (List ℕ)
   pub read_failed : Bool
+  -- the bytes that the writer holds, where it tells them
   pub output : Option (List ℕ)
   pub write_failed : Bool
+  -- the target's
   pub state : State
 
--- the same of a reader, a writer and a state, by what readers and writers tell
+-- a reader, a writer and a target's state, by what such readers and writers tell of their bytes
 abbrev pub snapshot : {R W : Type 0} → (R → Option (List ℕ)) → (W → Option (List ℕ)) → Watched R → Watched W → State → Snapshot
 snapshot remaining contents reader writer state = record {
   input = remaining (inner_of reader);
@@ -29,7 +32,7 @@ snapshot remaining contents reader writer state = record {
   state = state;
 }
 
--- The script was read to its end. Its transcript was written, its status answered, and its state is the target's.
+-- The script was read to its end. Its transcript is what was written, answered and left.
 pub record Finished (old new : Snapshot) (status : ℕ) : Type 0 where
   pub script : List ℕ
   pub took : Consumes old.input new.input script
@@ -40,7 +43,7 @@ pub record Finished (old new : Snapshot) (status : ℕ) : Type 0 where
   pub read_sound : new.read_failed ≡ false
   pub write_sound : new.write_failed ≡ false
 
--- The reader failed after the bytes that it had given; or those are as many as a script may have, and it gave more. Just the whole lines among them were executed, and no part of a line.
+-- The reader failed after the bytes that it had given, or it gave more than a script may have. The whole lines among those bytes were executed, and no part of a line.
 pub record StoppedReading (old new : Snapshot) : Type 0 where
   pub given : List ℕ
   pub more : List ℕ
@@ -50,11 +53,13 @@ pub record StoppedReading (old new : Snapshot) : Type 0 where
   pub state_is : new.state ≡ (run_lines old.state (whole_lines given)).state
   pub write_sound : new.write_failed ≡ false
 
--- The writer failed within the text of a line. That line was executed, and the text of the lines before it was written whole.
+-- The writer failed within the text of a line, which was executed. The text of the lines before it was written whole.
 pub record StoppedWriting (old new : Snapshot) : Type 0 where
   pub before : List (List ℕ)
   pub line : List ℕ
+  -- where the reader tells its bytes, the script begins with these lines
   pub begins : (script : List ℕ) → old.input ≡ Some script → (after : List (List ℕ)) × (lines script ≡ before ++ line ∷ after)
+  -- what the writer held before that line
   pub between : Option (List ℕ)
   pub wrote : Appends old.output between (run_lines old.state before).text
   pub stopped : StopsWithin between new.output (outcome_after old.state before line).text
@@ -68,7 +73,7 @@ RunsScript old new (Ok status) = Finished old new status
 RunsScript old new (Err Read) = StoppedReading old new
 RunsScript old new (Err Write) = StoppedWriting old new
 
--- an outcome came about: its text was written, its state is the target's, and its status was answered
+-- this outcome is what was written, answered and left
 pub record Delivers {E : Type 0} (expected : Outcome) (old new : Option (List ℕ)) (state : State) (answer : Result ℕ E) : Type 0 where
   pub text : Appends old new expected.text
   pub state_is : state ≡ expected.state

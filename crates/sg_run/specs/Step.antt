@@ -1,17 +1,21 @@
 -- What a command does: the reply and the state after it.
-use Rattle.std.specs.Prelude.{ℕ, List, [], Option, Some, None, Result, Ok, Err}
+use Rattle.std.specs.Prelude.{ℕ, List, [], Bool, Option, Some, None, Result, Ok, Err, unwrap_or, if◌then◌else◌}
 use Rattle.sg_wire.specs.CutAnswer.{first_bytes}
 use Rattle.sg_wire.specs.Layout.{read}
-use Rattle.sg_wire.specs.SenseData.{sense_data}
+use Rattle.sg_wire.specs.SenseData.{SenseFields, sense_data}
 use Rattle.sg_wire.specs.declared.command.Command.{Command}
-use Rattle.sg_wire.specs.declared.command.Command.TheVariants.{TestUnitReady, Inquiry}
+use Rattle.sg_wire.specs.declared.command.Command.TheVariants.{TestUnitReady, RequestSense, Inquiry}
 use Rattle.sg_wire.specs.declared.command.CdbFault.{CdbFault}
-use Rattle.sg_wire.specs.declared.sense.Format.TheVariants.{Fixed}
+use Rattle.sg_wire.specs.declared.sense.Format.{Format}
+use Rattle.sg_wire.specs.declared.sense.Format.TheVariants.{Fixed, Descriptor}
+use Rattle.sg_pages.specs.Identity.{IdentityFields}
 use Rattle.sg_pages.specs.InquiryData.{standard_inquiry}
-use Rattle.sg_run.specs.Attentions.{without_oldest}
+use Rattle.sg_pages.specs.VitalProductData.{vpd_page}
+use Rattle.sg_run.specs.Attentions.{oldest, without_oldest}
 use Rattle.sg_run.specs.Checks.{refusal_of}
-use Rattle.sg_run.specs.Refusal.{sense_of}
+use Rattle.sg_run.specs.Refusal.{plain_sense, sense_of}
 use Rattle.sg_run.specs.State.{State}
+use Rattle.sg_run.specs.declared.target.attentions.UnitAttention.{UnitAttention}
 use Rattle.sg_run.specs.declared.target.refusal.Refusal.{Refusal}
 use Rattle.sg_run.specs.declared.target.refusal.Refusal.TheVariants.{InvalidFieldInCdb, InvalidCommandOperationCode, UnitAttention as Attention}
 use Rattle.sg_run.specs.declared.target.reply.Status.{Status}
@@ -24,9 +28,13 @@ pub record Step : Type 0 where
   pub data_in : List ℕ
   pub state : State
 
+-- The oldest unit attention of an initiator is cleared.
+abbrev pub without_attention : State → ℕ → State
+without_attention state initiator = record state { attentions = without_oldest state.attentions initiator }
+
 -- A refused command changes nothing, but for the unit attention that it reports, which is cleared.
 abbrev pub after_refusal : State → ℕ → Refusal → State
-after_refusal state initiator (Attention condition) = record state { attentions = without_oldest state.attentions initiator }
+after_refusal state initiator (Attention condition) = without_attention state initiator
 after_refusal state initiator (InvalidFieldInCdb place) = state
 after_refusal state initiator InvalidCommandOperationCode = state
 
@@ -38,21 +46,43 @@ refused state initiator refusal = record {
   state = after_refusal state initiator refusal;
 }
 
+-- INQUIRY data: a page of vital product data, or the standard data.
+abbrev pub inquiry_data : IdentityFields → (evpd : Bool) (page_code : ℕ) → List ℕ
+inquiry_data identity evpd page_code = if evpd then unwrap_or (vpd_page page_code identity) [] else standard_inquiry identity
+
+-- The sense data that REQUEST SENSE gives: the oldest unit attention, or NO SENSE.
+abbrev pub pending_sense : Option UnitAttention → SenseFields
+pending_sense None = plain_sense 0 0x00 0x00
+pending_sense (Some condition) = sense_of (Attention condition)
+
+abbrev pub format_of : (desc : Bool) → Format
+format_of desc = if desc then Descriptor else Fixed
+
 -- The data-in of a command that no check refuses, cut at its allocation length.
-abbrev pub data_of : State → Command → List ℕ
-data_of state TestUnitReady = []
-data_of state (Inquiry evpd page_code allocation_length) = first_bytes allocation_length (standard_inquiry state.config.identity)
+abbrev pub data_of : State → ℕ → Command → List ℕ
+data_of state initiator TestUnitReady = []
+data_of state initiator (RequestSense desc allocation_length) =
+    first_bytes allocation_length (sense_data (format_of desc) (pending_sense (oldest state.attentions initiator)))
+data_of state initiator (Inquiry evpd page_code allocation_length) = first_bytes allocation_length (inquiry_data state.config.identity evpd page_code)
 
-abbrev pub data_read : State → Result Command CdbFault → List ℕ
-data_read state (Ok command) = data_of state command
-data_read state (Err fault) = []
+-- The state after it: REQUEST SENSE clears the unit attention that it reports, whatever its allocation length.
+abbrev pub state_after : State → ℕ → Command → State
+state_after state initiator TestUnitReady = state
+state_after state initiator (RequestSense desc allocation_length) = without_attention state initiator
+state_after state initiator (Inquiry evpd page_code allocation_length) = state
 
-abbrev pub executed : State → List ℕ → Step
-executed state cdb = record { status = Good; sense = []; data_in = data_read state (read cdb); state = state }
+abbrev pub executed : State → ℕ → Command → Step
+executed state initiator command =
+    record { status = Good; sense = []; data_in = data_of state initiator command; state = state_after state initiator command }
+
+-- A block that no check refuses has a command.
+abbrev pub executed_block : State → ℕ → Result Command CdbFault → Step
+executed_block state initiator (Ok command) = executed state initiator command
+executed_block state initiator (Err fault) = record { status = Good; sense = []; data_in = []; state = state }
 
 abbrev pub unless_refused : State → ℕ → List ℕ → Option Refusal → Step
 unless_refused state initiator cdb (Some refusal) = refused state initiator refusal
-unless_refused state initiator cdb None = executed state cdb
+unless_refused state initiator cdb None = executed_block state initiator (read cdb)
 
 unfoldable pub step : State → ℕ → List ℕ → List ℕ → Step
 step state initiator cdb data_out = unless_refused state initiator cdb (refusal_of state initiator cdb data_out)

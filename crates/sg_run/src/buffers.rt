@@ -1,5 +1,5 @@
 // The memory that a command is answered in.
-ghost use Rattle.std.specs.Prelude.{◌≡◌, vec_len};
+ghost use Rattle.std.specs.Prelude.{◌≡◌, IfOk, vec_len};
 
 use std::alloc::{AllocError, Global};
 
@@ -26,8 +26,15 @@ impl Buffers {
     pub(crate) fn new(alloc: Global) -> Result<Buffers, AllocError> {
         Ok(Buffers {
             decoded: [0; 4_096],
-            data_in: vec![in alloc; 0; DATA_IN]?,
-            text: vec![in alloc; 0; TEXT]?,
+            data_in: zeroed(alloc, DATA_IN)?,
+            text: zeroed(alloc, TEXT)?,
         })
     }
+}
+
+/// A buffer of `len` bytes, all zero.
+pub(crate) fn zeroed(alloc: Global, len: usize) -> Result<Vec<u8>, AllocError>
+    ensures { IfOk result (λ buffer. vec_len buffer ≡ len) }
+{
+    vec![in alloc; 0; len]
 }

@@ -39,3 +39,6 @@ fn illegal_request_status(sense: &Sense) -> u8
         _ => 5,
     }
 }
+
+#[cfg(test)]
+mod tests;

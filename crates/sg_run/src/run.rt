@@ -103,3 +103,6 @@ pub fn run_script<R: Read, W: Write>(
         number += 1;
     }
 }
+
+#[cfg(test)]
+mod tests;

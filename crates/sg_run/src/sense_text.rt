@@ -114,3 +114,6 @@ fn print_place<W: Write>(in_command: bool, out: &mut Printer<'_, W>)
         out.put(b", list byte ");
     }
 }
+
+#[cfg(test)]
+mod tests;

@@ -1,12 +1,13 @@
 //! The target: one logical unit, a direct access block device, that executes commands one after the
 //! other (SPC-4, 4.2; SBC-3, 4).
 ghost use Rattle.std.specs.Prelude.{◌≡◌, ◌≤◌, length, Some, None, Ok, IfOk, IfErr, slice_index, if◌then◌else◌};
-ghost use Rattle.sg_wire.specs.CutAnswer.{overwritten};
+ghost use Rattle.sg_wire.specs.CutAnswer.{first_bytes, overwritten};
 ghost use Rattle.sg_run.specs.State.{powered_on};
 ghost use Rattle.sg_wire.specs.Layout.{read};
+ghost use Rattle.sg_wire.specs.SenseData.{sense_data};
 ghost use Rattle.sg_run.specs.Attentions.{oldest};
 ghost use Rattle.sg_run.specs.Checks.{passes_attention, pending_attention, refusal_of};
-ghost use Rattle.sg_run.specs.Step.{after_refusal, data_of, step};
+ghost use Rattle.sg_run.specs.Step.{after_refusal, data_of, format_of, pending_sense, state_after, step, without_attention};
 
 mod attentions;
 mod config;
@@ -18,10 +19,10 @@ mod values;
 use attentions::Attentions;
 pub use attentions::UnitAttention;
 pub use config::{Config, ConfigFault};
-use data_in::inquire;
-use refusal::Refusal;
+use data_in::{give_sense, inquire};
+use refusal::{Refusal, pending_sense};
 pub use reply::{Reply, SenseBytes, Status};
-use sg_wire::{CdbFault, Command, Initiator, opcode};
+use sg_wire::{CdbFault, Command, Format, Initiator, opcode};
 use std::alloc::{AllocError, Global};
 use std::marker::Model;
 use values::unsupported_value;
@@ -73,7 +74,7 @@ impl Target {
         ensures state { self.new ≡ (step self.old initiator cdb.now data_out.now).state }
     {
         match self.admit(initiator, cdb, data_out) {
-            Ok(command) => Reply::good(self.perform(command, buf)),
+            Ok(command) => Reply::good(self.perform(initiator, command, buf)),
             Err(refusal) => {
                 self.report(initiator, refusal);
                 Reply::refused(refusal)
@@ -121,18 +122,62 @@ impl Target {
         }
     }
 
-    // Writes the data-in of a command, and tells its length.
-    fn perform(&self, command: Command, buf: &mut [u8]) -> usize
+    // Executes a command: writes its data-in, and tells the length.
+    fn perform(&mut self, initiator: Initiator, command: Command, buf: &mut [u8]) -> usize
         requires { 131072 ≤ length buf.old }
-        ensures length { result ≡ length (data_of self.now command) }
-        ensures data_in { buf.new ≡ overwritten (data_of self.now command) buf.old }
+        ensures length { result ≡ length (data_of self.old initiator command) }
+        ensures data_in { buf.new ≡ overwritten (data_of self.old initiator command) buf.old }
+        ensures state { self.new ≡ state_after self.old initiator command }
     {
         match command {
             Command::TestUnitReady => 0,
-            Command::Inquiry {
+            Command::RequestSense {
+                desc,
                 allocation_length,
-                ..
-            } => inquire(self.config.identity(), allocation_length, buf),
+            } => self.request_sense(initiator, format_of(desc), allocation_length, buf),
+            Command::Inquiry {
+                evpd,
+                page_code,
+                allocation_length,
+            } => inquire(
+                self.config.identity(),
+                evpd,
+                page_code,
+                allocation_length,
+                buf,
+            ),
         }
     }
+
+    // REQUEST SENSE: gives the oldest unit attention of an initiator as data, and clears it.
+    fn request_sense(
+        &mut self,
+        initiator: Initiator,
+        format: Format,
+        allocation_length: u8,
+        buf: &mut [u8],
+    ) -> usize
+        requires { 131072 ≤ length buf.old }
+        ensures length { result ≡ length (first_bytes allocation_length (sense_data format (pending_sense (oldest self.old.attentions initiator)))) }
+        ensures data_in { buf.new ≡ overwritten (first_bytes allocation_length (sense_data format (pending_sense (oldest self.old.attentions initiator)))) buf.old }
+        ensures state { self.new ≡ without_attention self.old initiator }
+    {
+        let condition = self.attentions.oldest(initiator);
+        self.attentions.clear_oldest(initiator);
+        give_sense(&pending_sense(condition), format, allocation_length, buf)
+    }
 }
+
+// The format that DESC asks for.
+fn format_of(desc: bool) -> Format
+    ensures { result ≡ format_of desc }
+{
+    if desc {
+        Format::Descriptor
+    } else {
+        Format::Fixed
+    }
+}
+
+#[cfg(test)]
+mod tests;

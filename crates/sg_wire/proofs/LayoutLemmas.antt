@@ -6,7 +6,7 @@ use Rattle.std.proofs.lemmas.Nat.{and_mask}
 use Rattle.std.proofs.Math.Nat.{mod-eq_of_lt}
 use Rattle.byteorder.specs.Endian.{big_bytes, big_number}
 use Rattle.byteorder.specs.Numbers.{big_from-bytes}
-use Rattle.sg_wire.specs.declared.command.Command.TheVariants.{TestUnitReady, Inquiry}
+use Rattle.sg_wire.specs.declared.command.Command.TheVariants.{TestUnitReady, RequestSense, Inquiry}
 use Rattle.sg_wire.specs.Layout.{first_bad, read, read_as, is_bare, Encodes}
 
 -- one more byte
@@ -42,6 +42,16 @@ read-some (opcode ∷ rest) h = refl
 pub encodes-test_unit_ready : Encodes TestUnitReady (0x00 ∷ 0 ∷ 0 ∷ 0 ∷ 0 ∷ 0 ∷ [])
 unfolding read read_as is_bare
 encodes-test_unit_ready = record { reads_back = refl; bare = refl }
+
+pub encodes-request_sense : (desc : Bool) (allocation_length : ℕ) → allocation_length < 256 →
+    Encodes (RequestSense desc allocation_length) (0x03 ∷ cond desc 1 0 ∷ 0 ∷ 0 ∷ allocation_length ∷ 0 ∷ [])
+unfolding read read_as is_bare
+encodes-request_sense true allocation_length a =
+    let e : allocation_length * 1 + 0 ≡ allocation_length = omega arith in
+    record { reads_back = simp (is_whole allocation_length a) cc; bare = simp (is_whole allocation_length a) }
+encodes-request_sense false allocation_length a =
+    let e : allocation_length * 1 + 0 ≡ allocation_length = omega arith in
+    record { reads_back = simp (is_whole allocation_length a) cc; bare = simp (is_whole allocation_length a) }
 
 pub encodes-inquiry : (evpd : Bool) (page_code allocation_length : ℕ) → page_code < 256 → allocation_length < 2 ^ 16 →
     Encodes (Inquiry evpd page_code allocation_length) ((0x12 ∷ cond evpd 1 0 ∷ page_code ∷ []) ++ big_bytes 2 allocation_length ++ (0 ∷ []))

@@ -6,7 +6,7 @@ use Rattle.byteorder.specs.Endian.{big_number}
 use Rattle.sg_wire.specs.declared.command.Class.{Class}
 use Rattle.sg_wire.specs.declared.command.Class.TheVariants.{Always}
 use Rattle.sg_wire.specs.declared.command.Command.{Command}
-use Rattle.sg_wire.specs.declared.command.Command.TheVariants.{TestUnitReady, Inquiry}
+use Rattle.sg_wire.specs.declared.command.Command.TheVariants.{TestUnitReady, RequestSense, Inquiry}
 use Rattle.sg_wire.specs.declared.command.CdbFault.{CdbFault}
 use Rattle.sg_wire.specs.declared.command.CdbFault.TheVariants.{Empty, Opcode, Short, Field}
 
@@ -32,9 +32,12 @@ abbrev row : ℕ → Option (ℕ × ℕ) → Class → List Part → List Part �
 row opcode actions class fields ignored command =
     record { opcode = opcode; actions = actions; class = class; fields = fields; ignored = ignored; command = command }
 
--- A command without fields, and one with three.
+-- A command without fields, and one with two or three.
 abbrev fixed : Command → List ℕ → Command
 fixed command values = command
+
+abbrev of_two : (ℕ → ℕ → Command) → List ℕ → Command
+of_two command values = command (slice_index values 0) (slice_index values 1)
 
 abbrev of_three : (ℕ → ℕ → ℕ → Command) → List ℕ → Command
 of_three command values = command (slice_index values 0) (slice_index values 1) (slice_index values 2)
@@ -43,6 +46,7 @@ of_three command values = command (slice_index values 0) (slice_index values 1) 
 abbrev pub table : List Row
 table =
     row 0x00 None Always [] [] (fixed TestUnitReady)
+    ∷ row 0x03 None Always (flag 1 0x01 ∷ number 4 1 ∷ []) [] (of_two (λ desc allocation_length. RequestSense (desc == 1) allocation_length))
     ∷ row 0x12 None Always (flag 1 0x01 ∷ number 2 1 ∷ number 3 2 ∷ []) [] (of_three (λ evpd page_code allocation_length. Inquiry (evpd == 1) page_code allocation_length))
     ∷ []
 

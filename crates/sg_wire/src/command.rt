@@ -9,6 +9,13 @@ mod write;
 pub enum Command {
     /// TEST UNIT READY (SPC-4, 6.47).
     TestUnitReady,
+    /// REQUEST SENSE (SPC-4, 6.39).
+    RequestSense {
+        /// Descriptor format is asked for, not fixed format.
+        desc: bool,
+        /// In bytes.
+        allocation_length: u8,
+    },
     /// INQUIRY (SPC-4, 6.6).
     Inquiry {
         /// Vital product data is asked for, not the standard INQUIRY data.
@@ -42,3 +49,6 @@ pub enum Class {
     /// It writes: every reservation refuses it.
     Writes,
 }
+
+#[cfg(test)]
+mod tests;

@@ -45,3 +45,6 @@ impl Initiator {
         self.number
     }
 }
+
+#[cfg(test)]
+mod tests;

@@ -1,4 +1,4 @@
-// Unit attentions (SPC-4, 5.14).
+// Unit attentions (SAM-5, 5.14).
 use arrayvec::ArrayVec;
 use sg_wire::Initiator;
 use std::marker::Model;

@@ -16,6 +16,7 @@ pub(super) enum Refusal {
 ghost use Rattle.std.specs.Prelude.{◌≡◌, ◌≤◌};
 ghost use Rattle.sg_wire.specs.Sense.{fields_of};
 ghost use Rattle.sg_run.specs.Refusal.{plain_sense, refusal_for, sense_of};
+ghost use Rattle.sg_run.specs.Step.{pending_sense};
 
 impl Refusal {
     /// The sense that tells it.
@@ -53,6 +54,16 @@ impl From<CdbFault> for Refusal {
                 byte: u16::from(place),
             },
         }
+    }
+}
+
+/// The sense of REQUEST SENSE: a pending unit attention, or that there is none.
+pub(super) fn pending_sense(condition: Option<UnitAttention>) -> Sense
+    ensures { fields_of result ≡ pending_sense condition }
+{
+    match condition {
+        Some(condition) => Refusal::UnitAttention(condition).sense(),
+        None => plain(Sense::NO_SENSE, 0x00, 0x00),
     }
 }
 

@@ -9,6 +9,8 @@ use byteorder::{BigEndian, ByteOrder};
 // The bits of each byte that a command allows; CONTROL, the last byte, has to be zero.
 const TEST_UNIT_READY: [u8; 6] = [0xFF, 0x00, 0x00, 0x00, 0x00, 0x00];
 
+const REQUEST_SENSE: [u8; 6] = [0xFF, 0x01, 0x00, 0x00, 0xFF, 0x00];
+
 const INQUIRY: [u8; 6] = [0xFF, 0x01, 0xFF, 0xFF, 0xFF, 0x00];
 
 impl Command {
@@ -25,6 +27,7 @@ impl Command {
         }
         match cdb[0] {
             opcode::TEST_UNIT_READY => test_unit_ready(cdb),
+            opcode::REQUEST_SENSE => request_sense(cdb),
             opcode::INQUIRY => inquiry(cdb),
             _ => Err(CdbFault::Opcode),
         }
@@ -37,6 +40,17 @@ fn test_unit_ready(cdb: &[u8]) -> Result<Command, CdbFault>
 {
     check(&TEST_UNIT_READY, cdb)?;
     Ok(Command::TestUnitReady)
+}
+
+#[tactic(auto, unfolding(crate::specs::Layout::read_as, crate::specs::Layout::checked))]
+fn request_sense(cdb: &[u8]) -> Result<Command, CdbFault>
+    ensures { result ≡ read_as 0x03 cdb.now }
+{
+    check(&REQUEST_SENSE, cdb)?;
+    Ok(Command::RequestSense {
+        desc: cdb[1] & 0x01 != 0,
+        allocation_length: cdb[4],
+    })
 }
 
 #[tactic(auto, unfolding(crate::specs::Layout::read_as, crate::specs::Layout::checked))]

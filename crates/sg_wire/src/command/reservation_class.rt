@@ -13,7 +13,9 @@ impl Command {
         ensures { result ≡ class_of cdb.now }
     {
         match *cdb.first()? {
-            opcode::TEST_UNIT_READY | opcode::INQUIRY => Some(Class::Always),
+            opcode::TEST_UNIT_READY | opcode::REQUEST_SENSE | opcode::INQUIRY => {
+                Some(Class::Always)
+            }
             _ => None,
         }
     }

@@ -16,6 +16,10 @@ impl Command {
     {
         match *self {
             Command::TestUnitReady => test_unit_ready(),
+            Command::RequestSense {
+                desc,
+                allocation_length,
+            } => request_sense(desc, allocation_length),
             Command::Inquiry {
                 evpd,
                 page_code,
@@ -30,6 +34,16 @@ fn test_unit_ready() -> CdbBytes
 {
     let mut bytes = [0; 16];
     bytes[0] = opcode::TEST_UNIT_READY;
+    CdbBytes::new(bytes, 6)
+}
+
+fn request_sense(desc: bool, allocation_length: u8) -> CdbBytes
+    ensures { result ≡ 0x03 ∷ (if desc then 1 else 0) ∷ 0 ∷ 0 ∷ allocation_length ∷ 0 ∷ [] }
+{
+    let mut bytes = [0; 16];
+    bytes[0] = opcode::REQUEST_SENSE;
+    bytes[1] = u8::from(desc);
+    bytes[4] = allocation_length;
     CdbBytes::new(bytes, 6)
 }
 

@@ -23,7 +23,8 @@ pub(super) fn additional_length(information: Option<u64>, pointer: Option<Pointe
 
 #[tactic(auto, using(crate::proofs::CutLemmas::parts_in_turn))]
 pub(super) fn put_information(information: Option<u64>, cut: &mut Cut)
-    ensures { answer_of cut.new ≡ put (answer_of cut.old) (information_descriptor information) }
+    ensures data { answer_of cut.new ≡ put (answer_of cut.old) (information_descriptor information) }
+    ensures number { IfSome information (λ n. n < 2 ^ 64) }
 {
     if let Some(information) = information {
         let mut bytes = [0x00, 0x0A, 0x80, 0, 0, 0, 0, 0, 0, 0, 0, 0];

@@ -1,4 +1,4 @@
-use Rattle.std.proofs.Common.{◌≡◌, ◌∙◌, ap, rules}
+use Rattle.std.proofs.Common.{◌∙◌, ap, rules}
 use Rattle.std.proofs.lemmas.Result.{err_from_is_err_and}
 use Rattle.sg_wire.proofs.PrintingLemmas.{Sends-printed}
 use Rattle.sg_run.specs.Outcome.{outcome, by_request}
