@@ -69,9 +69,9 @@ impl LineFault {
     }
 }
 
-#[tactic(auto, unfolding(crate::specs::Request::request_of))]
 /// What a line asks for, of which the bytes are given unless it was too long. The buffer takes the bytes of
 /// its hexadecimal words.
+#[tactic(auto, unfolding(crate::specs::Request::request_of))]
 pub(crate) fn read_request<'a>(line: Option<&[u8]>, buffer: &'a mut [u8]) -> Request<'a>
     requires line { IfSome (option_map (λ b. b.now) line) (λ bytes. length bytes ≤ 4096) }
     requires buffer { 4096 ≤ length buffer.old }

@@ -33,7 +33,10 @@ pub struct Session {
 }
 
 impl Session {
-    /// Takes the memory, some 132 kilobytes.
+    /// Takes the memory, some 328 kilobytes.
+    ///
+    /// # Errors
+    /// Memory was refused.
     pub fn new(alloc: Global) -> Result<Session, AllocError> {
         Ok(Session {
             read_ahead: ReadAhead::new(alloc)?,
@@ -55,6 +58,9 @@ fn first_status(first: u8, second: u8) -> u8
 ///
 /// A script may have 4,294,967,295 bytes. It is read ahead in blocks, so after an error the reader
 /// may stand past the bytes that were used.
+///
+/// # Errors
+/// The reader or the writer failed, or the script is too long: [`RunFault`].
 pub fn run_script<R: Read, W: Write>(
     _alloc: Global,
     reader: &mut Watched<R>,

@@ -56,9 +56,9 @@ impl Target {
         })
     }
 
-    #[tactic(auto, using(crate::proofs::StepLemmas::decided))]
     /// Executes a command. Its data-in is the first [`Reply::data_in`] bytes of the buffer, and the bytes
     /// after them stay as they were.
+    #[tactic(auto, using(crate::proofs::StepLemmas::decided))]
     pub fn execute(
         &mut self,
         initiator: Initiator,

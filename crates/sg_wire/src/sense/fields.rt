@@ -74,7 +74,7 @@ pub(super) fn pointer_in(bytes: &[u8]) -> Option<Pointer>
 }
 
 pub(super) fn fixed_information(bytes: &[u8]) -> Option<u64>
-    requires { 14 ≤ length bytes.now }
+    requires { 7 ≤ length bytes.now }
     ensures { result ≡ fixed_information bytes.now }
 {
     if bytes[0] == 0xF0 {

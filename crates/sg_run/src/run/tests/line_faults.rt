@@ -16,7 +16,7 @@ const HEX: &str = "hex\n";
 
 const UNKNOWN_VERB: &str = "unknown verb\n";
 
-const LINES: [Exchange; 58] = [
+const LINES: [Exchange; 62] = [
     // Blank lines and comments may hold any byte.
     (b"", ""),
     (b"   \t ", ""),
@@ -54,6 +54,13 @@ const LINES: [Exchange; 58] = [
         UNKNOWN_VERB,
     ),
     (b"show inq -", UNKNOWN_VERB),
+    (
+        b"show inq 000005025b0000004141414141414141414141414141414141414141414141414141414101020304",
+        UNKNOWN_VERB,
+    ),
+    (b"show vpd 0083000721980003010203", UNKNOWN_VERB),
+    (b"show vpd 008300050103000830", UNKNOWN_VERB),
+    (b"show modes6 0a00000059010003aabbcc", UNKNOWN_VERB),
     (b"power", UNKNOWN_VERB),
     (b"power x", UNKNOWN_VERB),
     // The number of operands is told before the initiator.
