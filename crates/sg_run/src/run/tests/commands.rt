@@ -4,6 +4,18 @@ use std::test::Fail;
 
 const INVALID_OPCODE: &str = "CHECK CONDITION\n  sense: ILLEGAL REQUEST, 20h/00h\n";
 
+const NO_BYTE: &str = "CHECK CONDITION\n  sense: ILLEGAL REQUEST, 24h/00h, command byte 0\n";
+
+const INVALID_PAGE_CODE: &str =
+    "CHECK CONDITION\n  sense: ILLEGAL REQUEST, 24h/00h, command byte 2\n";
+
+const SUPPORTED_PAGES: &str = "GOOD\n  00000000  00 00 00 03 00 80 83\n";
+
+const UNIT_SERIAL_NUMBER: &str = "GOOD\n  00000000  00 80 00 08 30 30 30 30 30 30 30 31\n";
+
+const DEVICE_IDENTIFICATION: &str =
+    "GOOD\n  00000000  00 83 00 30 02 01 00 20 53 47 4d 4f 44 45 4c 20\n  00000010  54 48 49 4e 20 44 49 53 4b 20 20 20 20 20 20 20\n  00000020  30 30 30 30 30 30 30 31 01 03 00 08 30 00 00 00\n  00000030  00 00 00 01\n";
+
 // A script on a new target, and its status.
 #[derive(Clone, Copy)]
 struct Script {
@@ -30,10 +42,7 @@ const SCRIPTS: [Script; 9] = [
     Script {
         says: "a refused INQUIRY leaves the unit attention pending",
         lines: &[
-            (
-                b"raw 0 12010100ff00",
-                "CHECK CONDITION\n  sense: ILLEGAL REQUEST, 24h/00h, command byte 2\n",
-            ),
+            (b"raw 0 12010100ff00", INVALID_PAGE_CODE),
             (TEST_UNIT_READY, POWER_ON),
         ],
         status: 5,
@@ -48,10 +57,7 @@ const SCRIPTS: [Script; 9] = [
         lines: &[
             (TEST_UNIT_READY, POWER_ON),
             (b"raw 0 c1", INVALID_OPCODE),
-            (
-                b"raw 0 -",
-                "CHECK CONDITION\n  sense: ILLEGAL REQUEST, 24h/00h, command byte 0\n",
-            ),
+            (b"raw 0 -", NO_BYTE),
             (
                 b"raw 0 120200002400",
                 "CHECK CONDITION\n  sense: ILLEGAL REQUEST, 24h/00h, command byte 1\n",
@@ -90,18 +96,9 @@ const SCRIPTS: [Script; 9] = [
     Script {
         says: "the pages of vital product data are supported pages, serial number and device identification",
         lines: &[
-            (
-                b"raw 0 12010000ff00",
-                "GOOD\n  00000000  00 00 00 03 00 80 83\n",
-            ),
-            (
-                b"raw 0 120180000c00",
-                "GOOD\n  00000000  00 80 00 08 30 30 30 30 30 30 30 31\n",
-            ),
-            (
-                b"raw 0 12018300ff00",
-                "GOOD\n  00000000  00 83 00 30 02 01 00 20 53 47 4d 4f 44 45 4c 20\n  00000010  54 48 49 4e 20 44 49 53 4b 20 20 20 20 20 20 20\n  00000020  30 30 30 30 30 30 30 31 01 03 00 08 30 00 00 00\n  00000030  00 00 00 01\n",
-            ),
+            (b"raw 0 12010000ff00", SUPPORTED_PAGES),
+            (b"raw 0 120180000c00", UNIT_SERIAL_NUMBER),
+            (b"raw 0 12018300ff00", DEVICE_IDENTIFICATION),
         ],
         status: 0,
     },
@@ -115,54 +112,74 @@ fn commands_are_answered(rt: HostRuntime) -> Result<(), Fail> {
     Ok(())
 }
 
-// Lines after the unit attention of each initiator is reported.
-const REFUSALS: [(&str, Exchange); 8] = [
-    (
-        "no page code stands without EVPD",
-        (
-            b"raw 0 120080002400",
-            "CHECK CONDITION\n  sense: ILLEGAL REQUEST, 24h/00h, command byte 2\n",
-        ),
-    ),
-    ("C1h is unknown", (b"raw 0 c1", INVALID_OPCODE)),
-    (
-        "a block has a byte",
-        (
-            b"raw 0 -",
-            "CHECK CONDITION\n  sense: ILLEGAL REQUEST, 24h/00h, command byte 0\n",
-        ),
-    ),
-    (
-        "page B0h is not there",
-        (
-            b"raw 0 1201b000ff00",
-            "CHECK CONDITION\n  sense: ILLEGAL REQUEST, 24h/00h, command byte 2\n",
-        ),
-    ),
-    (
-        "READ CAPACITY is unknown",
-        (b"raw 0 25000000000000000000", INVALID_OPCODE),
-    ),
-    (
-        "UNMAP is unknown",
-        (b"raw 0 42000000000000000000", INVALID_OPCODE),
-    ),
-    (
-        "MODE SENSE is unknown",
-        (b"raw 0 1a003f000000", INVALID_OPCODE),
-    ),
-    (
-        "PERSISTENT RESERVE IN is unknown",
-        (b"raw 0 5e000000000000200000", INVALID_OPCODE),
-    ),
+// The unit attention of each initiator is cleared.
+const ALL_CLEARED: [Exchange; 8] = [
+    (b"raw 0 030000000000", GOOD),
+    (b"raw 1 030000000000", GOOD),
+    (b"raw 2 030000000000", GOOD),
+    (b"raw 3 030000000000", GOOD),
+    (b"raw 4 030000000000", GOOD),
+    (b"raw 5 030000000000", GOOD),
+    (b"raw 6 030000000000", GOOD),
+    (b"raw 7 030000000000", GOOD),
+];
+
+// Lines where no unit attention is pending, and their status.
+const WITHOUT_ATTENTIONS: [Script; 7] = [
+    Script {
+        says: "the supported pages",
+        lines: &[(b"raw 0 12010000ff00", SUPPORTED_PAGES)],
+        status: 0,
+    },
+    Script {
+        says: "the unit serial number",
+        lines: &[(b"raw 0 120180000c00", UNIT_SERIAL_NUMBER)],
+        status: 0,
+    },
+    Script {
+        says: "the device identification",
+        lines: &[(b"raw 0 12018300ff00", DEVICE_IDENTIFICATION)],
+        status: 0,
+    },
+    Script {
+        says: "no page code stands without EVPD",
+        lines: &[(b"raw 0 120080002400", INVALID_PAGE_CODE)],
+        status: 5,
+    },
+    Script {
+        says: "pages B0h and B2h are not there",
+        lines: &[
+            (b"raw 0 1201b000ff00", INVALID_PAGE_CODE),
+            (b"raw 0 1201b200ff00", INVALID_PAGE_CODE),
+        ],
+        status: 5,
+    },
+    Script {
+        says: "C1h is unknown, and a block has a byte",
+        lines: &[(b"raw 0 c1", INVALID_OPCODE), (b"raw 0 -", NO_BYTE)],
+        status: 9,
+    },
+    Script {
+        says: "READ CAPACITY, UNMAP, MODE SENSE and PERSISTENT RESERVE IN are unknown",
+        lines: &[
+            (b"raw 0 25000000000000000000", INVALID_OPCODE),
+            (b"raw 0 42000000000000000000", INVALID_OPCODE),
+            (b"raw 0 1a003f000000", INVALID_OPCODE),
+            (b"raw 0 5e000000000000200000", INVALID_OPCODE),
+        ],
+        status: 9,
+    },
 ];
 
 #[test]
-fn commands_are_refused(rt: HostRuntime) -> Result<(), Fail> {
-    for (says, refusal) in REFUSALS {
+fn commands_are_answered_without_attentions(rt: HostRuntime) -> Result<(), Fail> {
+    for script in WITHOUT_ATTENTIONS {
         let mut lines = ALL_REPORTED.to_vec(rt.alloc())?;
-        lines.push(refusal)?;
-        assert_answers(&rt, says, &lines, 6)?;
+        lines.extend_from_slice(script.lines)?;
+        assert_answers(&rt, script.says, &lines, 6)?;
+        let mut lines = ALL_CLEARED.to_vec(rt.alloc())?;
+        lines.extend_from_slice(script.lines)?;
+        assert_answers(&rt, script.says, &lines, script.status)?;
     }
     Ok(())
 }
