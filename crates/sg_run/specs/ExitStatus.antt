@@ -1,8 +1,8 @@
 -- The exit status of a command's reply, as sg3_utils has it (sg3_utils(8), EXIT STATUS).
 use Rattle.std.specs.Prelude.{ℕ, List, Option, Some, None, Bool, ◌==◌, ◌&&◌, if◌then◌else◌}
 use Rattle.sg_wire.specs.SenseData.{SenseFields, read_sense}
-use Rattle.sg_run.specs.declared.target.reply.Status.{Status}
-use Rattle.sg_run.specs.declared.target.reply.Status.TheVariants.{Good, CheckCondition}
+use Rattle.sg_target.specs.declared.reply.Status.{Status}
+use Rattle.sg_target.specs.declared.reply.Status.TheVariants.{Good, CheckCondition}
 
 abbrev pub has_code : SenseFields → ℕ → ℕ → Bool
 has_code s asc ascq = s.asc == asc && s.ascq == ascq

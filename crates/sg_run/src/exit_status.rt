@@ -4,7 +4,7 @@ ghost use Rattle.sg_run.specs.ExitStatus.{exit_status, illegal_request_status, s
 ghost use Rattle.sg_wire.specs.SenseData.{read_sense};
 ghost use Rattle.sg_wire.specs.Sense.{fields_of};
 
-use crate::target::Status;
+use sg_target::Status;
 use sg_wire::Sense;
 
 /// The exit status that sg3_utils give a reply: 0 for GOOD, else by the sense key and its codes.
@@ -24,8 +24,8 @@ fn sense_status(sense: &[u8]) -> u8
         return 99;
     };
     match sense.key {
-        5 => illegal_request_status(&sense),
-        6 | 7 | 11 => sense.key,
+        Sense::ILLEGAL_REQUEST => illegal_request_status(&sense),
+        Sense::UNIT_ATTENTION | Sense::DATA_PROTECT | Sense::ABORTED_COMMAND => sense.key,
         _ => 99,
     }
 }

@@ -7,11 +7,16 @@ ghost use Rattle.sg_run.specs.Request.{by_verb, is_allowed, request_of, text_req
 ghost use Rattle.sg_run.specs.RequestLines.{seen};
 ghost use Rattle.sg_run.specs.LineFault.{fault_words};
 
+mod fill;
+mod filled_blocks;
+mod number;
 mod raw;
 mod words;
 
+use fill::read_fill;
+pub(crate) use filled_blocks::FilledBlocks;
 use raw::read_raw;
-use sg_wire::Initiator;
+use sg_target::Call;
 use words::{count_words, next_word};
 
 /// What a line asks for.
@@ -23,14 +28,8 @@ pub(crate) enum Request<'a> {
     Faulty(LineFault),
     /// A command is sent.
     Send(Call<'a>),
-}
-
-/// A command descriptor block with its data-out, and who sends it.
-#[derive(Clone, Copy)]
-pub(crate) struct Call<'a> {
-    pub(crate) initiator: Initiator,
-    pub(crate) cdb: &'a [u8],
-    pub(crate) data_out: &'a [u8],
+    /// Blocks are filled with a byte.
+    Fill(FilledBlocks),
 }
 
 /// Why a line is refused. The first that holds is told.
@@ -48,6 +47,8 @@ pub(crate) enum LineFault {
     Initiator,
     /// A word is not of hexadecimal digits, two a byte.
     Hex,
+    /// A word is no number, or the number is too large.
+    Number,
     /// The first word is no verb.
     UnknownVerb,
 }
@@ -64,6 +65,7 @@ impl LineFault {
             LineFault::Usage => b"usage",
             LineFault::Initiator => b"initiator",
             LineFault::Hex => b"hex",
+            LineFault::Number => b"number",
             LineFault::UnknownVerb => b"unknown verb",
         }
     }
@@ -111,6 +113,8 @@ fn by_verb<'a>(verb: &[u8], operands: &[u8], buffer: &'a mut [u8]) -> Request<'a
 {
     if verb == b"raw".as_slice() {
         read_raw(operands, buffer)
+    } else if verb == b"fill".as_slice() {
+        read_fill(operands)
     } else {
         Request::Faulty(LineFault::UnknownVerb)
     }

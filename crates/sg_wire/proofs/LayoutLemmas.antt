@@ -1,13 +1,14 @@
 -- A command descriptor block, byte by byte.
-use Rattle.std.proofs.Common.{◌≡◌, ◌<◌, ◌≤◌, ℕ, ◌+◌, ◌*◌, ◌^◌, ◌%◌, ◌==◌, List, [], ◌∷◌, ◌++◌, length, drop, get_or, Bool, true, false, Some, None, cond, eqb, eq-eqb, refl, ap, ◌∙◌, arith}
+use Rattle.std.proofs.Common.{◌≡◌, ◌<◌, ◌≤◌, ℕ, ◌+◌, ◌*◌, ◌/◌, ◌^◌, ◌%◌, ◌==◌, List, [], ◌∷◌, ◌++◌, length, drop, get_or, Bool, true, false, Some, None, cond, eqb, eq-eqb, refl, ap, ◌∙◌, arith}
 use Rattle.std.specs.Prelude.{bit_and}
 use Rattle.std.proofs.lemmas.List.{drop_more, drop_all}
+use Rattle.std.proofs.lemmas.Bool.Decides.{nat_tests}
 use Rattle.std.proofs.lemmas.Nat.{and_mask}
 use Rattle.std.proofs.Math.Nat.{mod-eq_of_lt}
 use Rattle.byteorder.specs.Endian.{big_bytes, big_number}
 use Rattle.byteorder.specs.Numbers.{big_from-bytes}
-use Rattle.sg_wire.specs.declared.command.Command.TheVariants.{TestUnitReady, RequestSense, Inquiry}
-use Rattle.sg_wire.specs.Layout.{first_bad, read, read_as, is_bare, Encodes}
+use Rattle.sg_wire.specs.declared.command.Command.TheVariants.{TestUnitReady, RequestSense, Inquiry, Read6, Read10, Read16, Write6, Write10, Write16, ReadCapacity10, ReadCapacity16, SynchronizeCache10}
+use Rattle.sg_wire.specs.Layout.{first_bad, read, read_as, is_bare, blocks_of, Encodes}
 
 -- one more byte
 pub first_bad-more : (masks bytes : List ℕ) (k : ℕ) → k < length masks → k < length bytes →
@@ -64,3 +65,82 @@ encodes-inquiry false page_code allocation_length p a =
     let e : page_code * 1 + 0 ≡ page_code = omega arith in
     let f = number_again 2 allocation_length [] a in
     record { reads_back = simp (is_whole page_code p, is_whole-mod) cc; bare = simp (is_whole page_code p, is_whole-mod) }
+
+pub encodes-read_capacity_10 : Encodes ReadCapacity10 (0x25 ∷ 0 ∷ 0 ∷ 0 ∷ 0 ∷ 0 ∷ 0 ∷ 0 ∷ 0 ∷ 0 ∷ [])
+unfolding read read_as is_bare
+encodes-read_capacity_10 = record { reads_back = refl; bare = refl }
+
+pub encodes-read_capacity_16 : (allocation_length : ℕ) → allocation_length < 2 ^ 32 →
+    Encodes (ReadCapacity16 allocation_length) ((0x9E ∷ 0x10 ∷ 0 ∷ 0 ∷ 0 ∷ 0 ∷ 0 ∷ 0 ∷ 0 ∷ 0 ∷ []) ++ big_bytes 4 allocation_length ++ (0 ∷ 0 ∷ []))
+unfolding read read_as is_bare
+encodes-read_capacity_16 allocation_length a =
+    let f = number_again 4 allocation_length [] a in
+    record { reads_back = simp is_whole-mod cc; bare = simp is_whole-mod }
+
+-- 256 blocks are written as 0
+blocks_again : (count : ℕ) → 1 ≤ count → count ≤ 256 → blocks_of (count % 256 * 1 + 0) ≡ count
+blocks_again count some most = grind (arith, nat_tests)
+
+pub encodes-read_6 : (lba count : ℕ) → lba < 2 ^ 21 → 1 ≤ count → count ≤ 256 →
+    Encodes (Read6 (lba, count)) ((0x08 ∷ lba / 65536 ∷ []) ++ big_bytes 2 (lba % 65536) ++ (count % 256 ∷ 0 ∷ []))
+unfolding read read_as is_bare
+encodes-read_6 lba count l some most =
+    let high = lba / 65536 in
+    let five : bit_and high 31 ≡ high = and_mask high 5 ∙ mod-eq_of_lt (omega arith) in
+    let pass : (bit_and high 31 == high) ≡ true = ap (λ y. y == high) five ∙ eq-eqb high high refl in
+    let f = number_again 2 (lba % 65536) [] (omega arith) in
+    let e : bit_and high 31 * 65536 + lba % 65536 ≡ lba = ap (λ y. y * 65536 + lba % 65536) five ∙ omega arith in
+    let b = blocks_again count some most in
+    record { reads_back = simp (pass, is_whole-mod) cc; bare = simp (pass, is_whole-mod) }
+
+pub encodes-write_6 : (lba count : ℕ) → lba < 2 ^ 21 → 1 ≤ count → count ≤ 256 →
+    Encodes (Write6 (lba, count)) ((0x0A ∷ lba / 65536 ∷ []) ++ big_bytes 2 (lba % 65536) ++ (count % 256 ∷ 0 ∷ []))
+unfolding read read_as is_bare
+encodes-write_6 lba count l some most =
+    let high = lba / 65536 in
+    let five : bit_and high 31 ≡ high = and_mask high 5 ∙ mod-eq_of_lt (omega arith) in
+    let pass : (bit_and high 31 == high) ≡ true = ap (λ y. y == high) five ∙ eq-eqb high high refl in
+    let f = number_again 2 (lba % 65536) [] (omega arith) in
+    let e : bit_and high 31 * 65536 + lba % 65536 ≡ lba = ap (λ y. y * 65536 + lba % 65536) five ∙ omega arith in
+    let b = blocks_again count some most in
+    record { reads_back = simp (pass, is_whole-mod) cc; bare = simp (pass, is_whole-mod) }
+
+pub encodes-read_10 : (lba count : ℕ) → lba < 2 ^ 32 → count < 2 ^ 16 →
+    Encodes (Read10 lba count) ((0x28 ∷ 0 ∷ []) ++ big_bytes 4 lba ++ (0 ∷ []) ++ big_bytes 2 count ++ (0 ∷ []))
+unfolding read read_as is_bare
+encodes-read_10 lba count l n =
+    let e = number_again 4 lba [] l in
+    let f = number_again 2 count [] n in
+    record { reads_back = simp is_whole-mod cc; bare = simp is_whole-mod }
+
+pub encodes-write_10 : (lba count : ℕ) → lba < 2 ^ 32 → count < 2 ^ 16 →
+    Encodes (Write10 lba count) ((0x2A ∷ 0 ∷ []) ++ big_bytes 4 lba ++ (0 ∷ []) ++ big_bytes 2 count ++ (0 ∷ []))
+unfolding read read_as is_bare
+encodes-write_10 lba count l n =
+    let e = number_again 4 lba [] l in
+    let f = number_again 2 count [] n in
+    record { reads_back = simp is_whole-mod cc; bare = simp is_whole-mod }
+
+pub encodes-synchronize_cache_10 : (lba count : ℕ) → lba < 2 ^ 32 → count < 2 ^ 16 →
+    Encodes (SynchronizeCache10 lba count) ((0x35 ∷ 0 ∷ []) ++ big_bytes 4 lba ++ (0 ∷ []) ++ big_bytes 2 count ++ (0 ∷ []))
+unfolding read read_as is_bare
+encodes-synchronize_cache_10 lba count l n =
+    let e = number_again 4 lba [] l in
+    let f = number_again 2 count [] n in
+    record { reads_back = simp is_whole-mod cc; bare = simp is_whole-mod }
+
+pub encodes-read_16 : (lba count : ℕ) → lba < 2 ^ 64 → count < 2 ^ 32 →
+    Encodes (Read16 lba count) ((0x88 ∷ 0 ∷ []) ++ big_bytes 8 lba ++ big_bytes 4 count ++ (0 ∷ 0 ∷ []))
+unfolding read read_as is_bare
+encodes-read_16 lba count l n =
+    let e = number_again 8 lba [] l in
+    let f = number_again 4 count [] n in
+    record { reads_back = simp is_whole-mod cc; bare = simp is_whole-mod }
+
+pub encodes-write_16 : (lba count : ℕ) → lba < 2 ^ 64 → count < 2 ^ 32 →
+    Encodes (Write16 lba count) ((0x8A ∷ 0 ∷ []) ++ big_bytes 8 lba ++ big_bytes 4 count ++ (0 ∷ 0 ∷ []))
+unfolding read read_as is_bare
+encodes-write_16 lba count l n =
+    let e = number_again 8 lba [] l in
+    let f = number_again 4 count [] n in
+    record { reads_back = simp is_whole-mod cc; bare = simp is_whole-mod }

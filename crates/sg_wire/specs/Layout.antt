@@ -1,20 +1,22 @@
 -- The layout of command descriptor blocks (SPC-4, 4.2 and 6; SBC-3, 5; with the choices of docs/PROFILE.md).
-use Rattle.std.specs.Prelude.{◌≡◌, ℕ, ◌+◌, ◌/◌, List, [], ◌∷◌, ◌++◌, length, drop, slice_index, map, filter, find, fold, Option, Some, None, Result, Ok, Err, Bool, true, false, ◌&&◌, nat_lt, nat_le, ◌==◌, not, is_none, if◌then◌else◌, bit_and, bit_or}
+use Rattle.std.specs.Prelude.{◌≡◌, ℕ, ◌+◌, ◌*◌, ◌/◌, ◌^◌, List, [], ◌∷◌, ◌++◌, length, drop, slice_index, map, filter, find, fold, Option, Some, None, Result, Ok, Err, Bool, true, false, ◌&&◌, nat_lt, nat_le, ◌==◌, not, is_none, if◌then◌else◌, bit_and, bit_or}
 use Rattle.std.specs.List.{range_with_len}
 use Rattle.std.specs.Option.{option_map_or}
 use Rattle.byteorder.specs.Endian.{big_number}
 use Rattle.sg_wire.specs.declared.command.Class.{Class}
-use Rattle.sg_wire.specs.declared.command.Class.TheVariants.{Always}
+use Rattle.sg_wire.specs.declared.command.Class.TheVariants.{Always, Reads, Writes}
 use Rattle.sg_wire.specs.declared.command.Command.{Command}
-use Rattle.sg_wire.specs.declared.command.Command.TheVariants.{TestUnitReady, RequestSense, Inquiry}
+use Rattle.sg_wire.specs.declared.command.Command.TheVariants.{TestUnitReady, RequestSense, Inquiry, Read6, Read10, Read16, Write6, Write10, Write16, ReadCapacity10, ReadCapacity16, SynchronizeCache10}
 use Rattle.sg_wire.specs.declared.command.CdbFault.{CdbFault}
 use Rattle.sg_wire.specs.declared.command.CdbFault.TheVariants.{Empty, Opcode, Short, Field}
 
 -- ---- The table
 
--- A part of a block: a flag, which is one bit of a byte; or a number in whole bytes, the most significant first.
+-- A part of a block: a flag, which is one bit of a byte; a number in a byte's low bits; or a number in whole bytes,
+-- the most significant first.
 pub data Part : Type 0 where
   flag : (byte mask : ℕ) → Part
+  low_bits : (byte mask : ℕ) → Part
   number : (first count : ℕ) → Part
 
 -- One command. Where the operation code alone does not name it, the service action (byte 1, bits 4 to 0) has
@@ -42,12 +44,60 @@ of_two command values = command (slice_index values 0) (slice_index values 1)
 abbrev of_three : (ℕ → ℕ → ℕ → Command) → List ℕ → Command
 of_three command values = command (slice_index values 0) (slice_index values 1) (slice_index values 2)
 
+-- The service action, which names the command and is no value of it.
+abbrev service_action : Part
+service_action = low_bits 1 0x1F
+
+abbrev after_action : (ℕ → Command) → List ℕ → Command
+after_action command values = command (slice_index values 1)
+
+-- The disk has no cache, and groups no blocks: DPO, FUA and FUA_NV of READ and WRITE, SYNC_NV and IMMED of SYNCHRONIZE
+-- CACHE and the GROUP NUMBER change nothing.
+abbrev group_number : ℕ → Part
+group_number byte = low_bits byte 0x1F
+
+abbrev cache_bits : ℕ → List Part
+cache_bits group = flag 1 0x10 ∷ flag 1 0x08 ∷ flag 1 0x02 ∷ group_number group ∷ []
+
+abbrev synchronize_bits : List Part
+synchronize_bits = flag 1 0x04 ∷ flag 1 0x02 ∷ group_number 6 ∷ []
+
+-- The fields of READ and WRITE: the logical block address and the transfer length. Six bytes have 21 bits of address.
+abbrev extent_6 : List Part
+extent_6 = low_bits 1 0x1F ∷ number 2 2 ∷ number 4 1 ∷ []
+
+abbrev extent_10 : List Part
+extent_10 = number 2 4 ∷ number 7 2 ∷ []
+
+abbrev extent_16 : List Part
+extent_16 = number 2 8 ∷ number 10 4 ∷ []
+
+-- How many blocks a transfer length of six bytes means.
+abbrev pub blocks_of : ℕ → ℕ
+blocks_of transfer_length = if transfer_length == 0 then 256 else transfer_length
+
+abbrev of_short : (ℕ × ℕ → Command) → List ℕ → Command
+of_short command = of_three (λ high rest transfer_length. command (high * 65536 + rest, blocks_of transfer_length))
+
+-- An address of 21 bits and 1 to 256 blocks.
+abbrev pub checked_extent : (lba count : ℕ) → Option (ℕ × ℕ)
+checked_extent lba count = if nat_lt lba (2 ^ 21) && (nat_le 1 count && nat_le count 256) then Some (lba, count) else None
+
 -- Every command, with its operation code, service actions, reservation class, fields and ignored parts.
 abbrev pub table : List Row
 table =
     row 0x00 None Always [] [] (fixed TestUnitReady)
     ∷ row 0x03 None Always (flag 1 0x01 ∷ number 4 1 ∷ []) [] (of_two (λ desc allocation_length. RequestSense (desc == 1) allocation_length))
+    ∷ row 0x08 None Reads extent_6 [] (of_short Read6)
+    ∷ row 0x0A None Writes extent_6 [] (of_short Write6)
     ∷ row 0x12 None Always (flag 1 0x01 ∷ number 2 1 ∷ number 3 2 ∷ []) [] (of_three (λ evpd page_code allocation_length. Inquiry (evpd == 1) page_code allocation_length))
+    ∷ row 0x25 None Always [] [] (fixed ReadCapacity10)
+    ∷ row 0x28 None Reads extent_10 (cache_bits 6) (of_two Read10)
+    ∷ row 0x2A None Writes extent_10 (cache_bits 6) (of_two Write10)
+    ∷ row 0x35 None Writes extent_10 synchronize_bits (of_two SynchronizeCache10)
+    ∷ row 0x88 None Reads extent_16 (cache_bits 14) (of_two Read16)
+    ∷ row 0x8A None Writes extent_16 (cache_bits 14) (of_two Write16)
+    ∷ row 0x9E (Some (0x10, 0x10)) Always (service_action ∷ number 10 4 ∷ []) [] (after_action ReadCapacity16)
     ∷ []
 
 -- A block's length follows from the group code, the top three bits of the operation code (SPC-4, 4.2.5.1).
@@ -65,11 +115,13 @@ has_bit byte mask = not (bit_and byte mask == 0)
 -- The value of a part; a flag that stands is 1.
 abbrev pub value : List ℕ → Part → ℕ
 value bytes (flag byte mask) = if has_bit (slice_index bytes byte) mask then 1 else 0
+value bytes (low_bits byte mask) = bit_and (slice_index bytes byte) mask
 value bytes (number first count) = big_number count (drop first bytes)
 
 -- The bits that a part has in a byte.
 abbrev pub mask_in : ℕ → Part → ℕ
 mask_in k (flag byte mask) = if k == byte then mask else 0
+mask_in k (low_bits byte mask) = if k == byte then mask else 0
 mask_in k (number first count) = if nat_le first k && nat_lt k (first + count) then 0xFF else 0
 
 -- The bits that parts have in a byte; the operation code has the whole of byte 0.

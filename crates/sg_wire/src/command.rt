@@ -1,7 +1,10 @@
 // The commands.
 mod read;
 mod reservation_class;
+mod short_extent;
 mod write;
+
+pub use short_extent::ShortExtent;
 
 /// A command of the profile, with the fields of its command descriptor block (CDB). Each value fits its
 /// fields.
@@ -23,6 +26,47 @@ pub enum Command {
         page_code: u8,
         /// In bytes.
         allocation_length: u16,
+    },
+    /// READ(6), of SBC-2.
+    Read6(ShortExtent),
+    /// READ(10) (SBC-3, 5.11).
+    Read10 {
+        lba: u32,
+        /// In blocks.
+        transfer_length: u16,
+    },
+    /// READ(16) (SBC-3, 5.13).
+    Read16 {
+        lba: u64,
+        /// In blocks.
+        transfer_length: u32,
+    },
+    /// WRITE(6), of SBC-2.
+    Write6(ShortExtent),
+    /// WRITE(10) (SBC-3, 5.33).
+    Write10 {
+        lba: u32,
+        /// In blocks.
+        transfer_length: u16,
+    },
+    /// WRITE(16) (SBC-3, 5.35).
+    Write16 {
+        lba: u64,
+        /// In blocks.
+        transfer_length: u32,
+    },
+    /// READ CAPACITY(10) (SBC-3, 5.15).
+    ReadCapacity10,
+    /// READ CAPACITY(16) (SBC-3, 5.16).
+    ReadCapacity16 {
+        /// In bytes.
+        allocation_length: u32,
+    },
+    /// SYNCHRONIZE CACHE(10) (SBC-3, 5.26).
+    SynchronizeCache10 {
+        lba: u32,
+        /// In blocks.
+        count: u16,
     },
 }
 

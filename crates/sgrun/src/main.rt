@@ -2,9 +2,10 @@
 //! their replies. Its exit status is the first line's that is not 0.
 #![tactic(auto)]
 
+use sg_blocks::PlainMap;
 use sg_pages::Identity;
-use sg_run::target::{Config, Target};
 use sg_run::{RunFault, Session, run_script};
+use sg_target::{Config, Target};
 use sg_wire::Watched;
 use std::alloc::AllocError;
 use std::process::ExitCode;
@@ -74,7 +75,7 @@ fn main(rt: HostRuntime) -> ExitCode {
 fn run(rt: &HostRuntime) -> Result<u8, Stop> {
     take_no_argument(rt)?;
     let config = Config::new(BLOCKS, POOL, Identity::standard()).unwrap();
-    let mut target = Target::new(rt.alloc(), config)?;
+    let mut target: Target<PlainMap> = Target::new(rt.alloc(), config)?;
     let mut session = Session::new(rt.alloc())?;
     let mut reader = Watched::new(rt.stdin());
     let mut writer = Watched::new(rt.stdout());

@@ -5,7 +5,8 @@ ghost use Rattle.sg_run.specs.Request.{hex_bytes, initiator_of, raw};
 ghost use Rattle.sg_run.specs.RequestLines.{seen};
 
 use super::words::next_word;
-use super::{Call, LineFault, Request};
+use super::{LineFault, Request};
+use sg_target::Call;
 use sg_wire::Initiator;
 
 // The command of `raw`, by the words after the verb.
@@ -65,7 +66,8 @@ fn read_operands(text: &[u8]) -> Option<Operands<'_>>
     }
 }
 
-fn read_initiator(word: &[u8]) -> Option<Initiator>
+// An initiator's number, in one digit.
+pub(super) fn read_initiator(word: &[u8]) -> Option<Initiator>
     ensures { result ≡ initiator_of word.now }
 {
     match word {

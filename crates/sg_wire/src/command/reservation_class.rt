@@ -13,9 +13,14 @@ impl Command {
         ensures { result ≡ class_of cdb.now }
     {
         match *cdb.first()? {
-            opcode::TEST_UNIT_READY | opcode::REQUEST_SENSE | opcode::INQUIRY => {
-                Some(Class::Always)
-            }
+            opcode::TEST_UNIT_READY
+            | opcode::REQUEST_SENSE
+            | opcode::INQUIRY
+            | opcode::READ_CAPACITY_10
+            | opcode::SERVICE_ACTION_IN_16 => Some(Class::Always),
+            opcode::READ_6 | opcode::READ_10 | opcode::READ_16 => Some(Class::Reads),
+            opcode::WRITE_6 | opcode::WRITE_10 | opcode::WRITE_16 | opcode::SYNCHRONIZE_CACHE_10 =>
+                Some(Class::Writes),
             _ => None,
         }
     }

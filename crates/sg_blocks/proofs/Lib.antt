@@ -1,0 +1,13 @@
+pub mod TallySteps
+pub mod DiskLemmas
+pub mod OccurrenceLemmas
+pub mod ChainLemmas
+pub mod HalvingLemmas
+pub mod RecordLemmas
+pub mod SpliceLemmas
+pub mod TableLemmas
+pub mod CursorLemmas
+pub mod BlockLemmas
+pub mod PlaceLemmas
+pub mod TogetherLemmas
+pub mod EditingLemmas

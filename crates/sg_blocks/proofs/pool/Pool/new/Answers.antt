@@ -1,0 +1,19 @@
+use Rattle.std.proofs.Common.{arith}
+use Rattle.std.proofs.lemmas.List.FromFn.{length-range_with_len}
+use Rattle.sg_blocks.proofs.ChainLemmas.{length-chain, chain-range, range-below}
+use Rattle.sg_blocks.proofs.OccurrenceLemmas.{once-range}
+use Rattle.sg_blocks.proofs.pool.Pool.new.Goals as goal
+
+pub invariant_of-result : goal.invariant_of-result
+invariant_of-result c =
+    let count = c.args.count in
+    let len = length-range_with_len 1 count in
+    rw (c.in_ok-links.ensures, len, chain-range count 0 count (omega arith)) (range-below count 0 count (omega arith))
+
+pub returns-clause-free_count : goal.returns-clause-free_count
+returns-clause-free_count c = length-chain c.in_ok-links.field-0.items 0 c.args.count
+
+pub returns-clause-free : goal.returns-clause-free
+returns-clause-free c =
+    let count = c.args.count in
+    rw (c.in_ok-links.ensures, chain-range count 0 count (omega arith)) (once-range count)

@@ -1,0 +1,29 @@
+-- The slots of the pool: each is free or has one record.
+use Rattle.std.specs.Prelude.{◌≡◌, ℕ, ◌+◌, List, [], ◌∷◌, ◌++◌, if◌then◌else◌, ◌==◌, nat_lt, length}
+use Rattle.sg_blocks.specs.declared.run.Run.{Run}
+use Rattle.sg_blocks.specs.Records.{IsSorted}
+
+-- The slots of the records.
+abbrev pub slots_of : List Run → List ℕ
+slots_of [] = []
+slots_of (run ∷ records) = run.slot ∷ slots_of records
+
+-- One where the numbers are equal.
+abbrev pub one_if_equal : ℕ → ℕ → ℕ
+one_if_equal slot other = if other == slot then 1 else 0
+
+-- How often a slot stands in a list.
+unfoldable pub occurrences : ℕ → List ℕ → ℕ
+occurrences slot [] = 0
+occurrences slot (other ∷ slots) = one_if_equal slot other + occurrences slot slots
+
+-- Each of so many slots stands once in the list, and nothing else does.
+pub record IsEachOnce (count : ℕ) (slots : List ℕ) : Type 0 where
+  pub each : (slot : ℕ) → occurrences slot slots ≡ (if nat_lt slot count then 1 else 0)
+
+-- A sorted table and a pool with room for as many records: each slot has one record or is free.
+pub record BelongTogether (records : List Run) (blocks : List (List ℕ)) (free : List ℕ) (room : ℕ) : Type 0 where
+  pub sorted : IsSorted records
+  pub once : IsEachOnce (length blocks) (slots_of records ++ free)
+  pub count : length records + length free ≡ room
+  pub pool : length blocks ≡ room

@@ -1,0 +1,94 @@
+// The pool: slots of one block each.
+ghost use Rattle.std.specs.Prelude.{◌≡◌, ℕ, ◌<◌, ◌+◌, ◌∷◌, ◌≤◌, length, slice_index_or, slice_set, IfOk};
+ghost use Rattle.std.specs.List.{range_with_len};
+ghost use Rattle.sg_blocks.specs.Disk.{zero_block};
+ghost use Rattle.sg_blocks.specs.Slots.{IsEachOnce};
+
+use std::alloc::{AllocError, Global};
+use std::marker::Model;
+
+/// Slots of 512 bytes. The free ones are a chain, in which each slot has the number of the next.
+#[derive(Drop)]
+pub struct Pool {
+    blocks: Vec<[u8; 512]>,
+    next: Vec<u32>,
+    first_free: u32,
+    free_count: u32,
+}
+
+impl Model for Pool {
+    ghost use Rattle.std.specs.Prelude.{◌≡◌, length};
+    ghost use Rattle.sg_blocks.specs.Chains.{Slots, chain, AreBelow};
+
+    ghost Value = { Slots };
+
+    ghost view = { λ p. record { blocks = p.blocks.items; free = chain p.next.items p.first_free p.free_count } };
+
+    ghost invariant = { λ p. AreBelow (length p.next.items) (chain p.next.items p.first_free p.free_count) };
+}
+
+/// Links of so many slots, from each to the one after it.
+fn links(alloc: Global, count: u32) -> Result<Vec<u32>, AllocError>
+    requires { count ≤ 65536 }
+    ensures { IfOk result (λ next. next.items ≡ range_with_len 1 count) }
+{
+    let mut next = Vec::with_capacity(alloc, count as usize)?;
+    for slot in 0..count {
+        next.push(slot + 1)?;
+    }
+    Ok(next)
+}
+
+impl Pool {
+    /// So many slots of zeros, each of them free.
+    pub fn new(alloc: Global, count: u32) -> Result<Pool, AllocError>
+        requires { count ≤ 65536 }
+        ensures blocks { IfOk result (λ pool. length pool.blocks ≡ count) }
+        ensures free_count { IfOk result (λ pool. length pool.free ≡ count) }
+        ensures free { IfOk result (λ pool. IsEachOnce count pool.free) }
+    {
+        Ok(Pool {
+            blocks: vec![in alloc; [0; 512]; count as usize]?,
+            next: links(alloc, count)?,
+            first_free: 0,
+            free_count: count,
+        })
+    }
+
+    /// The block of a slot.
+    pub fn bytes(&self, slot: u32) -> &[u8; 512]
+        requires { slot < length self.now.blocks }
+        ensures { result.now ≡ slice_index_or self.now.blocks slot zero_block }
+    {
+        &self.blocks[slot as usize]
+    }
+
+    /// How many slots are free.
+    pub fn free_count(&self) -> usize
+        ensures { result ≡ length self.now.free }
+    {
+        self.free_count as usize
+    }
+
+    /// Replaces the block of a slot.
+    pub fn set(&mut self, slot: u32, bytes: &[u8])
+        requires slot { slot < length self.old.blocks }
+        requires whole { length bytes.now ≡ 512 }
+        ensures blocks { self.new.blocks ≡ slice_set self.old.blocks slot bytes.now }
+        ensures free { self.new.free ≡ self.old.free }
+    {
+        self.blocks[slot as usize].copy_from_slice(bytes);
+    }
+
+    /// Takes a free slot.
+    pub fn take(&mut self) -> u32
+        requires { 0 < length self.old.free }
+        ensures free { self.old.free ≡ result ∷ self.new.free }
+        ensures blocks { self.new.blocks ≡ self.old.blocks }
+    {
+        let slot = self.first_free;
+        self.first_free = self.next[slot as usize];
+        self.free_count -= 1;
+        slot
+    }
+}

@@ -1,0 +1,49 @@
+use Rattle.std.proofs.Common.{◌≡◌, ◌≤◌, ◌+◌, ◌<◌, ℕ, List, length, ◌++◌, ◌∷◌, [], take, arith, ap, sym, subst, ◌∙◌}
+use Rattle.std.proofs.lemmas.List.{take_more}
+use Rattle.sg_target.specs.Ranges.{IsWithin}
+use Rattle.sg_target.specs.Runs.{step_of, ranges_of_call, Stopped}
+use Rattle.sg_target.specs.State.{State, IsWithinPool}
+use Rattle.sg_target.specs.Target.{TargetFields}
+use Rattle.sg_target.proofs.RunLemmas.{took-more, state-more, all-within, on-err, told}
+use Rattle.sg_target.proofs.target.Target.run.Goals as goal
+
+pub returns-in_err-take-clause-stopped : goal.returns-in_err-take-clause-stopped
+returns-in_err-take-clause-stopped g c =
+    let state = c.args.self.now.state in
+    let calls = c.args.calls.now in
+    let i = c.loop-call.call-index in
+    let call = c.call-item.result in
+    let here : i < length calls = omega arith in
+    let more : take (i + 1) calls ≡ take i calls ++ call ∷ [] = take_more calls i call here ∙ ap (λ x. take i calls ++ x ∷ []) (sym c.call-item.is) in
+    let stopped : Stopped g.S.Store.price state calls (g.K.Sink.taken c.args.sink.now) (g.K.Sink.taken c.take.new.self) c.args.self.now.meter.total c.execute-reply.new.self.meter.total c.execute-reply.new.self.state = record {
+      place = i;
+      in_range = here;
+      between = c.loop-call.self.meter.total;
+      took = rw c.in_err-take.ensures.refused c.loop-call.invariant.took;
+      visited = omega (arith, c.execute-reply.ensures.charge.visited);
+      state_is = rw more (c.execute-reply.ensures.state ∙ ap (λ s. (step_of s call).state) c.loop-call.invariant.state ∙ sym (state-more state (take i calls) call));
+    } in
+    on-err c.from_residual.result _ stopped
+
+pub returns-in_err-take-clause-mapped : goal.returns-in_err-take-clause-mapped
+returns-in_err-take-clause-mapped g c n = all-within _ c.args.calls.now n (subst (λ (t : TargetFields). IsWithinPool t.state) c.self.view_is c.self.invariant.1)
+
+pub loop-call-preserved : goal.loop-call-preserved
+loop-call-preserved g c =
+    let state = c.args.self.now.state in
+    let calls = c.args.calls.now in
+    let i = c.loop-call.call-index in
+    let call = c.call-item.result in
+    let here : i < length calls = omega arith in
+    let more : take (i + 1) calls ≡ take i calls ++ call ∷ [] = take_more calls i call here ∙ ap (λ x. take i calls ++ x ∷ []) (sym c.call-item.is) in
+    let so_far = c.loop-call.invariant.state in
+    let answered = told _ c.execute-reply.result _ _ c.execute-reply.ensures.reply ∙ ap (λ s. (step_of s call).answer) so_far in
+    let within = subst (λ (s : State). IsWithin g.S.Store.price s.disk.pool (ranges_of_call s call) c.execute-reply.result.counts) so_far c.execute-reply.ensures.charge.within in
+    record {
+      took = rw (more, c.in_ok-take.ensures.taken) (took-more g.S.Store.price state (take i calls) _ _ _ _ _ call _ c.loop-call.invariant.took answered within c.execute-reply.ensures.charge.visited);
+      state = rw more (c.execute-reply.ensures.state ∙ ap (λ s. (step_of s call).state) c.loop-call.invariant.state ∙ sym (state-more state (take i calls) call));
+      sound = c.in_ok-take.ensures.sound ∙ c.loop-call.invariant.sound;
+    }
+
+pub returns-clause-mapped : goal.returns-clause-mapped
+returns-clause-mapped g c n = all-within _ c.args.calls.now n (subst (λ (t : TargetFields). IsWithinPool t.state) c.self.view_is c.self.invariant.1)

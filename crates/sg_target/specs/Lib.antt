@@ -1,0 +1,13 @@
+pub mod Access
+pub mod Attentions
+pub mod CapacityData
+pub mod Checks
+pub mod Config
+pub mod Performed
+pub mod Ranges
+pub mod Refusal
+pub mod Reply
+pub mod Runs
+pub mod State
+pub mod Step
+pub mod Target

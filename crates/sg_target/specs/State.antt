@@ -1,0 +1,24 @@
+-- The state of the disk between two commands.
+use Rattle.std.specs.Prelude.{◌≤◌}
+use Rattle.std.specs.FinMap.{len}
+use Rattle.sg_blocks.specs.Disk.{Disk, empty_disk}
+use Rattle.sg_pages.specs.Identity.{IdentityFields}
+use Rattle.sg_target.specs.Attentions.{Pending, power_on_pending}
+use Rattle.sg_target.specs.Config.{ConfigFields}
+
+pub record State : Type 0 where
+  pub identity : IdentityFields
+  pub disk : Disk
+  pub attentions : Pending
+
+-- After power on: no block is mapped.
+abbrev pub powered_on : ConfigFields → State
+powered_on config = record {
+  identity = config.identity;
+  disk = empty_disk config.blocks config.pool;
+  attentions = power_on_pending;
+}
+
+-- No more addresses are mapped than the pool has blocks.
+abbrev pub IsWithinPool : State → Type 0
+IsWithinPool state = len state.disk.contents ≤ state.disk.pool
