@@ -3,8 +3,7 @@ use Rattle.std.proofs.Common.{◌≡◌, ◌≢◌, ℕ, ◌+◌, ◌<◌, List,
 use Rattle.std.specs.FinMap as map
 use Rattle.std.specs.Prelude.{slice_index_or, insert}
 use Rattle.sg_blocks.specs.Records.{start_of, IsPlace, IsNext, mapped_at}
-use Rattle.sg_blocks.specs.Slots.{BelongTogether}
-use Rattle.sg_blocks.specs.Chains.{Slots}
+use Rattle.sg_blocks.specs.Slots.{Slots, BelongTogether}
 use Rattle.sg_blocks.specs.Table.{Drafted, pushed}
 use Rattle.sg_blocks.specs.Editing.{run_at, edited, edited_contents, IsEditing}
 use Rattle.sg_blocks.specs.declared.run.Run.{Run}

@@ -10,8 +10,3 @@ chain next first (suc count) = first ∷ chain next (slice_index next first) cou
 unfoldable pub AreBelow : (count : ℕ) → List ℕ → Type 0
 AreBelow count [] = Unit
 AreBelow count (slot ∷ slots) = (slot < count) × AreBelow count slots
-
--- The blocks of the slots, and the slots that are free.
-pub record Slots : Type 0 where
-  pub blocks : List (List ℕ)
-  pub free : List ℕ

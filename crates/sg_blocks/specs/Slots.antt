@@ -3,6 +3,11 @@ use Rattle.std.specs.Prelude.{◌≡◌, ℕ, ◌+◌, List, [], ◌∷◌, ◌+
 use Rattle.sg_blocks.specs.declared.run.Run.{Run}
 use Rattle.sg_blocks.specs.Records.{IsSorted}
 
+-- The blocks of the slots, and the slots that are free.
+pub record Slots : Type 0 where
+  pub blocks : List (List ℕ)
+  pub free : List ℕ
+
 -- The slots of the records.
 abbrev pub slots_of : List Run → List ℕ
 slots_of [] = []

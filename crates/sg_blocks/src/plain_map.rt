@@ -1,7 +1,7 @@
 // A store with a record for each mapped block.
 ghost use Rattle.std.specs.Prelude.{◌≡◌, ◌^◌, ◌≤◌};
 ghost use Rattle.sg_blocks.specs.PlainPrice.{plain_price, plain_price-within};
-ghost use Rattle.sg_blocks.specs.Records.{contents_of};
+ghost use Rattle.sg_blocks.specs.Editing.{stored};
 ghost use Rattle.sg_blocks.specs.Slots.{BelongTogether};
 
 use crate::draft::Draft;
@@ -12,22 +12,23 @@ use crate::store::{Counts, Space, Store};
 use crate::table::RunTable;
 use std::alloc::{AllocError, Global};
 
-/// A disk of which each mapped block has a record of its own. A call over a range visits the records of the mapped
-/// addresses in it, and at most two more.
+/// A disk of which each mapped block has a record of its own (SBC-3, 4.7).
+///
+/// A call over a range visits the records of the mapped addresses in it, and at most two more.
 #[derive(Drop)]
 pub struct PlainMap {
     capacity: u64,
     table: RunTable,
     pool: Pool,
     draft: Draft,
-    ghost within: { capacity ≤ 2 ^ 40 },
-    ghost small: { table.room ≤ 65536 },
-    ghost drafts: { draft.room ≡ table.room },
+    ghost capacity_fits: { capacity ≤ 2 ^ 40 },
+    ghost pool_fits: { table.room ≤ 65536 },
+    ghost draft_fits: { draft.room ≡ table.room },
     ghost together: { BelongTogether table.records pool.blocks pool.free table.room },
 }
 
 impl Store for PlainMap {
-    ghost disk = { λ map. record { capacity = map.capacity; pool = map.table.room; contents = contents_of map.table.records map.pool.blocks } };
+    ghost disk = { λ map. record { capacity = map.capacity; pool = map.table.room; contents = stored map.table map.pool } };
 
     ghost meter = { λ map. record { counts = record { visits = map.table.visits; probes = map.table.probes; links = 0 }; total = map.table.total } };
 

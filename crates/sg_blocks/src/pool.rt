@@ -18,7 +18,8 @@ pub struct Pool {
 
 impl Model for Pool {
     ghost use Rattle.std.specs.Prelude.{◌≡◌, length};
-    ghost use Rattle.sg_blocks.specs.Chains.{Slots, chain, AreBelow};
+    ghost use Rattle.sg_blocks.specs.Chains.{chain, AreBelow};
+    ghost use Rattle.sg_blocks.specs.Slots.{Slots};
 
     ghost Value = { Slots };
 

@@ -2,10 +2,10 @@
 ghost use Rattle.std.specs.Prelude.{◌≡◌, ◌+◌, ◌-◌, ◌*◌, ◌^◌, ◌<◌, ◌≤◌, length};
 ghost use Rattle.std.specs.FinMap.{insert};
 ghost use Rattle.sg_blocks.specs.Disk.{written, mapped_among};
-ghost use Rattle.sg_blocks.specs.Records.{IsPlace, contents_of, mapped_at, ahead};
+ghost use Rattle.sg_blocks.specs.Records.{IsPlace, mapped_at, ahead};
 ghost use Rattle.sg_blocks.specs.Slots.{BelongTogether};
 ghost use Rattle.sg_blocks.specs.Table.{visited};
-ghost use Rattle.sg_blocks.specs.Editing.{IsEditing, edited_contents};
+ghost use Rattle.sg_blocks.specs.Editing.{IsEditing, stored, edited_contents};
 
 use crate::cursor::Cursor;
 use crate::draft::Draft;
@@ -13,8 +13,8 @@ use crate::pool::Pool;
 use crate::run::Run;
 use crate::table::RunTable;
 
-/// Writes the block at the cursor's address, over the one that is mapped there or into a free slot, and drafts its
-/// record.
+/// Writes the block at the cursor's address, drafts its record, and goes on to the next address. A block that is
+/// mapped is written over, and any other takes a free slot.
 fn put_block(
     table: &mut RunTable,
     pool: &mut Pool,
@@ -33,8 +33,8 @@ fn put_block(
     ensures editing { IsEditing table.old.records table.old.room pool.new draft.new result (lba + 1) }
     ensures draft { (draft.new.from ≡ draft.old.from) × (length draft.new.records ≡ length draft.old.records + 1) × (draft.new.room ≡ draft.old.room) }
     ensures place { result.place ≡ cursor.place + mapped_at (edited_contents table.old.records pool.old draft.old cursor) lba }
-    ensures free { length pool.new.free + 1 ≡ length pool.old.free + mapped_at (edited_contents table.old.records pool.old draft.old cursor) lba }
-    ensures cost { visited table.new (ahead cursor.next) ≡ visited table.old (mapped_at (edited_contents table.old.records pool.old draft.old cursor) lba + ahead result.next) }
+    ensures free { length pool.new.free + 1 + cursor.place ≡ length pool.old.free + result.place }
+    ensures cost { visited table.new (cursor.place + ahead cursor.next) ≡ visited table.old (result.place + ahead result.next) }
 {
     let Some(run) = cursor.run_at(lba) else {
         let slot = pool.take();
@@ -62,15 +62,15 @@ pub fn write_blocks(
     requires place { IsPlace table.old.records from lba }
     requires range { lba + count ≤ 2 ^ 40 }
     requires whole { length bytes.now ≡ 512 * count }
-    requires free { count ≤ length pool.old.free + mapped_among (contents_of table.old.records pool.old.blocks) lba count }
+    requires free { count ≤ length pool.old.free + mapped_among (stored table.old pool.old) lba count }
     requires room { (count ≤ draft.old.room) × (draft.old.room ≡ table.old.room) }
     requires few { length table.old.records ≤ 65536 }
     requires modest { table.old.visits ≤ 2 ^ 62 }
-    ensures contents { contents_of table.new.records pool.new.blocks ≡ written (contents_of table.old.records pool.old.blocks) lba count bytes.now }
+    ensures contents { stored table.new pool.new ≡ written (stored table.old pool.old) lba count bytes.now }
     ensures together { BelongTogether table.new.records pool.new.blocks pool.new.free table.new.room }
     ensures table { table.new ≡ record (visited table.old (table.new.total - table.old.total)) { records = table.new.records } }
-    ensures least { table.old.total + mapped_among (contents_of table.old.records pool.old.blocks) lba count ≤ table.new.total }
-    ensures most { table.new.total ≤ table.old.total + mapped_among (contents_of table.old.records pool.old.blocks) lba count + 1 }
+    ensures least { table.old.total + mapped_among (stored table.old pool.old) lba count ≤ table.new.total }
+    ensures most { table.new.total ≤ table.old.total + mapped_among (stored table.old pool.old) lba count + 1 }
     ensures room { draft.new.room ≡ draft.old.room }
 {
     draft.begin(from);

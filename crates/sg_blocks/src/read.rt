@@ -1,15 +1,16 @@
 // Reading the blocks of a range.
 ghost use Rattle.std.specs.Prelude.{◌≡◌, ◌+◌, ◌-◌, ◌*◌, ◌^◌, ◌<◌, ◌≤◌, length};
 ghost use Rattle.sg_blocks.specs.Disk.{block, blocks, mapped_among};
-ghost use Rattle.sg_blocks.specs.Records.{IsSorted, IsPlace, HaveSlots, contents_of, mapped_at, ahead};
+ghost use Rattle.sg_blocks.specs.Records.{IsSorted, IsPlace, HaveSlots, mapped_at, ahead};
 ghost use Rattle.sg_blocks.specs.Table.{visited};
-ghost use Rattle.sg_blocks.specs.Editing.{IsAt};
+ghost use Rattle.sg_blocks.specs.Editing.{IsAt, stored};
 
 use crate::cursor::Cursor;
 use crate::pool::Pool;
 use crate::table::RunTable;
 
-/// Reads the block at the cursor's address. One record is visited for it if it is mapped, which may be the one ahead.
+/// Reads the block at the cursor's address, and goes on to the next address. Each record that the cursor passes was
+/// visited, and the one where it stands.
 fn read_block(
     table: &mut RunTable,
     pool: &Pool,
@@ -23,9 +24,10 @@ fn read_block(
     requires few { length table.old.records ≤ 65536 }
     requires whole { length bytes.old ≡ 512 }
     requires modest { table.old.visits < 2 ^ 63 }
-    ensures bytes { bytes.new ≡ block (contents_of table.old.records pool.now.blocks) lba }
+    ensures bytes { bytes.new ≡ block (stored table.old pool.now) lba }
     ensures cursor { IsAt table.old.records result (lba + 1) }
-    ensures cost { visited table.new (ahead cursor.next) ≡ visited table.old (mapped_at (contents_of table.old.records pool.now.blocks) lba + ahead result.next) }
+    ensures place { result.place ≡ cursor.place + mapped_at (stored table.old pool.now) lba }
+    ensures cost { visited table.new (cursor.place + ahead cursor.next) ≡ visited table.old (result.place + ahead result.next) }
 {
     let Some(run) = cursor.run_at(lba) else {
         bytes.fill(0);
@@ -51,10 +53,10 @@ pub fn read_blocks(
     requires few { length table.old.records ≤ 65536 }
     requires whole { length bytes.old ≡ 512 * count }
     requires modest { table.old.visits ≤ 2 ^ 62 }
-    ensures bytes { bytes.new ≡ blocks (contents_of table.old.records pool.now.blocks) lba count }
+    ensures bytes { bytes.new ≡ blocks (stored table.old pool.now) lba count }
     ensures table { table.new ≡ visited table.old (table.new.total - table.old.total) }
-    ensures least { table.old.total + mapped_among (contents_of table.old.records pool.now.blocks) lba count ≤ table.new.total }
-    ensures most { table.new.total ≤ table.old.total + mapped_among (contents_of table.old.records pool.now.blocks) lba count + 1 }
+    ensures least { table.old.total + mapped_among (stored table.old pool.now) lba count ≤ table.new.total }
+    ensures most { table.new.total ≤ table.old.total + mapped_among (stored table.old pool.now) lba count + 1 }
 {
     let mut cursor = Cursor::new(table, from);
     for i in 0..count {

@@ -9,8 +9,6 @@ ghost use Rattle.sg_run.specs.HexText.{hex_byte, hex_offset, hex_line, hex_lines
 use sg_wire::Printer;
 use std::io::Write;
 
-const LOWER_DIGITS: [u8; 16] = *b"0123456789abcdef";
-
 const UPPER_DIGITS: [u8; 16] = *b"0123456789ABCDEF";
 
 /// Prints some bytes in lines of sixteen: the offset of the first in eight digits, and each byte as
@@ -62,14 +60,12 @@ fn print_bytes<W: Write>(bytes: &[u8], out: &mut Printer<'_, W>)
 }
 
 // The two digits of a byte.
-#[tactic(auto, unfolding(hex::specs::Hex::encode_with))]
 fn digits_of(byte: u8) -> [u8; 2]
     ensures { result ≡ hex_byte byte }
 {
-    [
-        LOWER_DIGITS[(byte >> 4) as usize],
-        LOWER_DIGITS[(byte & 0x0f) as usize],
-    ]
+    let mut digits = [0; 2];
+    hex::encode_to_slice([byte], &mut digits).unwrap();
+    digits
 }
 
 /// Prints a byte as two upper-case digits and an h, as in `29h`.

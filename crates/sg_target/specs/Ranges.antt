@@ -41,6 +41,11 @@ abbrev pub price_of : (Contents → ℕ → ℕ → ℕ) → List Range → ℕ
 price_of price [] = 0
 price_of price (range ∷ more) = price range.contents range.lba range.count + price_of price more
 
+-- Two more than the blocks of each range, together.
+abbrev pub two_more_each : List Range → ℕ
+two_more_each [] = 0
+two_more_each (range ∷ more) = range.count + 2 + two_more_each more
+
 -- Counts that a command over these ranges may be told. With no range all are zero.
 pub record IsWithin (price : Contents → ℕ → ℕ → ℕ) (pool : ℕ) (over : List Range) (counts : Counts) : Type 0 where
   pub visits : counts.visits ≤ price_of price over

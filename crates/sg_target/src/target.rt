@@ -40,7 +40,7 @@ ghost use Rattle.sg_target.specs.Access.{access_of, announced, extent_of};
 ghost use Rattle.sg_target.specs.Attentions.{oldest};
 ghost use Rattle.sg_target.specs.Checks.{first_some, passes_attention, past_capacity, out_of_range, short_data_out, refusal_before_space};
 ghost use Rattle.sg_target.specs.Performed.{CanBePerformed};
-ghost use Rattle.sg_target.specs.Ranges.{IsCharged, ranges};
+ghost use Rattle.sg_target.specs.Ranges.{IsCharged, ranges, two_more_each};
 ghost use Rattle.sg_target.specs.Reply.{Tells};
 ghost use Rattle.sg_target.specs.State.{IsWithinPool, powered_on};
 ghost use Rattle.sg_target.specs.Step.{after_refusal, step, without_attention};
@@ -76,6 +76,7 @@ impl<S: Store> Target<S> {
         ensures reply { Tells (step self.old.state initiator cdb.now data_out.now).answer result buf.old buf.new }
         ensures state { self.new.state ≡ (step self.old.state initiator cdb.now data_out.now).state }
         ensures mapped { IsWithinPool self.new.state }
+        ensures visits { result.counts.visits ≤ two_more_each (ranges self.old.state initiator cdb.now data_out.now) }
         ensures charge { IsCharged S.price self.old.state.disk.pool (ranges self.old.state initiator cdb.now data_out.now) self.old.meter self.new.meter result.counts }
     {
         match self.admit(initiator, cdb, data_out) {

@@ -1,4 +1,4 @@
-use Rattle.std.proofs.Common.{length, ap, sym, ◌∙◌, arith, refl}
+use Rattle.std.proofs.Common.{◌+◌, length, ap, sym, ◌∙◌, arith, refl}
 use Rattle.sg_blocks.specs.Records.{ahead}
 use Rattle.sg_blocks.specs.Table.{visited}
 use Rattle.sg_blocks.specs.declared.run.Run.{Run}
@@ -35,14 +35,7 @@ pub returns-in_default-clause-place : goal.returns-in_default-clause-place
 returns-in_default-clause-place c = omega (arith, unmapped-there c.requires.editing (sym c.run_at.ensures ∙ c.in_default.is))
 
 pub returns-in_default-clause-free : goal.returns-in_default-clause-free
-returns-in_default-clause-free c =
-    let none = unmapped-there c.requires.editing (sym c.run_at.ensures ∙ c.in_default.is) in
-    rw c.set.ensures.free (omega (arith, none, ap length c.take-slot.ensures.free))
-
-pub returns-in_default-clause-cost : goal.returns-in_default-clause-cost
-returns-in_default-clause-cost c =
-    let none = unmapped-there c.requires.editing (sym c.run_at.ensures ∙ c.in_default.is) in
-    ap (visited c.args.table.now) (omega (arith, none))
+returns-in_default-clause-free c = rw c.set.ensures.free (omega (arith, ap length c.take-slot.ensures.free))
 
 -- the address is mapped
 pub set-requires-2-clause-slot : goal.set-requires-2-clause-slot
@@ -62,14 +55,11 @@ pub returns-clause-place : goal.returns-clause-place
 returns-clause-place c = omega (arith, c.new.ensures.place, mapped-there c.requires.editing c.in-Some.run' (sym c.run_at.ensures ∙ c.in-Some.is))
 
 pub returns-clause-free : goal.returns-clause-free
-returns-clause-free c =
-    rw c.set-2.ensures.free (omega (arith, mapped-there c.requires.editing c.in-Some.run' (sym c.run_at.ensures ∙ c.in-Some.is)))
+returns-clause-free c = rw c.set-2.ensures.free (omega (arith, c.new.ensures.place))
 
 pub returns-clause-cost : goal.returns-clause-cost
 returns-clause-cost c =
     let t = c.args.table.now in
-    let is = sym c.run_at.ensures ∙ c.in-Some.is in
-    let one = mapped-there c.requires.editing c.in-Some.run' is in
-    let paid = ahead-found c.args.cursor.next c.args.lba c.in-Some.run' is in
-    ap (λ u. visited u (ahead c.args.cursor.next)) c.new.ensures.table ∙ visited-more t (ahead c.new.result.next) (ahead c.args.cursor.next)
-    ∙ ap (visited t) (omega arith)
+    let passed = c.args.cursor.place + ahead c.args.cursor.next in
+    let paid = ahead-found c.args.cursor.next c.args.lba c.in-Some.run' (sym c.run_at.ensures ∙ c.in-Some.is) in
+    ap (λ t. visited t passed) c.new.ensures.table ∙ visited-more t (ahead c.new.result.next) passed ∙ ap (visited t) (omega (arith, c.new.ensures.place))

@@ -57,19 +57,16 @@ loop-i-preserved c =
     let wide : 512 * i + 512 - 512 * i ≡ 512 = omega arith in
     let same = ap₂ mapped_at inv.contents here ∙ mapped_at-past contents c.args.lba i c.args.bytes.now in
     let place = rw (inv.table, same) at e.place in
-    let free = rw (inv.table, same) at e.free in
-    let now = ahead c.loop-i.cursor.next in
-    let then = ahead c.put_block-cursor.result.next in
-    let before = mapped_among contents c.args.lba i in
-    let one = mapped_at contents (c.args.lba + i) in
+    let before = mapped_among contents c.args.lba i + ahead c.loop-i.cursor.next in
+    let passed = c.loop-i.cursor.place + ahead c.loop-i.cursor.next in
+    let after = c.put_block-cursor.result.place + ahead c.put_block-cursor.result.next in
     let more = mapped_among-more contents c.args.lba i in
-    let paid : visited c.put_block-cursor.new.table now ≡ visited t (before + now + (one + then))
-    = rw (inv.table, same) at e.cost ∙ visited-more t (before + now) (one + then) in
+    let paid : visited c.put_block-cursor.new.table passed ≡ visited t (before + after) = rw inv.table at e.cost ∙ visited-more t before after in
     record {
       editing = rw (inv.table, here, on) at e.editing;
       contents = rw inv.table at e.contents ∙ rw (inv.contents, here, wide) (sym (written-more contents c.args.lba i c.args.bytes.now));
       draft = (e.draft.0 ∙ inv.draft.0, omega (arith, e.draft.1, inv.draft.1), e.draft.2 ∙ inv.draft.2);
       place = omega (arith, place, inv.place, more);
-      free = omega (arith, free, inv.free, more);
-      table = visited-less c.put_block-cursor.new.table t now (before + now + (one + then)) _ paid (omega (arith, more));
+      free = omega (arith, e.free, place, inv.free, more);
+      table = visited-less c.put_block-cursor.new.table t passed (before + after) _ paid (omega (arith, place, more));
     }
