@@ -57,12 +57,13 @@ pub record Took (price : Contents → ℕ → ℕ → ℕ) (state : State) (call
   pub within : AreWithin price state calls given
   pub visited : total' ≡ total + visits_of given
 
--- A sink has refused the reply to the call at a place. It has taken those to the calls before; the state is the one after
--- that call, whose visits are in the total.
+-- A sink has refused the reply to the call at a place. It has taken those to the calls before, and with the refused one it
+-- would have taken those up to that call, whose state is the one that is left.
 pub record Stopped (price : Contents → ℕ → ℕ → ℕ) (state : State) (calls : List Call) (before after : List Exchange) (total total' : ℕ) (state' : State) : Type 0 where
   pub place : ℕ
   pub in_range : place < length calls
   pub between : ℕ
   pub took : Took price state (take place calls) before after total between
-  pub visited : between ≤ total'
+  pub refused : Exchange
+  pub told : Took price state (take (place + 1) calls) before (after ++ refused ∷ []) total total'
   pub state_is : state' ≡ state_after_all state (take (place + 1) calls)

@@ -1,7 +1,7 @@
 use Rattle.std.proofs.Common.{◌≡◌, ◌≤◌, ◌+◌, ◌<◌, ℕ, List, length, ◌++◌, ◌∷◌, [], take, arith, ap, sym, subst, ◌∙◌}
 use Rattle.std.proofs.lemmas.List.{take_more}
 use Rattle.sg_target.specs.Ranges.{IsWithin}
-use Rattle.sg_target.specs.Runs.{step_of, ranges_of_call, Stopped}
+use Rattle.sg_target.specs.Runs.{step_of, ranges_of_call, exchange, Stopped}
 use Rattle.sg_target.specs.State.{State, IsWithinPool}
 use Rattle.sg_target.specs.Target.{TargetFields}
 use Rattle.sg_target.proofs.RunLemmas.{took-more, state-more, all-within, on-err, told}
@@ -15,12 +15,16 @@ returns-in_err-take-clause-stopped g c =
     let call = c.call-item.result in
     let here : i < length calls = omega arith in
     let more : take (i + 1) calls ≡ take i calls ++ call ∷ [] = take_more calls i call here ∙ ap (λ x. take i calls ++ x ∷ []) (sym c.call-item.is) in
+    let so_far = c.loop-call.invariant.state in
+    let answered = told _ c.execute-reply.result _ _ c.execute-reply.ensures.reply ∙ ap (λ s. (step_of s call).answer) so_far in
+    let within = subst (λ (s : State). IsWithin g.S.Store.price s.disk.pool (ranges_of_call s call) c.execute-reply.result.counts) so_far c.execute-reply.ensures.charge.within in
     let stopped : Stopped g.S.Store.price state calls (g.K.Sink.taken c.args.sink.now) (g.K.Sink.taken c.take.new.self) c.args.self.now.meter.total c.execute-reply.new.self.meter.total c.execute-reply.new.self.state = record {
       place = i;
       in_range = here;
       between = c.loop-call.self.meter.total;
       took = rw c.in_err-take.ensures.refused c.loop-call.invariant.took;
-      visited = omega (arith, c.execute-reply.ensures.charge.visited);
+      refused = exchange c.execute-reply.result (take c.execute-reply.result.data_in c.execute-reply.new.buf);
+      told = rw (more, c.in_err-take.ensures.refused) (took-more g.S.Store.price state (take i calls) _ _ _ _ _ call _ c.loop-call.invariant.took answered within c.execute-reply.ensures.charge.visited);
       state_is = rw more (c.execute-reply.ensures.state ∙ ap (λ s. (step_of s call).state) c.loop-call.invariant.state ∙ sym (state-more state (take i calls) call));
     } in
     on-err c.from_residual.result _ stopped
