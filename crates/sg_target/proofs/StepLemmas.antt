@@ -5,7 +5,7 @@ use Rattle.sg_wire.specs.declared.command.Command.{Command}
 use Rattle.sg_target.specs.Access.{access_of}
 use Rattle.sg_target.specs.Checks.{access_in, checks_before_space, first_some, no_space, refusal_of, refusal_before_space}
 use Rattle.sg_target.specs.Performed.{performed}
-use Rattle.sg_target.specs.Ranges.{Range, ranges, ranges_of, unless_refused_before}
+use Rattle.sg_target.specs.Ranges.{ranges, ranges_of, unless_refused_before}
 use Rattle.sg_target.specs.State.{State}
 use Rattle.sg_target.specs.Step.{step, refused, executed_block, unless_refused}
 use Rattle.sg_target.specs.declared.refusal.Refusal.{Refusal}

@@ -9,7 +9,7 @@ use Rattle.sg_wire.specs.declared.command.Command.TheVariants.{TestUnitReady, Re
 use Rattle.sg_wire.specs.declared.command.CdbFault.{CdbFault}
 use Rattle.sg_wire.specs.declared.command.CdbFault.TheVariants.{Empty, Opcode, Short, Field}
 use Rattle.sg_pages.specs.VitalProductData.{is_supported}
-use Rattle.sg_blocks.specs.Disk.{Disk, Contents, written}
+use Rattle.sg_blocks.specs.Disk.{Contents, written}
 use Rattle.sg_target.specs.Access.{access_of, announced, extent_of}
 use Rattle.sg_target.specs.Attentions.{oldest}
 use Rattle.sg_target.specs.State.{State}

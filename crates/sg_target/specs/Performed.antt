@@ -1,5 +1,5 @@
 -- What a command does that only want of space can refuse.
-use Rattle.std.specs.Prelude.{◌≡◌, ℕ, List, [], ◌≤◌, ◌+◌, length, None, IfSome}
+use Rattle.std.specs.Prelude.{◌≡◌, ℕ, List, ◌≤◌, ◌+◌, length, None, IfSome}
 use Rattle.sg_wire.specs.declared.command.Command.{Command}
 use Rattle.sg_target.specs.Access.{access_of, announced, extent_of}
 use Rattle.sg_target.specs.Checks.{no_space, unsupported_value}

@@ -1,5 +1,5 @@
 -- What a list of commands does: one step after another.
-use Rattle.std.specs.Prelude.{◌≡◌, ◌≤◌, ◌<◌, ℕ, ◌+◌, List, [], ◌∷◌, ◌++◌, length, map, take}
+use Rattle.std.specs.Prelude.{◌≡◌, ◌<◌, ℕ, ◌+◌, List, [], ◌∷◌, ◌++◌, length, map, take}
 use Rattle.sg_blocks.specs.Disk.{Contents}
 use Rattle.sg_target.specs.Ranges.{Range, IsWithin, ranges}
 use Rattle.sg_target.specs.State.{State}

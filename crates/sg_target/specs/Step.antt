@@ -4,14 +4,14 @@ use Rattle.sg_wire.specs.CutAnswer.{first_bytes}
 use Rattle.sg_wire.specs.Layout.{read}
 use Rattle.sg_wire.specs.SenseData.{SenseFields, sense_data}
 use Rattle.sg_wire.specs.declared.command.Command.{Command}
-use Rattle.sg_wire.specs.declared.command.Command.TheVariants.{TestUnitReady, RequestSense, Inquiry, Read6, Read10, Read16, Write6, Write10, Write16, ReadCapacity10, ReadCapacity16, SynchronizeCache10}
+use Rattle.sg_wire.specs.declared.command.Command.TheVariants.{RequestSense, Inquiry, ReadCapacity10, ReadCapacity16}
 use Rattle.sg_wire.specs.declared.command.CdbFault.{CdbFault}
 use Rattle.sg_wire.specs.declared.sense.Format.{Format}
 use Rattle.sg_wire.specs.declared.sense.Format.TheVariants.{Fixed, Descriptor}
 use Rattle.sg_pages.specs.Identity.{IdentityFields}
 use Rattle.sg_pages.specs.InquiryData.{standard_inquiry}
 use Rattle.sg_pages.specs.VitalProductData.{vpd_page}
-use Rattle.sg_blocks.specs.Disk.{Disk, Contents, blocks}
+use Rattle.sg_blocks.specs.Disk.{Contents, blocks}
 use Rattle.sg_target.specs.Access.{access_of}
 use Rattle.sg_target.specs.Attentions.{oldest, without_oldest}
 use Rattle.sg_target.specs.CapacityData.{capacity_10, capacity_16}

@@ -1,7 +1,6 @@
-use Rattle.std.proofs.Common.{rules, ◌≡◌, ◌*◌, ap, sym, subst, ◌∙◌, arith}
+use Rattle.std.proofs.Common.{ap, subst, ◌∙◌, arith}
 use Rattle.sg_wire.specs.Printing.{Prints}
 use Rattle.sg_wire.specs.Printer.{printing}
-use Rattle.sg_target.specs.State.{State}
 use Rattle.sg_target.specs.Step.{Step, step}
 use Rattle.sg_run.specs.Outcome.{answered, write_16}
 use Rattle.sg_run.proofs.FillLemmas.{filled-step}
