@@ -32,7 +32,6 @@ fn print_hex_line<W: Write>(offset: u32, bytes: &[u8], out: &mut Printer<'_, W>)
 {
     print_offset(offset, out);
     print_bytes(bytes, out);
-    out.put(b"\n");
 }
 
 // Prints the offset between two blanks and one.
@@ -44,19 +43,22 @@ fn print_offset<W: Write>(offset: u32, out: &mut Printer<'_, W>)
     out.put(&text);
 }
 
-// Prints at most sixteen bytes with a blank before each.
+// Prints at most sixteen bytes, each with a blank before it, and ends the line.
+#[tactic(auto, using(crate::proofs::TextLemmas::ends))]
 fn print_bytes<W: Write>(bytes: &[u8], out: &mut Printer<'_, W>)
     requires { length bytes.now ≤ 16 }
-    ensures { Prints (printing W.contents out.old) (printing W.contents out.new) (flat_map (λ byte. 32 ∷ hex_byte byte) bytes.now) }
+    ensures { Prints (printing W.contents out.old) (printing W.contents out.new) (flat_map (λ byte. 32 ∷ hex_byte byte) bytes.now ++ codes "\n") }
 {
-    let mut text = [b' '; 48];
+    let mut text = [b' '; 49];
     for (place, byte) in bytes.iter().enumerate() {
         let [high, low] = digits_of(*byte);
         text[3 * place] = b' ';
         text[3 * place + 1] = high;
         text[3 * place + 2] = low;
     }
-    out.put(&text[..3 * bytes.len()]);
+    let end = 3 * bytes.len();
+    text[end] = b'\n';
+    out.put(&text[..end + 1]);
 }
 
 // The two digits of a byte.
