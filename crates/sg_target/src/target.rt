@@ -166,3 +166,6 @@ fn attention_before(
         _ => attentions.oldest(initiator),
     }
 }
+
+#[cfg(test)]
+mod tests;
