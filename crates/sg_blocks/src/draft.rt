@@ -45,6 +45,13 @@ impl Draft {
         self.records.clear();
     }
 
+    /// Keeps no record any more.
+    pub fn clear(&mut self)
+        ensures { self.new ≡ record self.old { records = [] } }
+    {
+        self.records.clear();
+    }
+
     /// Puts a record behind the others.
     pub fn push(&mut self, run: Run)
         requires { length self.old.records < self.old.room }

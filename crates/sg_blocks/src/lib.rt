@@ -5,12 +5,12 @@ mod cursor;
 mod draft;
 mod plain_map;
 mod pool;
-mod put;
 mod read;
 mod run;
 mod store;
 mod table;
 mod tally;
+mod write;
 
 pub use plain_map::PlainMap;
-pub use store::{Counts, Space, Store};
+pub use store::{BLOCK_LENGTH, Counts, Space, Store};

@@ -1,15 +1,15 @@
 // A store with a record for each mapped block.
-ghost use Rattle.std.specs.Prelude.{◌≡◌, ◌^◌, ◌≤◌};
+ghost use Rattle.std.specs.Prelude.{◌≡◌, ◌^◌, ◌≤◌, []};
 ghost use Rattle.sg_blocks.specs.PlainPrice.{plain_price, plain_price-within};
 ghost use Rattle.sg_blocks.specs.Editing.{stored};
 ghost use Rattle.sg_blocks.specs.Slots.{BelongTogether};
 
 use crate::draft::Draft;
 use crate::pool::Pool;
-use crate::put::write_blocks;
 use crate::read::read_blocks;
 use crate::store::{Counts, Space, Store};
 use crate::table::RunTable;
+use crate::write::write_blocks;
 use std::alloc::{AllocError, Global};
 
 /// A disk of which each mapped block has a record of its own (SBC-3, 4.7).
@@ -24,6 +24,7 @@ pub struct PlainMap {
     ghost capacity_fits: { capacity ≤ 2 ^ 40 },
     ghost pool_fits: { table.room ≤ 65536 },
     ghost draft_fits: { draft.room ≡ table.room },
+    ghost draft_empty: { draft.records ≡ [] },
     ghost together: { BelongTogether table.records pool.blocks pool.free table.room },
 }
 

@@ -1,16 +1,17 @@
 // The pool: slots of one block each.
-ghost use Rattle.std.specs.Prelude.{◌≡◌, ℕ, ◌<◌, ◌+◌, ◌∷◌, ◌≤◌, length, slice_index_or, slice_set, IfOk};
+ghost use Rattle.std.specs.Prelude.{◌≡◌, ◌<◌, ◌+◌, ◌∷◌, ◌≤◌, length, slice_index_or, slice_set, IfOk};
 ghost use Rattle.std.specs.List.{range_with_len};
 ghost use Rattle.sg_blocks.specs.Disk.{zero_block};
 ghost use Rattle.sg_blocks.specs.Slots.{IsEachOnce};
 
+use crate::store::BLOCK_LENGTH;
 use std::alloc::{AllocError, Global};
 use std::marker::Model;
 
 /// Slots of 512 bytes. The free ones are a chain, in which each slot has the number of the next.
 #[derive(Drop)]
 pub struct Pool {
-    blocks: Vec<[u8; 512]>,
+    blocks: Vec<[u8; BLOCK_LENGTH]>,
     next: Vec<u32>,
     first_free: u32,
     free_count: u32,
@@ -49,7 +50,7 @@ impl Pool {
         ensures free { IfOk result (λ pool. IsEachOnce count pool.free) }
     {
         Ok(Pool {
-            blocks: vec![in alloc; [0; 512]; count as usize]?,
+            blocks: vec![in alloc; [0; BLOCK_LENGTH]; count as usize]?,
             next: links(alloc, count)?,
             first_free: 0,
             free_count: count,
@@ -57,7 +58,7 @@ impl Pool {
     }
 
     /// The block of a slot.
-    pub fn bytes(&self, slot: u32) -> &[u8; 512]
+    pub fn bytes(&self, slot: u32) -> &[u8; BLOCK_LENGTH]
         requires { slot < length self.now.blocks }
         ensures { result.now ≡ slice_index_or self.now.blocks slot zero_block }
     {

@@ -7,6 +7,7 @@ ghost use Rattle.sg_blocks.specs.Editing.{IsAt, stored};
 
 use crate::cursor::Cursor;
 use crate::pool::Pool;
+use crate::store::BLOCK_LENGTH;
 use crate::table::RunTable;
 
 /// Reads the block at the cursor's address, and goes on to the next address. Each record that the cursor passes was
@@ -60,8 +61,8 @@ pub fn read_blocks(
 {
     let mut cursor = Cursor::new(table, from);
     for i in 0..count {
-        let at = 512 * (i as usize);
-        let block = &mut bytes[at..at + 512];
+        let at = BLOCK_LENGTH * (i as usize);
+        let block = &mut bytes[at..at + BLOCK_LENGTH];
         cursor = read_block(table, pool, cursor, lba + u64::from(i), block);
     }
 }

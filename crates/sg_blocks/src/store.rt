@@ -6,6 +6,9 @@ ghost use Rattle.sg_blocks.specs.Meter.{Meter, new_meter, restarted, IsModest, C
 
 use std::alloc::{AllocError, Global};
 
+/// How long a block is, in bytes.
+pub const BLOCK_LENGTH: usize = 512;
+
 /// What a store did, counted since its last restart.
 #[derive(Clone, Copy, Debug, PartialEq, Eq, Default)]
 pub struct Counts {

@@ -1,5 +1,5 @@
 // The table of records.
-ghost use Rattle.std.specs.Prelude.{◌≡◌, ℕ, ◌+◌, ◌-◌, ◌*◌, ◌^◌, ◌<◌, ◌≤◌, [], ◌++◌, length, take, drop, slice_index_or, IfOk};
+ghost use Rattle.std.specs.Prelude.{◌≡◌, ◌+◌, ◌-◌, ◌^◌, ◌<◌, ◌≤◌, [], ◌++◌, length, take, drop, slice_index_or, IfOk};
 ghost use Rattle.sg_blocks.specs.Records.{start_of, IsSorted, IsPlace};
 ghost use Rattle.sg_blocks.specs.Table.{visited, probed, spliced};
 

@@ -1,15 +1,14 @@
--- Blocks that mean the same WRITE are executed alike.
-use Rattle.std.proofs.Common.{◌≡◌, ◌<◌, ℕ, ◌^◌, List, [], ◌∷◌, Bool, true, false, cond, Option, Some, None, Result, Ok, Err, refl, subst, arith}
+-- A WRITE is executed as one, however its block is written.
+use Rattle.std.proofs.Common.{◌≡◌, ◌<◌, ℕ, ◌^◌, List, [], ◌∷◌, Bool, true, false, cond, Option, Some, None, Result, Ok, Err, ap, refl, subst, arith}
 use Rattle.std.specs.Prelude.{◌==◌, ◌||◌, slice_index}
 use Rattle.std.proofs.lemmas.Bool.Decides.{nat_tests}
 use Rattle.sg_wire.specs.Layout.{read, read_as, unless_bad}
 use Rattle.sg_wire.specs.declared.command.Command.{Command}
 use Rattle.sg_wire.specs.declared.command.Command.TheVariants.{Write16}
 use Rattle.sg_wire.specs.declared.command.CdbFault.{CdbFault}
-use Rattle.sg_wire.proofs.LayoutLemmas.{encodes-write_16}
-use Rattle.sg_target.specs.Checks.{passes_attention, refusal_of}
+use Rattle.sg_target.specs.Checks.{Received, passes_attention, received}
 use Rattle.sg_target.specs.State.{State}
-use Rattle.sg_target.specs.Step.{step}
+use Rattle.sg_target.specs.Step.{step, received_step}
 use Rattle.sg_run.specs.Outcome.{write_16}
 
 of_row : (short : Bool) (fault : CdbFault) (bad : Option ℕ) (made read_of : Command) → cond {A = Result Command CdbFault} short (Err fault) (unless_bad bad made) ≡ Ok read_of → made ≡ read_of
@@ -42,12 +41,10 @@ waits lba count (opcode ∷ rest) e =
     (λ h. no-inquiry lba count (opcode ∷ rest) (subst (λ (o : ℕ). read_as o (opcode ∷ rest) ≡ Ok (Write16 lba count)) (same-number opcode 0x12 h) e))
     (λ h. no-request_sense lba count (opcode ∷ rest) (subst (λ (o : ℕ). read_as o (opcode ∷ rest) ≡ Ok (Write16 lba count)) (same-number opcode 0x03 h) e))
 
-same-step : (state : State) (i lba count : ℕ) (a b data_out : List ℕ) → read a ≡ Ok (Write16 lba count) → read b ≡ Ok (Write16 lba count) → step state i a data_out ≡ step state i b data_out
-unfolding step refusal_of
-same-step state i lba count a b data_out e f = rw (e, f, waits lba count a e, waits lba count b f) refl
-
--- one block is written with the definition's bytes
-pub filled-step : (state : State) (i lba count : ℕ) (cdb data_out : List ℕ) → lba < 2 ^ 64 → count < 2 ^ 32 → read cdb ≡ Ok (Write16 lba count) →
-    step state i cdb data_out ≡ step state i (write_16 lba count) data_out
-unfolding write_16
-filled-step state i lba count cdb data_out l n e = same-step state i lba count cdb (write_16 lba count) data_out e (encodes-write_16 lba count l n).reads_back
+-- however its block is written
+pub filled-step : (state : State) (i lba count : ℕ) (cdb data_out : List ℕ) → read cdb ≡ Ok (Write16 lba count) →
+    step state i cdb data_out ≡ received_step state i (write_16 lba count) data_out
+filled-step state i lba count cdb data_out e =
+    let wait = waits lba count cdb e in
+    let same : received cdb ≡ write_16 lba count = λ j. record { command = e j; passes = wait j } in
+    ap (λ (block : Received). received_step state i block data_out) same

@@ -1,6 +1,7 @@
 -- What a line of a script does.
-use Rattle.std.specs.Prelude.{ℕ, ◌*◌, List, [], ◌∷◌, ◌++◌, replicate, Option, codes}
-use Rattle.byteorder.specs.Endian.{big_bytes}
+use Rattle.std.specs.Prelude.{ℕ, ◌*◌, List, [], ◌++◌, replicate, Option, Ok, false, codes}
+use Rattle.sg_wire.specs.declared.command.Command.TheVariants.{Write16}
+use Rattle.sg_target.specs.Checks.{Received}
 use Rattle.sg_run.specs.ExitStatus.{exit_status}
 use Rattle.sg_run.specs.HexText.{hex_lines}
 use Rattle.sg_run.specs.LineFault.{fault_words}
@@ -8,7 +9,7 @@ use Rattle.sg_run.specs.LineText.{line_header}
 use Rattle.sg_run.specs.Request.{LineRequest, nothing, faulty, send, fill, request_of}
 use Rattle.sg_run.specs.SenseText.{sense_lines}
 use Rattle.sg_target.specs.State.{State}
-use Rattle.sg_target.specs.Step.{Step, step}
+use Rattle.sg_target.specs.Step.{Step, received_step, step}
 use Rattle.sg_target.specs.declared.reply.Status.{Status}
 use Rattle.sg_target.specs.declared.reply.Status.TheVariants.{Good, CheckCondition}
 
@@ -34,15 +35,15 @@ answered number s = record {
   state = s.state;
 }
 
--- WRITE(16) of so many blocks from an address on (SBC-3, 5.35).
-unfoldable pub write_16 : (lba count : ℕ) → List ℕ
-write_16 lba count = (0x8A ∷ 0 ∷ []) ++ big_bytes 8 lba ++ big_bytes 4 count ++ (0 ∷ 0 ∷ [])
+-- WRITE(16) of so many blocks from an address on (SBC-3, 5.35), which waits for a unit attention to be reported.
+abbrev pub write_16 : (lba count : ℕ) → Received
+write_16 lba count = record { command = Ok (Write16 lba count); passes = false }
 
 abbrev pub by_request : ℕ → State → LineRequest → Outcome
 by_request number state nothing = silent state
 by_request number state (faulty fault) = record { text = line_header number (fault_words fault); status = 1; state = state }
 by_request number state (send initiator cdb data_out) = answered number (step state initiator cdb data_out)
-by_request number state (fill initiator lba count byte) = answered number (step state initiator (write_16 lba count) (replicate (512 * count) byte))
+by_request number state (fill initiator lba count byte) = answered number (received_step state initiator (write_16 lba count) (replicate (512 * count) byte))
 
 -- What the line with a number does, by what is kept of it, which is nothing where it is too long.
 unfoldable pub outcome : (number : ℕ) → (line : Option (List ℕ)) → State → Outcome

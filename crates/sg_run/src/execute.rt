@@ -1,5 +1,5 @@
 // Executes a line.
-ghost use Rattle.std.specs.Prelude.{◌≡◌, ◌≤◌, ◌<◌, ◌++◌, ◌^◌, false, length, take, replicate, option_map, IfOk, IfSome};
+ghost use Rattle.std.specs.Prelude.{◌≡◌, ◌≤◌, ◌<◌, ◌++◌, false, length, take, replicate, IfOk};
 ghost use Rattle.sg_wire.specs.Watched.{has_failed, inner_of};
 ghost use Rattle.sg_wire.specs.Sending.{Sends};
 ghost use Rattle.sg_wire.specs.Printing.{Prints};
@@ -8,7 +8,7 @@ ghost use Rattle.sg_run.specs.HexText.{hex_lines};
 ghost use Rattle.sg_run.specs.LineText.{line_header};
 ghost use Rattle.sg_run.specs.Outcome.{answered, by_request, outcome, status_words};
 ghost use Rattle.sg_run.specs.Request.{fill};
-ghost use Rattle.sg_run.specs.RequestLines.{seen};
+ghost use Rattle.sg_run.specs.RequestLines.{line_request};
 ghost use Rattle.sg_run.specs.SenseText.{sense_lines};
 ghost use Rattle.sg_target.specs.Step.{step};
 
@@ -19,7 +19,7 @@ use crate::line::Line;
 use crate::line_text::print_line_header;
 use crate::request::{FilledBlocks, Request, read_request};
 use crate::sense_text::print_sense;
-use sg_blocks::Store;
+use sg_blocks::{BLOCK_LENGTH, Store};
 use sg_target::{Call, Reply, Status, Target};
 use sg_wire::{Printer, Watched};
 use std::io;
@@ -43,7 +43,7 @@ pub(crate) fn execute_line<W: Write, S: Store>(
     ensures state { target.new.state ≡ (outcome number line.now target.old.state).state }
     ensures status { IfOk result (λ status. status ≡ (outcome number line.now target.old.state).status) }
 {
-    let request = read_request(line.bytes(), &mut buffers.decoded);
+    let request = read_request(line.bytes(), &mut buffers.hex);
     let mut out = Printer::new(writer, &mut buffers.text);
     let data_out = &mut buffers.data_out;
     let data_in = &mut buffers.data_in;
@@ -63,9 +63,9 @@ fn answer<W: Write, S: Store>(
 ) -> u8
     requires data_out { length data_out.old ≡ 131072 }
     requires data_in { length data_in.old ≡ 131072 }
-    ensures text { Prints (printing W.contents out.old) (printing W.contents out.new) (by_request number target.old.state (seen request.now)).text }
-    ensures state { target.new.state ≡ (by_request number target.old.state (seen request.now)).state }
-    ensures status { result ≡ (by_request number target.old.state (seen request.now)).status }
+    ensures text { Prints (printing W.contents out.old) (printing W.contents out.new) (by_request number target.old.state (line_request request.now)).text }
+    ensures state { target.new.state ≡ (by_request number target.old.state (line_request request.now)).state }
+    ensures status { result ≡ (by_request number target.old.state (line_request request.now)).status }
 {
     match request {
         Request::Nothing => 0,
@@ -93,7 +93,7 @@ fn fill_blocks<W: Write, S: Store>(
     ensures state { target.new.state ≡ (by_request number target.old.state (fill blocks.now.initiator blocks.now.lba blocks.now.count blocks.now.byte)).state }
     ensures status { result ≡ (by_request number target.old.state (fill blocks.now.initiator blocks.now.lba blocks.now.count blocks.now.byte)).status }
 {
-    let len = 512 * blocks.count as usize;
+    let len = BLOCK_LENGTH * blocks.count as usize;
     fill_front(data_out, len, blocks.byte);
     let cdb = blocks.command().write();
     let call = Call {

@@ -8,9 +8,9 @@ use Rattle.sg_wire.specs.declared.command.Command.{Command}
 use Rattle.sg_wire.specs.declared.command.Command.TheVariants.{TestUnitReady, RequestSense, Inquiry, Read6, Read10, Read16, Write6, Write10, Write16, ReadCapacity10, ReadCapacity16, SynchronizeCache10}
 use Rattle.sg_wire.specs.declared.command.CdbFault.{CdbFault}
 use Rattle.sg_target.specs.Access.{access_of}
-use Rattle.sg_target.specs.Checks.{access_in, checks_before_space, contents_after, first_some, no_space, refusal_of}
+use Rattle.sg_target.specs.Checks.{access_in, checks_before_space, contents_after, first_some, no_space, received, refusal_of}
 use Rattle.sg_target.specs.State.{State, IsWithinPool}
-use Rattle.sg_target.specs.Step.{Step, step, refused, after_access, executed, executed_block, unless_refused}
+use Rattle.sg_target.specs.Step.{Step, step, received_step, refused, after_access, executed, executed_block, unless_refused}
 use Rattle.sg_target.specs.declared.access.Access.{Access}
 use Rattle.sg_target.specs.declared.access.Access.TheVariants.{NoBlocks, Reads, Writes, Synchronizes}
 use Rattle.sg_target.specs.declared.refusal.Refusal.{Refusal}
@@ -64,7 +64,7 @@ by-refusal state i done None h d = d refl
 by-refusal state i done (Some refusal) h d = refused-within state i refusal h
 
 pub step-within : (state : State) (i : ℕ) (cdb data_out : List ℕ) → IsWithinPool state → IsWithinPool (step state i cdb data_out).state
-unfolding step refusal_of
+unfolding received_step refusal_of
 step-within state i cdb data_out h =
-    by-refusal state i (executed_block state i (read cdb) data_out) (refusal_of state i cdb data_out) h
-    (λ e. block-within state i (read cdb) data_out h (last-passed (checks_before_space state i cdb data_out) (no_space state (access_in (read cdb)) data_out) e))
+    by-refusal state i (executed_block state i (read cdb) data_out) (refusal_of state i (received cdb) data_out) h
+    (λ e. block-within state i (read cdb) data_out h (last-passed (checks_before_space state i (received cdb) data_out) (no_space state (access_in (read cdb)) data_out) e))

@@ -28,9 +28,16 @@ empty_block _ = None
 abbrev pub passes_attention : ℕ → Bool
 passes_attention opcode = opcode == 0x12 || opcode == 0x03
 
-abbrev pub pending_attention : State → ℕ → List ℕ → Option Refusal
-pending_attention state initiator cdb =
-    if passes_attention (slice_index cdb 0) then None else option_map Attention (oldest state.attentions initiator)
+-- A block as it is received: its command or what is wrong with it, and whether it passes a pending unit attention.
+pub record Received : Type 0 where
+  pub command : Result Command CdbFault
+  pub passes : Bool
+
+abbrev pub received : List ℕ → Received
+received cdb = record { command = read cdb; passes = passes_attention (slice_index cdb 0) }
+
+abbrev pub pending_attention : State → ℕ → (passes : Bool) → Option Refusal
+pending_attention state initiator passes = if passes then None else option_map Attention (oldest state.attentions initiator)
 
 abbrev pub unknown_opcode : Result Command CdbFault → Option Refusal
 unknown_opcode (Err Opcode) = Some InvalidCommandOperationCode
@@ -106,21 +113,21 @@ no_space state (Writes blocks) data_out =
 no_space state (Synchronizes blocks) data_out = None
 
 -- The checks but the last, in their order.
-abbrev pub checks_before_space : State → ℕ → List ℕ → List ℕ → List (Option Refusal)
-checks_before_space state initiator cdb data_out =
-    empty_block (read cdb)
-    ∷ pending_attention state initiator cdb
-    ∷ unknown_opcode (read cdb)
-    ∷ short_block (read cdb)
-    ∷ bad_field (read cdb)
-    ∷ bad_value (read cdb)
-    ∷ short_data_out (access_in (read cdb)) data_out
-    ∷ out_of_range state (access_in (read cdb))
+abbrev pub checks_before_space : State → ℕ → Received → List ℕ → List (Option Refusal)
+checks_before_space state initiator block data_out =
+    empty_block block.command
+    ∷ pending_attention state initiator block.passes
+    ∷ unknown_opcode block.command
+    ∷ short_block block.command
+    ∷ bad_field block.command
+    ∷ bad_value block.command
+    ∷ short_data_out (access_in block.command) data_out
+    ∷ out_of_range state (access_in block.command)
     ∷ []
 
 -- All checks, in their order.
-abbrev pub checks : State → ℕ → List ℕ → List ℕ → List (Option Refusal)
-checks state initiator cdb data_out = checks_before_space state initiator cdb data_out ++ no_space state (access_in (read cdb)) data_out ∷ []
+abbrev pub checks : State → ℕ → Received → List ℕ → List (Option Refusal)
+checks state initiator block data_out = checks_before_space state initiator block data_out ++ no_space state (access_in block.command) data_out ∷ []
 
 -- The first that refuses decides.
 abbrev pub first_some : {A : Type 0} → List (Option A) → Option A
@@ -128,8 +135,8 @@ first_some [] = None
 first_some (Some x ∷ rest) = Some x
 first_some (None ∷ rest) = first_some rest
 
-unfoldable pub refusal_of : State → ℕ → List ℕ → List ℕ → Option Refusal
-refusal_of state initiator cdb data_out = first_some (checks state initiator cdb data_out)
+unfoldable pub refusal_of : State → ℕ → Received → List ℕ → Option Refusal
+refusal_of state initiator block data_out = first_some (checks state initiator block data_out)
 
-unfoldable pub refusal_before_space : State → ℕ → List ℕ → List ℕ → Option Refusal
-refusal_before_space state initiator cdb data_out = first_some (checks_before_space state initiator cdb data_out)
+unfoldable pub refusal_before_space : State → ℕ → Received → List ℕ → Option Refusal
+refusal_before_space state initiator block data_out = first_some (checks_before_space state initiator block data_out)

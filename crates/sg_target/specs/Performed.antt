@@ -12,7 +12,8 @@ abbrev pub performed : State → ℕ → Command → List ℕ → Step
 performed state initiator command data_out =
     unless_refused state initiator (executed state initiator command data_out) (no_space state (access_of command) data_out)
 
--- A command that has no data-in but that of its blocks.
+-- A command that has no data-in but that of its blocks. Want of space clears no unit attention, so whoever sends it is
+-- of no account.
 abbrev pub accessed : State → Access → List ℕ → Step
 accessed state access data_out =
     unless_refused state 0

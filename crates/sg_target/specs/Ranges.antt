@@ -1,10 +1,9 @@
 -- The ranges of blocks that a command goes over, and what that costs.
 use Rattle.std.specs.Prelude.{◌≡◌, ℕ, ◌+◌, ◌*◌, ◌<◌, ◌≤◌, List, [], ◌∷◌, length, Option, Some, None}
-use Rattle.sg_wire.specs.Layout.{read}
 use Rattle.sg_blocks.specs.Disk.{Contents}
 use Rattle.sg_blocks.specs.Meter.{Meter}
 use Rattle.sg_blocks.specs.declared.store.Counts.{Counts}
-use Rattle.sg_target.specs.Checks.{access_in, refusal_before_space}
+use Rattle.sg_target.specs.Checks.{Received, access_in, received, refusal_before_space}
 use Rattle.sg_target.specs.State.{State}
 use Rattle.sg_target.specs.declared.access.Access.{Access}
 use Rattle.sg_target.specs.declared.access.Access.TheVariants.{NoBlocks, Reads, Writes, Synchronizes}
@@ -32,9 +31,13 @@ abbrev pub unless_refused_before : Contents → Access → Option Refusal → Li
 unless_refused_before contents access (Some refusal) = []
 unless_refused_before contents access None = ranges_of contents access
 
-unfoldable pub ranges : State → ℕ → List ℕ → List ℕ → List Range
-ranges state initiator cdb data_out =
-    unless_refused_before state.disk.contents (access_in (read cdb)) (refusal_before_space state initiator cdb data_out)
+unfoldable pub received_ranges : State → ℕ → Received → List ℕ → List Range
+received_ranges state initiator block data_out =
+    unless_refused_before state.disk.contents (access_in block.command) (refusal_before_space state initiator block data_out)
+
+-- The ranges that the bytes of a command name.
+abbrev pub ranges : State → ℕ → List ℕ → List ℕ → List Range
+ranges state initiator cdb data_out = received_ranges state initiator (received cdb) data_out
 
 -- What a kind of store may visit over ranges, by its price of one.
 abbrev pub price_of : (Contents → ℕ → ℕ → ℕ) → List Range → ℕ
@@ -57,4 +60,4 @@ pub record IsWithin (price : Contents → ℕ → ℕ → ℕ) (pool : ℕ) (ove
 pub record IsCharged (price : Contents → ℕ → ℕ → ℕ) (pool : ℕ) (over : List Range) (before after : Meter) (counts : Counts) : Type 0 where
   pub within : IsWithin price pool over counts
   pub visited : after.total ≡ before.total + counts.visits
-  pub told : 0 < length over → counts ≡ after.counts
+  pub counted : 0 < length over → counts ≡ after.counts

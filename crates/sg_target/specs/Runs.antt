@@ -43,27 +43,33 @@ AreWithin price state (call ∷ calls) (given ∷ more) =
     IsWithin price state.disk.pool (ranges_of_call state call) given.reply.counts
     × AreWithin price (step_of state call).state calls more
 
+-- Each reply tells how many bytes of data-in it is given with.
+abbrev pub TellSizes : List Exchange → Type 0
+TellSizes [] = Unit {0}
+TellSizes (given ∷ more) = (given.reply.data_in ≡ length given.data_in) × TellSizes more
+
 -- The visits that replies tell, together.
 abbrev pub visits_of : List Exchange → ℕ
 visits_of [] = 0
 visits_of (given ∷ more) = given.reply.counts.visits + visits_of more
 
--- A sink has taken the replies to calls: their answers in order, each within its cost. The store's total of visits has
--- risen by those that they tell.
-pub record Took (price : Contents → ℕ → ℕ → ℕ) (state : State) (calls : List Call) (before after : List Exchange) (total total' : ℕ) : Type 0 where
+-- Calls were exchanged for replies that a sink has taken: their answers in order, each within its cost. The store's total
+-- of visits has risen by those that they tell.
+pub record Exchanged (price : Contents → ℕ → ℕ → ℕ) (state : State) (calls : List Call) (before after : List Exchange) (total total' : ℕ) : Type 0 where
   pub given : List Exchange
   pub adds : after ≡ before ++ given
   pub answered : map answer_in given ≡ answers state calls
+  pub sizes : TellSizes given
   pub within : AreWithin price state calls given
   pub visited : total' ≡ total + visits_of given
 
--- A sink has refused the reply to the call at a place. It has taken those to the calls before, and with the refused one it
--- would have taken those up to that call, whose state is the one that is left.
+-- A sink has refused the reply to the call at a place. It has taken those to the calls before; with the refused one it would
+-- have taken those up to that call, and the state is the one after it.
 pub record Stopped (price : Contents → ℕ → ℕ → ℕ) (state : State) (calls : List Call) (before after : List Exchange) (total total' : ℕ) (state' : State) : Type 0 where
   pub place : ℕ
   pub in_range : place < length calls
   pub between : ℕ
-  pub took : Took price state (take place calls) before after total between
+  pub took : Exchanged price state (take place calls) before after total between
   pub refused : Exchange
-  pub told : Took price state (take (place + 1) calls) before (after ++ refused ∷ []) total total'
+  pub with_refused : Exchanged price state (take (place + 1) calls) before (after ++ refused ∷ []) total total'
   pub state_is : state' ≡ state_after_all state (take (place + 1) calls)

@@ -1,10 +1,9 @@
 -- What a command does: the answer to it and the state after it.
 use Rattle.std.specs.Prelude.{ℕ, List, [], Bool, Option, Some, None, Result, Ok, Err, unwrap_or, if◌then◌else◌}
 use Rattle.sg_wire.specs.CutAnswer.{first_bytes}
-use Rattle.sg_wire.specs.Layout.{read}
 use Rattle.sg_wire.specs.SenseData.{SenseFields, sense_data}
 use Rattle.sg_wire.specs.declared.command.Command.{Command}
-use Rattle.sg_wire.specs.declared.command.Command.TheVariants.{RequestSense, Inquiry, ReadCapacity10, ReadCapacity16}
+use Rattle.sg_wire.specs.declared.command.Command.TheVariants.{TestUnitReady, RequestSense, Inquiry, Read6, Read10, Read16, Write6, Write10, Write16, ReadCapacity10, ReadCapacity16, SynchronizeCache10}
 use Rattle.sg_wire.specs.declared.command.CdbFault.{CdbFault}
 use Rattle.sg_wire.specs.declared.sense.Format.{Format}
 use Rattle.sg_wire.specs.declared.sense.Format.TheVariants.{Fixed, Descriptor}
@@ -15,7 +14,7 @@ use Rattle.sg_blocks.specs.Disk.{Contents, blocks}
 use Rattle.sg_target.specs.Access.{access_of}
 use Rattle.sg_target.specs.Attentions.{oldest, without_oldest}
 use Rattle.sg_target.specs.CapacityData.{capacity_10, capacity_16}
-use Rattle.sg_target.specs.Checks.{contents_after, refusal_of}
+use Rattle.sg_target.specs.Checks.{Received, contents_after, received, refusal_of}
 use Rattle.sg_target.specs.Refusal.{plain_sense, sense_of}
 use Rattle.sg_target.specs.State.{State}
 use Rattle.sg_target.specs.declared.access.Access.{Access}
@@ -86,7 +85,14 @@ data_of state initiator (RequestSense desc allocation_length) =
 data_of state initiator (Inquiry evpd page_code allocation_length) = first_bytes allocation_length (inquiry_data state.identity evpd page_code)
 data_of state initiator ReadCapacity10 = capacity_10 state.disk.capacity
 data_of state initiator (ReadCapacity16 allocation_length) = first_bytes allocation_length (capacity_16 state.disk.capacity)
-data_of state initiator command = blocks_read state.disk.contents (access_of command)
+data_of state initiator TestUnitReady = blocks_read state.disk.contents (access_of TestUnitReady)
+data_of state initiator (Read6 short) = blocks_read state.disk.contents (access_of (Read6 short))
+data_of state initiator (Read10 lba transfer_length) = blocks_read state.disk.contents (access_of (Read10 lba transfer_length))
+data_of state initiator (Read16 lba transfer_length) = blocks_read state.disk.contents (access_of (Read16 lba transfer_length))
+data_of state initiator (Write6 short) = blocks_read state.disk.contents (access_of (Write6 short))
+data_of state initiator (Write10 lba transfer_length) = blocks_read state.disk.contents (access_of (Write10 lba transfer_length))
+data_of state initiator (Write16 lba transfer_length) = blocks_read state.disk.contents (access_of (Write16 lba transfer_length))
+data_of state initiator (SynchronizeCache10 lba count) = blocks_read state.disk.contents (access_of (SynchronizeCache10 lba count))
 
 -- WRITE replaces its blocks.
 abbrev pub after_access : State → Access → List ℕ → State
@@ -95,7 +101,17 @@ after_access state access data_out = record state { disk = record state.disk { c
 -- The state after it: REQUEST SENSE clears the unit attention that it reports, whatever its allocation length.
 abbrev pub state_after : State → ℕ → Command → List ℕ → State
 state_after state initiator (RequestSense desc allocation_length) data_out = without_attention state initiator
-state_after state initiator command data_out = after_access state (access_of command) data_out
+state_after state initiator TestUnitReady data_out = after_access state (access_of TestUnitReady) data_out
+state_after state initiator (Inquiry evpd page_code allocation_length) data_out = after_access state (access_of (Inquiry evpd page_code allocation_length)) data_out
+state_after state initiator (Read6 short) data_out = after_access state (access_of (Read6 short)) data_out
+state_after state initiator (Read10 lba transfer_length) data_out = after_access state (access_of (Read10 lba transfer_length)) data_out
+state_after state initiator (Read16 lba transfer_length) data_out = after_access state (access_of (Read16 lba transfer_length)) data_out
+state_after state initiator (Write6 short) data_out = after_access state (access_of (Write6 short)) data_out
+state_after state initiator (Write10 lba transfer_length) data_out = after_access state (access_of (Write10 lba transfer_length)) data_out
+state_after state initiator (Write16 lba transfer_length) data_out = after_access state (access_of (Write16 lba transfer_length)) data_out
+state_after state initiator ReadCapacity10 data_out = after_access state (access_of ReadCapacity10) data_out
+state_after state initiator (ReadCapacity16 allocation_length) data_out = after_access state (access_of (ReadCapacity16 allocation_length)) data_out
+state_after state initiator (SynchronizeCache10 lba count) data_out = after_access state (access_of (SynchronizeCache10 lba count)) data_out
 
 abbrev pub executed : State → ℕ → Command → List ℕ → Step
 executed state initiator command data_out =
@@ -111,6 +127,10 @@ abbrev pub unless_refused : State → ℕ → Step → Option Refusal → Step
 unless_refused state initiator done (Some refusal) = refused state initiator refusal
 unless_refused state initiator done None = done
 
-unfoldable pub step : State → ℕ → List ℕ → List ℕ → Step
-step state initiator cdb data_out =
-    unless_refused state initiator (executed_block state initiator (read cdb) data_out) (refusal_of state initiator cdb data_out)
+unfoldable pub received_step : State → ℕ → Received → List ℕ → Step
+received_step state initiator block data_out =
+    unless_refused state initiator (executed_block state initiator block.command data_out) (refusal_of state initiator block data_out)
+
+-- What the bytes of a command do, with their data-out.
+abbrev pub step : State → ℕ → List ℕ → List ℕ → Step
+step state initiator cdb data_out = received_step state initiator (received cdb) data_out

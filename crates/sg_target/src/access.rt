@@ -1,4 +1,5 @@
 // What commands do with logical blocks.
+use sg_blocks::BLOCK_LENGTH;
 use sg_wire::{Command, ShortExtent};
 
 /// Logical blocks from an address on.
@@ -44,7 +45,7 @@ impl Access {
             Command::Read10 {
                 lba,
                 transfer_length,
-            } => Access::Reads(Extent::short(lba, transfer_length)),
+            } => Access::Reads(Extent::of_ten_bytes(lba, transfer_length)),
             Command::Read16 {
                 lba,
                 transfer_length: count,
@@ -53,13 +54,13 @@ impl Access {
             Command::Write10 {
                 lba,
                 transfer_length,
-            } => Access::Writes(Extent::short(lba, transfer_length)),
+            } => Access::Writes(Extent::of_ten_bytes(lba, transfer_length)),
             Command::Write16 {
                 lba,
                 transfer_length: count,
             } => Access::Writes(Extent { lba, count }),
             Command::SynchronizeCache10 { lba, count } => {
-                Access::Synchronizes(Extent::short(lba, count))
+                Access::Synchronizes(Extent::of_ten_bytes(lba, count))
             }
         }
     }
@@ -81,15 +82,15 @@ impl Access {
         ensures { result ≡ announced self }
     {
         match self {
-            Access::Writes(extent) => 512 * u64::from(extent.count),
+            Access::Writes(extent) => BLOCK_LENGTH as u64 * u64::from(extent.count),
             Access::NoBlocks | Access::Reads(_) | Access::Synchronizes(_) => 0,
         }
     }
 }
 
 impl Extent {
-    // Of a command of ten bytes.
-    fn short(lba: u32, count: u16) -> Extent
+    // The blocks that a command of ten bytes names.
+    fn of_ten_bytes(lba: u32, count: u16) -> Extent
         ensures { result ≡ record { lba = lba; count = count } }
     {
         Extent {

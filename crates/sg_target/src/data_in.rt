@@ -1,5 +1,5 @@
 // Data-in of the commands that have some.
-ghost use Rattle.std.specs.Prelude.{◌≡◌, ◌≤◌, ◌^◌, length};
+ghost use Rattle.std.specs.Prelude.{◌≡◌, ◌≤◌, length};
 ghost use Rattle.sg_wire.specs.Cut.{answer_of};
 ghost use Rattle.sg_wire.specs.CutAnswer.{first_bytes, overwritten, put};
 ghost use Rattle.sg_wire.specs.Sense.{fields_of};
@@ -8,6 +8,7 @@ ghost use Rattle.sg_target.specs.CapacityData.{capacity_10, capacity_16};
 ghost use Rattle.sg_target.specs.Step.{inquiry_data};
 
 use byteorder::{BigEndian, ByteOrder};
+use sg_blocks::BLOCK_LENGTH;
 use sg_pages::{Identity, inquiry, vpd};
 use sg_wire::{Cut, Format, Sense};
 
@@ -55,9 +56,6 @@ pub(crate) fn give_sense(
     cut.written()
 }
 
-// In bytes.
-const BLOCK_LENGTH: u32 = 512;
-
 // Writes the parameter data of READ CAPACITY(10), of eight bytes.
 #[tactic(auto, unfolding(crate::specs::CapacityData::capacity_10))]
 pub(crate) fn give_capacity_10(capacity: u64, buf: &mut [u8]) -> usize
@@ -68,7 +66,7 @@ pub(crate) fn give_capacity_10(capacity: u64, buf: &mut [u8]) -> usize
 {
     let mut data = [0; 8];
     BigEndian::write_u32(&mut data, (capacity - 1).min(0xFFFF_FFFF) as u32);
-    BigEndian::write_u32(&mut data[4..], BLOCK_LENGTH);
+    BigEndian::write_u32(&mut data[4..], BLOCK_LENGTH as u32);
     buf[..8].copy_from_slice(&data);
     8
 }
@@ -93,7 +91,7 @@ fn capacity_16(capacity: u64) -> [u8; 32]
 {
     let mut data = [0; 32];
     BigEndian::write_u64(&mut data, capacity - 1);
-    BigEndian::write_u32(&mut data[8..], BLOCK_LENGTH);
+    BigEndian::write_u32(&mut data[8..], BLOCK_LENGTH as u32);
     data[14] = LBPME_LBPRZ;
     data
 }

@@ -1,5 +1,5 @@
 // Executes commands that pass every check but that for space.
-ghost use Rattle.std.specs.Prelude.{◌≡◌, ◌≤◌, ◌+◌, ◌*◌, ◌<◌, None, length, IfSome};
+ghost use Rattle.std.specs.Prelude.{◌≡◌, ◌≤◌, ◌+◌, ◌*◌, ◌<◌, length, IfSome};
 ghost use Rattle.sg_wire.specs.CutAnswer.{first_bytes, overwritten};
 ghost use Rattle.sg_wire.specs.SenseData.{sense_data};
 ghost use Rattle.sg_blocks.specs.Disk.{blocks};
@@ -16,11 +16,8 @@ use crate::data_in::{give_capacity_10, give_capacity_16, give_sense, inquire};
 use crate::refusal::{Refusal, pending_sense};
 use crate::reply::Reply;
 use crate::target::Target;
-use sg_blocks::{Space, Store};
+use sg_blocks::{BLOCK_LENGTH, Space, Store};
 use sg_wire::{Command, Format, Initiator};
-
-// In bytes.
-const BLOCK_LENGTH: usize = 512;
 
 impl<S: Store> Target<S> {
     // Executes a command that only want of space can refuse.
@@ -43,7 +40,7 @@ impl<S: Store> Target<S> {
                 allocation_length,
             } => {
                 let format = format_of(desc);
-                Reply::data(self.request_sense(initiator, format, allocation_length, buf))
+                Reply::without_blocks(self.request_sense(initiator, format, allocation_length, buf))
             }
             Command::Inquiry {
                 evpd,
@@ -51,14 +48,25 @@ impl<S: Store> Target<S> {
                 allocation_length,
             } => {
                 let identity = self.config.identity();
-                Reply::data(inquire(identity, evpd, page_code, allocation_length, buf))
+                Reply::without_blocks(inquire(identity, evpd, page_code, allocation_length, buf))
             }
-            Command::ReadCapacity10 => { Reply::data(give_capacity_10(self.config.blocks(), buf)) }
+            Command::ReadCapacity10 => {
+                Reply::without_blocks(give_capacity_10(self.config.blocks(), buf))
+            }
             Command::ReadCapacity16 { allocation_length } => {
                 let capacity = self.config.blocks();
-                Reply::data(give_capacity_16(capacity, allocation_length, buf))
+                Reply::without_blocks(give_capacity_16(capacity, allocation_length, buf))
             }
-            _ => self.access(Access::of(command), data_out, buf),
+            Command::TestUnitReady
+            | Command::Read6(_)
+            | Command::Read10 { .. }
+            | Command::Read16 { .. }
+            | Command::Write6(_)
+            | Command::Write10 { .. }
+            | Command::Write16 { .. }
+            | Command::SynchronizeCache10 { .. } => {
+                self.access(Access::of(command), data_out, buf)
+            }
         }
     }
 
@@ -94,7 +102,7 @@ impl<S: Store> Target<S> {
         match access {
             Access::Reads(extent) => self.read(extent, buf),
             Access::Writes(extent) => self.write(extent, data_out, buf),
-            Access::NoBlocks | Access::Synchronizes(_) => Reply::data(0),
+            Access::NoBlocks | Access::Synchronizes(_) => Reply::without_blocks(0),
         }
     }
 

@@ -1,6 +1,6 @@
 // Executes lists of commands.
 ghost use Rattle.std.specs.Prelude.{◌≡◌, ℕ, ◌+◌, ◌≤◌, List, [], ◌∷◌, ◌++◌, length, take, OnOk, OnErr};
-ghost use Rattle.sg_target.specs.Runs.{Exchange, exchange, state_after_all, Took, Stopped};
+ghost use Rattle.sg_target.specs.Runs.{Exchange, exchange, state_after_all, Exchanged, Stopped};
 ghost use Rattle.sg_target.specs.State.{IsWithinPool};
 
 use crate::call::Call;
@@ -31,8 +31,8 @@ pub trait Sink {
 }
 
 impl<S: Store> Target<S> {
-    /// Executes commands in turn, and gives their replies to a sink. Data-in lies in the buffer while the
-    /// sink takes it.
+    /// Executes commands in turn, and gives their replies to a sink. Data-in lies in the buffer, which has
+    /// 131,072 bytes at least, while the sink takes it.
     ///
     /// # Errors
     /// The sink refused a reply. The commands up to that one were executed, and none after it.
@@ -43,7 +43,7 @@ impl<S: Store> Target<S> {
         sink: &mut K,
     ) -> Result<(), K::Fault>
         requires { 131072 ≤ length buf.old }
-        ensures took { OnOk result (Took S.price self.old.state calls.now (K.taken sink.old) (K.taken sink.new) self.old.meter.total self.new.meter.total) }
+        ensures took { OnOk result (Exchanged S.price self.old.state calls.now (K.taken sink.old) (K.taken sink.new) self.old.meter.total self.new.meter.total) }
         ensures state { OnOk result (self.new.state ≡ state_after_all self.old.state calls.now) }
         ensures sound { OnOk result (K.faults sink.new ≡ K.faults sink.old) }
         ensures stopped { OnErr result (Stopped S.price self.old.state calls.now (K.taken sink.old) (K.taken sink.new) self.old.meter.total self.new.meter.total self.new.state) }

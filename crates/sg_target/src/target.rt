@@ -35,15 +35,15 @@ impl<S: Store> Model for Target<S> {
 
 ghost use Rattle.std.specs.Prelude.{◌≡◌, ◌≤◌, ◌+◌, ◌^◌, length, [], ◌∷◌, Some, None, Ok, IfOk, IfErr, IfSome, IfNone, slice_index, if◌then◌else◌};
 ghost use Rattle.sg_wire.specs.Layout.{read};
-ghost use Rattle.sg_blocks.specs.Meter.{Meter, new_meter};
-ghost use Rattle.sg_target.specs.Access.{access_of, announced, extent_of};
+ghost use Rattle.sg_blocks.specs.Meter.{new_meter};
+ghost use Rattle.sg_target.specs.Access.{announced, extent_of};
 ghost use Rattle.sg_target.specs.Attentions.{oldest};
-ghost use Rattle.sg_target.specs.Checks.{first_some, passes_attention, past_capacity, out_of_range, short_data_out, refusal_before_space};
+ghost use Rattle.sg_target.specs.Checks.{first_some, passes_attention, past_capacity, out_of_range, short_data_out, received, refusal_before_space};
 ghost use Rattle.sg_target.specs.Performed.{CanBePerformed};
 ghost use Rattle.sg_target.specs.Ranges.{IsCharged, ranges, two_more_each};
 ghost use Rattle.sg_target.specs.Reply.{Tells};
 ghost use Rattle.sg_target.specs.State.{IsWithinPool, powered_on};
-ghost use Rattle.sg_target.specs.Step.{after_refusal, step, without_attention};
+ghost use Rattle.sg_target.specs.Step.{after_refusal, step};
 
 impl<S: Store> Target<S> {
     /// A target as it is after power on: no block is mapped, and a unit attention, POWER ON, is pending
@@ -62,8 +62,8 @@ impl<S: Store> Target<S> {
         })
     }
 
-    /// Executes a command. Its data-in is the first [`Reply::data_in`] bytes of the buffer, and the bytes
-    /// after them stay as they were.
+    /// Executes a command. The buffer has 131,072 bytes at least; data-in is the first [`Reply::data_in`] of
+    /// them, and those after it stay as they were.
     #[tactic(auto, using(crate::proofs::StepLemmas::decided))]
     pub fn execute(
         &mut self,
@@ -91,8 +91,8 @@ impl<S: Store> Target<S> {
     // The command of a block that passes every check but that for space, which is made as it is executed.
     #[tactic(auto, unfolding(crate::specs::Checks::refusal_before_space))]
     fn admit(&self, initiator: Initiator, cdb: &[u8], data_out: &[u8]) -> Result<Command, Refusal>
-        ensures refused { IfErr result (λ refusal. refusal_before_space self.now.state initiator cdb.now data_out.now ≡ Some refusal) }
-        ensures passed { IfOk result (λ _. refusal_before_space self.now.state initiator cdb.now data_out.now ≡ None) }
+        ensures refused { IfErr result (λ refusal. refusal_before_space self.now.state initiator (received cdb.now) data_out.now ≡ Some refusal) }
+        ensures passed { IfOk result (λ _. refusal_before_space self.now.state initiator (received cdb.now) data_out.now ≡ None) }
         ensures command { IfOk result (λ command. read cdb.now ≡ Ok command) }
         ensures mapped { IsWithinPool self.now.state }
         ensures can { IfOk result (λ command. CanBePerformed self.now.state command data_out.now) }

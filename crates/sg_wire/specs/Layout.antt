@@ -51,8 +51,8 @@ service_action = low_bits 1 0x1F
 abbrev after_action : (ℕ → Command) → List ℕ → Command
 after_action command values = command (slice_index values 1)
 
--- The disk has no cache, and groups no blocks: DPO, FUA and FUA_NV of READ and WRITE, SYNC_NV and IMMED of SYNCHRONIZE
--- CACHE and the GROUP NUMBER change nothing.
+-- The disk has no cache, and groups no blocks: DPO, FUA and the obsolete bit 1 of READ and WRITE, the obsolete bit 2 and
+-- IMMED of SYNCHRONIZE CACHE and the GROUP NUMBER change nothing.
 abbrev group_number : ℕ → Part
 group_number byte = low_bits byte 0x1F
 
@@ -100,7 +100,8 @@ table =
     ∷ row 0x9E (Some (0x10, 0x10)) Always (service_action ∷ number 10 4 ∷ []) [] (after_action ReadCapacity16)
     ∷ []
 
--- A block's length follows from the group code, the top three bits of the operation code (SPC-4, 4.2.5.1).
+-- A block's length follows from the group code, the top three bits of the operation code (SPC-4, 4.2.5.1), of the groups
+-- that the table has.
 abbrev pub length_of : ℕ → ℕ
 length_of opcode =
     let group = opcode / 32 in
@@ -144,8 +145,8 @@ unless_bad None value = Ok value
 unless_bad (Some byte) value = Err (Field byte)
 
 -- A block is as long as its masks and has no bit outside them.
-unfoldable pub checked : List ℕ → List ℕ → Result Unit CdbFault
-checked masks bytes = if nat_lt (length bytes) (length masks) then Err (Short (length bytes)) else unless_bad (first_bad 0 masks bytes) tt
+unfoldable pub fits_masks : List ℕ → List ℕ → Result Unit CdbFault
+fits_masks masks bytes = if nat_lt (length bytes) (length masks) then Err (Short (length bytes)) else unless_bad (first_bad 0 masks bytes) tt
 
 -- The rows of an operation code.
 abbrev pub rows_of : ℕ → List Row

@@ -1,5 +1,5 @@
 // Writing the blocks of a range: the records are drafted, and put into the table all at once.
-ghost use Rattle.std.specs.Prelude.{◌≡◌, ◌+◌, ◌-◌, ◌*◌, ◌^◌, ◌<◌, ◌≤◌, length};
+ghost use Rattle.std.specs.Prelude.{◌≡◌, ◌+◌, ◌-◌, ◌*◌, ◌^◌, ◌<◌, ◌≤◌, [], length};
 ghost use Rattle.std.specs.FinMap.{insert};
 ghost use Rattle.sg_blocks.specs.Disk.{written, mapped_among};
 ghost use Rattle.sg_blocks.specs.Records.{IsPlace, mapped_at, ahead};
@@ -11,6 +11,7 @@ use crate::cursor::Cursor;
 use crate::draft::Draft;
 use crate::pool::Pool;
 use crate::run::Run;
+use crate::store::BLOCK_LENGTH;
 use crate::table::RunTable;
 
 /// Writes the block at the cursor's address, drafts its record, and goes on to the next address. A block that is
@@ -71,17 +72,18 @@ pub fn write_blocks(
     ensures table { table.new ≡ record (visited table.old (table.new.total - table.old.total)) { records = table.new.records } }
     ensures least { table.old.total + mapped_among (stored table.old pool.old) lba count ≤ table.new.total }
     ensures most { table.new.total ≤ table.old.total + mapped_among (stored table.old pool.old) lba count + 1 }
-    ensures room { draft.new.room ≡ draft.old.room }
+    ensures draft { draft.new ≡ record draft.old { from = from; records = [] } }
 {
     draft.begin(from);
     let mut cursor = Cursor::new(table, from);
     for i in 0..count {
-        let at = 512 * (i as usize);
-        let block = &bytes[at..at + 512];
+        let at = BLOCK_LENGTH * (i as usize);
+        let block = &bytes[at..at + BLOCK_LENGTH];
         cursor = put_block(table, pool, draft, cursor, lba + u64::from(i), block);
     }
     // Where each address was mapped, the drafted records are those that stand there.
     if cursor.place - from < count as usize {
         table.splice(from, cursor.place, draft.records());
     }
+    draft.clear();
 }

@@ -3,7 +3,7 @@ use Rattle.sg_blocks.specs.Disk.{written, mapped_among}
 use Rattle.sg_blocks.specs.Records.{contents_of, ahead}
 use Rattle.sg_blocks.specs.Table.{visited}
 use Rattle.sg_blocks.specs.Editing.{IsEditing, edited_contents}
-use Rattle.sg_blocks.proofs.put.write_blocks.Given as goal
+use Rattle.sg_blocks.proofs.write.write_blocks.Given as goal
 
 -- the blocks so far are written, and the cursor stands at the next address
 abbrev pub invariant-loop-i : goal.invariant-loop-i

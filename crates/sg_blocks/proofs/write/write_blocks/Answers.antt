@@ -6,7 +6,7 @@ use Rattle.sg_blocks.specs.Records.{contents_of, mapped_at, ahead}
 use Rattle.sg_blocks.specs.Table.{visited}
 use Rattle.sg_blocks.proofs.DiskLemmas.{written-none, written-more, mapped_among-none, mapped_among-more, mapped_among-rest, mapped_at-past}
 use Rattle.sg_blocks.proofs.TableLemmas.{visited-more, visited-less}
-use Rattle.sg_blocks.proofs.put.write_blocks.Goals as goal
+use Rattle.sg_blocks.proofs.write.write_blocks.Goals as goal
 
 pub loop-i-init : goal.loop-i-init
 loop-i-init c =

@@ -6,7 +6,7 @@ use Rattle.sg_blocks.proofs.TogetherLemmas.{taken_below}
 use Rattle.sg_blocks.proofs.TableLemmas.{visited-more}
 use Rattle.sg_blocks.proofs.CursorLemmas.{ahead-found}
 use Rattle.sg_blocks.proofs.EditingLemmas.{unmapped-there, added-contents, added-editing, slot-there, mapped-there, over-contents, over-editing}
-use Rattle.sg_blocks.proofs.put.put_block.Goals as goal
+use Rattle.sg_blocks.proofs.write.put_block.Goals as goal
 
 -- the address is not mapped
 pub take-slot-requires : goal.take-slot-requires
