@@ -31,7 +31,7 @@ pub struct PlainMap {
 impl Store for PlainMap {
     ghost disk = { λ map. record { capacity = map.capacity; pool = map.table.room; contents = stored map.table map.pool } };
 
-    ghost meter = { λ map. record { counts = record { visits = map.table.visits; probes = map.table.probes; links = 0 }; total = map.table.total } };
+    ghost meter = { λ map. record { counts = record { visits = map.table.visits; probes = map.table.probes; links = 0 }; total = map.table.total; restarts = map.table.restarts } };
 
     ghost price = { plain_price };
 

@@ -81,7 +81,7 @@ pub trait Store: Drop {
     fn counts(&self) -> Counts
         ensures { result ≡ (meter self.now).counts };
 
-    /// Counts from nothing.
+    /// Counts from nothing. The total of visits stays, and the restart is counted.
     fn restart_counts(&mut self)
         ensures disk { disk self.new ≡ disk self.old }
         ensures meter { meter self.new ≡ restarted (meter self.old) };

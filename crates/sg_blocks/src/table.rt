@@ -1,7 +1,7 @@
 // The table of records.
 ghost use Rattle.std.specs.Prelude.{◌≡◌, ◌+◌, ◌-◌, ◌^◌, ◌<◌, ◌≤◌, [], ◌++◌, length, take, drop, slice_index_or, IfOk};
 ghost use Rattle.sg_blocks.specs.Records.{start_of, IsSorted, IsPlace};
-ghost use Rattle.sg_blocks.specs.Table.{visited, probed, spliced};
+ghost use Rattle.sg_blocks.specs.Table.{visited, probed, restarted_table, spliced};
 
 use crate::run::Run;
 use crate::tally::Tally;
@@ -16,6 +16,7 @@ pub struct RunTable {
     visits: u64,
     probes: u64,
     total: Tally,
+    restarts: Tally,
 }
 
 impl Model for RunTable {
@@ -24,7 +25,7 @@ impl Model for RunTable {
 
     ghost Value = { Table };
 
-    ghost view = { λ t. record { records = t.records.items; room = t.room; visits = t.visits; probes = t.probes; total = t.total.total } };
+    ghost view = { λ t. record { records = t.records.items; room = t.room; visits = t.visits; probes = t.probes; total = t.total.total; restarts = t.restarts.total } };
 
     ghost invariant = { λ t. (vec_len t.records ≤ t.room) × (t.room ≤ vec_capacity t.records) × (t.room ≤ 65536) };
 }
@@ -33,7 +34,7 @@ impl RunTable {
     /// A table without records, which has room for so many.
     pub fn new(alloc: Global, room: u32) -> Result<RunTable, AllocError>
         requires { room ≤ 65536 }
-        ensures { IfOk result (λ table. table ≡ record { records = []; room = room; visits = 0; probes = 0; total = 0 }) }
+        ensures { IfOk result (λ table. table ≡ record { records = []; room = room; visits = 0; probes = 0; total = 0; restarts = 0 }) }
     {
         Ok(RunTable {
             records: Vec::with_capacity(alloc, room as usize)?,
@@ -41,6 +42,7 @@ impl RunTable {
             visits: 0,
             probes: 0,
             total: Tally::new(),
+            restarts: Tally::new(),
         })
     }
 
@@ -69,10 +71,11 @@ impl RunTable {
 
     /// Counts from nothing.
     pub fn restart_counts(&mut self)
-        ensures { self.new ≡ record self.old { visits = 0; probes = 0 } }
+        ensures { self.new ≡ restarted_table self.old }
     {
         self.visits = 0;
         self.probes = 0;
+        self.restarts = self.restarts.more();
     }
 
     /// The whole record at a place, which counts as a visit.

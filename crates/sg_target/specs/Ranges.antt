@@ -55,9 +55,15 @@ pub record IsWithin (price : Contents → ℕ → ℕ → ℕ) (pool : ℕ) (ove
   pub probes : counts.probes ≤ 64 * length over
   pub links : counts.links ≤ pool * length over
 
--- A command over these ranges is told its counts: they are the store's as the command ends, where there is a range, and
--- the store's total of visits, which no restart lowers, has risen by those told.
+-- The counts are restarted once for a command that goes over a range, and for no other.
+abbrev pub restarts_for : List Range → ℕ
+restarts_for [] = 0
+restarts_for (range ∷ more) = 1
+
+-- A command over these ranges is told its counts. They are the store's as the command ends, where there is a range, counted
+-- since its one restart; and the store's total of visits, which no restart lowers, has risen by those told.
 pub record IsCharged (price : Contents → ℕ → ℕ → ℕ) (pool : ℕ) (over : List Range) (before after : Meter) (counts : Counts) : Type 0 where
   pub within : IsWithin price pool over counts
   pub visited : after.total ≡ before.total + counts.visits
   pub counted : 0 < length over → counts ≡ after.counts
+  pub restarts : after.restarts ≡ before.restarts + restarts_for over
