@@ -11,3 +11,4 @@ pub mod BlockLemmas
 pub mod PlaceLemmas
 pub mod TogetherLemmas
 pub mod EditingLemmas
+pub mod WholeLemmas

@@ -1,5 +1,5 @@
 -- The disk: blocks of 512 bytes, of which those that were written are mapped (SBC-3, 4.7, logical block provisioning).
-use Rattle.std.specs.Prelude.{ℕ, ◌+◌, ◌*◌, List, [], ◌∷◌, take, drop, replicate, unwrap_or, map}
+use Rattle.std.specs.Prelude.{◌≡◌, ℕ, ◌+◌, ◌*◌, ◌<◌, List, [], ◌∷◌, Some, length, take, drop, replicate, unwrap_or, map}
 use Rattle.std.specs.List.{flat_map, range_with_len, count_by}
 use Rattle.std.specs.Ordering.{nat_cmp}
 use Rattle.std.specs.FinMap.{FinMap, get, insert, contains_key, empty}
@@ -17,6 +17,10 @@ pub record Disk : Type 0 where
 -- No address is mapped.
 abbrev pub empty_disk : (capacity pool : ℕ) → Disk
 empty_disk capacity pool = record { capacity = capacity; pool = pool; contents = empty }
+
+-- Each mapped address is one of the disk's, and each block has 512 bytes.
+pub record IsWhole (capacity : ℕ) (contents : Contents) : Type 0 where
+  pub each : (lba : ℕ) (mapped : List ℕ) → get contents lba ≡ Some mapped → (lba < capacity) × (length mapped ≡ 512)
 
 unfoldable pub zero_block : List ℕ
 zero_block = replicate 512 0

@@ -1,5 +1,6 @@
 // A store with a record for each mapped block.
 ghost use Rattle.std.specs.Prelude.{◌≡◌, ◌^◌, ◌≤◌, []};
+ghost use Rattle.sg_blocks.specs.Disk.{IsWhole};
 ghost use Rattle.sg_blocks.specs.PlainPrice.{plain_price, plain_price-within};
 ghost use Rattle.sg_blocks.specs.Editing.{stored};
 ghost use Rattle.sg_blocks.specs.Slots.{BelongTogether};
@@ -25,6 +26,7 @@ pub struct PlainMap {
     ghost pool_fits: { table.room ≤ 65536 },
     ghost draft_fits: { draft.room ≡ table.room },
     ghost draft_empty: { draft.records ≡ [] },
+    ghost whole: { IsWhole capacity (stored table pool) },
     ghost together: { BelongTogether table.records pool.blocks pool.free table.room },
 }
 

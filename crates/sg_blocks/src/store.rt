@@ -1,7 +1,7 @@
 // What a store of blocks does, however it is kept.
 ghost use Rattle.std.specs.Prelude.{◌≡◌, ℕ, ◌+◌, ◌*◌, ◌^◌, ◌<◌, ◌≤◌, ◌↔◌, length, IfOk, OnOk, OnErr, IsErr};
 ghost use Rattle.std.specs.FinMap.{len};
-ghost use Rattle.sg_blocks.specs.Disk.{Contents, Disk, empty_disk, blocks, written, mapped_among};
+ghost use Rattle.sg_blocks.specs.Disk.{Contents, Disk, IsWhole, empty_disk, blocks, written, mapped_among};
 ghost use Rattle.sg_blocks.specs.Meter.{Meter, new_meter, restarted, IsModest, Costs};
 
 use std::alloc::{AllocError, Global};
@@ -75,7 +75,8 @@ pub trait Store: Drop {
     /// How many addresses are mapped.
     fn mapped(&self) -> u32
         ensures value { result ≡ len (disk self.now).contents }
-        ensures within { result ≤ (disk self.now).pool };
+        ensures within { result ≤ (disk self.now).pool }
+        ensures whole { IsWhole (disk self.now).capacity (disk self.now).contents };
 
     /// What was counted since the last restart.
     fn counts(&self) -> Counts

@@ -1,4 +1,4 @@
-use Rattle.std.proofs.Common.{ap, subst, ◌∙◌, arith}
+use Rattle.std.proofs.Common.{ap, subst, ◌∙◌}
 use Rattle.sg_wire.specs.Printing.{Prints}
 use Rattle.sg_wire.specs.Printer.{printing}
 use Rattle.sg_target.specs.Step.{Step, received_step}
