@@ -1,7 +1,7 @@
 -- A WRITE is executed as one, however its block is written.
-use Rattle.std.proofs.Common.{◌≡◌, ℕ, List, [], ◌∷◌, Bool, true, false, cond, Option, Some, None, Result, Ok, Err, ap, refl, subst, arith}
+use Rattle.std.proofs.Common.{◌≡◌, ℕ, List, [], ◌∷◌, Bool, true, false, cond, Option, Some, None, Result, Ok, Err, ap, refl, subst}
 use Rattle.std.specs.Prelude.{◌==◌, ◌||◌, slice_index}
-use Rattle.std.proofs.lemmas.Bool.Decides.{nat_tests}
+use Rattle.std.proofs.lemmas.Bool.{eqb-true}
 use Rattle.sg_wire.specs.Layout.{read, read_as, unless_bad}
 use Rattle.sg_wire.specs.declared.command.Command.{Command}
 use Rattle.sg_wire.specs.declared.command.Command.TheVariants.{Write16}
@@ -29,17 +29,14 @@ by-test true b h k = absurd (h refl)
 by-test false true h k = absurd (k refl)
 by-test false false h k = refl
 
-same-number : (a b : ℕ) → (a == b) ≡ true → a ≡ b
-same-number a b e = grind (arith, nat_tests)
-
 -- a WRITE waits for an attention to be reported
 waits : (lba count : ℕ) (cdb : List ℕ) → read cdb ≡ Ok (Write16 lba count) → passes_attention (slice_index cdb 0) ≡ false
 unfolding read
 waits lba count [] e = cc
 waits lba count (opcode ∷ rest) e =
     by-test (opcode == 0x12) (opcode == 0x03)
-    (λ h. no-inquiry lba count (opcode ∷ rest) (subst (λ (o : ℕ). read_as o (opcode ∷ rest) ≡ Ok (Write16 lba count)) (same-number opcode 0x12 h) e))
-    (λ h. no-request_sense lba count (opcode ∷ rest) (subst (λ (o : ℕ). read_as o (opcode ∷ rest) ≡ Ok (Write16 lba count)) (same-number opcode 0x03 h) e))
+    (λ h. no-inquiry lba count (opcode ∷ rest) (subst (λ (o : ℕ). read_as o (opcode ∷ rest) ≡ Ok (Write16 lba count)) (eqb-true opcode 0x12 h) e))
+    (λ h. no-request_sense lba count (opcode ∷ rest) (subst (λ (o : ℕ). read_as o (opcode ∷ rest) ≡ Ok (Write16 lba count)) (eqb-true opcode 0x03 h) e))
 
 -- however its block is written
 pub filled-step : (state : State) (i lba count : ℕ) (cdb data_out : List ℕ) → read cdb ≡ Ok (Write16 lba count) →

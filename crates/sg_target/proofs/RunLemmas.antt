@@ -2,6 +2,7 @@
 use Rattle.std.proofs.Common.{◌≡◌, ℕ, zero, suc, ◌+◌, List, [], ◌∷◌, ◌++◌, map, length, take, drop, refl, sym, ap, ◌∙◌, append_assoc, Result, Ok, Err, arith}
 use Rattle.std.specs.Prelude.{OnErr}
 use Rattle.std.proofs.Math.Seq.{take-append_seam}
+use Rattle.std.proofs.lemmas.List.{map-append}
 use Rattle.sg_blocks.specs.Disk.{Contents}
 use Rattle.sg_target.specs.Ranges.{IsWithin}
 use Rattle.sg_target.specs.Reply.{Tells}
@@ -19,10 +20,6 @@ state-more state (first ∷ calls) call = state-more (step_of state first).state
 answers-more : (state : State) (calls : List Call) (call : Call) → answers state (calls ++ call ∷ []) ≡ answers state calls ++ (step_of (state_after_all state calls) call).answer ∷ []
 answers-more state [] call = refl
 answers-more state (first ∷ calls) call = ap (λ (xs : List Answer). (step_of state first).answer ∷ xs) (answers-more (step_of state first).state calls call)
-
-map-more : {A B : Type 0} (f : A → B) (xs : List A) (x : A) → map f (xs ++ x ∷ []) ≡ map f xs ++ f x ∷ []
-map-more f [] x = refl
-map-more f (y ∷ xs) x = ap (λ ys. f y ∷ ys) (map-more f xs x)
 
 visits-more : (given : List Exchange) (last : Exchange) → visits_of (given ++ last ∷ []) ≡ visits_of given + last.reply.counts.visits
 visits-more [] last = omega arith
@@ -50,7 +47,7 @@ module _ (price : Contents → ℕ → ℕ → ℕ) where
   exchanged-more state calls before after total total' total'' call last so_far is size h visited = record {
     given = so_far.given ++ last ∷ [];
     adds = ap (λ xs. xs ++ last ∷ []) so_far.adds ∙ append_assoc before so_far.given (last ∷ []);
-    answered = map-more answer_in so_far.given last ∙ ap (λ xs. xs ++ answer_in last ∷ []) so_far.answered ∙ ap (λ a. answers state calls ++ a ∷ []) is ∙ sym (answers-more state calls call);
+    answered = map-append answer_in so_far.given (last ∷ []) ∙ ap (λ xs. xs ++ answer_in last ∷ []) so_far.answered ∙ ap (λ a. answers state calls ++ a ∷ []) is ∙ sym (answers-more state calls call);
     sizes = sizes-more so_far.given last so_far.sizes size;
     within = within-more state calls so_far.given call last so_far.answered so_far.within h;
     visited = let v = visits-more so_far.given last in let s = so_far.visited in omega arith;
@@ -68,12 +65,12 @@ all-within state [] (suc n) h = h
 all-within state (call ∷ calls) (suc n) h = all-within (step_of state call).state calls n (step-within state call.initiator call.cdb.now call.data_out.now h)
 
 -- the data-in that a reply tells of stands at the front of the buffer
-pub told : (answer : Answer) (reply : Reply) (before after : List ℕ) → Tells answer reply before after → answer_in (exchange reply (take reply.data_in after)) ≡ answer
-told answer reply before after t =
+pub answer-told : (answer : Answer) (reply : Reply) (before after : List ℕ) → Tells answer reply before after → answer_in (exchange reply (take reply.data_in after)) ≡ answer
+answer-told answer reply before after t =
     let data_in : take reply.data_in after ≡ answer.data_in =
     ap (λ n. take n after) t.size ∙ ap (take (length answer.data_in)) t.data_in ∙ take-append_seam answer.data_in (drop (length answer.data_in) before) in
     λ i. record { status = t.status i; sense = t.sense i; data_in = data_in i }
 
 -- and it is as long as the reply tells
-pub told-size : (answer : Answer) (reply : Reply) (before after : List ℕ) → Tells answer reply before after → reply.data_in ≡ length (take reply.data_in after)
-told-size answer reply before after t = t.size ∙ sym (ap (λ (a : Answer). length a.data_in) (told answer reply before after t))
+pub size-told : (answer : Answer) (reply : Reply) (before after : List ℕ) → Tells answer reply before after → reply.data_in ≡ length (take reply.data_in after)
+size-told answer reply before after t = t.size ∙ sym (ap (λ (a : Answer). length a.data_in) (answer-told answer reply before after t))

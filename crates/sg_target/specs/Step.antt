@@ -3,7 +3,7 @@ use Rattle.std.specs.Prelude.{ℕ, List, [], Bool, Option, Some, None, Result, O
 use Rattle.sg_wire.specs.CutAnswer.{first_bytes}
 use Rattle.sg_wire.specs.SenseData.{SenseFields, sense_data}
 use Rattle.sg_wire.specs.declared.command.Command.{Command}
-use Rattle.sg_wire.specs.declared.command.Command.TheVariants.{TestUnitReady, RequestSense, Inquiry, Read6, Read10, Read16, Write6, Write10, Write16, ReadCapacity10, ReadCapacity16, SynchronizeCache10}
+use Rattle.sg_wire.specs.declared.command.Command.TheVariants.{RequestSense, Inquiry, ReadCapacity10, ReadCapacity16}
 use Rattle.sg_wire.specs.declared.command.CdbFault.{CdbFault}
 use Rattle.sg_wire.specs.declared.sense.Format.{Format}
 use Rattle.sg_wire.specs.declared.sense.Format.TheVariants.{Fixed, Descriptor}
@@ -78,40 +78,25 @@ blocks_read contents (Reads extent) = blocks contents extent.lba extent.count
 blocks_read contents (Writes extent) = []
 blocks_read contents (Synchronizes extent) = []
 
--- The data-in of a command that no check refuses, cut at its allocation length where it has one.
+-- The data-in of a command that no check refuses, cut at its allocation length where it has one. All others have that of
+-- their access to blocks, which the table of accesses tells of each.
 abbrev pub data_of : State → ℕ → Command → List ℕ
 data_of state initiator (RequestSense desc allocation_length) =
     first_bytes allocation_length (sense_data (format_of desc) (pending_sense (oldest state.attentions initiator)))
 data_of state initiator (Inquiry evpd page_code allocation_length) = first_bytes allocation_length (inquiry_data state.identity evpd page_code)
 data_of state initiator ReadCapacity10 = capacity_10 state.disk.capacity
 data_of state initiator (ReadCapacity16 allocation_length) = first_bytes allocation_length (capacity_16 state.disk.capacity)
-data_of state initiator TestUnitReady = blocks_read state.disk.contents (access_of TestUnitReady)
-data_of state initiator (Read6 short) = blocks_read state.disk.contents (access_of (Read6 short))
-data_of state initiator (Read10 lba transfer_length) = blocks_read state.disk.contents (access_of (Read10 lba transfer_length))
-data_of state initiator (Read16 lba transfer_length) = blocks_read state.disk.contents (access_of (Read16 lba transfer_length))
-data_of state initiator (Write6 short) = blocks_read state.disk.contents (access_of (Write6 short))
-data_of state initiator (Write10 lba transfer_length) = blocks_read state.disk.contents (access_of (Write10 lba transfer_length))
-data_of state initiator (Write16 lba transfer_length) = blocks_read state.disk.contents (access_of (Write16 lba transfer_length))
-data_of state initiator (SynchronizeCache10 lba count) = blocks_read state.disk.contents (access_of (SynchronizeCache10 lba count))
+data_of state initiator command = blocks_read state.disk.contents (access_of command)
 
 -- WRITE replaces its blocks.
 abbrev pub after_access : State → Access → List ℕ → State
 after_access state access data_out = record state { disk = record state.disk { contents = contents_after state.disk.contents access data_out } }
 
--- The state after it: REQUEST SENSE clears the unit attention that it reports, whatever its allocation length.
+-- The state after it: REQUEST SENSE clears the unit attention that it reports, whatever its allocation length. All others
+-- do what their access to blocks does.
 abbrev pub state_after : State → ℕ → Command → List ℕ → State
 state_after state initiator (RequestSense desc allocation_length) data_out = without_attention state initiator
-state_after state initiator TestUnitReady data_out = after_access state (access_of TestUnitReady) data_out
-state_after state initiator (Inquiry evpd page_code allocation_length) data_out = after_access state (access_of (Inquiry evpd page_code allocation_length)) data_out
-state_after state initiator (Read6 short) data_out = after_access state (access_of (Read6 short)) data_out
-state_after state initiator (Read10 lba transfer_length) data_out = after_access state (access_of (Read10 lba transfer_length)) data_out
-state_after state initiator (Read16 lba transfer_length) data_out = after_access state (access_of (Read16 lba transfer_length)) data_out
-state_after state initiator (Write6 short) data_out = after_access state (access_of (Write6 short)) data_out
-state_after state initiator (Write10 lba transfer_length) data_out = after_access state (access_of (Write10 lba transfer_length)) data_out
-state_after state initiator (Write16 lba transfer_length) data_out = after_access state (access_of (Write16 lba transfer_length)) data_out
-state_after state initiator ReadCapacity10 data_out = after_access state (access_of ReadCapacity10) data_out
-state_after state initiator (ReadCapacity16 allocation_length) data_out = after_access state (access_of (ReadCapacity16 allocation_length)) data_out
-state_after state initiator (SynchronizeCache10 lba count) data_out = after_access state (access_of (SynchronizeCache10 lba count)) data_out
+state_after state initiator command data_out = after_access state (access_of command) data_out
 
 abbrev pub executed : State → ℕ → Command → List ℕ → Step
 executed state initiator command data_out =

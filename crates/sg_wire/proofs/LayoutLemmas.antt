@@ -81,66 +81,51 @@ encodes-read_capacity_16 allocation_length a =
 blocks_again : (count : ℕ) → 1 ≤ count → count ≤ 256 → blocks_of (count % 256 * 1 + 0) ≡ count
 blocks_again count some most = grind (arith, nat_tests)
 
-pub encodes-read_6 : (lba count : ℕ) → lba < 2 ^ 21 → 1 ≤ count → count ≤ 256 →
-    Encodes (Read6 (lba, count)) ((0x08 ∷ lba / 65536 ∷ []) ++ big_bytes 2 (lba % 65536) ++ (count % 256 ∷ 0 ∷ []))
+-- READ(6) and WRITE(6)
+abbrev bytes_6 : (opcode lba count : ℕ) → List ℕ
+bytes_6 opcode lba count = (opcode ∷ lba / 65536 ∷ []) ++ big_bytes 2 (lba % 65536) ++ (count % 256 ∷ 0 ∷ [])
+
+pub encodes-extent_6 : (lba count : ℕ) → lba < 2 ^ 21 → 1 ≤ count → count ≤ 256 →
+    Encodes (Read6 (lba, count)) (bytes_6 0x08 lba count) × Encodes (Write6 (lba, count)) (bytes_6 0x0A lba count)
 unfolding read read_as is_bare
-encodes-read_6 lba count l some most =
+encodes-extent_6 lba count l some most =
     let high = lba / 65536 in
     let five : bit_and high 31 ≡ high = and_mask high 5 ∙ mod-eq_of_lt (omega arith) in
     let pass : (bit_and high 31 == high) ≡ true = ap (λ y. y == high) five ∙ eq-eqb high high refl in
     let f = number_again 2 (lba % 65536) [] (omega arith) in
     let e : bit_and high 31 * 65536 + lba % 65536 ≡ lba = ap (λ y. y * 65536 + lba % 65536) five ∙ omega arith in
-    let b = blocks_again count some most in
-    record { reads_back = simp (pass, is_whole-mod) cc; bare = simp (pass, is_whole-mod) }
+    let b = blocks_again count some most in (
+      record { reads_back = simp (pass, is_whole-mod) cc; bare = simp (pass, is_whole-mod) },
+      record { reads_back = simp (pass, is_whole-mod) cc; bare = simp (pass, is_whole-mod) },
+    )
 
-pub encodes-write_6 : (lba count : ℕ) → lba < 2 ^ 21 → 1 ≤ count → count ≤ 256 →
-    Encodes (Write6 (lba, count)) ((0x0A ∷ lba / 65536 ∷ []) ++ big_bytes 2 (lba % 65536) ++ (count % 256 ∷ 0 ∷ []))
-unfolding read read_as is_bare
-encodes-write_6 lba count l some most =
-    let high = lba / 65536 in
-    let five : bit_and high 31 ≡ high = and_mask high 5 ∙ mod-eq_of_lt (omega arith) in
-    let pass : (bit_and high 31 == high) ≡ true = ap (λ y. y == high) five ∙ eq-eqb high high refl in
-    let f = number_again 2 (lba % 65536) [] (omega arith) in
-    let e : bit_and high 31 * 65536 + lba % 65536 ≡ lba = ap (λ y. y * 65536 + lba % 65536) five ∙ omega arith in
-    let b = blocks_again count some most in
-    record { reads_back = simp (pass, is_whole-mod) cc; bare = simp (pass, is_whole-mod) }
+-- READ(10), WRITE(10) and SYNCHRONIZE CACHE(10)
+abbrev bytes_10 : (opcode lba count : ℕ) → List ℕ
+bytes_10 opcode lba count = (opcode ∷ 0 ∷ []) ++ big_bytes 4 lba ++ (0 ∷ []) ++ big_bytes 2 count ++ (0 ∷ [])
 
-pub encodes-read_10 : (lba count : ℕ) → lba < 2 ^ 32 → count < 2 ^ 16 →
-    Encodes (Read10 lba count) ((0x28 ∷ 0 ∷ []) ++ big_bytes 4 lba ++ (0 ∷ []) ++ big_bytes 2 count ++ (0 ∷ []))
+pub encodes-extent_10 : (lba count : ℕ) → lba < 2 ^ 32 → count < 2 ^ 16 →
+    Encodes (Read10 lba count) (bytes_10 0x28 lba count) × (Encodes (Write10 lba count) (bytes_10 0x2A lba count) × Encodes (SynchronizeCache10 lba count) (bytes_10 0x35 lba count))
 unfolding read read_as is_bare
-encodes-read_10 lba count l n =
+encodes-extent_10 lba count l n =
     let e = number_again 4 lba [] l in
-    let f = number_again 2 count [] n in
-    record { reads_back = simp is_whole-mod cc; bare = simp is_whole-mod }
+    let f = number_again 2 count [] n in (
+      record { reads_back = simp is_whole-mod cc; bare = simp is_whole-mod },
+      (
+        record { reads_back = simp is_whole-mod cc; bare = simp is_whole-mod },
+        record { reads_back = simp is_whole-mod cc; bare = simp is_whole-mod },
+      ),
+    )
 
-pub encodes-write_10 : (lba count : ℕ) → lba < 2 ^ 32 → count < 2 ^ 16 →
-    Encodes (Write10 lba count) ((0x2A ∷ 0 ∷ []) ++ big_bytes 4 lba ++ (0 ∷ []) ++ big_bytes 2 count ++ (0 ∷ []))
-unfolding read read_as is_bare
-encodes-write_10 lba count l n =
-    let e = number_again 4 lba [] l in
-    let f = number_again 2 count [] n in
-    record { reads_back = simp is_whole-mod cc; bare = simp is_whole-mod }
+-- READ(16) and WRITE(16)
+abbrev bytes_16 : (opcode lba count : ℕ) → List ℕ
+bytes_16 opcode lba count = (opcode ∷ 0 ∷ []) ++ big_bytes 8 lba ++ big_bytes 4 count ++ (0 ∷ 0 ∷ [])
 
-pub encodes-synchronize_cache_10 : (lba count : ℕ) → lba < 2 ^ 32 → count < 2 ^ 16 →
-    Encodes (SynchronizeCache10 lba count) ((0x35 ∷ 0 ∷ []) ++ big_bytes 4 lba ++ (0 ∷ []) ++ big_bytes 2 count ++ (0 ∷ []))
+pub encodes-extent_16 : (lba count : ℕ) → lba < 2 ^ 64 → count < 2 ^ 32 →
+    Encodes (Read16 lba count) (bytes_16 0x88 lba count) × Encodes (Write16 lba count) (bytes_16 0x8A lba count)
 unfolding read read_as is_bare
-encodes-synchronize_cache_10 lba count l n =
-    let e = number_again 4 lba [] l in
-    let f = number_again 2 count [] n in
-    record { reads_back = simp is_whole-mod cc; bare = simp is_whole-mod }
-
-pub encodes-read_16 : (lba count : ℕ) → lba < 2 ^ 64 → count < 2 ^ 32 →
-    Encodes (Read16 lba count) ((0x88 ∷ 0 ∷ []) ++ big_bytes 8 lba ++ big_bytes 4 count ++ (0 ∷ 0 ∷ []))
-unfolding read read_as is_bare
-encodes-read_16 lba count l n =
+encodes-extent_16 lba count l n =
     let e = number_again 8 lba [] l in
-    let f = number_again 4 count [] n in
-    record { reads_back = simp is_whole-mod cc; bare = simp is_whole-mod }
-
-pub encodes-write_16 : (lba count : ℕ) → lba < 2 ^ 64 → count < 2 ^ 32 →
-    Encodes (Write16 lba count) ((0x8A ∷ 0 ∷ []) ++ big_bytes 8 lba ++ big_bytes 4 count ++ (0 ∷ 0 ∷ []))
-unfolding read read_as is_bare
-encodes-write_16 lba count l n =
-    let e = number_again 8 lba [] l in
-    let f = number_again 4 count [] n in
-    record { reads_back = simp is_whole-mod cc; bare = simp is_whole-mod }
+    let f = number_again 4 count [] n in (
+      record { reads_back = simp is_whole-mod cc; bare = simp is_whole-mod },
+      record { reads_back = simp is_whole-mod cc; bare = simp is_whole-mod },
+    )

@@ -4,7 +4,7 @@ use Rattle.sg_target.specs.Ranges.{IsWithin}
 use Rattle.sg_target.specs.Runs.{step_of, ranges_of_call, exchange, Stopped}
 use Rattle.sg_target.specs.State.{State, IsWithinPool}
 use Rattle.sg_target.specs.Target.{TargetFields}
-use Rattle.sg_target.proofs.RunLemmas.{exchanged-more, state-more, all-within, on-err, told, told-size}
+use Rattle.sg_target.proofs.RunLemmas.{exchanged-more, state-more, all-within, on-err, answer-told, size-told}
 use Rattle.sg_target.proofs.target.Target.run.Goals as goal
 
 pub returns-in_err-take-clause-stopped : goal.returns-in_err-take-clause-stopped
@@ -16,8 +16,8 @@ returns-in_err-take-clause-stopped g c =
     let here : i < length calls = omega arith in
     let more : take (i + 1) calls ≡ take i calls ++ call ∷ [] = take_more calls i call here ∙ ap (λ x. take i calls ++ x ∷ []) (sym c.call-item.is) in
     let so_far = c.loop-call.invariant.state in
-    let answered = told _ c.execute-reply.result _ _ c.execute-reply.ensures.reply ∙ ap (λ s. (step_of s call).answer) so_far in
-    let size = told-size _ c.execute-reply.result _ _ c.execute-reply.ensures.reply in
+    let answered = answer-told _ c.execute-reply.result _ _ c.execute-reply.ensures.reply ∙ ap (λ s. (step_of s call).answer) so_far in
+    let size = size-told _ c.execute-reply.result _ _ c.execute-reply.ensures.reply in
     let within = subst (λ (s : State). IsWithin g.S.Store.price s.disk.pool (ranges_of_call s call) c.execute-reply.result.counts) so_far c.execute-reply.ensures.charge.within in
     let stopped : Stopped g.S.Store.price state calls (g.K.Sink.taken c.args.sink.now) (g.K.Sink.taken c.take.new.self) c.args.self.now.meter.total c.execute-reply.new.self.meter.total c.execute-reply.new.self.state = record {
       place = i;
@@ -42,8 +42,8 @@ loop-call-preserved g c =
     let here : i < length calls = omega arith in
     let more : take (i + 1) calls ≡ take i calls ++ call ∷ [] = take_more calls i call here ∙ ap (λ x. take i calls ++ x ∷ []) (sym c.call-item.is) in
     let so_far = c.loop-call.invariant.state in
-    let answered = told _ c.execute-reply.result _ _ c.execute-reply.ensures.reply ∙ ap (λ s. (step_of s call).answer) so_far in
-    let size = told-size _ c.execute-reply.result _ _ c.execute-reply.ensures.reply in
+    let answered = answer-told _ c.execute-reply.result _ _ c.execute-reply.ensures.reply ∙ ap (λ s. (step_of s call).answer) so_far in
+    let size = size-told _ c.execute-reply.result _ _ c.execute-reply.ensures.reply in
     let within = subst (λ (s : State). IsWithin g.S.Store.price s.disk.pool (ranges_of_call s call) c.execute-reply.result.counts) so_far c.execute-reply.ensures.charge.within in
     record {
       took = rw (more, c.in_ok-take.ensures.taken) (exchanged-more g.S.Store.price state (take i calls) _ _ _ _ _ call _ c.loop-call.invariant.took answered size within c.execute-reply.ensures.charge.visited);
