@@ -1,11 +1,13 @@
-//! `blockbench MAPPED READS WRITES`: block commands on a large disk, for `bench/blocks` to measure from outside.
+//! `blockbench MAPPED READS WRITES`: block commands on a large disk, for `bench/blocks` to measure from
+//! outside.
 //!
-//! A disk of 2^30 blocks with a pool of 65,536 gets MAPPED blocks, one WRITE each, at scattered addresses of a range
-//! of which they fill half. Then come READS of 8 blocks at scattered addresses of that range, and WRITES of one block
-//! at addresses of it that are not mapped yet, as long as there are some. How many commands were good is printed.
+//! A disk of 2^30 blocks with a pool of 65,536 gets MAPPED blocks, one WRITE each, at scattered addresses
+//! of a range of which they fill half. Then come READS of 8 blocks at scattered addresses of that range, and
+//! WRITES of one block at addresses of it that are not mapped yet, as long as there are some. The numbers of
+//! commands that were good are printed.
 #![tactic(auto)]
 
-use sg_blocks::{PlainMap, Store};
+use sg_blocks::{BLOCK_LENGTH, PlainMap, Store};
 use sg_pages::Identity;
 use sg_target::{Config, Status, Target};
 use sg_wire::{CdbBytes, Command, Initiator};
@@ -21,9 +23,15 @@ const POOL: u32 = 65_536;
 // A prime that is no divisor of a range's length, so that its multiples meet each address of the range once.
 const STRIDE: u64 = 1_000_003;
 
-const BLOCK: [u8; 512] = [0xAB; 512];
+// The blocks of each READ.
+const READ_BLOCKS: u32 = 8;
 
-/// How many blocks are mapped, read and written.
+// The bytes of the longest data-in.
+const LONGEST_TRANSFER: usize = 131_072;
+
+const BLOCK: [u8; BLOCK_LENGTH] = [0xAB; BLOCK_LENGTH];
+
+/// The numbers of blocks that are mapped and written, and of READs.
 #[derive(Clone, Copy)]
 struct Load {
     mapped: u64,
@@ -36,8 +44,8 @@ fn range(load: Load) -> u64 {
     load.mapped.saturating_mul(2).max(16)
 }
 
-fn scattered(place: u64, range: u64) -> u64 {
-    match place.wrapping_mul(STRIDE).checked_rem(range) {
+fn scattered(index: u64, range: u64) -> u64 {
+    match index.wrapping_mul(STRIDE).checked_rem(range) {
         Some(address) => address,
         None => 0,
     }
@@ -48,7 +56,7 @@ fn send<S: Store>(
     target: &mut Target<S>,
     initiator: Initiator,
     cdb: &CdbBytes,
-    buf: &mut [u8; 131_072],
+    buf: &mut [u8; LONGEST_TRANSFER],
     good: &mut u64,
 ) {
     let reply = target.execute(initiator, cdb.as_slice(), &BLOCK, buf);
@@ -65,10 +73,10 @@ fn write_block(lba: u64) -> CdbBytes {
     command.write()
 }
 
-fn read_8(lba: u64) -> CdbBytes {
+fn read_blocks(lba: u64) -> CdbBytes {
     let command = Command::Read16 {
         lba,
-        transfer_length: 8,
+        transfer_length: READ_BLOCKS,
     };
     command.write()
 }
@@ -87,23 +95,23 @@ fn read_load(rt: &HostRuntime) -> Option<Load> {
 fn run(rt: &HostRuntime, load: Load) -> Result<[u64; 3], AllocError> {
     let config = Config::new(BLOCKS, POOL, Identity::standard()).unwrap();
     let mut target: Target<PlainMap> = Target::new(rt.alloc(), config)?;
-    let mut buf = [0; 131_072];
+    let mut buf = [0; LONGEST_TRANSFER];
     let mut good = [0; 3];
     let Some(initiator) = Initiator::new(0) else {
         return Ok(good);
     };
     let _ = target.execute(initiator, &[0; 6], &[], &mut buf);
     let range = range(load);
-    for place in 0..load.mapped {
-        let cdb = write_block(scattered(place, range));
+    for index in 0..load.mapped {
+        let cdb = write_block(scattered(index, range));
         send(&mut target, initiator, &cdb, &mut buf, &mut good[0]);
     }
-    for place in 0..load.reads {
-        let cdb = read_8(scattered(place, range.saturating_sub(8)));
+    for index in 0..load.reads {
+        let cdb = read_blocks(scattered(index, range.saturating_sub(u64::from(READ_BLOCKS))));
         send(&mut target, initiator, &cdb, &mut buf, &mut good[1]);
     }
-    for place in 0..load.writes {
-        let cdb = write_block(scattered(load.mapped.saturating_add(place), range));
+    for index in 0..load.writes {
+        let cdb = write_block(scattered(load.mapped.saturating_add(index), range));
         send(&mut target, initiator, &cdb, &mut buf, &mut good[2]);
     }
     Ok(good)

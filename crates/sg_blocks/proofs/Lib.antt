@@ -1,5 +1,6 @@
-pub mod TallySteps
+pub mod GhostNumberSteps
 pub mod DiskLemmas
+pub mod WriteLemmas
 pub mod OccurrenceLemmas
 pub mod ChainLemmas
 pub mod HalvingLemmas
@@ -8,7 +9,7 @@ pub mod SpliceLemmas
 pub mod TableLemmas
 pub mod CursorLemmas
 pub mod BlockLemmas
-pub mod PlaceLemmas
-pub mod TogetherLemmas
+pub mod IndexLemmas
+pub mod ConsistencyLemmas
 pub mod EditingLemmas
-pub mod WholeLemmas
+pub mod WellFormedLemmas

@@ -1,4 +1,4 @@
--- How often slots stand in lists.
+-- How often slots occur in lists.
 use Rattle.std.proofs.Common.{◌≡◌, ◌≢◌, ℕ, ◌+◌, ◌<◌, ◌≤◌, zero, suc, List, [], ◌∷◌, ◌++◌, arith, sym, ap, ◌∙◌, cond, Bool, true, false, eq-eqb, refl, length, get_or}
 use Rattle.std.proofs.lemmas.Bool.Decides.{nat_tests}
 use Rattle.std.specs.Prelude.{nat_lt, insert}
@@ -30,7 +30,7 @@ at_most_once false n e = omega arith
 pub once-le : (count : ℕ) (xs : List ℕ) (t : ℕ) → IsEachOnce count xs → occurrences t xs ≤ 1
 once-le count xs t once = at_most_once _ _ (once.each t)
 
--- what stands in the list is below the count
+-- what occurs in the list is below the count
 pub below_count : (count : ℕ) (xs : List ℕ) (t : ℕ) → IsEachOnce count xs → 1 ≤ occurrences t xs → t < count
 below_count count xs t once h = let e = once.each t in grind (arith, nat_tests)
 

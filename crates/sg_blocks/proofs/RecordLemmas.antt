@@ -1,4 +1,4 @@
--- Records by their places, and what is found at an address.
+-- Records by their indices, and what is found at an address.
 use Rattle.std.proofs.Common.{◌≡◌, ◌≢◌, ℕ, ◌+◌, ◌<◌, ◌≤◌, zero, suc, List, [], ◌∷◌, length, get_or, arith, refl, sym, ap, ◌∙◌, Option, Some, None, cond, Bool, true, false, inl, inr}
 use Rattle.std.specs.Prelude.{slice_index_or, unwrap_or, is_some}
 use Rattle.std.specs.declared.cmp.Ordering.TheVariants.{Equal}
@@ -6,7 +6,7 @@ use Rattle.std.specs.Ordering.{nat_cmp, eq_by_cmp, is_eq}
 use Rattle.std.specs.Cmp.{nat_cmp_total, nat_cmp_is}
 use Rattle.std.specs.FinMap.{find, get-from_entries, contains_key, len, len-insert, len-empty}
 use Rattle.sg_blocks.specs.Disk.{zero_block, block}
-use Rattle.sg_blocks.specs.Records.{start_of, IsSorted, mapped_blocks, contents_of, IsPlace, mapped_at}
+use Rattle.sg_blocks.specs.Records.{start_of, IsSorted, mapped_blocks, contents_of, IsLowerBound, mapped_at}
 use Rattle.sg_blocks.specs.declared.run.Run.{Run}
 use Rattle.std.proofs.lemmas.Bool.{cases_lt}
 use Rattle.sg_blocks.proofs.DiskLemmas.{eq_other}
@@ -51,9 +51,9 @@ contains-unmapped rs bs q none = ap is_some (get-from_entries nat_cmp_total (map
 pub contains-mapped : (rs : List Run) (bs : List (List ℕ)) (i : ℕ) (r : Run) → IsSorted rs → i < length rs → r ≡ get_or rs i r → contains_key (contents_of rs bs) r.start ≡ true
 contains-mapped rs bs i r rises h e = ap is_some (get-from_entries nat_cmp_total (mapped_blocks rs bs) r.start ∙ find-mapped rs bs i r rises h e)
 
--- the place after a record that was at the address
-pub place-mapped : (rs : List Run) (i a : ℕ) (r : Run) → IsSorted rs → IsPlace rs i a → i < length rs → r ≡ get_or rs i r → r.start ≡ a → IsPlace rs (i + 1) (a + 1)
-place-mapped rs i a r rises p h e is =
+-- the index after a record that was at the address
+pub index-mapped : (rs : List Run) (i a : ℕ) (r : Run) → IsSorted rs → IsLowerBound rs i a → i < length rs → r ≡ get_or rs i r → r.start ≡ a → IsLowerBound rs (i + 1) (a + 1)
+index-mapped rs i a r rises p h e is =
     let at : r.start ≡ start_of rs i = start_of-read rs i r h e in
     record {
       within = omega arith;
@@ -61,9 +61,9 @@ place-mapped rs i a r rises p h e is =
       after = λ j le lt. let up : start_of rs i < start_of rs j = rises i j (omega arith) lt in omega arith;
     }
 
--- the place where the next record is past the address
-pub place-unmapped : (rs : List Run) (i a : ℕ) → IsSorted rs → IsPlace rs i a → (i < length rs → start_of rs i ≢ a) → IsPlace rs i (a + 1)
-place-unmapped rs i a rises p other = record {
+-- the index where the next record is past the address
+pub index-unmapped : (rs : List Run) (i a : ℕ) → IsSorted rs → IsLowerBound rs i a → (i < length rs → start_of rs i ≢ a) → IsLowerBound rs i (a + 1)
+index-unmapped rs i a rises p other = record {
   within = p.within;
   before = λ j lt. let b : start_of rs j < a = p.before j lt in omega arith;
   after = λ j le lt. let here : a ≤ start_of rs j = p.after j le lt in
@@ -74,9 +74,9 @@ place-unmapped rs i a rises p other = record {
 }
 
 -- then no record is at the address
-pub none_at : (rs : List Run) (i a : ℕ) → IsSorted rs → IsPlace rs i a → (i < length rs → start_of rs i ≢ a) → (j : ℕ) → j < length rs → start_of rs j ≢ a
+pub none_at : (rs : List Run) (i a : ℕ) → IsSorted rs → IsLowerBound rs i a → (i < length rs → start_of rs i ≢ a) → (j : ℕ) → j < length rs → start_of rs j ≢ a
 none_at rs i a rises p other j lt e =
-    let q = place-unmapped rs i a rises p other in
+    let q = index-unmapped rs i a rises p other in
     elim (cases_lt j i) [ inl below ↦ let b : start_of rs j < a = p.before j below in absurd (omega arith) | inr above ↦ let u : a + 1 ≤ start_of rs j = q.after j above lt in absurd (omega arith) ]
 
 pub one_mapped : (rs : List Run) (bs : List (List ℕ)) (i a : ℕ) (r : Run) → IsSorted rs → i < length rs → r ≡ get_or rs i r → r.start ≡ a → mapped_at (contents_of rs bs) a ≡ 1

@@ -1,14 +1,16 @@
--- The disk: blocks of 512 bytes, of which those that were written are mapped (SBC-3, 4.7, logical block provisioning).
+-- The disk: blocks of 512 bytes, of which those that were written are mapped (SBC-3, 4.7, logical
+-- block provisioning).
 use Rattle.std.specs.Prelude.{◌≡◌, ℕ, ◌+◌, ◌*◌, ◌<◌, List, [], ◌∷◌, Some, length, take, drop, replicate, unwrap_or, map}
 use Rattle.std.specs.List.{flat_map, range_with_len, count_by}
 use Rattle.std.specs.Ordering.{nat_cmp}
-use Rattle.std.specs.FinMap.{FinMap, get, insert, contains_key, empty}
+use Rattle.std.specs.FinMap.{FinMap, get, insert, contains_key, empty, len}
+use Rattle.sg_blocks.specs.declared.store.TheConstants.{BLOCK_LENGTH}
 
 -- The mapped addresses, each with its block.
 abbrev pub Contents : Type 0
 Contents = FinMap nat_cmp (List ℕ)
 
--- How many addresses there are, how many of them can be mapped at once, and those that are.
+-- The number of addresses, how many of them can be mapped at once, and those that are.
 pub record Disk : Type 0 where
   pub capacity : ℕ
   pub pool : ℕ
@@ -18,12 +20,13 @@ pub record Disk : Type 0 where
 abbrev pub empty_disk : (capacity pool : ℕ) → Disk
 empty_disk capacity pool = record { capacity = capacity; pool = pool; contents = empty }
 
--- Each mapped address is one of the disk's, and each block has 512 bytes.
-pub record IsWhole (capacity : ℕ) (contents : Contents) : Type 0 where
-  pub each : (lba : ℕ) (mapped : List ℕ) → get contents lba ≡ Some mapped → (lba < capacity) × (length mapped ≡ 512)
+-- Each mapped address is one of the disk's, and each block has its length.
+pub record IsWellFormed (capacity : ℕ) (contents : Contents) : Type 0 where
+  pub each : (lba : ℕ) (mapped : List ℕ) → get contents lba ≡ Some mapped →
+      (lba < capacity) × (length mapped ≡ BLOCK_LENGTH)
 
 unfoldable pub zero_block : List ℕ
-zero_block = replicate 512 0
+zero_block = replicate BLOCK_LENGTH 0
 
 -- The block at an address; one that is not mapped reads as zeros (LBPRZ 1).
 abbrev pub block : Contents → ℕ → List ℕ
@@ -33,15 +36,15 @@ block contents lba = unwrap_or (get contents lba) zero_block
 unfoldable pub blocks : Contents → (lba count : ℕ) → List ℕ
 blocks contents lba count = flat_map (block contents) (range_with_len lba count)
 
--- The block at a place of blocks that are joined.
+-- The block at an index of blocks that are joined.
 abbrev pub block_at : List ℕ → ℕ → List ℕ
-block_at bytes place = take 512 (drop (512 * place) bytes)
+block_at bytes index = take BLOCK_LENGTH (drop (BLOCK_LENGTH * index) bytes)
 
 -- The addresses from one on, each with its block of those that are joined.
 abbrev pub addressed : (lba count : ℕ) → List ℕ → List (ℕ × List ℕ)
-addressed lba count bytes = map (λ place. (lba + place, block_at bytes place)) (range_with_len 0 count)
+addressed lba count bytes = map (λ index. (lba + index, block_at bytes index)) (range_with_len 0 count)
 
--- Each address mapped to the block that stands beside it, in turn.
+-- Each address mapped to the block beside it, in turn.
 abbrev pub with_blocks : Contents → List (ℕ × List ℕ) → Contents
 with_blocks contents [] = contents
 with_blocks contents ((lba, block) ∷ more) = with_blocks (insert contents lba block) more
@@ -49,6 +52,14 @@ with_blocks contents ((lba, block) ∷ more) = with_blocks (insert contents lba 
 -- The blocks from an address on replaced.
 unfoldable pub written : Contents → (lba count : ℕ) → List ℕ → Contents
 written contents lba count bytes = with_blocks contents (addressed lba count bytes)
+
+-- The disk with the blocks from an address on replaced.
+abbrev pub disk_written : Disk → (lba count : ℕ) → List ℕ → Disk
+disk_written disk lba count bytes = record disk { contents = written disk.contents lba count bytes }
+
+-- More addresses are mapped than the pool has blocks.
+abbrev pub IsOverfull : Disk → Type 0
+IsOverfull disk = disk.pool < len disk.contents
 
 -- How many of the addresses from one on are mapped.
 unfoldable pub mapped_among : Contents → (lba count : ℕ) → ℕ

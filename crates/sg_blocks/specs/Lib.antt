@@ -1,8 +1,11 @@
+-- What public contracts cite: the disk, what the calls cost, the cost in `PlainMap`, and the laws.
 pub mod Disk
 pub mod Meter
+pub mod PlainCost
+pub mod Laws
+-- What only private contracts cite: the table of records, the pool, and how `PlainMap` edits them.
 pub mod Records
 pub mod Slots
 pub mod Chains
 pub mod Table
-pub mod Editing
-pub mod PlainPrice
+pub mod PlainMap

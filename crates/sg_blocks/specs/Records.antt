@@ -1,14 +1,15 @@
--- The table of records, of which each maps one address to a slot, and the contents that it stands for.
+-- The table of records, of which each maps one address to a slot, and the contents that it stands
+-- for.
 use Rattle.std.specs.Prelude.{◌≡◌, ℕ, ◌<◌, ◌≤◌, zero, suc, List, [], ◌∷◌, length, slice_index_or, Option, Some, None, if◌then◌else◌}
 use Rattle.std.specs.FinMap.{from_entries, contains_key}
 use Rattle.sg_blocks.specs.Disk.{Contents, zero_block}
 use Rattle.sg_blocks.specs.declared.run.Run.{Run}
 
--- The address of the record at a place.
+-- The address of the record at an index.
 abbrev pub start_of : List Run → ℕ → ℕ
-start_of [] place = 0
+start_of [] index = 0
 start_of (run ∷ records) zero = run.start
-start_of (run ∷ records) (suc place) = start_of records place
+start_of (run ∷ records) (suc index) = start_of records index
 
 -- The addresses rise from record to record.
 abbrev pub IsSorted : List Run → Type 0
@@ -17,26 +18,28 @@ IsSorted records = (i j : ℕ) → i < j → j < length records → start_of rec
 -- The address of each record, with the block of its slot.
 abbrev pub mapped_blocks : List Run → (blocks : List (List ℕ)) → List (ℕ × List ℕ)
 mapped_blocks [] blocks = []
-mapped_blocks (run ∷ records) blocks = (run.start, slice_index_or blocks run.slot zero_block) ∷ mapped_blocks records blocks
+mapped_blocks (run ∷ records) blocks =
+    (run.start, slice_index_or blocks run.slot zero_block) ∷ mapped_blocks records blocks
 
 -- The contents that the records and the blocks of the slots stand for.
 abbrev pub contents_of : List Run → (blocks : List (List ℕ)) → Contents
 contents_of records blocks = from_entries (mapped_blocks records blocks)
 
--- The slot of each record is one of so many.
+-- The slot of each record is below `count`.
 abbrev pub HaveSlots : List Run → (count : ℕ) → Type 0
-HaveSlots records count = (i : ℕ) (run : Run) → i < length records → slice_index_or records i run ≡ run → run.slot < count
+HaveSlots records count = (i : ℕ) (run : Run) →
+    i < length records → slice_index_or records i run ≡ run → run.slot < count
 
--- At the place stands the first record that is not before the address.
-pub record IsPlace (records : List Run) (place lba : ℕ) : Type 0 where
-  pub within : place ≤ length records
-  pub before : (i : ℕ) → i < place → start_of records i < lba
-  pub after : (i : ℕ) → place ≤ i → i < length records → lba ≤ start_of records i
+-- The index of the first record that is not before the address, or the end of the table.
+pub record IsLowerBound (records : List Run) (index lba : ℕ) : Type 0 where
+  pub within : index ≤ length records
+  pub before : (i : ℕ) → i < index → start_of records i < lba
+  pub after : (i : ℕ) → index ≤ i → i < length records → lba ≤ start_of records i
 
--- The record at the place, or none at the end.
-abbrev pub IsNext : List Run → (place : ℕ) → Option Run → Type 0
-IsNext records place None = length records ≤ place
-IsNext records place (Some run) = (place < length records) × (slice_index_or records place run ≡ run)
+-- The record at the index, or none at the end.
+abbrev pub IsNext : List Run → (index : ℕ) → Option Run → Type 0
+IsNext records index None = length records ≤ index
+IsNext records index (Some run) = (index < length records) × (slice_index_or records index run ≡ run)
 
 -- One where a record was visited before its address is reached.
 abbrev pub ahead : Option Run → ℕ

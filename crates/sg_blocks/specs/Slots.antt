@@ -17,17 +17,18 @@ slots_of (run ∷ records) = run.slot ∷ slots_of records
 abbrev pub one_if_equal : ℕ → ℕ → ℕ
 one_if_equal slot other = if other == slot then 1 else 0
 
--- How often a slot stands in a list.
+-- How often a slot occurs in a list.
 unfoldable pub occurrences : ℕ → List ℕ → ℕ
 occurrences slot [] = 0
 occurrences slot (other ∷ slots) = one_if_equal slot other + occurrences slot slots
 
--- Each of so many slots stands once in the list, and nothing else does.
+-- Each number below `count` occurs once in the list, and nothing else does.
 pub record IsEachOnce (count : ℕ) (slots : List ℕ) : Type 0 where
   pub each : (slot : ℕ) → occurrences slot slots ≡ (if nat_lt slot count then 1 else 0)
 
--- A sorted table and a pool with room for as many records: each slot has one record or is free.
-pub record BelongTogether (records : List Run) (blocks : List (List ℕ)) (free : List ℕ) (room : ℕ) : Type 0 where
+-- A sorted table and a pool of `room` slots: each slot has one record or is free.
+pub record IsConsistent (records : List Run) (blocks : List (List ℕ)) (free : List ℕ) (room : ℕ) :
+    Type 0 where
   pub sorted : IsSorted records
   pub once : IsEachOnce (length blocks) (slots_of records ++ free)
   pub count : length records + length free ≡ room

@@ -1,16 +1,14 @@
-//! The blocks of a disk: a store behind a trait, whose meaning is a finite map from addresses to blocks.
+//! The blocks of a disk: a store behind a trait, whose meaning is a finite map from addresses to
+//! blocks.
 #![tactic(auto)]
 
-mod cursor;
-mod draft;
+mod ghost_number;
+pub mod laws;
 mod plain_map;
 mod pool;
-mod read;
 mod run;
 mod store;
 mod table;
-mod tally;
-mod write;
 
 pub use plain_map::PlainMap;
-pub use store::{BLOCK_LENGTH, Counts, Space, Store};
+pub use store::{BLOCK_LENGTH, Counts, MAX_CAPACITY, MAX_COUNT, MAX_POOL, Space, Store};

@@ -1,45 +1,60 @@
-// A store with a record for each mapped block.
-ghost use Rattle.std.specs.Prelude.{◌≡◌, ◌^◌, ◌≤◌, []};
-ghost use Rattle.sg_blocks.specs.Disk.{IsWhole};
-ghost use Rattle.sg_blocks.specs.PlainPrice.{plain_price, plain_price-within};
-ghost use Rattle.sg_blocks.specs.Editing.{stored};
-ghost use Rattle.sg_blocks.specs.Slots.{BelongTogether};
+mod cursor;
+mod draft;
+mod read;
+mod write;
 
-use crate::draft::Draft;
+ghost use Rattle.std.specs.Prelude.{◌≡◌, ◌≤◌};
+ghost use Rattle.sg_blocks.specs.Disk.{IsWellFormed};
+ghost use Rattle.sg_blocks.specs.PlainCost.{plain_price, plain_price-within, plain_least, plain_least-positive};
+ghost use Rattle.sg_blocks.specs.PlainMap.Editing.{stored};
+ghost use Rattle.sg_blocks.specs.Slots.{IsConsistent};
+ghost use Rattle.sg_blocks.specs.declared.store.TheConstants.{MAX_CAPACITY, MAX_POOL};
+
+use crate::ghost_number::GhostNumber;
 use crate::pool::Pool;
-use crate::read::read_blocks;
 use crate::store::{Counts, Space, Store};
 use crate::table::RunTable;
-use crate::write::write_blocks;
+use draft::Draft;
+use read::read_blocks;
 use std::alloc::{AllocError, Global};
+use write::write_blocks;
 
 /// A disk of which each mapped block has a record of its own (SBC-3, 4.7).
 ///
-/// A call over a range visits the records of the mapped addresses in it, and at most two more.
+/// A call over a range visits the records of the mapped addresses in it, and at most one more.
 #[derive(Drop)]
 pub struct PlainMap {
-    capacity: u64,
+    capacity: GhostNumber,
     table: RunTable,
     pool: Pool,
     draft: Draft,
-    ghost capacity_fits: { capacity ≤ 2 ^ 40 },
-    ghost pool_fits: { table.room ≤ 65536 },
+    ghost capacity_fits: { capacity.value ≤ MAX_CAPACITY },
+    ghost pool_fits: { table.room ≤ MAX_POOL },
     ghost draft_fits: { draft.room ≡ table.room },
-    ghost draft_empty: { draft.records ≡ [] },
-    ghost whole: { IsWhole capacity (stored table pool) },
-    ghost together: { BelongTogether table.records pool.blocks pool.free table.room },
+    ghost well_formed: { IsWellFormed capacity.value (stored table pool) },
+    ghost consistent: { IsConsistent table.records pool.blocks pool.free table.room },
 }
 
 impl Store for PlainMap {
-    ghost disk = { λ map. record { capacity = map.capacity; pool = map.table.room; contents = stored map.table map.pool } };
+    ghost disk = { λ map. record {
+      capacity = map.capacity.value;
+      pool = map.table.room;
+      contents = stored map.table map.pool;
+    } };
 
-    ghost meter = { λ map. record { counts = record { visits = map.table.visits; probes = map.table.probes; links = 0 }; total = map.table.total; restarts = map.table.restarts } };
+    ghost meter = { λ map. record {
+      counts = record { visits = map.table.visits; probes = map.table.probes; links = 0 };
+      total = map.table.total;
+      restarts = map.table.restarts;
+    } };
 
     ghost price = { plain_price };
 
+    ghost least = { plain_least };
+
     fn make(alloc: Global, capacity: u64, pool: u32) -> Result<Self, AllocError> {
         Ok(PlainMap {
-            capacity,
+            capacity: GhostNumber::of(capacity),
             table: RunTable::new(alloc, pool)?,
             pool: Pool::new(alloc, pool)?,
             draft: Draft::new(alloc, pool)?,
@@ -47,13 +62,13 @@ impl Store for PlainMap {
     }
 
     fn read(&mut self, lba: u64, count: u32, bytes: &mut [u8]) {
-        let from = self.table.place(lba);
+        let from = self.table.lower_bound(lba);
         read_blocks(&mut self.table, &self.pool, from, lba, count, bytes);
     }
 
     fn write(&mut self, lba: u64, count: u32, bytes: &[u8]) -> Result<(), Space> {
-        let from = self.table.place(lba);
-        let to = self.table.place(lba + u64::from(count));
+        let from = self.table.lower_bound(lba);
+        let to = self.table.lower_bound(lba + u64::from(count));
         let mapped = to - from;
         if count as usize > self.pool.free_count() + mapped {
             return Err(Space);
@@ -87,6 +102,8 @@ impl Store for PlainMap {
     }
 
     ghost price_within = { plain_price-within };
+
+    ghost least_positive = { plain_least-positive };
 }
 
 #[cfg(test)]

@@ -1,14 +1,15 @@
-// The pool: slots of one block each.
+// The blocks of the mapped addresses.
 ghost use Rattle.std.specs.Prelude.{◌≡◌, ◌<◌, ◌+◌, ◌∷◌, ◌≤◌, length, slice_index_or, slice_set, IfOk};
 ghost use Rattle.std.specs.List.{range_with_len};
 ghost use Rattle.sg_blocks.specs.Disk.{zero_block};
 ghost use Rattle.sg_blocks.specs.Slots.{IsEachOnce};
 
-use crate::store::BLOCK_LENGTH;
+use crate::store::{BLOCK_LENGTH, MAX_POOL};
 use std::alloc::{AllocError, Global};
 use std::marker::Model;
 
-/// Slots of 512 bytes. The free ones are a chain, in which each slot has the number of the next.
+/// Slots of one block each. The free ones are a chain, in which each slot has the number of the
+/// next.
 #[derive(Drop)]
 pub struct Pool {
     blocks: Vec<[u8; BLOCK_LENGTH]>,
@@ -24,14 +25,17 @@ impl Model for Pool {
 
     ghost Value = { Slots };
 
-    ghost view = { λ p. record { blocks = p.blocks.items; free = chain p.next.items p.first_free p.free_count } };
+    ghost view = { λ p. record {
+      blocks = p.blocks.items;
+      free = chain p.next.items p.first_free p.free_count;
+    } };
 
     ghost invariant = { λ p. AreBelow (length p.next.items) (chain p.next.items p.first_free p.free_count) };
 }
 
-/// Links of so many slots, from each to the one after it.
+/// The links of `count` slots, from each to the one after it.
 fn links(alloc: Global, count: u32) -> Result<Vec<u32>, AllocError>
-    requires { count ≤ 65536 }
+    requires { count ≤ MAX_POOL }
     ensures { IfOk result (λ next. next.items ≡ range_with_len 1 count) }
 {
     let mut next = Vec::with_capacity(alloc, count as usize)?;
@@ -42,9 +46,12 @@ fn links(alloc: Global, count: u32) -> Result<Vec<u32>, AllocError>
 }
 
 impl Pool {
-    /// So many slots of zeros, each of them free.
+    /// `count` slots of zeros, each of them free.
+    ///
+    /// # Errors
+    /// Memory was refused.
     pub fn new(alloc: Global, count: u32) -> Result<Pool, AllocError>
-        requires { count ≤ 65536 }
+        requires { count ≤ MAX_POOL }
         ensures blocks { IfOk result (λ pool. length pool.blocks ≡ count) }
         ensures free_count { IfOk result (λ pool. length pool.free ≡ count) }
         ensures free { IfOk result (λ pool. IsEachOnce count pool.free) }
@@ -75,14 +82,14 @@ impl Pool {
     /// Replaces the block of a slot.
     pub fn set(&mut self, slot: u32, bytes: &[u8])
         requires slot { slot < length self.old.blocks }
-        requires whole { length bytes.now ≡ 512 }
+        requires byte_count { length bytes.now ≡ BLOCK_LENGTH }
         ensures blocks { self.new.blocks ≡ slice_set self.old.blocks slot bytes.now }
         ensures free { self.new.free ≡ self.old.free }
     {
         self.blocks[slot as usize].copy_from_slice(bytes);
     }
 
-    /// Takes a free slot.
+    /// Takes a free slot. The link that is followed to the next one is not counted.
     pub fn take(&mut self) -> u32
         requires { 0 < length self.old.free }
         ensures free { self.old.free ≡ result ∷ self.new.free }

@@ -1,6 +1,4 @@
-// A record of the map.
-
-/// An address that is mapped, and the slot of its block.
+/// A record of the map: an address that is mapped, and the slot of its block.
 #[derive(Clone, Copy)]
 pub struct Run {
     pub start: u64,

@@ -1,48 +1,63 @@
-// The table of records.
-ghost use Rattle.std.specs.Prelude.{◌≡◌, ◌+◌, ◌-◌, ◌^◌, ◌<◌, ◌≤◌, [], ◌++◌, length, take, drop, slice_index_or, IfOk};
-ghost use Rattle.sg_blocks.specs.Records.{start_of, IsSorted, IsPlace};
-ghost use Rattle.sg_blocks.specs.Table.{visited, probed, restarted_table, spliced};
+ghost use Rattle.std.specs.Prelude.{◌≡◌, ◌+◌, ◌-◌, ◌<◌, ◌≤◌, length, slice_index_or, IfOk};
+ghost use Rattle.sg_blocks.specs.Records.{start_of, IsSorted, IsLowerBound};
+ghost use Rattle.sg_blocks.specs.Meter.{probe_bound};
+ghost use Rattle.sg_blocks.specs.Table.{new_table, visited, probed, search_bound, restarted_table, spliced, rotated_left, rotated_right};
 
+use crate::ghost_number::GhostNumber;
 use crate::run::Run;
-use crate::tally::Tally;
+use crate::store::MAX_POOL;
 use std::alloc::{AllocError, Global};
 use std::marker::Model;
 
-/// The records, sorted by their addresses. No record is read but by calls that count it.
+/// The records of the map, sorted by their addresses. No record is read but by calls that count it.
 #[derive(Drop)]
 pub struct RunTable {
     records: Vec<Run>,
-    room: u32,
+    room: GhostNumber,
     visits: u64,
     probes: u64,
-    total: Tally,
-    restarts: Tally,
+    total: GhostNumber,
+    restarts: GhostNumber,
 }
 
 impl Model for RunTable {
     ghost use Rattle.std.specs.Prelude.{◌≤◌, vec_len, vec_capacity};
     ghost use Rattle.sg_blocks.specs.Table.{Table};
+    ghost use Rattle.sg_blocks.specs.declared.store.TheConstants.{MAX_POOL};
 
     ghost Value = { Table };
 
-    ghost view = { λ t. record { records = t.records.items; room = t.room; visits = t.visits; probes = t.probes; total = t.total.total; restarts = t.restarts.total } };
+    ghost view = { λ t. record {
+      records = t.records.items;
+      room = t.room.value;
+      visits = t.visits;
+      probes = t.probes;
+      total = t.total.value;
+      restarts = t.restarts.value;
+    } };
 
-    ghost invariant = { λ t. (vec_len t.records ≤ t.room) × (t.room ≤ vec_capacity t.records) × (t.room ≤ 65536) };
+    ghost invariant = { λ t.
+        (vec_len t.records ≤ t.room.value)
+        × (t.room.value ≤ vec_capacity t.records)
+        × (t.room.value ≤ MAX_POOL) };
 }
 
 impl RunTable {
-    /// A table without records, which has room for so many.
+    /// A table without records, which has room for `room` of them.
+    ///
+    /// # Errors
+    /// Memory was refused.
     pub fn new(alloc: Global, room: u32) -> Result<RunTable, AllocError>
-        requires { room ≤ 65536 }
-        ensures { IfOk result (λ table. table ≡ record { records = []; room = room; visits = 0; probes = 0; total = 0; restarts = 0 }) }
+        requires { room ≤ MAX_POOL }
+        ensures { IfOk result (λ table. table ≡ new_table room) }
     {
         Ok(RunTable {
             records: Vec::with_capacity(alloc, room as usize)?,
-            room,
+            room: GhostNumber::of(u64::from(room)),
             visits: 0,
             probes: 0,
-            total: Tally::new(),
-            restarts: Tally::new(),
+            total: GhostNumber::zero(),
+            restarts: GhostNumber::zero(),
         })
     }
 
@@ -50,7 +65,7 @@ impl RunTable {
     pub fn count(&self) -> usize
         ensures value { result ≡ length self.now.records }
         ensures room { result ≤ self.now.room }
-        ensures small { result ≤ 65536 }
+        ensures table_size { result ≤ MAX_POOL }
     {
         self.records.len()
     }
@@ -75,40 +90,42 @@ impl RunTable {
     {
         self.visits = 0;
         self.probes = 0;
-        self.restarts = self.restarts.more();
+        self.restarts = self.restarts.incremented();
     }
 
-    /// The whole record at a place, which counts as a visit.
-    pub fn visit(&mut self, place: usize) -> Run
-        requires place { place < length self.old.records }
-        requires fits { self.old.visits + 1 < 2 ^ 64 }
-        ensures value { slice_index_or self.old.records place result ≡ result }
+    /// The whole record at an index, which counts as a visit.
+    pub fn visit(&mut self, index: usize) -> Run
+        requires index { index < length self.old.records }
+        requires headroom { self.old.visits < u64.MAX }
+        ensures value { slice_index_or self.old.records index result ≡ result }
         ensures table { self.new ≡ visited self.old 1 }
     {
         self.visits += 1;
-        self.total = self.total.more();
-        self.records[place]
+        self.total = self.total.incremented();
+        self.records[index]
     }
 
-    /// The address of the record at a place, which counts as a probe.
-    pub fn start(&mut self, place: usize) -> u64
-        requires place { place < length self.old.records }
-        requires fits { self.old.probes + 1 < 2 ^ 64 }
-        ensures value { result ≡ start_of self.old.records place }
+    /// The address of the record at an index, which counts as a probe.
+    pub fn start(&mut self, index: usize) -> u64
+        requires index { index < length self.old.records }
+        requires headroom { self.old.probes < u64.MAX }
+        ensures value { result ≡ start_of self.old.records index }
         ensures table { self.new ≡ probed self.old 1 }
     {
         self.probes += 1;
-        self.records[place].start
+        self.records[index].start
     }
 
-    /// The place of the first record that is not before an address. It is found by halving.
-    pub fn place(&mut self, lba: u64) -> usize
+    /// The index of the first record that is not before an address, found by binary search.
+    pub fn lower_bound(&mut self, lba: u64) -> usize
         requires sorted { IsSorted self.old.records }
-        requires modest { self.old.probes ≤ 2 ^ 62 + 64 }
-        ensures place { IsPlace self.old.records result lba }
+        requires headroom { self.old.probes + probe_bound ≤ u64.MAX }
+        ensures index { IsLowerBound self.old.records result lba }
+
+        // Only probes are counted, and no more than a binary search takes.
         ensures table { self.new ≡ probed self.old (self.new.probes - self.old.probes) }
-        ensures rise { self.old.probes ≤ self.new.probes }
-        ensures few { self.new.probes ≤ self.old.probes + 18 }
+        ensures probes_rise { self.old.probes ≤ self.new.probes }
+        ensures probe_count { self.new.probes ≤ self.old.probes + search_bound }
     {
         let mut low = 0;
         let mut high = self.count();
@@ -123,34 +140,34 @@ impl RunTable {
         low
     }
 
-    /// Puts records in place of those from one place to another.
+    /// Replaces the records from one index to another.
     pub fn splice(&mut self, from: usize, to: usize, runs: &[Run])
         requires range { (from ≤ to) × (to ≤ length self.old.records) }
         requires room { length self.old.records + length runs.now ≤ self.old.room + (to - from) }
         ensures { self.new ≡ spliced self.old from to runs.now }
     {
         let left = self.count() - (to - from);
-        turn_left(&mut self.records, from, to - from);
+        rotate_left(&mut self.records, from, to - from);
         self.records.truncate(left);
-        let put = self.records.extend_from_slice(runs);
-        prove!(put.is_ok());
-        let _ = put;
-        turn_right(&mut self.records, from, runs.len());
+        let extended = self.records.extend_from_slice(runs);
+        prove!(extended.is_ok());
+        let _ = extended;
+        rotate_right(&mut self.records, from, runs.len());
     }
 }
 
-/// Moves the first so many records of those from a place on to the end.
-fn turn_left(records: &mut [Run], from: usize, count: usize)
+/// Moves the first `count` of the records from an index on to the end.
+fn rotate_left(records: &mut [Run], from: usize, count: usize)
     requires { from + count ≤ length records.old }
-    ensures { records.new ≡ take from records.old ++ (drop (from + count) records.old ++ take count (drop from records.old)) }
+    ensures { records.new ≡ rotated_left records.old from count }
 {
     records[from..].rotate_left(count);
 }
 
-/// Moves the last so many records to a place.
-fn turn_right(records: &mut [Run], from: usize, count: usize)
+/// Moves the last `count` records to an index.
+fn rotate_right(records: &mut [Run], from: usize, count: usize)
     requires { from + count ≤ length records.old }
-    ensures { records.new ≡ take from records.old ++ (drop (length records.old - count) records.old ++ take (length records.old - from - count) (drop from records.old)) }
+    ensures { records.new ≡ rotated_right records.old from count }
 {
     records[from..].rotate_right(count);
 }

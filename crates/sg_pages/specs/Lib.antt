@@ -1,3 +1,4 @@
+-- Public contracts cite all of these.
 pub mod Identity
 pub mod InquiryData
 pub mod VitalProductData

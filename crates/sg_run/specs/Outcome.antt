@@ -1,17 +1,19 @@
 -- What a line of a script does.
-use Rattle.std.specs.Prelude.{ℕ, ◌*◌, List, [], ◌++◌, replicate, Option, Ok, false, codes}
+use Rattle.std.specs.Prelude.{ℕ, ◌*◌, List, [], ◌++◌, replicate, Option, codes}
+use Rattle.sg_wire.specs.Layout.{cdb_of}
+use Rattle.sg_wire.specs.SenseData.{read_sense}
 use Rattle.sg_wire.specs.declared.command.Command.TheVariants.{Write16}
-use Rattle.sg_target.specs.Checks.{Received}
+use Rattle.sg_target.specs.CapacityData.{block_length}
+use Rattle.sg_target.specs.State.{State}
+use Rattle.sg_target.specs.Step.{Step, step}
+use Rattle.sg_target.specs.declared.reply.Status.{Status}
+use Rattle.sg_target.specs.declared.reply.Status.TheVariants.{Good, CheckCondition, ReservationConflict}
 use Rattle.sg_run.specs.ExitStatus.{exit_status}
 use Rattle.sg_run.specs.HexText.{hex_lines}
-use Rattle.sg_run.specs.LineFault.{fault_words}
+use Rattle.sg_run.specs.LineFault.{fault_message}
 use Rattle.sg_run.specs.LineText.{line_header}
 use Rattle.sg_run.specs.Request.{LineRequest, nothing, faulty, send, fill, request_of}
 use Rattle.sg_run.specs.SenseText.{sense_lines}
-use Rattle.sg_target.specs.State.{State}
-use Rattle.sg_target.specs.Step.{Step, received_step, step}
-use Rattle.sg_target.specs.declared.reply.Status.{Status}
-use Rattle.sg_target.specs.declared.reply.Status.TheVariants.{Good, CheckCondition}
 
 -- What is printed, the exit status, and the state of the disk afterwards.
 pub record Outcome : Type 0 where
@@ -23,27 +25,38 @@ pub record Outcome : Type 0 where
 abbrev pub silent : State → Outcome
 silent state = record { text = []; status = 0; state = state }
 
-abbrev pub status_words : Status → List ℕ
-status_words Good = codes "GOOD"
-status_words CheckCondition = codes "CHECK CONDITION"
+abbrev pub status_name : Status → List ℕ
+status_name Good = codes "GOOD"
+status_name CheckCondition = codes "CHECK CONDITION"
+status_name ReservationConflict = codes "RESERVATION CONFLICT"
 
 -- A command's status, its sense data where it has some, and its data-in.
-abbrev pub answered : ℕ → Step → Outcome
-answered number s = record {
-  text = line_header number (status_words s.answer.status) ++ (sense_lines s.answer.sense ++ hex_lines s.answer.data_in);
-  status = exit_status s.answer.status s.answer.sense;
+abbrev pub reply_text : (number : ℕ) → Status → (sense data_in : List ℕ) → List ℕ
+reply_text number status sense data_in =
+    line_header number (status_name status) ++ (sense_lines sense ++ hex_lines data_in)
+
+abbrev pub reply_outcome : (number : ℕ) → Step → Outcome
+reply_outcome number s = let answer = s.answer in record {
+  text = reply_text number answer.status answer.sense answer.data_in;
+  status = exit_status answer.status (read_sense answer.sense);
   state = s.state;
 }
 
--- WRITE(16) of so many blocks from an address on (SBC-3, 5.35), which waits for a unit attention to be reported.
-abbrev pub write_16 : (lba count : ℕ) → Received
-write_16 lba count = record { command = Ok (Write16 lba count); passes = false }
+abbrev pub fault_outcome : (number : ℕ) → State → (message : List ℕ) → Outcome
+fault_outcome number state message = record { text = line_header number message; status = 1; state = state }
 
-abbrev pub by_request : ℕ → State → LineRequest → Outcome
+-- `fill` is WRITE(16) (SBC-3, 5.35) of blocks of one byte.
+abbrev pub fill_step : State → (initiator lba count byte : ℕ) → Step
+fill_step state initiator lba count byte =
+    step state initiator (cdb_of (Write16 lba count)) (replicate (block_length * count) byte)
+
+abbrev pub by_request : (number : ℕ) → State → LineRequest → Outcome
 by_request number state nothing = silent state
-by_request number state (faulty fault) = record { text = line_header number (fault_words fault); status = 1; state = state }
-by_request number state (send initiator cdb data_out) = answered number (step state initiator cdb data_out)
-by_request number state (fill initiator lba count byte) = answered number (received_step state initiator (write_16 lba count) (replicate (512 * count) byte))
+by_request number state (faulty fault) = fault_outcome number state (fault_message fault)
+by_request number state (send initiator cdb data_out) =
+    reply_outcome number (step state initiator cdb data_out)
+by_request number state (fill initiator lba count byte) =
+    reply_outcome number (fill_step state initiator lba count byte)
 
 -- What the line with a number does, by what is kept of it, which is nothing where it is too long.
 unfoldable pub outcome : (number : ℕ) → (line : Option (List ℕ)) → State → Outcome

@@ -1,6 +1,8 @@
 pub mod AttentionLemmas
+pub mod CapacityLemmas
 mod Lemmas
-pub mod PoolLemmas
+pub mod LimitLemmas
+pub mod RangeLemmas
 pub mod RunLemmas
 pub mod SenseLemmas
 pub mod StepLemmas

@@ -1,13 +1,20 @@
-pub mod Access
-pub mod Attentions
-pub mod CapacityData
-pub mod Checks
+-- What public contracts cite, in the order in which it is read best.
 pub mod Config
-pub mod Performed
-pub mod Ranges
-pub mod Refusal
-pub mod Reply
-pub mod Runs
+pub mod Attentions
 pub mod State
+pub mod Effect
+pub mod Refusal
+pub mod PrimaryCommands
+pub mod CapacityData
+pub mod BlockCommands
+pub mod Semantics
+pub mod Checks
+pub mod Status
 pub mod Step
+pub mod Reply
+pub mod Ranges
+pub mod Runs
 pub mod Target
+pub mod Laws
+-- What private contracts cite alone.
+pub mod Operation

@@ -1,32 +1,61 @@
--- Why a command is refused, and the sense data that says so.
-use Rattle.std.specs.Prelude.{ℕ, Some, None, true}
+-- Why a command is refused, and the sense data that reports it.
+use Rattle.std.specs.Prelude.{ℕ, Option, Some, None, true}
 use Rattle.sg_wire.specs.SenseData.{SenseFields}
-use Rattle.sg_target.specs.Attentions.{code_of}
 use Rattle.sg_wire.specs.declared.command.CdbFault.{CdbFault}
 use Rattle.sg_wire.specs.declared.command.CdbFault.TheVariants.{Empty, Opcode, Short, Field}
+use Rattle.sg_target.specs.Attentions.{code_of}
+use Rattle.sg_target.specs.declared.attentions.UnitAttention.{UnitAttention}
+use Rattle.sg_target.specs.declared.refusal.Reason.{Reason}
+use Rattle.sg_target.specs.declared.refusal.Reason.TheVariants.{InvalidFieldInCdb, InvalidCommandOperationCode, UnitAttention as Attention, DataPhaseError, LbaOutOfRange, SpaceAllocationFailed}
 use Rattle.sg_target.specs.declared.refusal.Refusal.{Refusal}
-use Rattle.sg_target.specs.declared.refusal.Refusal.TheVariants.{InvalidFieldInCdb, InvalidCommandOperationCode, UnitAttention as Attention, DataPhaseError, LbaOutOfRange, SpaceAllocationFailed}
+use Rattle.sg_target.specs.declared.refusal.Refusal.TheVariants.{Check}
 
--- Sense key, additional sense code and qualifier (SPC-4, 4.5.6), without INFORMATION and field pointer.
+-- Sense keys (SPC-4, sense keys and additional sense codes).
+abbrev pub no_sense : ℕ
+no_sense = 0
+
+abbrev pub illegal_request : ℕ
+illegal_request = 5
+
+abbrev pub unit_attention : ℕ
+unit_attention = 6
+
+abbrev pub data_protect : ℕ
+data_protect = 7
+
+abbrev pub aborted_command : ℕ
+aborted_command = 11
+
+-- A sense key with an additional sense code and qualifier (SPC-4, sense keys and additional sense codes), without INFORMATION and
+-- field pointer.
 abbrev pub plain_sense : (key asc ascq : ℕ) → SenseFields
-plain_sense key asc ascq = record { key = key; asc = asc; ascq = ascq; information = None; pointer = None }
+plain_sense key asc ascq =
+    record { key = key; asc = asc; ascq = ascq; information = None; pointer = None }
 
--- UNIT ATTENTION tells the condition. ILLEGAL REQUEST points at the byte where a field of the command is invalid, or
--- gives the first logical block address that is out of range as INFORMATION. ABORTED COMMAND tells that data-out ends
--- early, DATA PROTECT that no block is left to map.
-abbrev pub sense_of : Refusal → SenseFields
-sense_of (Attention condition) = plain_sense 6 (code_of condition).0 (code_of condition).1
-sense_of InvalidCommandOperationCode = plain_sense 5 0x20 0x00
-sense_of (InvalidFieldInCdb place) =
-    record { key = 5; asc = 0x24; ascq = 0x00; information = None; pointer = Some (record { in_command = true; byte = place }) }
-sense_of DataPhaseError = plain_sense 11 0x4B 0x00
-sense_of (LbaOutOfRange lba) = record { key = 5; asc = 0x21; ascq = 0x00; information = Some lba; pointer = None }
-sense_of SpaceAllocationFailed = plain_sense 7 0x27 0x07
+-- An invalid field has a pointer to its byte in the CDB (SPC-4, 4.5.2.4.2), and a logical block
+-- address out of range is INFORMATION (SPC-4, 4.5.2.2).
+abbrev pub sense_of : Reason → SenseFields
+sense_of (Attention condition) = plain_sense unit_attention (code_of condition).0 (code_of condition).1
+sense_of InvalidCommandOperationCode = plain_sense illegal_request 0x20 0x00
+sense_of (InvalidFieldInCdb byte) =
+    record (plain_sense illegal_request 0x24 0x00)
+    { pointer = Some (record { in_command = true; byte = byte }) }
+sense_of DataPhaseError = plain_sense aborted_command 0x4B 0x00
+sense_of (LbaOutOfRange lba) = record (plain_sense illegal_request 0x21 0x00) { information = Some lba }
+sense_of SpaceAllocationFailed = plain_sense data_protect 0x27 0x07
 
--- What is told of a block that is no command: INVALID FIELD IN CDB points at the byte in error, and where the block
--- ends early at its length.
+-- The sense data of REQUEST SENSE: the oldest unit attention, or NO SENSE.
+abbrev pub pending_sense : Option UnitAttention → SenseFields
+pending_sense None = plain_sense no_sense 0x00 0x00
+pending_sense (Some condition) = sense_of (Attention condition)
+
+-- A CDB that is no command: the pointer is to the byte in error, and where the CDB ends early to
+-- the first byte that is missing.
+abbrev pub reason_for : CdbFault → Reason
+reason_for Empty = InvalidFieldInCdb 0
+reason_for Opcode = InvalidCommandOperationCode
+reason_for (Short length) = InvalidFieldInCdb length
+reason_for (Field byte) = InvalidFieldInCdb byte
+
 abbrev pub refusal_for : CdbFault → Refusal
-refusal_for Empty = InvalidFieldInCdb 0
-refusal_for Opcode = InvalidCommandOperationCode
-refusal_for (Short length) = InvalidFieldInCdb length
-refusal_for (Field place) = InvalidFieldInCdb place
+refusal_for fault = Check (reason_for fault)

@@ -1,9 +1,9 @@
 -- The state of the disk between two commands.
-use Rattle.std.specs.Prelude.{◌≤◌}
+use Rattle.std.specs.Prelude.{◌≡◌, ◌≤◌, length}
 use Rattle.std.specs.FinMap.{len}
 use Rattle.sg_blocks.specs.Disk.{Disk, empty_disk}
 use Rattle.sg_pages.specs.Identity.{IdentityFields}
-use Rattle.sg_target.specs.Attentions.{Pending, power_on_pending}
+use Rattle.sg_target.specs.Attentions.{AreQueues, Pending, initiator_count, power_on_pending}
 use Rattle.sg_target.specs.Config.{ConfigFields}
 
 pub record State : Type 0 where
@@ -11,7 +11,7 @@ pub record State : Type 0 where
   pub disk : Disk
   pub attentions : Pending
 
--- After power on: no block is mapped.
+-- After power on no block is mapped.
 abbrev pub powered_on : ConfigFields → State
 powered_on config = record {
   identity = config.identity;
@@ -19,6 +19,9 @@ powered_on config = record {
   attentions = power_on_pending;
 }
 
--- No more addresses are mapped than the pool has blocks.
-abbrev pub IsWithinPool : State → Type 0
-IsWithinPool state = len state.disk.contents ≤ state.disk.pool
+-- No table of the disk is past its limit: no more addresses are mapped than the pool has blocks,
+-- and each of the eight initiators has a queue of at most five pending conditions, all distinct.
+pub record IsWithinLimits (state : State) : Type 0 where
+  pub mapped : len state.disk.contents ≤ state.disk.pool
+  pub initiators : length state.attentions ≡ initiator_count
+  pub queues : AreQueues state.attentions

@@ -2,21 +2,23 @@
 //! other (SPC-4, 4.2; SBC-3, 4).
 #![tactic(auto)]
 
-mod access;
 mod attentions;
 mod call;
+mod checks;
 mod config;
 mod data_in;
-mod perform;
+mod execution;
+mod extent;
+mod inquiry_page;
+pub mod laws;
+mod operation;
 mod refusal;
 mod reply;
 mod run;
 mod target;
-mod values;
 
-pub use attentions::UnitAttention;
 pub use call::Call;
 pub use config::{Config, ConfigFault};
 pub use reply::{Reply, SenseBytes, Status};
 pub use run::Sink;
-pub use target::Target;
+pub use target::{BUFFER_LENGTH, Target};

@@ -2,16 +2,25 @@
 use crate::attentions::UnitAttention;
 use sg_wire::{CdbFault, Pointer, Sense};
 
-/// Why a command ends with CHECK CONDITION (SPC-4, 4.5.6).
-#[derive(Clone, Copy, Debug, PartialEq, Eq)]
+/// How a command is refused.
+#[derive(Clone, Copy)]
 pub(crate) enum Refusal {
-    /// INVALID FIELD IN CDB, at the byte of this place.
+    /// RESERVATION CONFLICT, a status without sense data.
+    Conflict,
+    /// CHECK CONDITION.
+    Check(Reason),
+}
+
+/// Why a command ends with CHECK CONDITION (SPC-4, sense keys and additional sense codes).
+#[derive(Clone, Copy)]
+pub(crate) enum Reason {
+    /// INVALID FIELD IN CDB, at this byte.
     InvalidFieldInCdb { byte: u16 },
     /// INVALID COMMAND OPERATION CODE.
     InvalidCommandOperationCode,
     /// A unit attention condition is reported.
     UnitAttention(UnitAttention),
-    /// DATA PHASE ERROR: data-out ends before what the command announces.
+    /// DATA PHASE ERROR: there is less data-out than the command needs.
     DataPhaseError,
     /// LOGICAL BLOCK ADDRESS OUT OF RANGE, with the first such address.
     LbaOutOfRange { lba: u64 },
@@ -21,16 +30,15 @@ pub(crate) enum Refusal {
 
 ghost use Rattle.std.specs.Prelude.{◌≡◌, ◌≤◌};
 ghost use Rattle.sg_wire.specs.Sense.{fields_of};
-ghost use Rattle.sg_target.specs.Refusal.{plain_sense, refusal_for, sense_of};
-ghost use Rattle.sg_target.specs.Step.{pending_sense};
+ghost use Rattle.sg_target.specs.Refusal.{pending_sense, plain_sense, reason_for, sense_of};
 
-impl Refusal {
+impl Reason {
     /// The sense that tells it.
     pub(crate) fn sense(self) -> Sense
         ensures { fields_of result ≡ sense_of self }
     {
         match self {
-            Refusal::InvalidFieldInCdb { byte } => Sense {
+            Reason::InvalidFieldInCdb { byte } => Sense {
                 key: Sense::ILLEGAL_REQUEST,
                 asc: 0x24,
                 ascq: 0x00,
@@ -40,35 +48,45 @@ impl Refusal {
                     byte,
                 }),
             },
-            Refusal::InvalidCommandOperationCode => plain(Sense::ILLEGAL_REQUEST, 0x20, 0x00),
-            Refusal::UnitAttention(condition) => {
+            Reason::InvalidCommandOperationCode => plain(Sense::ILLEGAL_REQUEST, 0x20, 0x00),
+            Reason::UnitAttention(condition) => {
                 let (asc, ascq) = condition.code();
                 plain(Sense::UNIT_ATTENTION, asc, ascq)
             }
-            Refusal::DataPhaseError => plain(Sense::ABORTED_COMMAND, 0x4B, 0x00),
-            Refusal::LbaOutOfRange { lba } => Sense {
+            Reason::DataPhaseError => plain(Sense::ABORTED_COMMAND, 0x4B, 0x00),
+            Reason::LbaOutOfRange { lba } => Sense {
                 key: Sense::ILLEGAL_REQUEST,
                 asc: 0x21,
                 ascq: 0x00,
                 information: Some(lba),
                 pointer: None,
             },
-            Refusal::SpaceAllocationFailed => plain(Sense::DATA_PROTECT, 0x27, 0x07),
+            Reason::SpaceAllocationFailed => plain(Sense::DATA_PROTECT, 0x27, 0x07),
+        }
+    }
+}
+
+impl From<CdbFault> for Reason {
+    ghost from_gives = { λ fault reason. reason ≡ reason_for fault };
+
+    fn from(fault: CdbFault) -> Reason {
+        match fault {
+            CdbFault::Empty => Reason::InvalidFieldInCdb { byte: 0 },
+            CdbFault::Opcode => Reason::InvalidCommandOperationCode,
+            CdbFault::Short(place) | CdbFault::Field(place) => Reason::InvalidFieldInCdb {
+                byte: u16::from(place),
+            },
         }
     }
 }
 
 impl From<CdbFault> for Refusal {
-    ghost from_gives = { λ fault refusal. refusal ≡ refusal_for fault };
+    ghost use Rattle.sg_target.specs.declared.refusal.Refusal.TheVariants.{Check};
+
+    ghost from_gives = { λ fault refusal. refusal ≡ Check (reason_for fault) };
 
     fn from(fault: CdbFault) -> Refusal {
-        match fault {
-            CdbFault::Empty => Refusal::InvalidFieldInCdb { byte: 0 },
-            CdbFault::Opcode => Refusal::InvalidCommandOperationCode,
-            CdbFault::Short(place) | CdbFault::Field(place) => Refusal::InvalidFieldInCdb {
-                byte: u16::from(place),
-            },
-        }
+        Refusal::Check(Reason::from(fault))
     }
 }
 
@@ -77,7 +95,7 @@ pub(crate) fn pending_sense(condition: Option<UnitAttention>) -> Sense
     ensures { fields_of result ≡ pending_sense condition }
 {
     match condition {
-        Some(condition) => Refusal::UnitAttention(condition).sense(),
+        Some(condition) => Reason::UnitAttention(condition).sense(),
         None => plain(Sense::NO_SENSE, 0x00, 0x00),
     }
 }

@@ -1,11 +1,12 @@
 // Executes lists of commands.
 ghost use Rattle.std.specs.Prelude.{◌≡◌, ℕ, ◌+◌, ◌≤◌, List, [], ◌∷◌, ◌++◌, length, take, OnOk, OnErr};
-ghost use Rattle.sg_target.specs.Runs.{Exchange, exchange, state_after_all, Exchanged, Stopped};
-ghost use Rattle.sg_target.specs.State.{IsWithinPool};
+ghost use Rattle.sg_target.specs.Ranges.{cost_bounds};
+ghost use Rattle.sg_target.specs.Runs.{Exchange, Exchanged, Stopped, exchange, state_after_all};
+ghost use Rattle.sg_target.specs.State.{IsWithinLimits};
 
 use crate::call::Call;
 use crate::reply::Reply;
-use crate::target::Target;
+use crate::target::{BUFFER_LENGTH, Target};
 use sg_blocks::Store;
 
 /// Takes replies, one after another.
@@ -31,8 +32,9 @@ pub trait Sink {
 }
 
 impl<S: Store> Target<S> {
-    /// Executes commands in turn, and gives their replies to a sink. Data-in lies in the buffer, which has
-    /// 131,072 bytes at least, while the sink takes it.
+    /// Executes commands in turn, and delivers their replies to a sink. The buffer has
+    /// [`BUFFER_LENGTH`] bytes at least; data-in is at its beginning while the sink takes the
+    /// reply.
     ///
     /// # Errors
     /// The sink refused a reply. The commands up to that one were executed, and none after it.
@@ -42,15 +44,25 @@ impl<S: Store> Target<S> {
         buf: &mut [u8],
         sink: &mut K,
     ) -> Result<(), K::Fault>
-        requires { 131072 ≤ length buf.old }
-        ensures took { OnOk result (Exchanged S.price self.old.state calls.now (K.taken sink.old) (K.taken sink.new) self.old.meter.total self.new.meter.total) }
+        requires { BUFFER_LENGTH ≤ length buf.old }
+
+        // The sink has taken the replies to all calls, each charged to the store, and the state is
+        // the one after them.
+        ensures took { OnOk result (Exchanged (cost_bounds S.price S.least) self.old.state calls.now
+            (K.taken sink.old) (K.taken sink.new) self.old.meter self.new.meter) }
         ensures state { OnOk result (self.new.state ≡ state_after_all self.old.state calls.now) }
         ensures sound { OnOk result (K.faults sink.new ≡ K.faults sink.old) }
-        ensures stopped { OnErr result (Stopped S.price self.old.state calls.now (K.taken sink.old) (K.taken sink.new) self.old.meter.total self.new.meter.total self.new.state) }
+
+        // Or it has refused one.
+        ensures stopped { OnErr result (Stopped (cost_bounds S.price S.least) self.old.state calls.now
+            (K.taken sink.old) (K.taken sink.new) self.old.meter self.new.meter self.new.state) }
         ensures fault { OnErr result (K.faults sink.new ≡ K.faults sink.old + 1) }
-        ensures mapped { (n : ℕ) → IsWithinPool (state_after_all self.old.state (take n calls.now)) }
+
+        // No table passes its limit on the way.
+        ensures limits { (n : ℕ) → IsWithinLimits (state_after_all self.old.state (take n calls.now)) }
     {
-        // The store has kept within its pool before the first command, too.
+        // The type's invariant is known where a field is used: the tables are within their limits
+        // before the first command.
         let _ = &self.store;
         for call in calls {
             let reply = self.execute(call.initiator, call.cdb, call.data_out, buf);

@@ -1,209 +1,337 @@
--- The layout of command descriptor blocks (SPC-4, 4.2 and 6; SBC-3, 5; with the choices of docs/PROFILE.md).
-use Rattle.std.specs.Prelude.{◌≡◌, ℕ, ◌+◌, ◌*◌, ◌/◌, ◌^◌, List, [], ◌∷◌, ◌++◌, length, drop, slice_index, map, filter, find, fold, Option, Some, None, Result, Ok, Err, Bool, true, false, ◌&&◌, nat_lt, nat_le, ◌==◌, not, is_none, if◌then◌else◌, bit_and, bit_or}
-use Rattle.std.specs.List.{range_with_len}
+-- The layout of command descriptor blocks, CDBs (SPC-4, 4.2), with the choices of docs/PROFILE.md.
+use Rattle.std.specs.Prelude.{ℕ, ◌+◌, ◌-◌, ◌*◌, ◌/◌, ◌%◌, ◌^◌, List, [], ◌∷◌, ◌++◌, length, drop, slice_index, map, filter, find, fold, Option, Some, None, Result, Ok, Err, Bool, true, false, ◌&&◌, nat_lt, nat_le, ◌==◌, not, if◌then◌else◌, bit_and, bit_or}
+use Rattle.std.specs.List.{range_with_len, list_all, flat_map}
 use Rattle.std.specs.Option.{option_map_or}
-use Rattle.byteorder.specs.Endian.{big_number}
+use Rattle.byteorder.specs.Endian.{big_bytes, big_number}
 use Rattle.sg_wire.specs.declared.command.Class.{Class}
 use Rattle.sg_wire.specs.declared.command.Class.TheVariants.{Always, Reads, Writes}
 use Rattle.sg_wire.specs.declared.command.Command.{Command}
 use Rattle.sg_wire.specs.declared.command.Command.TheVariants.{TestUnitReady, RequestSense, Inquiry, Read6, Read10, Read16, Write6, Write10, Write16, ReadCapacity10, ReadCapacity16, SynchronizeCache10}
 use Rattle.sg_wire.specs.declared.command.CdbFault.{CdbFault}
-use Rattle.sg_wire.specs.declared.command.CdbFault.TheVariants.{Empty, Opcode, Short, Field}
+use Rattle.sg_wire.specs.declared.command.CdbFault.TheVariants.{Empty, Opcode, Short, Field as BadField}
+
+-- ---- Fields
+
+-- Where a field lies: a bit of a byte; some bits of a byte, from a high one to a low one; whole
+-- bytes, the most significant first; or the address and the transfer length of READ(6) and
+-- WRITE(6), in bytes 1 to 4.
+pub data Place : Type 0 where
+  bit : (byte index : ℕ) → Place
+  bits : (byte high low : ℕ) → Place
+  bytes : (first last : ℕ) → Place
+  short_extent : Place
+
+-- What a field contains: whether its bit is set, a number, or the address and the count of blocks.
+abbrev pub Value : Place → Type 0
+Value (bit byte index) = Bool
+Value (bits byte high low) = ℕ
+Value (bytes first last) = ℕ
+Value short_extent = ℕ × ℕ
+
+-- A place with its value.
+pub record Field : Type 0 where
+  pub place : Place
+  pub value : Value place
+
+abbrev field : (place : Place) → Value place → Field
+field place value = record { place = place; value = value }
+
+-- What makes a command of the values of its fields: their types come from the fields' places.
+abbrev pub Maker : List Field → Type 0
+Maker [] = Command
+Maker (field ∷ fields) = Value field.place → Maker fields
+
+-- The SERVICE ACTION field, byte 1, bits 4 to 0 (SPC-4, 4.2.5.2): the command has none; it has this
+-- one; or the field is a value of the command, between two bounds.
+pub data ServiceAction : Type 0 where
+  none : ServiceAction
+  named : (action : ℕ) → ServiceAction
+  among : (low high : ℕ) → ServiceAction
 
 -- ---- The table
 
--- A part of a block: a flag, which is one bit of a byte; a number in a byte's low bits; or a number in whole bytes,
--- the most significant first.
-pub data Part : Type 0 where
-  flag : (byte mask : ℕ) → Part
-  low_bits : (byte mask : ℕ) → Part
-  number : (first count : ℕ) → Part
-
--- One command. Where the operation code alone does not name it, the service action (byte 1, bits 4 to 0) has
--- to lie between two bounds. Ignored parts may hold anything, and all bits outside the parts have to be zero.
--- `command` makes the command from the fields' values, in their order.
-pub record Row : Type 0 where
+-- A command's CDB. Bits of the ignored places may have any value; all others outside the fields
+-- have to be zero, and so has CONTROL, the last byte. The class is how it meets a reservation of
+-- another initiator (SPC-4, 5.13). `blocked_by_attention`: a pending unit attention is reported in
+-- place of the command (SAM-5, 5.14).
+pub record Layout : Type 0 where
   pub opcode : ℕ
-  pub actions : Option (ℕ × ℕ)
+  pub action : ServiceAction
   pub class : Class
-  pub fields : List Part
-  pub ignored : List Part
-  pub command : List ℕ → Command
+  pub blocked_by_attention : Bool
+  pub fields : List Field
+  pub ignored : List Place
+  pub make : Maker fields
 
-abbrev row : ℕ → Option (ℕ × ℕ) → Class → List Part → List Part → (List ℕ → Command) → Row
-row opcode actions class fields ignored command =
-    record { opcode = opcode; actions = actions; class = class; fields = fields; ignored = ignored; command = command }
+abbrev row : ℕ → ServiceAction → Class → Bool → (fields : List Field) → List Place → Maker fields
+    → Layout
+row opcode action class blocked fields ignored make = record {
+  opcode = opcode;
+  action = action;
+  class = class;
+  blocked_by_attention = blocked;
+  fields = fields;
+  ignored = ignored;
+  make = make;
+}
 
--- A command without fields, and one with two or three.
-abbrev fixed : Command → List ℕ → Command
-fixed command values = command
+-- INQUIRY and REQUEST SENSE are executed in spite of a pending unit attention (SPC-4, 6.6.1 and
+-- 6.39).
+abbrev blocked : Bool
+blocked = true
 
-abbrev of_two : (ℕ → ℕ → Command) → List ℕ → Command
-of_two command values = command (slice_index values 0) (slice_index values 1)
+abbrev unblocked : Bool
+unblocked = false
 
-abbrev of_three : (ℕ → ℕ → ℕ → Command) → List ℕ → Command
-of_three command values = command (slice_index values 0) (slice_index values 1) (slice_index values 2)
+-- DESC and ALLOCATION LENGTH.
+abbrev request_sense : (desc : Bool) (allocation_length : ℕ) → List Field
+request_sense desc allocation_length = field (bit 1 0) desc ∷ field (bytes 4 4) allocation_length ∷ []
 
--- The service action, which names the command and is no value of it.
-abbrev service_action : Part
-service_action = low_bits 1 0x1F
+-- EVPD, PAGE CODE and ALLOCATION LENGTH.
+abbrev inquiry : (evpd : Bool) (page_code allocation_length : ℕ) → List Field
+inquiry evpd page_code allocation_length =
+    field (bit 1 0) evpd ∷ field (bytes 2 2) page_code ∷ field (bytes 3 4) allocation_length ∷ []
 
-abbrev after_action : (ℕ → Command) → List ℕ → Command
-after_action command values = command (slice_index values 1)
+-- LOGICAL BLOCK ADDRESS and TRANSFER LENGTH, or NUMBER OF LOGICAL BLOCKS, in CDBs of 6, 10 and 16
+-- bytes.
+abbrev extent_6 : ℕ × ℕ → List Field
+extent_6 extent = field short_extent extent ∷ []
 
--- The disk has no cache, and groups no blocks: DPO, FUA and the obsolete bit 1 of READ and WRITE, the obsolete bit 2 and
--- IMMED of SYNCHRONIZE CACHE and the GROUP NUMBER change nothing.
-abbrev group_number : ℕ → Part
-group_number byte = low_bits byte 0x1F
+abbrev extent_10 : (lba count : ℕ) → List Field
+extent_10 lba count = field (bytes 2 5) lba ∷ field (bytes 7 8) count ∷ []
 
-abbrev cache_bits : ℕ → List Part
-cache_bits group = flag 1 0x10 ∷ flag 1 0x08 ∷ flag 1 0x02 ∷ group_number group ∷ []
+abbrev extent_16 : (lba count : ℕ) → List Field
+extent_16 lba count = field (bytes 2 9) lba ∷ field (bytes 10 13) count ∷ []
 
-abbrev synchronize_bits : List Part
-synchronize_bits = flag 1 0x04 ∷ flag 1 0x02 ∷ group_number 6 ∷ []
+-- ALLOCATION LENGTH of READ CAPACITY(16).
+abbrev allocation_16 : ℕ → List Field
+allocation_16 allocation_length = field (bytes 10 13) allocation_length ∷ []
 
--- The fields of READ and WRITE: the logical block address and the transfer length. Six bytes have 21 bits of address.
-abbrev extent_6 : List Part
-extent_6 = low_bits 1 0x1F ∷ number 2 2 ∷ number 4 1 ∷ []
+-- The disk has no cache and groups no blocks. So of READ and WRITE it ignores DPO, FUA, the
+-- obsolete bit 1 and the GROUP NUMBER, and of SYNCHRONIZE CACHE the obsolete bit 2, IMMED and the
+-- GROUP NUMBER.
+abbrev cache_bits : (group_byte : ℕ) → List Place
+cache_bits group_byte = bit 1 4 ∷ bit 1 3 ∷ bit 1 1 ∷ bits group_byte 4 0 ∷ []
 
-abbrev extent_10 : List Part
-extent_10 = number 2 4 ∷ number 7 2 ∷ []
+abbrev immed_bits : List Place
+immed_bits = bit 1 2 ∷ bit 1 1 ∷ bits 6 4 0 ∷ []
 
-abbrev extent_16 : List Part
-extent_16 = number 2 8 ∷ number 10 4 ∷ []
+-- One row for each command: operation code, service action, class, unit attention, fields, ignored
+-- places, and the command itself. The commands of SPC-4, 6, and then those of SBC-3, 5 (READ(6) and
+-- WRITE(6) of SBC-2).
+abbrev pub layout : Command → Layout
+layout TestUnitReady = row 0x00 none Always blocked [] [] TestUnitReady
+layout (RequestSense desc n) = row 0x03 none Always unblocked (request_sense desc n) [] RequestSense
+layout (Inquiry evpd page n) = row 0x12 none Always unblocked (inquiry evpd page n) [] Inquiry
+layout (Read6 extent) = row 0x08 none Reads blocked (extent_6 extent) [] Read6
+layout (Read10 lba n) = row 0x28 none Reads blocked (extent_10 lba n) (cache_bits 6) Read10
+layout (Read16 lba n) = row 0x88 none Reads blocked (extent_16 lba n) (cache_bits 14) Read16
+layout (Write6 extent) = row 0x0A none Writes blocked (extent_6 extent) [] Write6
+layout (Write10 lba n) = row 0x2A none Writes blocked (extent_10 lba n) (cache_bits 6) Write10
+layout (Write16 lba n) = row 0x8A none Writes blocked (extent_16 lba n) (cache_bits 14) Write16
+layout ReadCapacity10 = row 0x25 none Always blocked [] [] ReadCapacity10
+layout (ReadCapacity16 n) = row 0x9E (named 0x10) Always blocked (allocation_16 n) [] ReadCapacity16
+layout (SynchronizeCache10 lba n) =
+    row 0x35 none Writes blocked (extent_10 lba n) immed_bits SynchronizeCache10
 
--- How many blocks a transfer length of six bytes means.
-abbrev pub blocks_of : ℕ → ℕ
-blocks_of transfer_length = if transfer_length == 0 then 256 else transfer_length
-
-abbrev of_short : (ℕ × ℕ → Command) → List ℕ → Command
-of_short command = of_three (λ high rest transfer_length. command (high * 65536 + rest, blocks_of transfer_length))
-
--- An address of 21 bits and 1 to 256 blocks.
-abbrev pub checked_extent : (lba count : ℕ) → Option (ℕ × ℕ)
-checked_extent lba count = if nat_lt lba (2 ^ 21) && (nat_le 1 count && nat_le count 256) then Some (lba, count) else None
-
--- Every command, with its operation code, service actions, reservation class, fields and ignored parts.
-abbrev pub table : List Row
-table =
-    row 0x00 None Always [] [] (fixed TestUnitReady)
-    ∷ row 0x03 None Always (flag 1 0x01 ∷ number 4 1 ∷ []) [] (of_two (λ desc allocation_length. RequestSense (desc == 1) allocation_length))
-    ∷ row 0x08 None Reads extent_6 [] (of_short Read6)
-    ∷ row 0x0A None Writes extent_6 [] (of_short Write6)
-    ∷ row 0x12 None Always (flag 1 0x01 ∷ number 2 1 ∷ number 3 2 ∷ []) [] (of_three (λ evpd page_code allocation_length. Inquiry (evpd == 1) page_code allocation_length))
-    ∷ row 0x25 None Always [] [] (fixed ReadCapacity10)
-    ∷ row 0x28 None Reads extent_10 (cache_bits 6) (of_two Read10)
-    ∷ row 0x2A None Writes extent_10 (cache_bits 6) (of_two Write10)
-    ∷ row 0x35 None Writes extent_10 synchronize_bits (of_two SynchronizeCache10)
-    ∷ row 0x88 None Reads extent_16 (cache_bits 14) (of_two Read16)
-    ∷ row 0x8A None Writes extent_16 (cache_bits 14) (of_two Write16)
-    ∷ row 0x9E (Some (0x10, 0x10)) Always (service_action ∷ number 10 4 ∷ []) [] (after_action ReadCapacity16)
+-- Each command once. Only the places of its fields matter here, not their values.
+abbrev pub each_command : List Command
+each_command =
+    TestUnitReady
+    ∷ RequestSense false 0
+    ∷ Inquiry false 0 0
+    ∷ Read6 (0, 1)
+    ∷ Read10 0 0
+    ∷ Read16 0 0
+    ∷ Write6 (0, 1)
+    ∷ Write10 0 0
+    ∷ Write16 0 0
+    ∷ ReadCapacity10
+    ∷ ReadCapacity16 0
+    ∷ SynchronizeCache10 0 0
     ∷ []
 
--- A block's length follows from the group code, the top three bits of the operation code (SPC-4, 4.2.5.1), of the groups
--- that the table has.
+abbrev pub table : List Layout
+table = map layout each_command
+
+-- The rows of an operation code.
+abbrev pub rows_of : ℕ → List Layout
+rows_of opcode = filter (λ l. l.opcode == opcode) table
+
+-- The length of a CDB follows from the group code, the top three bits of the operation code (SPC-4,
+-- 4.2.5.1): here for the groups that the table has.
 abbrev pub length_of : ℕ → ℕ
 length_of opcode =
     let group = opcode / 32 in
     if group == 0 then 6 else (if group == 4 then 16 else (if group == 5 then 12 else 10))
 
--- ---- Reading
+-- In six bytes a TRANSFER LENGTH of 0 means 256 blocks (SBC-2, READ(6)).
+abbrev pub blocks_of : ℕ → ℕ
+blocks_of transfer_length = if transfer_length == 0 then 256 else transfer_length
 
--- Whether a bit of the mask stands in a byte.
+-- An address of 21 bits and 1 to 256 blocks.
+abbrev pub checked_extent : (lba count : ℕ) → Option (ℕ × ℕ)
+checked_extent lba count =
+    if nat_lt lba (2 ^ 21) && (nat_le 1 count && nat_le count 256) then Some (lba, count) else None
+
+-- ---- Decoding
+
+-- Whether a bit of the mask is set in a byte.
 abbrev pub has_bit : ℕ → ℕ → Bool
 has_bit byte mask = not (bit_and byte mask == 0)
 
--- The value of a part; a flag that stands is 1.
-abbrev pub value : List ℕ → Part → ℕ
-value bytes (flag byte mask) = if has_bit (slice_index bytes byte) mask then 1 else 0
-value bytes (low_bits byte mask) = bit_and (slice_index bytes byte) mask
-value bytes (number first count) = big_number count (drop first bytes)
+-- The number in some bytes. One byte is its own number.
+abbrev pub number_at : List ℕ → (first last : ℕ) → ℕ
+number_at cdb first last =
+    if first == last then slice_index cdb first else big_number (last + 1 - first) (drop first cdb)
 
--- The bits that a part has in a byte.
-abbrev pub mask_in : ℕ → Part → ℕ
-mask_in k (flag byte mask) = if k == byte then mask else 0
-mask_in k (low_bits byte mask) = if k == byte then mask else 0
-mask_in k (number first count) = if nat_le first k && nat_lt k (first + count) then 0xFF else 0
+-- A byte shifted right.
+abbrev pub shifted_right : (byte count : ℕ) → ℕ
+shifted_right byte count = if count == 0 then byte else byte / 2 ^ count
 
--- The bits that parts have in a byte; the operation code has the whole of byte 0.
-abbrev pub mask_of : List Part → ℕ → ℕ
-mask_of parts k = if k == 0 then 0xFF else fold bit_or 0 (map (mask_in k) parts)
+-- The value at a place.
+abbrev pub value_at : List ℕ → (place : Place) → Value place
+value_at cdb (bit byte index) = has_bit (slice_index cdb byte) (2 ^ index)
+value_at cdb (bits byte high low) =
+    bit_and (shifted_right (slice_index cdb byte) low) (2 ^ (high + 1 - low) - 1)
+value_at cdb (bytes first last) = number_at cdb first last
+value_at cdb short_extent =
+    (bit_and (slice_index cdb 1) 0x1F * 65536 + number_at cdb 2 3, blocks_of (slice_index cdb 4))
 
--- The bits that a command allows in each byte.
-abbrev pub masks : Row → List ℕ
-masks r = map (mask_of (r.fields ++ r.ignored)) (range_with_len 0 (length_of r.opcode))
+-- The command whose fields have the values at their places.
+abbrev pub make_from : List ℕ → (fields : List Field) → Maker fields → Command
+make_from cdb [] command = command
+make_from cdb (field ∷ fields) make = make_from cdb fields (make (value_at cdb field.place))
+
+-- The bits of a place in byte k.
+abbrev pub mask_in : ℕ → Place → ℕ
+mask_in k (bit byte index) = if k == byte then 2 ^ index else 0
+mask_in k (bits byte high low) = if k == byte then 2 ^ (high + 1) - 2 ^ low else 0
+mask_in k (bytes first last) = if nat_le first k && nat_le k last then 0xFF else 0
+mask_in k short_extent = slice_index (0 ∷ 0x1F ∷ 0xFF ∷ 0xFF ∷ 0xFF ∷ 0 ∷ []) k
+
+abbrev pub action_mask : ℕ → ServiceAction → ℕ
+action_mask k none = 0
+action_mask k (named action) = mask_in k (bits 1 4 0)
+action_mask k (among low high) = mask_in k (bits 1 4 0)
+
+-- The bits of byte k that may be set. All of byte 0, the operation code.
+abbrev pub mask_of : Layout → ℕ → ℕ
+mask_of l k =
+    if k == 0 then 0xFF
+    else
+    let places = map (λ (f : Field). f.place) l.fields ++ l.ignored in
+    fold bit_or (action_mask k l.action) (map (mask_in k) places)
+
+-- The bits that may be set, byte by byte.
+abbrev pub masks : Layout → List ℕ
+masks l = map (mask_of l) (range_with_len 0 (length_of l.opcode))
 
 -- The first byte, counted from k, that has a bit outside its mask.
 abbrev pub first_bad : ℕ → List ℕ → List ℕ → Option ℕ
-first_bad k [] bytes = None
+first_bad k [] cdb = None
 first_bad k (mask ∷ masks) [] = None
-first_bad k (mask ∷ masks) (byte ∷ bytes) = if bit_and byte mask == byte then first_bad (k + 1) masks bytes else Some k
+first_bad k (mask ∷ masks) (byte ∷ cdb) =
+    if bit_and byte mask == byte then first_bad (k + 1) masks cdb else Some k
 
--- A value, unless a byte is bad.
+-- A value, or the bad byte.
 abbrev pub unless_bad : {A : Type 0} → Option ℕ → A → Result A CdbFault
 unless_bad None value = Ok value
-unless_bad (Some byte) value = Err (Field byte)
+unless_bad (Some byte) value = Err (BadField byte)
 
--- A block is as long as its masks and has no bit outside them.
+-- A CDB is as long as its masks and has no bit outside them.
 unfoldable pub fits_masks : List ℕ → List ℕ → Result Unit CdbFault
-fits_masks masks bytes = if nat_lt (length bytes) (length masks) then Err (Short (length bytes)) else unless_bad (first_bad 0 masks bytes) tt
+fits_masks masks cdb =
+    if nat_lt (length cdb) (length masks)
+    then Err (Short (length cdb))
+    else unless_bad (first_bad 0 masks cdb) tt
 
--- The rows of an operation code.
-abbrev pub rows_of : ℕ → List Row
-rows_of opcode = filter (λ r. r.opcode == opcode) table
+abbrev pub is_action : ServiceAction → ℕ → Bool
+is_action none action = true
+is_action (named only) action = action == only
+is_action (among low high) action = nat_le low action && nat_le action high
 
--- The service action of a block is one of the row's.
-abbrev pub lies_in : Option (ℕ × ℕ) → ℕ → Bool
-lies_in None action = true
-lies_in (Some (low, high)) action = nat_le low action && nat_le action high
+-- The CDB has the service action of the row.
+abbrev pub has_action_of : List ℕ → Layout → Bool
+has_action_of cdb l = is_action l.action (bit_and (slice_index cdb 1) 0x1F)
 
-abbrev pub names : List ℕ → Row → Bool
-names bytes r = lies_in r.actions (bit_and (slice_index bytes 1) 0x1F)
+-- The command by its row. A service action that no row has is a fault of byte 1.
+abbrev pub command_by_row : List ℕ → Option Layout → Result Command CdbFault
+command_by_row cdb None = Err (BadField 1)
+command_by_row cdb (Some l) = unless_bad (first_bad 0 (masks l) cdb) (make_from cdb l.fields l.make)
 
--- The command of the row that names it. An action that no row has is a fault of byte 1.
-abbrev pub read_row : List ℕ → Option Row → Result Command CdbFault
-read_row bytes None = Err (Field 1)
-read_row bytes (Some r) = unless_bad (first_bad 0 (masks r) bytes) (r.command (map (value bytes) r.fields))
+-- The command by the rows of its operation code.
+abbrev pub command_by_rows : List ℕ → List Layout → Result Command CdbFault
+command_by_rows cdb [] = Err Opcode
+command_by_rows cdb (l ∷ ls) =
+    if nat_lt (length cdb) (length_of l.opcode) then Err (Short (length cdb))
+    else command_by_row cdb (find (has_action_of cdb) (l ∷ ls))
 
-abbrev pub read_rows : List ℕ → List Row → Result Command CdbFault
-read_rows bytes [] = Err Opcode
-read_rows bytes (r ∷ rs) =
-    if nat_lt (length bytes) (length_of r.opcode) then Err (Short (length bytes)) else read_row bytes (find (names bytes) (r ∷ rs))
+unfoldable pub command_with : (opcode : ℕ) → List ℕ → Result Command CdbFault
+command_with opcode cdb = command_by_rows cdb (rows_of opcode)
 
--- A block read as a command of an operation code.
-unfoldable pub read_as : ℕ → List ℕ → Result Command CdbFault
-read_as opcode bytes = read_rows bytes (rows_of opcode)
+-- The command of a CDB, or its first fault. Bytes past the command's length do not matter.
+unfoldable pub command_of : List ℕ → Result Command CdbFault
+command_of [] = Err Empty
+command_of (opcode ∷ rest) = command_with opcode (opcode ∷ rest)
 
--- The command of a block, or its first fault.
-unfoldable pub read : List ℕ → Result Command CdbFault
-read [] = Err Empty
-read (opcode ∷ rest) = read_as opcode (opcode ∷ rest)
+-- ---- What the operation code and the service action decide
 
--- ---- Reservation classes
+-- With a service action that no row has, Always.
+abbrev pub class_by_rows : List ℕ → List Layout → Option Class
+class_by_rows cdb [] = None
+class_by_rows cdb (l ∷ ls) =
+    Some (option_map_or (λ (l : Layout). l.class) (find (has_action_of cdb) (l ∷ ls)) Always)
 
--- The class of the row that names the command. An action that no row has is allowed always.
-abbrev pub class_in : List ℕ → List Row → Option Class
-class_in bytes [] = None
-class_in bytes (r ∷ rs) = Some (option_map_or (λ (r : Row). r.class) (find (names bytes) (r ∷ rs)) Always)
-
+-- The reservation class; None for no byte and for an unknown operation code.
 unfoldable pub class_of : List ℕ → Option Class
 class_of [] = None
-class_of (opcode ∷ rest) = class_in (opcode ∷ rest) (rows_of opcode)
+class_of (opcode ∷ rest) = class_by_rows (opcode ∷ rest) (rows_of opcode)
 
--- ---- Writing
+-- Whether a pending unit attention is reported in place of the command: also for no byte and for an
+-- unknown operation code.
+unfoldable pub is_blocked_by_attention : List ℕ → Bool
+is_blocked_by_attention [] = true
+is_blocked_by_attention (opcode ∷ rest) =
+    list_all (λ (l : Layout). l.blocked_by_attention) (rows_of opcode)
 
--- No bit stands outside the row's fields.
-abbrev pub is_bare_in : List ℕ → Option Row → Bool
-is_bare_in bytes None = false
-is_bare_in bytes (Some r) = is_none (first_bad 0 (map (mask_of r.fields) (range_with_len 0 (length_of r.opcode))) bytes)
+-- ---- Encoding
 
--- A block of just its command's length, with no bit outside the fields: ignored bits and CONTROL are zero.
-unfoldable pub is_bare : List ℕ → Bool
-is_bare bytes =
-    let opcode = slice_index bytes 0 in
-    length bytes == length_of opcode && is_bare_in bytes (find (names bytes) (rows_of opcode))
+-- What a place puts into byte k, where it has bits there.
+abbrev pub part_in : ℕ → (place : Place) → Value place → List ℕ
+part_in k (bit byte index) value = if k == byte then (if value then 2 ^ index else 0) ∷ [] else []
+part_in k (bits byte high low) value =
+    if k == byte then (if low == 0 then value else value * 2 ^ low) ∷ [] else []
+part_in k (bytes first last) value =
+    if nat_le first k && nat_le k last
+    then
+    (if first == last then value
+    else slice_index (big_bytes (last + 1 - first) value) (k - first)) ∷ []
+    else []
+part_in k short_extent value =
+    let parts = (value.0 / 65536 ∷ []) ++ big_bytes 2 (value.0 % 65536) ++ (value.1 % 256 ∷ []) in
+    if nat_le 1 k && nat_le k 4 then slice_index parts (k - 1) ∷ [] else []
 
--- The block of a command: it is read as the command, and says nothing else.
-pub record Encodes (c : Command) (bytes : List ℕ) : Type 0 where
-  pub reads_back : read bytes ≡ Ok c
-  pub bare : is_bare bytes ≡ true
+-- A service action that is a value of the command is one of its fields.
+abbrev pub action_part : ℕ → ServiceAction → List ℕ
+action_part k none = []
+action_part k (named action) = part_in k (bits 1 4 0) action
+action_part k (among low high) = []
+
+-- The parts of a byte together; a byte without one is zero.
+abbrev pub joined : List ℕ → ℕ
+joined [] = 0
+joined (part ∷ []) = part
+joined (part ∷ more ∷ rest) = part + joined (more ∷ rest)
+
+abbrev pub byte_of : Layout → ℕ → ℕ
+byte_of l k =
+    if k == 0 then l.opcode
+    else
+    joined (action_part k l.action ++ flat_map (λ (f : Field). part_in k f.place f.value) l.fields)
+
+-- The CDB of a command: its operation code, service action and fields, and zero in all other bits.
+unfoldable pub cdb_of : Command → List ℕ
+cdb_of command =
+    let l = layout command in
+    map (byte_of l) (range_with_len 0 (length_of l.opcode))

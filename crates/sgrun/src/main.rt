@@ -2,80 +2,41 @@
 //! their replies. Its exit status is the first line's that is not 0.
 #![tactic(auto)]
 
+mod stop;
+
+ghost use Rattle.std.specs.Prelude.{◌≡◌};
+ghost use Rattle.sgrun.specs.Arguments.{checked_words};
+ghost use Rattle.sgrun.specs.DefaultDisk.{default_disk};
+
 use sg_blocks::PlainMap;
 use sg_pages::Identity;
-use sg_run::{RunFault, Session, run_script};
+use sg_run::{Session, run_script};
 use sg_target::{Config, Target};
 use sg_wire::Watched;
-use std::alloc::AllocError;
+use std::env;
+use std::io::ErrorKind;
 use std::process::ExitCode;
 use std::rt::Runtime;
-use std::{env, io};
+use stop::{Stop, exit_status};
 
-/// The disk's logical blocks, and how many of them can be mapped at once.
-const BLOCKS: u64 = 4_096;
+// The disk's logical blocks, and how many of them can be mapped at once.
+const DEFAULT_BLOCKS: u64 = 4_096;
 
-const POOL: u32 = 4;
-
-/// Why there is no script's status.
-#[derive(Clone, Copy, Debug, PartialEq, Eq)]
-enum Stop {
-    Usage,
-    Read,
-    Write,
-    OutOfMemory,
-}
-
-impl Stop {
-    fn words(self) -> &'static str {
-        match self {
-            Stop::Usage => "usage",
-            Stop::Read => "read fault",
-            Stop::Write => "write fault",
-            Stop::OutOfMemory => "out of memory",
-        }
-    }
-
-    fn status(self) -> u8 {
-        match self {
-            Stop::Usage => 1,
-            Stop::Read | Stop::Write => 15,
-            Stop::OutOfMemory => 99,
-        }
-    }
-}
-
-impl From<AllocError> for Stop {
-    fn from(_error: AllocError) -> Stop {
-        Stop::OutOfMemory
-    }
-}
-
-impl From<RunFault> for Stop {
-    fn from(fault: RunFault) -> Stop {
-        match fault {
-            RunFault::Read => Stop::Read,
-            RunFault::Write => Stop::Write,
-        }
-    }
-}
+const DEFAULT_POOL: u32 = 4;
 
 fn main(rt: HostRuntime) -> ExitCode {
-    match run(&rt) {
-        Ok(status) => ExitCode::from(status),
-        Err(stop) => {
-            let words = stop.words();
-            let _ = eprintln!(rt; "sgrun: {words}");
-            ExitCode::from(stop.status())
-        }
+    let outcome = run(&rt);
+    if let Err(stop) = outcome {
+        let message = stop.message();
+        let _ = eprintln!(rt; "sgrun: {message}");
     }
+    ExitCode::from(exit_status(outcome))
 }
 
-/// Runs the script on standard input.
+// Runs the script on standard input.
 fn run(rt: &HostRuntime) -> Result<u8, Stop> {
-    take_no_argument(rt)?;
-    let config = Config::new(BLOCKS, POOL, Identity::standard()).unwrap();
-    let mut target: Target<PlainMap> = Target::new(rt.alloc(), config)?;
+    check_words(count_words(rt))?;
+    let mut target: Target<PlainMap> = Target::new(rt.alloc(), default_disk())?;
     let mut session = Session::new(rt.alloc())?;
     let mut reader = Watched::new(rt.stdin());
     let mut writer = Watched::new(rt.stdout());
@@ -89,42 +50,27 @@ fn run(rt: &HostRuntime) -> Result<u8, Stop> {
     Ok(status)
 }
 
-/// Refuses every argument after the program's name.
-fn take_no_argument(rt: &HostRuntime) -> Result<(), Stop> {
+fn default_disk() -> Config
+    ensures { result ≡ default_disk }
+{
+    Config::new(DEFAULT_BLOCKS, DEFAULT_POOL, Identity::standard()).unwrap()
+}
+
+// How many words the command line has, the program's name included.
+fn count_words(rt: &HostRuntime) -> Result<usize, ErrorKind> {
     match env::args(rt) {
-        Ok(args) => check_count(args.len()),
-        Err(error) if error.kind() == io::ErrorKind::OutOfMemory => Err(Stop::OutOfMemory),
-        Err(_) => Err(Stop::Usage),
+        Ok(args) => Ok(args.len()),
+        Err(error) => Err(error.kind()),
     }
 }
 
-/// Refuses more words on the command line than the program's name.
-fn check_count(words: usize) -> Result<(), Stop> {
-    if words <= 1 { Ok(()) } else { Err(Stop::Usage) }
-}
-
-#[cfg(test)]
-mod tests {
-    use super::*;
-
-    #[test]
-    fn an_argument_is_refused(rt: HostRuntime) {
-        for words in 0..5 {
-            let refused = check_count(words).err();
-            assert_eq!(rt; refused, if words <= 1 { None } else { Some(Stop::Usage) });
-        }
-    }
-
-    #[test]
-    fn each_stop_has_its_words_and_status(rt: HostRuntime) {
-        for (stop, words, status) in [
-            (Stop::Usage, "usage", 1),
-            (Stop::Read, "read fault", 15),
-            (Stop::Write, "write fault", 15),
-            (Stop::OutOfMemory, "out of memory", 99),
-        ] {
-            assert_eq!(rt; stop.words(), words);
-            assert_eq!(rt; stop.status(), status);
-        }
+// Refuses every word after the program's name.
+fn check_words(words: Result<usize, ErrorKind>) -> Result<(), Stop>
+    ensures { result ≡ checked_words words }
+{
+    match words {
+        Ok(0..=1) => Ok(()),
+        Err(ErrorKind::OutOfMemory) => Err(Stop::OutOfMemory),
+        Ok(_) | Err(_) => Err(Stop::Usage),
     }
 }

@@ -1,18 +1,18 @@
-use Rattle.std.proofs.Common.{ap, subst, ◌∙◌}
-use Rattle.sg_wire.specs.Printing.{Prints}
-use Rattle.sg_wire.specs.Printer.{printing}
-use Rattle.sg_target.specs.Step.{Step, received_step}
-use Rattle.sg_run.specs.Outcome.{answered, write_16}
-use Rattle.sg_run.proofs.FillLemmas.{filled-step}
+use Rattle.std.proofs.Common.{◌≡◌, ℕ, List, ap, subst, ◌∙◌}
+use Rattle.sg_wire.specs.Layout.{cdb_of}
+use Rattle.sg_target.specs.State.{State}
+use Rattle.sg_target.specs.Step.{Step, step}
+use Rattle.sg_run.specs.Outcome.{reply_outcome}
+use Rattle.sg_run.specs.Printed.{HasOutcome}
 use Rattle.sg_run.proofs.execute.fill_blocks.Goals as goal
+
+-- equal bytes do the same
+same-step : (state : State) (i : ℕ) {cdb cdb' data_out data_out' : List ℕ} → cdb ≡ cdb' → data_out ≡ data_out' → step state i cdb data_out ≡ step state i cdb' data_out'
+same-step state i e f j = step state i (e j) (f j)
 
 pub returns : goal.returns
 returns g c =
-    let b = c.args.blocks.now in
-    let reads = rw c.command.ensures at c.write-cdb.ensures.reads_back in
-    let same = filled-step c.args.target.now.state b.initiator b.lba b.count _ _ (rw (← c.as_slice.ensures) at reads) ∙ ap (received_step c.args.target.now.state b.initiator (write_16 b.lba b.count)) c.fill_front.ensures in
-    record {
-      text = subst (λ (s : Step). Prints (printing g.W.Write.contents c.args.out.now) (printing g.W.Write.contents c.send.new.out) (answered c.args.number s).text) same c.send.ensures.text;
-      state = c.send.ensures.state ∙ ap (λ (s : Step). s.state) same;
-      status = c.send.ensures.status ∙ ap (λ (s : Step). (answered c.args.number s).status) same;
-    }
+    let cdb = c.as_slice.ensures ∙ (c.write-cdb.ensures.cdb ∙ ap cdb_of c.command.ensures) in
+    let same = same-step c.args.target.now.state c.args.blocks.now.initiator cdb c.fill_prefix.ensures in
+    let Sent : Step → Type 0 = λ s. HasOutcome g.W.Write.contents c.args.out.now c.send.new.out c.send.new.target.state c.send.result (reply_outcome c.args.number s) in
+    subst Sent same c.send.ensures

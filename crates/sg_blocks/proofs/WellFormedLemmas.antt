@@ -1,0 +1,42 @@
+-- Mapped addresses are the disk's, and blocks have their length.
+use Rattle.std.proofs.Common.{◌≡◌, ◌<◌, ◌≤◌, ℕ, zero, suc, ◌+◌, ◌*◌, List, length, drop, cond, Some, None, refl, sym, ap, ◌∙◌, arith, length-take, length-drop}
+use Rattle.std.specs.Ordering.{nat_cmp, eq_by_cmp, is_eq}
+use Rattle.std.specs.Cmp.{nat_cmp_total}
+use Rattle.std.specs.FinMap as map
+use Rattle.std.specs.FinMap.{nat_cmp-IsAntisymmetric}
+use Rattle.std.specs.declared.cmp.Ordering.TheVariants.{Less, Equal, Greater}
+use Rattle.sg_blocks.specs.Disk.{Contents, IsWellFormed, block_at, written}
+use Rattle.sg_blocks.proofs.DiskLemmas.{written-none, written-more}
+
+none-some : (mapped : List ℕ) → None ≡ Some mapped → ⊥
+none-some mapped e = cc
+
+pub well_formed-empty : (capacity : ℕ) → IsWellFormed capacity map.empty
+well_formed-empty capacity = record { each = λ lba mapped e. absurd (none-some mapped (sym (map.get-empty nat_cmp lba) ∙ e)) }
+
+some-same : (a b : List ℕ) → Some a ≡ Some b → a ≡ b
+some-same a b e = cc
+
+-- one block more
+one-more : (capacity : ℕ) (m : Contents) (a : ℕ) (block : List ℕ) → IsWellFormed capacity m → a < capacity → length block ≡ 512 →
+    (q : ℕ) (mapped : List ℕ) → cond (eq_by_cmp nat_cmp q a) (Some block) (map.get m q) ≡ Some mapped → (q < capacity) × (length mapped ≡ 512)
+one-more capacity m a block whole below len q mapped = elim (nat_cmp q a) as (λ r. nat_cmp q a ≡ r → cond (is_eq r) (Some block) (map.get m q) ≡ Some mapped → (q < capacity) × (length mapped ≡ 512)) [
+  | Less ↦ λ _ e. whole.each q mapped e
+  | Equal ↦ λ c e. let same = nat_cmp-IsAntisymmetric q a c in let one = some-same block mapped e in (omega (arith, same), sym (ap length one) ∙ len)
+  | Greater ↦ λ _ e. whole.each q mapped e
+] refl
+
+well_formed-insert : (capacity : ℕ) (m : Contents) (a : ℕ) (block : List ℕ) → IsWellFormed capacity m → a < capacity → length block ≡ 512 → IsWellFormed capacity (map.insert m a block)
+well_formed-insert capacity m a block whole below len = record {
+  each = λ q mapped e. one-more capacity m a block whole below len q mapped (sym (map.get-insert nat_cmp_total m a block q) ∙ e);
+}
+
+block-length : (bytes : List ℕ) (k : ℕ) → 512 * (k + 1) ≤ length bytes → length (block_at bytes k) ≡ 512
+block-length bytes k h = omega (arith, length-take 512 (drop (512 * k) bytes), length-drop (512 * k) bytes)
+
+pub well_formed-written : (capacity : ℕ) (m : Contents) (a k : ℕ) (bytes : List ℕ) → IsWellFormed capacity m → a + k ≤ capacity → 512 * k ≤ length bytes → IsWellFormed capacity (written m a k bytes)
+well_formed-written capacity m a zero bytes whole range len = rw (written-none m a bytes) whole
+well_formed-written capacity m a (suc k) bytes whole range len =
+    let e : suc k ≡ k + 1 = omega arith in
+    rw (e, written-more m a k bytes) (well_formed-insert capacity (written m a k bytes) (a + k) (block_at bytes k)
+    (well_formed-written capacity m a k bytes whole (omega arith) (omega arith)) (omega arith) (block-length bytes k (omega arith)))

@@ -1,0 +1,64 @@
+-- What a write does at each address.
+use Rattle.std.proofs.Common.{◌≡◌, ◌≢◌, ℕ, ◌+◌, ◌-◌, zero, suc, List, refl, ap, ◌∙◌, arith, cond, Bool, true, false, Option, Some, is_some, inl, inr}
+use Rattle.std.proofs.lemmas.Bool.{cases_lt}
+use Rattle.std.proofs.lemmas.Bool.Decides.{nat_tests}
+use Rattle.std.specs.Prelude.{◌||◌, unwrap_or}
+use Rattle.std.specs.Ordering.{nat_cmp, eq_by_cmp}
+use Rattle.std.specs.Cmp.{nat_cmp_total}
+use Rattle.std.specs.FinMap as map
+use Rattle.sg_blocks.specs.Disk.{Contents, block_at, written, zero_block}
+use Rattle.sg_blocks.specs.Laws.{lies_in, WritesEachBlock, MapsEachAddress}
+use Rattle.sg_blocks.proofs.DiskLemmas.{written-none, written-more, eq_other}
+use Rattle.sg_blocks.proofs.RecordLemmas.{eq_same}
+
+lies_in-none : (a q : ℕ) → lies_in a 0 q ≡ false
+lies_in-none a q = grind (arith, nat_tests)
+
+lies_in-last : (a k q : ℕ) → q ≡ a + k → lies_in a (k + 1) q ≡ true
+lies_in-last a k q e = grind (arith, nat_tests)
+
+lies_in-other : (a k q : ℕ) → q ≢ a + k → lies_in a (k + 1) q ≡ lies_in a k q
+lies_in-other a k q e = grind (arith, nat_tests)
+
+-- the block that is found at an address, if it lies in the range or else was there
+abbrev found : (a k : ℕ) → List ℕ → (q : ℕ) → Option (List ℕ) → Option (List ℕ)
+found a k bytes q before = cond (lies_in a k q) (Some (block_at bytes (q - a))) before
+
+one-more : (a k : ℕ) (bytes : List ℕ) (q : ℕ) (before : Option (List ℕ)) →
+    cond (eq_by_cmp nat_cmp q (a + k)) (Some (block_at bytes k)) (found a k bytes q before) ≡ found a (k + 1) bytes q before
+one-more a k bytes q before =
+    let other : q ≢ a + k → cond (eq_by_cmp nat_cmp q (a + k)) (Some (block_at bytes k)) (found a k bytes q before) ≡ found a (k + 1) bytes q before
+    = λ ne. rw (eq_other q (a + k) ne, lies_in-other a k q ne) refl in
+    elim (cases_lt q (a + k)) [
+      | inl below ↦ other (λ e. absurd (omega arith))
+      | inr at ↦ elim (cases_lt (a + k) q) [
+        | inl past ↦ other (λ e. absurd (omega arith))
+        | inr here ↦
+            let e : q ≡ a + k = omega arith in
+            let index : q - a ≡ k = omega arith in
+            rw (eq_same q (a + k) e, lies_in-last a k q e, index) refl
+      ]
+    ]
+
+pub get-written : (m : Contents) (a k : ℕ) (bytes : List ℕ) (q : ℕ) → map.get (written m a k bytes) q ≡ found a k bytes q (map.get m q)
+get-written m a zero bytes q = rw (written-none m a bytes, lies_in-none a q) refl
+get-written m a (suc k) bytes q = let e : suc k ≡ k + 1 = omega arith in
+    rw (e, written-more m a k bytes) (
+    map.get-insert nat_cmp_total (written m a k bytes) (a + k) (block_at bytes k) q
+    ∙ ap (cond (eq_by_cmp nat_cmp q (a + k)) (Some (block_at bytes k))) (get-written m a k bytes q)
+    ∙ one-more a k bytes q (map.get m q))
+
+block-found : (b : Bool) (x y : Option (List ℕ)) (z : List ℕ) → x ≡ Some z → unwrap_or (cond b x y) zero_block ≡ cond b z (unwrap_or y zero_block)
+block-found true x y z e = ap (λ o. unwrap_or o zero_block) e
+block-found false x y z e = refl
+
+is-found : (b : Bool) (x : List ℕ) (y : Option (List ℕ)) → is_some (cond b (Some x) y) ≡ (b || is_some y)
+is-found true x y = refl
+is-found false x y = refl
+
+pub block-written : WritesEachBlock
+block-written m a k bytes q =
+    ap (λ o. unwrap_or o zero_block) (get-written m a k bytes q) ∙ block-found (lies_in a k q) (Some (block_at bytes (q - a))) (map.get m q) (block_at bytes (q - a)) refl
+
+pub contains-written : MapsEachAddress
+contains-written m a k bytes q = ap is_some (get-written m a k bytes q) ∙ is-found (lies_in a k q) (block_at bytes (q - a)) (map.get m q)

@@ -1,0 +1,36 @@
+// Numbers that only proofs read. They take no bytes, and their functions do nothing at run time.
+ghost use Rattle.std.specs.Prelude.{◌≡◌, ℕ, ◌+◌};
+ghost use Rattle.std.specs.Borrow.{ftrue};
+
+use std::marker::Model;
+
+/// A number without bound, on which no code depends.
+#[derive(Drop)]
+pub struct GhostNumber {
+    pub ghost value: { ℕ },
+}
+
+impl Model for GhostNumber {
+    ghost also_owns = { λ _. ftrue };
+}
+
+impl GhostNumber {
+    pub fn zero() -> GhostNumber
+        ensures { result.value ≡ 0 }
+    {
+        GhostNumber {}
+    }
+
+    pub fn of(number: u64) -> GhostNumber
+        ensures { result.value ≡ number }
+    {
+        let _ = number;
+        GhostNumber {}
+    }
+
+    pub fn incremented(&self) -> GhostNumber
+        ensures { result.value ≡ self.now.value + 1 }
+    {
+        GhostNumber {}
+    }
+}

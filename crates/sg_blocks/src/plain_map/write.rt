@@ -1,0 +1,99 @@
+// The records of a write are drafted, and put into the table all at once.
+ghost use Rattle.std.specs.Prelude.{◌≡◌, ◌+◌, ◌-◌, ◌*◌, ◌<◌, ◌≤◌, length};
+ghost use Rattle.std.specs.FinMap.{insert};
+ghost use Rattle.sg_blocks.specs.Disk.{written, mapped_among};
+ghost use Rattle.sg_blocks.specs.Records.{mapped_at};
+ghost use Rattle.sg_blocks.specs.Slots.{IsConsistent};
+ghost use Rattle.sg_blocks.specs.Table.{visited};
+ghost use Rattle.sg_blocks.specs.PlainMap.Editing.{IsEditing, IsReady, VisitsRange, passed, stored, edited_contents};
+
+use super::cursor::Cursor;
+use super::draft::Draft;
+use crate::pool::Pool;
+use crate::run::Run;
+use crate::store::{BLOCK_LENGTH, MAX_POOL};
+use crate::table::RunTable;
+
+/// Writes the block at the cursor's address, drafts its record, and goes on to the next address. A
+/// block that is mapped is written over, and any other takes a free slot.
+fn put_block(
+    table: &mut RunTable,
+    pool: &mut Pool,
+    draft: &mut Draft,
+    cursor: Cursor,
+    lba: u64,
+    bytes: &[u8],
+) -> Cursor
+    // The edit has come to the address, and there is room for its record and its block.
+    requires editing { IsEditing table.old.records table.old.room pool.old draft.old cursor lba }
+    requires room { length draft.old.records < draft.old.room }
+    requires free { 0 < length pool.old.free
+        + mapped_at (edited_contents table.old pool.old draft.old cursor) lba }
+    requires table_size { length table.old.records ≤ MAX_POOL }
+
+    // The slice is a block long, and the visit can be counted.
+    requires byte_count { length bytes.now ≡ BLOCK_LENGTH }
+    requires headroom { table.old.visits < u64.MAX }
+
+    // The block is written, and the edit comes to the next address.
+    ensures contents { let before = edited_contents table.old pool.old draft.old cursor in
+        edited_contents table.old pool.new draft.new result ≡ insert before lba bytes.now }
+    ensures editing { IsEditing table.old.records table.old.room pool.new draft.new result (lba + 1) }
+    ensures from { draft.new.from ≡ draft.old.from }
+    ensures drafted { length draft.new.records ≡ length draft.old.records + 1 }
+    ensures room { draft.new.room ≡ draft.old.room }
+
+    // The cursor goes past the record of the address, if there is one, and else a slot is taken.
+    // Only the visits on its way are counted.
+    ensures index { result.index
+        ≡ cursor.index + mapped_at (edited_contents table.old pool.old draft.old cursor) lba }
+    ensures free { length pool.new.free + 1 + cursor.index ≡ length pool.old.free + result.index }
+    ensures cost { visited table.new (passed cursor) ≡ visited table.old (passed result) }
+{
+    let Some(run) = cursor.run_at(lba) else {
+        let slot = pool.take();
+        pool.set(slot, bytes);
+        draft.push(Run { start: lba, slot });
+        return cursor;
+    };
+    pool.set(run.slot, bytes);
+    draft.push(run);
+    Cursor::new(table, cursor.index + 1)
+}
+
+/// Writes the blocks from an address on, of which the records begin at an index. There have to be
+/// free slots for those that are not mapped.
+pub fn write_blocks(
+    table: &mut RunTable,
+    pool: &mut Pool,
+    draft: &mut Draft,
+    from: usize,
+    lba: u64,
+    count: u32,
+    bytes: &[u8],
+)
+    requires ready { IsReady table.old pool.old from lba count }
+    requires byte_count { length bytes.now ≡ BLOCK_LENGTH * count }
+    requires free { count ≤ length pool.old.free + mapped_among (stored table.old pool.old) lba count }
+    requires room { (count ≤ draft.old.room) × (draft.old.room ≡ table.old.room) }
+
+    // The blocks are written, and the table changes by its records and its visits alone.
+    ensures contents { stored table.new pool.new ≡ written (stored table.old pool.old) lba count bytes.now }
+    ensures consistent { IsConsistent table.new.records pool.new.blocks pool.new.free table.new.room }
+    ensures table { table.new
+        ≡ record (visited table.old (table.new.total - table.old.total)) { records = table.new.records } }
+    ensures room { draft.new.room ≡ draft.old.room }
+    ensures visits { VisitsRange (stored table.old pool.old) lba count table.old table.new }
+{
+    draft.begin(from);
+    let mut cursor = Cursor::new(table, from);
+    for i in 0..count {
+        let at = BLOCK_LENGTH * (i as usize);
+        let block = &bytes[at..at + BLOCK_LENGTH];
+        cursor = put_block(table, pool, draft, cursor, lba + u64::from(i), block);
+    }
+    // Where each address was mapped, the drafted records are those of the table.
+    if cursor.index - from < count as usize {
+        table.splice(draft.from(), cursor.index, draft.records());
+    }
+}

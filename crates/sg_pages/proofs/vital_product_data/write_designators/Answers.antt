@@ -1,0 +1,30 @@
+use Rattle.std.proofs.Common.{◌≡◌, ◌∙◌, ◌++◌, length, ap, sym, arith, length-append}
+use Rattle.sg_wire.specs.Cut.{answer_of}
+use Rattle.sg_wire.specs.CutAnswer.{put}
+use Rattle.sg_pages.specs.VitalProductData.{locally_assigned}
+use Rattle.sg_pages.proofs.PageLemmas.{put-two, designator-put, length-designators, length-locally_assigned}
+use Rattle.sg_pages.proofs.vital_product_data.write_designators.Goals as goal
+
+pub returns-clause-length : goal.returns-clause-length
+returns-clause-length c =
+    length-designators c.args.identity.now c.write_names.ensures.vendor
+    c.write_names.ensures.product c.write_names.ensures.serial
+
+pub returns-clause-data : goal.returns-clause-data
+returns-clause-data c =
+    let i = c.args.identity.now in
+    let n = c.write_names.ensures in
+    let names : 32 ≡ length (i.vendor ++ (i.product ++ i.serial)) =
+    omega (
+      arith,
+      n.vendor,
+      n.product,
+      n.serial,
+      length-append i.vendor (i.product ++ i.serial),
+      length-append i.product i.serial,
+    ) in
+    let local = c.locally_assigned.ensures ∙ ap locally_assigned c.local.ensures.value in
+    put-two _ _ _ _ _
+    (designator-put _ _ _ _ _ _ _ names c.put.ensures n.names)
+    (designator-put _ _ _ _ _ _ _ (sym (length-locally_assigned i.local)) c.put-2.ensures
+    (c.put-3.ensures ∙ ap (put (answer_of c.put-2.new.self)) local))

@@ -1,0 +1,33 @@
+use Rattle.std.proofs.Common.{◌≡◌, ℕ, List, Option, Some, None, Result, Ok, Err, false, refl}
+use Rattle.sg_wire.specs.declared.command.Command.{Command}
+use Rattle.sg_wire.specs.declared.command.Command.TheVariants.{TestUnitReady, RequestSense, Inquiry, Read6, Read10, Read16, Write6, Write10, Write16, ReadCapacity10, ReadCapacity16, SynchronizeCache10}
+use Rattle.sg_blocks.specs.Disk.{Disk}
+use Rattle.sg_target.specs.Effect.{Effect}
+use Rattle.sg_target.specs.PrimaryCommands.{inquiry_page, returning_if_there}
+use Rattle.sg_target.specs.Semantics.{semantics}
+use Rattle.sg_target.specs.State.{State}
+use Rattle.sg_target.specs.declared.inquiry_page.InquiryPage.{InquiryPage}
+use Rattle.sg_target.specs.declared.refusal.Refusal.{Refusal}
+use Rattle.sg_target.proofs.laws.only_writes_change_blocks.Goals as goal
+
+-- an effect, if there is one, leaves the disk
+abbrev Leaves : Disk → Result Effect Refusal → Type 0
+Leaves disk (Ok effect) = effect.after.disk ≡ disk
+Leaves disk (Err refusal) = Unit {0}
+
+page-leaves : (state : State) (page : Option InquiryPage) (n : ℕ) → Leaves state.disk (returning_if_there state page n)
+page-leaves state None n = tt
+page-leaves state (Some page) n = refl
+
+command-leaves : (state : State) (i : ℕ) (command : Command) (data_out : List ℕ)
+    → (semantics state i command data_out).writes_medium ≡ false → Leaves state.disk (semantics state i command data_out).effect
+command-leaves state i (Inquiry evpd code n) data_out h = page-leaves state (inquiry_page evpd code) n
+command-leaves state i _ data_out h = cc
+
+at-effect : (disk : Disk) (result : Result Effect Refusal) (effect : Effect) → Leaves disk result → result ≡ Ok effect → effect.after.disk ≡ disk
+at-effect disk (Ok done) effect l e = cc
+at-effect disk (Err refusal) effect l e = cc
+
+pub returns : goal.returns
+returns c state i command data_out effect h e =
+    at-effect state.disk (semantics state i command data_out).effect effect (command-leaves state i command data_out h) e

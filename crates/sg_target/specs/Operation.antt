@@ -1,0 +1,106 @@
+-- The words of the code for what is left to do of a command, in those of the definitions.
+use Rattle.std.specs.Prelude.{◌≡◌, ℕ, ◌+◌, ◌≤◌, List, [], ◌∷◌, length, Option, Some, None, Ok}
+use Rattle.sg_wire.specs.CutAnswer.{overwritten}
+use Rattle.sg_wire.specs.SenseData.{sense_data}
+use Rattle.sg_wire.specs.declared.command.Command.{Command}
+use Rattle.sg_wire.specs.declared.sense.Format.{Format}
+use Rattle.sg_blocks.specs.Meter.{no_counts}
+use Rattle.sg_blocks.specs.declared.store.Counts.{Counts}
+use Rattle.sg_pages.specs.Identity.{IdentityFields}
+use Rattle.sg_target.specs.BlockCommands.{bytes_of, read_capacity_10, read_capacity_16, reading, writing}
+use Rattle.sg_target.specs.CapacityData.{capacity_10, capacity_16}
+use Rattle.sg_target.specs.Checks.{checked_effect, first_fault, request_fault, short_data_out, unsupported_value}
+use Rattle.sg_target.specs.Effect.{Effect, no_effect}
+use Rattle.sg_target.specs.PrimaryCommands.{inquiry_data, returning_page, returning_sense}
+use Rattle.sg_target.specs.Refusal.{pending_sense}
+use Rattle.sg_target.specs.Semantics.{maximum_transfer_length, semantics}
+use Rattle.sg_target.specs.State.{State}
+use Rattle.sg_target.specs.Step.{Step, executed_or_refused, refusal_answer}
+use Rattle.sg_target.specs.declared.data_in.DataIn.{DataIn}
+use Rattle.sg_target.specs.declared.data_in.DataIn.TheVariants.{Sense, Inquiry, Capacity10, Capacity16}
+use Rattle.sg_target.specs.declared.extent.Extent.{Extent}
+use Rattle.sg_target.specs.declared.operation.Operation.{Operation}
+use Rattle.sg_target.specs.declared.operation.Operation.TheVariants.{Nothing, RequestSense, ReturnInquiry, ReadCapacity10, ReadCapacity16, Read, Write, Synchronize}
+use Rattle.sg_target.specs.declared.refusal.Refusal.{Refusal}
+use Rattle.sg_target.specs.declared.reply.Reply.{Reply}
+use Rattle.sg_target.specs.declared.reply.Status.TheVariants.{Good}
+
+abbrev pub effect_of : State → (initiator : ℕ) → Operation → (data_out : List ℕ) → Effect
+effect_of state i Nothing data_out = no_effect state
+effect_of state i (RequestSense format n) data_out = returning_sense state i format n
+effect_of state i (ReturnInquiry page n) data_out = returning_page state page n
+effect_of state i ReadCapacity10 data_out = read_capacity_10 state
+effect_of state i (ReadCapacity16 n) data_out = read_capacity_16 state n
+effect_of state i (Read extent) data_out = reading state extent
+effect_of state i (Write extent) data_out = writing state extent data_out
+effect_of state i (Synchronize extent) data_out = no_effect state
+
+-- The extents that have to be on the disk.
+abbrev pub extents_of : Operation → List Extent
+extents_of (Read extent) = extent ∷ []
+extents_of (Write extent) = extent ∷ []
+extents_of (Synchronize extent) = extent ∷ []
+extents_of _ = []
+
+-- At most 256 blocks are moved, and data-out has those that are written.
+abbrev pub IsExecutable : Operation → (data_out : List ℕ) → Type 0
+IsExecutable (Read extent) data_out = extent.count ≤ maximum_transfer_length
+IsExecutable (Write extent) data_out =
+    (extent.count ≤ maximum_transfer_length) × (bytes_of extent ≤ length data_out)
+IsExecutable _ data_out = Unit {0}
+
+abbrev pub AreOnDisk : (capacity : ℕ) → List Extent → Type 0
+AreOnDisk capacity [] = Unit {0}
+AreOnDisk capacity (extent ∷ rest) = (extent.lba + extent.count ≤ capacity) × AreOnDisk capacity rest
+
+-- What is wrong with a WRITE.
+abbrev pub write_fault : Extent → (unsupported : Option ℕ) → (data_out : List ℕ) → Option Refusal
+write_fault extent unsupported data_out =
+    first_fault
+    (unsupported_value unsupported)
+    (short_data_out (Some (bytes_of extent)) data_out)
+    None
+
+-- The request checks have passed a command: what is left to do of it has its effect and its
+-- extents.
+pub record IsRequested (state : State) (initiator : ℕ) (command : Command) (data_out : List ℕ)
+    (operation : Operation) : Type 0 where
+  pub passed : request_fault (semantics state initiator command data_out) data_out ≡ None
+  pub effect : (semantics state initiator command data_out).effect
+      ≡ Ok (effect_of state initiator operation data_out)
+  pub extents : (semantics state initiator command data_out).extents ≡ extents_of operation
+  pub executable : IsExecutable operation data_out
+
+-- All checks but that for space have passed a CDB.
+pub record IsChecked (state : State) (initiator : ℕ) (cdb data_out : List ℕ)
+    (operation : Operation) : Type 0 where
+  pub effect : checked_effect state initiator cdb data_out
+      ≡ Ok (effect_of state initiator operation data_out)
+  pub on_disk : AreOnDisk state.disk.capacity (extents_of operation)
+  pub executable : IsExecutable operation data_out
+
+-- What an operation that has passed them does.
+abbrev pub step_by : State → (initiator : ℕ) → Operation → (data_out : List ℕ) → Step
+step_by state initiator operation data_out =
+    executed_or_refused state initiator (effect_of state initiator operation data_out)
+
+-- The full data-in of a kind, of a disk with an identity and a number of blocks.
+abbrev pub data_of : IdentityFields → (capacity : ℕ) → DataIn → List ℕ
+data_of identity capacity (Sense condition format) = sense_data format (pending_sense condition)
+data_of identity capacity (Inquiry page) = inquiry_data identity page
+data_of identity capacity Capacity10 = capacity_10 capacity
+data_of identity capacity Capacity16 = capacity_16 capacity
+
+-- The reply to a command that was executed.
+abbrev pub executed_reply : (data_in : ℕ) → Counts → Reply
+executed_reply data_in counts = record { status = Good; sense = []; data_in = data_in; counts = counts }
+
+-- The reply to one that was refused.
+abbrev pub refused_reply : Format → Refusal → Counts → Reply
+refused_reply format refusal counts = let answer = refusal_answer format refusal in
+    record { status = answer.status; sense = answer.sense; data_in = 0; counts = counts }
+
+-- A reply returns bytes as its data-in, and the store did nothing for it.
+pub record ReturnsData (data_in : List ℕ) (reply : Reply) (before after : List ℕ) : Type 0 where
+  pub reply_is : reply ≡ executed_reply (length data_in) no_counts
+  pub data_in_is : after ≡ overwritten data_in before

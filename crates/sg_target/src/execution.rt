@@ -1,0 +1,79 @@
+// The work of operations.
+ghost use Rattle.std.specs.Prelude.{◌≡◌, ◌≤◌, ◌+◌, ◌∷◌, [], length};
+ghost use Rattle.sg_wire.specs.CutAnswer.{first_bytes};
+ghost use Rattle.sg_target.specs.BlockCommands.{bytes_of, reading};
+ghost use Rattle.sg_target.specs.Effect.{range};
+ghost use Rattle.sg_target.specs.Operation.{ReturnsData, data_of, step_by};
+ghost use Rattle.sg_target.specs.Ranges.{IsCharged, cost_bounds};
+ghost use Rattle.sg_target.specs.Reply.{Carries};
+ghost use Rattle.sg_target.specs.Semantics.{maximum_transfer_length};
+ghost use Rattle.sg_target.specs.Step.{executed};
+
+use crate::data_in::DataIn;
+use crate::extent::Extent;
+use crate::operation::Operation;
+use crate::refusal::{Reason, Refusal};
+use crate::reply::Reply;
+use crate::target::{BUFFER_LENGTH, Target};
+use sg_blocks::{Space, Store};
+use sg_wire::Initiator;
+
+impl<S: Store> Target<S> {
+    // Returns data that is in no block, at most `limit` bytes of it.
+    pub(crate) fn return_data(&self, data_in: DataIn, limit: usize, buf: &mut [u8]) -> Reply
+        requires { limit ≤ length buf.old }
+        ensures { let full = data_of self.now.state.identity self.now.state.disk.capacity data_in in
+            ReturnsData (first_bytes limit full) result buf.old buf.new }
+    {
+        Reply::without_blocks(data_in.write_up_to(limit, &self.config, buf))
+    }
+
+    // READ returns the bytes of its blocks.
+    pub(crate) fn read(&mut self, extent: Extent, buf: &mut [u8]) -> Reply
+        requires on_disk { extent.lba + extent.count ≤ self.old.state.disk.capacity }
+        requires at_most_256 { extent.count ≤ maximum_transfer_length }
+        requires room { BUFFER_LENGTH ≤ length buf.old }
+        ensures reply { Carries (executed (reading self.old.state extent)).answer result buf.old buf.new }
+        ensures state { self.new.state ≡ self.old.state }
+        ensures charge { IsCharged (cost_bounds S.price S.least) self.old.state.disk.pool
+            (range self.old.state.disk.contents extent ∷ []) self.old.meter self.new.meter result }
+    {
+        let len = extent.byte_length() as usize;
+        self.store.restart_counts();
+        self.store.read(extent.lba, extent.count, &mut buf[..len]);
+        Reply::good(len, self.store.counts())
+    }
+
+    // WRITE replaces the bytes of its blocks, unless there is no space for them.
+    #[tactic(auto, unfolding(crate::specs::Checks::no_space))]
+    pub(crate) fn write(
+        &mut self,
+        initiator: Initiator,
+        extent: Extent,
+        data_out: &[u8],
+        buf: &[u8],
+    ) -> Reply
+        requires on_disk { extent.lba + extent.count ≤ self.old.state.disk.capacity }
+        requires at_most_256 { extent.count ≤ maximum_transfer_length }
+        requires whole { bytes_of extent ≤ length data_out.now }
+        ensures reply { let done = step_by self.old.state initiator (Operation.Write extent) data_out.now in
+            Carries done.answer result buf.now buf.now }
+        ensures state { self.new.state
+            ≡ (step_by self.old.state initiator (Operation.Write extent) data_out.now).state }
+        ensures charge { IsCharged (cost_bounds S.price S.least) self.old.state.disk.pool
+            (range self.old.state.disk.contents extent ∷ []) self.old.meter self.new.meter result }
+    {
+        let len = extent.byte_length() as usize;
+        self.store.restart_counts();
+        let written = self.store.write(extent.lba, extent.count, &data_out[..len]);
+        let counts = self.store.counts();
+        match written {
+            Ok(()) => Reply::good(0, counts),
+            Err(Space) => self.refuse(
+                initiator,
+                Refusal::Check(Reason::SpaceAllocationFailed),
+                counts,
+            ),
+        }
+    }
+}

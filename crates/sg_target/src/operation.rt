@@ -1,0 +1,243 @@
+// What is left to do of a command: from the command to its execution.
+ghost use Rattle.std.specs.Prelude.{◌≡◌, ◌≤◌, length, Some, None, IfOk, IfErr, IfNone, IfSome, IsSome};
+ghost use Rattle.sg_target.specs.BlockCommands.{bytes_of};
+ghost use Rattle.sg_target.specs.Checks.{out_of_range, request_fault, unsupported_value};
+ghost use Rattle.sg_target.specs.Operation.{AreOnDisk, IsExecutable, IsRequested, effect_of, extents_of, step_by, write_fault};
+ghost use Rattle.sg_target.specs.PrimaryCommands.{format_of, inquiry_page};
+ghost use Rattle.sg_target.specs.Ranges.{IsCharged, cost_bounds};
+ghost use Rattle.sg_target.specs.Reply.{Carries};
+ghost use Rattle.sg_target.specs.Semantics.{maximum_transfer_length, semantics, too_long};
+ghost use Rattle.sg_target.specs.State.{IsWithinLimits};
+
+use crate::checks::{check_data_out, check_transfer_length, past_capacity};
+use crate::data_in::{CAPACITY_10_LENGTH, CAPACITY_16_LENGTH, DataIn};
+use crate::extent::Extent;
+use crate::inquiry_page::InquiryPage;
+use crate::refusal::{Reason, Refusal};
+use crate::reply::Reply;
+use crate::target::{BUFFER_LENGTH, Target};
+use sg_blocks::{MAX_CAPACITY, Store};
+use sg_wire::{Command, Format, Initiator};
+
+/// What is left to do of a command whose values, data-out and parameter list are sound, with what
+/// that takes. Only blocks past the last one and want of space can still refuse it.
+#[derive(Clone, Copy)]
+pub(crate) enum Operation {
+    /// TEST UNIT READY.
+    Nothing,
+    /// Returns the oldest unit attention as sense data, and clears it.
+    RequestSense {
+        format: Format,
+        /// In bytes.
+        allocation_length: u8,
+    },
+    /// INQUIRY.
+    ReturnInquiry {
+        page: InquiryPage,
+        /// In bytes.
+        allocation_length: u16,
+    },
+    ReadCapacity10,
+    ReadCapacity16 {
+        /// In bytes.
+        allocation_length: u32,
+    },
+    /// Returns blocks.
+    Read(Extent),
+    /// Replaces blocks.
+    Write(Extent),
+    /// Asks for blocks to be written through, which they are.
+    Synchronize(Extent),
+}
+
+impl Operation {
+    // Why the operation's blocks can't be reached, on a disk of `capacity` blocks.
+    #[tactic(auto, using(crate::proofs::StepLemmas::first_some_one), unfolding(crate::specs::Checks::out_of_range))]
+    pub(crate) fn out_of_range(self, capacity: u64) -> Option<Refusal>
+        requires { capacity ≤ MAX_CAPACITY }
+        ensures value { result ≡ out_of_range capacity (extents_of self) }
+        ensures on_disk { IfNone result (AreOnDisk capacity (extents_of self)) }
+    {
+        match self {
+            Operation::Read(extent) | Operation::Write(extent) | Operation::Synchronize(extent) =>
+                past_capacity(capacity, extent),
+            Operation::Nothing
+            | Operation::RequestSense { .. }
+            | Operation::ReturnInquiry { .. }
+            | Operation::ReadCapacity10
+            | Operation::ReadCapacity16 { .. } => None,
+        }
+    }
+}
+
+impl<S: Store> Target<S> {
+    // What a command asks for, where nothing is wrong with its values, its data-out and its
+    // parameter list.
+    #[tactic(auto, unfolding(crate::specs::Checks::first_fault))]
+    pub(crate) fn operation_of(
+        &self,
+        initiator: Initiator,
+        command: &Command,
+        data_out: &[u8],
+    ) -> Result<Operation, Refusal>
+        ensures refused { IfErr result (λ refusal.
+            request_fault (semantics self.now.state initiator command.now data_out.now) data_out.now
+            ≡ Some refusal) }
+        ensures passed { IfOk result (λ operation.
+            IsRequested self.now.state initiator command.now data_out.now operation) }
+    {
+        match *command {
+            Command::TestUnitReady => Ok(Operation::Nothing),
+            Command::RequestSense {
+                desc,
+                allocation_length,
+            } => Ok(request_sense(desc, allocation_length)),
+            Command::Inquiry {
+                evpd,
+                page_code,
+                allocation_length,
+            } => inquiry(evpd, page_code, allocation_length),
+            Command::Read6(extent) => Ok(Operation::Read(Extent::from(extent))),
+            Command::Read10 {
+                lba,
+                transfer_length,
+            } => read(Extent::of_ten_bytes(lba, transfer_length), 7),
+            Command::Read16 {
+                lba,
+                transfer_length: count,
+            } => read(Extent { lba, count }, 10),
+            Command::Write6(extent) => write_6(Extent::from(extent), data_out),
+            Command::Write10 {
+                lba,
+                transfer_length,
+            } => write(Extent::of_ten_bytes(lba, transfer_length), 7, data_out),
+            Command::Write16 {
+                lba,
+                transfer_length: count,
+            } => write(Extent { lba, count }, 10, data_out),
+            Command::ReadCapacity10 => Ok(Operation::ReadCapacity10),
+            Command::ReadCapacity16 { allocation_length } => {
+                Ok(Operation::ReadCapacity16 { allocation_length })
+            }
+            Command::SynchronizeCache10 { lba, count } => {
+                Ok(Operation::Synchronize(Extent::of_ten_bytes(lba, count)))
+            }
+        }
+    }
+
+    // Executes an operation, unless there is no space for what it writes.
+    #[tactic(auto, using(crate::proofs::StepLemmas::has_room, crate::proofs::CapacityLemmas::capacity_lengths))]
+    pub(crate) fn execute_checked(
+        &mut self,
+        initiator: Initiator,
+        operation: Operation,
+        data_out: &[u8],
+        buf: &mut [u8],
+    ) -> Reply
+        requires on_disk { AreOnDisk self.old.state.disk.capacity (extents_of operation) }
+        requires executable { IsExecutable operation data_out.now }
+        requires limits { IsWithinLimits self.old.state }
+        requires room { BUFFER_LENGTH ≤ length buf.old }
+        ensures reply { Carries (step_by self.old.state initiator operation data_out.now).answer result buf.old buf.new }
+        ensures state { self.new.state ≡ (step_by self.old.state initiator operation data_out.now).state }
+        ensures charge { IsCharged (cost_bounds S.price S.least) self.old.state.disk.pool
+            (effect_of self.old.state initiator operation data_out.now).ranges self.old.meter self.new.meter result }
+    {
+        match operation {
+            Operation::Nothing | Operation::Synchronize(_) => Reply::without_blocks(0),
+            Operation::RequestSense {
+                format,
+                allocation_length,
+            } => {
+                let condition = self.attentions.take_oldest(initiator);
+                let sense = DataIn::Sense { condition, format };
+                self.return_data(sense, usize::from(allocation_length), buf)
+            }
+            Operation::ReturnInquiry {
+                page,
+                allocation_length,
+            } => self.return_data(DataIn::Inquiry(page), usize::from(allocation_length), buf),
+            Operation::ReadCapacity10 => {
+                self.return_data(DataIn::Capacity10, CAPACITY_10_LENGTH, buf)
+            }
+            Operation::ReadCapacity16 { allocation_length } => {
+                let limit = CAPACITY_16_LENGTH.min(allocation_length as usize);
+                self.return_data(DataIn::Capacity16, limit, buf)
+            }
+            Operation::Read(extent) => self.read(extent, buf),
+            Operation::Write(extent) => self.write(initiator, extent, data_out, buf),
+        }
+    }
+}
+
+fn request_sense(desc: bool, allocation_length: u8) -> Operation
+    ensures { result ≡ Operation.RequestSense (format_of desc) allocation_length }
+{
+    let format = if desc {
+        Format::Descriptor
+    } else {
+        Format::Fixed
+    };
+    Operation::RequestSense {
+        format,
+        allocation_length,
+    }
+}
+
+// PAGE CODE is byte 2.
+fn inquiry(evpd: bool, page_code: u8, allocation_length: u16) -> Result<Operation, Refusal>
+    ensures refused { IfErr result (λ refusal. (inquiry_page evpd page_code ≡ None)
+        × (refusal ≡ Refusal.Check (Reason.InvalidFieldInCdb 2))) }
+    ensures passed { IfOk result (λ operation. IfSome (inquiry_page evpd page_code) (λ page.
+        operation ≡ Operation.ReturnInquiry page allocation_length)) }
+    ensures page { IfOk result (λ _. IsSome (inquiry_page evpd page_code)) }
+{
+    match InquiryPage::named(evpd, page_code) {
+        Some(page) => Ok(Operation::ReturnInquiry {
+            page,
+            allocation_length,
+        }),
+        None => Err(Refusal::Check(Reason::InvalidFieldInCdb { byte: 2 })),
+    }
+}
+
+// READ (10) and (16); TRANSFER LENGTH begins at the byte.
+fn read(extent: Extent, byte: u16) -> Result<Operation, Refusal>
+    ensures refused { IfErr result (λ refusal.
+        unsupported_value (too_long extent.count byte) ≡ Some refusal) }
+    ensures passed { IfOk result (λ _. too_long extent.count byte ≡ None) }
+    ensures operation { IfOk result (λ operation. operation ≡ Operation.Read extent) }
+    ensures at_most_256 { IfOk result (λ _. extent.count ≤ maximum_transfer_length) }
+{
+    check_transfer_length(extent, byte)?;
+    Ok(Operation::Read(extent))
+}
+
+// WRITE(6), whose layout names at most 256 blocks.
+#[tactic(auto, unfolding(crate::specs::Checks::first_fault))]
+fn write_6(extent: Extent, data_out: &[u8]) -> Result<Operation, Refusal>
+    requires { extent.count ≤ maximum_transfer_length }
+    ensures refused { IfErr result (λ refusal. write_fault extent None data_out.now ≡ Some refusal) }
+    ensures passed { IfOk result (λ _. write_fault extent None data_out.now ≡ None) }
+    ensures operation { IfOk result (λ operation. operation ≡ Operation.Write extent) }
+    ensures whole { IfOk result (λ _. bytes_of extent ≤ length data_out.now) }
+{
+    check_data_out(extent, data_out)?;
+    Ok(Operation::Write(extent))
+}
+
+// WRITE (10) and (16); TRANSFER LENGTH begins at the byte.
+#[tactic(auto, unfolding(crate::specs::Checks::first_fault))]
+fn write(extent: Extent, byte: u16, data_out: &[u8]) -> Result<Operation, Refusal>
+    ensures refused { IfErr result (λ refusal.
+        write_fault extent (too_long extent.count byte) data_out.now ≡ Some refusal) }
+    ensures passed { IfOk result (λ _.
+        write_fault extent (too_long extent.count byte) data_out.now ≡ None) }
+    ensures operation { IfOk result (λ operation. operation ≡ Operation.Write extent) }
+    ensures at_most_256 { IfOk result (λ _. extent.count ≤ maximum_transfer_length) }
+    ensures whole { IfOk result (λ _. bytes_of extent ≤ length data_out.now) }
+{
+    check_transfer_length(extent, byte)?;
+    check_data_out(extent, data_out)?;
+    Ok(Operation::Write(extent))
+}

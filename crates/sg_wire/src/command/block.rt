@@ -1,0 +1,255 @@
+// Block commands (SBC-3, 5; READ(6) and WRITE(6) of SBC-2).
+ghost use Rattle.std.specs.Prelude.{◌≡◌, ◌/◌, ◌%◌, ◌<◌, ◌≤◌, ◌^◌, [], ◌∷◌, ◌++◌, Ok, Err, length, slice_index, bit_and, IfOk, MatchResult};
+ghost use Rattle.byteorder.specs.Endian.{big_bytes};
+ghost use Rattle.sg_wire.specs.Layout.{cdb_of, command_with, fits_masks, number_at, value_at};
+ghost use Rattle.sg_wire.specs.Layout.Place.{short_extent};
+
+use super::masks::{check_length, check_masks};
+use super::{CdbFault, Command, ShortExtent};
+use crate::bytes::{CdbBytes, MAX_CDB_LENGTH};
+use byteorder::{BigEndian, ByteOrder};
+
+// Operation codes.
+pub(super) const READ_6: u8 = 0x08;
+
+pub(super) const WRITE_6: u8 = 0x0A;
+
+pub(super) const READ_CAPACITY_10: u8 = 0x25;
+
+pub(super) const READ_10: u8 = 0x28;
+
+pub(super) const WRITE_10: u8 = 0x2A;
+
+pub(super) const SYNCHRONIZE_CACHE_10: u8 = 0x35;
+
+pub(super) const READ_16: u8 = 0x88;
+
+pub(super) const WRITE_16: u8 = 0x8A;
+
+pub(super) const SERVICE_ACTION_IN_16: u8 = 0x9E;
+
+// The service action of READ CAPACITY(16).
+const READ_CAPACITY_16: u8 = 0x10;
+
+// The bits of each byte that may be set.
+const READ_WRITE_6_MASKS: [u8; 6] = [0xFF, 0x1F, 0xFF, 0xFF, 0xFF, 0x00];
+
+const READ_WRITE_10_MASKS: [u8; 10] = [0xFF, 0x1A, 0xFF, 0xFF, 0xFF, 0xFF, 0x1F, 0xFF, 0xFF, 0x00];
+
+const READ_WRITE_16_MASKS: [u8; 16] = [
+    0xFF, 0x1A, 0xFF, 0xFF, 0xFF, 0xFF, 0xFF, 0xFF, 0xFF, 0xFF, 0xFF, 0xFF, 0xFF, 0xFF, 0x1F, 0x00,
+];
+
+const SYNCHRONIZE_CACHE_10_MASKS: [u8; 10] = [
+    0xFF, 0x06, 0xFF, 0xFF, 0xFF, 0xFF, 0x1F, 0xFF, 0xFF, 0x00,
+];
+
+const READ_CAPACITY_10_MASKS: [u8; 10] = [0xFF, 0, 0, 0, 0, 0, 0, 0, 0, 0x00];
+
+const READ_CAPACITY_16_MASKS: [u8; 16] = [
+    0xFF, 0x1F, 0, 0, 0, 0, 0, 0, 0, 0, 0xFF, 0xFF, 0xFF, 0xFF, 0, 0x00,
+];
+
+// ---- Decoding
+
+#[tactic(auto, unfolding(crate::specs::Layout::command_with, crate::specs::Layout::fits_masks))]
+pub(super) fn decode_read_6(cdb: &[u8]) -> Result<Command, CdbFault>
+    ensures { result ≡ command_with 0x08 cdb.now }
+{
+    Ok(Command::Read6(decode_extent_6(cdb)?))
+}
+
+#[tactic(auto, unfolding(crate::specs::Layout::command_with, crate::specs::Layout::fits_masks))]
+pub(super) fn decode_write_6(cdb: &[u8]) -> Result<Command, CdbFault>
+    ensures { result ≡ command_with 0x0A cdb.now }
+{
+    Ok(Command::Write6(decode_extent_6(cdb)?))
+}
+
+#[tactic(auto, unfolding(crate::specs::Layout::command_with, crate::specs::Layout::fits_masks))]
+pub(super) fn decode_read_10(cdb: &[u8]) -> Result<Command, CdbFault>
+    ensures { result ≡ command_with 0x28 cdb.now }
+{
+    let (lba, transfer_length) = decode_extent_10(&READ_WRITE_10_MASKS, cdb)?;
+    Ok(Command::Read10 {
+        lba,
+        transfer_length,
+    })
+}
+
+#[tactic(auto, unfolding(crate::specs::Layout::command_with, crate::specs::Layout::fits_masks))]
+pub(super) fn decode_write_10(cdb: &[u8]) -> Result<Command, CdbFault>
+    ensures { result ≡ command_with 0x2A cdb.now }
+{
+    let (lba, transfer_length) = decode_extent_10(&READ_WRITE_10_MASKS, cdb)?;
+    Ok(Command::Write10 {
+        lba,
+        transfer_length,
+    })
+}
+
+#[tactic(auto, unfolding(crate::specs::Layout::command_with, crate::specs::Layout::fits_masks))]
+pub(super) fn decode_synchronize_cache_10(cdb: &[u8]) -> Result<Command, CdbFault>
+    ensures { result ≡ command_with 0x35 cdb.now }
+{
+    let (lba, count) = decode_extent_10(&SYNCHRONIZE_CACHE_10_MASKS, cdb)?;
+    Ok(Command::SynchronizeCache10 { lba, count })
+}
+
+#[tactic(auto, unfolding(crate::specs::Layout::command_with, crate::specs::Layout::fits_masks))]
+pub(super) fn decode_read_16(cdb: &[u8]) -> Result<Command, CdbFault>
+    ensures { result ≡ command_with 0x88 cdb.now }
+{
+    let (lba, transfer_length) = decode_extent_16(cdb)?;
+    Ok(Command::Read16 {
+        lba,
+        transfer_length,
+    })
+}
+
+#[tactic(auto, unfolding(crate::specs::Layout::command_with, crate::specs::Layout::fits_masks))]
+pub(super) fn decode_write_16(cdb: &[u8]) -> Result<Command, CdbFault>
+    ensures { result ≡ command_with 0x8A cdb.now }
+{
+    let (lba, transfer_length) = decode_extent_16(cdb)?;
+    Ok(Command::Write16 {
+        lba,
+        transfer_length,
+    })
+}
+
+#[tactic(auto, unfolding(crate::specs::Layout::command_with, crate::specs::Layout::fits_masks))]
+pub(super) fn decode_read_capacity_10(cdb: &[u8]) -> Result<Command, CdbFault>
+    ensures { result ≡ command_with 0x25 cdb.now }
+{
+    check_masks(&READ_CAPACITY_10_MASKS, cdb)?;
+    Ok(Command::ReadCapacity10)
+}
+
+// The commands with a service action.
+#[tactic(auto, unfolding(crate::specs::Layout::command_with, crate::specs::Layout::fits_masks))]
+pub(super) fn decode_service_action_in_16(cdb: &[u8]) -> Result<Command, CdbFault>
+    ensures { result ≡ command_with 0x9E cdb.now }
+{
+    check_length(cdb, READ_CAPACITY_16_MASKS.len())?;
+    match cdb[1] & 0x1F {
+        READ_CAPACITY_16 => decode_read_capacity_16(cdb),
+        _ => Err(CdbFault::Field(1)),
+    }
+}
+
+#[tactic(auto, unfolding(crate::specs::Layout::command_with, crate::specs::Layout::fits_masks))]
+fn decode_read_capacity_16(cdb: &[u8]) -> Result<Command, CdbFault>
+    requires whole { 16 ≤ length cdb.now }
+    requires action { bit_and (slice_index cdb.now 1) 0x1F ≡ 0x10 }
+    ensures { result ≡ command_with 0x9E cdb.now }
+{
+    check_masks(&READ_CAPACITY_16_MASKS, cdb)?;
+    Ok(Command::ReadCapacity16 {
+        allocation_length: BigEndian::read_u32(&cdb[10..]),
+    })
+}
+
+// The address and the count of READ(6) and WRITE(6).
+fn decode_extent_6(cdb: &[u8]) -> Result<ShortExtent, CdbFault>
+    ensures fits { MatchResult result
+        (λ _. fits_masks READ_WRITE_6_MASKS cdb.now ≡ Ok tt)
+        (λ fault. fits_masks READ_WRITE_6_MASKS cdb.now ≡ Err fault) }
+    ensures extent { IfOk result (λ extent. extent ≡ value_at cdb.now short_extent) }
+{
+    check_masks(&READ_WRITE_6_MASKS, cdb)?;
+    let high = u32::from(cdb[1] & 0x1F);
+    let rest = u32::from(BigEndian::read_u16(&cdb[2..]));
+    Ok(ShortExtent::of_fields(high * 65536 + rest, cdb[4]))
+}
+
+// The address and the count of commands of 10 bytes.
+fn decode_extent_10(masks: &[u8; 10], cdb: &[u8]) -> Result<(u32, u16), CdbFault>
+    ensures fits { MatchResult result
+        (λ _. fits_masks masks.now cdb.now ≡ Ok tt)
+        (λ fault. fits_masks masks.now cdb.now ≡ Err fault) }
+    ensures lba { IfOk result (λ extent. extent.0 ≡ number_at cdb.now 2 5) }
+    ensures count { IfOk result (λ extent. extent.1 ≡ number_at cdb.now 7 8) }
+{
+    check_masks(masks, cdb)?;
+    Ok((
+        BigEndian::read_u32(&cdb[2..]),
+        BigEndian::read_u16(&cdb[7..]),
+    ))
+}
+
+// The address and the count of READ(16) and WRITE(16).
+fn decode_extent_16(cdb: &[u8]) -> Result<(u64, u32), CdbFault>
+    ensures fits { MatchResult result
+        (λ _. fits_masks READ_WRITE_16_MASKS cdb.now ≡ Ok tt)
+        (λ fault. fits_masks READ_WRITE_16_MASKS cdb.now ≡ Err fault) }
+    ensures lba { IfOk result (λ extent. extent.0 ≡ number_at cdb.now 2 9) }
+    ensures count { IfOk result (λ extent. extent.1 ≡ number_at cdb.now 10 13) }
+{
+    check_masks(&READ_WRITE_16_MASKS, cdb)?;
+    Ok((
+        BigEndian::read_u64(&cdb[2..]),
+        BigEndian::read_u32(&cdb[10..]),
+    ))
+}
+
+// ---- Encoding
+
+// READ(6) and WRITE(6). A TRANSFER LENGTH of 0 means 256 blocks.
+pub(super) fn encode_extent_6(opcode: u8, extent: ShortExtent) -> CdbBytes
+    ensures bytes { result ≡ (opcode ∷ extent.0 / 65536 ∷ [])
+        ++ big_bytes 2 (extent.0 % 65536) ++ (extent.1 % 256 ∷ 0 ∷ []) }
+    ensures lba { extent.0 < 2 ^ 21 }
+    ensures count { (1 ≤ extent.1) × (extent.1 ≤ 256) }
+{
+    let lba = extent.lba();
+    let mut cdb = [0; MAX_CDB_LENGTH];
+    cdb[0] = opcode;
+    cdb[1] = (lba / 65536) as u8;
+    BigEndian::write_u16(&mut cdb[2..], (lba % 65536) as u16);
+    cdb[4] = (extent.count() % 256) as u8;
+    CdbBytes::new(cdb, 6)
+}
+
+// Commands of 10 bytes with an address and a count.
+pub(super) fn encode_extent_10(opcode: u8, lba: u32, count: u16) -> CdbBytes
+    ensures { result ≡ (opcode ∷ 0 ∷ []) ++ big_bytes 4 lba ++ (0 ∷ [])
+        ++ big_bytes 2 count ++ (0 ∷ []) }
+{
+    let mut cdb = [0; MAX_CDB_LENGTH];
+    cdb[0] = opcode;
+    BigEndian::write_u32(&mut cdb[2..], lba);
+    BigEndian::write_u16(&mut cdb[7..], count);
+    CdbBytes::new(cdb, 10)
+}
+
+// READ(16) and WRITE(16).
+pub(super) fn encode_extent_16(opcode: u8, lba: u64, count: u32) -> CdbBytes
+    ensures { result ≡ (opcode ∷ 0 ∷ []) ++ big_bytes 8 lba ++ big_bytes 4 count ++ (0 ∷ 0 ∷ []) }
+{
+    let mut cdb = [0; MAX_CDB_LENGTH];
+    cdb[0] = opcode;
+    BigEndian::write_u64(&mut cdb[2..], lba);
+    BigEndian::write_u32(&mut cdb[10..], count);
+    CdbBytes::new(cdb, 16)
+}
+
+#[tactic(auto, unfolding(crate::specs::Layout::cdb_of))]
+pub(super) fn encode_read_capacity_10() -> CdbBytes
+    ensures { result ≡ cdb_of Command.ReadCapacity10 }
+{
+    let mut cdb = [0; MAX_CDB_LENGTH];
+    cdb[0] = READ_CAPACITY_10;
+    CdbBytes::new(cdb, 10)
+}
+
+#[tactic(auto, unfolding(crate::specs::Layout::cdb_of))]
+pub(super) fn encode_read_capacity_16(allocation_length: u32) -> CdbBytes
+    ensures { result ≡ cdb_of (Command.ReadCapacity16 allocation_length) }
+{
+    let mut cdb = [0; MAX_CDB_LENGTH];
+    cdb[0] = SERVICE_ACTION_IN_16;
+    cdb[1] = READ_CAPACITY_16;
+    BigEndian::write_u32(&mut cdb[10..], allocation_length);
+    CdbBytes::new(cdb, MAX_CDB_LENGTH)
+}

@@ -1,0 +1,48 @@
+// The bits that a CDB may have set.
+ghost use Rattle.std.specs.Prelude.{◌≡◌, ◌≤◌, ◌<◌, length, IfErr, OnOk, IfSome};
+ghost use Rattle.sg_wire.specs.Layout.{first_bad, fits_masks};
+
+use super::CdbFault;
+use crate::bytes::MAX_CDB_LENGTH;
+
+// Refuses a CDB that ends early or has a bit outside the masks.
+#[tactic(auto, unfolding(crate::specs::Layout::fits_masks))]
+pub(super) fn check_masks(masks: &[u8], cdb: &[u8]) -> Result<(), CdbFault>
+    requires { length masks.now ≤ MAX_CDB_LENGTH }
+    ensures fits { result ≡ fits_masks masks.now cdb.now }
+    ensures whole { OnOk result (length masks.now ≤ length cdb.now) }
+{
+    check_length(cdb, masks.len())?;
+    match first_bad(masks, cdb) {
+        Some(byte) => Err(CdbFault::Field(byte as u8)),
+        None => Ok(()),
+    }
+}
+
+// Refuses a CDB of fewer bytes than the command has.
+pub(super) fn check_length(cdb: &[u8], wanted: usize) -> Result<(), CdbFault>
+    requires { wanted ≤ MAX_CDB_LENGTH }
+    ensures short { IfErr result (λ fault. fault ≡ CdbFault.Short (length cdb.now)) }
+    ensures refused { IfErr result (λ _. length cdb.now < wanted) }
+    ensures whole { OnOk result (wanted ≤ length cdb.now) }
+{
+    if cdb.len() < wanted {
+        return Err(CdbFault::Short(cdb.len() as u8));
+    }
+    Ok(())
+}
+
+// The first byte with a bit outside its mask.
+#[tactic(auto, using(crate::proofs::LayoutLemmas::byte_by_byte))]
+fn first_bad(masks: &[u8], cdb: &[u8]) -> Option<usize>
+    requires { length masks.now ≤ length cdb.now }
+    ensures value { result ≡ first_bad 0 masks.now cdb.now }
+    ensures bound { IfSome result (λ byte. byte < length masks.now) }
+{
+    for (byte, mask) in masks.iter().enumerate() {
+        if cdb[byte] & mask != cdb[byte] {
+            return Some(byte);
+        }
+    }
+    None
+}
