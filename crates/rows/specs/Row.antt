@@ -13,9 +13,10 @@ after_word text = after_first (λ byte. byte == 32) text
 abbrev pub HasSpace : List ℕ → Type 0
 HasSpace text = position_or_len (λ byte. byte == 32) text < length text
 
--- A number in decimal digits that fits some bits. A plus may stand before it.
+-- A number in decimal digits that fits some bits. A plus may come before it.
 abbrev pub IsNumber : (bits : ℕ) → List ℕ → Type 0
-IsNumber bits text = IsNumeral 10 (without_leading_plus text) × (digits_value 10 (without_leading_plus text) < 2 ^ bits)
+IsNumber bits text = let digits = without_leading_plus text in
+    IsNumeral 10 digits × (digits_value 10 digits < 2 ^ bits)
 
 abbrev pub number : List ℕ → ℕ
 number text = digits_value 10 (without_leading_plus text)

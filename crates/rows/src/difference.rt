@@ -30,7 +30,7 @@ pub(crate) fn lines_before(text: &[u8], index: usize) -> usize
     text[..index].iter().filter(|byte| **byte == b'\n').count()
 }
 
-/// The line after so many others, or nothing where the text has ended.
+/// The line after `count` others, or nothing where the text has ended.
 pub(crate) fn line_after(text: &[u8], count: usize) -> &[u8] {
     match text.split(|byte| *byte == b'\n').nth(count) {
         Some(line) => line,

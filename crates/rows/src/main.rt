@@ -1,13 +1,14 @@
-//! `rows`: runs worked rows over the disk. A row is a script with all that it has to print, kept as files in `data/`,
-//! where the program runs:
+//! `rows`: runs worked rows over the disk. A row is a script with all that it has to print, kept as
+//! files in `data/`, where the program runs:
 //!
 //! - `rows` has a line for each row: its name, and where the disk is not of 4,096 blocks with a pool of 4, its number of
 //!   blocks and its pool, as `capacity-of-1-block 1 4`;
 //! - `NAME.script` is the script;
 //! - `NAME.expected` is what it prints, and a last line `status N` with its exit status.
 //!
-//! A line is printed for each row: `as expected`, or the first line that differs. `wrong-rows` lists rows in the same
-//! form that are wrong on purpose, for each of which a difference has to be found.
+//! A line is printed for each row: `as expected`, or the first line that differs. `wrong-rows`
+//! lists rows in the same form that are wrong on purpose, for each of which a difference has to be
+//! found.
 #![tactic(auto)]
 
 mod difference;
@@ -36,8 +37,8 @@ struct Tally {
     as_expected: u64,
 }
 
-/// What a script prints on a new disk, and a last line with its exit status. No contract says so: a `Watched` does not
-/// return its writer. The wrong rows show it.
+/// What a script prints on a new disk, and a last line with its exit status. No contract says so: a
+/// `Watched` does not return its writer. The wrong rows show it.
 fn run_row(
     alloc: Global,
     session: &mut Session,
@@ -130,7 +131,8 @@ fn exit_status(rows: Tally, wrong: Tally) -> u8
     if all_pass && none_passes { 0 } else { 1 }
 }
 
-/// Runs the rows and the wrong rows of the folder that the first argument names, or of the one that it runs in.
+/// Runs the rows and the wrong rows of the folder that the first argument names, or of the one that
+/// it runs in.
 fn run(rt: &HostRuntime) -> io::Result<u8> {
     let args: Vec<String> = env::args(rt)?.collect(rt.alloc())?;
     let folder = match args.as_slice() {

@@ -12,7 +12,8 @@ pub(crate) struct Row<'a> {
     pub(crate) pool: u32,
 }
 
-/// The row that a line names: `NAME`, on a disk of 4,096 blocks with a pool of 4, or `NAME BLOCKS POOL`.
+/// The row that a line names: `NAME`, on a disk of 4,096 blocks with a pool of 4, or `NAME BLOCKS
+/// POOL`.
 pub(crate) fn read_row(line: &str) -> Option<Row<'_>>
     ensures { MatchOption result (IsNoRow line.now) (λ row. IsRow line.now row.name.now row.blocks row.pool) }
 {

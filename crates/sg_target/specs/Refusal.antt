@@ -10,7 +10,7 @@ use Rattle.sg_target.specs.declared.refusal.Reason.TheVariants.{InvalidFieldInCd
 use Rattle.sg_target.specs.declared.refusal.Refusal.{Refusal}
 use Rattle.sg_target.specs.declared.refusal.Refusal.TheVariants.{Check}
 
--- Sense keys (SPC-4, sense keys and additional sense codes).
+-- Sense keys (SPC-4, sense key descriptions).
 abbrev pub no_sense : ℕ
 no_sense = 0
 
@@ -26,8 +26,8 @@ data_protect = 7
 abbrev pub aborted_command : ℕ
 aborted_command = 11
 
--- A sense key with an additional sense code and qualifier (SPC-4, sense keys and additional sense codes), without INFORMATION and
--- field pointer.
+-- A sense key with an additional sense code and its qualifier (SPC-4, annex on numeric order codes),
+-- without INFORMATION and field pointer.
 abbrev pub plain_sense : (key asc ascq : ℕ) → SenseFields
 plain_sense key asc ascq =
     record { key = key; asc = asc; ascq = ascq; information = None; pointer = None }

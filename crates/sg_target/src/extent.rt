@@ -34,7 +34,8 @@ impl Extent {
 }
 
 impl From<ShortExtent> for Extent {
-    ghost from_gives = { λ short extent. (extent ≡ record { lba = short.0; count = short.1 }) × (extent.count ≤ 256) };
+    ghost from_gives = { λ short extent.
+        (extent ≡ record { lba = short.0; count = short.1 }) × (extent.count ≤ 256) };
 
     fn from(extent: ShortExtent) -> Extent {
         Extent {

@@ -138,10 +138,12 @@ impl<S: Store> Target<S> {
         requires executable { IsExecutable operation data_out.now }
         requires limits { IsWithinLimits self.old.state }
         requires room { BUFFER_LENGTH ≤ length buf.old }
-        ensures reply { Carries (step_by self.old.state initiator operation data_out.now).answer result buf.old buf.new }
+        ensures reply { let done = step_by self.old.state initiator operation data_out.now in
+            Carries done.answer result buf.old buf.new }
         ensures state { self.new.state ≡ (step_by self.old.state initiator operation data_out.now).state }
         ensures charge { IsCharged (cost_bounds S.price S.least) self.old.state.disk.pool
-            (effect_of self.old.state initiator operation data_out.now).ranges self.old.meter self.new.meter result }
+            (effect_of self.old.state initiator operation data_out.now).ranges
+            self.old.meter self.new.meter result }
     {
         match operation {
             Operation::Nothing | Operation::Synchronize(_) => Reply::without_blocks(0),

@@ -33,7 +33,7 @@ ghost use Rattle.sg_wire.specs.Sense.{fields_of};
 ghost use Rattle.sg_target.specs.Refusal.{pending_sense, plain_sense, reason_for, sense_of};
 
 impl Reason {
-    /// The sense that tells it.
+    /// The sense data that reports it.
     pub(crate) fn sense(self) -> Sense
         ensures { fields_of result ≡ sense_of self }
     {

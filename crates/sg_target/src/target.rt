@@ -79,14 +79,16 @@ impl<S: Store> Target<S> {
         requires { BUFFER_LENGTH ≤ length buf.old }
 
         // The answer and the state after it are the definition's.
-        ensures reply { Carries (step self.old.state initiator cdb.now data_out.now).answer result buf.old buf.new }
+        ensures reply { let done = step self.old.state initiator cdb.now data_out.now in
+            Carries done.answer result buf.old buf.new }
         ensures state { self.new.state ≡ (step self.old.state initiator cdb.now data_out.now).state }
 
         // No table passes its limit.
         ensures limits { IsWithinLimits self.new.state }
 
         // What the store did for it.
-        ensures visits { result.counts.visits ≤ visit_bound (ranges self.old.state initiator cdb.now data_out.now) }
+        ensures visits { result.counts.visits
+            ≤ visit_bound (ranges self.old.state initiator cdb.now data_out.now) }
         ensures charge { IsCharged (cost_bounds S.price S.least) self.old.state.disk.pool
             (ranges self.old.state initiator cdb.now data_out.now) self.old.meter self.new.meter result }
     {
