@@ -85,6 +85,3 @@ pub(crate) fn print_hex_byte<W: Write>(byte: u8, out: &mut Printer<'_, W>)
         b'h',
     ]);
 }
-
-#[cfg(test)]
-mod tests;
