@@ -105,6 +105,3 @@ impl Store for PlainMap {
 
     ghost least_positive = { plain_least-positive };
 }
-
-#[cfg(test)]
-mod tests;

@@ -8,7 +8,7 @@ use sg_wire::Sense;
 
 /// The exit status that sg3_utils give a reply: 0 for GOOD, otherwise by the sense key and its codes.
 /// The sense is `None` where sense data could not be read.
-pub(crate) fn exit_status(status: Status, sense: Option<Sense>) -> u8
+pub fn exit_status(status: Status, sense: Option<Sense>) -> u8
     ensures { result ≡ exit_status status (option_map fields_of sense) }
 {
     match status {
@@ -42,6 +42,3 @@ fn illegal_request_status(sense: &Sense) -> u8
         _ => 5,
     }
 }
-
-#[cfg(test)]
-mod tests;

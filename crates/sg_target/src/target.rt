@@ -118,6 +118,3 @@ impl<S: Store> Target<S> {
         Format::Fixed
     }
 }
-
-#[cfg(test)]
-mod tests;

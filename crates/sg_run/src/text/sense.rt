@@ -15,7 +15,7 @@ use std::io::Write;
 /// Prints the line of sense data, if there is some. `sense` is what was read of it, `None` where it could
 /// not be read.
 #[tactic(auto, using(crate::proofs::TextLemmas::prints), unfolding(crate::specs::SenseText::sense_lines))]
-pub(crate) fn print_sense<W: Write>(bytes: &[u8], sense: Option<Sense>, out: &mut Printer<'_, W>)
+pub fn print_sense<W: Write>(bytes: &[u8], sense: Option<Sense>, out: &mut Printer<'_, W>)
     requires { option_map fields_of sense ≡ read_sense bytes.now }
     ensures { PrintsText W.contents out.old out.new (sense_lines bytes.now) }
 {
@@ -116,6 +116,3 @@ fn print_pointer_label<W: Write>(in_command: bool, out: &mut Printer<'_, W>)
         out.put(b", list byte ");
     }
 }
-
-#[cfg(test)]
-mod tests;

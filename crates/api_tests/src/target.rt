@@ -1,0 +1,87 @@
+// Commands to a target and its replies: what scripts do not show, as raw sense data, counts and
+// sinks.
+mod configuration;
+mod log;
+mod runs;
+
+use sg_blocks::PlainMap;
+use sg_pages::Identity;
+use sg_target::{BUFFER_LENGTH, Config, Reply, Status, Target};
+use sg_wire::Initiator;
+use std::alloc::Global;
+use std::test::Fail;
+
+type Disk = Target<PlainMap>;
+
+const READY: &[u8] = &[0x00, 0, 0, 0, 0, 0];
+
+// How a command ends.
+#[derive(Clone, Copy, Debug)]
+enum Ending {
+    Good,
+    PowerOn,
+    UnknownOpcode,
+    InvalidField(u8),
+    DataPhaseError,
+    // With the first such address.
+    OutOfRange(u32),
+    NoSpace,
+}
+
+use Ending::{DataPhaseError, Good, InvalidField, NoSpace, OutOfRange, PowerOn, UnknownOpcode};
+
+// The sense data, if there is some.
+fn sense_of(ending: Ending) -> Option<[u8; 18]> {
+    match ending {
+        Good => None,
+        PowerOn => Some([
+            0x70, 0, 6, 0, 0, 0, 0, 0x0A, 0, 0, 0, 0, 0x29, 0x00, 0, 0, 0, 0,
+        ]),
+        UnknownOpcode => Some([
+            0x70, 0, 5, 0, 0, 0, 0, 0x0A, 0, 0, 0, 0, 0x20, 0x00, 0, 0, 0, 0,
+        ]),
+        InvalidField(byte) => Some([
+            0x70, 0, 5, 0, 0, 0, 0, 0x0A, 0, 0, 0, 0, 0x24, 0x00, 0, 0xC0, 0, byte,
+        ]),
+        DataPhaseError => Some([
+            0x70, 0, 0x0B, 0, 0, 0, 0, 0x0A, 0, 0, 0, 0, 0x4B, 0x00, 0, 0, 0, 0,
+        ]),
+        OutOfRange(lba) => Some(out_of_range(lba.to_be_bytes())),
+        NoSpace => Some([
+            0x70, 0, 7, 0, 0, 0, 0, 0x0A, 0, 0, 0, 0, 0x27, 0x07, 0, 0, 0, 0,
+        ]),
+    }
+}
+
+fn out_of_range([a, b, c, d]: [u8; 4]) -> [u8; 18] {
+    [
+        0xF0, 0, 5, a, b, c, d, 0x0A, 0, 0, 0, 0, 0x21, 0x00, 0, 0, 0, 0,
+    ]
+}
+
+// A disk of `blocks` blocks and a pool of 4.
+fn new_disk(alloc: Global, blocks: u64) -> Result<Disk, Fail> {
+    let config = Config::new(blocks, 4, Identity::standard()).or(Err("no configuration"))?;
+    Ok(Target::new(alloc, config)?)
+}
+
+// The same, after the unit attention of initiator 0 was reported.
+fn ready_disk(alloc: Global, blocks: u64) -> Result<Disk, Fail> {
+    let mut disk = new_disk(alloc, blocks)?;
+    execute(alloc, &mut disk, 0, READY, &[])?;
+    Ok(disk)
+}
+
+// Executes a command by the initiator of a number, with a buffer of A5h in each byte.
+fn execute(
+    alloc: Global,
+    disk: &mut Disk,
+    number: u8,
+    cdb: &[u8],
+    data_out: &[u8],
+) -> Result<(Reply, Vec<u8>), Fail> {
+    let initiator = Initiator::new(number).ok_or("no initiator")?;
+    let mut buf = vec![in alloc; 0xA5; BUFFER_LENGTH]?;
+    let reply = disk.execute(initiator, cdb, data_out, &mut buf);
+    Ok((reply, buf))
+}

@@ -1,0 +1,153 @@
+// CDBs as SPC-4 and SBC-3 lay them out. Their faults and their ignored bits are worked rows.
+use sg_wire::{Class, Command, ShortExtent};
+use std::test::Fail;
+
+const READY: Command = Command::TestUnitReady;
+
+// INQUIRY for the standard data, for the unit serial number page, and with the largest values.
+const STANDARD: Command = Command::Inquiry {
+    evpd: false,
+    page_code: 0x00,
+    allocation_length: 36,
+};
+
+const SERIAL_NUMBER: Command = Command::Inquiry {
+    evpd: true,
+    page_code: 0x80,
+    allocation_length: 255,
+};
+
+const LARGEST: Command = Command::Inquiry {
+    evpd: true,
+    page_code: 0xFF,
+    allocation_length: 0xFFFE,
+};
+
+// REQUEST SENSE in fixed and in descriptor format.
+const FIXED: Command = Command::RequestSense {
+    desc: false,
+    allocation_length: 18,
+};
+
+const DESCRIPTOR: Command = Command::RequestSense {
+    desc: true,
+    allocation_length: 252,
+};
+
+// Each field from its first byte to its last.
+const READ_10: Command = Command::Read10 {
+    lba: 0x0102_0304,
+    transfer_length: 0x0506,
+};
+
+const WRITE_10: Command = Command::Write10 {
+    lba: 0xFFFF_FFFE,
+    transfer_length: 256,
+};
+
+const READ_16: Command = Command::Read16 {
+    lba: 0x0102_0304_0506_0708,
+    transfer_length: 0x090A_0B0C,
+};
+
+const WRITE_16: Command = Command::Write16 {
+    lba: 1 << 40,
+    transfer_length: 1,
+};
+
+const SYNCHRONIZE: Command = Command::SynchronizeCache10 {
+    lba: 0x1000,
+    count: 0xFFFF,
+};
+
+const CAPACITY_16: Command = Command::ReadCapacity16 {
+    allocation_length: 0x0102_0304,
+};
+
+const CDBS: [(&[u8], Command); 13] = [
+    (&[0x00, 0, 0, 0, 0, 0], READY),
+    (&[0x03, 0x00, 0, 0, 0x12, 0], FIXED),
+    (&[0x03, 0x01, 0, 0, 0xFC, 0], DESCRIPTOR),
+    (&[0x12, 0x00, 0x00, 0x00, 0x24, 0], STANDARD),
+    (&[0x12, 0x01, 0x80, 0x00, 0xFF, 0], SERIAL_NUMBER),
+    (&[0x12, 0x01, 0xFF, 0xFF, 0xFE, 0], LARGEST),
+    (&[0x28, 0, 1, 2, 3, 4, 0, 5, 6, 0], READ_10),
+    (
+        &[0x2A, 0, 0xFF, 0xFF, 0xFF, 0xFE, 0, 0x01, 0x00, 0],
+        WRITE_10,
+    ),
+    (
+        &[0x88, 0, 1, 2, 3, 4, 5, 6, 7, 8, 9, 10, 11, 12, 0, 0],
+        READ_16,
+    ),
+    (
+        &[0x8A, 0, 0, 0, 1, 0, 0, 0, 0, 0, 0, 0, 0, 1, 0, 0],
+        WRITE_16,
+    ),
+    (&[0x35, 0, 0, 0, 0x10, 0, 0, 0xFF, 0xFF, 0], SYNCHRONIZE),
+    (&[0x25, 0, 0, 0, 0, 0, 0, 0, 0, 0], Command::ReadCapacity10),
+    (
+        &[0x9E, 0x10, 0, 0, 0, 0, 0, 0, 0, 0, 1, 2, 3, 4, 0, 0],
+        CAPACITY_16,
+    ),
+];
+
+#[test]
+fn commands_are_read_and_written(rt: HostRuntime) {
+    for (cdb, command) in CDBS {
+        assert_eq!(rt; Command::read(cdb), Ok(command));
+        assert_eq!(rt; command.write().as_slice(), cdb);
+    }
+}
+
+// CDBs of six bytes, with the address and the count that they mean.
+const SHORT: [(&[u8; 6], u32, u16); 4] = [
+    (&[0x08, 0, 0, 0, 0, 0], 0, 256),
+    (&[0x08, 0, 0, 0, 1, 0], 0, 1),
+    (&[0x08, 0x1F, 0xFF, 0xFF, 0xFF, 0], 0x1F_FFFF, 255),
+    (&[0x08, 0x12, 0x34, 0x56, 0, 0], 0x12_3456, 256),
+];
+
+#[test]
+fn six_bytes_name_1_to_256_blocks(rt: HostRuntime) -> Result<(), Fail> {
+    for (cdb, lba, count) in SHORT {
+        let extent = ShortExtent::new(lba, count).ok_or("no extent")?;
+        assert_eq!(rt; (extent.lba(), extent.count()), (lba, count));
+        assert_eq!(rt; Command::read(cdb), Ok(Command::Read6(extent)));
+        assert_eq!(rt; Command::Read6(extent).write().as_slice(), cdb.as_slice());
+        let mut write = *cdb;
+        write[0] = 0x0A;
+        assert_eq!(rt; Command::read(&write), Ok(Command::Write6(extent)));
+        assert_eq!(rt;
+            Command::Write6(extent).write().as_slice(),
+            write.as_slice()
+        );
+    }
+    Ok(())
+}
+
+// The class, and whether a pending unit attention blocks the command.
+const COLUMNS: [(&[u8], Option<Class>, bool); 14] = [
+    (&[0x03], Some(Class::Always), false),
+    (&[0x00], Some(Class::Always), true),
+    (&[0x08], Some(Class::Reads), true),
+    (&[0x0A], Some(Class::Writes), true),
+    (&[0x12, 0xFF], Some(Class::Always), false),
+    (&[0x25], Some(Class::Always), true),
+    (&[0x28], Some(Class::Reads), true),
+    (&[0x2A], Some(Class::Writes), true),
+    (&[0x35], Some(Class::Writes), true),
+    (&[0x88], Some(Class::Reads), true),
+    (&[0x8A], Some(Class::Writes), true),
+    (&[0x9E, 0x10], Some(Class::Always), true),
+    (&[0xC1, 0, 0, 0, 0, 0], None, true),
+    (&[], None, true),
+];
+
+#[test]
+fn the_operation_code_decides(rt: HostRuntime) {
+    for (cdb, class, blocked) in COLUMNS {
+        assert_eq!(rt; Command::class_of(cdb), class);
+        assert_eq!(rt; Command::is_blocked_by_attention(cdb), blocked);
+    }
+}

@@ -1,0 +1,27 @@
+// An answer of five bytes, cut at each allocation length.
+use sg_wire::Cut;
+
+const ANSWERS: [(usize, [u8; 7]); 8] = [
+    (0, [9, 9, 9, 9, 9, 9, 9]),
+    (1, [1, 9, 9, 9, 9, 9, 9]),
+    (2, [1, 2, 9, 9, 9, 9, 9]),
+    (3, [1, 2, 3, 9, 9, 9, 9]),
+    (4, [1, 2, 3, 4, 9, 9, 9]),
+    (5, [1, 2, 3, 4, 5, 9, 9]),
+    (6, [1, 2, 3, 4, 5, 9, 9]),
+    (7, [1, 2, 3, 4, 5, 9, 9]),
+];
+
+#[test]
+fn an_answer_is_cut(rt: HostRuntime) {
+    for (limit, answer) in ANSWERS {
+        let mut buf = [9; 7];
+        assert!(rt; limit <= buf.len());
+        let mut cut = Cut::new(&mut buf, limit);
+        cut.put(&[1, 2, 3]);
+        cut.put(&[]);
+        cut.put(&[4, 5]);
+        assert_eq!(rt; cut.written(), limit.min(5));
+        assert_eq!(rt; buf, answer);
+    }
+}

@@ -1,0 +1,230 @@
+// What no contract says: each call reaches the reader or writer just once, and returns what that
+// returned.
+use sg_wire::Watched;
+use std::alloc::Global;
+use std::io;
+use std::io::{Error, ErrorKind, Read, Write};
+use std::test::Fail;
+
+// What a `FakeWriter` does at its faulty call.
+#[derive(Clone, Copy)]
+pub(super) enum Fault {
+    TakesNone,
+    Fails(ErrorKind),
+}
+
+// A writer that keeps what it takes, and counts the calls. It takes at most `most` bytes a call,
+// and none at the faulty call. A flush fails.
+#[derive(Drop)]
+pub(super) struct FakeWriter {
+    pub(super) bytes: Vec<u8>,
+    pub(super) calls: usize,
+    flushes: usize,
+    most: usize,
+    faulty_call: usize,
+    fault: Fault,
+}
+
+impl FakeWriter {
+    // It takes all bytes of each call.
+    pub(super) fn new(alloc: Global) -> FakeWriter {
+        FakeWriter::with_fault(alloc, usize::MAX, usize::MAX, Fault::TakesNone)
+    }
+
+    // Its first call is call 0.
+    pub(super) fn with_fault(
+        alloc: Global,
+        most: usize,
+        faulty_call: usize,
+        fault: Fault,
+    ) -> FakeWriter {
+        FakeWriter {
+            bytes: Vec::new(alloc),
+            calls: 0,
+            flushes: 0,
+            most,
+            faulty_call,
+            fault,
+        }
+    }
+}
+
+impl Write for FakeWriter {
+    fn write(&mut self, buf: &[u8]) -> io::Result<usize> {
+        let call = self.calls;
+        self.calls = call.saturating_add(1);
+        if call == self.faulty_call {
+            return match self.fault {
+                Fault::TakesNone => Ok(0),
+                Fault::Fails(kind) => Err(Error::from(kind)),
+            };
+        }
+        let count = buf.len().min(self.most);
+        self.bytes.extend_from_slice(&buf[..count])?;
+        Ok(count)
+    }
+
+    fn flush(&mut self) -> io::Result<()> {
+        self.flushes = self.flushes.saturating_add(1);
+        Err(Error::from(ErrorKind::Other))
+    }
+}
+
+const FAULTS: [(Fault, ErrorKind); 3] = [
+    (Fault::TakesNone, ErrorKind::WriteZero),
+    (Fault::Fails(ErrorKind::StorageFull), ErrorKind::StorageFull),
+    (Fault::Fails(ErrorKind::Interrupted), ErrorKind::Interrupted),
+];
+
+const LINE: &[u8; 12] = b"line 1: GOOD";
+
+// Writes of fewer bytes than the writer takes, of as many, and of more.
+#[test]
+fn writes_are_passed_on(rt: HostRuntime) -> Result<(), Fail> {
+    for most in 1..=12 {
+        for length in 0..=12 {
+            let mut fake = FakeWriter::with_fault(rt.alloc(), most, usize::MAX, Fault::TakesNone);
+            let mut writer = Watched::new(&mut fake);
+            let count = length.min(most);
+            assert_eq!(rt; writer.write(&LINE[..length])?, count);
+            assert!(rt; !writer.failed());
+            assert_eq!(rt; fake.bytes.as_slice(), &LINE[..count]);
+            assert_eq!(rt; fake.calls, 1);
+        }
+    }
+    Ok(())
+}
+
+#[test]
+fn a_write_failure_is_remembered(rt: HostRuntime) -> Result<(), Fail> {
+    for (fault, _) in FAULTS {
+        let mut fake = FakeWriter::with_fault(rt.alloc(), 4, 1, fault);
+        let mut writer = Watched::new(&mut fake);
+        assert!(rt; writer.flush().is_err());
+        assert_eq!(rt; writer.write(b"")?, 0);
+        assert!(rt; !writer.failed());
+
+        let result = writer.write(b"ab");
+        assert_eq!(rt; result.is_ok(), matches!(fault, Fault::TakesNone));
+        assert!(rt; writer.failed());
+        assert_eq!(rt; writer.write(b"cd")?, 2);
+        assert!(rt; writer.failed());
+        assert_eq!(rt; fake.bytes.as_slice(), b"cd".as_slice());
+        assert_eq!(rt; (fake.calls, fake.flushes), (3, 1));
+    }
+    Ok(())
+}
+
+#[test]
+fn sends_through_short_writes(rt: HostRuntime) -> Result<(), Fail> {
+    for most in 1..=12 {
+        let mut fake = FakeWriter::with_fault(rt.alloc(), most, usize::MAX, Fault::TakesNone);
+        let mut writer = Watched::new(&mut fake);
+        writer.send(LINE)?;
+        assert_eq!(rt; fake.bytes.as_slice(), LINE.as_slice());
+        assert_eq!(rt; fake.calls, 12usize.div_ceil(most));
+    }
+    Ok(())
+}
+
+#[test]
+fn ends_at_the_first_failure(rt: HostRuntime) -> Result<(), Fail> {
+    for (fault, kind) in FAULTS {
+        for call in 0..4 {
+            let mut fake = FakeWriter::with_fault(rt.alloc(), 3, call, fault);
+            let mut writer = Watched::new(&mut fake);
+            let Err(error) = writer.send(LINE) else {
+                return Err(Fail::from("a failure was hidden"));
+            };
+            assert_eq!(rt; error.kind(), kind);
+            assert!(rt; writer.failed());
+            assert_eq!(rt; fake.calls, call + 1);
+            assert_eq!(rt; fake.bytes.as_slice(), &LINE[..3 * call]);
+        }
+    }
+    Ok(())
+}
+
+// A reader of some bytes. It delivers at most `most` bytes a call, and fails at the faulty call.
+#[derive(Drop)]
+struct FakeReader<'a> {
+    rest: &'a [u8],
+    calls: usize,
+    most: usize,
+    faulty_call: usize,
+}
+
+impl<'a> FakeReader<'a> {
+    fn new(bytes: &'a [u8], most: usize, faulty_call: usize) -> FakeReader<'a> {
+        FakeReader {
+            rest: bytes,
+            calls: 0,
+            most,
+            faulty_call,
+        }
+    }
+}
+
+impl<'a> Read for FakeReader<'a> {
+    fn read(&mut self, buf: &mut [u8]) -> io::Result<usize> {
+        let call = self.calls;
+        self.calls = call.saturating_add(1);
+        if call == self.faulty_call {
+            return Err(Error::from(ErrorKind::Interrupted));
+        }
+        let count = self.rest.len().min(buf.len()).min(self.most);
+        let (delivered, rest) = self.rest.split_at(count);
+        buf[..count].copy_from_slice(delivered);
+        self.rest = rest;
+        Ok(count)
+    }
+}
+
+// Into buffers shorter than what the reader delivers, as long, and longer.
+#[test]
+fn reads_are_passed_on(rt: HostRuntime) -> Result<(), Fail> {
+    for most in 1..=13 {
+        for room in 1..=13 {
+            let mut fake = FakeReader::new(LINE, most, usize::MAX);
+            let mut reader = Watched::new(&mut fake);
+            for delivered in LINE.chunks(room.min(most)) {
+                let mut buffer = [0xEE; 13];
+                let count = reader.read(&mut buffer[..room])?;
+                assert_eq!(rt; &buffer[..count], delivered);
+                assert!(rt; buffer[count..].iter().all(|byte| *byte == 0xEE));
+            }
+            assert_eq!(rt; reader.read(&mut [0xEE; 13])?, 0);
+            assert!(rt; !reader.failed());
+            assert_eq!(rt;
+                fake.calls,
+                12usize.div_ceil(room.min(most)).saturating_add(1)
+            );
+        }
+    }
+    Ok(())
+}
+
+#[test]
+fn a_read_error_is_remembered(rt: HostRuntime) -> Result<(), Fail> {
+    for room in 1..=4 {
+        let letters: &[u8] = b"abcdefgh";
+        let mut fake = FakeReader::new(letters, 4, 2);
+        let mut reader = Watched::new(&mut fake);
+        let mut buffer = [0xEE; 4];
+        assert_eq!(rt; reader.read(&mut [])?, 0);
+        assert_eq!(rt; reader.read(&mut buffer[..room])?, room);
+        assert!(rt; !reader.failed());
+
+        let Err(error) = reader.read(&mut buffer[..room]) else {
+            return Err(Fail::from("an error was hidden"));
+        };
+        assert_eq!(rt; error.kind(), ErrorKind::Interrupted);
+        assert!(rt; reader.failed());
+
+        assert_eq!(rt; reader.read(&mut buffer[..room])?, room);
+        assert_eq!(rt; &buffer[..room], &letters[room..2 * room]);
+        assert!(rt; reader.failed());
+        assert_eq!(rt; fake.calls, 4);
+    }
+    Ok(())
+}
