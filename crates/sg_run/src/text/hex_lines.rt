@@ -1,16 +1,23 @@
 // Bytes in hexadecimal.
-ghost use Rattle.std.specs.Prelude.{◌≡◌, ◌<◌, ◌≤◌, ◌^◌, ◌++◌, length, codes};
+ghost use Rattle.std.specs.Prelude.{◌≡◌, ◌<◌, ◌≤◌, ◌+◌, ◌*◌, ◌^◌, ◌++◌, length, take, codes};
 ghost use Rattle.std.specs.List.{flat_map};
-ghost use Rattle.sg_run.specs.HexText.{blank_hex_byte, hex_byte, hex_offset, hex_line, hex_lines, upper_hex_byte};
+ghost use Rattle.sg_run.specs.HexText.{blank_hex_byte, hex_line, hex_lines, upper_hex_byte};
+ghost use Rattle.sg_run.specs.HexPieces.{hex_lines_from};
 ghost use Rattle.sg_run.specs.Printed.{PrintsText};
 
+use super::hex_digits::{padded, spaced_digits, spaced_offset};
 use sg_wire::Printer;
 use std::io::Write;
 
-// How many bytes a line has, and the length of their text: three characters a byte, and the LF.
+// The bytes of a line, and the length of its text: two blanks, eight digits of the offset, a blank,
+// three characters a byte, and the LF.
 const LINE_BYTES: usize = 16;
 
-const LINE_TEXT: usize = 3 * LINE_BYTES + 1;
+const LINE_TEXT: usize = 60;
+
+// How many lines are put at once. They are gathered first, since bytes that were just written in
+// small parts are slow to copy.
+const LINES: usize = 16;
 
 const UPPER_DIGITS: [u8; 16] = *b"0123456789ABCDEF";
 
@@ -21,57 +28,63 @@ pub(crate) fn print_hex_lines<W: Write>(bytes: &[u8], out: &mut Printer<'_, W>)
     requires { length bytes.now < 2 ^ 32 }
     ensures { PrintsText W.contents out.old out.new (hex_lines bytes.now) }
 {
-    for (number, chunk) in bytes.chunks(LINE_BYTES).enumerate() {
-        print_hex_line((LINE_BYTES * number) as u32, chunk, out);
+    if bytes.is_empty() {
+        return;
+    }
+    let mut text = [0; LINES * LINE_TEXT];
+    for (number, lines) in bytes.chunks(LINES * LINE_BYTES).enumerate() {
+        let len = write_lines((LINES * LINE_BYTES * number) as u32, lines, &mut text);
+        out.put(&text[..len]);
     }
 }
 
-// Prints a line of at most sixteen bytes.
-#[tactic(auto, using(crate::proofs::TextLemmas::prints), unfolding(crate::specs::HexText::hex_line))]
-fn print_hex_line<W: Write>(offset: u32, bytes: &[u8], out: &mut Printer<'_, W>)
+// Writes the lines of bytes that begin at an offset over the first bytes of a text, and returns
+// their length.
+#[tactic(auto, unfolding(crate::specs::HexPieces::first_hex_lines_from))]
+fn write_lines(offset: u32, bytes: &[u8], text: &mut [u8]) -> usize
+    requires offset { offset + length bytes.now < 2 ^ 32 }
+    requires at_most_256 { length bytes.now ≤ 256 }
+    requires room { 960 ≤ length text.old }
+    ensures text { take result text.new ≡ hex_lines_from offset bytes.now }
+    ensures length { result ≤ 960 }
+{
+    let mut len = 0;
+    for (number, line) in bytes.chunks(LINE_BYTES).enumerate() {
+        len += write_line(
+            offset + (LINE_BYTES * number) as u32,
+            line,
+            &mut text[len..],
+        );
+    }
+    len
+}
+
+// Writes a line of at most sixteen bytes, likewise.
+fn write_line(offset: u32, bytes: &[u8], text: &mut [u8]) -> usize
     requires not_empty { 0 < length bytes.now }
     requires at_most_16 { length bytes.now ≤ 16 }
-    ensures { PrintsText W.contents out.old out.new (hex_line offset bytes.now) }
+    requires room { 60 ≤ length text.old }
+    ensures text { take result text.new ≡ hex_line offset bytes.now }
+    ensures length { result ≡ 12 + 3 * length bytes.now }
 {
-    print_offset(offset, out);
-    print_bytes(bytes, out);
+    // Five of the sixteen characters are written over by those of the bytes.
+    spaced_offset(offset).copy_to_slice(&mut text[..16]);
+    write_bytes(bytes, &mut text[11..]);
+    12 + 3 * bytes.len()
 }
 
-// Prints the offset between two blanks and one.
-fn print_offset<W: Write>(offset: u32, out: &mut Printer<'_, W>)
-    ensures { PrintsText W.contents out.old out.new
-        (codes "  " ++ (hex_offset offset ++ codes " ")) }
+// Writes at most sixteen bytes, each with a blank before it, and ends the line.
+fn write_bytes(bytes: &[u8], text: &mut [u8])
+    requires at_most_16 { length bytes.now ≤ 16 }
+    requires room { 49 ≤ length text.old }
+    ensures { take (3 * length bytes.now + 1) text.new
+        ≡ flat_map blank_hex_byte bytes.now ++ codes "\n" }
 {
-    let mut text = *b"  00000000 ";
-    hex::encode_to_slice(offset.to_be_bytes(), &mut text[2..10]).unwrap();
-    out.put(&text);
-}
-
-// Prints at most sixteen bytes, each with a blank before it, and ends the line.
-#[tactic(auto, using(crate::proofs::TextLemmas::ends))]
-fn print_bytes<W: Write>(bytes: &[u8], out: &mut Printer<'_, W>)
-    requires { length bytes.now ≤ 16 }
-    ensures { PrintsText W.contents out.old out.new (flat_map blank_hex_byte bytes.now ++ codes "\n") }
-{
-    let mut text = [b' '; LINE_TEXT];
-    for (index, byte) in bytes.iter().enumerate() {
-        let [high, low] = digits_of(*byte);
-        text[3 * index] = b' ';
-        text[3 * index + 1] = high;
-        text[3 * index + 2] = low;
-    }
-    let end = 3 * bytes.len();
-    text[end] = b'\n';
-    out.put(&text[..end + 1]);
-}
-
-// The two digits of a byte.
-fn digits_of(byte: u8) -> [u8; 2]
-    ensures { result ≡ hex_byte byte }
-{
-    let mut digits = [0; 2];
-    hex::encode_to_slice([byte], &mut digits).unwrap();
-    digits
+    let (first, second, third) = spaced_digits(padded(bytes));
+    first.copy_to_slice(&mut text[..16]);
+    second.copy_to_slice(&mut text[16..32]);
+    third.copy_to_slice(&mut text[32..48]);
+    text[3 * bytes.len()] = b'\n';
 }
 
 /// Prints a byte as two upper-case digits and an h, as in `29h`.
