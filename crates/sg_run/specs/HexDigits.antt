@@ -1,0 +1,11 @@
+-- Hexadecimal digits, as they are read.
+use Rattle.std.specs.Prelude.{ℕ, unwrap_or}
+use Rattle.hex.specs.Hex.{hex_digit_value}
+
+-- What is returned for a byte that is no digit.
+abbrev pub no_digit : ℕ
+no_digit = 255
+
+-- The value of a digit in either case.
+abbrev pub digit_or_none : ℕ → ℕ
+digit_or_none byte = unwrap_or (hex_digit_value byte) no_digit

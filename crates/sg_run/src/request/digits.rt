@@ -1,0 +1,37 @@
+// Hexadecimal digits.
+ghost use Rattle.std.specs.Prelude.{◌≡◌, ◌*◌, length, Some, None, if◌then◌else◌};
+ghost use Rattle.std.specs.Result.{result_ok};
+ghost use Rattle.hex.specs.Hex.{decode_of};
+ghost use Rattle.sg_run.specs.HexDigits.{digit_or_none};
+
+// What is returned for a byte that is no digit.
+const NO_DIGIT: u8 = 255;
+
+// The value of a hexadecimal digit in either case, below 16, or 255.
+pub(super) fn digit_value(byte: u8) -> u8
+    ensures { result ≡ digit_or_none byte }
+{
+    match byte {
+        b'0'..=b'9' => byte - b'0',
+        b'a'..=b'f' => byte - b'a' + 10,
+        b'A'..=b'F' => byte - b'A' + 10,
+        _ => NO_DIGIT,
+    }
+}
+
+// Reads pairs of digits into bytes, and returns whether they were digits. All are read in any
+// case, since a test that can end the loop would take longer than the digits after it.
+pub(super) fn decode(digits: &[u8], bytes: &mut [u8]) -> bool
+    requires { length digits.now ≡ 2 * length bytes.old }
+    ensures { result_ok (decode_of digits.now) ≡ (if result then Some bytes.new else None) }
+{
+    let mut are_digits = true;
+    for i in 0..bytes.len() {
+        let high = digit_value(digits[2 * i]);
+        let low = digit_value(digits[2 * i + 1]);
+        are_digits &= high < 16;
+        are_digits &= low < 16;
+        bytes[i] = high.wrapping_mul(16).wrapping_add(low);
+    }
+    are_digits
+}
