@@ -1,8 +1,8 @@
 -- Bytes as hexadecimal text: a line, and lines one after another.
-use Rattle.std.proofs.Common.{◌≡◌, ◌<◌, ◌≤◌, ◌+◌, ◌-◌, ◌*◌, ◌/◌, ℕ, zero, suc, List, [], ◌∷◌, ◌++◌, length, take, drop, set, refl, sym, ap, ◌∙◌, arith, add-zero, zero-add, append_assoc, append-nil, min, length-drop}
-use Rattle.std.proofs.lemmas.List.{length-take-le, take-take, take_more_set, take-append-le, length-append, drop-drop, drop-append-le}
+use Rattle.std.proofs.Common.{◌≡◌, ◌<◌, ◌≤◌, ◌+◌, ◌-◌, ◌*◌, ◌/◌, ◌%◌, ◌^◌, ℕ, zero, suc, List, [], ◌∷◌, ◌++◌, length, take, drop, set, refl, sym, ap, ◌∙◌, arith, add-zero, zero-add, append_assoc, append-nil, min, length-drop}
+use Rattle.std.proofs.lemmas.List.{length-take-le, take-take, take_more_set, take-append-le, length-append, length-set, drop-drop, drop-append-le}
 use Rattle.std.proofs.lemmas.Grind.{common_steps, flat_map-append}
-use Rattle.std.proofs.Math.Seq.{take-append-add, take-append_seam}
+use Rattle.std.proofs.Math.Seq.{take-append-add, take-append_seam, take-set-lt}
 use Rattle.std.proofs.lemmas.Slice.{take-put_mid}
 use Rattle.std.proofs.lemmas.Simd.{length-put_chunk, put_chunk_whole}
 use borrow.Rule.Slice.PartMut.{put_mid, post_of, same_len_mid}
@@ -10,7 +10,7 @@ use lib.Lanes.{put_chunk}
 use Rattle.std.specs.List.{flat_map, range_with_len}
 use Rattle.hex.specs.Hex.{encode_with}
 use Rattle.sg_run.specs.HexText.{hex_byte, hex_offset, hex_line, bytes_of_line, first_hex_lines}
-use Rattle.sg_run.specs.HexPieces.{first_hex_lines_from, hex_lines_from, high_digit, low_digit}
+use Rattle.sg_run.specs.HexPieces.{first_hex_lines_from, hex_lines_from, line_head, high_digit, low_digit}
 use Rattle.sg_wire.specs.Printing.{Printing, Prints}
 use Rattle.sg_wire.proofs.PrintingLemmas.{Prints-on}
 use Rattle.sg_run.proofs.TextLemmas.{hex_line-pieces}
@@ -24,12 +24,33 @@ take-put_more a k m n xs ys within some same =
     rw (count, take-append-add (take a xs) (ys ++ post_of a k xs) m, take-append-le m ys (post_of a k xs) some) refl
 
 -- a line is written, its offset and then its bytes
-pub line-of : (offset k : ℕ) (bytes before written : List ℕ) → 0 < length bytes → take 11 before ≡ codes "  " ++ (hex_offset offset ++ codes " ") → 11 ≤ length before
-    → take (3 * length bytes + 1) written ≡ flat_map (λ byte. 32 ∷ hex_byte byte) bytes ++ codes "\n" → 3 * length bytes + 1 ≤ length written
-    → take (12 + 3 * length bytes) (put_mid 11 k before written) ≡ hex_line offset bytes
-line-of offset k bytes before written some head within tail room =
-    take-put_more 11 k (3 * length bytes + 1) (12 + 3 * length bytes) before written within room (omega arith)
-    ∙ rw (tail, head) (sym (hex_line-pieces offset bytes some))
+pub line-of : (k digit : ℕ) (bytes head before written text : List ℕ) → take 11 before ≡ head → 11 ≤ length before
+    → take (3 * length bytes + 1) written ≡ text → 3 * length bytes + 1 ≤ length written
+    → take (12 + 3 * length bytes) (put_mid 11 k (set before 8 digit) written) ≡ set head 8 digit ++ text
+line-of k digit bytes head before written text first within tail room =
+    let same : length (set before 8 digit) ≡ length before = length-set before 8 digit in
+    let begins : take 11 (set before 8 digit) ≡ set head 8 digit = take-set-lt 11 before 8 digit (omega arith) ∙ ap (λ t. set t 8 digit) first in
+    take-put_more 11 k (3 * length bytes + 1) (12 + 3 * length bytes) (set before 8 digit) written (omega (arith, same)) room (omega arith)
+    ∙ rw (tail, begins) refl
+
+-- the offsets of sixteen lines differ in one digit
+offset-digit : (offset number : ℕ) → offset % 256 ≡ 0 → number < 16 → offset + 16 * number < 2 ^ 32
+    → line_head (codes "  " ++ (hex_offset offset ++ codes " ")) number ≡ codes "  " ++ (hex_offset (offset + 16 * number) ++ codes " ")
+unfolding encode_with
+offset-digit offset number multiple few fits =
+    let first : (offset + 16 * number) / 16777216 ≡ offset / 16777216 = omega arith in
+    let second : (offset + 16 * number) / 65536 ≡ offset / 65536 = omega arith in
+    let third : (offset + 16 * number) / 256 ≡ offset / 256 = omega arith in
+    let high : (offset + 16 * number) % 256 / 16 ≡ number = omega arith in
+    let low : (offset + 16 * number) % 256 % 16 ≡ offset % 256 % 16 = omega arith in
+    rw (first, second, third, high, low) refl
+
+pub line-is : (offset number : ℕ) (head bytes : List ℕ) → take 11 head ≡ codes "  " ++ (hex_offset offset ++ codes " ") → offset % 256 ≡ 0 → number < 16 → offset + 16 * number < 2 ^ 32 → 0 < length bytes
+    → line_head (take 11 head) number ++ (flat_map (λ byte. 32 ∷ hex_byte byte) bytes ++ codes "\n") ≡ hex_line (offset + 16 * number) bytes
+line-is offset number head bytes first multiple few fits some =
+    let rest : List ℕ = flat_map (λ byte. 32 ∷ hex_byte byte) bytes ++ codes "\n" in
+    ap (λ t. line_head t number ++ rest) first ∙ ap (λ t. t ++ rest) (offset-digit offset number multiple few fits)
+    ∙ sym (hex_line-pieces (offset + 16 * number) bytes some)
 
 pub lanes-room : (n : ℕ) (text lanes : List ℕ) → n ≤ 60 → 60 ≤ length text → n ≤ length (put_chunk 0 (take 16 text) lanes ++ drop 16 text)
 lanes-room n text lanes within room =

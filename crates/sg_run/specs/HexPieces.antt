@@ -1,5 +1,5 @@
 -- The pieces in which hexadecimal text is written.
-use Rattle.std.specs.Prelude.{ℕ, ◌+◌, ◌*◌, ◌/◌, ◌%◌, List, [], ◌∷◌, length, slice_index}
+use Rattle.std.specs.Prelude.{ℕ, ◌+◌, ◌*◌, ◌/◌, ◌%◌, List, [], ◌∷◌, length, slice_index, slice_set}
 use Rattle.std.specs.List.{flat_map, range_with_len}
 use Rattle.hex.specs.Hex.{lower_digits}
 use Rattle.sg_run.specs.HexText.{hex_line, bytes_of_line}
@@ -24,3 +24,7 @@ first_hex_lines_from offset count bytes =
 -- All of them.
 abbrev pub hex_lines_from : (offset : ℕ) → List ℕ → List ℕ
 hex_lines_from offset bytes = first_hex_lines_from offset ((length bytes + 15) / 16) bytes
+
+-- What a line has before its bytes, by what line 0 of its sixteen lines has.
+abbrev pub line_head : (first : List ℕ) → (number : ℕ) → List ℕ
+line_head first number = slice_set first 8 (slice_index lower_digits number)

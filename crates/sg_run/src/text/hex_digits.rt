@@ -6,7 +6,7 @@ ghost use Rattle.sg_run.specs.HexPieces.{high_digit, low_digit, spaced_digits};
 
 use std::simd::prelude::*;
 
-const LOWER_DIGITS: [u8; 16] = *b"0123456789abcdef";
+pub(super) const LOWER_DIGITS: [u8; 16] = *b"0123456789abcdef";
 
 /// Two blanks, an offset in eight digits and one more blank: the first 11 lanes. The others do not
 /// matter.

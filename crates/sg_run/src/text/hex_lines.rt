@@ -1,13 +1,14 @@
 // Bytes in hexadecimal.
-ghost use Rattle.std.specs.Prelude.{◌≡◌, ◌<◌, ◌≤◌, ◌+◌, ◌*◌, ◌^◌, ◌++◌, length, take, codes};
+ghost use Rattle.std.specs.Prelude.{◌≡◌, ◌<◌, ◌≤◌, ◌+◌, ◌*◌, ◌%◌, ◌^◌, ◌++◌, length, take, codes};
 ghost use Rattle.std.specs.List.{flat_map};
-ghost use Rattle.sg_run.specs.HexText.{blank_hex_byte, hex_line, hex_lines, upper_hex_byte};
-ghost use Rattle.sg_run.specs.HexPieces.{hex_lines_from};
+ghost use Rattle.sg_run.specs.HexText.{blank_hex_byte, hex_lines, upper_hex_byte};
+ghost use Rattle.sg_run.specs.HexPieces.{hex_lines_from, line_head};
 ghost use Rattle.sg_run.specs.Printed.{PrintsText};
 
-use super::hex_digits::{padded, spaced_digits, spaced_offset};
+use super::hex_digits::{LOWER_DIGITS, padded, spaced_digits, spaced_offset};
 use sg_wire::Printer;
 use std::io::Write;
+use std::simd::prelude::*;
 
 // The bytes of a line, and the length of its text: two blanks, eight digits of the offset, a blank,
 // three characters a byte, and the LF.
@@ -38,37 +39,40 @@ pub(crate) fn print_hex_lines<W: Write>(bytes: &[u8], out: &mut Printer<'_, W>)
     }
 }
 
-// Writes the lines of bytes that begin at an offset over the first bytes of a text, and returns
-// their length.
+// Writes the lines of bytes that begin at an offset, a multiple of 256, over the first bytes of a
+// text, and returns their length.
 #[tactic(auto, unfolding(crate::specs::HexPieces::first_hex_lines_from))]
 fn write_lines(offset: u32, bytes: &[u8], text: &mut [u8]) -> usize
     requires offset { offset + length bytes.now < 2 ^ 32 }
+    requires multiple { offset % 256 ≡ 0 }
     requires at_most_256 { length bytes.now ≤ 256 }
     requires room { 960 ≤ length text.old }
     ensures text { take result text.new ≡ hex_lines_from offset bytes.now }
     ensures length { result ≤ 960 }
 {
+    let head = spaced_offset(offset);
     let mut len = 0;
     for (number, line) in bytes.chunks(LINE_BYTES).enumerate() {
-        len += write_line(
-            offset + (LINE_BYTES * number) as u32,
-            line,
-            &mut text[len..],
-        );
+        len += write_line(head, number, line, &mut text[len..]);
     }
     len
 }
 
-// Writes a line of at most sixteen bytes, likewise.
-fn write_line(offset: u32, bytes: &[u8], text: &mut [u8]) -> usize
+// Writes a line of at most sixteen bytes, likewise. Its offset is that of `head`, but for the last
+// digit but one, which is the line's number.
+fn write_line(head: u8x16, number: usize, bytes: &[u8], text: &mut [u8]) -> usize
+    requires head { length head ≡ 16 }
+    requires number { number < 16 }
     requires not_empty { 0 < length bytes.now }
     requires at_most_16 { length bytes.now ≤ 16 }
     requires room { 60 ≤ length text.old }
-    ensures text { take result text.new ≡ hex_line offset bytes.now }
+    ensures text { take result text.new ≡ line_head (take 11 head) number
+        ++ (flat_map blank_hex_byte bytes.now ++ codes "\n") }
     ensures length { result ≡ 12 + 3 * length bytes.now }
 {
     // Five of the sixteen characters are written over by those of the bytes.
-    spaced_offset(offset).copy_to_slice(&mut text[..16]);
+    head.copy_to_slice(&mut text[..16]);
+    text[8] = LOWER_DIGITS[number];
     write_bytes(bytes, &mut text[11..]);
     12 + 3 * bytes.len()
 }
