@@ -3,7 +3,7 @@ ghost use Rattle.std.specs.Prelude.{◌≡◌, ◌≤◌, false, length, take, r
 ghost use Rattle.sg_wire.specs.Watched.{has_failed, inner_of};
 ghost use Rattle.sg_wire.specs.Sending.{Sends};
 ghost use Rattle.sg_wire.specs.Sense.{fields_of};
-ghost use Rattle.sg_run.specs.Memory.{longest_transfer};
+ghost use Rattle.sg_run.specs.Memory.{gathered_text, longest_transfer, reply_length};
 ghost use Rattle.sg_run.specs.Outcome.{by_request, outcome, reply_outcome, reply_text, status_name};
 ghost use Rattle.sg_run.specs.Printed.{HasOutcome, PrintsText};
 ghost use Rattle.sg_run.specs.Request.{fill};
@@ -11,7 +11,7 @@ ghost use Rattle.sg_run.specs.RequestLines.{line_request};
 ghost use Rattle.sg_wire.specs.SenseData.{read_sense};
 ghost use Rattle.sg_target.specs.Step.{step};
 
-use crate::buffers::Buffers;
+use crate::buffers::{Buffers, LONGEST_TRANSFER};
 use crate::exit_status::exit_status;
 use crate::lines::line::Line;
 use crate::request::{FilledBlocks, Request, read_request};
@@ -47,8 +47,8 @@ pub(crate) fn execute_line<W: Write, S: Store>(
     let request = read_request(line.bytes(), &mut buffers.hex);
     let mut out = Printer::new(writer, &mut buffers.text);
     let data_out = &mut buffers.data_out;
-    let data_in = &mut buffers.data_in;
-    let status = execute_request(number, &request, data_out, data_in, target, &mut out);
+    let reply = &mut buffers.reply;
+    let status = execute_request(number, &request, data_out, reply, target, &mut out);
     out.finish()?;
     Ok(status)
 }
@@ -58,12 +58,12 @@ fn execute_request<W: Write, S: Store>(
     number: u64,
     request: &Request,
     data_out: &mut [u8],
-    data_in: &mut [u8],
+    buffer: &mut [u8],
     target: &mut Target<S>,
     out: &mut Printer<'_, W>,
 ) -> u8
     requires data_out { length data_out.old ≡ longest_transfer }
-    requires data_in { length data_in.old ≡ longest_transfer }
+    requires buffer { length buffer.old ≡ reply_length }
     ensures { HasOutcome W.contents out.old out.new target.new.state result
         (by_request number target.old.state (line_request request.now)) }
 {
@@ -73,8 +73,8 @@ fn execute_request<W: Write, S: Store>(
             print_line_header(number, fault.message(), out);
             1
         }
-        Request::Send(call) => send(number, call, data_in, target, out),
-        Request::Fill(blocks) => fill_blocks(number, blocks, data_out, data_in, target, out),
+        Request::Send(call) => send(number, call, buffer, target, out),
+        Request::Fill(blocks) => fill_blocks(number, blocks, data_out, buffer, target, out),
     }
 }
 
@@ -83,12 +83,12 @@ fn fill_blocks<W: Write, S: Store>(
     number: u64,
     blocks: &FilledBlocks,
     data_out: &mut [u8],
-    data_in: &mut [u8],
+    buffer: &mut [u8],
     target: &mut Target<S>,
     out: &mut Printer<'_, W>,
 ) -> u8
     requires data_out { length data_out.old ≡ longest_transfer }
-    requires data_in { length data_in.old ≡ longest_transfer }
+    requires buffer { length buffer.old ≡ reply_length }
     ensures { let b = blocks.now in HasOutcome W.contents out.old out.new target.new.state result
         (by_request number target.old.state (fill b.initiator b.lba b.count b.byte)) }
 {
@@ -100,7 +100,7 @@ fn fill_blocks<W: Write, S: Store>(
         cdb: cdb.as_slice(),
         data_out: &data_out[..len],
     };
-    send(number, &call, data_in, target, out)
+    send(number, &call, buffer, target, out)
 }
 
 // Fills the first bytes of a buffer.
@@ -115,29 +115,33 @@ fn fill_prefix(buffer: &mut [u8], len: usize, byte: u8)
 fn send<W: Write, S: Store>(
     number: u64,
     call: &Call,
-    data_in: &mut [u8],
+    buffer: &mut [u8],
     target: &mut Target<S>,
     out: &mut Printer<'_, W>,
 ) -> u8
-    requires { length data_in.old ≡ longest_transfer }
+    requires { length buffer.old ≡ reply_length }
     ensures { let c = call.now in HasOutcome W.contents out.old out.new target.new.state result
         (reply_outcome number (step target.old.state c.initiator c.cdb.now c.data_out.now)) }
 {
+    let (data_in, lines) = buffer.split_at_mut(LONGEST_TRANSFER);
     let reply = target.execute(call.initiator, call.cdb, call.data_out, data_in);
     let sense = Sense::read(reply.sense.as_slice());
-    print_reply(number, &reply, sense, &data_in[..reply.data_in], out);
+    print_reply(number, &reply, sense, &data_in[..reply.data_in], lines, out);
     exit_status(reply.status, sense)
 }
 
-// Prints a reply: its status, its sense data, of which `sense` was read, and its data-in.
+// Prints a reply: its status, its sense data, of which `sense` was read, and its
+// data-in, by lines that are gathered in `lines`.
 #[tactic(auto, using(crate::proofs::TextLemmas::prints))]
 fn print_reply<W: Write>(
     number: u64,
     reply: &Reply,
     sense: Option<Sense>,
     data_in: &[u8],
+    lines: &mut [u8],
     out: &mut Printer<'_, W>,
 )
+    requires lines { gathered_text ≤ length lines.old }
     requires data_in { length data_in.now ≤ longest_transfer }
     requires sense { option_map fields_of sense ≡ read_sense reply.now.sense }
     ensures { PrintsText W.contents out.old out.new
@@ -145,7 +149,7 @@ fn print_reply<W: Write>(
 {
     print_line_header(number, status_name(reply.status), out);
     print_sense(reply.sense.as_slice(), sense, out);
-    print_hex_lines(data_in, out);
+    print_hex_lines(data_in, lines, out);
 }
 
 fn status_name(status: Status) -> &'static [u8]

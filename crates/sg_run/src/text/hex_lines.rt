@@ -3,6 +3,7 @@ ghost use Rattle.std.specs.Prelude.{◌≡◌, ◌<◌, ◌≤◌, ◌+◌, ◌*
 ghost use Rattle.std.specs.List.{flat_map};
 ghost use Rattle.sg_run.specs.HexText.{blank_hex_byte, hex_lines, upper_hex_byte};
 ghost use Rattle.sg_run.specs.HexPieces.{hex_lines_from, line_head};
+ghost use Rattle.sg_run.specs.Memory.{gathered_text};
 ghost use Rattle.sg_run.specs.Printed.{PrintsText};
 
 use super::hex_digits::{LOWER_DIGITS, padded, spaced_digits, spaced_offset};
@@ -20,21 +21,21 @@ const LINE_TEXT: usize = 60;
 // small parts are slow to copy.
 const LINES: usize = 16;
 
+/// The length of the text of the lines that are gathered.
+pub(crate) const GATHERED_TEXT: usize = LINES * LINE_TEXT;
+
 const UPPER_DIGITS: [u8; 16] = *b"0123456789ABCDEF";
 
 /// Prints bytes in lines of sixteen: the offset of the first in eight digits, and each byte as
-/// two digits, all in lower case.
+/// two digits, all in lower case. They are gathered in `text`.
 #[tactic(auto, using(crate::proofs::TextLemmas::prints), unfolding(crate::specs::HexText::first_hex_lines))]
-pub(crate) fn print_hex_lines<W: Write>(bytes: &[u8], out: &mut Printer<'_, W>)
-    requires { length bytes.now < 2 ^ 32 }
+pub(crate) fn print_hex_lines<W: Write>(bytes: &[u8], text: &mut [u8], out: &mut Printer<'_, W>)
+    requires bytes { length bytes.now < 2 ^ 32 }
+    requires text { gathered_text ≤ length text.old }
     ensures { PrintsText W.contents out.old out.new (hex_lines bytes.now) }
 {
-    if bytes.is_empty() {
-        return;
-    }
-    let mut text = [0; LINES * LINE_TEXT];
     for (number, lines) in bytes.chunks(LINES * LINE_BYTES).enumerate() {
-        let len = write_lines((LINES * LINE_BYTES * number) as u32, lines, &mut text);
+        let len = write_lines((LINES * LINE_BYTES * number) as u32, lines, text);
         out.put(&text[..len]);
     }
 }
@@ -46,9 +47,9 @@ fn write_lines(offset: u32, bytes: &[u8], text: &mut [u8]) -> usize
     requires offset { offset + length bytes.now < 2 ^ 32 }
     requires multiple { offset % 256 ≡ 0 }
     requires at_most_256 { length bytes.now ≤ 256 }
-    requires room { 960 ≤ length text.old }
+    requires room { gathered_text ≤ length text.old }
     ensures text { take result text.new ≡ hex_lines_from offset bytes.now }
-    ensures length { result ≤ 960 }
+    ensures length { result ≤ gathered_text }
 {
     let head = spaced_offset(offset);
     let mut len = 0;
