@@ -1,8 +1,8 @@
 -- Hexadecimal digits that are read two at a time.
-use Rattle.std.proofs.Common.{◌≡◌, ◌<◌, ◌≤◌, ℕ, ◌+◌, ◌*◌, ◌%◌, List, length, take, drop, slice_index, slice_set, Bool, true, false, cond, Option, Some, None, Ok, Err, refl, ap, ◌∙◌, arith}
-use Rattle.std.specs.Prelude.{◌&&◌, nat_lt, unwrap_or}
+use Rattle.std.proofs.Common.{◌≡◌, ◌<◌, ◌≤◌, ℕ, zero, suc, inl, inr, ◌+◌, ◌*◌, ◌%◌, List, length, take, drop, slice_index, slice_set, Bool, true, false, cond, Option, Some, None, Ok, Err, refl, ap, ◌∙◌, arith}
+use Rattle.std.specs.Prelude.{◌&&◌, ◌==◌, nat_lt, unwrap_or}
 use Rattle.std.specs.Result.{result_ok}
-use Rattle.std.proofs.lemmas.Bool.{lt-ltb}
+use Rattle.std.proofs.lemmas.Bool.{and_parts, cases_lt, eqb-true, lt-ltb}
 use Rattle.hex.specs.Hex.{decode_of, decode_pairs, digit_or_error, hex_digit_value, pair_value, value_at}
 use Rattle.hex.specs.declared.error.FromHexError.TheVariants.{InvalidHexCharacter}
 use Rattle.hex.proofs.Pairs.{prepend, decode_start, decode_step, decode_err, decode_done}
@@ -66,3 +66,21 @@ pub all_pairs : (are_digits : Bool) (s out : List ℕ) (i : ℕ) → length out 
     → result_ok (decode_of s) ≡ cond are_digits (Some out) None
 all_pairs true s out i all long so_far = ap result_ok (decode_of-even s (omega arith) ∙ decode_done s out i all (omega arith) so_far)
 all_pairs false s out i all long so_far = ap result_ok (decode_of-even s (omega arith)) ∙ so_far
+
+-- ---- a table of digits
+
+-- the test of the first n places of a table, which computes
+abbrev pub has_values : List ℕ → ℕ → Bool
+has_values table zero = true
+has_values table (suc n) = (slice_index table n == digit_or_none n) && has_values table n
+
+pub value-at : (table : List ℕ) (n byte : ℕ) → has_values table n ≡ true → byte < n → slice_index table byte ≡ digit_or_none byte
+value-at table zero byte h below = absurd (omega arith)
+value-at table (suc n) byte h below =
+    let parts = and_parts (slice_index table n == digit_or_none n) (has_values table n) h in
+    elim (cases_lt byte n) [
+      | inl before ↦ value-at table n byte parts.1 before
+      | inr last ↦
+          let same : byte ≡ n = omega arith in
+          rw same (eqb-true (slice_index table n) (digit_or_none n) parts.0)
+    ]
