@@ -14,10 +14,10 @@ use Rattle.sg_blocks.proofs.IndexLemmas.{sorted-insert, mapped_among-indices}
 use Rattle.sg_blocks.proofs.BlockLemmas.{added, overwritten}
 
 -- how often a slot occurs among those of the records and the free ones, of which one is taken
-parted : (t s : ℕ) (used free : List ℕ) → occurrences t (used ++ s ∷ free) ≡ occurrences t used + (one_if_equal t s + occurrences t free)
+pub parted : (t s : ℕ) (used free : List ℕ) → occurrences t (used ++ s ∷ free) ≡ occurrences t used + (one_if_equal t s + occurrences t free)
 parted t s used free = occurrences-append t used (s ∷ free) ∙ ap (λ n. occurrences t used + n) (occurrences-more t s free)
 
-same_slot : (s : ℕ) → one_if_equal s s ≡ 1
+pub same_slot : (s : ℕ) → one_if_equal s s ≡ 1
 same_slot s = ap (λ (b : Bool). cond b 1 0) (eq-eqb s s refl)
 
 -- a slot that is taken is among the slots, and no record has it

@@ -11,5 +11,6 @@ pub mod CursorLemmas
 pub mod BlockLemmas
 pub mod IndexLemmas
 pub mod ConsistencyLemmas
+pub mod UnmapLemmas
 pub mod EditingLemmas
 pub mod WellFormedLemmas

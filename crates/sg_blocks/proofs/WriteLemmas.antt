@@ -6,8 +6,8 @@ use Rattle.std.specs.Prelude.{◌||◌, unwrap_or}
 use Rattle.std.specs.Ordering.{nat_cmp, eq_by_cmp}
 use Rattle.std.specs.Cmp.{nat_cmp_total}
 use Rattle.std.specs.FinMap as map
-use Rattle.sg_blocks.specs.Disk.{Contents, block_at, written, zero_block}
-use Rattle.sg_blocks.specs.Laws.{lies_in, WritesEachBlock, MapsEachAddress}
+use Rattle.sg_blocks.specs.Disk.{Contents, block_at, lies_in, written, zero_block}
+use Rattle.sg_blocks.specs.Laws.{WritesEachBlock, MapsEachAddress}
 use Rattle.sg_blocks.proofs.DiskLemmas.{written-none, written-more, eq_other}
 use Rattle.sg_blocks.proofs.RecordLemmas.{eq_same}
 

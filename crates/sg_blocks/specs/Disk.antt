@@ -1,9 +1,9 @@
 -- The disk: blocks of 512 bytes, of which those that were written are mapped (SBC-3, 4.7, logical
 -- block provisioning).
-use Rattle.std.specs.Prelude.{◌≡◌, ℕ, ◌+◌, ◌*◌, ◌<◌, List, [], ◌∷◌, Some, length, take, drop, replicate, unwrap_or, map}
+use Rattle.std.specs.Prelude.{◌≡◌, ℕ, ◌+◌, ◌*◌, ◌<◌, Bool, ◌&&◌, not, nat_le, nat_lt, List, [], ◌∷◌, Some, length, take, drop, replicate, unwrap_or, map}
 use Rattle.std.specs.List.{flat_map, range_with_len, count_by}
 use Rattle.std.specs.Ordering.{nat_cmp}
-use Rattle.std.specs.FinMap.{FinMap, get, insert, contains_key, empty, len}
+use Rattle.std.specs.FinMap.{FinMap, get, insert, contains_key, retain_keys, empty, len}
 use Rattle.sg_blocks.specs.declared.store.TheConstants.{BLOCK_LENGTH}
 
 -- The mapped addresses, each with its block.
@@ -56,6 +56,18 @@ written contents lba count bytes = with_blocks contents (addressed lba count byt
 -- The disk with the blocks from an address on replaced.
 abbrev pub disk_written : Disk → (lba count : ℕ) → List ℕ → Disk
 disk_written disk lba count bytes = record disk { contents = written disk.contents lba count bytes }
+
+-- Whether an address lies in a range.
+abbrev pub lies_in : (lba count address : ℕ) → Bool
+lies_in lba count address = nat_le lba address && nat_lt address (lba + count)
+
+-- The addresses of a range are mapped no more.
+unfoldable pub unmapped : Contents → (lba count : ℕ) → Contents
+unmapped contents lba count = retain_keys contents (λ address. not (lies_in lba count address))
+
+-- The disk with a range unmapped.
+abbrev pub disk_unmapped : Disk → (lba count : ℕ) → Disk
+disk_unmapped disk lba count = record disk { contents = unmapped disk.contents lba count }
 
 -- More addresses are mapped than the pool has blocks.
 abbrev pub IsOverfull : Disk → Type 0

@@ -1,11 +1,7 @@
--- What a write does, address by address.
-use Rattle.std.specs.Prelude.{◌≡◌, ℕ, ◌+◌, ◌-◌, List, Bool, ◌&&◌, ◌||◌, nat_lt, nat_le, if◌then◌else◌}
+-- What the calls that change a disk do, address by address.
+use Rattle.std.specs.Prelude.{◌≡◌, ℕ, ◌-◌, List, ◌&&◌, ◌||◌, not, if◌then◌else◌}
 use Rattle.std.specs.FinMap.{contains_key}
-use Rattle.sg_blocks.specs.Disk.{Contents, block, block_at, written}
-
--- Whether an address lies in a range.
-abbrev pub lies_in : (lba count address : ℕ) → Bool
-lies_in lba count address = nat_le lba address && nat_lt address (lba + count)
+use Rattle.sg_blocks.specs.Disk.{Contents, block, block_at, zero_block, lies_in, written, unmapped}
 
 -- After a write, the block at an address is the one given for it inside the range, and the old one
 -- outside.
@@ -19,3 +15,15 @@ abbrev pub MapsEachAddress : Type 0
 MapsEachAddress = (contents : Contents) (lba count : ℕ) (bytes : List ℕ) (address : ℕ) →
     contains_key (written contents lba count bytes) address
     ≡ (lies_in lba count address || contains_key contents address)
+
+-- After an unmap, the block at an address is zeros inside the range, and the old one outside.
+abbrev pub UnmapsEachBlock : Type 0
+UnmapsEachBlock = (contents : Contents) (lba count address : ℕ) →
+    block (unmapped contents lba count) address
+    ≡ (if lies_in lba count address then zero_block else block contents address)
+
+-- After an unmap, no address of the range is mapped, and outside it those that were.
+abbrev pub UnmapsEachAddress : Type 0
+UnmapsEachAddress = (contents : Contents) (lba count address : ℕ) →
+    contains_key (unmapped contents lba count) address
+    ≡ (not (lies_in lba count address) && contains_key contents address)

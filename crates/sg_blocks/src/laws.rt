@@ -1,6 +1,6 @@
-//! What a write does, address by address: laws above the definitions that [`Store`](crate::Store)
-//! cites.
-ghost use Rattle.sg_blocks.specs.Laws.{WritesEachBlock, MapsEachAddress};
+//! What the calls that change a disk do, address by address: laws above the definitions that
+//! [`Store`](crate::Store) cites.
+ghost use Rattle.sg_blocks.specs.Laws.{WritesEachBlock, MapsEachAddress, UnmapsEachBlock, UnmapsEachAddress};
 
 /// After a write, the block at an address is the one given for it inside the range, and the old one
 /// outside.
@@ -11,4 +11,15 @@ pub fn a_write_replaces_the_blocks_of_its_range()
 /// After a write, the addresses of the range are mapped, and outside it those that were.
 pub fn a_write_maps_the_addresses_of_its_range()
     ensures { MapsEachAddress }
+{}
+
+/// After an unmap, the block at an address is zeros inside the range, and the old one outside. So
+/// no call can read what was written there before.
+pub fn an_unmap_zeroes_the_blocks_of_its_range()
+    ensures { UnmapsEachBlock }
+{}
+
+/// After an unmap, no address of the range is mapped, and outside it those that were.
+pub fn an_unmap_leaves_no_address_of_its_range_mapped()
+    ensures { UnmapsEachAddress }
 {}

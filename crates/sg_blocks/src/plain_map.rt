@@ -1,6 +1,7 @@
 mod cursor;
 mod draft;
 mod read;
+mod unmap;
 mod write;
 
 ghost use Rattle.std.specs.Prelude.{◌≡◌, ◌≤◌};
@@ -17,6 +18,7 @@ use crate::table::RunTable;
 use draft::Draft;
 use read::read_blocks;
 use std::alloc::{AllocError, Global};
+use unmap::unmap_records;
 use write::write_blocks;
 
 /// A disk of which each mapped block has a record of its own (SBC-3, 4.7).
@@ -83,6 +85,12 @@ impl Store for PlainMap {
             bytes,
         );
         Ok(())
+    }
+
+    fn unmap(&mut self, lba: u64, count: u32) {
+        let from = self.table.lower_bound(lba);
+        let to = self.table.lower_bound(lba + u64::from(count));
+        unmap_records(&mut self.table, &mut self.pool, from, to, lba, count);
     }
 
     fn mapped(&self) -> u32 {

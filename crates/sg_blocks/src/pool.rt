@@ -2,7 +2,7 @@
 ghost use Rattle.std.specs.Prelude.{◌≡◌, ◌<◌, ◌+◌, ◌∷◌, ◌≤◌, length, slice_index_or, slice_set, IfOk};
 ghost use Rattle.std.specs.List.{range_with_len};
 ghost use Rattle.sg_blocks.specs.Disk.{zero_block};
-ghost use Rattle.sg_blocks.specs.Slots.{IsEachOnce};
+ghost use Rattle.sg_blocks.specs.Slots.{IsEachOnce, occurrences};
 
 use crate::store::{BLOCK_LENGTH, MAX_POOL};
 use std::alloc::{AllocError, Global};
@@ -30,7 +30,8 @@ impl Model for Pool {
       free = chain p.next.items p.first_free p.free_count;
     } };
 
-    ghost invariant = { λ p. AreBelow (length p.next.items) (chain p.next.items p.first_free p.free_count) };
+    ghost invariant = { λ p. (length p.next.items ≡ length p.blocks.items)
+        × AreBelow (length p.blocks.items) (chain p.next.items p.first_free p.free_count) };
 }
 
 /// The links of `count` slots, from each to the one after it.
@@ -99,5 +100,18 @@ impl Pool {
         self.first_free = self.next[slot as usize];
         self.free_count -= 1;
         slot
+    }
+
+    /// Frees a slot, which is taken again before the others that are free.
+    pub fn give(&mut self, slot: u32)
+        requires slot { slot < length self.old.blocks }
+        requires used { occurrences slot self.old.free ≡ 0 }
+        requires room { length self.old.free < MAX_POOL }
+        ensures free { self.new.free ≡ slot ∷ self.old.free }
+        ensures blocks { self.new.blocks ≡ self.old.blocks }
+    {
+        self.next[slot as usize] = self.first_free;
+        self.first_free = slot;
+        self.free_count += 1;
     }
 }

@@ -1,6 +1,6 @@
 ghost use Rattle.std.specs.Prelude.{◌≡◌, ℕ, ◌+◌, ◌*◌, ◌<◌, ◌≤◌, ◌↔◌, length, IfOk, OnOk, OnErr, IsErr};
 ghost use Rattle.std.specs.FinMap.{len};
-ghost use Rattle.sg_blocks.specs.Disk.{Contents, Disk, IsWellFormed, IsOverfull, empty_disk, blocks, disk_written, mapped_among};
+ghost use Rattle.sg_blocks.specs.Disk.{Contents, Disk, IsWellFormed, IsOverfull, empty_disk, blocks, disk_written, disk_unmapped, mapped_among};
 ghost use Rattle.sg_blocks.specs.Meter.{Meter, new_meter, restarted, HasHeadroom, Costs};
 
 use std::alloc::{AllocError, Global};
@@ -100,6 +100,22 @@ pub trait Store: Drop {
             ≤ (meter self.old).total + price (disk self.old).contents lba count }
         ensures least { OnOk result ((meter self.old).total + least (disk self.old).contents lba count
             ≤ (meter self.new).total) };
+
+    /// Unmaps the addresses from one on: their blocks read as zeros from then on, and the pool has
+    /// room for as many others (SBC-3, 5.28).
+    fn unmap(&mut self, lba: u64, count: u32)
+        requires range { lba + count ≤ (disk self.old).capacity }
+        requires headroom { HasHeadroom (meter self.old).counts }
+
+        // The addresses are mapped no more.
+        ensures disk { disk self.new ≡ disk_unmapped (disk self.old) lba count }
+
+        // What the call costs, and between which bounds its visits lie.
+        ensures cost { Costs (disk self.old).pool (meter self.old) (meter self.new) }
+        ensures price { (meter self.new).total
+            ≤ (meter self.old).total + price (disk self.old).contents lba count }
+        ensures least { (meter self.old).total + least (disk self.old).contents lba count
+            ≤ (meter self.new).total };
 
     /// How many addresses are mapped.
     fn mapped(&self) -> u32

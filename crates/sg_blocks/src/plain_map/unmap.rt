@@ -1,0 +1,35 @@
+ghost use Rattle.std.specs.Prelude.{◌≡◌, ◌+◌, ◌-◌, ◌≤◌};
+ghost use Rattle.sg_blocks.specs.Disk.{unmapped};
+ghost use Rattle.sg_blocks.specs.Records.{IsLowerBound};
+ghost use Rattle.sg_blocks.specs.Slots.{IsConsistent};
+ghost use Rattle.sg_blocks.specs.Table.{visited};
+ghost use Rattle.sg_blocks.specs.PlainMap.Editing.{IsReady, VisitsRange, stored};
+
+use crate::pool::Pool;
+use crate::table::RunTable;
+
+/// Frees the slots of a range, and removes its records, which are those from one index to another.
+pub fn unmap_records(
+    table: &mut RunTable,
+    pool: &mut Pool,
+    from: usize,
+    to: usize,
+    lba: u64,
+    count: u32,
+)
+    requires ready { IsReady table.old pool.old from lba count }
+    requires end { IsLowerBound table.old.records to (lba + count) }
+
+    // The addresses are unmapped, and the table changes by its records and its visits alone.
+    ensures contents { stored table.new pool.new ≡ unmapped (stored table.old pool.old) lba count }
+    ensures consistent { IsConsistent table.new.records pool.new.blocks pool.new.free table.new.room }
+    ensures table { table.new
+        ≡ record (visited table.old (table.new.total - table.old.total)) { records = table.new.records } }
+    ensures visits { VisitsRange (stored table.old pool.old) lba count table.old table.new }
+{
+    for index in from..to {
+        let run = table.visit(index);
+        pool.give(run.slot);
+    }
+    table.splice(from, to, &[]);
+}
