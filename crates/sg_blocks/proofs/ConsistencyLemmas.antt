@@ -3,11 +3,11 @@ use Rattle.std.proofs.Common.{◌≡◌, ◌≢◌, ℕ, ◌+◌, ◌-◌, ◌<�
 use Rattle.std.proofs.lemmas.List.Edits.{length-insert}
 use Rattle.std.specs.Prelude.{insert}
 use Rattle.std.specs.FinMap as map
-use Rattle.sg_blocks.specs.Disk.{mapped_among, written}
+use Rattle.sg_blocks.specs.Disk.{mapped_among, replaced}
 use Rattle.sg_blocks.specs.Records.{start_of, IsSorted, contents_of, HaveSlots, IsLowerBound}
 use Rattle.sg_blocks.specs.Slots.{slots_of, one_if_equal, occurrences, IsEachOnce, IsConsistent}
 use Rattle.sg_blocks.specs.declared.run.Run.{Run}
-use Rattle.sg_blocks.proofs.DiskLemmas.{len-written}
+use Rattle.sg_blocks.proofs.DiskLemmas.{len-replaced}
 use Rattle.sg_blocks.proofs.RecordLemmas.{len-contents_of}
 use Rattle.sg_blocks.proofs.OccurrenceLemmas.{occurrences-append, occurrences-more, occurrences-at, occurrences-insert, once-le, below_count}
 use Rattle.sg_blocks.proofs.IndexLemmas.{sorted-insert, mapped_among-indices}
@@ -77,11 +77,11 @@ contents-over rs bs free room i r b consistent h e =
     overwritten rs bs i r b consistent.sorted h e (have_slots rs bs free room consistent i r h (sym e)) (used_once (length bs) (slots_of rs) free r.slot consistent.once)
 
 -- the slots that a range needs, from the indices where it begins and ends
-pub len-after : (rs : List Run) (bs : List (List ℕ)) (free : List ℕ) (room i j a k : ℕ) (bytes : List ℕ) → IsConsistent rs bs free room → IsLowerBound rs i a → IsLowerBound rs j (a + k)
-    → map.len (written (contents_of rs bs) a k bytes) + length free + (j - i) ≡ room + k
-len-after rs bs free room i j a k bytes consistent p q =
+pub len-after : (rs : List Run) (bs : List (List ℕ)) (free : List ℕ) (room i j a k : ℕ) (f : ℕ → List ℕ) → IsConsistent rs bs free room → IsLowerBound rs i a → IsLowerBound rs j (a + k)
+    → map.len (replaced (contents_of rs bs) a k f) + length free + (j - i) ≡ room + k
+len-after rs bs free room i j a k f consistent p q =
     let mapped = mapped_among-indices rs bs i a k j consistent.sorted p q in
-    let len = len-written (contents_of rs bs) a k bytes in
+    let len = len-replaced (contents_of rs bs) a k f in
     let all = len-contents_of rs bs consistent.sorted in
     omega (arith, consistent.count)
 

@@ -12,5 +12,6 @@ pub mod BlockLemmas
 pub mod IndexLemmas
 pub mod ConsistencyLemmas
 pub mod UnmapLemmas
+pub mod SourceLemmas
 pub mod EditingLemmas
 pub mod WellFormedLemmas

@@ -5,8 +5,8 @@ use Rattle.std.specs.Cmp.{nat_cmp_total}
 use Rattle.std.specs.FinMap as map
 use Rattle.std.specs.FinMap.{nat_cmp-IsAntisymmetric}
 use Rattle.std.specs.declared.cmp.Ordering.TheVariants.{Less, Equal, Greater}
-use Rattle.sg_blocks.specs.Disk.{Contents, IsWellFormed, block_at, written}
-use Rattle.sg_blocks.proofs.DiskLemmas.{written-none, written-more}
+use Rattle.sg_blocks.specs.Disk.{Contents, IsWellFormed, replaced}
+use Rattle.sg_blocks.proofs.DiskLemmas.{replaced-none, replaced-more}
 
 none-some : (mapped : List ℕ) → None ≡ Some mapped → ⊥
 none-some mapped e = cc
@@ -31,12 +31,9 @@ well_formed-insert capacity m a block whole below len = record {
   each = λ q mapped e. one-more capacity m a block whole below len q mapped (sym (map.get-insert nat_cmp_total m a block q) ∙ e);
 }
 
-block-length : (bytes : List ℕ) (k : ℕ) → 512 * (k + 1) ≤ length bytes → length (block_at bytes k) ≡ 512
-block-length bytes k h = omega (arith, length-take 512 (drop (512 * k) bytes), length-drop (512 * k) bytes)
-
-pub well_formed-written : (capacity : ℕ) (m : Contents) (a k : ℕ) (bytes : List ℕ) → IsWellFormed capacity m → a + k ≤ capacity → 512 * k ≤ length bytes → IsWellFormed capacity (written m a k bytes)
-well_formed-written capacity m a zero bytes whole range len = rw (written-none m a bytes) whole
-well_formed-written capacity m a (suc k) bytes whole range len =
+pub well_formed-replaced : (capacity : ℕ) (m : Contents) (a k : ℕ) (f : ℕ → List ℕ) → IsWellFormed capacity m → a + k ≤ capacity → ((i : ℕ) → i < k → length (f i) ≡ 512) → IsWellFormed capacity (replaced m a k f)
+well_formed-replaced capacity m a zero f whole range len = rw (replaced-none m a f) whole
+well_formed-replaced capacity m a (suc k) f whole range len =
     let e : suc k ≡ k + 1 = omega arith in
-    rw (e, written-more m a k bytes) (well_formed-insert capacity (written m a k bytes) (a + k) (block_at bytes k)
-    (well_formed-written capacity m a k bytes whole (omega arith) (omega arith)) (omega arith) (block-length bytes k (omega arith)))
+    rw (e, replaced-more m a k f) (well_formed-insert capacity (replaced m a k f) (a + k) (f k)
+    (well_formed-replaced capacity m a k f whole (omega arith) (λ i lt. len i (omega arith))) (omega arith) (len k (omega arith)))

@@ -1,4 +1,4 @@
--- What a write does at each address.
+-- What replacing blocks does at each address.
 use Rattle.std.proofs.Common.{◌≡◌, ◌≢◌, ℕ, ◌+◌, ◌-◌, zero, suc, List, refl, ap, ◌∙◌, arith, cond, Bool, true, false, Option, Some, is_some, inl, inr}
 use Rattle.std.proofs.lemmas.Bool.{cases_lt}
 use Rattle.std.proofs.lemmas.Bool.Decides.{nat_tests}
@@ -6,9 +6,9 @@ use Rattle.std.specs.Prelude.{◌||◌, unwrap_or}
 use Rattle.std.specs.Ordering.{nat_cmp, eq_by_cmp}
 use Rattle.std.specs.Cmp.{nat_cmp_total}
 use Rattle.std.specs.FinMap as map
-use Rattle.sg_blocks.specs.Disk.{Contents, block_at, lies_in, written, zero_block}
-use Rattle.sg_blocks.specs.Laws.{WritesEachBlock, MapsEachAddress}
-use Rattle.sg_blocks.proofs.DiskLemmas.{written-none, written-more, eq_other}
+use Rattle.sg_blocks.specs.Disk.{Contents, block, block_at, lies_in, replaced, zero_block}
+use Rattle.sg_blocks.specs.Laws.{WritesEachBlock, MapsEachAddress, FillsEachBlock, FillMapsEachAddress}
+use Rattle.sg_blocks.proofs.DiskLemmas.{replaced-none, replaced-more, eq_other}
 use Rattle.sg_blocks.proofs.RecordLemmas.{eq_same}
 
 lies_in-none : (a q : ℕ) → lies_in a 0 q ≡ false
@@ -21,13 +21,13 @@ lies_in-other : (a k q : ℕ) → q ≢ a + k → lies_in a (k + 1) q ≡ lies_i
 lies_in-other a k q e = grind (arith, nat_tests)
 
 -- the block that is found at an address, if it lies in the range or else was there
-abbrev found : (a k : ℕ) → List ℕ → (q : ℕ) → Option (List ℕ) → Option (List ℕ)
-found a k bytes q before = cond (lies_in a k q) (Some (block_at bytes (q - a))) before
+abbrev found : (a k : ℕ) → (ℕ → List ℕ) → (q : ℕ) → Option (List ℕ) → Option (List ℕ)
+found a k f q before = cond (lies_in a k q) (Some (f (q - a))) before
 
-one-more : (a k : ℕ) (bytes : List ℕ) (q : ℕ) (before : Option (List ℕ)) →
-    cond (eq_by_cmp nat_cmp q (a + k)) (Some (block_at bytes k)) (found a k bytes q before) ≡ found a (k + 1) bytes q before
-one-more a k bytes q before =
-    let other : q ≢ a + k → cond (eq_by_cmp nat_cmp q (a + k)) (Some (block_at bytes k)) (found a k bytes q before) ≡ found a (k + 1) bytes q before
+one-more : (a k : ℕ) (f : ℕ → List ℕ) (q : ℕ) (before : Option (List ℕ)) →
+    cond (eq_by_cmp nat_cmp q (a + k)) (Some (f k)) (found a k f q before) ≡ found a (k + 1) f q before
+one-more a k f q before =
+    let other : q ≢ a + k → cond (eq_by_cmp nat_cmp q (a + k)) (Some (f k)) (found a k f q before) ≡ found a (k + 1) f q before
     = λ ne. rw (eq_other q (a + k) ne, lies_in-other a k q ne) refl in
     elim (cases_lt q (a + k)) [
       | inl below ↦ other (λ e. absurd (omega arith))
@@ -40,13 +40,13 @@ one-more a k bytes q before =
       ]
     ]
 
-pub get-written : (m : Contents) (a k : ℕ) (bytes : List ℕ) (q : ℕ) → map.get (written m a k bytes) q ≡ found a k bytes q (map.get m q)
-get-written m a zero bytes q = rw (written-none m a bytes, lies_in-none a q) refl
-get-written m a (suc k) bytes q = let e : suc k ≡ k + 1 = omega arith in
-    rw (e, written-more m a k bytes) (
-    map.get-insert nat_cmp_total (written m a k bytes) (a + k) (block_at bytes k) q
-    ∙ ap (cond (eq_by_cmp nat_cmp q (a + k)) (Some (block_at bytes k))) (get-written m a k bytes q)
-    ∙ one-more a k bytes q (map.get m q))
+pub get-replaced : (m : Contents) (a k : ℕ) (f : ℕ → List ℕ) (q : ℕ) → map.get (replaced m a k f) q ≡ found a k f q (map.get m q)
+get-replaced m a zero f q = rw (replaced-none m a f, lies_in-none a q) refl
+get-replaced m a (suc k) f q = let e : suc k ≡ k + 1 = omega arith in
+    rw (e, replaced-more m a k f) (
+    map.get-insert nat_cmp_total (replaced m a k f) (a + k) (f k) q
+    ∙ ap (cond (eq_by_cmp nat_cmp q (a + k)) (Some (f k))) (get-replaced m a k f q)
+    ∙ one-more a k f q (map.get m q))
 
 block-found : (b : Bool) (x y : Option (List ℕ)) (z : List ℕ) → x ≡ Some z → unwrap_or (cond b x y) zero_block ≡ cond b z (unwrap_or y zero_block)
 block-found true x y z e = ap (λ o. unwrap_or o zero_block) e
@@ -56,9 +56,20 @@ is-found : (b : Bool) (x : List ℕ) (y : Option (List ℕ)) → is_some (cond b
 is-found true x y = refl
 is-found false x y = refl
 
+block-replaced : (m : Contents) (a k : ℕ) (f : ℕ → List ℕ) (q : ℕ) → block (replaced m a k f) q ≡ cond (lies_in a k q) (f (q - a)) (block m q)
+block-replaced m a k f q = ap (λ o. unwrap_or o zero_block) (get-replaced m a k f q) ∙ block-found (lies_in a k q) (Some (f (q - a))) (map.get m q) (f (q - a)) refl
+
+contains-replaced : (m : Contents) (a k : ℕ) (f : ℕ → List ℕ) (q : ℕ) → map.contains_key (replaced m a k f) q ≡ (lies_in a k q || map.contains_key m q)
+contains-replaced m a k f q = ap is_some (get-replaced m a k f q) ∙ is-found (lies_in a k q) (f (q - a)) (map.get m q)
+
 pub block-written : WritesEachBlock
-block-written m a k bytes q =
-    ap (λ o. unwrap_or o zero_block) (get-written m a k bytes q) ∙ block-found (lies_in a k q) (Some (block_at bytes (q - a))) (map.get m q) (block_at bytes (q - a)) refl
+block-written m a k bytes = block-replaced m a k (block_at bytes)
 
 pub contains-written : MapsEachAddress
-contains-written m a k bytes q = ap is_some (get-written m a k bytes q) ∙ is-found (lies_in a k q) (block_at bytes (q - a)) (map.get m q)
+contains-written m a k bytes = contains-replaced m a k (block_at bytes)
+
+pub block-filled : FillsEachBlock
+block-filled m a k b = block-replaced m a k (λ index. b)
+
+pub contains-filled : FillMapsEachAddress
+contains-filled m a k b = contains-replaced m a k (λ index. b)

@@ -40,22 +40,36 @@ blocks contents lba count = flat_map (block contents) (range_with_len lba count)
 abbrev pub block_at : List ℕ → ℕ → List ℕ
 block_at bytes index = take BLOCK_LENGTH (drop (BLOCK_LENGTH * index) bytes)
 
--- The addresses from one on, each with its block of those that are joined.
-abbrev pub addressed : (lba count : ℕ) → List ℕ → List (ℕ × List ℕ)
-addressed lba count bytes = map (λ index. (lba + index, block_at bytes index)) (range_with_len 0 count)
+-- The addresses from one on, each with the block for its index.
+abbrev pub addressed : (lba count : ℕ) → (block : ℕ → List ℕ) → List (ℕ × List ℕ)
+addressed lba count block = map (λ index. (lba + index, block index)) (range_with_len 0 count)
 
 -- Each address mapped to the block beside it, in turn.
 abbrev pub with_blocks : Contents → List (ℕ × List ℕ) → Contents
 with_blocks contents [] = contents
 with_blocks contents ((lba, block) ∷ more) = with_blocks (insert contents lba block) more
 
--- The blocks from an address on replaced.
-unfoldable pub written : Contents → (lba count : ℕ) → List ℕ → Contents
-written contents lba count bytes = with_blocks contents (addressed lba count bytes)
+-- The blocks from an address on replaced, each by the one for its index.
+unfoldable pub replaced : Contents → (lba count : ℕ) → (block : ℕ → List ℕ) → Contents
+replaced contents lba count block = with_blocks contents (addressed lba count block)
 
--- The disk with the blocks from an address on replaced.
-abbrev pub disk_written : Disk → (lba count : ℕ) → List ℕ → Disk
-disk_written disk lba count bytes = record disk { contents = written disk.contents lba count bytes }
+-- The blocks from an address on replaced by those that are joined,
+abbrev pub written : Contents → (lba count : ℕ) → (bytes : List ℕ) → Contents
+written contents lba count bytes = replaced contents lba count (block_at bytes)
+
+-- and by one block for all.
+abbrev pub filled : Contents → (lba count : ℕ) → (block : List ℕ) → Contents
+filled contents lba count block = replaced contents lba count (λ index. block)
+
+-- The disk with blocks replaced.
+abbrev pub disk_replaced : Disk → (lba count : ℕ) → (block : ℕ → List ℕ) → Disk
+disk_replaced disk lba count block = record disk { contents = replaced disk.contents lba count block }
+
+abbrev pub disk_written : Disk → (lba count : ℕ) → (bytes : List ℕ) → Disk
+disk_written disk lba count bytes = disk_replaced disk lba count (block_at bytes)
+
+abbrev pub disk_filled : Disk → (lba count : ℕ) → (block : List ℕ) → Disk
+disk_filled disk lba count block = disk_replaced disk lba count (λ index. block)
 
 -- Whether an address lies in a range.
 abbrev pub lies_in : (lba count address : ℕ) → Bool

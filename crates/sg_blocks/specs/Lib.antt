@@ -3,7 +3,9 @@ pub mod Disk
 pub mod Meter
 pub mod PlainCost
 pub mod Laws
--- What only private contracts cite: the table of records, the pool, and how `PlainMap` edits them.
+-- What only private contracts cite: where blocks come from, the table of records, the pool, and how
+-- `PlainMap` edits them.
+pub mod Source
 pub mod Records
 pub mod Slots
 pub mod Chains

@@ -1,6 +1,7 @@
 //! What the calls that change a disk do, address by address: laws above the definitions that
 //! [`Store`](crate::Store) cites.
-ghost use Rattle.sg_blocks.specs.Laws.{WritesEachBlock, MapsEachAddress, UnmapsEachBlock, UnmapsEachAddress};
+ghost use Rattle.sg_blocks.specs.Laws.{WritesEachBlock, MapsEachAddress};
+ghost use Rattle.sg_blocks.specs.Laws.{FillsEachBlock, FillMapsEachAddress, UnmapsEachBlock, UnmapsEachAddress};
 
 /// After a write, the block at an address is the one given for it inside the range, and the old one
 /// outside.
@@ -11,6 +12,17 @@ pub fn a_write_replaces_the_blocks_of_its_range()
 /// After a write, the addresses of the range are mapped, and outside it those that were.
 pub fn a_write_maps_the_addresses_of_its_range()
     ensures { MapsEachAddress }
+{}
+
+/// After a fill, the block at an address is the one that was given inside the range, and the old one
+/// outside.
+pub fn a_fill_puts_one_block_at_each_address_of_its_range()
+    ensures { FillsEachBlock }
+{}
+
+/// After a fill, the addresses of the range are mapped, and outside it those that were.
+pub fn a_fill_maps_the_addresses_of_its_range()
+    ensures { FillMapsEachAddress }
 {}
 
 /// After an unmap, the block at an address is zeros inside the range, and the old one outside. So

@@ -7,6 +7,7 @@ pub mod laws;
 mod plain_map;
 mod pool;
 mod run;
+mod source;
 mod store;
 mod table;
 

@@ -4,8 +4,9 @@ mod read;
 mod unmap;
 mod write;
 
-ghost use Rattle.std.specs.Prelude.{◌≡◌, ◌≤◌};
-ghost use Rattle.sg_blocks.specs.Disk.{IsWellFormed};
+ghost use Rattle.std.specs.Prelude.{◌≡◌, ◌+◌, ◌≤◌, ◌↔◌, IsErr, OnOk, OnErr};
+ghost use Rattle.sg_blocks.specs.Disk.{IsWellFormed, IsOverfull, disk_replaced};
+ghost use Rattle.sg_blocks.specs.Meter.{HasHeadroom, Costs};
 ghost use Rattle.sg_blocks.specs.PlainCost.{plain_price, plain_price-within, plain_least, plain_least-positive};
 ghost use Rattle.sg_blocks.specs.PlainMap.Editing.{stored};
 ghost use Rattle.sg_blocks.specs.Slots.{IsConsistent};
@@ -13,7 +14,8 @@ ghost use Rattle.sg_blocks.specs.declared.store.TheConstants.{MAX_CAPACITY, MAX_
 
 use crate::ghost_number::GhostNumber;
 use crate::pool::Pool;
-use crate::store::{Counts, Space, Store};
+use crate::source::Source;
+use crate::store::{BLOCK_LENGTH, Counts, Space, Store};
 use crate::table::RunTable;
 use draft::Draft;
 use read::read_blocks;
@@ -37,18 +39,56 @@ pub struct PlainMap {
     ghost consistent: { IsConsistent table.records pool.blocks pool.free table.room },
 }
 
-impl Store for PlainMap {
-    ghost disk = { λ map. record {
-      capacity = map.capacity.value;
-      pool = map.table.room;
-      contents = stored map.table map.pool;
-    } };
+impl PlainMap {
+    ghost use Rattle.sg_blocks.specs.Source.{HasBlocks, block_of};
+    ghost use Rattle.sg_blocks.specs.PlainMap.State.{disk_of, meter_of};
 
-    ghost meter = { λ map. record {
-      counts = record { visits = map.table.visits; probes = map.table.probes; links = 0 };
-      total = map.table.total;
-      restarts = map.table.restarts;
-    } };
+    /// Replaces the blocks from an address on by those of a source.
+    ///
+    /// # Errors
+    /// More addresses would be mapped than the pool has blocks. Nothing is replaced then.
+    fn replace(&mut self, lba: u64, count: u32, source: &Source) -> Result<(), Space>
+        requires range { lba + count ≤ (disk_of self.old).capacity }
+        requires blocks { HasBlocks source.now count }
+        requires headroom { HasHeadroom (meter_of self.old).counts }
+
+        ensures space { IsErr result
+            ↔ IsOverfull (disk_replaced (disk_of self.old) lba count (block_of source.now)) }
+        ensures ok { OnOk result
+            (disk_of self.new ≡ disk_replaced (disk_of self.old) lba count (block_of source.now)) }
+        ensures err { OnErr result (disk_of self.new ≡ disk_of self.old) }
+
+        ensures cost { Costs (disk_of self.old).pool (meter_of self.old) (meter_of self.new) }
+        ensures price { (meter_of self.new).total
+            ≤ (meter_of self.old).total + plain_price (disk_of self.old).contents lba count }
+        ensures least { OnOk result ((meter_of self.old).total
+            + plain_least (disk_of self.old).contents lba count ≤ (meter_of self.new).total) }
+    {
+        let from = self.table.lower_bound(lba);
+        let to = self.table.lower_bound(lba + u64::from(count));
+        let mapped = to - from;
+        if count as usize > self.pool.free_count() + mapped {
+            return Err(Space);
+        }
+        write_blocks(
+            &mut self.table,
+            &mut self.pool,
+            &mut self.draft,
+            from,
+            lba,
+            count,
+            source,
+        );
+        Ok(())
+    }
+}
+
+impl Store for PlainMap {
+    ghost use Rattle.sg_blocks.specs.PlainMap.State.{disk_of, meter_of};
+
+    ghost disk = { disk_of };
+
+    ghost meter = { meter_of };
 
     ghost price = { plain_price };
 
@@ -69,22 +109,11 @@ impl Store for PlainMap {
     }
 
     fn write(&mut self, lba: u64, count: u32, bytes: &[u8]) -> Result<(), Space> {
-        let from = self.table.lower_bound(lba);
-        let to = self.table.lower_bound(lba + u64::from(count));
-        let mapped = to - from;
-        if count as usize > self.pool.free_count() + mapped {
-            return Err(Space);
-        }
-        write_blocks(
-            &mut self.table,
-            &mut self.pool,
-            &mut self.draft,
-            from,
-            lba,
-            count,
-            bytes,
-        );
-        Ok(())
+        self.replace(lba, count, &Source::Joined(bytes))
+    }
+
+    fn fill(&mut self, lba: u64, count: u32, block: &[u8; BLOCK_LENGTH]) -> Result<(), Space> {
+        self.replace(lba, count, &Source::Repeated(block))
     }
 
     fn unmap(&mut self, lba: u64, count: u32) {

@@ -1,6 +1,6 @@
 ghost use Rattle.std.specs.Prelude.{◌≡◌, ℕ, ◌+◌, ◌*◌, ◌<◌, ◌≤◌, ◌↔◌, length, IfOk, OnOk, OnErr, IsErr};
 ghost use Rattle.std.specs.FinMap.{len};
-ghost use Rattle.sg_blocks.specs.Disk.{Contents, Disk, IsWellFormed, IsOverfull, empty_disk, blocks, disk_written, disk_unmapped, mapped_among};
+ghost use Rattle.sg_blocks.specs.Disk.{Contents, Disk, IsWellFormed, IsOverfull, empty_disk, blocks, disk_written, disk_filled, disk_unmapped, mapped_among};
 ghost use Rattle.sg_blocks.specs.Meter.{Meter, new_meter, restarted, HasHeadroom, Costs};
 
 use std::alloc::{AllocError, Global};
@@ -92,6 +92,27 @@ pub trait Store: Drop {
         // replaced.
         ensures space { IsErr result ↔ IsOverfull (disk_written (disk self.old) lba count bytes.now) }
         ensures ok { OnOk result (disk self.new ≡ disk_written (disk self.old) lba count bytes.now) }
+        ensures err { OnErr result (disk self.new ≡ disk self.old) }
+
+        // What the call costs, and between which bounds its visits lie.
+        ensures cost { Costs (disk self.old).pool (meter self.old) (meter self.new) }
+        ensures price { (meter self.new).total
+            ≤ (meter self.old).total + price (disk self.old).contents lba count }
+        ensures least { OnOk result ((meter self.old).total + least (disk self.old).contents lba count
+            ≤ (meter self.new).total) };
+
+    /// Replaces each block from an address on by one block (SBC-3, 5.43).
+    ///
+    /// # Errors
+    /// More addresses would be mapped than the pool has blocks. Nothing is written then.
+    fn fill(&mut self, lba: u64, count: u32, block: &[u8; BLOCK_LENGTH]) -> Result<(), Space>
+        requires range { lba + count ≤ (disk self.old).capacity }
+        requires headroom { HasHeadroom (meter self.old).counts }
+
+        // Either the pool has too few blocks and the disk stays as it is, or all blocks are
+        // replaced.
+        ensures space { IsErr result ↔ IsOverfull (disk_filled (disk self.old) lba count block.now) }
+        ensures ok { OnOk result (disk self.new ≡ disk_filled (disk self.old) lba count block.now) }
         ensures err { OnErr result (disk self.new ≡ disk self.old) }
 
         // What the call costs, and between which bounds its visits lie.

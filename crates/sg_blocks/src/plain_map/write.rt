@@ -1,9 +1,10 @@
 // The records of a write are drafted, and put into the table all at once.
-ghost use Rattle.std.specs.Prelude.{◌≡◌, ◌+◌, ◌-◌, ◌*◌, ◌<◌, ◌≤◌, length};
+ghost use Rattle.std.specs.Prelude.{◌≡◌, ◌+◌, ◌-◌, ◌<◌, ◌≤◌, length};
 ghost use Rattle.std.specs.FinMap.{insert};
-ghost use Rattle.sg_blocks.specs.Disk.{written, mapped_among};
+ghost use Rattle.sg_blocks.specs.Disk.{replaced, mapped_among};
 ghost use Rattle.sg_blocks.specs.Records.{mapped_at};
 ghost use Rattle.sg_blocks.specs.Slots.{IsConsistent};
+ghost use Rattle.sg_blocks.specs.Source.{HasBlocks, block_of};
 ghost use Rattle.sg_blocks.specs.Table.{visited};
 ghost use Rattle.sg_blocks.specs.PlainMap.Editing.{IsEditing, IsReady, VisitsRange, passed, stored, edited_contents};
 
@@ -11,6 +12,7 @@ use super::cursor::Cursor;
 use super::draft::Draft;
 use crate::pool::Pool;
 use crate::run::Run;
+use crate::source::Source;
 use crate::store::{BLOCK_LENGTH, MAX_POOL};
 use crate::table::RunTable;
 
@@ -61,7 +63,7 @@ fn put_block(
     Cursor::new(table, cursor.index + 1)
 }
 
-/// Writes the blocks from an address on, of which the records begin at an index. There have to be
+/// Replaces the blocks from an address on, of which the records begin at an index. There have to be
 /// free slots for those that are not mapped.
 pub fn write_blocks(
     table: &mut RunTable,
@@ -70,15 +72,16 @@ pub fn write_blocks(
     from: usize,
     lba: u64,
     count: u32,
-    bytes: &[u8],
+    source: &Source,
 )
     requires ready { IsReady table.old pool.old from lba count }
-    requires byte_count { length bytes.now ≡ BLOCK_LENGTH * count }
+    requires blocks { HasBlocks source.now count }
     requires free { count ≤ length pool.old.free + mapped_among (stored table.old pool.old) lba count }
     requires room { (count ≤ draft.old.room) × (draft.old.room ≡ table.old.room) }
 
     // The blocks are written, and the table changes by its records and its visits alone.
-    ensures contents { stored table.new pool.new ≡ written (stored table.old pool.old) lba count bytes.now }
+    ensures contents { stored table.new pool.new
+        ≡ replaced (stored table.old pool.old) lba count (block_of source.now) }
     ensures consistent { IsConsistent table.new.records pool.new.blocks pool.new.free table.new.room }
     ensures table { table.new
         ≡ record (visited table.old (table.new.total - table.old.total)) { records = table.new.records } }
@@ -88,8 +91,7 @@ pub fn write_blocks(
     draft.begin(from);
     let mut cursor = Cursor::new(table, from);
     for i in 0..count {
-        let at = BLOCK_LENGTH * (i as usize);
-        let block = &bytes[at..at + BLOCK_LENGTH];
+        let block = source.block(i as usize);
         cursor = put_block(table, pool, draft, cursor, lba + u64::from(i), block);
     }
     // Where each address was mapped, the drafted records are those of the table.

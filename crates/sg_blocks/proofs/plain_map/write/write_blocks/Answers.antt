@@ -3,8 +3,9 @@ use Rattle.std.proofs.lemmas.List.{take-append-drop}
 use Rattle.std.specs.List.{splice}
 use Rattle.sg_blocks.specs.Disk.{mapped_among}
 use Rattle.sg_blocks.specs.Records.{contents_of, mapped_at, ahead}
+use Rattle.sg_blocks.specs.Source.{block_of}
 use Rattle.sg_blocks.specs.Table.{visited}
-use Rattle.sg_blocks.proofs.DiskLemmas.{written-none, written-more, mapped_among-none, mapped_among-more, mapped_among-rest, mapped_at-past}
+use Rattle.sg_blocks.proofs.DiskLemmas.{replaced-none, replaced-more, mapped_among-none, mapped_among-more, mapped_among-rest, mapped_at-past}
 use Rattle.sg_blocks.proofs.TableLemmas.{visited-more, visited-less}
 use Rattle.sg_blocks.proofs.plain_map.write.write_blocks.Goals as goal
 
@@ -26,7 +27,7 @@ loop-i-init c =
         longer = omega (arith, e.index);
         same = λ _. rw (e.index, whole) refl;
       });
-      contents = rw (c.begin.ensures, e.index, whole) (sym (written-none contents c.args.lba c.args.bytes.now));
+      contents = rw (c.begin.ensures, e.index, whole) (sym (replaced-none contents c.args.lba (block_of c.args.source.now)));
       draft = rw c.begin.ensures (refl, refl, c.requires.room.1);
       index = omega (arith, e.index, none);
       free = omega (arith, none);
@@ -40,7 +41,7 @@ put_block-cursor-requires-clause-free c =
     let inv = c.loop-i.invariant in
     let i = c.loop-i.i in
     let here : c.args.lba + c.from.result ≡ c.args.lba + i = ap (λ x. c.args.lba + x) c.from.ensures in
-    let same = ap₂ mapped_at inv.contents here ∙ mapped_at-past contents c.args.lba i c.args.bytes.now in
+    let same = ap₂ mapped_at inv.contents here ∙ mapped_at-past contents c.args.lba i (block_of c.args.source.now) in
     let on : i + 1 + (c.args.count - (i + 1)) ≡ c.args.count = omega arith in
     let rest = rw on at (mapped_among-rest contents c.args.lba (i + 1) (c.args.count - (i + 1))) in
     rw (inv.table, same) (omega (arith, inv.free, c.requires.free, mapped_among-more contents c.args.lba i))
@@ -54,8 +55,7 @@ loop-i-preserved c =
     let e = c.put_block-cursor.ensures in
     let here : c.args.lba + c.from.result ≡ c.args.lba + i = ap (λ x. c.args.lba + x) c.from.ensures in
     let on : c.args.lba + i + 1 ≡ c.args.lba + (i + 1) = omega arith in
-    let wide : 512 * i + 512 - 512 * i ≡ 512 = omega arith in
-    let same = ap₂ mapped_at inv.contents here ∙ mapped_at-past contents c.args.lba i c.args.bytes.now in
+    let same = ap₂ mapped_at inv.contents here ∙ mapped_at-past contents c.args.lba i (block_of c.args.source.now) in
     let index = rw (inv.table, same) at e.index in
     let before = mapped_among contents c.args.lba i + ahead c.loop-i.cursor.next in
     let passed = c.loop-i.cursor.index + ahead c.loop-i.cursor.next in
@@ -64,7 +64,7 @@ loop-i-preserved c =
     let paid : visited c.put_block-cursor.new.table passed ≡ visited t (before + after) = rw inv.table at e.cost ∙ visited-more t before after in
     record {
       editing = rw (inv.table, here, on) at e.editing;
-      contents = rw inv.table at e.contents ∙ rw (inv.contents, here, wide) (sym (written-more contents c.args.lba i c.args.bytes.now));
+      contents = rw inv.table at e.contents ∙ rw (inv.contents, here, c.block-block.ensures) (sym (replaced-more contents c.args.lba i (block_of c.args.source.now)));
       draft = (e.from ∙ inv.draft.0, omega (arith, e.drafted, inv.draft.1), e.room ∙ inv.draft.2);
       index = omega (arith, index, inv.index, more);
       free = omega (arith, e.free, index, inv.free, more);
