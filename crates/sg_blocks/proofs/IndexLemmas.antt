@@ -1,13 +1,14 @@
 -- Indices of records, and how many addresses are mapped between them.
-use Rattle.std.proofs.Common.{◌≡◌, ◌≢◌, ℕ, ◌+◌, ◌-◌, ◌<◌, ◌≤◌, zero, suc, List, [], ◌∷◌, length, get_or, arith, refl, inl, inr}
+use Rattle.std.proofs.Common.{◌≡◌, ◌≢◌, ℕ, ◌+◌, ◌-◌, ◌<◌, ◌≤◌, zero, suc, List, [], ◌∷◌, length, get_or, arith, refl, sym, ap, ◌∙◌, inl, inr, cond, Bool, true}
 use Rattle.std.proofs.lemmas.List.Edits.{length-insert}
 use Rattle.std.proofs.lemmas.Bool.{cases_lt}
 use Rattle.std.specs.Prelude.{insert}
+use Rattle.std.specs.FinMap.{contains_key}
 use Rattle.sg_blocks.specs.Disk.{mapped_among}
 use Rattle.sg_blocks.specs.Records.{start_of, IsSorted, contents_of, IsLowerBound, mapped_at}
 use Rattle.sg_blocks.specs.declared.run.Run.{Run}
 use Rattle.sg_blocks.proofs.DiskLemmas.{mapped_among-none, mapped_among-more}
-use Rattle.sg_blocks.proofs.RecordLemmas.{start_of-read, one_mapped, none_mapped, at_or_before, at_or_past}
+use Rattle.sg_blocks.proofs.RecordLemmas.{start_of-read, contains-mapped, none_mapped, at_or_before, at_or_past}
 
 -- the addresses with a record more
 pub start_of-insert_below : (rs : List Run) (i : ℕ) (r : Run) (j : ℕ) → j < i → i ≤ length rs → start_of (insert rs i r) j ≡ start_of rs j
@@ -33,11 +34,15 @@ get_or_any [] i d e h = absurd (omega arith)
 get_or_any (x ∷ rs) zero d e h = refl
 get_or_any (x ∷ rs) (suc i) d e h = get_or_any rs i d e (omega arith)
 
-mapped_start : (rs : List Run) (bs : List (List ℕ)) (i : ℕ) → IsSorted rs → i < length rs → mapped_at (contents_of rs bs) (start_of rs i) ≡ 1
-mapped_start rs bs i rises h =
+-- the address of each record is mapped
+pub contains-start : (rs : List Run) (bs : List (List ℕ)) (i : ℕ) → IsSorted rs → i < length rs → contains_key (contents_of rs bs) (start_of rs i) ≡ true
+contains-start rs bs i rises h =
     let r : Run = get_or rs i (record { start = 0; slot = 0 }) in
     let same : r ≡ get_or rs i r = get_or_any rs i _ r h in
-    one_mapped rs bs i (start_of rs i) r rises h same (start_of-read rs i r h same)
+    ap (contains_key (contents_of rs bs)) (sym (start_of-read rs i r h same)) ∙ contains-mapped rs bs i r rises h same
+
+mapped_start : (rs : List Run) (bs : List (List ℕ)) (i : ℕ) → IsSorted rs → i < length rs → mapped_at (contents_of rs bs) (start_of rs i) ≡ 1
+mapped_start rs bs i rises h = ap (λ (b : Bool). cond b 1 0) (contains-start rs bs i rises h)
 
 index_unique : (rs : List Run) (i j a : ℕ) → IsLowerBound rs i a → IsLowerBound rs j a → i ≡ j
 index_unique rs i j a p q = elim (cases_lt i j) [

@@ -13,5 +13,7 @@ pub mod IndexLemmas
 pub mod ConsistencyLemmas
 pub mod UnmapLemmas
 pub mod SourceLemmas
+pub mod StatusLemmas
+pub mod DescriptorLemmas
 pub mod EditingLemmas
 pub mod WellFormedLemmas

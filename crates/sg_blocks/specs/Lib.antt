@@ -1,7 +1,9 @@
--- What public contracts cite: the disk, what the calls cost, the cost in `PlainMap`, and the laws.
+-- What public contracts cite: the disk, what the calls cost, the cost in `PlainMap`, the answer of
+-- GET LBA STATUS, and the laws.
 pub mod Disk
 pub mod Meter
 pub mod PlainCost
+pub mod LbaStatus
 pub mod Laws
 -- What only private contracts cite: where blocks come from, the table of records, the pool, and how
 -- `PlainMap` edits them.

@@ -1,3 +1,4 @@
 pub mod Draft
 pub mod Editing
 pub mod State
+pub mod Status

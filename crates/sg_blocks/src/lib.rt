@@ -4,6 +4,7 @@
 
 mod ghost_number;
 pub mod laws;
+mod lba_status;
 mod plain_map;
 mod pool;
 mod run;

@@ -1,6 +1,7 @@
 mod cursor;
 mod draft;
 mod read;
+mod status;
 mod unmap;
 mod write;
 
@@ -12,13 +13,15 @@ ghost use Rattle.sg_blocks.specs.PlainMap.Editing.{stored};
 ghost use Rattle.sg_blocks.specs.Slots.{IsConsistent};
 ghost use Rattle.sg_blocks.specs.declared.store.TheConstants.{MAX_CAPACITY, MAX_POOL};
 
-use crate::ghost_number::GhostNumber;
+use crate::lba_status::write_status_data;
 use crate::pool::Pool;
 use crate::source::Source;
 use crate::store::{BLOCK_LENGTH, Counts, Space, Store};
 use crate::table::RunTable;
 use draft::Draft;
 use read::read_blocks;
+use sg_wire::Cut;
+use status::describe_from;
 use std::alloc::{AllocError, Global};
 use unmap::unmap_records;
 use write::write_blocks;
@@ -28,14 +31,14 @@ use write::write_blocks;
 /// A call over a range visits the records of the mapped addresses in it, and at most one more.
 #[derive(Drop)]
 pub struct PlainMap {
-    capacity: GhostNumber,
+    capacity: u64,
     table: RunTable,
     pool: Pool,
     draft: Draft,
-    ghost capacity_fits: { capacity.value ≤ MAX_CAPACITY },
+    ghost capacity_fits: { capacity ≤ MAX_CAPACITY },
     ghost pool_fits: { table.room ≤ MAX_POOL },
     ghost draft_fits: { draft.room ≡ table.room },
-    ghost well_formed: { IsWellFormed capacity.value (stored table pool) },
+    ghost well_formed: { IsWellFormed capacity (stored table pool) },
     ghost consistent: { IsConsistent table.records pool.blocks pool.free table.room },
 }
 
@@ -96,7 +99,7 @@ impl Store for PlainMap {
 
     fn make(alloc: Global, capacity: u64, pool: u32) -> Result<Self, AllocError> {
         Ok(PlainMap {
-            capacity: GhostNumber::of(capacity),
+            capacity,
             table: RunTable::new(alloc, pool)?,
             pool: Pool::new(alloc, pool)?,
             draft: Draft::new(alloc, pool)?,
@@ -120,6 +123,12 @@ impl Store for PlainMap {
         let from = self.table.lower_bound(lba);
         let to = self.table.lower_bound(lba + u64::from(count));
         unmap_records(&mut self.table, &mut self.pool, from, to, lba, count);
+    }
+
+    fn status(&mut self, lba: u64, cut: &mut Cut) {
+        let from = self.table.lower_bound(lba);
+        let descriptors = describe_from(&mut self.table, from, lba, self.capacity);
+        write_status_data(&descriptors, cut);
     }
 
     fn mapped(&self) -> u32 {

@@ -1,8 +1,11 @@
 ghost use Rattle.std.specs.Prelude.{◌≡◌, ℕ, ◌+◌, ◌*◌, ◌<◌, ◌≤◌, ◌↔◌, length, IfOk, OnOk, OnErr, IsErr};
 ghost use Rattle.std.specs.FinMap.{len};
 ghost use Rattle.sg_blocks.specs.Disk.{Contents, Disk, IsWellFormed, IsOverfull, empty_disk, blocks, disk_written, disk_filled, disk_unmapped, mapped_among};
+ghost use Rattle.sg_wire.specs.Cut.{Puts};
+ghost use Rattle.sg_blocks.specs.LbaStatus.{lba_status, covered, status_data};
 ghost use Rattle.sg_blocks.specs.Meter.{Meter, new_meter, restarted, HasHeadroom, Costs};
 
+use sg_wire::Cut;
 use std::alloc::{AllocError, Global};
 
 /// The length of a block, in bytes.
@@ -137,6 +140,24 @@ pub trait Store: Drop {
             ≤ (meter self.old).total + price (disk self.old).contents lba count }
         ensures least { (meter self.old).total + least (disk self.old).contents lba count
             ≤ (meter self.new).total };
+
+    /// Writes the parameter data of GET LBA STATUS (SBC-3, 5.4.2): which addresses are mapped, from
+    /// one on up to the end of the disk, or as far as the descriptors of one answer tell.
+    fn status(&mut self, lba: u64, cut: &mut Cut)
+        requires address { lba < (disk self.old).capacity }
+        requires headroom { HasHeadroom (meter self.old).counts }
+
+        // All of it is put, and the disk stays as it is.
+        ensures data { Puts cut.old cut.new (status_data (lba_status (disk self.old) lba)) }
+        ensures disk { disk self.new ≡ disk self.old }
+
+        // What the call costs, and between which bounds its visits lie, over the addresses that
+        // the descriptors cover.
+        ensures cost { Costs (disk self.old).pool (meter self.old) (meter self.new) }
+        ensures price { let count = covered (lba_status (disk self.old) lba) in
+            (meter self.new).total ≤ (meter self.old).total + price (disk self.old).contents lba count }
+        ensures least { let count = covered (lba_status (disk self.old) lba) in
+            (meter self.old).total + least (disk self.old).contents lba count ≤ (meter self.new).total };
 
     /// How many addresses are mapped.
     fn mapped(&self) -> u32

@@ -7,7 +7,7 @@ use Rattle.sg_blocks.specs.declared.plain_map.PlainMap.{PlainMap}
 -- The disk that it keeps.
 abbrev pub disk_of : PlainMap → Disk
 disk_of map = record {
-  capacity = map.capacity.value;
+  capacity = map.capacity;
   pool = map.table.room;
   contents = stored map.table map.pool;
 }

@@ -1,0 +1,21 @@
+-- The records of addresses in a row, and the gaps between them.
+use Rattle.std.specs.Prelude.{◌≡◌, ℕ, ◌+◌, ◌<◌, ◌≤◌, List, length, Option, Some, None}
+use Rattle.sg_blocks.specs.Records.{start_of, IsSorted}
+use Rattle.sg_blocks.specs.declared.run.Run.{Run}
+use Rattle.sg_blocks.specs.declared.store.TheConstants.{MAX_CAPACITY, MAX_POOL}
+
+-- A sorted table of a disk, of which no record lies past the end. Both are no larger than allowed.
+pub record IsTableOf (capacity : ℕ) (records : List Run) : Type 0 where
+  pub sorted : IsSorted records
+  pub within : (i : ℕ) → i < length records → start_of records i < capacity
+  pub table_size : length records ≤ MAX_POOL
+  pub capacity_fits : capacity ≤ MAX_CAPACITY
+
+-- The records from one index to another are those of the addresses from one on, without a gap.
+abbrev pub AreInRow : List Run → (from to lba : ℕ) → Type 0
+AreInRow records from to lba = (i : ℕ) → from ≤ i → i < to → start_of records i + from ≡ lba + i
+
+-- Where the addresses end that are not mapped: at the next record, or with the disk.
+abbrev pub end_of_gap : (next : Option Run) → (capacity : ℕ) → ℕ
+end_of_gap None capacity = capacity
+end_of_gap (Some run) capacity = run.start

@@ -1,0 +1,75 @@
+// The provisioning status of addresses, as GET LBA STATUS returns it.
+ghost use Rattle.std.specs.Prelude.{◌≡◌, ◌≤◌, length};
+ghost use Rattle.sg_wire.specs.Cut.{Puts};
+ghost use Rattle.sg_blocks.specs.LbaStatus.{code_of, descriptor_bytes, status_data, status_header};
+
+use byteorder::{BigEndian, ByteOrder};
+use sg_wire::Cut;
+
+/// The most descriptors that an answer has.
+pub const MAX_DESCRIPTORS: usize = 512;
+
+/// The length of a descriptor, in bytes, and that of the header before the first one.
+const DESCRIPTOR_LENGTH: usize = 16;
+
+const HEADER_LENGTH: usize = 8;
+
+/// PROVISIONING STATUS: whether addresses are mapped (SBC-3, 5.4.2.2).
+#[derive(Clone, Copy, Default)]
+pub enum ProvisioningStatus {
+    #[default]
+    Mapped = 0,
+    Deallocated = 1,
+}
+
+impl ProvisioningStatus {
+    fn code(self) -> u8
+        ensures { result ≡ code_of self }
+    {
+        self as u8
+    }
+}
+
+/// An LBA status descriptor: addresses in a row that have one provisioning status (SBC-3, 5.4.2.2).
+#[derive(Clone, Copy, Default)]
+pub struct StatusDescriptor {
+    /// The first address.
+    pub lba: u64,
+    /// The number of addresses.
+    pub count: u32,
+    pub status: ProvisioningStatus,
+}
+
+impl StatusDescriptor {
+    fn bytes(&self) -> [u8; DESCRIPTOR_LENGTH]
+        ensures { result ≡ descriptor_bytes self.now }
+    {
+        let mut bytes = [0; DESCRIPTOR_LENGTH];
+        BigEndian::write_u64(&mut bytes, self.lba);
+        BigEndian::write_u32(&mut bytes[8..], self.count);
+        bytes[12] = self.status.code();
+        bytes
+    }
+}
+
+/// Writes the parameter data of GET LBA STATUS (SBC-3, 5.4.2) with these descriptors.
+pub fn write_status_data(descriptors: &[StatusDescriptor], cut: &mut Cut)
+    requires { length descriptors.now ≤ MAX_DESCRIPTORS }
+    ensures { Puts cut.old cut.new (status_data descriptors.now) }
+{
+    cut.put(&header(descriptors.len()));
+    for descriptor in descriptors {
+        cut.put(&descriptor.bytes());
+    }
+}
+
+/// What the parameter data of `count` descriptors begins with.
+fn header(count: usize) -> [u8; HEADER_LENGTH]
+    requires { count ≤ MAX_DESCRIPTORS }
+    ensures { result ≡ status_header count }
+{
+    let length = HEADER_LENGTH - 4 + DESCRIPTOR_LENGTH * count;
+    let mut bytes = [0; HEADER_LENGTH];
+    BigEndian::write_u32(&mut bytes, length as u32);
+    bytes
+}
