@@ -1,7 +1,8 @@
 // What the calls of a disk count.
-ghost use Rattle.std.specs.Prelude.{◌≡◌, ◌+◌, ◌*◌, ◌≤◌, length};
+ghost use Rattle.std.specs.Prelude.{◌≡◌, ◌+◌, ◌*◌, ◌<◌, ◌≤◌, length};
 
 use sg_blocks::{BLOCK_LENGTH, Counts, PlainMap, Space, Store};
+use sg_wire::Cut;
 use std::test::Fail;
 
 /// Writes the blocks from an address on.
@@ -12,6 +13,23 @@ fn put<S: Store>(store: &mut S, lba: u64, count: u32, bytes: &[u8]) -> Result<()
 {
     store.restart_counts();
     store.write(lba, count, bytes)
+}
+
+/// Unmaps the addresses from one on.
+fn unmap<S: Store>(store: &mut S, lba: u64, count: u32)
+    requires { lba + count ≤ (S.disk store.old).capacity }
+    ensures { (S.disk store.new).capacity ≡ (S.disk store.old).capacity }
+{
+    store.restart_counts();
+    store.unmap(lba, count);
+}
+
+/// Reports the provisioning status of the addresses from one on.
+fn report_status<S: Store>(store: &mut S, lba: u64)
+    requires { lba < (S.disk store.old).capacity }
+{
+    store.restart_counts();
+    store.status(lba, &mut Cut::new(&mut [], 0));
 }
 
 #[test]
@@ -51,5 +69,32 @@ fn a_call_visits_the_records_of_its_range_and_the_next_one(rt: HostRuntime) -> R
     );
     disk.restart_counts();
     assert_eq!(rt; disk.counts(), Counts::default());
+    Ok(())
+}
+
+// Among four records, the searches for both ends of the range that is unmapped take five probes, and its
+// two records are visited. The status of all addresses visits the two that are left.
+#[test]
+fn an_unmap_and_a_status_visit_the_records_of_their_range(rt: HostRuntime) -> Result<(), Fail> {
+    let mut disk = PlainMap::make(rt.alloc(), 1000, 4)?;
+    assert_eq!(rt; put(&mut disk, 10, 4, &[0xA1; 2048]), Ok(()));
+    unmap(&mut disk, 11, 2);
+    assert_eq!(rt;
+        disk.counts(),
+        Counts {
+            visits: 2,
+            probes: 5,
+            links: 0
+        }
+    );
+    report_status(&mut disk, 0);
+    assert_eq!(rt;
+        disk.counts(),
+        Counts {
+            visits: 2,
+            probes: 2,
+            links: 0
+        }
+    );
     Ok(())
 }
