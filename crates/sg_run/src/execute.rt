@@ -1,8 +1,9 @@
 // Executes a line.
-ghost use Rattle.std.specs.Prelude.{◌≡◌, ◌≤◌, false, length, take, replicate, option_map, IfOk};
+ghost use Rattle.std.specs.Prelude.{◌≡◌, ◌≤◌, false, length, take, replicate, option_map, IfOk, IfSome};
 ghost use Rattle.sg_wire.specs.Watched.{has_failed, inner_of};
 ghost use Rattle.sg_wire.specs.Sending.{Sends};
 ghost use Rattle.sg_wire.specs.Sense.{fields_of};
+ghost use Rattle.sg_run.specs.Limits.{longest_line};
 ghost use Rattle.sg_run.specs.Memory.{gathered_text, longest_transfer, reply_length};
 ghost use Rattle.sg_run.specs.Outcome.{by_request, outcome, reply_outcome, reply_text, status_name};
 ghost use Rattle.sg_run.specs.Printed.{HasOutcome, PrintsText};
@@ -13,7 +14,6 @@ ghost use Rattle.sg_target.specs.Step.{step};
 
 use crate::buffers::{Buffers, LONGEST_TRANSFER};
 use crate::exit_status::exit_status;
-use crate::lines::line::Line;
 use crate::request::{FilledBlocks, Request, read_request};
 use crate::text::header::print_line_header;
 use crate::text::hex_lines::print_hex_lines;
@@ -32,19 +32,20 @@ use std::io::Write;
 #[tactic(auto, unfolding(crate::specs::Outcome::outcome))]
 pub(crate) fn execute_line<W: Write, S: Store>(
     number: u64,
-    line: &Line,
+    line: Option<&[u8]>,
     buffers: &mut Buffers,
     writer: &mut Watched<W>,
     target: &mut Target<S>,
 ) -> io::Result<u8>
-    requires { has_failed writer.old ≡ false }
+    requires line { IfSome (option_map (λ b. b.now) line) (λ bytes. length bytes ≤ longest_line) }
+    requires sound { has_failed writer.old ≡ false }
     ensures sent { Sends (W.contents (inner_of writer.old)) (W.contents (inner_of writer.new))
-        (has_failed writer.new) result (outcome number line.now target.old.state).text }
-    ensures state { target.new.state ≡ (outcome number line.now target.old.state).state }
+        (has_failed writer.new) result (outcome number (option_map (λ b. b.now) line.entry) target.old.state).text }
+    ensures state { target.new.state ≡ (outcome number (option_map (λ b. b.now) line.entry) target.old.state).state }
     ensures status { IfOk result (λ status.
-        status ≡ (outcome number line.now target.old.state).status) }
+        status ≡ (outcome number (option_map (λ b. b.now) line.entry) target.old.state).status) }
 {
-    let request = read_request(line.bytes(), &mut buffers.hex);
+    let request = read_request(line, &mut buffers.hex);
     let mut out = Printer::new(writer, &mut buffers.text);
     let data_out = &mut buffers.data_out;
     let reply = &mut buffers.reply;

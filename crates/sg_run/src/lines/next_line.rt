@@ -1,8 +1,8 @@
 // Takes lines from a reader.
-ghost use Rattle.std.specs.Prelude.{◌≡◌, ◌<◌, ◌≤◌, length, false};
+ghost use Rattle.std.specs.Prelude.{◌≡◌, ◌<◌, ◌≤◌, length, false, option_map, IfSome};
 ghost use Rattle.sg_wire.specs.Watched.{has_failed};
-ghost use Rattle.sg_run.specs.Limits.{longest_read_ahead};
-ghost use Rattle.sg_run.specs.LineReading.{TakesAhead, TakesLine, to_come};
+ghost use Rattle.sg_run.specs.Limits.{longest_line, longest_read_ahead};
+ghost use Rattle.sg_run.specs.LineReading.{TakesAhead, TakesIfWhole, TakesLine, line_of, to_come};
 
 use super::line::Line;
 use super::read_ahead::ReadAhead;
@@ -14,7 +14,9 @@ use std::io::{Error, ErrorKind, Read};
 /// What ends the next line of a script.
 #[derive(Clone, Copy, PartialEq)]
 pub enum NextLine {
-    /// An LF ends it.
+    /// An LF ends it, and it was taken whole of the bytes that were read ahead: `ReadAhead::line`.
+    Ahead,
+    /// An LF ends it, and it was taken in parts, as is the last one.
     Whole,
     /// The script ends after it.
     Last,
@@ -25,10 +27,11 @@ pub enum NextLine {
 // Takes the bytes that are ahead, at most `left`, up to the LF that ends the line, and returns whether
 // it is among them.
 fn take_part(read_ahead: &mut ReadAhead, line: &mut Line, left: &mut u32) -> bool
-    requires ahead { 0 < length read_ahead.old }
+    requires ahead { 0 < length read_ahead.old.ahead }
     requires allowed { 0 < left.old }
-    ensures takes { TakesAhead read_ahead.old read_ahead.new line.old line.new left.old left.new result }
-    ensures shorter { length read_ahead.new ≤ length read_ahead.old }
+    ensures takes { TakesAhead read_ahead.old.ahead read_ahead.new.ahead
+        line.old line.new left.old left.new result }
+    ensures shorter { length read_ahead.new.ahead ≤ length read_ahead.old.ahead }
 {
     let ahead = read_ahead.bytes();
     let allowed = ahead.len().min(*left as usize);
@@ -49,7 +52,24 @@ fn take_part(read_ahead: &mut ReadAhead, line: &mut Line, left: &mut u32) -> boo
     }
 }
 
-/// Takes the next line of a script into `line`, of at most `left` more bytes.
+// Takes the next line where it is whole among the bytes that are ahead, at most `left`, and returns
+// whether it is. It stays where it is: most lines are not copied.
+fn take_whole(read_ahead: &mut ReadAhead, left: &mut u32) -> bool
+    ensures takes { TakesIfWhole read_ahead.old read_ahead.new left.old left.new result }
+    ensures within { length read_ahead.new.ahead ≤ longest_read_ahead }
+{
+    let ahead = read_ahead.bytes();
+    let allowed = ahead.len().min(*left as usize);
+    let Some(len) = memchr(b'\n', &ahead[..allowed]) else {
+        return false;
+    };
+    read_ahead.take_line(len);
+    *left -= (len + 1) as u32;
+    true
+}
+
+/// Takes the next line of a script, of at most `left` more bytes. It is in `read_ahead` or in
+/// `line`: [`line_bytes`].
 ///
 /// # Errors
 /// The script has more bytes than `left`, or the reader failed.
@@ -62,11 +82,15 @@ pub fn next_line<R: Read>(
 ) -> io::Result<NextLine>
     requires { has_failed reader.old ≡ false }
     ensures takes { TakesLine
-        (to_come R.remaining read_ahead.old reader.old)
-        (to_come R.remaining read_ahead.new reader.new)
-        line.new left.old left.new read_ahead.new (has_failed reader.new) result }
-    ensures within { length read_ahead.new ≤ longest_read_ahead }
+        (to_come R.remaining read_ahead.old.ahead reader.old)
+        (to_come R.remaining read_ahead.new.ahead reader.new)
+        (line_of read_ahead.new line.new) left.old left.new
+        read_ahead.new.ahead (has_failed reader.new) result }
+    ensures within { length read_ahead.new.ahead ≤ longest_read_ahead }
 {
+    if take_whole(read_ahead, left) {
+        return Ok(NextLine::Ahead);
+    }
     line.clear();
     let before = *left;
     while read_ahead.refill(reader)? {
@@ -81,5 +105,16 @@ pub fn next_line<R: Read>(
         Ok(NextLine::Last)
     } else {
         Ok(NextLine::End)
+    }
+}
+
+/// The bytes of the line that `next_line` took, or `None` where it is too long.
+pub fn line_bytes<'a>(next: NextLine, read_ahead: &'a ReadAhead, line: &'a Line) -> Option<&'a [u8]>
+    ensures bytes { option_map (λ b. b.now) result ≡ line_of read_ahead.now line.now next }
+    ensures bound { IfSome (option_map (λ b. b.now) result) (λ bytes. length bytes ≤ longest_line) }
+{
+    match next {
+        NextLine::Ahead => read_ahead.line(),
+        NextLine::Whole | NextLine::Last | NextLine::End => line.bytes(),
     }
 }

@@ -1,4 +1,5 @@
 // The bytes read ahead of the line that is being taken.
+use super::line::LONGEST_LINE;
 use crate::buffers::zeroed;
 use sg_wire::Watched;
 use std::alloc::{AllocError, Global};
@@ -9,29 +10,38 @@ use std::marker::Model;
 // The most bytes that one read takes.
 const LONGEST_READ_AHEAD: usize = 131_072;
 
-/// Bytes of a script that were read and are still to be taken.
+/// Bytes of a script that were read and are still to be taken, and the line before them, where it
+/// was taken whole.
 #[derive(Drop)]
 pub struct ReadAhead {
     bytes: Vec<u8>,
+    line_start: usize,
+    line_end: usize,
     start: usize,
     end: usize,
 }
 
 impl Model for ReadAhead {
-    ghost use Rattle.std.specs.Prelude.{ℕ, List, slice_range, vec_len, ◌≡◌, ◌≤◌};
+    ghost use Rattle.std.specs.Prelude.{slice_range, vec_len, ◌≡◌, ◌≤◌};
     ghost use Rattle.sg_run.specs.Limits.{longest_read_ahead};
+    ghost use Rattle.sg_run.specs.Window.{Window};
 
-    ghost Value = { List ℕ };
+    ghost Value = { Window };
 
-    ghost view = { λ a. slice_range a.bytes.items a.start a.end };
+    ghost view = { λ a. record {
+      line = slice_range a.bytes.items a.line_start a.line_end;
+      ahead = slice_range a.bytes.items a.start a.end;
+    } };
 
     ghost invariant = { λ a. (a.start ≤ a.end) × (a.end ≤ longest_read_ahead)
+        × (a.line_start ≤ a.line_end) × (a.line_end ≤ longest_read_ahead)
         × (vec_len a.bytes ≡ longest_read_ahead) };
 }
 
-ghost use Rattle.std.specs.Prelude.{◌≡◌, ◌≤◌, ◌↔◌, [], false, length, drop, IfOk, IsTrue};
+ghost use Rattle.std.specs.Prelude.{◌≡◌, ◌<◌, ◌≤◌, ◌+◌, ◌↔◌, [], false, length, take, drop, option_map, IfOk, IfSome, IsTrue};
 ghost use Rattle.sg_wire.specs.Watched.{has_failed, inner_of};
-ghost use Rattle.sg_run.specs.Limits.{longest_read_ahead};
+ghost use Rattle.sg_run.specs.Limits.{longest_line, longest_read_ahead};
+ghost use Rattle.sg_run.specs.Lines.{kept};
 ghost use Rattle.sg_run.specs.LineReading.{ReadsMore, Refills, to_come};
 
 impl ReadAhead {
@@ -40,10 +50,12 @@ impl ReadAhead {
     /// # Errors
     /// Memory was refused.
     pub fn new(alloc: Global) -> Result<ReadAhead, AllocError>
-        ensures { IfOk result (λ ahead. ahead ≡ []) }
+        ensures { IfOk result (λ read. read.ahead ≡ []) }
     {
         Ok(ReadAhead {
             bytes: zeroed(alloc, LONGEST_READ_AHEAD)?,
+            line_start: 0,
+            line_end: 0,
             start: 0,
             end: 0,
         })
@@ -51,31 +63,57 @@ impl ReadAhead {
 
     /// Drops all the bytes.
     pub fn clear(&mut self)
-        ensures { self.new ≡ [] }
+        ensures { self.new.ahead ≡ [] }
     {
         self.start = self.end;
     }
 
     /// The bytes.
     pub fn bytes(&self) -> &[u8]
-        ensures { result.now ≡ self.now }
+        ensures bytes { result.now ≡ self.now.ahead }
+        ensures within { length self.now.ahead ≤ longest_read_ahead }
     {
         &self.bytes[self.start..self.end]
     }
 
+    /// The line that `take_line` took last, or `None` where it is too long. A read overwrites it.
+    pub fn line(&self) -> Option<&[u8]>
+        ensures bytes { option_map (λ b. b.now) result ≡ kept self.now.line }
+        ensures bound { IfSome (option_map (λ b. b.now) result) (λ bytes.
+            length bytes ≤ longest_line) }
+    {
+        let line = &self.bytes[self.line_start..self.line_end];
+        if line.len() > LONGEST_LINE {
+            None
+        } else {
+            Some(line)
+        }
+    }
+
+    /// Takes a line of `len` bytes and the LF after it.
+    pub fn take_line(&mut self, len: usize)
+        requires { len < length self.old.ahead }
+        ensures line { self.new.line ≡ take len self.old.ahead }
+        ensures ahead { self.new.ahead ≡ drop (len + 1) self.old.ahead }
+    {
+        self.line_start = self.start;
+        self.line_end = self.start + len;
+        self.start = self.line_end + 1;
+    }
+
     /// Drops the first `count` bytes.
     pub fn skip(&mut self, count: usize)
-        requires { count ≤ length self.old }
-        ensures { self.new ≡ drop count self.old }
+        requires { count ≤ length self.old.ahead }
+        ensures { self.new.ahead ≡ drop count self.old.ahead }
     {
         self.start += count;
     }
 
     fn is_empty(&self) -> bool
-        ensures empty { IsTrue result ↔ (self.now ≡ []) }
-        ensures within { length self.now ≤ longest_read_ahead }
+        ensures empty { IsTrue result ↔ (self.now.ahead ≡ []) }
+        ensures within { length self.now.ahead ≤ longest_read_ahead }
     {
-        self.start == self.end
+        self.bytes().is_empty()
     }
 
     // Reads once, over the bytes that are there.
@@ -83,8 +121,8 @@ impl ReadAhead {
         requires { has_failed reader.old ≡ false }
         ensures reads { ReadsMore
             (R.remaining (inner_of reader.old)) (R.remaining (inner_of reader.new))
-            self.new (has_failed reader.new) result }
-        ensures within { length self.new ≤ longest_read_ahead }
+            self.new.ahead (has_failed reader.new) result }
+        ensures within { length self.new.ahead ≤ longest_read_ahead }
     {
         self.start = 0;
         self.end = 0;
@@ -101,9 +139,10 @@ impl ReadAhead {
     pub fn refill<R: Read>(&mut self, reader: &mut Watched<R>) -> io::Result<bool>
         requires { has_failed reader.old ≡ false }
         ensures refills { Refills
-            (to_come R.remaining self.old reader.old) (to_come R.remaining self.new reader.new)
-            self.new (has_failed reader.new) result }
-        ensures within { length self.new ≤ longest_read_ahead }
+            (to_come R.remaining self.old.ahead reader.old)
+            (to_come R.remaining self.new.ahead reader.new)
+            self.new.ahead (has_failed reader.new) result }
+        ensures within { length self.new.ahead ≤ longest_read_ahead }
     {
         if self.is_empty() {
             self.read_more(reader)?;
