@@ -142,7 +142,7 @@ pub trait Store: Drop {
             ≤ (meter self.new).total };
 
     /// Writes the parameter data of GET LBA STATUS (SBC-3, 5.4.2): which addresses are mapped, from
-    /// one on up to the end of the disk, or as far as the descriptors of one answer tell.
+    /// one on to the end of the disk, in at most 512 descriptors.
     fn status(&mut self, lba: u64, cut: &mut Cut)
         requires address { lba < (disk self.old).capacity }
         requires headroom { HasHeadroom (meter self.old).counts }

@@ -35,7 +35,7 @@ fn pass_mapped(table: &mut RunTable, cursor: Cursor, lba: u64) -> Cursor
     end
 }
 
-/// How many addresses from the cursor's on are not mapped, as far as one descriptor can tell.
+/// How many addresses from the cursor's on are not mapped, at most as many as a descriptor covers.
 fn count_unmapped(cursor: Cursor, lba: u64, capacity: u64) -> u32
     requires { lba ≤ end_of_gap cursor.next capacity }
     ensures { result ≡ min 0xFFFFFFFF (end_of_gap cursor.next capacity - lba) }
