@@ -54,7 +54,7 @@ prefix-is p a (suc n) (suc k) le all stop =
     ap (λ b. cond b (1 + prefix_len p (range_with_len (a + 1) n)) 0) (rw here at (all 0 (omega arith))) ∙ omega (arith, rest)
 
 -- the status of an address that is mapped or not
-abbrev status_of : Bool → ProvisioningStatus
+abbrev pub status_of : Bool → ProvisioningStatus
 status_of b = cond b Mapped Deallocated
 
 same_code : (b c : Bool) → b ≡ c → (code_of (status_of b) == code_of (status_of c)) ≡ true
@@ -163,20 +163,21 @@ module _ (rs : List Run) (capacity a k i : ℕ) (next : Option Run) (t : IsTable
       described (contents_of rs bs) capacity a k false (gap-here bs) (omega arith) (gap-none bs) (gap-stop capacity a k i rs bs next t at is low)
 
 -- the descriptors from an address on
+pub descriptors-first : (m : Contents) (capacity a most : ℕ) → a < capacity
+    → descriptors_from m capacity a (suc most) ≡ descriptor_at m capacity a ∷ descriptors_from m capacity (a + count_alike m capacity a) most
+unfolding descriptors_from
+descriptors-first m capacity a most below = let on : nat_lt a capacity ≡ true = grind (arith, nat_tests) in rw on refl
+
 descriptors-more : (m : Contents) (capacity a n : ℕ) → a < capacity → 0 < n
     → descriptors_from m capacity a n ≡ descriptor_at m capacity a ∷ descriptors_from m capacity (a + count_alike m capacity a) (n - 1)
-unfolding descriptors_from
 descriptors-more m capacity a zero below some = absurd (omega arith)
-descriptors-more m capacity a (suc n) below some =
-    let yes : nat_lt a capacity ≡ true = grind (arith, nat_tests) in
-    let one : suc n - 1 ≡ n = omega arith in
-    rw (yes, one) refl
+descriptors-more m capacity a (suc n) below some = let one : suc n - 1 ≡ n = omega arith in rw one (descriptors-first m capacity a n below)
 
-descriptors-none : (m : Contents) (capacity a : ℕ) → descriptors_from m capacity a 0 ≡ []
+pub descriptors-none : (m : Contents) (capacity a : ℕ) → descriptors_from m capacity a 0 ≡ []
 unfolding descriptors_from
 descriptors-none m capacity a = refl
 
-descriptors-end : (m : Contents) (capacity a n : ℕ) → capacity ≤ a → descriptors_from m capacity a n ≡ []
+pub descriptors-end : (m : Contents) (capacity a n : ℕ) → capacity ≤ a → descriptors_from m capacity a n ≡ []
 unfolding descriptors_from
 descriptors-end m capacity a zero past = refl
 descriptors-end m capacity a (suc n) past = let no : nat_lt a capacity ≡ false = grind (arith, nat_tests) in rw no refl

@@ -15,5 +15,6 @@ pub mod UnmapLemmas
 pub mod SourceLemmas
 pub mod StatusLemmas
 pub mod DescriptorLemmas
+pub mod ReportLemmas
 pub mod EditingLemmas
 pub mod WellFormedLemmas

@@ -12,11 +12,11 @@ use Rattle.std.specs.FinMap.{find, get-from_entries, get-retain_keys, same_map, 
 use Rattle.sg_blocks.specs.Disk.{Contents, IsWellFormed, zero_block, lies_in, unmapped}
 use Rattle.sg_blocks.specs.Laws.{UnmapsEachBlock, UnmapsEachAddress}
 use Rattle.sg_blocks.specs.Records.{start_of, IsSorted, IsLowerBound, mapped_blocks, contents_of}
-use Rattle.sg_blocks.specs.Slots.{slots_of, one_if_equal, occurrences, IsConsistent}
+use Rattle.sg_blocks.specs.Slots.{slots_of, occurrences, IsConsistent}
 use Rattle.sg_blocks.specs.declared.run.Run.{Run}
 use Rattle.sg_blocks.proofs.DiskLemmas.{eq_other}
 use Rattle.sg_blocks.proofs.OccurrenceLemmas.{occurrences-append, occurrences-insert, once-le, below_count}
-use Rattle.sg_blocks.proofs.RecordLemmas.{find-unmapped, at_or_past}
+use Rattle.sg_blocks.proofs.RecordLemmas.{find-unmapped}
 use Rattle.sg_blocks.proofs.IndexLemmas.{start_of-insert_below, start_of-insert_above}
 use Rattle.sg_blocks.proofs.SpliceLemmas.{front_of, insert-splice, same-splice}
 use Rattle.sg_blocks.proofs.ConsistencyLemmas.{parted, same_slot}

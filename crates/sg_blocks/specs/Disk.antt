@@ -1,6 +1,7 @@
 -- The disk: blocks of 512 bytes, of which those that were written are mapped (SBC-3, 4.7, logical
 -- block provisioning).
-use Rattle.std.specs.Prelude.{◌≡◌, ℕ, ◌+◌, ◌*◌, ◌<◌, Bool, ◌&&◌, not, nat_le, nat_lt, List, [], ◌∷◌, Some, length, take, drop, replicate, unwrap_or, map}
+use Rattle.std.specs.Prelude.{◌≡◌, ℕ, ◌+◌, ◌*◌, ◌<◌, Bool, ◌&&◌, not, nat_le, nat_lt}
+use Rattle.std.specs.Prelude.{List, [], ◌∷◌, Some, length, take, drop, replicate, unwrap_or, map}
 use Rattle.std.specs.List.{flat_map, range_with_len, count_by}
 use Rattle.std.specs.Ordering.{nat_cmp}
 use Rattle.std.specs.FinMap.{FinMap, get, insert, contains_key, retain_keys, empty, len}
@@ -63,7 +64,8 @@ filled contents lba count block = replaced contents lba count (λ index. block)
 
 -- The disk with blocks replaced.
 abbrev pub disk_replaced : Disk → (lba count : ℕ) → (block : ℕ → List ℕ) → Disk
-disk_replaced disk lba count block = record disk { contents = replaced disk.contents lba count block }
+disk_replaced disk lba count block =
+    record disk { contents = replaced disk.contents lba count block }
 
 abbrev pub disk_written : Disk → (lba count : ℕ) → (bytes : List ℕ) → Disk
 disk_written disk lba count bytes = disk_replaced disk lba count (block_at bytes)

@@ -1,7 +1,13 @@
--- What the calls that change a disk do, address by address.
-use Rattle.std.specs.Prelude.{◌≡◌, ℕ, ◌-◌, List, ◌&&◌, ◌||◌, not, if◌then◌else◌}
+-- What the calls do and report, address by address.
+use Rattle.std.specs.Prelude.{◌≡◌, ℕ, ◌+◌, ◌-◌, ◌<◌, ◌≤◌, ◌&&◌, ◌||◌, not, if◌then◌else◌}
+use Rattle.std.specs.Prelude.{Bool, List, length, find, Option, Some, option_map}
 use Rattle.std.specs.FinMap.{contains_key}
-use Rattle.sg_blocks.specs.Disk.{Contents, block, block_at, zero_block, lies_in, written, filled, unmapped}
+use Rattle.sg_blocks.specs.Disk.{Contents, Disk, block, block_at, zero_block, lies_in}
+use Rattle.sg_blocks.specs.Disk.{written, filled, unmapped}
+use Rattle.sg_blocks.specs.LbaStatus.{status_at, lba_status, covered}
+use Rattle.sg_blocks.specs.declared.lba_status.ProvisioningStatus.{ProvisioningStatus}
+use Rattle.sg_blocks.specs.declared.lba_status.StatusDescriptor.{StatusDescriptor}
+use Rattle.sg_blocks.specs.declared.lba_status.TheConstants.{MAX_DESCRIPTORS}
 
 -- After a write, the block at an address is the one given for it inside the range, and the old one
 -- outside.
@@ -40,3 +46,25 @@ abbrev pub UnmapsEachAddress : Type 0
 UnmapsEachAddress = (contents : Contents) (lba count address : ℕ) →
     contains_key (unmapped contents lba count) address
     ≡ (not (lies_in lba count address) && contains_key contents address)
+
+-- The status of an address by the first descriptor that covers it, if one does.
+abbrev pub covers : (address : ℕ) → StatusDescriptor → Bool
+covers address descriptor = lies_in descriptor.lba descriptor.count address
+
+abbrev pub status_of : StatusDescriptor → ProvisioningStatus
+status_of descriptor = descriptor.status
+
+abbrev pub status_reported : List StatusDescriptor → (address : ℕ) → Option ProvisioningStatus
+status_reported descriptors address = option_map status_of (find (covers address) descriptors)
+
+-- GET LBA STATUS reports the status of each address that it covers,
+abbrev pub ReportsEachStatus : Type 0
+ReportsEachStatus = (disk : Disk) (lba address : ℕ) →
+    lba ≤ address → address < lba + covered (lba_status disk lba) →
+    status_reported (lba_status disk lba) address ≡ Some (status_at disk.contents address)
+
+-- and covers the addresses up to the end of the disk, unless it has no room for more descriptors.
+abbrev pub CoversTheRest : Type 0
+CoversTheRest = (disk : Disk) (lba : ℕ) →
+    lba ≤ disk.capacity → length (lba_status disk lba) < MAX_DESCRIPTORS →
+    lba + covered (lba_status disk lba) ≡ disk.capacity

@@ -1,7 +1,9 @@
-//! What the calls that change a disk do, address by address: laws above the definitions that
+//! What the calls of a store do and report, address by address: laws above the definitions that
 //! [`Store`](crate::Store) cites.
 ghost use Rattle.sg_blocks.specs.Laws.{WritesEachBlock, MapsEachAddress};
-ghost use Rattle.sg_blocks.specs.Laws.{FillsEachBlock, FillMapsEachAddress, UnmapsEachBlock, UnmapsEachAddress};
+ghost use Rattle.sg_blocks.specs.Laws.{FillsEachBlock, FillMapsEachAddress};
+ghost use Rattle.sg_blocks.specs.Laws.{UnmapsEachBlock, UnmapsEachAddress};
+ghost use Rattle.sg_blocks.specs.Laws.{ReportsEachStatus, CoversTheRest};
 
 /// After a write, the block at an address is the one given for it inside the range, and the old one
 /// outside.
@@ -34,4 +36,15 @@ pub fn an_unmap_zeroes_the_blocks_of_its_range()
 /// After an unmap, no address of the range is mapped, and outside it those that were.
 pub fn an_unmap_leaves_no_address_of_its_range_mapped()
     ensures { UnmapsEachAddress }
+{}
+
+/// GET LBA STATUS reports, for each address that it covers, whether the address is mapped.
+pub fn each_status_that_is_reported_is_that_of_the_address()
+    ensures { ReportsEachStatus }
+{}
+
+/// GET LBA STATUS covers the addresses up to the end of the disk, unless it has as many descriptors
+/// as an answer may have.
+pub fn an_answer_with_room_left_covers_the_rest_of_the_disk()
+    ensures { CoversTheRest }
 {}

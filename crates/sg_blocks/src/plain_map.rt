@@ -55,12 +55,15 @@ impl PlainMap {
         requires blocks { HasBlocks source.now count }
         requires headroom { HasHeadroom (meter_of self.old).counts }
 
+        // Either the pool has too few blocks and the disk stays as it is, or all blocks are
+        // replaced.
         ensures space { IsErr result
             ↔ IsOverfull (disk_replaced (disk_of self.old) lba count (block_of source.now)) }
         ensures ok { OnOk result
             (disk_of self.new ≡ disk_replaced (disk_of self.old) lba count (block_of source.now)) }
         ensures err { OnErr result (disk_of self.new ≡ disk_of self.old) }
 
+        // What the call costs, and between which bounds its visits lie.
         ensures cost { Costs (disk_of self.old).pool (meter_of self.old) (meter_of self.new) }
         ensures price { (meter_of self.new).total
             ≤ (meter_of self.old).total + plain_price (disk_of self.old).contents lba count }

@@ -1,6 +1,8 @@
-ghost use Rattle.std.specs.Prelude.{◌≡◌, ℕ, ◌+◌, ◌*◌, ◌<◌, ◌≤◌, ◌↔◌, length, IfOk, OnOk, OnErr, IsErr};
+ghost use Rattle.std.specs.Prelude.{◌≡◌, ℕ, ◌+◌, ◌*◌, ◌<◌, ◌≤◌, ◌↔◌, length};
+ghost use Rattle.std.specs.Prelude.{IfOk, OnOk, OnErr, IsErr};
 ghost use Rattle.std.specs.FinMap.{len};
-ghost use Rattle.sg_blocks.specs.Disk.{Contents, Disk, IsWellFormed, IsOverfull, empty_disk, blocks, disk_written, disk_filled, disk_unmapped, mapped_among};
+ghost use Rattle.sg_blocks.specs.Disk.{Contents, Disk, IsWellFormed, IsOverfull, empty_disk};
+ghost use Rattle.sg_blocks.specs.Disk.{blocks, mapped_among, disk_written, disk_filled, disk_unmapped};
 ghost use Rattle.sg_wire.specs.Cut.{Puts};
 ghost use Rattle.sg_blocks.specs.LbaStatus.{lba_status, covered, status_data};
 ghost use Rattle.sg_blocks.specs.Meter.{Meter, new_meter, restarted, HasHeadroom, Costs};
@@ -155,9 +157,11 @@ pub trait Store: Drop {
         // the descriptors cover.
         ensures cost { Costs (disk self.old).pool (meter self.old) (meter self.new) }
         ensures price { let count = covered (lba_status (disk self.old) lba) in
-            (meter self.new).total ≤ (meter self.old).total + price (disk self.old).contents lba count }
+            (meter self.new).total
+            ≤ (meter self.old).total + price (disk self.old).contents lba count }
         ensures least { let count = covered (lba_status (disk self.old) lba) in
-            (meter self.old).total + least (disk self.old).contents lba count ≤ (meter self.new).total };
+            (meter self.old).total + least (disk self.old).contents lba count
+            ≤ (meter self.new).total };
 
     /// How many addresses are mapped.
     fn mapped(&self) -> u32

@@ -1,4 +1,4 @@
-ghost use Rattle.std.specs.Prelude.{◌≡◌, ℕ, ◌+◌, ◌-◌, ◌<◌, ◌≤◌, List, None, length, min};
+ghost use Rattle.std.specs.Prelude.{◌≡◌, ℕ, ◌+◌, ◌-◌, ◌<◌, ◌≤◌, List, None, min};
 ghost use Rattle.sg_blocks.specs.LbaStatus.{covered, descriptor_at, descriptors_from};
 ghost use Rattle.sg_blocks.specs.Records.{IsLowerBound, contents_of};
 ghost use Rattle.sg_blocks.specs.Table.{visited};
@@ -47,7 +47,7 @@ fn count_unmapped(cursor: Cursor, lba: u64, capacity: u64) -> u32
     u64::from(u32::MAX).min(end - lba) as u32
 }
 
-/// The descriptor that begins at the cursor's address, and the cursor at the address where it ends.
+/// The descriptor that begins at the cursor's address, and the cursor where it ends.
 fn describe(
     table: &mut RunTable,
     cursor: Cursor,
@@ -59,6 +59,7 @@ fn describe(
     requires address { lba < capacity }
     requires headroom { table.old.visits + MAX_POOL < u64.MAX }
 
+    // Which addresses are mapped does not depend on their blocks.
     ensures descriptor { (blocks : List (List ℕ)) →
         result.0 ≡ descriptor_at (contents_of table.old.records blocks) capacity lba }
     ensures cursor { IsAt table.old.records result.1 (lba + result.0.count) }
@@ -90,6 +91,7 @@ pub fn describe_from(
     requires table { IsTableOf capacity table.old.records }
     requires headroom { table.old.visits ≤ MAX_COUNT }
 
+    // Which addresses are mapped does not depend on their blocks.
     ensures descriptors { (blocks : List (List ℕ)) → result.items
         ≡ descriptors_from (contents_of table.old.records blocks) capacity lba MAX_DESCRIPTORS }
 

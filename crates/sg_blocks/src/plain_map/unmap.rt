@@ -1,4 +1,4 @@
-ghost use Rattle.std.specs.Prelude.{◌≡◌, ◌+◌, ◌-◌, ◌≤◌};
+ghost use Rattle.std.specs.Prelude.{◌≡◌, ◌+◌, ◌-◌};
 ghost use Rattle.sg_blocks.specs.Disk.{unmapped};
 ghost use Rattle.sg_blocks.specs.Records.{IsLowerBound};
 ghost use Rattle.sg_blocks.specs.Slots.{IsConsistent};

@@ -1,4 +1,4 @@
-use Rattle.std.proofs.Common.{◌≡◌, ◌++◌, length, take}
+use Rattle.std.proofs.Common.{◌++◌, length, take}
 use Rattle.std.specs.List.{flat_map}
 use Rattle.sg_wire.specs.Cut.{Puts}
 use Rattle.sg_blocks.specs.LbaStatus.{descriptor_bytes, status_header}

@@ -1,6 +1,3 @@
-use Rattle.std.proofs.Common.{ap, sym}
-use Rattle.sg_blocks.specs.PlainMap.Status.{IsTableOf}
-use Rattle.sg_blocks.specs.Table.{Table}
 use Rattle.sg_blocks.proofs.DescriptorLemmas.{table-of}
 use Rattle.sg_blocks.proofs.plain_map.PlainMapStore.status.Goals as goal
 

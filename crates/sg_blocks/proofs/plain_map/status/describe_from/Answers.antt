@@ -1,7 +1,7 @@
-use Rattle.std.proofs.Common.{◌≡◌, ◌+◌, ◌-◌, [], length, ap, sym, ◌∙◌, arith, inl, inr}
+use Rattle.std.proofs.Common.{◌≡◌, ◌+◌, ◌-◌, [], length, ap, ◌∙◌, arith, inl, inr}
 use Rattle.sg_blocks.specs.LbaStatus.{covered}
 use Rattle.sg_blocks.specs.Records.{contents_of, ahead}
-use Rattle.sg_blocks.specs.Table.{Table, visited}
+use Rattle.sg_blocks.specs.Table.{visited}
 use Rattle.sg_blocks.specs.PlainMap.Editing.{passed}
 use Rattle.sg_blocks.proofs.TableLemmas.{visited-more, visited-less}
 use Rattle.sg_blocks.proofs.IndexLemmas.{mapped_among-indices}

@@ -1,6 +1,6 @@
-use Rattle.std.proofs.Common.{◌≡◌, ◌+◌, ◌<◌, length, ap, sym, ◌∙◌, arith, inl, inr}
+use Rattle.std.proofs.Common.{◌≡◌, ◌+◌, ap, sym, ◌∙◌, arith, inl, inr}
 use Rattle.std.proofs.lemmas.Bool.{cases_lt}
-use Rattle.sg_blocks.specs.Records.{start_of, ahead}
+use Rattle.sg_blocks.specs.Records.{ahead}
 use Rattle.sg_blocks.specs.Table.{Table, visited}
 use Rattle.sg_blocks.specs.PlainMap.Editing.{passed}
 use Rattle.sg_blocks.proofs.TableLemmas.{visited-on}

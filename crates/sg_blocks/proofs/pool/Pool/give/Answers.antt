@@ -1,4 +1,4 @@
-use Rattle.std.proofs.Common.{◌∷◌, length, length-set, ap, sym, ◌∙◌, arith}
+use Rattle.std.proofs.Common.{◌∷◌, length, length-set, ap, ◌∙◌, arith}
 use Rattle.sg_blocks.specs.Slots.{Slots, occurrences}
 use Rattle.sg_blocks.proofs.ChainLemmas.{length-chain, chain-given, given-below}
 use Rattle.sg_blocks.proofs.pool.Pool.give.Goals as goal
