@@ -17,6 +17,7 @@ use Rattle.sg_blocks.specs.PlainMap.Status.{IsTableOf, AreInRow, end_of_gap}
 use Rattle.sg_blocks.specs.declared.lba_status.ProvisioningStatus.{ProvisioningStatus}
 use Rattle.sg_blocks.specs.declared.lba_status.ProvisioningStatus.TheVariants.{Mapped, Deallocated}
 use Rattle.sg_blocks.specs.declared.lba_status.StatusDescriptor.{StatusDescriptor}
+use Rattle.sg_blocks.specs.declared.lba_status.TheConstants.{MAX_ADDRESSES}
 use Rattle.sg_blocks.specs.declared.run.Run.{Run}
 use Rattle.sg_blocks.specs.declared.store.TheConstants.{MAX_CAPACITY, MAX_POOL}
 use Rattle.sg_blocks.specs.declared.plain_map.cursor.Cursor.{Cursor}
@@ -70,11 +71,11 @@ other_code false true e = refl
 other_code false false e = let wrong = e in cc
 
 -- a descriptor, by what is mapped
-module _ (m : Contents) (capacity a k : ℕ) (b : Bool) (here : contains_key m a ≡ b) (within : k ≤ min 0xFFFFFFFF (capacity - a))
-    (all : (i : ℕ) → i < k → contains_key m (a + i) ≡ b) (stop : k < min 0xFFFFFFFF (capacity - a) → contains_key m (a + k) ≡ not b) where
+module _ (m : Contents) (capacity a k : ℕ) (b : Bool) (here : contains_key m a ≡ b) (within : k ≤ min MAX_ADDRESSES (capacity - a))
+    (all : (i : ℕ) → i < k → contains_key m (a + i) ≡ b) (stop : k < min MAX_ADDRESSES (capacity - a) → contains_key m (a + k) ≡ not b) where
   alike : count_alike m capacity a ≡ k
   unfolding count_alike
-  alike = prefix-is _ a (min 0xFFFFFFFF (capacity - a)) k within (λ i lt. same_code _ _ (all i lt ∙ sym here)) (λ lt. other_code _ _ (stop lt ∙ ap not (sym here)))
+  alike = prefix-is _ a (min MAX_ADDRESSES (capacity - a)) k within (λ i lt. same_code _ _ (all i lt ∙ sym here)) (λ lt. other_code _ _ (stop lt ∙ ap not (sym here)))
 
   described : ◌≡◌ {A = StatusDescriptor} (record { lba = a; count = k; status = status_of b }) (descriptor_at m capacity a)
   described = ap₂ (λ n (c : Bool). record { lba = a; count = n; status = status_of c }) (sym alike) (sym here)
@@ -88,7 +89,7 @@ module _ (rs : List Run) (bs : List (List ℕ)) (capacity a i j : ℕ) (t : IsTa
   row-mapped : (k : ℕ) → k < j - i → contains_key (contents_of rs bs) (a + k) ≡ true
   row-mapped k lt = ap (contains_key (contents_of rs bs)) (sym (row-start k lt)) ∙ contains-start rs bs (i + k) t.sorted (omega arith)
 
-  row-within : j - i ≤ min 0xFFFFFFFF (capacity - a)
+  row-within : j - i ≤ min MAX_ADDRESSES (capacity - a)
   row-within =
       let last = row-start (j - i - 1) (omega arith) in
       let below = t.within (i + (j - i - 1)) (omega arith) in
@@ -130,8 +131,8 @@ gap-high : (capacity i : ℕ) (rs : List Run) (next : Option Run) → IsTableOf 
 gap-high capacity i rs None t at = omega arith
 gap-high capacity i rs (Some r) t at = let here = start_of-read rs i r at.0 (sym at.1) in let below = t.within i at.0 in omega arith
 
-gap-stop : (capacity a k i : ℕ) (rs : List Run) (bs : List (List ℕ)) (next : Option Run) → IsTableOf capacity rs → IsNext rs i next → k ≡ min 0xFFFFFFFF (end_of_gap next capacity - a) → a ≤ end_of_gap next capacity
-    → k < min 0xFFFFFFFF (capacity - a) → contains_key (contents_of rs bs) (a + k) ≡ true
+gap-stop : (capacity a k i : ℕ) (rs : List Run) (bs : List (List ℕ)) (next : Option Run) → IsTableOf capacity rs → IsNext rs i next → k ≡ min MAX_ADDRESSES (end_of_gap next capacity - a) → a ≤ end_of_gap next capacity
+    → k < min MAX_ADDRESSES (capacity - a) → contains_key (contents_of rs bs) (a + k) ≡ true
 gap-stop capacity a k i rs bs None t at is low lt = absurd (omega arith)
 gap-stop capacity a k i rs bs (Some r) t at is low lt =
     let here = start_of-read rs i r at.0 (sym at.1) in
@@ -139,7 +140,7 @@ gap-stop capacity a k i rs bs (Some r) t at is low lt =
     ap (contains_key (contents_of rs bs)) there ∙ contains-start rs bs i t.sorted at.0
 
 module _ (rs : List Run) (capacity a k i : ℕ) (next : Option Run) (t : IsTableOf capacity rs) (below : a < capacity) (p : IsLowerBound rs i a) (at : IsNext rs i next)
-    (none : run_at next a ≡ None) (is : k ≡ min 0xFFFFFFFF (end_of_gap next capacity - a)) where
+    (none : run_at next a ≡ None) (is : k ≡ min MAX_ADDRESSES (end_of_gap next capacity - a)) where
   pub gap-index : IsLowerBound rs i (a + k)
   gap-index = let low = gap-low capacity a i rs next below p at in record {
     within = p.within;

@@ -11,6 +11,7 @@ use Rattle.sg_blocks.specs.Disk.{Contents, lies_in}
 use Rattle.sg_blocks.specs.Laws.{status_reported, ReportsEachStatus, CoversTheRest}
 use Rattle.sg_blocks.specs.LbaStatus.{code_of, status_at, count_alike, covered, descriptor_at, descriptors_from}
 use Rattle.sg_blocks.specs.declared.lba_status.StatusDescriptor.{StatusDescriptor}
+use Rattle.sg_blocks.specs.declared.lba_status.TheConstants.{MAX_ADDRESSES}
 use Rattle.sg_blocks.proofs.DescriptorLemmas.{status_of, descriptors-first, descriptors-none, descriptors-end}
 
 -- statuses of one code are the same
@@ -21,14 +22,14 @@ same_status false true e = let wrong = e in cc
 same_status false false e = refl
 
 -- the addresses that a descriptor covers
-alike-within : (m : Contents) (capacity a : ℕ) → count_alike m capacity a ≤ min 0xFFFFFFFF (capacity - a)
+alike-within : (m : Contents) (capacity a : ℕ) → count_alike m capacity a ≤ min MAX_ADDRESSES (capacity - a)
 unfolding count_alike
-alike-within m capacity a = omega (arith, prefix_len-le-length (λ x. code_of (status_at m x) == code_of (status_at m a)) (range_with_len a (min 0xFFFFFFFF (capacity - a))), length-range_with_len a (min 0xFFFFFFFF (capacity - a)))
+alike-within m capacity a = omega (arith, prefix_len-le-length (λ x. code_of (status_at m x) == code_of (status_at m a)) (range_with_len a (min MAX_ADDRESSES (capacity - a))), length-range_with_len a (min MAX_ADDRESSES (capacity - a)))
 
 alike-status : (m : Contents) (capacity a i : ℕ) → i < count_alike m capacity a → status_at m (a + i) ≡ status_at m a
 unfolding count_alike
 alike-status m capacity a i lt =
-    let n = min 0xFFFFFFFF (capacity - a) in
+    let n = min MAX_ADDRESSES (capacity - a) in
     let within = alike-within m capacity a in
     let passes = prefix_len_passes (λ x. code_of (status_at m x) == code_of (status_at m a)) (range_with_len a n) i 0 lt in
     let at : get_or (range_with_len a n) i 0 ≡ a + i = get_or-range_with_len a n i 0 (omega arith) in

@@ -8,7 +8,7 @@ use Rattle.sg_blocks.specs.Disk.{Contents, Disk}
 use Rattle.sg_blocks.specs.declared.lba_status.ProvisioningStatus.{ProvisioningStatus}
 use Rattle.sg_blocks.specs.declared.lba_status.ProvisioningStatus.TheVariants.{Mapped, Deallocated}
 use Rattle.sg_blocks.specs.declared.lba_status.StatusDescriptor.{StatusDescriptor}
-use Rattle.sg_blocks.specs.declared.lba_status.TheConstants.{MAX_DESCRIPTORS}
+use Rattle.sg_blocks.specs.declared.lba_status.TheConstants.{MAX_ADDRESSES, MAX_DESCRIPTORS}
 
 -- ---- Which descriptors an answer has
 
@@ -20,12 +20,12 @@ abbrev pub code_of : ProvisioningStatus → ℕ
 code_of Mapped = 0
 code_of Deallocated = 1
 
--- How many addresses from one on have its status, without one between them that has another: at
--- most FFFFFFFFh, and none past the end of the disk.
+-- How many addresses from one on have its status, before one that has another. The count fits its
+-- field, and ends with the disk.
 unfoldable pub count_alike : Contents → (capacity lba : ℕ) → ℕ
 count_alike contents capacity lba =
     prefix_len (λ address. code_of (status_at contents address) == code_of (status_at contents lba))
-    (range_with_len lba (min 0xFFFFFFFF (capacity - lba)))
+    (range_with_len lba (min MAX_ADDRESSES (capacity - lba)))
 
 -- The descriptor that begins at an address.
 abbrev pub descriptor_at : Contents → (capacity lba : ℕ) → StatusDescriptor

@@ -9,16 +9,21 @@ use sg_wire::Cut;
 /// The most descriptors that an answer has.
 pub const MAX_DESCRIPTORS: usize = 512;
 
-/// The length of a descriptor, in bytes, and that of the header before the first one.
-const DESCRIPTOR_LENGTH: usize = 16;
+/// The most addresses that a descriptor covers. NUMBER OF LOGICAL BLOCKS has four bytes.
+pub const MAX_ADDRESSES: u64 = 0xFFFF_FFFF;
 
+/// The length of the header, in bytes, and that of each descriptor behind it.
 const HEADER_LENGTH: usize = 8;
+
+const DESCRIPTOR_LENGTH: usize = 16;
 
 /// PROVISIONING STATUS: whether addresses are mapped (SBC-3, 5.4.2.2).
 #[derive(Clone, Copy, Default)]
 pub enum ProvisioningStatus {
+    /// Mapped to a block of the pool.
     #[default]
     Mapped = 0,
+    /// Not mapped.
     Deallocated = 1,
 }
 
@@ -35,7 +40,7 @@ impl ProvisioningStatus {
 pub struct StatusDescriptor {
     /// The first address.
     pub lba: u64,
-    /// The number of addresses.
+    /// The number of addresses, `MAX_ADDRESSES` at most.
     pub count: u32,
     pub status: ProvisioningStatus,
 }

@@ -6,7 +6,7 @@ ghost use Rattle.sg_blocks.specs.PlainMap.Editing.{IsAt, VisitsRange, passed, ru
 ghost use Rattle.sg_blocks.specs.PlainMap.Status.{AreInRow, IsTableOf, end_of_gap};
 
 use super::cursor::Cursor;
-use crate::lba_status::{MAX_DESCRIPTORS, ProvisioningStatus, StatusDescriptor};
+use crate::lba_status::{MAX_ADDRESSES, MAX_DESCRIPTORS, ProvisioningStatus, StatusDescriptor};
 use crate::store::{MAX_CAPACITY, MAX_COUNT, MAX_POOL};
 use crate::table::RunTable;
 use arrayvec::ArrayVec;
@@ -38,13 +38,13 @@ fn pass_mapped(table: &mut RunTable, cursor: Cursor, lba: u64) -> Cursor
 /// How many addresses from the cursor's on are not mapped, at most as many as a descriptor covers.
 fn count_unmapped(cursor: Cursor, lba: u64, capacity: u64) -> u32
     requires { lba ≤ end_of_gap cursor.next capacity }
-    ensures { result ≡ min 0xFFFFFFFF (end_of_gap cursor.next capacity - lba) }
+    ensures { result ≡ min MAX_ADDRESSES (end_of_gap cursor.next capacity - lba) }
 {
     let end = match cursor.next {
         Some(run) => run.start,
         None => capacity,
     };
-    u64::from(u32::MAX).min(end - lba) as u32
+    MAX_ADDRESSES.min(end - lba) as u32
 }
 
 /// The descriptor that begins at the cursor's address, and the cursor where it ends.
