@@ -4,8 +4,12 @@
 
 mod identity;
 mod inquiry_data;
+mod provisioning_pages;
 mod vital_product_data;
 
 pub use identity::{Identity, IdentityFault};
 pub use inquiry_data::write_standard_inquiry;
+pub use provisioning_pages::{
+    MAXIMUM_TRANSFER_LENGTH, MAXIMUM_UNMAP_DESCRIPTORS, MAXIMUM_WRITE_SAME_LENGTH,
+};
 pub use vital_product_data::{VpdPage, vpd, write_vpd_page};

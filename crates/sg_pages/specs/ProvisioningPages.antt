@@ -1,0 +1,121 @@
+-- The pages of a disk that is thin provisioned: Block Limits and Logical Block Provisioning (SBC-3,
+-- vital product data parameters).
+use Rattle.std.specs.Prelude.{ℕ, List, [], ◌∷◌}
+use Rattle.std.specs.List.{flat_map}
+use Rattle.byteorder.specs.Endian.{big_bytes}
+
+-- A field: its length in bytes, and its value.
+pub record Field : Type 0 where
+  pub size : ℕ
+  pub value : ℕ
+
+abbrev field : (size value : ℕ) → Field
+field size value = record { size = size; value = value }
+
+-- Fields one behind the other.
+abbrev pub in_bytes : List Field → List ℕ
+in_bytes fields = flat_map (λ f. big_bytes f.size f.value) fields
+
+-- ---- Block Limits, from byte 4 of the page on
+
+-- In blocks: the most that a READ or a WRITE moves.
+abbrev pub maximum_transfer_length : ℕ
+maximum_transfer_length = 256
+
+-- The most block descriptors that the parameter list of an UNMAP has.
+abbrev pub maximum_unmap_descriptors : ℕ
+maximum_unmap_descriptors = 64
+
+-- In blocks: the most that a WRITE SAME writes.
+abbrev pub maximum_write_same_length : ℕ
+maximum_write_same_length = 65536
+
+-- WSNZ 1, byte 4: a NUMBER OF LOGICAL BLOCKS of 0 in WRITE SAME is refused.
+abbrev wsnz : Field
+wsnz = field 1 0x01
+
+-- MAXIMUM COMPARE AND WRITE LENGTH, byte 5, in blocks: there is no such command.
+abbrev compare_and_write_length : Field
+compare_and_write_length = field 1 0
+
+-- OPTIMAL TRANSFER LENGTH GRANULARITY, bytes 6 and 7, in blocks.
+abbrev transfer_granularity : Field
+transfer_granularity = field 2 1
+
+-- MAXIMUM TRANSFER LENGTH, bytes 8 to 11, in blocks.
+abbrev transfer_length : Field
+transfer_length = field 4 maximum_transfer_length
+
+-- OPTIMAL TRANSFER LENGTH, bytes 12 to 15, and MAXIMUM PREFETCH LENGTH, bytes 16 to 19, in blocks:
+-- not reported.
+abbrev optimal_transfer_length : Field
+optimal_transfer_length = field 4 0
+
+abbrev prefetch_length : Field
+prefetch_length = field 4 0
+
+-- MAXIMUM UNMAP LBA COUNT, bytes 20 to 23, in blocks: as many as the descriptors name.
+abbrev unmap_lba_count : Field
+unmap_lba_count = field 4 0xFFFFFFFF
+
+-- MAXIMUM UNMAP BLOCK DESCRIPTOR COUNT, bytes 24 to 27.
+abbrev unmap_descriptor_count : Field
+unmap_descriptor_count = field 4 maximum_unmap_descriptors
+
+-- OPTIMAL UNMAP GRANULARITY, bytes 28 to 31, in blocks.
+abbrev unmap_granularity : Field
+unmap_granularity = field 4 1
+
+-- UGAVALID and UNMAP GRANULARITY ALIGNMENT, bytes 32 to 35: not reported.
+abbrev unmap_alignment : Field
+unmap_alignment = field 4 0
+
+-- MAXIMUM WRITE SAME LENGTH, bytes 36 to 43, in blocks.
+abbrev write_same_length : Field
+write_same_length = field 8 maximum_write_same_length
+
+-- Bytes 44 to 63.
+abbrev reserved : Field
+reserved = field 20 0
+
+unfoldable pub block_limits : List ℕ
+block_limits =
+    in_bytes (
+    wsnz
+    ∷ compare_and_write_length
+    ∷ transfer_granularity
+    ∷ transfer_length
+    ∷ optimal_transfer_length
+    ∷ prefetch_length
+    ∷ unmap_lba_count
+    ∷ unmap_descriptor_count
+    ∷ unmap_granularity
+    ∷ unmap_alignment
+    ∷ write_same_length
+    ∷ reserved
+    ∷ []
+    )
+
+-- ---- Logical Block Provisioning, from byte 4 of the page on
+
+-- THRESHOLD EXPONENT, byte 4: there are no thresholds.
+abbrev threshold_exponent : Field
+threshold_exponent = field 1 0
+
+-- LBPU, LBPWS, LBPWS10 and LBPRZ 1, byte 5: UNMAP and WRITE SAME (16) and (10) unmap blocks, and
+-- unmapped blocks read as zeros. ANC_SUP 0, DP 0: no block is anchored, and no group descriptor
+-- follows.
+abbrev provisioning_bits : Field
+provisioning_bits = field 1 0xE4
+
+-- PROVISIONING TYPE 2, byte 6: thin provisioned.
+abbrev provisioning_type : Field
+provisioning_type = field 1 0x02
+
+-- Byte 7.
+abbrev reserved_byte : Field
+reserved_byte = field 1 0
+
+unfoldable pub logical_block_provisioning : List ℕ
+logical_block_provisioning =
+    in_bytes (threshold_exponent ∷ provisioning_bits ∷ provisioning_type ∷ reserved_byte ∷ [])

@@ -1,0 +1,51 @@
+// The pages of a disk that is thin provisioned.
+ghost use Rattle.std.specs.Prelude.{◌≡◌};
+ghost use Rattle.sg_pages.specs.ProvisioningPages.{block_limits, logical_block_provisioning};
+
+use byteorder::{BigEndian, ByteOrder};
+
+/// The most blocks that a READ or a WRITE moves.
+pub const MAXIMUM_TRANSFER_LENGTH: u32 = 256;
+
+/// The most block descriptors that the parameter list of an UNMAP has.
+pub const MAXIMUM_UNMAP_DESCRIPTORS: u32 = 64;
+
+/// The most blocks that a WRITE SAME writes.
+pub const MAXIMUM_WRITE_SAME_LENGTH: u32 = 65_536;
+
+// A WRITE SAME of no block is refused.
+const WSNZ: u8 = 0x01;
+
+// UNMAP and WRITE SAME (16) and (10) unmap blocks (LBPU, LBPWS and LBPWS10), and unmapped blocks
+// read as zeros (LBPRZ).
+const PROVISIONING_BITS: u8 = 0x80 | 0x40 | 0x20 | 0x04;
+
+// PROVISIONING TYPE.
+const THIN_PROVISIONED: u8 = 0x02;
+
+// The content of Block Limits: fields that are not named here are zero.
+#[tactic(auto, unfolding(crate::specs::ProvisioningPages::block_limits))]
+pub(crate) fn block_limits() -> [u8; 60]
+    ensures { result ≡ block_limits }
+{
+    let mut bytes = [0; 60];
+    bytes[0] = WSNZ;
+    // OPTIMAL TRANSFER LENGTH GRANULARITY
+    BigEndian::write_u16(&mut bytes[2..], 1);
+    BigEndian::write_u32(&mut bytes[4..], MAXIMUM_TRANSFER_LENGTH);
+    // MAXIMUM UNMAP LBA COUNT: as many as the descriptors name
+    BigEndian::write_u32(&mut bytes[16..], u32::MAX);
+    BigEndian::write_u32(&mut bytes[20..], MAXIMUM_UNMAP_DESCRIPTORS);
+    // OPTIMAL UNMAP GRANULARITY
+    BigEndian::write_u32(&mut bytes[24..], 1);
+    BigEndian::write_u64(&mut bytes[32..], u64::from(MAXIMUM_WRITE_SAME_LENGTH));
+    bytes
+}
+
+// The content of Logical Block Provisioning: no thresholds, and no group descriptor.
+#[tactic(auto, unfolding(crate::specs::ProvisioningPages::logical_block_provisioning))]
+pub(crate) fn logical_block_provisioning() -> [u8; 4]
+    ensures { result ≡ logical_block_provisioning }
+{
+    [0, PROVISIONING_BITS, THIN_PROVISIONED, 0]
+}
