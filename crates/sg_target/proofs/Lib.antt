@@ -1,8 +1,10 @@
 pub mod AttentionLemmas
 pub mod CapacityLemmas
+pub mod ExtentLemmas
 mod Lemmas
 pub mod LimitLemmas
 pub mod RangeLemmas
 pub mod RunLemmas
 pub mod SenseLemmas
 pub mod StepLemmas
+pub mod UnmapLemmas

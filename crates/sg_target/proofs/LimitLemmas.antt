@@ -1,20 +1,23 @@
 -- No command takes a table of the disk past its limit.
-use Rattle.std.proofs.Common.{◌≡◌, ◌≤◌, ℕ, zero, suc, List, [], ◌∷◌, length, drop, set, get_or, Option, Some, None, Result, Ok, Err, refl, ◌∙◌, arith}
+use Rattle.std.proofs.Common.{◌≡◌, ◌≤◌, ℕ, zero, suc, List, [], ◌∷◌, length, drop, set, get_or, Bool, true, false, cond, Option, Some, None, Result, Ok, Err, refl, ◌∙◌, arith}
 use Rattle.std.specs.FinMap.{len}
 use Rattle.std.proofs.Math.ListN.{length-set}
 use Rattle.std.proofs.lemmas.Bool.Decides.{nat_tests}
 use Rattle.sg_blocks.specs.Disk.{Disk}
 use Rattle.sg_wire.specs.Layout.{command_of}
 use Rattle.sg_wire.specs.declared.command.Command.{Command}
-use Rattle.sg_wire.specs.declared.command.Command.TheVariants.{TestUnitReady, RequestSense, Inquiry, Read6, Read10, Read16, Write6, Write10, Write16, ReadCapacity10, ReadCapacity16, SynchronizeCache10}
+use Rattle.sg_wire.specs.declared.command.Command.TheVariants.{RequestSense, Inquiry, WriteSame10, WriteSame16, Unmap}
 use Rattle.sg_wire.specs.declared.command.CdbFault.{CdbFault}
 use Rattle.sg_target.specs.Attentions.{AreQueues, IsQueue, Pending, initiator_count, power_on_pending, without_oldest}
 use Rattle.sg_target.specs.Checks.{cdb_checks, checked_effect, checked_parse, command_checks, first_some, no_space, unless_refused}
 use Rattle.sg_target.specs.Effect.{Effect}
 use Rattle.sg_target.specs.PrimaryCommands.{inquiry_page, returning_if_there}
-use Rattle.sg_target.specs.Semantics.{semantics}
+use Rattle.sg_wire.specs.CutAnswer.{first_bytes}
+use Rattle.sg_target.specs.ProvisioningCommands.{block_out, filling, unmap_list, unmapping, unmapping_listed, unmaps}
+use Rattle.sg_target.specs.Semantics.{extent, semantics}
+use Rattle.sg_target.specs.declared.extent.Extent.{Extent}
 use Rattle.sg_target.specs.State.{IsWithinLimits, State}
-use Rattle.sg_target.specs.Step.{executed, executed_or_refused, outcome, refused, step, unless_no_space}
+use Rattle.sg_target.specs.Step.{outcome, refused, step, unless_no_space}
 use Rattle.sg_target.specs.declared.attentions.UnitAttention.{UnitAttention}
 use Rattle.sg_target.specs.declared.attentions.UnitAttention.TheVariants.{PowerOn}
 use Rattle.sg_target.specs.declared.inquiry_page.InquiryPage.{InquiryPage}
@@ -88,9 +91,25 @@ inquiry-keeps : (state : State) (page : Option InquiryPage) (n : ℕ) → KeepsO
 inquiry-keeps state None n h = tt
 inquiry-keeps state (Some page) n h = record { initiators = h.initiators; queues = h.queues }
 
+unmapping-keeps : (state : State) (listed : Result (List Extent) Refusal) → KeepsOthers state
+    → EffectKeeps (unmapping_listed state listed)
+unmapping-keeps state (Ok extents) h = record { initiators = h.initiators; queues = h.queues }
+unmapping-keeps state (Err refusal) h = tt
+
+same-keeps : (state : State) (extent : Extent) (block : List ℕ) (is_unmapped : Bool) → KeepsOthers state
+    → KeepsOthers (cond is_unmapped (unmapping state (extent ∷ [])) (filling state extent block)).after
+same-keeps state extent block true h = record { initiators = h.initiators; queues = h.queues }
+same-keeps state extent block false h = record { initiators = h.initiators; queues = h.queues }
+
 semantics-keeps : (state : State) (i : ℕ) (command : Command) (data_out : List ℕ) → IsWithinLimits state → EffectKeeps (semantics state i command data_out).effect
 semantics-keeps state i (RequestSense desc n) data_out h = others _ (without-oldest-within state i h)
 semantics-keeps state i (Inquiry evpd code n) data_out h = inquiry-keeps state (inquiry_page evpd code) n (others state h)
+semantics-keeps state i (WriteSame10 anchor unmap lba n) data_out h =
+    same-keeps state (extent lba n) (block_out data_out) (unmaps unmap (block_out data_out)) (others state h)
+semantics-keeps state i (WriteSame16 anchor unmap lba n) data_out h =
+    same-keeps state (extent lba n) (block_out data_out) (unmaps unmap (block_out data_out)) (others state h)
+semantics-keeps state i (Unmap anchor group n) data_out h =
+    unmapping-keeps state (unmap_list (first_bytes n data_out)) (others state h)
 semantics-keeps state i _ data_out h = record { initiators = h.initiators; queues = h.queues }
 
 unless-keeps : (refusal : Option Refusal) (effect : Result Effect Refusal) → EffectKeeps effect → EffectKeeps (unless_refused refusal effect)

@@ -73,8 +73,8 @@ short_data_out (Some n) data_out =
     if nat_lt (length data_out) n then Some (Check DataPhaseError) else None
 
 -- Something is wrong with the page or the parameter list that it names.
-abbrev pub list_fault : Result Effect Refusal → Option Refusal
-list_fault (Ok effect) = None
+abbrev pub list_fault : {A : Type 0} → Result A Refusal → Option Refusal
+list_fault (Ok sound) = None
 list_fault (Err refusal) = Some refusal
 
 unfoldable pub first_fault : (value data_out list : Option Refusal) → Option Refusal

@@ -7,6 +7,7 @@ pub mod Refusal
 pub mod PrimaryCommands
 pub mod CapacityData
 pub mod BlockCommands
+pub mod ProvisioningCommands
 pub mod Semantics
 pub mod Checks
 pub mod Status

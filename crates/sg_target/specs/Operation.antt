@@ -1,26 +1,28 @@
 -- The words of the code for what is left to do of a command, in those of the definitions.
-use Rattle.std.specs.Prelude.{◌≡◌, ℕ, ◌+◌, ◌≤◌, List, [], ◌∷◌, length, Option, Some, None, Ok}
-use Rattle.sg_wire.specs.CutAnswer.{overwritten}
+use Rattle.std.specs.Prelude.{◌≡◌, ℕ, ◌+◌, ◌≤◌, List, [], ◌∷◌, length, Bool, Option, Some, None, Ok, if◌then◌else◌}
+use Rattle.sg_wire.specs.CutAnswer.{first_bytes, overwritten}
 use Rattle.sg_wire.specs.SenseData.{sense_data}
 use Rattle.sg_wire.specs.declared.command.Command.{Command}
 use Rattle.sg_wire.specs.declared.sense.Format.{Format}
 use Rattle.sg_blocks.specs.Meter.{no_counts}
 use Rattle.sg_blocks.specs.declared.store.Counts.{Counts}
 use Rattle.sg_pages.specs.Identity.{IdentityFields}
+use Rattle.sg_pages.specs.ProvisioningPages.{maximum_transfer_length, maximum_unmap_descriptors}
 use Rattle.sg_target.specs.BlockCommands.{bytes_of, read_capacity_10, read_capacity_16, reading, writing}
-use Rattle.sg_target.specs.CapacityData.{capacity_10, capacity_16}
-use Rattle.sg_target.specs.Checks.{checked_effect, first_fault, request_fault, short_data_out, unsupported_value}
+use Rattle.sg_target.specs.CapacityData.{block_length, capacity_10, capacity_16}
+use Rattle.sg_target.specs.Checks.{checked_effect, first_fault, list_fault, request_fault, short_data_out, unsupported_value}
 use Rattle.sg_target.specs.Effect.{Effect, no_effect}
 use Rattle.sg_target.specs.PrimaryCommands.{inquiry_data, returning_page, returning_sense}
 use Rattle.sg_target.specs.Refusal.{pending_sense}
-use Rattle.sg_target.specs.Semantics.{maximum_transfer_length, semantics}
+use Rattle.sg_target.specs.ProvisioningCommands.{block_out, filling, unmap_list, unmapping, unmaps}
+use Rattle.sg_target.specs.Semantics.{unless_anchor, bad_count, semantics}
 use Rattle.sg_target.specs.State.{State}
 use Rattle.sg_target.specs.Step.{Step, executed_or_refused, refusal_answer}
 use Rattle.sg_target.specs.declared.data_in.DataIn.{DataIn}
 use Rattle.sg_target.specs.declared.data_in.DataIn.TheVariants.{Sense, Inquiry, Capacity10, Capacity16}
 use Rattle.sg_target.specs.declared.extent.Extent.{Extent}
 use Rattle.sg_target.specs.declared.operation.Operation.{Operation}
-use Rattle.sg_target.specs.declared.operation.Operation.TheVariants.{Nothing, RequestSense, ReturnInquiry, ReadCapacity10, ReadCapacity16, Read, Write, Synchronize}
+use Rattle.sg_target.specs.declared.operation.Operation.TheVariants.{Nothing, RequestSense, ReturnInquiry, ReadCapacity10, ReadCapacity16, Read, Write, Synchronize, Fill, Unmap}
 use Rattle.sg_target.specs.declared.refusal.Refusal.{Refusal}
 use Rattle.sg_target.specs.declared.reply.Reply.{Reply}
 use Rattle.sg_target.specs.declared.reply.Status.TheVariants.{Good}
@@ -34,19 +36,26 @@ effect_of state i (ReadCapacity16 n) data_out = read_capacity_16 state n
 effect_of state i (Read extent) data_out = reading state extent
 effect_of state i (Write extent) data_out = writing state extent data_out
 effect_of state i (Synchronize extent) data_out = no_effect state
+effect_of state i (Fill extent) data_out = filling state extent (block_out data_out)
+effect_of state i (Unmap extents) data_out = unmapping state extents
 
 -- The extents that have to be on the disk.
 abbrev pub extents_of : Operation → List Extent
 extents_of (Read extent) = extent ∷ []
 extents_of (Write extent) = extent ∷ []
 extents_of (Synchronize extent) = extent ∷ []
+extents_of (Fill extent) = extent ∷ []
+extents_of (Unmap extents) = extents
 extents_of _ = []
 
--- At most 256 blocks are moved, and data-out has those that are written.
+-- No more blocks are moved, and no more extents unmapped, than the disk takes; and data-out has the
+-- blocks that are written.
 abbrev pub IsExecutable : Operation → (data_out : List ℕ) → Type 0
 IsExecutable (Read extent) data_out = extent.count ≤ maximum_transfer_length
 IsExecutable (Write extent) data_out =
     (extent.count ≤ maximum_transfer_length) × (bytes_of extent ≤ length data_out)
+IsExecutable (Fill extent) data_out = block_length ≤ length data_out
+IsExecutable (Unmap extents) data_out = length extents ≤ maximum_unmap_descriptors
 IsExecutable _ data_out = Unit {0}
 
 abbrev pub AreOnDisk : (capacity : ℕ) → List Extent → Type 0
@@ -60,6 +69,27 @@ write_fault extent unsupported data_out =
     (unsupported_value unsupported)
     (short_data_out (Some (bytes_of extent)) data_out)
     None
+
+-- What is wrong with a WRITE SAME.
+abbrev pub write_same_fault : (anchor : Bool) (count byte : ℕ) (data_out : List ℕ) → Option Refusal
+write_same_fault anchor count byte data_out =
+    first_fault
+    (unsupported_value (unless_anchor anchor (bad_count count byte)))
+    (short_data_out (Some block_length) data_out)
+    None
+
+-- What is left to do of it.
+abbrev pub write_same_operation : (unmap : Bool) → Extent → (data_out : List ℕ) → Operation
+write_same_operation unmap extent data_out =
+    if unmaps unmap (block_out data_out) then Unmap (extent ∷ []) else Fill extent
+
+-- What is wrong with an UNMAP.
+abbrev pub unmap_fault : (anchor : Bool) (list_length : ℕ) (data_out : List ℕ) → Option Refusal
+unmap_fault anchor n data_out =
+    first_fault
+    (unsupported_value (unless_anchor anchor None))
+    (short_data_out (Some n) data_out)
+    (list_fault (unmap_list (first_bytes n data_out)))
 
 -- The request checks have passed a command: what is left to do of it has its effect and its
 -- extents.

@@ -2,7 +2,6 @@
 use Rattle.std.specs.Prelude.{◌≡◌, ℕ, ◌+◌, ◌*◌, ◌<◌, ◌≤◌, List, [], ◌∷◌, length, Result, Ok, Err}
 use Rattle.sg_blocks.specs.Disk.{Contents}
 use Rattle.sg_blocks.specs.Meter.{Meter}
-use Rattle.sg_blocks.specs.declared.store.Counts.{Counts}
 use Rattle.sg_target.specs.Checks.{checked_effect}
 use Rattle.sg_target.specs.Effect.{Effect, Range}
 use Rattle.sg_target.specs.State.{State}
@@ -46,6 +45,16 @@ visit_bound (range ∷ rest) = range.count + 2 + visit_bound rest
 abbrev pub restarts_for : List Range → ℕ
 restarts_for [] = 0
 restarts_for (range ∷ rest) = 1
+
+-- What a store has counted over ranges in turn, since a restart.
+pub record IsCounted (bounds : CostBounds) (pool : ℕ) (over : List Range)
+    (before after : Meter) : Type 0 where
+  pub visits : after.counts.visits ≤ sum_over bounds.price over
+  pub probes : after.counts.probes ≤ 64 * length over
+  pub links : after.counts.links ≤ pool * length over
+  pub least : sum_over bounds.least over ≤ after.counts.visits
+  pub visited : after.total ≡ before.total + after.counts.visits
+  pub restarts : after.restarts ≡ before.restarts
 
 -- A command over these ranges is charged from meter to meter, by the counts of its reply.
 pub record IsCharged (bounds : CostBounds) (pool : ℕ) (over : List Range)

@@ -1,12 +1,12 @@
 -- Why a command is refused, and the sense data that reports it.
-use Rattle.std.specs.Prelude.{ℕ, Option, Some, None, true}
+use Rattle.std.specs.Prelude.{ℕ, Option, Some, None, true, false}
 use Rattle.sg_wire.specs.SenseData.{SenseFields}
 use Rattle.sg_wire.specs.declared.command.CdbFault.{CdbFault}
 use Rattle.sg_wire.specs.declared.command.CdbFault.TheVariants.{Empty, Opcode, Short, Field}
 use Rattle.sg_target.specs.Attentions.{code_of}
 use Rattle.sg_target.specs.declared.attentions.UnitAttention.{UnitAttention}
 use Rattle.sg_target.specs.declared.refusal.Reason.{Reason}
-use Rattle.sg_target.specs.declared.refusal.Reason.TheVariants.{InvalidFieldInCdb, InvalidCommandOperationCode, UnitAttention as Attention, DataPhaseError, LbaOutOfRange, SpaceAllocationFailed}
+use Rattle.sg_target.specs.declared.refusal.Reason.TheVariants.{InvalidFieldInCdb, InvalidCommandOperationCode, UnitAttention as Attention, DataPhaseError, ParameterListLengthError, InvalidFieldInParameterList, LbaOutOfRange, SpaceAllocationFailed}
 use Rattle.sg_target.specs.declared.refusal.Refusal.{Refusal}
 use Rattle.sg_target.specs.declared.refusal.Refusal.TheVariants.{Check}
 
@@ -32,8 +32,8 @@ abbrev pub plain_sense : (key asc ascq : ℕ) → SenseFields
 plain_sense key asc ascq =
     record { key = key; asc = asc; ascq = ascq; information = None; pointer = None }
 
--- An invalid field has a pointer to its byte in the CDB (SPC-4, 4.5.2.4.2), and a logical block
--- address out of range is INFORMATION (SPC-4, 4.5.2.2).
+-- An invalid field has a pointer to its byte in the CDB or in the parameter list (SPC-4, 4.5.2.4.2),
+-- and a logical block address out of range is INFORMATION (SPC-4, 4.5.2.2).
 abbrev pub sense_of : Reason → SenseFields
 sense_of (Attention condition) = plain_sense unit_attention (code_of condition).0 (code_of condition).1
 sense_of InvalidCommandOperationCode = plain_sense illegal_request 0x20 0x00
@@ -41,6 +41,10 @@ sense_of (InvalidFieldInCdb byte) =
     record (plain_sense illegal_request 0x24 0x00)
     { pointer = Some (record { in_command = true; byte = byte }) }
 sense_of DataPhaseError = plain_sense aborted_command 0x4B 0x00
+sense_of ParameterListLengthError = plain_sense illegal_request 0x1A 0x00
+sense_of (InvalidFieldInParameterList byte) =
+    record (plain_sense illegal_request 0x26 0x00)
+    { pointer = Some (record { in_command = false; byte = byte }) }
 sense_of (LbaOutOfRange lba) = record (plain_sense illegal_request 0x21 0x00) { information = Some lba }
 sense_of SpaceAllocationFailed = plain_sense data_protect 0x27 0x07
 

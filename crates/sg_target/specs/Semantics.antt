@@ -1,11 +1,15 @@
 -- What each command asks of the disk: a row of columns, by which the checks, the step and the
 -- ranges take all commands alike.
-use Rattle.std.specs.Prelude.{ℕ, List, [], ◌∷◌, Bool, true, false, Option, Some, None, Result, Ok, Err, nat_lt, if◌then◌else◌}
+use Rattle.std.specs.Prelude.{ℕ, List, [], ◌∷◌, Bool, true, false, ◌&&◌, Option, Some, None, Result, Ok, Err, nat_le, nat_lt, if◌then◌else◌}
 use Rattle.sg_wire.specs.declared.command.Command.{Command}
-use Rattle.sg_wire.specs.declared.command.Command.TheVariants.{TestUnitReady, RequestSense, Inquiry, Read6, Read10, Read16, Write6, Write10, Write16, ReadCapacity10, ReadCapacity16, SynchronizeCache10}
+use Rattle.sg_wire.specs.declared.command.Command.TheVariants.{TestUnitReady, RequestSense, Inquiry, Read6, Read10, Read16, Write6, Write10, Write16, ReadCapacity10, ReadCapacity16, SynchronizeCache10, WriteSame10, WriteSame16, Unmap, GetLbaStatus}
+use Rattle.sg_wire.specs.CutAnswer.{first_bytes}
+use Rattle.sg_pages.specs.ProvisioningPages.{maximum_transfer_length, maximum_write_same_length}
 use Rattle.sg_target.specs.BlockCommands.{bytes_of, read_capacity_10, read_capacity_16, reading, writing}
 use Rattle.sg_target.specs.Effect.{Effect, no_effect}
 use Rattle.sg_target.specs.PrimaryCommands.{inquiry, request_sense}
+use Rattle.sg_target.specs.CapacityData.{block_length}
+use Rattle.sg_target.specs.ProvisioningCommands.{unmap_list, unmapping_listed, writing_same}
 use Rattle.sg_target.specs.State.{State}
 use Rattle.sg_target.specs.declared.extent.Extent.{Extent}
 use Rattle.sg_target.specs.declared.refusal.Refusal.{Refusal}
@@ -41,10 +45,8 @@ extent lba count = record { lba = lba; count = count }
 abbrev pub over : Extent → Effect → Semantics
 over extent effect = record (without_blocks (Ok effect)) { extents = extent ∷ [] }
 
--- READ and WRITE move at most 256 blocks; the byte is where TRANSFER LENGTH begins.
-abbrev pub maximum_transfer_length : ℕ
-maximum_transfer_length = 256
-
+-- READ and WRITE move no more blocks than the page Block Limits says; the byte is where TRANSFER
+-- LENGTH begins.
 abbrev pub too_long : (transfer_length byte : ℕ) → Option ℕ
 too_long transfer_length byte =
     if nat_lt maximum_transfer_length transfer_length then Some byte else None
@@ -57,6 +59,39 @@ write state extent unsupported data_out = record (over extent (writing state ext
   unsupported = unsupported;
   data_out_length = Some (bytes_of extent);
   writes_medium = true;
+}
+
+-- No block can be anchored: ANCHOR, in byte 1, is not supported. WRITE SAME writes at least one
+-- block, and no more than the page Block Limits says; the byte is where NUMBER OF LOGICAL BLOCKS
+-- begins.
+abbrev pub unless_anchor : (anchor : Bool) → (otherwise : Option ℕ) → Option ℕ
+unless_anchor anchor otherwise = if anchor then Some 1 else otherwise
+
+abbrev pub bad_count : (count byte : ℕ) → Option ℕ
+bad_count count byte =
+    if nat_le 1 count && nat_le count maximum_write_same_length then None else Some byte
+
+abbrev pub write_same : State → (anchor unmap : Bool) → Extent → (byte : ℕ) → (data_out : List ℕ)
+    → Semantics
+write_same state anchor unmap extent byte data_out =
+    record (over extent (writing_same state unmap extent data_out)) {
+      unsupported = unless_anchor anchor (bad_count extent.count byte);
+      data_out_length = Some block_length;
+      writes_medium = true;
+    }
+
+-- The extents that an UNMAP has in its parameter list.
+abbrev pub extents_listed : Result (List Extent) Refusal → List Extent
+extents_listed (Ok extents) = extents
+extents_listed (Err refusal) = []
+
+abbrev pub unmap : State → (anchor : Bool) → (list_length : ℕ) → (data_out : List ℕ) → Semantics
+unmap state anchor n data_out = let listed = unmap_list (first_bytes n data_out) in record {
+  unsupported = unless_anchor anchor None;
+  data_out_length = Some n;
+  extents = extents_listed listed;
+  writes_medium = true;
+  effect = unmapping_listed state listed;
 }
 
 -- The row of each command, in a state, from an initiator, with its data-out. READ(6) and WRITE(6)
@@ -75,3 +110,10 @@ semantics state i (Write16 lba n) data_out = write state (extent lba n) (too_lon
 semantics state i ReadCapacity10 data_out = without_blocks (Ok (read_capacity_10 state))
 semantics state i (ReadCapacity16 n) data_out = without_blocks (Ok (read_capacity_16 state n))
 semantics state i (SynchronizeCache10 lba n) data_out = over (extent lba n) (no_effect state)
+semantics state i (WriteSame10 anchor unmapping lba n) data_out =
+    write_same state anchor unmapping (extent lba n) 7 data_out
+semantics state i (WriteSame16 anchor unmapping lba n) data_out =
+    write_same state anchor unmapping (extent lba n) 10 data_out
+semantics state i (Unmap anchor group n) data_out = unmap state anchor n data_out
+semantics state i (GetLbaStatus start n) data_out =
+    record (without_blocks (Ok (no_effect state))) { unsupported = Some 1 }

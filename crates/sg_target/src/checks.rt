@@ -3,9 +3,11 @@ ghost use Rattle.std.specs.Prelude.{◌≡◌, ◌≤◌, ◌+◌, length, Some,
 ghost use Rattle.sg_wire.specs.Layout.{is_blocked_by_attention};
 ghost use Rattle.sg_target.specs.Attentions.{oldest};
 ghost use Rattle.sg_target.specs.BlockCommands.{bytes_of};
-ghost use Rattle.sg_target.specs.Checks.{checked_effect, past_capacity, short_data_out, unsupported_value};
-ghost use Rattle.sg_target.specs.Operation.{IsChecked};
-ghost use Rattle.sg_target.specs.Semantics.{maximum_transfer_length, too_long};
+ghost use Rattle.sg_target.specs.Checks.{checked_effect, out_of_range, past_capacity, short_data_out, unsupported_value};
+ghost use Rattle.sg_target.specs.Operation.{AreOnDisk, IsChecked};
+ghost use Rattle.sg_wire.specs.CutAnswer.{first_bytes};
+ghost use Rattle.sg_pages.specs.ProvisioningPages.{maximum_transfer_length};
+ghost use Rattle.sg_target.specs.Semantics.{bad_count, too_long};
 ghost use Rattle.sg_target.specs.State.{IsWithinLimits};
 
 use crate::attentions::UnitAttention;
@@ -14,10 +16,8 @@ use crate::operation::Operation;
 use crate::refusal::{Reason, Refusal};
 use crate::target::Target;
 use sg_blocks::{MAX_CAPACITY, Store};
+use sg_pages::{MAXIMUM_TRANSFER_LENGTH, MAXIMUM_WRITE_SAME_LENGTH};
 use sg_wire::{CdbFault, Command, Initiator};
-
-// In blocks.
-const MAXIMUM_TRANSFER_LENGTH: u32 = 256;
 
 impl<S: Store> Target<S> {
     // Checks a CDB and its command, all but that for space, which is made as the command is
@@ -79,6 +79,21 @@ pub(crate) fn past_capacity(capacity: u64, extent: Extent) -> Option<Refusal>
     }))
 }
 
+// The refusal of the first of some extents of which some block is past the last one.
+#[tactic(auto, unfolding(crate::specs::Checks::out_of_range))]
+pub(crate) fn first_past_capacity(capacity: u64, extents: &[Extent]) -> Option<Refusal>
+    requires { capacity ≤ MAX_CAPACITY }
+    ensures value { result ≡ out_of_range capacity extents.now }
+    ensures on_disk { IfNone result (AreOnDisk capacity extents.now) }
+{
+    for extent in extents {
+        if let Some(refusal) = past_capacity(capacity, *extent) {
+            return Some(refusal);
+        }
+    }
+    None
+}
+
 // Refuses more blocks than the disk moves at once; TRANSFER LENGTH begins at the byte.
 pub(crate) fn check_transfer_length(extent: Extent, byte: u16) -> Result<(), Refusal>
     ensures refused { IfErr result (λ refusal.
@@ -90,6 +105,33 @@ pub(crate) fn check_transfer_length(extent: Extent, byte: u16) -> Result<(), Ref
         return Err(Refusal::Check(Reason::InvalidFieldInCdb { byte }));
     }
     Ok(())
+}
+
+// Refuses no block, and more blocks than WRITE SAME writes; NUMBER OF LOGICAL BLOCKS begins at the
+// byte.
+pub(crate) fn check_write_same_length(extent: Extent, byte: u16) -> Result<(), Refusal>
+    ensures refused { IfErr result (λ refusal.
+        unsupported_value (bad_count extent.count byte) ≡ Some refusal) }
+    ensures passed { IfOk result (λ _. bad_count extent.count byte ≡ None) }
+{
+    if !(1..=MAXIMUM_WRITE_SAME_LENGTH).contains(&extent.count) {
+        return Err(Refusal::Check(Reason::InvalidFieldInCdb { byte }));
+    }
+    Ok(())
+}
+
+// The bytes of data-out that a command needs, all of which have to be there.
+pub(crate) fn needed_data_out(data_out: &[u8], count: usize) -> Result<&[u8], Refusal>
+    ensures refused { IfErr result (λ refusal.
+        short_data_out (Some count) data_out.now ≡ Some refusal) }
+    ensures passed { IfOk result (λ _. short_data_out (Some count) data_out.now ≡ None) }
+    ensures bytes { IfOk result (λ bytes. bytes.now ≡ first_bytes count data_out.now) }
+    ensures whole { IfOk result (λ _. count ≤ length data_out.now) }
+{
+    if data_out.len() < count {
+        return Err(Refusal::Check(Reason::DataPhaseError));
+    }
+    Ok(&data_out[..count])
 }
 
 // Refuses data-out that does not have the bytes of all blocks.

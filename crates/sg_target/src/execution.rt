@@ -1,13 +1,14 @@
 // The work of operations.
-ghost use Rattle.std.specs.Prelude.{◌≡◌, ◌≤◌, ◌+◌, ◌∷◌, [], length};
+ghost use Rattle.std.specs.Prelude.{◌≡◌, ◌≤◌, ◌+◌, ◌∷◌, [], length, OnOk, OnErr};
 ghost use Rattle.sg_wire.specs.CutAnswer.{first_bytes};
+ghost use Rattle.sg_pages.specs.ProvisioningPages.{maximum_transfer_length};
 ghost use Rattle.sg_target.specs.BlockCommands.{bytes_of, reading};
+ghost use Rattle.sg_target.specs.CapacityData.{block_length};
 ghost use Rattle.sg_target.specs.Effect.{range};
-ghost use Rattle.sg_target.specs.Operation.{ReturnsData, data_of, step_by};
+ghost use Rattle.sg_target.specs.Operation.{ReturnsData, data_of, executed_reply, refused_reply, step_by};
 ghost use Rattle.sg_target.specs.Ranges.{IsCharged, cost_bounds};
 ghost use Rattle.sg_target.specs.Reply.{Carries};
-ghost use Rattle.sg_target.specs.Semantics.{maximum_transfer_length};
-ghost use Rattle.sg_target.specs.Step.{executed};
+ghost use Rattle.sg_target.specs.Step.{executed, sense_format};
 
 use crate::data_in::DataIn;
 use crate::extent::Extent;
@@ -15,7 +16,7 @@ use crate::operation::Operation;
 use crate::refusal::{Reason, Refusal};
 use crate::reply::Reply;
 use crate::target::{BUFFER_LENGTH, Target};
-use sg_blocks::{Space, Store};
+use sg_blocks::{BLOCK_LENGTH, Space, Store};
 use sg_wire::Initiator;
 
 impl<S: Store> Target<S> {
@@ -66,6 +67,41 @@ impl<S: Store> Target<S> {
         let len = extent.byte_length() as usize;
         self.store.restart_counts();
         let written = self.store.write(extent.lba, extent.count, &data_out[..len]);
+        self.reply_to_write(initiator, written)
+    }
+    // WRITE SAME replaces each of its blocks by the first block of data-out, unless there is no
+    // space for them.
+    #[tactic(auto, unfolding(crate::specs::Checks::no_space))]
+    pub(crate) fn fill(
+        &mut self,
+        initiator: Initiator,
+        extent: Extent,
+        data_out: &[u8],
+        buf: &[u8],
+    ) -> Reply
+        requires on_disk { extent.lba + extent.count ≤ self.old.state.disk.capacity }
+        requires whole { block_length ≤ length data_out.now }
+        ensures reply { let done = step_by self.old.state initiator (Operation.Fill extent) data_out.now in
+            Carries done.answer result buf.now buf.now }
+        ensures state { self.new.state
+            ≡ (step_by self.old.state initiator (Operation.Fill extent) data_out.now).state }
+        ensures charge { IsCharged (cost_bounds S.price S.least) self.old.state.disk.pool
+            (range self.old.state.disk.contents extent ∷ []) self.old.meter self.new.meter result }
+    {
+        let mut block = [0; BLOCK_LENGTH];
+        block.copy_from_slice(&data_out[..BLOCK_LENGTH]);
+        self.store.restart_counts();
+        let filled = self.store.fill(extent.lba, extent.count, &block);
+        self.reply_to_write(initiator, filled)
+    }
+
+    // The reply to a command that writes blocks, or for which there is no space.
+    fn reply_to_write(&mut self, initiator: Initiator, written: Result<(), Space>) -> Reply
+        ensures done { OnOk written (result ≡ executed_reply 0 self.old.meter.counts) }
+        ensures refused { OnErr written (result ≡ refused_reply (sense_format self.old.state)
+            (Refusal.Check Reason.SpaceAllocationFailed) self.old.meter.counts) }
+        ensures state { self.new ≡ self.old }
+    {
         let counts = self.store.counts();
         match written {
             Ok(()) => Reply::good(0, counts),

@@ -3,7 +3,7 @@ use sg_blocks::BLOCK_LENGTH;
 use sg_wire::ShortExtent;
 
 /// Logical blocks from an address on.
-#[derive(Clone, Copy)]
+#[derive(Clone, Copy, Default)]
 pub(crate) struct Extent {
     /// The first block's address.
     pub(crate) lba: u64,

@@ -9,6 +9,7 @@ mod config;
 mod data_in;
 mod execution;
 mod extent;
+mod extent_list;
 mod inquiry_page;
 pub mod laws;
 mod operation;
@@ -16,6 +17,7 @@ mod refusal;
 mod reply;
 mod run;
 mod target;
+mod unmap;
 
 pub use call::Call;
 pub use config::{Config, ConfigFault};

@@ -1,27 +1,37 @@
 // What is left to do of a command: from the command to its execution.
-ghost use Rattle.std.specs.Prelude.{◌≡◌, ◌≤◌, length, Some, None, IfOk, IfErr, IfNone, IfSome, IsSome};
+ghost use Rattle.std.specs.Prelude.{◌≡◌, ◌≤◌, ◌==◌, length, Some, None, IfOk, IfErr, IfNone, IfSome, IsSome};
+ghost use Rattle.std.specs.List.{list_all};
+ghost use Rattle.sg_pages.specs.ProvisioningPages.{maximum_transfer_length};
 ghost use Rattle.sg_target.specs.BlockCommands.{bytes_of};
+ghost use Rattle.sg_target.specs.CapacityData.{block_length};
+ghost use Rattle.sg_target.specs.ProvisioningCommands.{unmaps};
 ghost use Rattle.sg_target.specs.Checks.{out_of_range, request_fault, unsupported_value};
 ghost use Rattle.sg_target.specs.Operation.{AreOnDisk, IsExecutable, IsRequested, effect_of, extents_of, step_by, write_fault};
+ghost use Rattle.sg_target.specs.Operation.{write_same_fault, write_same_operation};
 ghost use Rattle.sg_target.specs.PrimaryCommands.{format_of, inquiry_page};
 ghost use Rattle.sg_target.specs.Ranges.{IsCharged, cost_bounds};
 ghost use Rattle.sg_target.specs.Reply.{Carries};
-ghost use Rattle.sg_target.specs.Semantics.{maximum_transfer_length, semantics, too_long};
+ghost use Rattle.sg_target.specs.Semantics.{semantics, too_long};
 ghost use Rattle.sg_target.specs.State.{IsWithinLimits};
 
-use crate::checks::{check_data_out, check_transfer_length, past_capacity};
+use crate::checks::{
+    check_data_out, check_transfer_length, check_write_same_length, first_past_capacity,
+    needed_data_out, past_capacity,
+};
 use crate::data_in::{CAPACITY_10_LENGTH, CAPACITY_16_LENGTH, DataIn};
 use crate::extent::Extent;
+use crate::extent_list::ExtentList;
 use crate::inquiry_page::InquiryPage;
 use crate::refusal::{Reason, Refusal};
 use crate::reply::Reply;
 use crate::target::{BUFFER_LENGTH, Target};
-use sg_blocks::{MAX_CAPACITY, Store};
+use crate::unmap::unmap;
+use sg_blocks::{BLOCK_LENGTH, MAX_CAPACITY, Store};
 use sg_wire::{Command, Format, Initiator};
 
 /// What is left to do of a command whose values, data-out and parameter list are sound, with what
 /// that takes. Only blocks past the last one and want of space can still refuse it.
-#[derive(Clone, Copy)]
+#[derive(Drop)]
 pub(crate) enum Operation {
     /// TEST UNIT READY.
     Nothing,
@@ -48,19 +58,26 @@ pub(crate) enum Operation {
     Write(Extent),
     /// Asks for blocks to be written through, which they are.
     Synchronize(Extent),
+    /// Replaces blocks by one block.
+    Fill(Extent),
+    /// Unmaps blocks, extent by extent.
+    Unmap(ExtentList),
 }
 
 impl Operation {
     // Why the operation's blocks can't be reached, on a disk of `capacity` blocks.
     #[tactic(auto, using(crate::proofs::StepLemmas::first_some_one), unfolding(crate::specs::Checks::out_of_range))]
-    pub(crate) fn out_of_range(self, capacity: u64) -> Option<Refusal>
+    pub(crate) fn out_of_range(&self, capacity: u64) -> Option<Refusal>
         requires { capacity ≤ MAX_CAPACITY }
-        ensures value { result ≡ out_of_range capacity (extents_of self) }
-        ensures on_disk { IfNone result (AreOnDisk capacity (extents_of self)) }
+        ensures value { result ≡ out_of_range capacity (extents_of self.now) }
+        ensures on_disk { IfNone result (AreOnDisk capacity (extents_of self.now)) }
     {
         match self {
-            Operation::Read(extent) | Operation::Write(extent) | Operation::Synchronize(extent) =>
-                past_capacity(capacity, extent),
+            Operation::Read(extent)
+            | Operation::Write(extent)
+            | Operation::Synchronize(extent)
+            | Operation::Fill(extent) => past_capacity(capacity, *extent),
+            Operation::Unmap(extents) => first_past_capacity(capacity, extents.as_slice()),
             Operation::Nothing
             | Operation::RequestSense { .. }
             | Operation::ReturnInquiry { .. }
@@ -122,6 +139,26 @@ impl<S: Store> Target<S> {
             Command::SynchronizeCache10 { lba, count } => {
                 Ok(Operation::Synchronize(Extent::of_ten_bytes(lba, count)))
             }
+            Command::WriteSame10 {
+                anchor,
+                unmap,
+                lba,
+                count,
+            } => write_same(anchor, unmap, Extent::of_ten_bytes(lba, count), 7, data_out),
+            Command::WriteSame16 {
+                anchor,
+                unmap,
+                lba,
+                count,
+            } => write_same(anchor, unmap, Extent { lba, count }, 10, data_out),
+            Command::Unmap {
+                anchor,
+                list_length,
+                ..
+            } => unmap(anchor, list_length, data_out),
+            Command::GetLbaStatus { .. } => {
+                Err(Refusal::Check(Reason::InvalidFieldInCdb { byte: 1 }))
+            }
         }
     }
 
@@ -168,6 +205,8 @@ impl<S: Store> Target<S> {
             }
             Operation::Read(extent) => self.read(extent, buf),
             Operation::Write(extent) => self.write(initiator, extent, data_out, buf),
+            Operation::Fill(extent) => self.fill(initiator, extent, data_out, buf),
+            Operation::Unmap(extents) => self.unmap(extents.as_slice(), buf),
         }
     }
 }
@@ -242,4 +281,47 @@ fn write(extent: Extent, byte: u16, data_out: &[u8]) -> Result<Operation, Refusa
     check_transfer_length(extent, byte)?;
     check_data_out(extent, data_out)?;
     Ok(Operation::Write(extent))
+}
+
+// WRITE SAME (10) and (16); NUMBER OF LOGICAL BLOCKS begins at the byte, ANCHOR is in byte 1.
+#[tactic(auto, unfolding(crate::specs::Checks::first_fault))]
+fn write_same(
+    anchor: bool,
+    unmap: bool,
+    extent: Extent,
+    byte: u16,
+    data_out: &[u8],
+) -> Result<Operation, Refusal>
+    ensures refused { IfErr result (λ refusal.
+        write_same_fault anchor extent.count byte data_out.now ≡ Some refusal) }
+    ensures passed { IfOk result (λ _.
+        write_same_fault anchor extent.count byte data_out.now ≡ None) }
+    ensures operation { IfOk result (λ operation.
+        operation ≡ write_same_operation unmap extent data_out.now) }
+    ensures whole { IfOk result (λ _. block_length ≤ length data_out.now) }
+{
+    if anchor {
+        return Err(Refusal::Check(Reason::InvalidFieldInCdb { byte: 1 }));
+    }
+    check_write_same_length(extent, byte)?;
+    let block = needed_data_out(data_out, BLOCK_LENGTH)?;
+    if unmaps(unmap, block) {
+        Ok(Operation::Unmap(ExtentList::of(extent)))
+    } else {
+        Ok(Operation::Fill(extent))
+    }
+}
+
+// Whether WRITE SAME unmaps its blocks, which are read as zeros then.
+#[tactic(auto, unfolding(crate::specs::ProvisioningCommands::unmaps))]
+fn unmaps(unmap: bool, block: &[u8]) -> bool
+    ensures { result ≡ unmaps unmap block.now }
+{
+    unmap && is_zero(block)
+}
+
+fn is_zero(block: &[u8]) -> bool
+    ensures { result ≡ list_all (λ byte. byte == 0) block.now }
+{
+    block.iter().all(|byte| *byte == 0)
 }

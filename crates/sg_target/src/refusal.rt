@@ -22,15 +22,19 @@ pub(crate) enum Reason {
     UnitAttention(UnitAttention),
     /// DATA PHASE ERROR: there is less data-out than the command needs.
     DataPhaseError,
+    /// PARAMETER LIST LENGTH ERROR: the list ends early.
+    ParameterListLengthError,
+    /// INVALID FIELD IN PARAMETER LIST, at this byte.
+    InvalidFieldInParameterList { byte: u16 },
     /// LOGICAL BLOCK ADDRESS OUT OF RANGE, with the first such address.
     LbaOutOfRange { lba: u64 },
     /// SPACE ALLOCATION FAILED WRITE PROTECT: no block is left to map.
     SpaceAllocationFailed,
 }
 
-ghost use Rattle.std.specs.Prelude.{◌≡◌, ◌≤◌};
+ghost use Rattle.std.specs.Prelude.{◌≡◌, ◌≤◌, Some};
 ghost use Rattle.sg_wire.specs.Sense.{fields_of};
-ghost use Rattle.sg_target.specs.Refusal.{pending_sense, plain_sense, reason_for, sense_of};
+ghost use Rattle.sg_target.specs.Refusal.{illegal_request, pending_sense, plain_sense, reason_for, sense_of};
 
 impl Reason {
     /// The sense data that reports it.
@@ -38,22 +42,15 @@ impl Reason {
         ensures { fields_of result ≡ sense_of self }
     {
         match self {
-            Reason::InvalidFieldInCdb { byte } => Sense {
-                key: Sense::ILLEGAL_REQUEST,
-                asc: 0x24,
-                ascq: 0x00,
-                information: None,
-                pointer: Some(Pointer {
-                    in_command: true,
-                    byte,
-                }),
-            },
+            Reason::InvalidFieldInCdb { byte } => invalid_field(0x24, true, byte),
             Reason::InvalidCommandOperationCode => plain(Sense::ILLEGAL_REQUEST, 0x20, 0x00),
             Reason::UnitAttention(condition) => {
                 let (asc, ascq) = condition.code();
                 plain(Sense::UNIT_ATTENTION, asc, ascq)
             }
             Reason::DataPhaseError => plain(Sense::ABORTED_COMMAND, 0x4B, 0x00),
+            Reason::ParameterListLengthError => plain(Sense::ILLEGAL_REQUEST, 0x1A, 0x00),
+            Reason::InvalidFieldInParameterList { byte } => invalid_field(0x26, false, byte),
             Reason::LbaOutOfRange { lba } => Sense {
                 key: Sense::ILLEGAL_REQUEST,
                 asc: 0x21,
@@ -97,6 +94,20 @@ pub(crate) fn pending_sense(condition: Option<UnitAttention>) -> Sense
     match condition {
         Some(condition) => Reason::UnitAttention(condition).sense(),
         None => plain(Sense::NO_SENSE, 0x00, 0x00),
+    }
+}
+
+// The sense of an invalid field, with a pointer to its byte in the CDB or in the parameter list.
+fn invalid_field(asc: u8, in_command: bool, byte: u16) -> Sense
+    ensures { fields_of result ≡ record (plain_sense illegal_request asc 0x00)
+        { pointer = Some (record { in_command = in_command; byte = byte }) } }
+{
+    Sense {
+        key: Sense::ILLEGAL_REQUEST,
+        asc,
+        ascq: 0x00,
+        information: None,
+        pointer: Some(Pointer { in_command, byte }),
     }
 }
 

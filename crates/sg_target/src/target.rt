@@ -24,6 +24,7 @@ impl<S: Store> Model for Target<S> {
     ghost use Rattle.std.specs.Prelude.{◌≡◌, ◌≤◌, length};
     ghost use Rattle.sg_target.specs.Attentions.{AreQueues, initiator_count};
     ghost use Rattle.std.specs.FinMap.{len};
+    ghost use Rattle.sg_blocks.specs.declared.store.TheConstants.{MAX_POOL};
     ghost use Rattle.std.specs.Coded.{codes};
     ghost use Rattle.sg_target.specs.Target.{TargetFields, contents_code};
 
@@ -38,7 +39,8 @@ impl<S: Store> Model for Target<S> {
 
     ghost invariant = { λ t. (t.config.blocks ≡ (S.disk t.store).capacity)
         × (len (S.disk t.store).contents ≤ (S.disk t.store).pool)
-        × (length t.attentions ≡ initiator_count) × AreQueues t.attentions };
+        × (length t.attentions ≡ initiator_count) × AreQueues t.attentions
+        × ((S.disk t.store).pool ≤ MAX_POOL) };
 }
 
 ghost use Rattle.std.specs.Prelude.{◌≡◌, ◌≤◌, length, IfOk};

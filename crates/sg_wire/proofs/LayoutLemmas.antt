@@ -1,14 +1,17 @@
 -- A CDB, byte by byte.
-use Rattle.std.proofs.Common.{◌≡◌, ◌<◌, ◌≤◌, ℕ, ◌+◌, ◌*◌, ◌/◌, ◌^◌, ◌%◌, ◌==◌, List, [], ◌∷◌, ◌++◌, length, drop, get_or, Bool, true, false, Some, None, Ok, cond, eqb, eq-eqb, refl, ap, ◌∙◌, arith}
-use Rattle.std.specs.Prelude.{bit_and}
+use Rattle.std.proofs.Common.{◌≡◌, ◌<◌, ◌≤◌, ℕ, ◌+◌, ◌*◌, ◌/◌, ◌^◌, ◌%◌, ◌==◌, List, [], ◌∷◌, ◌++◌, length, drop, get_or, Bool, true, false, Option, Some, None, Ok, cond, eqb, eq-eqb, refl, ap, sym, subst, ◌∙◌, arith}
+use Rattle.std.specs.Prelude.{bit_and, if◌then◌else◌}
 use Rattle.std.proofs.lemmas.List.{drop_more, drop_all}
 use Rattle.std.proofs.lemmas.Bool.Decides.{nat_tests}
 use Rattle.std.proofs.lemmas.Nat.{and_mask}
 use Rattle.std.proofs.Math.Nat.{mod-eq_of_lt}
 use Rattle.byteorder.specs.Endian.{big_bytes, big_number}
 use Rattle.byteorder.specs.Numbers.{big_from-bytes}
-use Rattle.sg_wire.specs.declared.command.Command.TheVariants.{TestUnitReady, RequestSense, Inquiry, Read6, Read10, Read16, Write6, Write10, Write16, ReadCapacity10, ReadCapacity16, SynchronizeCache10}
-use Rattle.sg_wire.specs.Layout.{first_bad, command_of, command_with, cdb_of, blocks_of}
+use Rattle.sg_wire.specs.declared.command.Command.TheVariants.{TestUnitReady, RequestSense, Inquiry, Read6, Read10, Read16, Write6, Write10, Write16, ReadCapacity10, ReadCapacity16, SynchronizeCache10, WriteSame10, WriteSame16, Unmap, GetLbaStatus}
+use Rattle.sg_wire.specs.declared.command.Class.{Class}
+use Rattle.sg_wire.specs.declared.command.Class.TheVariants.{Always, Reads}
+use Rattle.std.specs.Option.{option_map_or}
+use Rattle.sg_wire.specs.Layout.{Layout, layout, class_of, first_bad, command_of, command_with, cdb_of, blocks_of}
 
 -- one more byte
 pub first_bad-more : (masks bytes : List ℕ) (k : ℕ) → k < length masks → k < length bytes →
@@ -43,6 +46,37 @@ pub command_of-some : (bytes : List ℕ) → 0 < length bytes
 unfolding command_of
 command_of-some [] h = absurd (omega arith)
 command_of-some (opcode ∷ rest) h = refl
+
+abbrev class_in : Option Layout → Class
+class_in found = option_map_or (λ (l : Layout). l.class) found Always
+
+-- SERVICE ACTION IN(16) has two service actions, of which that of GET LBA STATUS reads
+by_actions : (is_capacity is_status : Bool) → (is_capacity ≡ true → is_status ≡ false)
+    → class_in (cond is_capacity (Some (layout (ReadCapacity16 0)))
+    (cond is_status (Some (layout (GetLbaStatus 0 0))) None)) ≡ cond is_status Reads Always
+by_actions true is_status other = rw (other refl) refl
+by_actions false true other = refl
+by_actions false false other = refl
+
+one_action : (action : ℕ) → (action == 0x10) ≡ true → (action == 0x12) ≡ false
+one_action action e = grind (arith, nat_tests)
+
+class_of-action : (rest : List ℕ) → class_of (0x9E ∷ rest)
+    ≡ Some (if bit_and (get_or rest 0 0) 0x1F == 0x12 then Reads else Always)
+unfolding class_of
+class_of-action rest = let action = bit_and (get_or rest 0 0) 0x1F in
+    ap Some (by_actions (action == 0x10) (action == 0x12) (one_action action))
+
+pub class_of-service_action_in : (bytes : List ℕ) → get_or bytes 0 0 ≡ 0x9E → class_of bytes
+    ≡ Some (if bit_and (get_or bytes 1 0) 0x1F == 0x12 then Reads else Always)
+class_of-service_action_in [] e = cc
+class_of-service_action_in (opcode ∷ rest) e =
+    subst
+    (λ (code : ℕ). class_of (code ∷ rest)
+    ≡ Some (if bit_and (get_or rest 0 0) 0x1F == 0x12 then Reads else Always))
+    (sym e) (class_of-action rest)
+
+pub ruleset service_action_classes = (class_of-service_action_in)
 
 -- ---- the CDB of each command is decoded as it again
 
@@ -117,3 +151,63 @@ reads_back-extent_16 lba count l n =
     let e = number_again 8 lba [] l in
     let f = number_again 4 count [] n in
     (simp is_whole-mod cc, simp is_whole-mod cc)
+
+pub reads_back-write_same_10 : (anchor unmap : Bool) (lba count : ℕ) → lba < 2 ^ 32 → count < 2 ^ 16
+    → command_of (cdb_of (WriteSame10 anchor unmap lba count))
+    ≡ Ok (WriteSame10 anchor unmap lba count)
+unfolding command_of command_with cdb_of
+reads_back-write_same_10 true true lba count l n =
+    let e = number_again 4 lba [] l in
+    let f = number_again 2 count [] n in simp is_whole-mod cc
+reads_back-write_same_10 true false lba count l n =
+    let e = number_again 4 lba [] l in
+    let f = number_again 2 count [] n in simp is_whole-mod cc
+reads_back-write_same_10 false true lba count l n =
+    let e = number_again 4 lba [] l in
+    let f = number_again 2 count [] n in simp is_whole-mod cc
+reads_back-write_same_10 false false lba count l n =
+    let e = number_again 4 lba [] l in
+    let f = number_again 2 count [] n in simp is_whole-mod cc
+
+pub reads_back-write_same_16 : (anchor unmap : Bool) (lba count : ℕ) → lba < 2 ^ 64 → count < 2 ^ 32
+    → command_of (cdb_of (WriteSame16 anchor unmap lba count))
+    ≡ Ok (WriteSame16 anchor unmap lba count)
+unfolding command_of command_with cdb_of
+reads_back-write_same_16 true true lba count l n =
+    let e = number_again 8 lba [] l in
+    let f = number_again 4 count [] n in simp is_whole-mod cc
+reads_back-write_same_16 true false lba count l n =
+    let e = number_again 8 lba [] l in
+    let f = number_again 4 count [] n in simp is_whole-mod cc
+reads_back-write_same_16 false true lba count l n =
+    let e = number_again 8 lba [] l in
+    let f = number_again 4 count [] n in simp is_whole-mod cc
+reads_back-write_same_16 false false lba count l n =
+    let e = number_again 8 lba [] l in
+    let f = number_again 4 count [] n in simp is_whole-mod cc
+
+-- a group number has five bits
+five_bits : (group : ℕ) → group < 32 → bit_and group 31 ≡ group
+five_bits group g = and_mask group 5 ∙ mod-eq_of_lt g
+
+is_group : (group : ℕ) → group < 32 → (bit_and group 31 == group) ≡ true
+is_group group g = ap (λ y. y == group) (five_bits group g) ∙ eq-eqb group group refl
+
+pub reads_back-unmap : (anchor : Bool) (group list_length : ℕ) → group < 32 → list_length < 2 ^ 16
+    → command_of (cdb_of (Unmap anchor group list_length)) ≡ Ok (Unmap anchor group list_length)
+unfolding command_of command_with cdb_of
+reads_back-unmap true group list_length g n =
+    let e = five_bits group g in
+    let f = number_again 2 list_length [] n in simp (is_group group g, is_whole-mod) cc
+reads_back-unmap false group list_length g n =
+    let e = five_bits group g in
+    let f = number_again 2 list_length [] n in simp (is_group group g, is_whole-mod) cc
+
+pub reads_back-get_lba_status : (start allocation_length : ℕ) → start < 2 ^ 64
+    → allocation_length < 2 ^ 32
+    → command_of (cdb_of (GetLbaStatus start allocation_length))
+    ≡ Ok (GetLbaStatus start allocation_length)
+unfolding command_of command_with cdb_of
+reads_back-get_lba_status start allocation_length l n =
+    let e = number_again 8 start [] l in
+    let f = number_again 4 allocation_length [] n in simp is_whole-mod cc

@@ -6,7 +6,7 @@ use Rattle.byteorder.specs.Endian.{big_bytes, big_number}
 use Rattle.sg_wire.specs.declared.command.Class.{Class}
 use Rattle.sg_wire.specs.declared.command.Class.TheVariants.{Always, Reads, Writes}
 use Rattle.sg_wire.specs.declared.command.Command.{Command}
-use Rattle.sg_wire.specs.declared.command.Command.TheVariants.{TestUnitReady, RequestSense, Inquiry, Read6, Read10, Read16, Write6, Write10, Write16, ReadCapacity10, ReadCapacity16, SynchronizeCache10}
+use Rattle.sg_wire.specs.declared.command.Command.TheVariants.{TestUnitReady, RequestSense, Inquiry, Read6, Read10, Read16, Write6, Write10, Write16, ReadCapacity10, ReadCapacity16, SynchronizeCache10, WriteSame10, WriteSame16, Unmap, GetLbaStatus}
 use Rattle.sg_wire.specs.declared.command.CdbFault.{CdbFault}
 use Rattle.sg_wire.specs.declared.command.CdbFault.TheVariants.{Empty, Opcode, Short, Field as BadField}
 
@@ -107,14 +107,37 @@ extent_16 lba count = field (bytes 2 9) lba ∷ field (bytes 10 13) count ∷ []
 abbrev allocation_16 : ℕ → List Field
 allocation_16 allocation_length = field (bytes 10 13) allocation_length ∷ []
 
+-- ANCHOR and UNMAP of WRITE SAME.
+abbrev write_same_bits : (anchor unmap : Bool) → List Field
+write_same_bits anchor unmap = field (bit 1 4) anchor ∷ field (bit 1 3) unmap ∷ []
+
+abbrev write_same_10 : (anchor unmap : Bool) (lba count : ℕ) → List Field
+write_same_10 anchor unmap lba count = write_same_bits anchor unmap ++ extent_10 lba count
+
+abbrev write_same_16 : (anchor unmap : Bool) (lba count : ℕ) → List Field
+write_same_16 anchor unmap lba count = write_same_bits anchor unmap ++ extent_16 lba count
+
+-- ANCHOR, GROUP NUMBER and PARAMETER LIST LENGTH.
+abbrev unmap_fields : (anchor : Bool) (group list_length : ℕ) → List Field
+unmap_fields anchor group list_length =
+    field (bit 1 0) anchor ∷ field (bits 6 4 0) group ∷ field (bytes 7 8) list_length ∷ []
+
+-- STARTING LOGICAL BLOCK ADDRESS and ALLOCATION LENGTH.
+abbrev lba_status : (start allocation_length : ℕ) → List Field
+lba_status start allocation_length =
+    field (bytes 2 9) start ∷ field (bytes 10 13) allocation_length ∷ []
+
 -- The disk has no cache and groups no blocks. So of READ and WRITE it ignores DPO, FUA, the
 -- obsolete bit 1 and the GROUP NUMBER, and of SYNCHRONIZE CACHE the obsolete bit 2, IMMED and the
--- GROUP NUMBER.
+-- GROUP NUMBER. Of WRITE SAME it ignores the GROUP NUMBER.
 abbrev cache_bits : (group_byte : ℕ) → List Place
 cache_bits group_byte = bit 1 4 ∷ bit 1 3 ∷ bit 1 1 ∷ bits group_byte 4 0 ∷ []
 
 abbrev immed_bits : List Place
 immed_bits = bit 1 2 ∷ bit 1 1 ∷ bits 6 4 0 ∷ []
+
+abbrev group_number : (byte : ℕ) → List Place
+group_number byte = bits byte 4 0 ∷ []
 
 -- One row for each command: operation code, service action, class, unit attention, fields, ignored
 -- places, and the command itself. The commands of SPC-4, 6, and then those of SBC-3, 5 (READ(6) and
@@ -133,6 +156,13 @@ layout ReadCapacity10 = row 0x25 none Always blocked [] [] ReadCapacity10
 layout (ReadCapacity16 n) = row 0x9E (named 0x10) Always blocked (allocation_16 n) [] ReadCapacity16
 layout (SynchronizeCache10 lba n) =
     row 0x35 none Writes blocked (extent_10 lba n) immed_bits SynchronizeCache10
+layout (WriteSame10 anchor unmap lba n) =
+    row 0x41 none Writes blocked (write_same_10 anchor unmap lba n) (group_number 6) WriteSame10
+layout (WriteSame16 anchor unmap lba n) =
+    row 0x93 none Writes blocked (write_same_16 anchor unmap lba n) (group_number 14) WriteSame16
+layout (Unmap anchor group n) = row 0x42 none Writes blocked (unmap_fields anchor group n) [] Unmap
+layout (GetLbaStatus start n) =
+    row 0x9E (named 0x12) Reads blocked (lba_status start n) [] GetLbaStatus
 
 -- Each command once. Only the places of its fields matter here, not their values.
 abbrev pub each_command : List Command
@@ -149,6 +179,10 @@ each_command =
     ∷ ReadCapacity10
     ∷ ReadCapacity16 0
     ∷ SynchronizeCache10 0 0
+    ∷ WriteSame10 false false 0 0
+    ∷ WriteSame16 false false 0 0
+    ∷ Unmap false 0 0
+    ∷ GetLbaStatus 0 0
     ∷ []
 
 abbrev pub table : List Layout

@@ -4,7 +4,7 @@ ghost use Rattle.byteorder.specs.Endian.{big_bytes};
 ghost use Rattle.sg_wire.specs.Layout.{cdb_of, command_with, fits_masks, number_at, value_at};
 ghost use Rattle.sg_wire.specs.Layout.Place.{short_extent};
 
-use super::masks::{check_length, check_masks};
+use super::masks::check_masks;
 use super::{CdbFault, Command, ShortExtent};
 use crate::bytes::{CdbBytes, MAX_CDB_LENGTH};
 use byteorder::{BigEndian, ByteOrder};
@@ -29,7 +29,7 @@ pub(super) const WRITE_16: u8 = 0x8A;
 pub(super) const SERVICE_ACTION_IN_16: u8 = 0x9E;
 
 // The service action of READ CAPACITY(16).
-const READ_CAPACITY_16: u8 = 0x10;
+pub(super) const READ_CAPACITY_16: u8 = 0x10;
 
 // The bits of each byte that may be set.
 const READ_WRITE_6_MASKS: [u8; 6] = [0xFF, 0x1F, 0xFF, 0xFF, 0xFF, 0x00];
@@ -100,7 +100,7 @@ pub(super) fn decode_synchronize_cache_10(cdb: &[u8]) -> Result<Command, CdbFaul
 pub(super) fn decode_read_16(cdb: &[u8]) -> Result<Command, CdbFault>
     ensures { result ≡ command_with 0x88 cdb.now }
 {
-    let (lba, transfer_length) = decode_extent_16(cdb)?;
+    let (lba, transfer_length) = decode_extent_16(&READ_WRITE_16_MASKS, cdb)?;
     Ok(Command::Read16 {
         lba,
         transfer_length,
@@ -111,7 +111,7 @@ pub(super) fn decode_read_16(cdb: &[u8]) -> Result<Command, CdbFault>
 pub(super) fn decode_write_16(cdb: &[u8]) -> Result<Command, CdbFault>
     ensures { result ≡ command_with 0x8A cdb.now }
 {
-    let (lba, transfer_length) = decode_extent_16(cdb)?;
+    let (lba, transfer_length) = decode_extent_16(&READ_WRITE_16_MASKS, cdb)?;
     Ok(Command::Write16 {
         lba,
         transfer_length,
@@ -126,20 +126,8 @@ pub(super) fn decode_read_capacity_10(cdb: &[u8]) -> Result<Command, CdbFault>
     Ok(Command::ReadCapacity10)
 }
 
-// The commands with a service action.
 #[tactic(auto, unfolding(crate::specs::Layout::command_with, crate::specs::Layout::fits_masks))]
-pub(super) fn decode_service_action_in_16(cdb: &[u8]) -> Result<Command, CdbFault>
-    ensures { result ≡ command_with 0x9E cdb.now }
-{
-    check_length(cdb, READ_CAPACITY_16_MASKS.len())?;
-    match cdb[1] & 0x1F {
-        READ_CAPACITY_16 => decode_read_capacity_16(cdb),
-        _ => Err(CdbFault::Field(1)),
-    }
-}
-
-#[tactic(auto, unfolding(crate::specs::Layout::command_with, crate::specs::Layout::fits_masks))]
-fn decode_read_capacity_16(cdb: &[u8]) -> Result<Command, CdbFault>
+pub(super) fn decode_read_capacity_16(cdb: &[u8]) -> Result<Command, CdbFault>
     requires whole { 16 ≤ length cdb.now }
     requires action { bit_and (slice_index cdb.now 1) 0x1F ≡ 0x10 }
     ensures { result ≡ command_with 0x9E cdb.now }
@@ -164,7 +152,7 @@ fn decode_extent_6(cdb: &[u8]) -> Result<ShortExtent, CdbFault>
 }
 
 // The address and the count of commands of 10 bytes.
-fn decode_extent_10(masks: &[u8; 10], cdb: &[u8]) -> Result<(u32, u16), CdbFault>
+pub(super) fn decode_extent_10(masks: &[u8; 10], cdb: &[u8]) -> Result<(u32, u16), CdbFault>
     ensures fits { MatchResult result
         (λ _. fits_masks masks.now cdb.now ≡ Ok tt)
         (λ fault. fits_masks masks.now cdb.now ≡ Err fault) }
@@ -178,15 +166,15 @@ fn decode_extent_10(masks: &[u8; 10], cdb: &[u8]) -> Result<(u32, u16), CdbFault
     ))
 }
 
-// The address and the count of READ(16) and WRITE(16).
-fn decode_extent_16(cdb: &[u8]) -> Result<(u64, u32), CdbFault>
+// An address, and the number behind it, of commands of 16 bytes.
+pub(super) fn decode_extent_16(masks: &[u8; 16], cdb: &[u8]) -> Result<(u64, u32), CdbFault>
     ensures fits { MatchResult result
-        (λ _. fits_masks READ_WRITE_16_MASKS cdb.now ≡ Ok tt)
-        (λ fault. fits_masks READ_WRITE_16_MASKS cdb.now ≡ Err fault) }
+        (λ _. fits_masks masks.now cdb.now ≡ Ok tt)
+        (λ fault. fits_masks masks.now cdb.now ≡ Err fault) }
     ensures lba { IfOk result (λ extent. extent.0 ≡ number_at cdb.now 2 9) }
     ensures count { IfOk result (λ extent. extent.1 ≡ number_at cdb.now 10 13) }
 {
-    check_masks(&READ_WRITE_16_MASKS, cdb)?;
+    check_masks(masks, cdb)?;
     Ok((
         BigEndian::read_u64(&cdb[2..]),
         BigEndian::read_u32(&cdb[10..]),

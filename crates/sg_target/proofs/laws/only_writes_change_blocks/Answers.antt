@@ -1,6 +1,6 @@
 use Rattle.std.proofs.Common.{◌≡◌, ℕ, List, Option, Some, None, Result, Ok, Err, false, refl}
 use Rattle.sg_wire.specs.declared.command.Command.{Command}
-use Rattle.sg_wire.specs.declared.command.Command.TheVariants.{TestUnitReady, RequestSense, Inquiry, Read6, Read10, Read16, Write6, Write10, Write16, ReadCapacity10, ReadCapacity16, SynchronizeCache10}
+use Rattle.sg_wire.specs.declared.command.Command.TheVariants.{Inquiry}
 use Rattle.sg_blocks.specs.Disk.{Disk}
 use Rattle.sg_target.specs.Effect.{Effect}
 use Rattle.sg_target.specs.PrimaryCommands.{inquiry_page, returning_if_there}

@@ -1,6 +1,6 @@
 use Rattle.std.proofs.Common.{rules}
 use Rattle.sg_wire.specs.Layout.{cdb_of}
-use Rattle.sg_wire.proofs.LayoutLemmas.{reads_back-test_unit_ready, reads_back-request_sense, reads_back-inquiry, reads_back-extent_6, reads_back-extent_10, reads_back-extent_16, reads_back-read_capacity_10, reads_back-read_capacity_16}
+use Rattle.sg_wire.proofs.LayoutLemmas.{reads_back-test_unit_ready, reads_back-request_sense, reads_back-inquiry, reads_back-extent_6, reads_back-extent_10, reads_back-extent_16, reads_back-read_capacity_10, reads_back-read_capacity_16, reads_back-write_same_10, reads_back-write_same_16, reads_back-unmap, reads_back-get_lba_status}
 use Rattle.sg_wire.proofs.command.Command.write.Goals as goal
 
 pub returns-in-TestUnitReady-clause-reads_back : goal.returns-in-TestUnitReady-clause-reads_back
@@ -73,3 +73,23 @@ pub returns-in-ReadCapacity16-clause-reads_back : goal.returns-in-ReadCapacity16
 returns-in-ReadCapacity16-clause-reads_back c =
     rw (c.in-ReadCapacity16.is, c.encode_read_capacity_16.ensures)
     (reads_back-read_capacity_16 _ (search rules))
+
+pub returns-in-WriteSame10-clause-reads_back : goal.returns-in-WriteSame10-clause-reads_back
+returns-in-WriteSame10-clause-reads_back c =
+    rw (c.in-WriteSame10.is, c.encode_write_same_10.ensures)
+    (reads_back-write_same_10 _ _ _ _ (search rules) (search rules))
+
+pub returns-in-WriteSame16-clause-reads_back : goal.returns-in-WriteSame16-clause-reads_back
+returns-in-WriteSame16-clause-reads_back c =
+    rw (c.in-WriteSame16.is, c.encode_write_same_16.ensures)
+    (reads_back-write_same_16 _ _ _ _ (search rules) (search rules))
+
+pub returns-in-Unmap-clause-reads_back : goal.returns-in-Unmap-clause-reads_back
+returns-in-Unmap-clause-reads_back c =
+    let e = c.encode_unmap.ensures in
+    rw (c.in-Unmap.is, e.cdb) (reads_back-unmap _ _ _ e.group (search rules))
+
+pub returns-in-GetLbaStatus-clause-reads_back : goal.returns-in-GetLbaStatus-clause-reads_back
+returns-in-GetLbaStatus-clause-reads_back c =
+    rw (c.in-GetLbaStatus.is, c.encode_get_lba_status.ensures)
+    (reads_back-get_lba_status _ _ (search rules) (search rules))

@@ -1,0 +1,53 @@
+// Group numbers.
+use std::marker::Model;
+
+/// A GROUP NUMBER, 0 to 31 (SBC-3, grouping function).
+#[derive(Clone, Copy, Debug, PartialEq, Eq)]
+pub struct GroupNumber {
+    number: u8,
+}
+
+impl Model for GroupNumber {
+    ghost use Rattle.std.specs.Prelude.{ℕ, ◌<◌};
+
+    ghost Value = { ℕ };
+
+    ghost view = { λ g. g.number };
+
+    ghost invariant = { λ g. g.number < 32 };
+
+    ghost inverse = { λ n. record { number = n } };
+}
+
+ghost use Rattle.std.specs.Prelude.{◌≡◌, ◌<◌, bit_and};
+ghost use Rattle.std.specs.Option.{SomeIff};
+
+impl GroupNumber {
+    /// The group with a number. None where the number is not 0 to 31.
+    pub fn new(number: u8) -> Option<GroupNumber>
+        ensures { SomeIff result (number < 32) number }
+    {
+        if number < 32 {
+            Some(GroupNumber { number })
+        } else {
+            None
+        }
+    }
+
+    /// Its number, 0 to 31.
+    pub fn number(self) -> u8
+        ensures value { result ≡ self }
+        ensures bound { result < 32 }
+    {
+        self.number
+    }
+
+    // The group in the low five bits of a byte.
+    pub(super) fn of_byte(byte: u8) -> GroupNumber
+        ensures { result ≡ bit_and byte 0x1F }
+    {
+        GroupNumber {
+            number: byte & 0x1F,
+        }
+    }
+}
