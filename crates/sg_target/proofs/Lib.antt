@@ -6,5 +6,6 @@ pub mod LimitLemmas
 pub mod RangeLemmas
 pub mod RunLemmas
 pub mod SenseLemmas
+pub mod StatusLemmas
 pub mod StepLemmas
 pub mod UnmapLemmas

@@ -14,15 +14,15 @@ use Rattle.sg_target.specs.Checks.{checked_effect, first_fault, list_fault, requ
 use Rattle.sg_target.specs.Effect.{Effect, no_effect}
 use Rattle.sg_target.specs.PrimaryCommands.{inquiry_data, returning_page, returning_sense}
 use Rattle.sg_target.specs.Refusal.{pending_sense}
-use Rattle.sg_target.specs.ProvisioningCommands.{block_out, filling, unmap_list, unmapping, unmaps}
-use Rattle.sg_target.specs.Semantics.{unless_anchor, bad_count, semantics}
+use Rattle.sg_target.specs.ProvisioningCommands.{block_out, filling, reporting_status, unmap_list, unmapping, unmaps}
+use Rattle.sg_target.specs.Semantics.{bad_count, extent, semantics, unless_anchor}
 use Rattle.sg_target.specs.State.{State}
 use Rattle.sg_target.specs.Step.{Step, executed_or_refused, refusal_answer}
 use Rattle.sg_target.specs.declared.data_in.DataIn.{DataIn}
 use Rattle.sg_target.specs.declared.data_in.DataIn.TheVariants.{Sense, Inquiry, Capacity10, Capacity16}
 use Rattle.sg_target.specs.declared.extent.Extent.{Extent}
 use Rattle.sg_target.specs.declared.operation.Operation.{Operation}
-use Rattle.sg_target.specs.declared.operation.Operation.TheVariants.{Nothing, RequestSense, ReturnInquiry, ReadCapacity10, ReadCapacity16, Read, Write, Synchronize, Fill, Unmap}
+use Rattle.sg_target.specs.declared.operation.Operation.TheVariants.{Nothing, RequestSense, ReturnInquiry, ReadCapacity10, ReadCapacity16, Read, Write, Synchronize, Fill, Unmap, GetLbaStatus}
 use Rattle.sg_target.specs.declared.refusal.Refusal.{Refusal}
 use Rattle.sg_target.specs.declared.reply.Reply.{Reply}
 use Rattle.sg_target.specs.declared.reply.Status.TheVariants.{Good}
@@ -38,6 +38,7 @@ effect_of state i (Write extent) data_out = writing state extent data_out
 effect_of state i (Synchronize extent) data_out = no_effect state
 effect_of state i (Fill extent) data_out = filling state extent (block_out data_out)
 effect_of state i (Unmap extents) data_out = unmapping state extents
+effect_of state i (GetLbaStatus start n) data_out = reporting_status state start n
 
 -- The extents that have to be on the disk.
 abbrev pub extents_of : Operation → List Extent
@@ -46,6 +47,7 @@ extents_of (Write extent) = extent ∷ []
 extents_of (Synchronize extent) = extent ∷ []
 extents_of (Fill extent) = extent ∷ []
 extents_of (Unmap extents) = extents
+extents_of (GetLbaStatus start n) = extent start 1 ∷ []
 extents_of _ = []
 
 -- No more blocks are moved, and no more extents unmapped, than the disk takes; and data-out has the

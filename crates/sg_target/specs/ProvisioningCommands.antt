@@ -5,8 +5,9 @@ use Rattle.byteorder.specs.Endian.{big_number}
 use Rattle.sg_wire.specs.CutAnswer.{first_bytes}
 use Rattle.sg_pages.specs.ProvisioningPages.{maximum_unmap_descriptors}
 use Rattle.sg_blocks.specs.Disk.{Contents, filled, unmapped}
+use Rattle.sg_blocks.specs.LbaStatus.{covered, lba_status, status_data}
 use Rattle.sg_target.specs.CapacityData.{block_length}
-use Rattle.sg_target.specs.Effect.{Effect, Range, no_effect, range, with_contents}
+use Rattle.sg_target.specs.Effect.{Effect, Range, no_effect, range, returning_up_to, with_contents}
 use Rattle.sg_target.specs.State.{State}
 use Rattle.sg_target.specs.declared.extent.Extent.{Extent}
 use Rattle.sg_target.specs.declared.refusal.Reason.TheVariants.{ParameterListLengthError, InvalidFieldInParameterList}
@@ -98,3 +99,14 @@ unmaps unmap block = unmap && list_all (λ byte. byte == 0) block
 abbrev pub writing_same : State → (unmap : Bool) → Extent → (data_out : List ℕ) → Effect
 writing_same state unmap extent data_out = let block = block_out data_out in
     if unmaps unmap block then unmapping state (extent ∷ []) else filling state extent block
+
+-- ---- GET LBA STATUS
+
+-- It returns which blocks are mapped, from an address on, and goes over those that its descriptors
+-- cover.
+abbrev pub reporting_status : State → (start allocation_length : ℕ) → Effect
+reporting_status state start n = let found = lba_status state.disk start in
+    record (returning_up_to state n (status_data found)) {
+      ranges =
+          record { contents = state.disk.contents; lba = start; count = covered found } ∷ [];
+    }

@@ -9,7 +9,7 @@ use Rattle.sg_target.specs.BlockCommands.{bytes_of, read_capacity_10, read_capac
 use Rattle.sg_target.specs.Effect.{Effect, no_effect}
 use Rattle.sg_target.specs.PrimaryCommands.{inquiry, request_sense}
 use Rattle.sg_target.specs.CapacityData.{block_length}
-use Rattle.sg_target.specs.ProvisioningCommands.{unmap_list, unmapping_listed, writing_same}
+use Rattle.sg_target.specs.ProvisioningCommands.{reporting_status, unmap_list, unmapping_listed, writing_same}
 use Rattle.sg_target.specs.State.{State}
 use Rattle.sg_target.specs.declared.extent.Extent.{Extent}
 use Rattle.sg_target.specs.declared.refusal.Refusal.{Refusal}
@@ -96,7 +96,7 @@ unmap state anchor n data_out = let listed = unmap_list (first_bytes n data_out)
 
 -- The row of each command, in a state, from an initiator, with its data-out. READ(6) and WRITE(6)
 -- name at most 256 blocks by their layout. SYNCHRONIZE CACHE has its extent checked and does
--- nothing, as there is no cache.
+-- nothing, as there is no cache. GET LBA STATUS has to start at a block of the disk.
 abbrev pub semantics : State → (initiator : ℕ) → Command → (data_out : List ℕ) → Semantics
 semantics state i TestUnitReady data_out = without_blocks (Ok (no_effect state))
 semantics state i (RequestSense desc n) data_out = without_blocks (Ok (request_sense state i desc n))
@@ -116,4 +116,4 @@ semantics state i (WriteSame16 anchor unmapping lba n) data_out =
     write_same state anchor unmapping (extent lba n) 10 data_out
 semantics state i (Unmap anchor group n) data_out = unmap state anchor n data_out
 semantics state i (GetLbaStatus start n) data_out =
-    record (without_blocks (Ok (no_effect state))) { unsupported = Some 1 }
+    over (extent start 1) (reporting_status state start n)

@@ -6,6 +6,7 @@ ghost use Rattle.sg_target.specs.BlockCommands.{bytes_of, reading};
 ghost use Rattle.sg_target.specs.CapacityData.{block_length};
 ghost use Rattle.sg_target.specs.Effect.{range};
 ghost use Rattle.sg_target.specs.Operation.{ReturnsData, data_of, executed_reply, refused_reply, step_by};
+ghost use Rattle.sg_target.specs.ProvisioningCommands.{reporting_status};
 ghost use Rattle.sg_target.specs.Ranges.{IsCharged, cost_bounds};
 ghost use Rattle.sg_target.specs.Reply.{Carries};
 ghost use Rattle.sg_target.specs.Step.{executed, sense_format};
@@ -17,7 +18,7 @@ use crate::refusal::{Reason, Refusal};
 use crate::reply::Reply;
 use crate::target::{BUFFER_LENGTH, Target};
 use sg_blocks::{BLOCK_LENGTH, Space, Store};
-use sg_wire::Initiator;
+use sg_wire::{Cut, Initiator};
 
 impl<S: Store> Target<S> {
     // Returns data that is in no block, at most `limit` bytes of it.
@@ -111,5 +112,28 @@ impl<S: Store> Target<S> {
                 counts,
             ),
         }
+    }
+
+    // GET LBA STATUS returns which blocks are mapped, from an address on.
+    pub(crate) fn report_lba_status(
+        &mut self,
+        start: u64,
+        allocation_length: u32,
+        buf: &mut [u8],
+    ) -> Reply
+        requires on_disk { start + 1 ≤ self.old.state.disk.capacity }
+        requires room { BUFFER_LENGTH ≤ length buf.old }
+        ensures reply { let done = executed (reporting_status self.old.state start allocation_length) in
+            Carries done.answer result buf.old buf.new }
+        ensures state { self.new.state ≡ self.old.state }
+        ensures charge { IsCharged (cost_bounds S.price S.least) self.old.state.disk.pool
+            (reporting_status self.old.state start allocation_length).ranges
+            self.old.meter self.new.meter result }
+    {
+        let limit = BUFFER_LENGTH.min(allocation_length as usize);
+        self.store.restart_counts();
+        let mut cut = Cut::new(buf, limit);
+        self.store.status(start, &mut cut);
+        Reply::good(cut.written(), self.store.counts())
     }
 }

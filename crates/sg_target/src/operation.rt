@@ -62,6 +62,12 @@ pub(crate) enum Operation {
     Fill(Extent),
     /// Unmaps blocks, extent by extent.
     Unmap(ExtentList),
+    /// Returns which blocks are mapped, from an address on.
+    GetLbaStatus {
+        start: u64,
+        /// In bytes.
+        allocation_length: u32,
+    },
 }
 
 impl Operation {
@@ -78,6 +84,13 @@ impl Operation {
             | Operation::Synchronize(extent)
             | Operation::Fill(extent) => past_capacity(capacity, *extent),
             Operation::Unmap(extents) => first_past_capacity(capacity, extents.as_slice()),
+            Operation::GetLbaStatus { start, .. } => {
+                let first = Extent {
+                    lba: *start,
+                    count: 1,
+                };
+                past_capacity(capacity, first)
+            }
             Operation::Nothing
             | Operation::RequestSense { .. }
             | Operation::ReturnInquiry { .. }
@@ -156,9 +169,13 @@ impl<S: Store> Target<S> {
                 list_length,
                 ..
             } => unmap(anchor, list_length, data_out),
-            Command::GetLbaStatus { .. } => {
-                Err(Refusal::Check(Reason::InvalidFieldInCdb { byte: 1 }))
-            }
+            Command::GetLbaStatus {
+                start,
+                allocation_length,
+            } => Ok(Operation::GetLbaStatus {
+                start,
+                allocation_length,
+            }),
         }
     }
 
@@ -207,6 +224,10 @@ impl<S: Store> Target<S> {
             Operation::Write(extent) => self.write(initiator, extent, data_out, buf),
             Operation::Fill(extent) => self.fill(initiator, extent, data_out, buf),
             Operation::Unmap(extents) => self.unmap(extents.as_slice(), buf),
+            Operation::GetLbaStatus {
+                start,
+                allocation_length,
+            } => self.report_lba_status(start, allocation_length, buf),
         }
     }
 }
