@@ -1,5 +1,8 @@
 -- Public contracts cite all of these.
+pub mod BlockDescriptor
 pub mod Identity
 pub mod InquiryData
+pub mod ModePage
+pub mod ModeSense
 pub mod ProvisioningPages
 pub mod VitalProductData

@@ -1,14 +1,18 @@
 //! What the disk reports about itself: its identity, the standard INQUIRY data and the pages of
-//! vital product data (VPD).
+//! vital product data (VPD); and its mode pages, which MODE SENSE returns.
 #![tactic(auto)]
 
 mod identity;
 mod inquiry_data;
+mod mode_pages;
 mod provisioning_pages;
 mod vital_product_data;
 
 pub use identity::{Identity, IdentityFault};
 pub use inquiry_data::write_standard_inquiry;
+pub use mode_pages::{
+    ModePage, ModePages, ModeSenseFault, ModeSenseRequest, PageControl, PageValues,
+};
 pub use provisioning_pages::{
     MAXIMUM_TRANSFER_LENGTH, MAXIMUM_UNMAP_DESCRIPTORS, MAXIMUM_WRITE_SAME_LENGTH,
 };

@@ -1,0 +1,147 @@
+-- The mode pages of the disk (SPC-4, 7.5; SBC-3, 6.4).
+use Rattle.std.specs.Prelude.{ℕ, ◌+◌, ◌==◌, ◌≡◌, Option, Bool, if◌then◌else◌}
+use Rattle.std.specs.Prelude.{List, [], ◌∷◌, length, slice_index, map, find}
+use Rattle.std.specs.List.{range_with_len}
+use Rattle.std.specs.Option.{option_map_or}
+use Rattle.sg_wire.specs.Layout.{has_bit}
+use Rattle.sg_pages.specs.declared.mode_pages.mode_page.ModePage.{ModePage}
+use Rattle.sg_pages.specs.declared.mode_pages.mode_page.ModePage.TheVariants.{ReadWriteErrorRecovery, Caching}
+use Rattle.sg_pages.specs.declared.mode_pages.mode_page.ModePage.TheVariants.{Control}
+use Rattle.sg_pages.specs.declared.mode_pages.mode_page.ModePage.TheVariants.{InformationalExceptionsControl}
+use Rattle.sg_pages.specs.declared.mode_pages.mode_page.PageValues.{PageValues}
+
+-- ---- The table
+
+-- PAGE CODE and PAGE LENGTH; and for each byte from byte 2 on its default, and the bits that MODE
+-- SELECT may change.
+pub record PageRow : Type 0 where
+  pub code : ℕ
+  pub page_length : ℕ
+  pub defaults : List ℕ
+  pub changeable : List ℕ
+
+-- A byte has the value that is named for it, and is else zero.
+abbrev pub value_at : (named : List (ℕ × ℕ)) → (byte : ℕ) → ℕ
+value_at named byte =
+    option_map_or (λ (n : ℕ × ℕ). n.1) (find (λ (n : ℕ × ℕ). n.0 == byte) named) 0
+
+-- `count` bytes from byte 2 on.
+abbrev pub from_byte_2 : (count : ℕ) → (named : List (ℕ × ℕ)) → List ℕ
+from_byte_2 count named = map (value_at named) (range_with_len 2 count)
+
+abbrev row : (code page_length : ℕ) → (defaults changeable : List (ℕ × ℕ)) → PageRow
+row code page_length defaults changeable = record {
+  code = code;
+  page_length = page_length;
+  defaults = from_byte_2 page_length defaults;
+  changeable = from_byte_2 page_length changeable;
+}
+
+-- Byte 2: AWRE is bit 7, ARRE is bit 6. Bytes 3 and 8: READ RETRY COUNT and WRITE RETRY COUNT.
+abbrev error_recovery_row : PageRow
+error_recovery_row =
+    row 0x01 0x0A ((2, 0xC0) ∷ (3, 0x08) ∷ (8, 0x08) ∷ []) ((2, 0xC0) ∷ (3, 0xFF) ∷ (8, 0xFF) ∷ [])
+
+-- Byte 2: WCE is bit 2.
+abbrev caching_row : PageRow
+caching_row = row 0x08 0x12 ((2, 0x04) ∷ []) ((2, 0x04) ∷ [])
+
+-- Byte 2: D_SENSE is bit 2. Byte 4: SWP is bit 3.
+abbrev control_row : PageRow
+control_row = row 0x0A 0x0A [] ((2, 0x04) ∷ (4, 0x08) ∷ [])
+
+-- Byte 2: DEXCPT is bit 3.
+abbrev exceptions_row : PageRow
+exceptions_row = row 0x1C 0x0A ((2, 0x08) ∷ []) []
+
+abbrev pub row_of : ModePage → PageRow
+row_of ReadWriteErrorRecovery = error_recovery_row
+row_of Caching = caching_row
+row_of Control = control_row
+row_of InformationalExceptionsControl = exceptions_row
+
+-- In ascending order of their codes.
+abbrev pub each_page : List ModePage
+each_page = ReadWriteErrorRecovery ∷ Caching ∷ Control ∷ InformationalExceptionsControl ∷ []
+
+abbrev pub code_of : ModePage → ℕ
+code_of page = (row_of page).code
+
+abbrev pub page_length : ModePage → ℕ
+page_length page = (row_of page).page_length
+
+-- The page with a code, if the disk has it.
+abbrev pub page_with_code : ℕ → Option ModePage
+page_with_code code = find (λ page. code_of page == code) each_page
+
+-- ---- The bytes of the pages
+
+-- The bytes of a page from byte 2 on.
+abbrev pub values_of : PageValues → ModePage → List ℕ
+values_of values ReadWriteErrorRecovery = values.error_recovery
+values_of values Caching = values.caching
+values_of values Control = values.control
+values_of values InformationalExceptionsControl = values.exceptions_control
+
+-- The bytes that a rule has for each page.
+abbrev pub by_page : (ModePage → List ℕ) → PageValues
+by_page rule = record {
+  error_recovery = rule ReadWriteErrorRecovery;
+  caching = rule Caching;
+  control = rule Control;
+  exceptions_control = rule InformationalExceptionsControl;
+}
+
+abbrev pub default_values : PageValues
+default_values = by_page (λ page. (row_of page).defaults)
+
+abbrev pub changeable_bits : PageValues
+changeable_bits = by_page (λ page. (row_of page).changeable)
+
+-- A whole page: PS, as each page can be saved, and PAGE CODE; PAGE LENGTH; and the bytes behind it.
+unfoldable pub page_bytes : (code : ℕ) (values : List ℕ) → List ℕ
+page_bytes code values = (0x80 + code) ∷ length values ∷ values
+
+abbrev pub page_data : PageValues → ModePage → List ℕ
+page_data values page = page_bytes (code_of page) (values_of values page)
+
+-- ---- What a disk keeps of them
+
+-- The current values and the saved ones. The default ones and the changeable bits never change.
+pub record ModeState : Type 0 where
+  pub current : PageValues
+  pub saved : PageValues
+
+-- The pages of a new disk.
+abbrev pub initial_state : ModeState
+initial_state = record { current = default_values; saved = default_values }
+
+-- A byte, by its number in the page.
+abbrev pub byte_2 : List ℕ → ℕ
+byte_2 values = slice_index values 0
+
+abbrev pub byte_4 : List ℕ → ℕ
+byte_4 values = slice_index values 2
+
+-- D_SENSE of the control page: sense data is in descriptor format (SPC-4, Control mode page).
+abbrev pub descriptor_sense : ModeState → Bool
+descriptor_sense state = has_bit (byte_2 (values_of state.current Control)) 0x04
+
+-- SWP of the control page: the disk refuses to write (SPC-4, Control mode page).
+abbrev pub write_protected : ModeState → Bool
+write_protected state = has_bit (byte_4 (values_of state.current Control)) 0x08
+
+-- The current, saved and default values of a page and its changeable bits have PAGE LENGTH bytes.
+abbrev pub HasPageLength : ModeState → ModePage → Type 0
+HasPageLength state page =
+    (length (values_of state.current page) ≡ page_length page)
+    × (length (values_of state.saved page) ≡ page_length page)
+    × (length (row_of page).defaults ≡ page_length page)
+    × (length (row_of page).changeable ≡ page_length page)
+
+-- ---- Cited by private contracts alone
+
+-- The values with other ones for a page.
+abbrev pub with_values : PageValues → ModePage → List ℕ → PageValues
+with_values values changed bytes =
+    by_page (λ page. if code_of changed == code_of page then bytes else values_of values page)

@@ -1,0 +1,111 @@
+-- The mode parameter list that MODE SENSE returns (SPC-4, 6.11, 6.12 and 7.5).
+use Rattle.std.specs.Prelude.{ℕ, List, [], ◌∷◌, ◌++◌, length, Result, Ok, Err}
+use Rattle.std.specs.Prelude.{Bool, not, ◌&&◌, ◌||◌, ◌==◌, if◌then◌else◌}
+use Rattle.std.specs.List.{flat_map, list_any}
+use Rattle.byteorder.specs.Endian.{big_bytes}
+use Rattle.sg_pages.specs.declared.mode_pages.mode_page.ModePage.{ModePage}
+use Rattle.sg_pages.specs.declared.mode_pages.mode_page.PageValues.{PageValues}
+use Rattle.sg_pages.specs.declared.mode_pages.request.PageControl.{PageControl}
+use Rattle.sg_pages.specs.declared.mode_pages.request.PageControl.TheVariants.{Current, Changeable}
+use Rattle.sg_pages.specs.declared.mode_pages.request.PageControl.TheVariants.{Default, Saved}
+use Rattle.sg_pages.specs.declared.mode_pages.request.ModeSenseRequest.{ModeSenseRequest}
+use Rattle.sg_pages.specs.declared.mode_pages.request.ModeSenseFault.{ModeSenseFault}
+use Rattle.sg_pages.specs.declared.mode_pages.request.ModeSenseFault.TheVariants.{Page, Subpage}
+use Rattle.sg_pages.specs.ModePage.{ModeState, each_page, code_of, page_data}
+use Rattle.sg_pages.specs.ModePage.{default_values, changeable_bits, write_protected}
+use Rattle.sg_pages.specs.BlockDescriptor.{block_descriptor}
+
+-- What a MODE SENSE requests: whether by the CDB of ten bytes; LLBAA, DBD, PC, PAGE CODE and
+-- SUBPAGE CODE; and the number of blocks of the disk.
+pub record RequestFields : Type 0 where
+  pub ten : Bool
+  pub llbaa : Bool
+  pub dbd : Bool
+  pub page_control : PageControl
+  pub page_code : ℕ
+  pub subpage_code : ℕ
+  pub blocks : ℕ
+
+-- The fields of a request, without the fact that its type keeps.
+abbrev pub fields_of : ModeSenseRequest → RequestFields
+fields_of r = record {
+  ten = r.ten;
+  llbaa = r.llbaa;
+  dbd = r.dbd;
+  page_control = r.page_control;
+  page_code = r.page_code;
+  subpage_code = r.subpage_code;
+  blocks = r.blocks;
+}
+
+-- ---- The pages
+
+-- The values that PC selects.
+abbrev pub selected_by : ModeState → PageControl → PageValues
+selected_by state Current = state.current
+selected_by state Changeable = changeable_bits
+selected_by state Default = default_values
+selected_by state Saved = state.saved
+
+-- Page code 3Fh requests all pages.
+abbrev pub is_requested : (page_code : ℕ) → ModePage → Bool
+is_requested page_code page = page_code == 0x3F || page_code == code_of page
+
+abbrev pub has_page : (page_code : ℕ) → Bool
+has_page page_code = list_any (is_requested page_code) each_page
+
+-- No page has subpages: 00h is the page itself, and FFh all of its subpages.
+abbrev pub has_subpage : (subpage_code : ℕ) → Bool
+has_subpage subpage_code = subpage_code == 0x00 || subpage_code == 0xFF
+
+-- The requested pages, joined.
+unfoldable pub requested_pages : PageValues → (page_code : ℕ) → List ℕ
+requested_pages values page_code =
+    flat_map (λ page. if is_requested page_code page then page_data values page else []) each_page
+
+-- ---- The header and the block descriptor
+
+-- LONGLBA: the block descriptor is the long one. DBD leaves the descriptor out.
+abbrev pub is_long : RequestFields → Bool
+is_long r = r.llbaa && not r.dbd
+
+abbrev pub descriptor_data : RequestFields → List ℕ
+descriptor_data r = if r.dbd then [] else block_descriptor (is_long r) r.blocks
+
+-- DEVICE-SPECIFIC PARAMETER: DPOFUA, and WP where SWP is set (SBC-3, 6.4.1).
+abbrev pub device_specific : ModeState → ℕ
+device_specific state = if write_protected state then 0x90 else 0x10
+
+-- LONGLBA and a reserved byte are in the header of MODE SENSE(10) alone. Its two lengths have two
+-- bytes each, and those of MODE SENSE(6) one.
+abbrev pub longlba_bytes : RequestFields → List ℕ
+longlba_bytes r = if r.ten then (if is_long r then 0x01 else 0x00) ∷ 0x00 ∷ [] else []
+
+abbrev pub length_bytes : (ten : Bool) → ℕ → List ℕ
+length_bytes ten length = if ten then big_bytes 2 length else length ∷ []
+
+-- The header behind MODE DATA LENGTH: MEDIUM TYPE, DEVICE-SPECIFIC PARAMETER, LONGLBA, and BLOCK
+-- DESCRIPTOR LENGTH.
+abbrev pub header_after_length : ModeState → RequestFields → (descriptor_length : ℕ) → List ℕ
+header_after_length state r descriptor_length =
+    (0x00 ∷ device_specific state ∷ []) ++ (longlba_bytes r ++ length_bytes r.ten descriptor_length)
+
+-- ---- The whole list
+
+-- All that follows MODE DATA LENGTH.
+unfoldable pub list_after_length : ModeState → RequestFields → List ℕ
+list_after_length state r =
+    let pages = requested_pages (selected_by state r.page_control) r.page_code in
+    header_after_length state r (length (descriptor_data r)) ++ (descriptor_data r ++ pages)
+
+-- MODE DATA LENGTH is the number of bytes that follow it.
+unfoldable pub mode_parameter_list : ModeState → RequestFields → List ℕ
+mode_parameter_list state r =
+    let following = list_after_length state r in length_bytes r.ten (length following) ++ following
+
+-- The list, or the first field of the CDB that requests what the disk does not have.
+abbrev pub mode_sense : ModeState → RequestFields → Result (List ℕ) ModeSenseFault
+mode_sense state r =
+    if not (has_page r.page_code) then Err Page
+    else
+    if not (has_subpage r.subpage_code) then Err Subpage else Ok (mode_parameter_list state r)

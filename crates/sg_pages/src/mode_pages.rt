@@ -1,0 +1,57 @@
+// The mode pages of a disk.
+use std::marker::Model;
+
+mod block_descriptor;
+mod mode_page;
+mod mode_sense;
+mod request;
+
+use mode_page::DEFAULT;
+pub use mode_page::{ModePage, PageValues};
+pub use request::{ModeSenseFault, ModeSenseRequest, PageControl};
+
+/// The mode pages of a disk: their current and their saved values (SPC-4, 7.5).
+#[derive(Clone, Copy)]
+pub struct ModePages {
+    current: PageValues,
+    saved: PageValues,
+}
+
+impl Model for ModePages {
+    ghost use Rattle.sg_pages.specs.ModePage.{ModeState};
+
+    ghost Value = { ModeState };
+
+    ghost view = { λ m. record { current = m.current; saved = m.saved } };
+
+    ghost inverse = { λ m. record { current = m.current; saved = m.saved } };
+}
+
+ghost use Rattle.std.specs.Prelude.{◌≡◌};
+ghost use Rattle.sg_pages.specs.ModePage.{descriptor_sense, initial_state, write_protected};
+
+impl ModePages {
+    /// The pages of a new disk: the current and the saved values are the default ones.
+    pub fn new() -> ModePages
+        ensures { result ≡ initial_state }
+    {
+        ModePages {
+            current: DEFAULT,
+            saved: DEFAULT,
+        }
+    }
+
+    /// D_SENSE: sense data is in descriptor format (SPC-4, Control mode page).
+    pub fn descriptor_sense(&self) -> bool
+        ensures { result ≡ descriptor_sense self.now }
+    {
+        self.current.control[0] & 0x04 != 0
+    }
+
+    /// SWP: the disk refuses to write (SPC-4, Control mode page).
+    pub fn write_protected(&self) -> bool
+        ensures { result ≡ write_protected self.now }
+    {
+        self.current.control[2] & 0x08 != 0
+    }
+}

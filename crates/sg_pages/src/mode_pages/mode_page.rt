@@ -1,0 +1,100 @@
+// The mode pages of the disk, and their bytes.
+ghost use Rattle.std.specs.Prelude.{◌≡◌, ◌<◌, ◌≤◌, length};
+ghost use Rattle.sg_pages.specs.ModePage.{code_of, page_length, page_with_code};
+ghost use Rattle.sg_pages.specs.ModePage.{values_of, with_values};
+
+/// A mode page that the disk has (SPC-4, 7.5; SBC-3, 6.4), with its page code.
+#[derive(Clone, Copy)]
+pub enum ModePage {
+    /// Read-Write Error Recovery: AWRE, ARRE, READ RETRY COUNT and WRITE RETRY COUNT.
+    ReadWriteErrorRecovery = 0x01,
+    /// Caching: WCE.
+    Caching = 0x08,
+    /// Control: D_SENSE and SWP.
+    Control = 0x0A,
+    /// Informational Exceptions Control: DEXCPT.
+    InformationalExceptionsControl = 0x1C,
+}
+
+impl ModePage {
+    // In ascending order of their codes.
+    pub(super) const ALL: [ModePage; 4] = [
+        ModePage::ReadWriteErrorRecovery,
+        ModePage::Caching,
+        ModePage::Control,
+        ModePage::InformationalExceptionsControl,
+    ];
+
+    /// The page with a page code. None where the disk has no such page.
+    pub fn with_code(code: u8) -> Option<ModePage>
+        ensures { result ≡ page_with_code code }
+    {
+        ModePage::ALL.into_iter().find(|page| page.code() == code)
+    }
+
+    /// The page code.
+    pub fn code(self) -> u8
+        ensures code { result ≡ code_of self }
+        ensures six_bits { result < 0x40 }
+    {
+        self as u8
+    }
+}
+
+/// The bytes of each mode page from byte 2 on.
+#[derive(Clone, Copy, PartialEq, Eq)]
+pub struct PageValues {
+    /// Page 01h. Byte 2: AWRE (bit 7) and ARRE (bit 6). Byte 3: READ RETRY COUNT. Byte 8: WRITE
+    /// RETRY COUNT.
+    pub error_recovery: [u8; 10],
+    /// Page 08h. Byte 2: WCE (bit 2).
+    pub caching: [u8; 18],
+    /// Page 0Ah. Byte 2: D_SENSE (bit 2). Byte 4: SWP (bit 3).
+    pub control: [u8; 10],
+    /// Page 1Ch. Byte 2: DEXCPT (bit 3).
+    pub exceptions_control: [u8; 10],
+}
+
+pub(super) const DEFAULT: PageValues = PageValues {
+    error_recovery: [0xC0, 0x08, 0, 0, 0, 0, 0x08, 0, 0, 0],
+    caching: [0x04, 0, 0, 0, 0, 0, 0, 0, 0, 0, 0, 0, 0, 0, 0, 0, 0, 0],
+    control: [0; 10],
+    exceptions_control: [0x08, 0, 0, 0, 0, 0, 0, 0, 0, 0],
+};
+
+// The bits that MODE SELECT may change.
+pub(super) const CHANGEABLE: PageValues = PageValues {
+    error_recovery: [0xC0, 0xFF, 0, 0, 0, 0, 0xFF, 0, 0, 0],
+    caching: [0x04, 0, 0, 0, 0, 0, 0, 0, 0, 0, 0, 0, 0, 0, 0, 0, 0, 0],
+    control: [0x04, 0, 0x08, 0, 0, 0, 0, 0, 0, 0],
+    exceptions_control: [0; 10],
+};
+
+impl PageValues {
+    pub(super) fn of(&self, page: ModePage) -> &[u8]
+        ensures values { result.now ≡ values_of self.now page }
+        ensures length { length result.now ≡ page_length page }
+        ensures bound { length result.now ≤ 18 }
+    {
+        match page {
+            ModePage::ReadWriteErrorRecovery => &self.error_recovery,
+            ModePage::Caching => &self.caching,
+            ModePage::Control => &self.control,
+            ModePage::InformationalExceptionsControl => &self.exceptions_control,
+        }
+    }
+
+    pub(super) fn set(&mut self, page: ModePage, bytes: &[u8])
+        requires { length bytes.now ≡ page_length page }
+        ensures { self.new ≡ with_values self.old page bytes.now }
+    {
+        match page {
+            ModePage::ReadWriteErrorRecovery => self.error_recovery.copy_from_slice(bytes),
+            ModePage::Caching => self.caching.copy_from_slice(bytes),
+            ModePage::Control => self.control.copy_from_slice(bytes),
+            ModePage::InformationalExceptionsControl => {
+                self.exceptions_control.copy_from_slice(bytes);
+            }
+        }
+    }
+}

@@ -1,0 +1,44 @@
+// What a MODE SENSE requests.
+ghost use Rattle.std.specs.Prelude.{IsTrue};
+
+/// Which values of the pages are requested: the PC field (SPC-4, 6.11).
+#[derive(Clone, Copy)]
+pub enum PageControl {
+    /// The current values.
+    Current,
+    /// A mask of the bits that MODE SELECT may change.
+    Changeable,
+    /// The default values.
+    Default,
+    /// The saved values.
+    Saved,
+}
+
+/// What a MODE SENSE requests (SPC-4, 6.11 and 6.12).
+#[derive(Clone, Copy)]
+pub struct ModeSenseRequest {
+    /// MODE SENSE(10), and not MODE SENSE(6).
+    pub ten: bool,
+    /// LLBAA: the long block descriptor is accepted. Only in MODE SENSE(10).
+    pub llbaa: bool,
+    /// DBD: no block descriptor is to be returned.
+    pub dbd: bool,
+    /// PC.
+    pub page_control: PageControl,
+    /// PAGE CODE, 3Fh for all pages.
+    pub page_code: u8,
+    /// SUBPAGE CODE.
+    pub subpage_code: u8,
+    /// The number of logical blocks of the disk.
+    pub blocks: u64,
+    pub ghost llbaa_only_in_ten: { IsTrue llbaa → IsTrue ten },
+}
+
+/// Why a MODE SENSE is refused. The first that applies is returned.
+#[derive(Clone, Copy, Debug, PartialEq, Eq)]
+pub enum ModeSenseFault {
+    /// The disk does not have the page of PAGE CODE.
+    Page,
+    /// No page has the subpage of SUBPAGE CODE.
+    Subpage,
+}
