@@ -3,6 +3,7 @@ pub mod BlockDescriptor
 pub mod Identity
 pub mod InquiryData
 pub mod ModePage
+pub mod ModeSelect
 pub mod ModeSense
 pub mod ProvisioningPages
 pub mod VitalProductData

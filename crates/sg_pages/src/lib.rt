@@ -1,5 +1,5 @@
 //! What the disk reports about itself: its identity, the standard INQUIRY data and the pages of
-//! vital product data (VPD); and its mode pages, which MODE SENSE returns.
+//! vital product data (VPD); and its mode pages, for MODE SENSE and MODE SELECT.
 #![tactic(auto)]
 
 mod identity;
@@ -11,7 +11,8 @@ mod vital_product_data;
 pub use identity::{Identity, IdentityFault};
 pub use inquiry_data::write_standard_inquiry;
 pub use mode_pages::{
-    ModePage, ModePages, ModeSenseFault, ModeSenseRequest, PageControl, PageValues,
+    Changed, ModePage, ModePages, ModeSelectFault, ModeSenseFault, ModeSenseRequest, PageControl,
+    PageValues,
 };
 pub use provisioning_pages::{
     MAXIMUM_TRANSFER_LENGTH, MAXIMUM_UNMAP_DESCRIPTORS, MAXIMUM_WRITE_SAME_LENGTH,

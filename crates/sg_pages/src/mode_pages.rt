@@ -2,12 +2,15 @@
 use std::marker::Model;
 
 mod block_descriptor;
+mod list_check;
 mod mode_page;
+mod mode_select;
 mod mode_sense;
 mod request;
 
 use mode_page::DEFAULT;
 pub use mode_page::{ModePage, PageValues};
+pub use mode_select::{Changed, ModeSelectFault};
 pub use request::{ModeSenseFault, ModeSenseRequest, PageControl};
 
 /// The mode pages of a disk: their current and their saved values (SPC-4, 7.5).

@@ -1,0 +1,227 @@
+-- What MODE SELECT does with a mode parameter list (SPC-4, 6.9, 6.10 and 7.5).
+use Rattle.std.specs.Prelude.{ℕ, zero, suc, ◌+◌, ◌<◌, ⊤, min, nat_lt, bit_and, bit_or}
+use Rattle.std.specs.Prelude.{List, [], ◌∷◌, ◌++◌, length, take, drop, slice_index, map, find, reverse}
+use Rattle.std.specs.Prelude.{Bool, not, ◌&&◌, ◌||◌, ◌==◌, if◌then◌else◌}
+use Rattle.std.specs.Prelude.{Option, Some, None, unwrap_or, Result, Ok, Err}
+use Rattle.std.specs.List.{flat_map, list_all}
+use Rattle.std.specs.Option.{option_map, option_map_or}
+use Rattle.std.specs.Result.{result_map_both}
+use Rattle.std.specs.Str.{bytes_eq}
+use Rattle.byteorder.specs.Endian.{big_number}
+use Rattle.sg_wire.specs.Layout.{has_bit}
+use Rattle.sg_pages.specs.declared.mode_pages.mode_page.ModePage.{ModePage}
+use Rattle.sg_pages.specs.declared.mode_pages.mode_page.PageValues.{PageValues}
+use Rattle.sg_pages.specs.declared.mode_pages.mode_select.Changed.{Changed}
+use Rattle.sg_pages.specs.declared.mode_pages.mode_select.ModeSelectFault.{ModeSelectFault}
+use Rattle.sg_pages.specs.declared.mode_pages.mode_select.ModeSelectFault.TheVariants.{Length, Field}
+use Rattle.sg_pages.specs.ModePage.{ModeState, row_of, code_of, page_with_code}
+use Rattle.sg_pages.specs.ModePage.{values_of, by_page, page_data}
+use Rattle.sg_pages.specs.BlockDescriptor.{number_length, descriptor_length, block_descriptor}
+
+-- ---- The parts of the list
+
+-- A part of the list: the offset of its first byte, how many bytes the list's own length fields give
+-- it, and those of them that the list has.
+pub record Part : Type 0 where
+  pub offset : ℕ
+  pub size : ℕ
+  pub bytes : List ℕ
+
+abbrev pub part_at : (offset size : ℕ) → List ℕ → Part
+part_at offset size list =
+    record { offset = offset; size = size; bytes = take size (drop offset list) }
+
+-- The header has 4 bytes in MODE SELECT(6) and 8 in MODE SELECT(10).
+abbrev pub header_length : (ten : Bool) → ℕ
+header_length ten = if ten then 8 else 4
+
+abbrev pub header_in : (ten : Bool) → List ℕ → Part
+header_in ten list = part_at 0 (header_length ten) list
+
+-- BLOCK DESCRIPTOR LENGTH ends the header: one byte, or two in MODE SELECT(10).
+abbrev pub length_offset : (ten : Bool) → ℕ
+length_offset ten = if ten then 6 else 3
+
+abbrev pub block_descriptor_length : (ten : Bool) → List ℕ → ℕ
+block_descriptor_length ten list = if ten then big_number 2 (drop 6 list) else slice_index list 3
+
+-- LONGLBA, byte 4 bit 0 of the longer header: the block descriptor is the long one.
+abbrev pub has_longlba : (ten : Bool) → List ℕ → Bool
+has_longlba ten list = ten && has_bit (slice_index list 4) 0x01
+
+abbrev pub descriptor_in : (ten : Bool) → List ℕ → Part
+descriptor_in ten list = part_at (header_length ten) (block_descriptor_length ten list) list
+
+-- A page has two bytes, of which the second is PAGE LENGTH, and as many more as that is. Where the
+-- list ends before the second, it has two at least.
+abbrev pub page_at : (offset : ℕ) → List ℕ → Part
+page_at offset list = part_at offset (2 + slice_index (drop offset list) 1) list
+
+-- The pages from an offset on, up to the end of the list, `count` of them at most.
+abbrev pub pages_up_to : (count offset : ℕ) → List ℕ → List Part
+pages_up_to zero offset list = []
+pages_up_to (suc count) offset list =
+    let page = page_at offset list in
+    if nat_lt offset (length list) then page ∷ pages_up_to count (offset + page.size) list else []
+
+-- No list has more pages than bytes.
+unfoldable pub pages_from : (offset : ℕ) → List ℕ → List Part
+pages_from offset list = pages_up_to (length list) offset list
+
+abbrev pub pages_in : (ten : Bool) → List ℕ → List Part
+pages_in ten list = pages_from (header_length ten + block_descriptor_length ten list) list
+
+-- ---- Faults, each with the offset of its byte
+
+-- The offsets of the bytes that differ from the expected ones in a bit that is not ignored. The first
+-- byte is at `offset`.
+abbrev pub differences : (offset : ℕ) → (expected ignored bytes : List ℕ) → List ℕ
+differences offset [] ignored bytes = []
+differences offset (e ∷ expected) [] bytes = []
+differences offset (e ∷ expected) (i ∷ ignored) [] = []
+differences offset (e ∷ expected) (i ∷ ignored) (byte ∷ bytes) =
+    let rest = differences (offset + 1) expected ignored bytes in
+    if bit_or byte i == bit_or e i then rest else offset ∷ rest
+
+-- The list ends within the part: the fault is at the end of the list.
+abbrev pub truncation_of : Part → List ℕ
+truncation_of p =
+    if nat_lt (length p.bytes) p.size then (p.offset + length p.bytes) ∷ [] else []
+
+-- A part has to have the expected bytes, but for the ignored bits, and has to be whole.
+abbrev pub part_faults : (expected ignored : List ℕ) → Part → List ℕ
+part_faults expected ignored p = differences p.offset expected ignored p.bytes ++ truncation_of p
+
+-- What is ignored in the header before BLOCK DESCRIPTOR LENGTH: MODE DATA LENGTH, DEVICE-SPECIFIC
+-- PARAMETER and LONGLBA. MEDIUM TYPE and the reserved bits have to be zero.
+abbrev pub ignored_header_bits : (ten : Bool) → List ℕ
+ignored_header_bits ten =
+    if ten then 0xFF ∷ 0xFF ∷ 0x00 ∷ 0xFF ∷ 0x01 ∷ 0x00 ∷ [] else 0xFF ∷ 0x00 ∷ 0xFF ∷ []
+
+abbrev pub zeros_for : List ℕ → List ℕ
+zeros_for bytes = map (λ _. 0) bytes
+
+-- BLOCK DESCRIPTOR LENGTH is 0, or the length of the descriptor that LONGLBA names.
+abbrev pub is_descriptor_length : (ten : Bool) → List ℕ → Bool
+is_descriptor_length ten list =
+    block_descriptor_length ten list == 0
+    || block_descriptor_length ten list == descriptor_length (has_longlba ten list)
+
+-- It is checked where the list has the whole header.
+abbrev pub length_faults : (ten : Bool) → List ℕ → List ℕ
+length_faults ten list =
+    if nat_lt (length list) (header_length ten) || is_descriptor_length ten list then []
+    else length_offset ten ∷ []
+
+abbrev pub header_faults : (ten : Bool) → List ℕ → List ℕ
+header_faults ten list =
+    let ignored = ignored_header_bits ten in
+    part_faults (zeros_for ignored) ignored (header_in ten list) ++ length_faults ten list
+
+-- The block descriptor has to be the disk's own. A NUMBER OF LOGICAL BLOCKS of zero is accepted too:
+-- its bytes are zero, as far as the list has them.
+abbrev pub accepted_blocks : (blocks : ℕ) → (number : List ℕ) → ℕ
+accepted_blocks blocks number = if list_all (λ byte. byte == 0) number then 0 else blocks
+
+abbrev pub accepted_descriptor : (long : Bool) (blocks : ℕ) → (sent : List ℕ) → List ℕ
+accepted_descriptor long blocks sent =
+    block_descriptor long (accepted_blocks blocks (take (number_length long) sent))
+
+abbrev pub descriptor_faults : (ten : Bool) (blocks : ℕ) → List ℕ → List ℕ
+descriptor_faults ten blocks list =
+    let sent = descriptor_in ten list in
+    let expected = accepted_descriptor (has_longlba ten list) blocks sent.bytes in
+    part_faults expected (zeros_for expected) sent
+
+-- PAGE CODE of a page that was sent.
+abbrev pub sent_code : Part → ℕ
+sent_code sent = bit_and (slice_index sent.bytes 0) 0x3F
+
+-- A page has to be as it is now, but for PS and the bits that can be changed. So SPF has to be zero.
+abbrev pub faults_against : (current : PageValues) → Part → ModePage → List ℕ
+faults_against current sent page =
+    part_faults (page_data current page) (0x80 ∷ 0x00 ∷ (row_of page).changeable) sent
+
+-- Of a page that the disk does not have, the first byte is at fault.
+abbrev pub page_faults : (current : PageValues) → Part → List ℕ
+page_faults current sent =
+    option_map_or (faults_against current sent) (page_with_code (sent_code sent)) (sent.offset ∷ [])
+
+-- Every fault of a list.
+abbrev pub list_faults : (current : PageValues) (ten : Bool) (blocks : ℕ) → List ℕ → List ℕ
+list_faults current ten blocks list =
+    header_faults ten list
+    ++ (descriptor_faults ten blocks list ++ flat_map (page_faults current) (pages_in ten list))
+
+-- ---- The least offset decides
+
+abbrev pub least : List ℕ → Option ℕ
+least [] = None
+least (offset ∷ offsets) = Some (option_map_or (min offset) (least offsets) offset)
+
+-- At the end of the list it is the parameter list length that is at fault.
+abbrev pub fault_at : (list_length offset : ℕ) → ModeSelectFault
+fault_at list_length offset = if nat_lt offset list_length then Field offset else Length
+
+unfoldable pub first_fault : (list_length : ℕ) → (offsets : List ℕ) → Option ModeSelectFault
+first_fault list_length offsets = option_map (fault_at list_length) (least offsets)
+
+-- A byte that is at fault is one of the list.
+abbrev pub IsInside : (list_length : ℕ) → ModeSelectFault → Type 0
+IsInside list_length Length = ⊤
+IsInside list_length (Field offset) = offset < list_length
+
+-- A value, unless there is a fault.
+abbrev pub unless_fault : {A : Type 0} → Option ModeSelectFault → A → Result A ModeSelectFault
+unless_fault None value = Ok value
+unless_fault (Some fault) value = Err fault
+
+-- ---- What a list changes
+
+-- The bytes from byte 2 on of the last page sent with a code.
+abbrev pub last_sent : (code : ℕ) → List Part → Option (List ℕ)
+last_sent code sent =
+    option_map (λ (p : Part). drop 2 p.bytes) (find (λ p. sent_code p == code) (reverse sent))
+
+-- A page that is not sent stays as it is.
+abbrev pub values_after : (current : PageValues) → List Part → PageValues
+values_after current sent =
+    by_page (λ page. unwrap_or (last_sent (code_of page) sent) (values_of current page))
+
+-- The current values after a list, or its first fault. The empty list is accepted.
+unfoldable pub selected_values : (current : PageValues) (ten : Bool) (blocks : ℕ) → List ℕ
+    → Result PageValues ModeSelectFault
+selected_values current ten blocks list =
+    if length list == 0 then Ok current
+    else unless_fault (first_fault (length list) (list_faults current ten blocks list))
+    (values_after current (pages_in ten list))
+
+-- With SP all pages are saved, sent or not.
+abbrev pub saved_after : (save : Bool) → ModeState → PageValues → ModeState
+saved_after save state current =
+    record { current = current; saved = if save then current else state.saved }
+
+-- The pages after a MODE SELECT, or the first fault of its list.
+abbrev pub mode_select : ModeState → (list : List ℕ) (ten save : Bool) (blocks : ℕ)
+    → Result ModeState ModeSelectFault
+mode_select state list ten save blocks =
+    result_map_both (saved_after save state) (λ fault. fault)
+    (selected_values state.current ten blocks list)
+
+-- Whether a byte of a page differs.
+abbrev pub differ : PageValues → PageValues → Bool
+differ a b =
+    not (bytes_eq a.error_recovery b.error_recovery
+    && (bytes_eq a.caching b.caching
+    && (bytes_eq a.control b.control && bytes_eq a.exceptions_control b.exceptions_control)))
+
+-- Whether a current byte differs afterwards.
+abbrev pub changed_by : (before after : ModeState) → Changed
+changed_by before after = record { 0 = differ after.current before.current }
+
+-- ---- Cited by private contracts alone
+
+-- The values after one more page that is sent.
+abbrev pub with_sent : PageValues → Part → PageValues
+with_sent values sent =
+    by_page (λ page. if sent_code sent == code_of page then drop 2 sent.bytes else values_of values page)

@@ -1,0 +1,156 @@
+// MODE SELECT (SPC-4, 6.9 and 6.10).
+ghost use Rattle.std.specs.Prelude.{◌≡◌, ◌≤◌, ◌<◌, ◌+◌, ◌∷◌, length, not, IsTrue, IfErr, IfOk, OnOk};
+ghost use Rattle.std.specs.List.{flat_map};
+ghost use Rattle.std.specs.Result.{result_map_both, result_unwrap_or};
+ghost use Rattle.sg_pages.specs.ModePage.{page_bytes};
+ghost use Rattle.sg_pages.specs.ModeSelect.{IsInside, changed_by, first_fault, mode_select, page_at};
+ghost use Rattle.sg_pages.specs.ModeSelect.{page_faults, pages_from, part_faults, selected_values};
+ghost use Rattle.sg_pages.specs.ModeSelect.{unless_fault, values_after, with_sent};
+
+use super::list_check::{check, check_descriptor, check_header, header_length};
+use super::mode_page::CHANGEABLE;
+use super::{ModePage, ModePages, PageValues};
+
+/// Whether a MODE SELECT changed a current value.
+#[derive(Clone, Copy, Debug, PartialEq, Eq)]
+pub struct Changed(pub bool);
+
+/// Why a mode parameter list is refused. Of several faults the one that comes first in the list is
+/// returned.
+#[derive(Clone, Copy, Debug, PartialEq, Eq)]
+pub enum ModeSelectFault {
+    /// The list ends within its header, its block descriptor or a page.
+    Length,
+    /// The byte at this offset in the list has a value that is not supported.
+    Field(usize),
+}
+
+// PS is ignored.
+const PS: u8 = 0x80;
+
+const PAGE_CODE: u8 = 0x3F;
+
+impl ModePages {
+    /// Changes the current values to those of a mode parameter list: the data-out of a MODE
+    /// SELECT(10), or of a MODE SELECT(6) where `ten` is false, to a disk of `blocks` logical
+    /// blocks. A page may differ from its current values only in the bits that can be changed. Of a
+    /// page that is sent twice the last one counts. With `save`, the SP bit, all pages are saved.
+    /// On a fault nothing has changed.
+    ///
+    /// # Errors
+    /// The first fault of the list.
+    pub fn select(
+        &mut self,
+        list: &[u8],
+        ten: bool,
+        save: bool,
+        blocks: u64,
+    ) -> Result<Changed, ModeSelectFault>
+        ensures state { self.new
+            ≡ result_unwrap_or (mode_select self.old list.now ten save blocks) self.old }
+        ensures outcome { result ≡ result_map_both (changed_by self.old) (λ fault. fault)
+            (mode_select self.old list.now ten save blocks) }
+        ensures inside { IfErr result (IsInside (length list.now)) }
+        ensures saved { IsTrue (not save) → self.new.saved ≡ self.old.saved }
+    {
+        let current = selected_values(&self.current, list, ten, blocks)?;
+        let changed = current != self.current;
+        self.current = current;
+        if save {
+            self.saved = current;
+        }
+        Ok(Changed(changed))
+    }
+}
+
+#[tactic(auto, unfolding(crate::specs::ModeSelect::selected_values))]
+fn selected_values(
+    current: &PageValues,
+    list: &[u8],
+    ten: bool,
+    blocks: u64,
+) -> Result<PageValues, ModeSelectFault>
+    ensures values { result ≡ selected_values current.now ten blocks list.now }
+    ensures inside { IfErr (selected_values current.now ten blocks list.now)
+        (IsInside (length list.now)) }
+{
+    if list.is_empty() {
+        return Ok(*current);
+    }
+    let descriptor = check_header(list, ten)?;
+    check_descriptor(list, ten, blocks, descriptor)?;
+    take_pages(current, list, header_length(ten) + descriptor)
+}
+
+// The current values after the pages from an offset on.
+fn take_pages(
+    current: &PageValues,
+    list: &[u8],
+    first: usize,
+) -> Result<PageValues, ModeSelectFault>
+    requires { first ≤ length list.now }
+    ensures { let sent = pages_from first list.now in
+        let faults = flat_map (page_faults current.now) sent in
+        result ≡ unless_fault (first_fault (length list.now) faults)
+        (values_after current.now sent) }
+{
+    let mut values = *current;
+    let mut offset = first;
+    while offset < list.len() {
+        offset = take_page(current, list, offset, &mut values)?;
+    }
+    Ok(values)
+}
+
+// Takes the page at an offset into the values, and returns where it ends.
+fn take_page(
+    current: &PageValues,
+    list: &[u8],
+    offset: usize,
+    values: &mut PageValues,
+) -> Result<usize, ModeSelectFault>
+    requires { offset < length list.now }
+    ensures result { let sent = page_at offset list.now in
+        result ≡ unless_fault (first_fault (length list.now) (page_faults current.now sent))
+        (offset + sent.size) }
+    ensures values { OnOk result (values.new ≡ with_sent values.old (page_at offset list.now)) }
+    ensures whole { OnOk result
+        (offset + (page_at offset list.now).size ≤ length list.now) }
+{
+    match ModePage::with_code(list[offset] & PAGE_CODE) {
+        Some(page) => {
+            let expected = current.of(page);
+            let end = check_page(list, offset, page.code(), expected, CHANGEABLE.of(page))?;
+            values.set(page, &list[offset + 2..end]);
+            Ok(end)
+        }
+        None => Err(ModeSelectFault::Field(offset)),
+    }
+}
+
+// Checks the page at an offset, which has to have this code and these values but for the changeable
+// bits, and returns where it ends.
+fn check_page(
+    list: &[u8],
+    offset: usize,
+    code: u8,
+    expected: &[u8],
+    changeable: &[u8],
+) -> Result<usize, ModeSelectFault>
+    requires offset { offset < length list.now }
+    requires code { code < 0x40 }
+    requires expected { length expected.now < 256 }
+    requires changeable { length changeable.now ≡ length expected.now }
+    ensures result { let sent = page_at offset list.now in
+        let faults = part_faults (page_bytes code expected.now)
+        (0x80 ∷ 0x00 ∷ changeable.now) sent in
+        result ≡ unless_fault (first_fault (length list.now) faults) (offset + sent.size) }
+    ensures size { OnOk result ((page_at offset list.now).size ≡ 2 + length expected.now) }
+    ensures end { IfOk result (λ end. end ≡ offset + 2 + length expected.now) }
+    ensures whole { OnOk result (offset + 2 + length expected.now ≤ length list.now) }
+{
+    let header = [PS + code, expected.len() as u8];
+    check(list, offset, 2, &header, &[PS, 0x00])?;
+    check(list, offset + 2, expected.len(), expected, changeable)?;
+    Ok(offset + 2 + expected.len())
+}
