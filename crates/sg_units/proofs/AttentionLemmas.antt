@@ -1,0 +1,345 @@
+-- The queues of unit attention conditions.
+use Rattle.std.proofs.Common.{◌≡◌, ◌<◌, ◌≤◌, ◌+◌, ◌⊎◌, inl, inr, ◌==◌, ◌||◌, ℕ, zero, suc, Bool, true, false, cond, List, [], ◌∷◌, ◌++◌, length, map, drop, get_or, set, Option, Some, None, refl, sym, ap, ◌∙◌, subst, arith}
+use Rattle.std.specs.Prelude.{if◌then◌else◌, count_by}
+use Rattle.std.proofs.lemmas.Bool.{cases_lt, false≢true}
+use Rattle.std.proofs.lemmas.List.{get_or-set_other, get_or-set_same, length-append, length-set, map-set}
+use Rattle.std.proofs.lemmas.List.FromFn.{fill_by_all}
+use Rattle.std.proofs.lemmas.List.Sums.{sum_by-cons}
+use Rattle.std.proofs.lemmas.Bool.Decides.{nat_tests}
+use Rattle.arrayvec.specs.ArrayVec.{ArrayVec}
+use Rattle.sg_units.specs.Attentions.{AreDistinct, ArePending, AreQueues, IsNotAmong, IsQueue, Pending, is_pending, pending_for, power_on_pending, with_optional}
+use Rattle.sg_units.specs.Raised.{Conditions, queue_after, raised_for_each}
+use Rattle.sg_units.specs.UnitAttention.{number_of}
+use Rattle.sg_units.specs.declared.unit_attention.UnitAttention.{UnitAttention}
+use Rattle.sg_units.specs.declared.unit_attention.UnitAttention.TheVariants.{PowerOn, ModeParametersChanged, ReservationsPreempted, ReservationsReleased, RegistrationsPreempted}
+
+abbrev items_of : ArrayVec UnitAttention → List UnitAttention
+items_of v = v.items
+
+-- ---- A condition is known by its number
+
+condition_with : ℕ → UnitAttention
+condition_with n =
+    if n == 0x2900 then PowerOn
+    else (if n == 0x2A01 then ModeParametersChanged
+    else (if n == 0x2A03 then ReservationsPreempted
+    else (if n == 0x2A04 then ReservationsReleased
+    else RegistrationsPreempted)))
+
+condition_with-number : (c : UnitAttention) → condition_with (number_of c) ≡ c
+unfolding condition_with
+condition_with-number PowerOn = refl
+condition_with-number ModeParametersChanged = refl
+condition_with-number ReservationsPreempted = refl
+condition_with-number ReservationsReleased = refl
+condition_with-number RegistrationsPreempted = refl
+
+same_condition : (c d : UnitAttention) → number_of c ≡ number_of d → c ≡ d
+same_condition c d e = sym (condition_with-number c) ∙ (ap condition_with e ∙ condition_with-number d)
+
+same-number : (c d : UnitAttention) (b : Bool) → (number_of d == number_of c) ≡ b → (c ≡ d → ⊥) → b ≡ false
+same-number c d false e h = refl
+same-number c d true e h = absurd (h (same_condition c d (grind (arith, nat_tests))))
+
+-- ---- How often a condition is pending
+
+abbrev times : ℕ → List UnitAttention → ℕ
+times number queue = count_by (λ c. number_of c == number) queue
+
+times-cons : (number : ℕ) (c : UnitAttention) (cs : List UnitAttention)
+    → times number (c ∷ cs) ≡ cond (number_of c == number) 1 0 + times number cs
+times-cons number c cs = sum_by-cons (λ d. cond (number_of d == number) 1 0) c cs
+
+-- a condition that is not pending is there no time
+times-not_pending : (condition : UnitAttention) (queue : List UnitAttention)
+    → is_pending queue condition ≡ false → times (number_of condition) queue ≡ 0
+times-not_pending condition [] h = refl
+times-not_pending condition (c ∷ cs) h =
+    let rest = times-not_pending condition cs in
+    grind (arith, nat_tests, rest, times-cons)
+
+times-not_among : (c : UnitAttention) (cs : List UnitAttention) → IsNotAmong c cs
+    → times (number_of c) cs ≡ 0
+times-not_among c [] h = refl
+times-not_among c (d ∷ ds) h =
+    let rest = times-not_among c ds h.1 in
+    let other = same-number c d (number_of d == number_of c) refl h.0 in
+    let step = times-cons (number_of c) d ds in
+    let here : cond {A = ℕ} (number_of d == number_of c) 1 0 ≡ 0 =
+    ap (λ b. cond {A = ℕ} b 1 0) other in
+    omega arith
+
+once-here : (c : UnitAttention) (cs : List UnitAttention) (number : ℕ) → IsNotAmong c cs
+    → times number cs ≤ 1 → (b : Bool) → (number_of c == number) ≡ b
+    → cond {A = ℕ} b 1 0 + times number cs ≤ 1
+once-here c cs number h rest true e =
+    let none = times-not_among c cs h in
+    let same : number_of c ≡ number = grind (arith, nat_tests) in
+    let none_here : times number cs ≡ 0 = ap (λ n. times n cs) (sym same) ∙ none in
+    omega arith
+once-here c cs number h rest false e = omega arith
+
+once : (queue : List UnitAttention) (number : ℕ) → AreDistinct queue → times number queue ≤ 1
+once [] number h = omega arith
+once (c ∷ cs) number h =
+    let rest = once cs number h.1 in
+    let here = once-here c cs number h.0 rest (number_of c == number) refl in
+    let step = times-cons number c cs in
+    omega arith
+
+-- ---- At most five
+
+-- each condition is one of the five
+of_five : List UnitAttention → ℕ
+of_five queue =
+    times (number_of PowerOn) queue + times (number_of ModeParametersChanged) queue
+    + times (number_of ReservationsPreempted) queue + times (number_of ReservationsReleased) queue
+    + times (number_of RegistrationsPreempted) queue
+
+of_five-nil : 0 ≡ of_five []
+unfolding of_five
+of_five-nil = refl
+
+-- what one more condition adds
+of_five-cons : (c : UnitAttention) (cs : List UnitAttention)
+    → of_five (c ∷ cs) ≡ of_five (c ∷ []) + of_five cs
+unfolding of_five
+of_five-cons c cs =
+    omega (
+      arith,
+      times-cons (number_of PowerOn) c cs,
+      times-cons (number_of PowerOn) c [],
+      times-cons (number_of ModeParametersChanged) c cs,
+      times-cons (number_of ModeParametersChanged) c [],
+      times-cons (number_of ReservationsPreempted) c cs,
+      times-cons (number_of ReservationsPreempted) c [],
+      times-cons (number_of ReservationsReleased) c cs,
+      times-cons (number_of ReservationsReleased) c [],
+      times-cons (number_of RegistrationsPreempted) c cs,
+      times-cons (number_of RegistrationsPreempted) c [],
+    )
+
+of_five-one : (c : UnitAttention) → of_five (c ∷ []) ≡ 1
+unfolding of_five
+of_five-one PowerOn = refl
+of_five-one ModeParametersChanged = refl
+of_five-one ReservationsPreempted = refl
+of_five-one ReservationsReleased = refl
+of_five-one RegistrationsPreempted = refl
+
+length-of_five : (queue : List UnitAttention) → length queue ≡ of_five queue
+length-of_five [] = of_five-nil
+length-of_five (c ∷ cs) = omega (arith, length-of_five cs, of_five-cons c cs, of_five-one c)
+
+fewer : (condition : UnitAttention) (n : ℕ) (queue : List UnitAttention)
+    → times (number_of condition) queue ≡ 0 → ((number : ℕ) → times number queue ≤ 1)
+    → n ≡ of_five queue → n < 5
+unfolding of_five
+fewer PowerOn n queue z h e =
+    omega (
+      arith,
+      h (number_of ModeParametersChanged),
+      h (number_of ReservationsPreempted),
+      h (number_of ReservationsReleased),
+      h (number_of RegistrationsPreempted),
+    )
+fewer ModeParametersChanged n queue z h e =
+    omega (
+      arith,
+      h (number_of PowerOn),
+      h (number_of ReservationsPreempted),
+      h (number_of ReservationsReleased),
+      h (number_of RegistrationsPreempted),
+    )
+fewer ReservationsPreempted n queue z h e =
+    omega (
+      arith,
+      h (number_of PowerOn),
+      h (number_of ModeParametersChanged),
+      h (number_of ReservationsReleased),
+      h (number_of RegistrationsPreempted),
+    )
+fewer ReservationsReleased n queue z h e =
+    omega (
+      arith,
+      h (number_of PowerOn),
+      h (number_of ModeParametersChanged),
+      h (number_of ReservationsPreempted),
+      h (number_of RegistrationsPreempted),
+    )
+fewer RegistrationsPreempted n queue z h e =
+    omega (
+      arith,
+      h (number_of PowerOn),
+      h (number_of ModeParametersChanged),
+      h (number_of ReservationsPreempted),
+      h (number_of ReservationsReleased),
+    )
+
+-- so there is room for a condition that is not pending
+pub room : (queue : List UnitAttention) (condition : UnitAttention) → IsQueue queue
+    → is_pending queue condition ≡ false → length queue < 5
+room queue condition q e =
+    fewer condition (length queue) queue (times-not_pending condition queue e)
+    (λ number. once queue number q.distinct) (length-of_five queue)
+
+-- ---- A queue that changes
+
+or_false-left : (a b : Bool) → (a || b) ≡ false → a ≡ false
+or_false-left true b h = h
+or_false-left false b h = refl
+
+or_false-right : (a b : Bool) → (a || b) ≡ false → b ≡ false
+or_false-right true b h = absurd (false≢true (sym h))
+or_false-right false b h = h
+
+differ : (c d : UnitAttention) → (number_of c == number_of d) ≡ false → c ≡ d → ⊥
+differ c d h e =
+    let same : number_of c ≡ number_of d = ap number_of e in
+    let yes : (number_of c == number_of d) ≡ true = grind (arith, nat_tests) in
+    false≢true (sym h ∙ yes)
+
+not_among-push : (d : UnitAttention) (ds : List UnitAttention) (c : UnitAttention) → IsNotAmong d ds
+    → (d ≡ c → ⊥) → IsNotAmong d (ds ++ c ∷ [])
+not_among-push d [] c h n = (n, tt)
+not_among-push d (e ∷ es) c h n = (h.0, not_among-push d es c h.1 n)
+
+distinct-push : (queue : List UnitAttention) (c : UnitAttention) → is_pending queue c ≡ false
+    → AreDistinct queue → AreDistinct (queue ++ c ∷ [])
+distinct-push [] c e h = (tt, tt)
+distinct-push (d ∷ ds) c e h =
+    let other = differ d c (or_false-left (number_of d == number_of c) (is_pending ds c) e) in
+    let absent = or_false-right (number_of d == number_of c) (is_pending ds c) e in
+    (not_among-push d ds c h.0 other, distinct-push ds c absent h.1)
+
+by_pending : (queue : List UnitAttention) (c : UnitAttention) (b : Bool) → is_pending queue c ≡ b
+    → IsQueue queue → IsQueue (if b then queue else queue ++ c ∷ [])
+by_pending queue c true e q = q
+by_pending queue c false e q = record {
+  at_most_five = omega (arith, room queue c q e, length-append queue (c ∷ []));
+  distinct = distinct-push queue c e q.distinct;
+}
+
+pub IsQueue-with_optional : (queue : List UnitAttention) (condition : Option UnitAttention)
+    → IsQueue queue → IsQueue (with_optional queue condition)
+IsQueue-with_optional queue None q = q
+IsQueue-with_optional queue (Some c) q = by_pending queue c (is_pending queue c) refl q
+
+pub IsQueue-drop : (queue : List UnitAttention) → IsQueue queue → IsQueue (drop 1 queue)
+IsQueue-drop [] q = q
+IsQueue-drop (first ∷ rest) q =
+    let m = q.at_most_five in
+    record { at_most_five = omega arith; distinct = q.distinct.1 }
+
+-- ---- One queue of all
+
+one-queue : IsQueue (PowerOn ∷ [])
+one-queue = record { at_most_five = omega arith; distinct = (tt, tt) }
+
+no-queue : IsQueue []
+no-queue = record { at_most_five = omega arith; distinct = tt }
+
+-- after power on
+pub ArePending-power_on : ArePending power_on_pending
+ArePending-power_on =
+    let q = one-queue in
+    record { one_for_each = refl; queues = (q, (q, (q, (q, (q, (q, (q, (q, tt)))))))) }
+
+queues-set : (pending : Pending) (i : ℕ) (queue : List UnitAttention) → AreQueues pending
+    → IsQueue queue → AreQueues (set pending i queue)
+queues-set [] i queue h q = h
+queues-set (first ∷ more) zero queue h q = (q, h.1)
+queues-set (first ∷ more) (suc i) queue h q = (h.0, queues-set more i queue h.1 q)
+
+pub IsQueue-pending_for : (pending : Pending) (i : ℕ) → AreQueues pending
+    → IsQueue (pending_for pending i)
+IsQueue-pending_for [] i h = no-queue
+IsQueue-pending_for (first ∷ more) zero h = h.0
+IsQueue-pending_for (first ∷ more) (suc i) h = IsQueue-pending_for more i h.1
+
+-- a queue of the list is what it was changed to
+pub queue-replaced : (change : List UnitAttention → List UnitAttention)
+    (queues : List (ArrayVec UnitAttention)) (i : ℕ) (d new : ArrayVec UnitAttention)
+    → new.items ≡ change (get_or queues i d).items
+    → map items_of (set queues i new)
+    ≡ set (map items_of queues) i (change (pending_for (map items_of queues) i))
+queue-replaced change [] i d new n = refl
+queue-replaced change (q ∷ qs) zero d new n = ap (λ k. k ∷ map items_of qs) n
+queue-replaced change (q ∷ qs) (suc i) d new n =
+    ap (λ k. q.items ∷ k) (queue-replaced change qs i d new n)
+
+-- the queue at an index of the list
+pub queue-at : (queues : List (ArrayVec UnitAttention)) (i : ℕ) (d : ArrayVec UnitAttention)
+    → i < length queues → pending_for (map items_of queues) i ≡ (get_or queues i d).items
+queue-at [] i d h = absurd (omega arith)
+queue-at (q ∷ qs) zero d h = refl
+queue-at (q ∷ qs) (suc i) d h = queue-at qs i d (omega arith)
+
+ArePending-set : (pending : Pending) (i : ℕ) (queue : List UnitAttention) → ArePending pending
+    → IsQueue queue → ArePending (set pending i queue)
+ArePending-set pending i queue h q = record {
+  one_for_each = omega (arith, h.one_for_each, length-set pending i queue);
+  queues = queues-set pending i queue h.queues q;
+}
+
+pub ArePending-replaced : (queues : List (ArrayVec UnitAttention)) (i : ℕ)
+    (d new : ArrayVec UnitAttention) → i < length queues → ArePending (map items_of queues)
+    → (IsQueue (get_or queues i d).items → IsQueue new.items)
+    → ArePending (map items_of (set queues i new))
+ArePending-replaced queues i d new h p change =
+    let before = IsQueue-pending_for (map items_of queues) i p.queues in
+    let after : IsQueue new.items = change (subst IsQueue (queue-at queues i d h) before) in
+    subst ArePending (sym (map-set items_of queues i new))
+    (ArePending-set (map items_of queues) i new.items p after)
+
+-- ---- One initiator after the other
+
+same_or_less : (k n : ℕ) → k < n + 1 → (k ≡ n) ⊎ (k < n)
+same_or_less k n h = cases_of (cases_lt k n)
+  where
+    cases_of : (k < n) ⊎ (n ≤ k) → (k ≡ n) ⊎ (k < n)
+    cases_of (inl l) = inr l
+    cases_of (inr l) = inl (omega arith)
+
+-- the first n initiators have what is established for them, the others what they had
+pub record RaisedBelow (initial : Pending) (conditions : Conditions) (pending : Pending) (n : ℕ) : Type 0 where
+  pub below : (k : ℕ) → k < n → pending_for pending k ≡ queue_after initial conditions k
+  pub from : (k : ℕ) → n ≤ k → pending_for pending k ≡ pending_for initial k
+
+pub RaisedBelow-none : (initial : Pending) (conditions : Conditions)
+    → RaisedBelow initial conditions initial 0
+RaisedBelow-none initial conditions =
+    record { below = λ k h. absurd (omega arith); from = λ k h. refl }
+
+below-more : (initial : Pending) (conditions : Conditions) (pending : Pending) (n : ℕ)
+    (queue : List UnitAttention) → n < length pending → RaisedBelow initial conditions pending n
+    → queue ≡ queue_after initial conditions n → (k : ℕ) → k < n + 1 → (k ≡ n) ⊎ (k < n)
+    → pending_for (set pending n queue) k ≡ queue_after initial conditions k
+below-more initial conditions pending n queue h r e k l (inl same) =
+    ap (λ j. pending_for (set pending n queue) j) same
+    ∙ (get_or-set_same pending n queue [] h
+    ∙ (e ∙ ap (λ j. queue_after initial conditions j) (sym same)))
+below-more initial conditions pending n queue h r e k l (inr less) =
+    get_or-set_other pending n k queue [] (λ d. omega arith) ∙ r.below k less
+
+pub RaisedBelow-more : (initial : Pending) (conditions : Conditions) (pending : Pending) (n : ℕ)
+    → n < length pending → RaisedBelow initial conditions pending n →
+    (let queue = with_optional (pending_for pending n) (get_or conditions n None) in
+    RaisedBelow initial conditions (set pending n queue) (n + 1))
+RaisedBelow-more initial conditions pending n h r =
+    let condition = get_or conditions n None in
+    let queue = with_optional (pending_for pending n) condition in
+    let e : queue ≡ queue_after initial conditions n =
+    ap (λ q. with_optional q condition) (r.from n (omega arith)) in
+    record {
+      below =
+          λ k l. below-more initial conditions pending n queue h r e k l (same_or_less k n l);
+      from = λ k l. get_or-set_other pending n k queue [] (λ d. omega arith) ∙ r.from k (omega arith);
+    }
+
+pub RaisedBelow-all : (initial : Pending) (conditions : Conditions) (pending : Pending) (n : ℕ)
+    → 8 ≤ n → length pending ≡ 8 → RaisedBelow initial conditions pending n
+    → pending ≡ raised_for_each initial conditions
+unfolding raised_for_each
+RaisedBelow-all initial conditions pending n h eight r =
+    fill_by_all (queue_after initial conditions) pending 8 [] eight (λ k l. r.below k (omega arith))

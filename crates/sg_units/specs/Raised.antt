@@ -1,0 +1,24 @@
+-- Unit attention conditions that a command establishes (SAM-5, 5.14).
+use Rattle.std.specs.Prelude.{ℕ, List, map, replicate, slice_index_or, slice_set}
+use Rattle.std.specs.Prelude.{Option, Some, None}
+use Rattle.std.specs.List.{range_with_len}
+use Rattle.sg_units.specs.Attentions.{Pending, initiator_count, pending_for, with_optional}
+use Rattle.sg_units.specs.declared.unit_attention.UnitAttention.{UnitAttention}
+
+-- For each initiator the condition that is established for it, if any.
+abbrev pub Conditions : Type 0
+Conditions = List (Option UnitAttention)
+
+-- One condition for every initiator but the one whose command establishes it.
+abbrev pub raised_for_others : (initiator : ℕ) → UnitAttention → Conditions
+raised_for_others initiator condition =
+    slice_set (replicate initiator_count (Some condition)) initiator None
+
+-- The queue of an initiator after they are established.
+abbrev pub queue_after : Pending → Conditions → (initiator : ℕ) → List UnitAttention
+queue_after pending conditions initiator =
+    with_optional (pending_for pending initiator) (slice_index_or conditions initiator None)
+
+unfoldable pub raised_for_each : Pending → Conditions → Pending
+raised_for_each pending conditions =
+    map (queue_after pending conditions) (range_with_len 0 initiator_count)

@@ -1,0 +1,140 @@
+// Pending unit attention conditions.
+use crate::{Raised, UnitAttention};
+use arrayvec::ArrayVec;
+use sg_wire::Initiator;
+use std::marker::Model;
+
+/// The unit attention conditions that are pending for each initiator, the oldest first (SAM-5,
+/// 5.14). For one initiator none is pending twice, so at most five are.
+#[derive(Drop)]
+pub struct Attentions {
+    pending: [ArrayVec<UnitAttention, 5>; 8],
+}
+
+impl Model for Attentions {
+    ghost use Rattle.std.specs.Prelude.{List, map};
+    ghost use Rattle.sg_units.specs.Attentions.{ArePending};
+    ghost use Rattle.sg_units.specs.declared.unit_attention.UnitAttention.{UnitAttention};
+
+    ghost Value = { List (List UnitAttention) };
+
+    ghost view = { λ a. map (λ queue. queue.items) a.pending };
+
+    ghost invariant = { λ a. ArePending (map (λ queue. queue.items) a.pending) };
+}
+
+ghost use Rattle.std.specs.Prelude.{◌≡◌, ◌<◌, [], ◌∷◌, drop, slice_set};
+ghost use Rattle.sg_units.specs.Attentions.{ArePending, IsQueue, is_pending, oldest, pending_for};
+ghost use Rattle.sg_units.specs.Attentions.{power_on_pending, raised, with_optional, without_oldest};
+ghost use Rattle.sg_units.specs.Raised.{raised_for_each};
+
+impl Attentions {
+    /// POWER ON alone is pending for each initiator.
+    pub fn new() -> Attentions
+        ensures pending { result ≡ power_on_pending }
+        ensures limits { ArePending result }
+    {
+        Attentions {
+            pending: [
+                power_on(),
+                power_on(),
+                power_on(),
+                power_on(),
+                power_on(),
+                power_on(),
+                power_on(),
+                power_on(),
+            ],
+        }
+    }
+
+    /// Establishes a condition for an initiator. It becomes the newest, unless it is pending
+    /// already.
+    pub fn raise(&mut self, initiator: Initiator, condition: UnitAttention)
+        ensures pending { self.new ≡ raised self.old initiator condition }
+        ensures limits { ArePending self.new }
+    {
+        self.raise_at(usize::from(initiator.number()), Some(condition));
+    }
+
+    /// Establishes what a command establishes, for each initiator.
+    pub fn raise_for_each(&mut self, raised: &Raised)
+        ensures pending { self.new ≡ raised_for_each self.old raised.now }
+        ensures limits { ArePending self.new }
+    {
+        for number in 0..8 {
+            self.raise_at(number, raised.at(number));
+        }
+    }
+
+    // Establishes a condition, if any, for the initiator with a number.
+    fn raise_at(&mut self, number: usize, condition: Option<UnitAttention>)
+        requires { number < 8 }
+        ensures pending { self.new ≡
+            slice_set self.old number (with_optional (pending_for self.old number) condition) }
+        ensures limits { ArePending self.new }
+        ensures limits_before { ArePending self.old }
+    {
+        establish(&mut self.pending[number], condition);
+    }
+
+    /// The oldest condition that is pending for an initiator.
+    pub fn oldest(&self, initiator: Initiator) -> Option<UnitAttention>
+        ensures value { result ≡ oldest self.now initiator }
+        ensures limits { ArePending self.now }
+    {
+        let queue = &self.pending[usize::from(initiator.number())];
+        queue.as_slice().first().copied()
+    }
+
+    /// Clears the oldest condition of an initiator. Where none is pending, nothing changes.
+    pub fn clear_oldest(&mut self, initiator: Initiator)
+        ensures pending { self.new ≡ without_oldest self.old initiator }
+        ensures limits { ArePending self.new }
+    {
+        remove_first(&mut self.pending[usize::from(initiator.number())]);
+    }
+
+    /// Clears all conditions, and establishes POWER ON for each initiator: what a power cycle does.
+    pub fn clear_to_power_on(&mut self)
+        ensures pending { self.new ≡ power_on_pending }
+        ensures limits { ArePending self.new }
+    {
+        *self = Attentions::new();
+    }
+}
+
+fn power_on() -> ArrayVec<UnitAttention, 5>
+    ensures { result.items ≡ UnitAttention.PowerOn ∷ [] }
+{
+    let mut queue = ArrayVec::new();
+    queue.push(UnitAttention::PowerOn);
+    queue
+}
+
+// Adds a condition, if any, to a queue, unless it is there already.
+fn establish(queue: &mut ArrayVec<UnitAttention, 5>, condition: Option<UnitAttention>)
+    requires { IsQueue queue.old.items }
+    ensures { queue.new.items ≡ with_optional queue.old.items condition }
+{
+    if let Some(condition) = condition {
+        if !is_pending(queue.as_slice(), condition) {
+            queue.push(condition);
+        }
+    }
+}
+
+// Removes the first condition of a queue, if there is one.
+fn remove_first(queue: &mut ArrayVec<UnitAttention, 5>)
+    ensures { queue.new.items ≡ drop 1 queue.old.items }
+{
+    let _ = queue.pop_at(0);
+}
+
+fn is_pending(queue: &[UnitAttention], condition: UnitAttention) -> bool
+    ensures { result ≡ is_pending queue.now condition }
+{
+    queue
+        .iter()
+        .any(|other| other.number() == condition.number())
+}
