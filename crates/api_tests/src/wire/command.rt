@@ -64,7 +64,26 @@ const CAPACITY_16: Command = Command::ReadCapacity16 {
     allocation_length: 0x0102_0304,
 };
 
-const CDBS: [(&[u8], Command); 13] = [
+const WRITE_SAME_10: Command = Command::WriteSame10 {
+    anchor: true,
+    unmap: false,
+    lba: 0x0102_0304,
+    count: 0x0506,
+};
+
+const WRITE_SAME_16: Command = Command::WriteSame16 {
+    anchor: false,
+    unmap: true,
+    lba: 0x0102_0304_0506_0708,
+    count: 0x090A_0B0C,
+};
+
+const GET_LBA_STATUS: Command = Command::GetLbaStatus {
+    start: 0x0102_0304_0506_0708,
+    allocation_length: 0x090A_0B0C,
+};
+
+const CDBS: [(&[u8], Command); 16] = [
     (&[0x00, 0, 0, 0, 0, 0], READY),
     (&[0x03, 0x00, 0, 0, 0x12, 0], FIXED),
     (&[0x03, 0x01, 0, 0, 0xFC, 0], DESCRIPTOR),
@@ -89,6 +108,15 @@ const CDBS: [(&[u8], Command); 13] = [
     (
         &[0x9E, 0x10, 0, 0, 0, 0, 0, 0, 0, 0, 1, 2, 3, 4, 0, 0],
         CAPACITY_16,
+    ),
+    (&[0x41, 0x10, 1, 2, 3, 4, 0, 5, 6, 0], WRITE_SAME_10),
+    (
+        &[0x93, 0x08, 1, 2, 3, 4, 5, 6, 7, 8, 9, 10, 11, 12, 0, 0],
+        WRITE_SAME_16,
+    ),
+    (
+        &[0x9E, 0x12, 1, 2, 3, 4, 5, 6, 7, 8, 9, 10, 11, 12, 0, 0],
+        GET_LBA_STATUS,
     ),
 ];
 
@@ -127,7 +155,7 @@ fn six_bytes_name_1_to_256_blocks(rt: HostRuntime) -> Result<(), Fail> {
 }
 
 // The class, and whether a pending unit attention blocks the command.
-const COLUMNS: [(&[u8], Option<Class>, bool); 14] = [
+const COLUMNS: [(&[u8], Option<Class>, bool); 18] = [
     (&[0x03], Some(Class::Always), false),
     (&[0x00], Some(Class::Always), true),
     (&[0x08], Some(Class::Reads), true),
@@ -137,9 +165,13 @@ const COLUMNS: [(&[u8], Option<Class>, bool); 14] = [
     (&[0x28], Some(Class::Reads), true),
     (&[0x2A], Some(Class::Writes), true),
     (&[0x35], Some(Class::Writes), true),
+    (&[0x41], Some(Class::Writes), true),
+    (&[0x42], Some(Class::Writes), true),
     (&[0x88], Some(Class::Reads), true),
     (&[0x8A], Some(Class::Writes), true),
+    (&[0x93], Some(Class::Writes), true),
     (&[0x9E, 0x10], Some(Class::Always), true),
+    (&[0x9E, 0x12], Some(Class::Reads), true),
     (&[0xC1, 0, 0, 0, 0, 0], None, true),
     (&[], None, true),
 ];
