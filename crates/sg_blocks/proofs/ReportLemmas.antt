@@ -1,14 +1,15 @@
 -- What the answer of GET LBA STATUS covers and reports.
-use Rattle.std.proofs.Common.{◌≡◌, ℕ, ◌+◌, ◌-◌, ◌<◌, ◌≤◌, zero, suc, List, [], ◌∷◌, length, get_or, arith, refl, sym, ap, ◌∙◌, inl, inr, Bool, true, false, Some}
+use Rattle.std.proofs.Common.{◌≡◌, ◌≢◌, ℕ, ◌+◌, ◌-◌, ◌<◌, ◌≤◌, zero, suc, List, [], ◌∷◌, length, get_or, arith, refl, sym, ap, subst, ◌∙◌, eq-eqb, inl, inr, Bool, true, false, Some}
 use Rattle.std.proofs.lemmas.Bool.{cases_lt}
 use Rattle.std.proofs.lemmas.Bool.Decides.{nat_tests}
 use Rattle.std.proofs.lemmas.List.FromFn.{get_or-range_with_len, length-range_with_len}
-use Rattle.std.proofs.lemmas.List.Sums.{sum_by-append, prefix_len_passes, prefix_len-le-length}
-use Rattle.std.specs.List.{range_with_len}
-use Rattle.std.specs.Prelude.{min, ◌==◌}
+use Rattle.std.proofs.lemmas.List.Sums.{sum_by-append, prefix_len_passes, prefix_len_stops, prefix_len-le-length}
+use Rattle.std.proofs.lemmas.List.Elements.{All-nil, All-cons}
+use Rattle.std.specs.List.{prefix_len, range_with_len}
+use Rattle.std.specs.Prelude.{All, min, ◌==◌}
 use Rattle.std.specs.FinMap.{contains_key}
-use Rattle.sg_blocks.specs.Disk.{Contents, lies_in}
-use Rattle.sg_blocks.specs.Laws.{status_reported, ReportsEachStatus, CoversTheRest}
+use Rattle.sg_blocks.specs.Disk.{Contents, Disk, lies_in}
+use Rattle.sg_blocks.specs.Laws.{status_reported, ReportsEachStatus, CoversTheRest, EndsAtAnotherStatus, CoversTheMost}
 use Rattle.sg_blocks.specs.LbaStatus.{code_of, status_at, count_alike, covered, descriptor_at, descriptors_from}
 use Rattle.sg_blocks.specs.declared.lba_status.StatusDescriptor.{StatusDescriptor}
 use Rattle.sg_blocks.specs.declared.lba_status.TheConstants.{MAX_ADDRESSES}
@@ -76,6 +77,32 @@ covers m capacity (suc most) lba low room = elim (cases_lt lba capacity) [
       let within = alike-within m capacity lba in
       omega (arith, all, covers m capacity most (lba + d.count) (omega arith) (omega (arith, ap length first)))
 ]
+
+-- where the addresses of one status end
+alike-stops : (m : Contents) (capacity a : ℕ) → count_alike m capacity a < MAX_ADDRESSES → a + count_alike m capacity a < capacity → status_at m (a + count_alike m capacity a) ≢ status_at m a
+unfolding count_alike
+alike-stops m capacity a small before same =
+    let n = min MAX_ADDRESSES (capacity - a) in
+    let test : ℕ → Bool = λ x. code_of (status_at m x) == code_of (status_at m a) in
+    let k = prefix_len test (range_with_len a n) in
+    let stops = prefix_len_stops test (range_with_len a n) 0 (omega (arith, length-range_with_len a n)) in
+    let at : get_or (range_with_len a n) k 0 ≡ a + k = get_or-range_with_len a n k 0 (omega arith) in
+    let fails : test (a + k) ≡ false = rw at at stops in
+    let passes : test (a + k) ≡ true = eq-eqb _ _ (ap code_of same) in
+    let wrong : true ≡ false = sym passes ∙ fails in cc
+
+ends : (disk : Disk) (most lba : ℕ) → All (EndsAtAnotherStatus disk) (descriptors_from disk.contents disk.capacity lba most)
+ends disk zero lba = subst (All (EndsAtAnotherStatus disk)) (sym (descriptors-none disk.contents disk.capacity lba)) (All-nil (EndsAtAnotherStatus disk))
+ends disk (suc most) lba = elim (cases_lt lba disk.capacity) [
+  | inr past ↦ subst (All (EndsAtAnotherStatus disk)) (sym (descriptors-end disk.contents disk.capacity lba (suc most) past)) (All-nil (EndsAtAnotherStatus disk))
+  | inl below ↦
+      let d : StatusDescriptor = descriptor_at disk.contents disk.capacity lba in
+      subst (All (EndsAtAnotherStatus disk)) (sym (descriptors-first disk.contents disk.capacity lba most below))
+      (All-cons (EndsAtAnotherStatus disk) d _ (alike-stops disk.contents disk.capacity lba) (ends disk most (lba + d.count)))
+]
+
+pub covers-most : CoversTheMost
+covers-most disk lba = ends disk 512 lba
 
 pub reports-each : ReportsEachStatus
 reports-each disk lba a = reports disk.contents disk.capacity 512 lba a

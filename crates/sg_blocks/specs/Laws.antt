@@ -1,13 +1,13 @@
 -- What the calls do and report, address by address.
-use Rattle.std.specs.Prelude.{◌≡◌, ℕ, ◌+◌, ◌-◌, ◌<◌, ◌≤◌, ◌&&◌, ◌||◌, not, if◌then◌else◌}
-use Rattle.std.specs.Prelude.{Bool, List, length, find, Option, Some, option_map}
+use Rattle.std.specs.Prelude.{◌≡◌, ◌≢◌, ℕ, ◌+◌, ◌-◌, ◌<◌, ◌≤◌, ◌&&◌, ◌||◌, not, if◌then◌else◌}
+use Rattle.std.specs.Prelude.{Bool, List, All, length, find, Option, Some, option_map}
 use Rattle.std.specs.FinMap.{contains_key}
 use Rattle.sg_blocks.specs.Disk.{Contents, Disk, block, block_at, zero_block, lies_in}
 use Rattle.sg_blocks.specs.Disk.{written, filled, unmapped}
 use Rattle.sg_blocks.specs.LbaStatus.{status_at, lba_status, covered}
 use Rattle.sg_blocks.specs.declared.lba_status.ProvisioningStatus.{ProvisioningStatus}
 use Rattle.sg_blocks.specs.declared.lba_status.StatusDescriptor.{StatusDescriptor}
-use Rattle.sg_blocks.specs.declared.lba_status.TheConstants.{MAX_DESCRIPTORS}
+use Rattle.sg_blocks.specs.declared.lba_status.TheConstants.{MAX_ADDRESSES, MAX_DESCRIPTORS}
 
 -- After a write, the block at an address is the one given for it inside the range, and the old one
 -- outside.
@@ -68,3 +68,14 @@ abbrev pub CoversTheRest : Type 0
 CoversTheRest = (disk : Disk) (lba : ℕ) →
     lba ≤ disk.capacity → length (lba_status disk lba) < MAX_DESCRIPTORS →
     lba + covered (lba_status disk lba) ≡ disk.capacity
+
+-- A descriptor that covers fewer addresses than it could ends before one of another status.
+abbrev pub EndsAtAnotherStatus : Disk → StatusDescriptor → Type 0
+EndsAtAnotherStatus disk descriptor =
+    let next = descriptor.lba + descriptor.count in
+    descriptor.count < MAX_ADDRESSES → next < disk.capacity →
+    status_at disk.contents next ≢ descriptor.status
+
+-- So do all that GET LBA STATUS reports.
+abbrev pub CoversTheMost : Type 0
+CoversTheMost = (disk : Disk) (lba : ℕ) → All (EndsAtAnotherStatus disk) (lba_status disk lba)

@@ -3,7 +3,7 @@
 ghost use Rattle.sg_blocks.specs.Laws.{WritesEachBlock, MapsEachAddress};
 ghost use Rattle.sg_blocks.specs.Laws.{FillsEachBlock, FillMapsEachAddress};
 ghost use Rattle.sg_blocks.specs.Laws.{UnmapsEachBlock, UnmapsEachAddress};
-ghost use Rattle.sg_blocks.specs.Laws.{ReportsEachStatus, CoversTheRest};
+ghost use Rattle.sg_blocks.specs.Laws.{ReportsEachStatus, CoversTheRest, CoversTheMost};
 
 /// After a write, the block at an address is the one given for it inside the range, and the old one
 /// outside.
@@ -47,4 +47,10 @@ pub fn each_status_that_is_reported_is_that_of_the_address()
 /// as an answer may have.
 pub fn an_answer_with_room_left_covers_the_rest_of_the_disk()
     ensures { CoversTheRest }
+{}
+
+/// Each descriptor of GET LBA STATUS covers as many addresses as it can: it ends with the disk, at
+/// the most that its count can be, or before an address of another status.
+pub fn each_descriptor_covers_as_many_addresses_as_it_can()
+    ensures { CoversTheMost }
 {}
