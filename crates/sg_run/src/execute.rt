@@ -24,8 +24,8 @@ use sg_wire::{Printer, Sense, Watched};
 use std::io;
 use std::io::Write;
 
-/// Executes a line of a script, writes what it prints and returns its exit status. The command is executed
-/// before its text is written.
+/// Executes a line of a script, `None` being one that is too long, writes what it prints and returns
+/// its exit status. The command is executed before its text is written.
 ///
 /// # Errors
 /// The writer failed. The line was executed all the same.
@@ -39,11 +39,13 @@ pub(crate) fn execute_line<W: Write, S: Store>(
 ) -> io::Result<u8>
     requires line { IfSome (option_map (λ b. b.now) line) (λ bytes. length bytes ≤ longest_line) }
     requires sound { has_failed writer.old ≡ false }
-    ensures sent { Sends (W.contents (inner_of writer.old)) (W.contents (inner_of writer.new))
-        (has_failed writer.new) result (outcome number (option_map (λ b. b.now) line.entry) target.old.state).text }
-    ensures state { target.new.state ≡ (outcome number (option_map (λ b. b.now) line.entry) target.old.state).state }
-    ensures status { IfOk result (λ status.
-        status ≡ (outcome number (option_map (λ b. b.now) line.entry) target.old.state).status) }
+    ensures sent { let bytes = option_map (λ b. b.now) line.entry in
+        Sends (W.contents (inner_of writer.old)) (W.contents (inner_of writer.new))
+        (has_failed writer.new) result (outcome number bytes target.old.state).text }
+    ensures state { let bytes = option_map (λ b. b.now) line.entry in
+        target.new.state ≡ (outcome number bytes target.old.state).state }
+    ensures status { let bytes = option_map (λ b. b.now) line.entry in IfOk result (λ status.
+        status ≡ (outcome number bytes target.old.state).status) }
 {
     let request = read_request(line, &mut buffers.hex);
     let mut out = Printer::new(writer, &mut buffers.text);

@@ -14,11 +14,11 @@ use std::io::{Error, ErrorKind, Read};
 /// What ends the next line of a script.
 #[derive(Clone, Copy, PartialEq)]
 pub enum NextLine {
-    /// An LF ends it, and it was taken whole of the bytes that were read ahead: `ReadAhead::line`.
+    /// An LF ends it, and it is where it was read: `ReadAhead::line`.
     Ahead,
-    /// An LF ends it, and it was taken in parts, as is the last one.
+    /// An LF ends it, and its parts were copied to the `Line`.
     Whole,
-    /// The script ends after it.
+    /// The script ends after it, and its parts were copied to the `Line`.
     Last,
     /// The script has ended, and there is no line.
     End,
@@ -68,8 +68,7 @@ fn take_whole(read_ahead: &mut ReadAhead, left: &mut u32) -> bool
     true
 }
 
-/// Takes the next line of a script, of at most `left` more bytes. It is in `read_ahead` or in
-/// `line`: [`line_bytes`].
+/// Takes the next line of a script, of at most `left` more bytes. [`line_bytes`] has its bytes.
 ///
 /// # Errors
 /// The script has more bytes than `left`, or the reader failed.

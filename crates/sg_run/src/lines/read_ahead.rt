@@ -10,8 +10,8 @@ use std::marker::Model;
 // The most bytes that one read takes.
 const LONGEST_READ_AHEAD: usize = 131_072;
 
-/// Bytes of a script that were read and are still to be taken, and the line before them, where it
-/// was taken whole.
+/// Bytes of a script that were read and are still to be taken, and the last line that was taken whole
+/// of them.
 #[derive(Drop)]
 pub struct ReadAhead {
     bytes: Vec<u8>,
@@ -38,7 +38,8 @@ impl Model for ReadAhead {
         × (vec_len a.bytes ≡ longest_read_ahead) };
 }
 
-ghost use Rattle.std.specs.Prelude.{◌≡◌, ◌<◌, ◌≤◌, ◌+◌, ◌↔◌, [], false, length, take, drop, option_map, IfOk, IfSome, IsTrue};
+ghost use Rattle.std.specs.Prelude.{◌≡◌, ◌<◌, ◌≤◌, ◌+◌, ◌↔◌, [], false, length, take, drop};
+ghost use Rattle.std.specs.Prelude.{option_map, IfOk, IfSome, IsTrue};
 ghost use Rattle.sg_wire.specs.Watched.{has_failed, inner_of};
 ghost use Rattle.sg_run.specs.Limits.{longest_line, longest_read_ahead};
 ghost use Rattle.sg_run.specs.Lines.{kept};

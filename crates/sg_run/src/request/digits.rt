@@ -1,4 +1,4 @@
-// Hexadecimal digits.
+// Hexadecimal digits, each of four bits.
 ghost use Rattle.std.specs.Prelude.{◌≡◌, ◌*◌, length, Some, None, if◌then◌else◌};
 ghost use Rattle.std.specs.Result.{result_ok};
 ghost use Rattle.hex.specs.Hex.{decode_of};

@@ -17,8 +17,8 @@ const LINE_BYTES: usize = 16;
 
 const LINE_TEXT: usize = 60;
 
-// How many lines are put at once. They are gathered first, since bytes that were just written in
-// small parts are slow to copy.
+// How many lines are put at once: as many as have offsets that differ in one digit. They are
+// gathered first, since bytes that were just written in small parts are slow to copy.
 const LINES: usize = 16;
 
 /// The length of the text of the lines that are gathered.
