@@ -2,6 +2,7 @@
 pub mod BlockDescriptor
 pub mod Identity
 pub mod InquiryData
+pub mod ModeLaws
 pub mod ModePage
 pub mod ModeSelect
 pub mod ModeSense

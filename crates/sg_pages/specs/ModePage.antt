@@ -1,11 +1,12 @@
 -- The mode pages of the disk (SPC-4, 7.5; SBC-3, 6.4).
-use Rattle.std.specs.Prelude.{ℕ, ◌+◌, ◌==◌, ◌≡◌, Option, Bool, if◌then◌else◌}
+use Rattle.std.specs.Prelude.{ℕ, ◌+◌, ◌==◌, Option, Bool, if◌then◌else◌}
 use Rattle.std.specs.Prelude.{List, [], ◌∷◌, length, slice_index, map, find}
 use Rattle.std.specs.List.{range_with_len}
 use Rattle.std.specs.Option.{option_map_or}
 use Rattle.sg_wire.specs.Layout.{has_bit}
 use Rattle.sg_pages.specs.declared.mode_pages.mode_page.ModePage.{ModePage}
-use Rattle.sg_pages.specs.declared.mode_pages.mode_page.ModePage.TheVariants.{ReadWriteErrorRecovery, Caching}
+use Rattle.sg_pages.specs.declared.mode_pages.mode_page.ModePage.TheVariants.{ReadWriteErrorRecovery}
+use Rattle.sg_pages.specs.declared.mode_pages.mode_page.ModePage.TheVariants.{Caching}
 use Rattle.sg_pages.specs.declared.mode_pages.mode_page.ModePage.TheVariants.{Control}
 use Rattle.sg_pages.specs.declared.mode_pages.mode_page.ModePage.TheVariants.{InformationalExceptionsControl}
 use Rattle.sg_pages.specs.declared.mode_pages.mode_page.PageValues.{PageValues}
@@ -130,14 +131,6 @@ descriptor_sense state = has_bit (byte_2 (values_of state.current Control)) 0x04
 -- SWP of the control page: the disk refuses to write (SPC-4, Control mode page).
 abbrev pub write_protected : ModeState → Bool
 write_protected state = has_bit (byte_4 (values_of state.current Control)) 0x08
-
--- The current, saved and default values of a page and its changeable bits have PAGE LENGTH bytes.
-abbrev pub HasPageLength : ModeState → ModePage → Type 0
-HasPageLength state page =
-    (length (values_of state.current page) ≡ page_length page)
-    × (length (values_of state.saved page) ≡ page_length page)
-    × (length (row_of page).defaults ≡ page_length page)
-    × (length (row_of page).changeable ≡ page_length page)
 
 -- ---- Cited by private contracts alone
 

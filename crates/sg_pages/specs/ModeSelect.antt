@@ -1,7 +1,7 @@
 -- What MODE SELECT does with a mode parameter list (SPC-4, 6.9, 6.10 and 7.5).
 use Rattle.std.specs.Prelude.{ℕ, zero, suc, ◌+◌, ◌<◌, ⊤, min, nat_lt, bit_and, bit_or}
-use Rattle.std.specs.Prelude.{List, [], ◌∷◌, ◌++◌, length, take, drop, slice_index, map, find, reverse}
-use Rattle.std.specs.Prelude.{Bool, not, ◌&&◌, ◌||◌, ◌==◌, if◌then◌else◌}
+use Rattle.std.specs.Prelude.{List, [], ◌∷◌, ◌++◌, length, take, drop, slice_index}
+use Rattle.std.specs.Prelude.{map, find, reverse, Bool, not, ◌&&◌, ◌||◌, ◌==◌, if◌then◌else◌}
 use Rattle.std.specs.Prelude.{Option, Some, None, unwrap_or, Result, Ok, Err}
 use Rattle.std.specs.List.{flat_map, list_all}
 use Rattle.std.specs.Option.{option_map, option_map_or}
@@ -13,15 +13,16 @@ use Rattle.sg_pages.specs.declared.mode_pages.mode_page.ModePage.{ModePage}
 use Rattle.sg_pages.specs.declared.mode_pages.mode_page.PageValues.{PageValues}
 use Rattle.sg_pages.specs.declared.mode_pages.mode_select.Changed.{Changed}
 use Rattle.sg_pages.specs.declared.mode_pages.mode_select.ModeSelectFault.{ModeSelectFault}
-use Rattle.sg_pages.specs.declared.mode_pages.mode_select.ModeSelectFault.TheVariants.{Length, Field}
+use Rattle.sg_pages.specs.declared.mode_pages.mode_select.ModeSelectFault.TheVariants.{Length}
+use Rattle.sg_pages.specs.declared.mode_pages.mode_select.ModeSelectFault.TheVariants.{Field}
 use Rattle.sg_pages.specs.ModePage.{ModeState, row_of, code_of, page_with_code}
 use Rattle.sg_pages.specs.ModePage.{values_of, by_page, page_data}
 use Rattle.sg_pages.specs.BlockDescriptor.{number_length, descriptor_length, block_descriptor}
 
 -- ---- The parts of the list
 
--- A part of the list: the offset of its first byte, how many bytes the list's own length fields give
--- it, and those of them that the list has.
+-- A part of the list: the offset of its first byte, how many bytes the list's own length fields
+-- give it, and those of them that the list has.
 pub record Part : Type 0 where
   pub offset : ℕ
   pub size : ℕ
@@ -73,8 +74,8 @@ pages_in ten list = pages_from (header_length ten + block_descriptor_length ten 
 
 -- ---- Faults, each with the offset of its byte
 
--- The offsets of the bytes that differ from the expected ones in a bit that is not ignored. The first
--- byte is at `offset`.
+-- The offsets of the bytes that differ from the expected ones in a bit that is not ignored. The
+-- first byte is at `offset`.
 abbrev pub differences : (offset : ℕ) → (expected ignored bytes : List ℕ) → List ℕ
 differences offset [] ignored bytes = []
 differences offset (e ∷ expected) [] bytes = []
@@ -118,8 +119,8 @@ header_faults ten list =
     let ignored = ignored_header_bits ten in
     part_faults (zeros_for ignored) ignored (header_in ten list) ++ length_faults ten list
 
--- The block descriptor has to be the disk's own. A NUMBER OF LOGICAL BLOCKS of zero is accepted too:
--- its bytes are zero, as far as the list has them.
+-- The block descriptor has to be the disk's own. A NUMBER OF LOGICAL BLOCKS of zero is accepted
+-- too: its bytes are zero, as far as the list has them.
 abbrev pub accepted_blocks : (blocks : ℕ) → (number : List ℕ) → ℕ
 accepted_blocks blocks number = if list_all (λ byte. byte == 0) number then 0 else blocks
 
@@ -137,7 +138,8 @@ descriptor_faults ten blocks list =
 abbrev pub sent_code : Part → ℕ
 sent_code sent = bit_and (slice_index sent.bytes 0) 0x3F
 
--- A page has to be as it is now, but for PS and the bits that can be changed. So SPF has to be zero.
+-- A page has to be as it is now, but for PS and the bits that can be changed. So SPF has to be
+-- zero.
 abbrev pub faults_against : (current : PageValues) → Part → ModePage → List ℕ
 faults_against current sent page =
     part_faults (page_data current page) (0x80 ∷ 0x00 ∷ (row_of page).changeable) sent
@@ -224,4 +226,6 @@ changed_by before after = record { 0 = differ after.current before.current }
 -- The values after one more page that is sent.
 abbrev pub with_sent : PageValues → Part → PageValues
 with_sent values sent =
-    by_page (λ page. if sent_code sent == code_of page then drop 2 sent.bytes else values_of values page)
+    let value = λ (page : ModePage). if sent_code sent == code_of page then drop 2 sent.bytes
+    else values_of values page in
+    by_page value

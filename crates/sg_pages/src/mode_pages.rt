@@ -2,12 +2,14 @@
 use std::marker::Model;
 
 mod block_descriptor;
+mod laws;
 mod list_check;
 mod mode_page;
 mod mode_select;
 mod mode_sense;
 mod request;
 
+pub use laws::only_changeable_bits_change;
 use mode_page::DEFAULT;
 pub use mode_page::{ModePage, PageValues};
 pub use mode_select::{Changed, ModeSelectFault};

@@ -3,10 +3,11 @@ ghost use Rattle.std.specs.Prelude.{◌≡◌, ◌≤◌, ◌<◌, ◌==◌, ◌
 ghost use Rattle.std.specs.Prelude.{drop, take, length, IsTrue, OnOk};
 ghost use Rattle.std.specs.List.{list_all};
 ghost use Rattle.sg_pages.specs.BlockDescriptor.{descriptor_length};
-ghost use Rattle.sg_pages.specs.ModeSelect.{accepted_blocks, block_descriptor_length, descriptor_faults};
-ghost use Rattle.sg_pages.specs.ModeSelect.{differences, first_fault, header_faults, header_length};
-ghost use Rattle.sg_pages.specs.ModeSelect.{is_descriptor_length, least, part_at, part_faults};
-ghost use Rattle.sg_pages.specs.ModeSelect.{unless_fault};
+ghost use Rattle.sg_pages.specs.ModeSelect.{accepted_blocks, block_descriptor_length};
+ghost use Rattle.sg_pages.specs.ModeSelect.{descriptor_faults, differences, first_fault};
+ghost use Rattle.sg_pages.specs.ModeSelect.{header_faults, header_length, is_descriptor_length};
+ghost use Rattle.sg_pages.specs.ModeSelect.{least, part_at};
+ghost use Rattle.sg_pages.specs.ModeSelect.{part_faults, unless_fault};
 
 use super::ModeSelectFault;
 use super::block_descriptor::{long_descriptor, short_descriptor};

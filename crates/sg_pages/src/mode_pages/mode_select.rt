@@ -1,11 +1,12 @@
 // MODE SELECT (SPC-4, 6.9 and 6.10).
-ghost use Rattle.std.specs.Prelude.{◌≡◌, ◌≤◌, ◌<◌, ◌+◌, ◌∷◌, length, not, IsTrue, IfErr, IfOk, OnOk};
+ghost use Rattle.std.specs.Prelude.{◌≡◌, ◌≤◌, ◌<◌, ◌+◌, ◌∷◌, length, not};
+ghost use Rattle.std.specs.Prelude.{IsTrue, IfErr, IfOk, OnOk};
 ghost use Rattle.std.specs.List.{flat_map};
 ghost use Rattle.std.specs.Result.{result_map_both, result_unwrap_or};
 ghost use Rattle.sg_pages.specs.ModePage.{page_bytes};
-ghost use Rattle.sg_pages.specs.ModeSelect.{IsInside, changed_by, first_fault, mode_select, page_at};
-ghost use Rattle.sg_pages.specs.ModeSelect.{page_faults, pages_from, part_faults, selected_values};
-ghost use Rattle.sg_pages.specs.ModeSelect.{unless_fault, values_after, with_sent};
+ghost use Rattle.sg_pages.specs.ModeSelect.{IsInside, changed_by, first_fault, mode_select};
+ghost use Rattle.sg_pages.specs.ModeSelect.{page_at, page_faults, pages_from, part_faults};
+ghost use Rattle.sg_pages.specs.ModeSelect.{selected_values, unless_fault, values_after, with_sent};
 
 use super::list_check::{check, check_descriptor, check_header, header_length};
 use super::mode_page::CHANGEABLE;

@@ -1,0 +1,15 @@
+-- Laws of the mode pages, in the subject's words.
+use Rattle.std.specs.Prelude.{◌≡◌, ℕ, List, [], Bool, Ok}
+use Rattle.sg_pages.specs.declared.mode_pages.mode_page.ModePage.{ModePage}
+use Rattle.sg_pages.specs.ModePage.{ModeState, row_of, values_of}
+use Rattle.sg_pages.specs.ModeSelect.{differences, mode_select}
+
+-- A MODE SELECT changes only bits that can be changed: from byte 2 on no byte of a page differs in
+-- another bit.
+abbrev pub OnlyChangeableBitsChange : Type 0
+OnlyChangeableBitsChange =
+    (before after : ModeState) (list : List ℕ) (ten save : Bool) (blocks : ℕ) (page : ModePage)
+    → mode_select before list ten save blocks ≡ Ok after
+    → differences 2 (values_of before.current page) (row_of page).changeable
+    (values_of after.current page)
+    ≡ []
