@@ -5,6 +5,8 @@
 #[cfg(test)]
 mod blocks;
 #[cfg(test)]
+mod mode_pages;
+#[cfg(test)]
 mod pages;
 #[cfg(test)]
 mod run;
