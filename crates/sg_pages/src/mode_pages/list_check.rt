@@ -111,7 +111,7 @@ pub(super) fn check_descriptor(
     descriptor: usize,
 ) -> Result<(), ModeSelectFault>
     requires header { header_length ten ≤ length list.now }
-    requires announced { descriptor ≡ block_descriptor_length ten list.now }
+    requires length { descriptor ≡ block_descriptor_length ten list.now }
     requires known { IsTrue (is_descriptor_length ten list.now) }
     ensures result { result
         ≡ unless_fault (first_fault (length list.now) (descriptor_faults ten blocks list.now)) tt }
