@@ -1,1 +1,4 @@
+mod Lemmas
 pub mod AttentionLemmas
+pub mod KeyLemmas
+pub mod ConsistencyLemmas

@@ -2,3 +2,10 @@
 pub mod UnitAttention
 pub mod Attentions
 pub mod Raised
+pub mod ReservationType
+pub mod Registrations
+pub mod Reservations
+pub mod Access
+pub mod OutList
+pub mod PersistentReserveOut
+pub mod PersistentReserveIn

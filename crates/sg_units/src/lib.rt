@@ -1,10 +1,28 @@
-//! What the disk keeps for its initiators: the unit attention conditions that are pending for each.
+//! What the disk keeps for its initiators: the unit attention conditions that are pending for each,
+//! their registrations, and the persistent reservation.
 #![tactic(auto)]
 
+mod access;
 mod attentions;
+mod effect;
+mod out_action;
+mod out_fault;
+mod out_list;
 mod raised;
+mod registrations;
+mod reservation;
+mod reservation_state;
+mod reservation_type;
+mod reservations;
 mod unit_attention;
 
 pub use attentions::Attentions;
+pub use out_action::OutAction;
+pub use out_fault::OutFault;
+pub use out_list::OutList;
 pub use raised::Raised;
+pub use registrations::Registration;
+pub use reservation::Reservation;
+pub use reservation_type::ReservationType;
+pub use reservations::Reservations;
 pub use unit_attention::UnitAttention;

@@ -1,8 +1,11 @@
 // Unit attention conditions that a command establishes.
 ghost use Rattle.std.specs.Prelude.{◌≡◌, ◌<◌, slice_index_or, None};
+ghost use Rattle.sg_units.specs.PersistentReserveOut.{raised_by, raised_for};
 ghost use Rattle.sg_units.specs.Raised.{raised_for_others};
 
 use crate::UnitAttention;
+use crate::effect::Effect;
+use crate::registrations::Registrations;
 use sg_wire::Initiator;
 use std::marker::Model;
 
@@ -44,5 +47,38 @@ impl Raised {
         ensures { result ≡ slice_index_or self.now number None }
     {
         self.conditions[number]
+    }
+
+    // What an effect of PERSISTENT RESERVE OUT raises for each initiator.
+    #[tactic(auto, unfolding(crate::specs::PersistentReserveOut::raised_by))]
+    pub(crate) fn by(before: &Registrations, caller: Initiator, effect: &Effect) -> Raised
+        ensures { result ≡ raised_by before.now caller effect.now }
+    {
+        let mut conditions = [None; 8];
+        for number in 0..8 {
+            conditions[usize::from(number)] = raised_for(before, caller, effect, number);
+        }
+        Raised { conditions }
+    }
+}
+
+// What an effect raises for the initiator with a number.
+fn raised_for(
+    before: &Registrations,
+    caller: Initiator,
+    effect: &Effect,
+    number: u8,
+) -> Option<UnitAttention>
+    requires { number < 8 }
+    ensures { result ≡ raised_for before.now caller effect.now number }
+{
+    let initiator = Initiator::new(number)?;
+    if initiator.number() == caller.number() || !before.has(initiator) {
+        return None;
+    }
+    if effect.registrations.has(initiator) {
+        effect.for_remaining
+    } else {
+        effect.for_removed
     }
 }

@@ -1,0 +1,412 @@
+-- Every service action of PERSISTENT RESERVE OUT leaves registrations and reservation consistent.
+use Rattle.std.proofs.Common.{◌≡◌, ◌≤◌, ◌+◌, ◌==◌, ℕ, Bool, true, false, cond, not, ◌&&◌, ◌||◌, List, [], ◌∷◌, length, filter, Option, Some, None, Ok, Err, refl, sym, ap, ◌∙◌, subst, arith}
+use Rattle.std.specs.Prelude.{if◌then◌else◌}
+use Rattle.std.specs.List.{list_any}
+use Rattle.std.proofs.lemmas.Bool.{false≢true}
+use Rattle.std.proofs.lemmas.Bool.Decides.{nat_tests}
+use Rattle.std.proofs.lemmas.List.{length-append}
+use Rattle.std.proofs.lemmas.List.Folds.{list_any-append}
+use Rattle.std.proofs.lemmas.List.Sums.{sum_by-cons, sum_by_push, length-filter, count_by-le-length}
+use Rattle.sg_units.specs.OutList.{has_unsupported_flag}
+use Rattle.sg_units.specs.PersistentReserveOut.{Case, Outcome, accepts_key, action_outcome, first_case, outcome, preempt_cases, preempted, register_cases, release_cases, reserve_cases, state_after, with_type}
+use Rattle.sg_units.specs.Registrations.{is_of, is_registered, is_registered_under, is_under, registration, registrations_of, with_key_replaced, with_registration}
+use Rattle.sg_units.specs.ReservationType.{is_all_registrants, type_of}
+use Rattle.sg_units.specs.Reservations.{AreConsistent, IsConsistent, has_holder, holds, is_held_if_any, names_holder, names_holder_if_any, taken, while_held}
+use Rattle.sg_units.specs.declared.effect.Effect.{Effect}
+use Rattle.sg_units.specs.declared.out_action.OutAction.{OutAction}
+use Rattle.sg_units.specs.declared.out_action.OutAction.TheVariants.{Register, Reserve, Release, Clear, Preempt, PreemptAndAbort, RegisterAndIgnoreExistingKey}
+use Rattle.sg_units.specs.declared.out_fault.OutFault.{OutFault}
+use Rattle.sg_units.specs.declared.out_fault.OutFault.TheVariants.{Conflict, InvalidScopeOrType, ListField}
+use Rattle.sg_units.specs.declared.out_list.OutList.{OutList}
+use Rattle.sg_units.specs.declared.registrations.Registration.{Registration}
+use Rattle.sg_units.specs.declared.reservation.Reservation.{Reservation}
+use Rattle.sg_units.specs.declared.reservation_state.ReservationState.{ReservationState}
+use Rattle.sg_units.specs.declared.reservation_type.ReservationType.{ReservationType}
+
+-- ---- How often an initiator is registered
+
+pub registrations_of-cons : (r : Registration) (rs : List Registration) (i : ℕ)
+    → registrations_of (r ∷ rs) i ≡ cond (is_of i r) 1 0 + registrations_of rs i
+registrations_of-cons r rs i = sum_by-cons (λ q. cond (is_of i q) 1 0) r rs
+
+kept : (r : Registration) (rs ys : List Registration) (i : ℕ) (b : Bool)
+    → registrations_of ys i ≤ registrations_of rs i
+    → registrations_of (cond b (r ∷ ys) ys) i ≤ registrations_of (r ∷ rs) i
+kept r rs ys i true h =
+    omega (arith, registrations_of-cons r rs i, registrations_of-cons r ys i)
+kept r rs ys i false h = omega (arith, registrations_of-cons r rs i)
+
+-- a filter keeps no more
+registrations_of-filter : (p : Registration → Bool) (rs : List Registration) (i : ℕ)
+    → registrations_of (filter p rs) i ≤ registrations_of rs i
+registrations_of-filter p [] i = omega arith
+registrations_of-filter p (r ∷ rs) i =
+    kept r rs (filter p rs) i (p r) (registrations_of-filter p rs i)
+
+registrations_of-none : (rs : List Registration) (i : ℕ) → is_registered rs i ≡ false
+    → registrations_of rs i ≡ 0
+registrations_of-none [] i h = refl
+registrations_of-none (r ∷ rs) i h =
+    let rest = registrations_of-none rs i in
+    let step = registrations_of-cons r rs i in
+    grind (arith, rest, step)
+
+registrations_of-push : (rs : List Registration) (i key j : ℕ) → is_registered rs i ≡ false
+    → registrations_of rs j ≤ 1 → registrations_of (with_registration rs i key) j ≤ 1
+registrations_of-push rs i key j h k =
+    let push = sum_by_push (λ q. cond (is_of j q) 1 0) rs (registration i key) in
+    let none = registrations_of-none rs i h in
+    grind (arith, nat_tests)
+
+-- a registration whose key is replaced is the same initiator's
+same_initiator : (r : Registration) (i key : ℕ) (b : Bool) → (r.initiator == i) ≡ b
+    → (cond b (registration i key) r).initiator ≡ r.initiator
+same_initiator r i key true h = grind (arith, nat_tests)
+same_initiator r i key false h = refl
+
+registrations_of-replaced : (rs : List Registration) (i key j : ℕ)
+    → registrations_of (with_key_replaced rs i key) j ≡ registrations_of rs j
+registrations_of-replaced [] i key j = refl
+registrations_of-replaced (r ∷ rs) i key j =
+    let q : Registration = if is_of i r then registration i key else r in
+    let same : cond {A = ℕ} (is_of j q) 1 0 ≡ cond (is_of j r) 1 0 =
+    ap (λ (n : ℕ). cond {A = ℕ} (n == j) 1 0) (same_initiator r i key (is_of i r) refl) in
+    let rest = registrations_of-replaced rs i key j in
+    omega (
+      arith,
+      registrations_of-cons q (with_key_replaced rs i key) j,
+      registrations_of-cons r rs j,
+      same,
+      rest,
+    )
+
+length-replaced : (rs : List Registration) (i key : ℕ)
+    → length (with_key_replaced rs i key) ≡ length rs
+length-replaced [] i key = refl
+length-replaced (r ∷ rs) i key = omega (arith, length-replaced rs i key)
+
+length-filter-le : (p : Registration → Bool) (rs : List Registration)
+    → length (filter p rs) ≤ length rs
+length-filter-le p rs = omega (arith, length-filter p rs, count_by-le-length p rs)
+
+-- ---- Holders
+
+has_holder-replaced : (reservation : Reservation) (rs : List Registration) (i key : ℕ)
+    → has_holder reservation (with_key_replaced rs i key) ≡ has_holder reservation rs
+has_holder-replaced reservation [] i key = refl
+has_holder-replaced reservation (r ∷ rs) i key =
+    ap (λ n. holds reservation n || has_holder reservation (with_key_replaced rs i key))
+    (same_initiator r i key (is_of i r) refl)
+    ∙ ap (λ b. holds reservation r.initiator || b) (has_holder-replaced reservation rs i key)
+
+or_left : (a b : Bool) → a ≡ true → (a || b) ≡ true
+or_left true b h = refl
+or_left false b h = absurd (false≢true h)
+
+held-replaced : (held : Option Reservation) (rs : List Registration) (i key : ℕ)
+    → is_held_if_any held rs ≡ true → is_held_if_any held (with_key_replaced rs i key) ≡ true
+held-replaced None rs i key h = refl
+held-replaced (Some reservation) rs i key h = has_holder-replaced reservation rs i key ∙ h
+
+held-push : (held : Option Reservation) (rs : List Registration) (i key : ℕ)
+    → is_held_if_any held rs ≡ true → is_held_if_any held (with_registration rs i key) ≡ true
+held-push None rs i key h = refl
+held-push (Some reservation) rs i key h =
+    let holder = λ (r : Registration). holds reservation r.initiator in
+    list_any-append holder rs (registration i key ∷ []) ∙ or_left (has_holder reservation rs) _ h
+
+-- what is left of a reservation has a holder, and is what it was
+held_if : (reservation : Reservation) (rest : List Registration) (b : Bool)
+    → has_holder reservation rest ≡ b
+    → is_held_if_any (if b then Some reservation else None) rest ≡ true
+held_if reservation rest true h = h
+held_if reservation rest false h = refl
+
+held-while_held : (held : Option Reservation) (rest : List Registration)
+    → is_held_if_any (while_held held rest) rest ≡ true
+held-while_held None rest = refl
+held-while_held (Some reservation) rest =
+    held_if reservation rest (has_holder reservation rest) refl
+
+named_if : (reservation : Reservation) (b : Bool) → names_holder_if_any (Some reservation) ≡ true
+    → names_holder_if_any (if b then Some reservation else None) ≡ true
+named_if reservation true h = h
+named_if reservation false h = refl
+
+named-while_held : (held : Option Reservation) (rest : List Registration)
+    → names_holder_if_any held ≡ true → names_holder_if_any (while_held held rest) ≡ true
+named-while_held None rest h = refl
+named-while_held (Some reservation) rest h = named_if reservation (has_holder reservation rest) h
+
+-- an initiator that is registered holds what it takes
+anybody : (rs : List Registration) (i : ℕ) → is_registered rs i ≡ true
+    → list_any (λ (r : Registration). true) rs ≡ true
+anybody [] i h = absurd (false≢true h)
+anybody (r ∷ rs) i h = refl
+
+taken_if : (type : ReservationType) (all_registrants : Bool) (rs : List Registration) (i : ℕ)
+    → is_registered rs i ≡ true →
+    (let holder : Option ℕ = if all_registrants then None else Some i in
+    has_holder (record { kind = type; holder = holder }) rs ≡ true)
+taken_if type true rs i h = anybody rs i h
+taken_if type false rs i h = h
+
+has_holder-taken : (type : ReservationType) (rs : List Registration) (i : ℕ)
+    → is_registered rs i ≡ true → has_holder (taken type i) rs ≡ true
+has_holder-taken type rs i h = taken_if type (is_all_registrants type) rs i h
+
+named_taken_if : (all_registrants : Bool) (i : ℕ)
+    → names_holder all_registrants (if all_registrants then None else Some i) ≡ true
+named_taken_if true i = refl
+named_taken_if false i = refl
+
+named-taken : (type : ReservationType) (i : ℕ) → names_holder_if_any (Some (taken type i)) ≡ true
+named-taken type i = named_taken_if (is_all_registrants type) i
+
+-- ---- Who stays registered
+
+registered_first : (a b c d : Bool) → (c ≡ true → d ≡ true) → ((a && b) || c) ≡ true
+    → (a || d) ≡ true
+registered_first true b c d f h = refl
+registered_first false b c d f h = f h
+
+pub is_registered-under : (rs : List Registration) (i key : ℕ)
+    → is_registered_under rs i key ≡ true → is_registered rs i ≡ true
+is_registered-under [] i key h = absurd (false≢true h)
+is_registered-under (r ∷ rs) i key h =
+    registered_first (is_of i r) (is_under key r) (is_registered_under rs i key)
+    (is_registered rs i) (is_registered-under rs i key) h
+
+filtered_first : (r : Registration) (i : ℕ) (kept : Bool) (ys : List Registration) (was : Bool)
+    → (is_of i r ≡ true → kept ≡ true) → (was ≡ true → is_registered ys i ≡ true)
+    → (is_of i r || was) ≡ true → is_registered (cond kept (r ∷ ys) ys) i ≡ true
+filtered_first r i true ys was f g h = grind arith
+filtered_first r i false ys was f g h = grind arith
+
+is_registered-filter : (p : Registration → Bool) (i : ℕ)
+    → ((r : Registration) → is_of i r ≡ true → p r ≡ true) → (rs : List Registration)
+    → is_registered rs i ≡ true → is_registered (filter p rs) i ≡ true
+is_registered-filter p i f [] h = absurd (false≢true h)
+is_registered-filter p i f (r ∷ rs) h =
+    filtered_first r i (p r) (filter p rs) (is_registered rs i) (f r)
+    (is_registered-filter p i f rs) h
+
+-- ---- What is consistent
+
+consistent-filter : (p : Registration → Bool) (rs : List Registration)
+    (held new : Option Reservation) → AreConsistent rs held
+    → is_held_if_any new (filter p rs) ≡ true → names_holder_if_any new ≡ true
+    → AreConsistent (filter p rs) new
+consistent-filter p rs held new h k n = record {
+  one_each = λ i. omega (arith, h.one_each i, registrations_of-filter p rs i);
+  at_most_six = omega (arith, h.at_most_six, length-filter-le p rs);
+  held = k;
+  holder = n;
+}
+
+consistent-replaced : (rs : List Registration) (held : Option Reservation) (i key : ℕ)
+    → AreConsistent rs held → AreConsistent (with_key_replaced rs i key) held
+consistent-replaced rs held i key h = record {
+  one_each = λ j. omega (arith, h.one_each j, registrations_of-replaced rs i key j);
+  at_most_six = omega (arith, h.at_most_six, length-replaced rs i key);
+  held = held-replaced held rs i key h.held;
+  holder = h.holder;
+}
+
+six : (rs : List Registration) → (length rs == 6) ≡ false → length rs ≤ 6
+    → length rs + 1 ≤ 6
+six rs e h = grind (arith, nat_tests)
+
+consistent-push : (rs : List Registration) (held : Option Reservation) (i key : ℕ)
+    → is_registered rs i ≡ false → (length rs == 6) ≡ false → AreConsistent rs held
+    → AreConsistent (with_registration rs i key) held
+consistent-push rs held i key new room h = record {
+  one_each = λ j. registrations_of-push rs i key j new (h.one_each j);
+  at_most_six =
+      omega (arith, length-append rs (registration i key ∷ []), six rs room h.at_most_six);
+  held = held-push held rs i key h.held;
+  holder = h.holder;
+}
+
+consistent-held : (rs : List Registration) (held new : Option Reservation) → AreConsistent rs held
+    → is_held_if_any new rs ≡ true → names_holder_if_any new ≡ true → AreConsistent rs new
+consistent-held rs held new h k n =
+    record { one_each = h.one_each; at_most_six = h.at_most_six; held = k; holder = n }
+
+pub consistent-none : AreConsistent [] None
+consistent-none = record {
+  one_each = λ i. omega arith;
+  at_most_six = omega arith;
+  held = refl;
+  holder = refl;
+}
+
+-- ---- Outcomes
+
+pub record IsConsistentOutcome (o : Outcome) : Type 0 where
+  pub after : (effect : Effect) → o ≡ Ok effect
+      → AreConsistent effect.registrations effect.reservation
+
+refused : (fault : OutFault) → IsConsistentOutcome (Err fault)
+refused fault = record { after = λ effect e. cc }
+
+effective : (effect : Effect) → AreConsistent effect.registrations effect.reservation
+    → IsConsistentOutcome (Ok effect)
+effective effect h = record {
+  after =
+      λ other e.
+      let same : effect ≡ other = cc in
+      subst (λ (x : Effect). AreConsistent x.registrations x.reservation) same h;
+}
+
+taking : (held : Option Reservation) (i : ℕ) (type : Option ReservationType)
+    (rest : List Registration)
+    → ((type : ReservationType) → AreConsistent rest (Some (taken type i)))
+    → IsConsistentOutcome (preempted held i type rest)
+taking held i None rest h = refused InvalidScopeOrType
+taking held i (Some type) rest h = effective _ (h type)
+
+typed : (type : Option ReservationType) (f : ReservationType → Outcome)
+    → ((type : ReservationType) → IsConsistentOutcome (f type))
+    → IsConsistentOutcome (with_type type f)
+typed None f h = refused InvalidScopeOrType
+typed (Some type) f h = h type
+
+-- the first case that applies leaves what is consistent
+record AreConsistentCases (cases : List Case) : Type 0 where
+  pub first : IsConsistentOutcome (first_case cases)
+
+choice : (b : Bool) (x y : Outcome) → (b ≡ true → IsConsistentOutcome x)
+    → (b ≡ false → IsConsistentOutcome y) → IsConsistentOutcome (cond b x y)
+choice true x y f g = f refl
+choice false x y f g = g refl
+
+case_or : (case : Case) (cases : List Case)
+    → (case.condition ≡ true → IsConsistentOutcome case.outcome)
+    → (case.condition ≡ false → AreConsistentCases cases) → AreConsistentCases (case ∷ cases)
+case_or case cases f g =
+    record { first = choice case.condition case.outcome (first_case cases) f (λ h. (g h).first) }
+
+last_case : (case : Case) (cases : List Case) → case.condition ≡ true
+    → IsConsistentOutcome case.outcome → AreConsistentCases (case ∷ cases)
+last_case case cases e h = record {
+  first =
+      choice case.condition case.outcome (first_case cases) (λ _. h)
+      (λ no. absurd (false≢true (sym no ∙ e)));
+}
+
+known : (b : Bool) → not b ≡ true → b ≡ false
+known true h = absurd (false≢true h)
+known false h = refl
+
+also : (a b : Bool) → a ≡ true → (a && b) ≡ false → b ≡ false
+also true b h k = k
+also false b h k = absurd (false≢true h)
+
+consistent-register : (state : ReservationState) (i sark : ℕ) → IsConsistent state
+    → AreConsistentCases (register_cases state i sark)
+unfolding register_cases
+consistent-register state i sark h =
+    let all = state.registrations in
+    let held = state.reservation in
+    let others = λ (r : Registration). not (is_of i r) in
+    case_or _ _ (λ _. effective _ h)
+    (λ _. case_or _ _ (λ _. refused _)
+    (λ full. case_or _ _
+    (λ new. effective _ (consistent-push all held i sark (known _ new) (also _ _ new full) h))
+    (λ _. case_or _ _ (λ _. effective _ (consistent-replaced all held i sark h))
+    (λ _. last_case _ _ refl
+    (effective _
+    (consistent-filter others all held _ h (held-while_held held _)
+    (named-while_held held _ h.holder)))))))
+
+consistent-reserve : (state : ReservationState) (i : ℕ) (type : ReservationType)
+    → is_registered state.registrations i ≡ true → IsConsistent state
+    → AreConsistentCases (reserve_cases state i type)
+unfolding reserve_cases
+consistent-reserve state i type here h =
+    let all = state.registrations in
+    case_or _ _
+    (λ _. effective _
+    (consistent-held all state.reservation _ h (has_holder-taken type all i here)
+    (named-taken type i)))
+    (λ _. case_or _ _ (λ _. effective _ h) (λ _. last_case _ _ refl (refused _)))
+
+consistent-release : (state : ReservationState) (i : ℕ) (type : ReservationType)
+    → IsConsistent state → AreConsistentCases (release_cases state i type)
+unfolding release_cases
+consistent-release state i type h =
+    let all = state.registrations in
+    case_or _ _ (λ _. effective _ h)
+    (λ _. case_or _ _ (λ _. refused _)
+    (λ _. last_case _ _ refl
+    (effective _ (consistent-held all state.reservation None h refl refl))))
+
+consistent-preempt : (state : ReservationState) (i : ℕ) (type : Option ReservationType) (sark : ℕ)
+    → is_registered state.registrations i ≡ true → IsConsistent state
+    → AreConsistentCases (preempt_cases state i type sark)
+unfolding preempt_cases
+consistent-preempt state i type sark here h =
+    let all = state.registrations in
+    let held = state.reservation in
+    let stay = λ (r : Registration). is_of i r || not (is_under sark r) in
+    let stays =
+    is_registered-filter stay i (λ r e. or_left (is_of i r) (not (is_under sark r)) e) all here in
+    let alone = is_registered-filter (is_of i) i (λ r e. e) all here in
+    case_or _ _ (λ _. refused _)
+    (λ _. case_or _ _
+    (λ _. taking held i type _
+    (λ type. consistent-filter stay all held _ h (has_holder-taken type _ i stays)
+    (named-taken type i)))
+    (λ _. case_or _ _
+    (λ _. taking held i type _
+    (λ type. consistent-filter (is_of i) all held _ h (has_holder-taken type _ i alone)
+    (named-taken type i)))
+    (λ _. case_or _ _ (λ _. refused _)
+    (λ _. last_case _ _ refl
+    (effective _
+    (consistent-filter (λ (r : Registration). not (is_under sark r)) all held _ h (held-while_held held _)
+    (named-while_held held _ h.holder)))))))
+
+-- a caller whose key is accepted is registered, unless it registers
+consistent-action : (state : ReservationState) (i : ℕ) (action : OutAction)
+    (type : Option ReservationType) (key sark : ℕ)
+    → accepts_key state.registrations i action key ≡ true → IsConsistent state
+    → IsConsistentOutcome (action_outcome state i action type sark)
+consistent-action state i Register type key sark a h =
+    (consistent-register state i sark h).first
+consistent-action state i Reserve type key sark a h =
+    let here = is_registered-under state.registrations i key a in
+    typed type _ (λ type. (consistent-reserve state i type here h).first)
+consistent-action state i Release type key sark a h =
+    typed type _ (λ type. (consistent-release state i type h).first)
+consistent-action state i Clear type key sark a h = effective _ consistent-none
+consistent-action state i Preempt type key sark a h =
+    let here = is_registered-under state.registrations i key a in
+    (consistent-preempt state i type sark here h).first
+consistent-action state i PreemptAndAbort type key sark a h =
+    let here = is_registered-under state.registrations i key a in
+    (consistent-preempt state i type sark here h).first
+consistent-action state i RegisterAndIgnoreExistingKey type key sark a h =
+    (consistent-register state i sark h).first
+
+accepted : (b : Bool) → not b ≡ false → b ≡ true
+accepted true h = refl
+accepted false h = absurd (false≢true (sym h))
+
+pub consistent-outcome : (state : ReservationState) (i : ℕ) (action : OutAction) (scope_type : ℕ)
+    (list : OutList) → IsConsistent state
+    → IsConsistentOutcome (outcome state i action scope_type list)
+unfolding outcome
+consistent-outcome state i action scope_type list h =
+    let key = list.reservation_key in
+    let sark = list.service_action_key in
+    let accepts = accepts_key state.registrations i action key in
+    choice (has_unsupported_flag action list) _ _ (λ _. refused (ListField 20))
+    (λ _. choice (not accepts) _ _ (λ _. refused Conflict)
+    (λ a. consistent-action state i action (type_of scope_type) key sark (accepted accepts a) h))
+
+pub consistent-state_after : (state : ReservationState) (o : Outcome) → IsConsistent state
+    → IsConsistentOutcome o → IsConsistent (state_after state o)
+consistent-state_after state (Ok effect) h k = k.after effect refl
+consistent-state_after state (Err fault) h k = h

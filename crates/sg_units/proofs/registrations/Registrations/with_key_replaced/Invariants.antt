@@ -1,0 +1,6 @@
+use Rattle.std.proofs.Common.{◌≡◌, take}
+use Rattle.sg_units.specs.Registrations.{with_key_replaced}
+use Rattle.sg_units.proofs.registrations.Registrations.with_key_replaced.Given as goal
+
+abbrev pub invariant-loop-registration : goal.invariant-loop-registration
+invariant-loop-registration l = l.items.items ≡ with_key_replaced (take l.registration-index l.registration-items) l.initiator l.key

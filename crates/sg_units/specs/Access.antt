@@ -1,0 +1,61 @@
+-- Which commands a persistent reservation allows (SPC-4, 5.13, the tables of allowed commands; SBC-3,
+-- 4.17).
+use Rattle.std.specs.Prelude.{ℕ, Bool, true, nat_le, Option, Some, None, if◌then◌else◌}
+use Rattle.sg_wire.specs.declared.command.Class.{Class}
+use Rattle.sg_wire.specs.declared.command.Class.TheVariants.{Always, Reads, Writes}
+use Rattle.sg_units.specs.Registrations.{is_registered}
+use Rattle.sg_units.specs.Reservations.{is_holder}
+use Rattle.sg_units.specs.declared.access.Standing.{Standing}
+use Rattle.sg_units.specs.declared.access.Standing.TheVariants.{Holder, Registrant, Other}
+use Rattle.sg_units.specs.declared.reservation.Reservation.{Reservation}
+use Rattle.sg_units.specs.declared.reservation_state.ReservationState.{ReservationState}
+use Rattle.sg_units.specs.declared.reservation_type.ReservationType.{ReservationType}
+use Rattle.sg_units.specs.declared.reservation_type.ReservationType.TheVariants.{WriteExclusive, ExclusiveAccess, WriteExclusiveRegistrantsOnly, ExclusiveAccessRegistrantsOnly, WriteExclusiveAllRegistrants, ExclusiveAccessAllRegistrants}
+
+-- The highest class of commands that is allowed: to a holder, to a registrant that is no holder, and
+-- to every other initiator. Under an all registrants type each registrant is a holder.
+pub record Access : Type 0 where
+  pub holder : Class
+  pub registrant : Class
+  pub other : Class
+
+abbrev row : (holder registrant other : Class) → Access
+row holder registrant other =
+    record { holder = holder; registrant = registrant; other = other }
+
+abbrev pub access_of : ReservationType → Access
+access_of WriteExclusive = row Writes Reads Reads
+access_of ExclusiveAccess = row Writes Always Always
+access_of WriteExclusiveRegistrantsOnly = row Writes Writes Reads
+access_of ExclusiveAccessRegistrantsOnly = row Writes Writes Always
+access_of WriteExclusiveAllRegistrants = row Writes Writes Reads
+access_of ExclusiveAccessAllRegistrants = row Writes Writes Always
+
+-- The classes in ascending order.
+abbrev rank : Class → ℕ
+rank Always = 0
+rank Reads = 1
+rank Writes = 2
+
+abbrev pub is_within : (highest class : Class) → Bool
+is_within highest class = nat_le (rank class) (rank highest)
+
+-- Who asks.
+abbrev pub standing_of : ReservationState → (initiator : ℕ) → Standing
+standing_of state initiator =
+    if is_holder state initiator then Holder
+    else (if is_registered state.registrations initiator then Registrant else Other)
+
+abbrev pub highest_class : Access → Standing → Class
+highest_class access Holder = access.holder
+highest_class access Registrant = access.registrant
+highest_class access Other = access.other
+
+abbrev pub allowed : Option Reservation → Standing → Class → Bool
+allowed None standing class = true
+allowed (Some reservation) standing class =
+    is_within (highest_class (access_of reservation.kind) standing) class
+
+-- Whether an initiator's command of a class is allowed.
+abbrev pub allows : ReservationState → (initiator : ℕ) → Class → Bool
+allows state initiator class = allowed state.reservation (standing_of state initiator) class

@@ -1,0 +1,239 @@
+-- PERSISTENT RESERVE OUT (SPC-4, 5.13 and 6.16).
+use Rattle.std.specs.Prelude.{ℕ, ◌+◌, ◌%◌, ◌^◌, ◌==◌, Bool, true, false, not, ◌&&◌, ◌||◌}
+use Rattle.std.specs.Prelude.{if◌then◌else◌, List, [], ◌∷◌, length, map, Result, Ok, Err}
+use Rattle.std.specs.Prelude.{Option, Some, None, is_some, is_none}
+use Rattle.std.specs.List.{range_with_len}
+use Rattle.std.specs.Option.{option_map_or}
+use Rattle.sg_units.specs.Attentions.{initiator_count}
+use Rattle.sg_units.specs.OutList.{flags_at, has_unsupported_flag, service_action_key_at}
+use Rattle.sg_units.specs.Raised.{Conditions}
+use Rattle.sg_units.specs.Registrations.{has_key, is_registered, is_registered_under, max_registrations}
+use Rattle.sg_units.specs.Registrations.{with_key_replaced, with_registration, without_initiator}
+use Rattle.sg_units.specs.Registrations.{without_key, without_key_of_others, without_others}
+use Rattle.sg_units.specs.Reservations.{has_holder, has_type, is_holder, taken, while_held}
+use Rattle.sg_units.specs.ReservationType.{is_shared, type_of}
+use Rattle.sg_units.specs.declared.effect.Effect.{Effect}
+use Rattle.sg_units.specs.declared.out_action.OutAction.{OutAction}
+use Rattle.sg_units.specs.declared.out_action.OutAction.TheVariants.{Register, Reserve, Release, Clear, Preempt, PreemptAndAbort, RegisterAndIgnoreExistingKey}
+use Rattle.sg_units.specs.declared.out_fault.OutFault.{OutFault}
+use Rattle.sg_units.specs.declared.out_fault.OutFault.TheVariants.{Conflict, InsufficientRegistrationResources, InvalidRelease, ListField, InvalidScopeOrType}
+use Rattle.sg_units.specs.declared.out_list.OutList.{OutList}
+use Rattle.sg_units.specs.declared.registrations.Registration.{Registration}
+use Rattle.sg_units.specs.declared.reservation.Reservation.{Reservation}
+use Rattle.sg_units.specs.declared.reservation_state.ReservationState.{ReservationState}
+use Rattle.sg_units.specs.declared.reservation_type.ReservationType.{ReservationType}
+use Rattle.sg_units.specs.declared.unit_attention.UnitAttention.{UnitAttention}
+use Rattle.sg_units.specs.declared.unit_attention.UnitAttention.TheVariants.{ReservationsPreempted, ReservationsReleased, RegistrationsPreempted}
+
+-- ---- How a table is read
+
+-- A command has an effect, or is refused.
+abbrev pub Outcome : Type 0
+Outcome = Result Effect OutFault
+
+-- The registrations and the reservation afterwards, and the condition that is raised for each other
+-- registrant. PRGENERATION stays.
+abbrev pub same_generation : List Registration → Option Reservation
+    → (for_remaining : Option UnitAttention) → Outcome
+same_generation registrations reservation for_remaining = Ok (record {
+  registrations = registrations;
+  reservation = reservation;
+  for_removed = None;
+  for_remaining = for_remaining;
+  increments_generation = false;
+})
+
+-- The registrations and the reservation afterwards, and the conditions that are raised for each other
+-- initiator whose registration is removed, and for each whose registration remains. PRGENERATION is
+-- incremented.
+abbrev pub next_generation : List Registration → Option Reservation
+    → (for_removed for_remaining : Option UnitAttention) → Outcome
+next_generation registrations reservation for_removed for_remaining = Ok (record {
+  registrations = registrations;
+  reservation = reservation;
+  for_removed = for_removed;
+  for_remaining = for_remaining;
+  increments_generation = true;
+})
+
+-- Of the cases of a service action the first that applies decides.
+pub record Case : Type 0 where
+  pub condition : Bool
+  pub outcome : Outcome
+
+abbrev when : Bool → Outcome → Case
+when condition outcome = record { condition = condition; outcome = outcome }
+
+abbrev otherwise : Outcome → Case
+otherwise outcome = record { condition = true; outcome = outcome }
+
+abbrev pub first_case : List Case → Outcome
+first_case [] = Err Conflict
+first_case (case ∷ cases) = if case.condition then case.outcome else first_case cases
+
+-- ---- What the end of a reservation raises for the other registrants
+
+-- They are notified where they had the access of a holder.
+abbrev pub released : ReservationType → Option UnitAttention
+released type = if is_shared type then Some ReservationsReleased else None
+
+-- Where no registrant holds it any more.
+abbrev pub released_unless_held : Option Reservation → List Registration → Option UnitAttention
+released_unless_held None rest = None
+released_unless_held (Some reservation) rest =
+    if has_holder reservation rest then None else released reservation.kind
+
+-- Where another type takes its place.
+abbrev pub released_unless_type : Option Reservation → ReservationType → Option UnitAttention
+released_unless_type held type = if has_type held type then None else Some ReservationsReleased
+
+-- ---- The service actions. SARK is the SERVICE ACTION RESERVATION KEY
+
+-- REGISTER and REGISTER AND IGNORE EXISTING KEY (SPC-4, 5.13, registering and unregistering).
+unfoldable pub register_cases : ReservationState → (caller sark : ℕ) → List Case
+register_cases state caller sark =
+    let all = state.registrations in
+    let held = state.reservation in
+    let known = is_registered all caller in
+    let rest = without_initiator all caller in
+    when (not known && sark == 0) (same_generation all held None)
+    ∷ when (not known && length all == max_registrations) (Err InsufficientRegistrationResources)
+    ∷ when (not known) (next_generation (with_registration all caller sark) held None None)
+    ∷ when (not (sark == 0)) (next_generation (with_key_replaced all caller sark) held None None)
+    ∷ otherwise (next_generation rest (while_held held rest) None (released_unless_held held rest))
+    ∷ []
+
+-- RESERVE (SPC-4, 5.13, reserving).
+unfoldable pub reserve_cases : ReservationState → (caller : ℕ) → ReservationType → List Case
+reserve_cases state caller type =
+    let all = state.registrations in
+    let held = state.reservation in
+    when (is_none held) (same_generation all (Some (taken type caller)) None)
+    ∷ when (is_holder state caller && has_type held type) (same_generation all held None)
+    ∷ otherwise (Err Conflict)
+    ∷ []
+
+-- RELEASE (SPC-4, 5.13, releasing).
+unfoldable pub release_cases : ReservationState → (caller : ℕ) → ReservationType → List Case
+release_cases state caller type =
+    let all = state.registrations in
+    let held = state.reservation in
+    when (not (is_holder state caller)) (same_generation all held None)
+    ∷ when (not (has_type held type)) (Err InvalidRelease)
+    ∷ otherwise (same_generation all None (released type))
+    ∷ []
+
+-- CLEAR (SPC-4, 5.13, clearing).
+abbrev pub cleared : Outcome
+cleared = next_generation [] None (Some ReservationsPreempted) None
+
+-- The caller takes the reservation, where the scope and type are valid, and these registrations
+-- remain.
+abbrev pub preempted : Option Reservation → (caller : ℕ) → Option ReservationType
+    → List Registration → Outcome
+preempted held caller None rest = Err InvalidScopeOrType
+preempted held caller (Some type) rest =
+    next_generation rest (Some (taken type caller)) (Some RegistrationsPreempted)
+    (released_unless_type held type)
+
+-- A reservation has one holder; each registrant holds it; a key is that of its one holder.
+abbrev pub has_one_holder : Option Reservation → Bool
+has_one_holder held = option_map_or (λ (r : Reservation). is_some r.holder) held false
+
+abbrev pub is_held_by_all : Option Reservation → Bool
+is_held_by_all held = option_map_or (λ (r : Reservation). is_none r.holder) held false
+
+abbrev pub is_key_of_holder : ReservationState → (key : ℕ) → Bool
+is_key_of_holder state key =
+    option_map_or
+    (λ (r : Reservation).
+    option_map_or (λ holder. is_registered_under state.registrations holder key) r.holder false)
+    state.reservation false
+
+-- PREEMPT and PREEMPT AND ABORT (SPC-4, 5.13, preempting).
+unfoldable pub preempt_cases : ReservationState → (caller : ℕ) → Option ReservationType
+    → (sark : ℕ) → List Case
+preempt_cases state caller type sark =
+    let all = state.registrations in
+    let held = state.reservation in
+    let rest = without_key all sark in
+    when (has_one_holder held && sark == 0) (Err (ListField service_action_key_at))
+    ∷ when (is_key_of_holder state sark)
+    (preempted held caller type (without_key_of_others all caller sark))
+    ∷ when (is_held_by_all held && sark == 0)
+    (preempted held caller type (without_others all caller))
+    ∷ when (not (has_key all sark)) (Err Conflict)
+    ∷ otherwise
+    (next_generation rest (while_held held rest) (Some RegistrationsPreempted) None)
+    ∷ []
+
+-- ---- The command
+
+-- A service action that needs a type is refused where the scope or the type is not valid.
+abbrev pub with_type : Option ReservationType → (ReservationType → Outcome) → Outcome
+with_type None outcome = Err InvalidScopeOrType
+with_type (Some type) outcome = outcome type
+
+abbrev pub action_outcome : ReservationState → (caller : ℕ) → OutAction → Option ReservationType
+    → (sark : ℕ) → Outcome
+action_outcome state i Register type sark = first_case (register_cases state i sark)
+action_outcome state i Reserve type sark =
+    with_type type (λ type. first_case (reserve_cases state i type))
+action_outcome state i Release type sark =
+    with_type type (λ type. first_case (release_cases state i type))
+action_outcome state i Clear type sark = cleared
+action_outcome state i Preempt type sark = first_case (preempt_cases state i type sark)
+action_outcome state i PreemptAndAbort type sark = first_case (preempt_cases state i type sark)
+action_outcome state i RegisterAndIgnoreExistingKey type sark =
+    first_case (register_cases state i sark)
+
+-- The RESERVATION KEY has to be the caller's. To register for the first time it has to be 0, and
+-- REGISTER AND IGNORE EXISTING KEY ignores it.
+abbrev pub accepts_key : List Registration → (caller : ℕ) → OutAction → (key : ℕ) → Bool
+accepts_key all caller RegisterAndIgnoreExistingKey key = true
+accepts_key all caller Register key =
+    is_registered_under all caller key || (not (is_registered all caller) && key == 0)
+accepts_key all caller action key = is_registered_under all caller key
+
+unfoldable pub outcome : ReservationState → (caller : ℕ) → OutAction → (scope_type : ℕ) → OutList
+    → Outcome
+outcome state caller action scope_type list =
+    let accepts = accepts_key state.registrations caller action list.reservation_key in
+    let type = type_of scope_type in
+    first_case (
+    when (has_unsupported_flag action list) (Err (ListField flags_at))
+    ∷ when (not accepts) (Err Conflict)
+    ∷ otherwise (action_outcome state caller action type list.service_action_key)
+    ∷ [])
+
+-- ---- What it leaves
+
+-- What is raised for an initiator: nothing for the caller, nor for one that was not registered.
+abbrev pub raised_for : List Registration → (caller : ℕ) → Effect → (initiator : ℕ)
+    → Option UnitAttention
+raised_for before caller effect initiator =
+    if initiator == caller || not (is_registered before initiator) then None
+    else (if is_registered effect.registrations initiator then effect.for_remaining
+    else effect.for_removed)
+
+unfoldable pub raised_by : List Registration → (caller : ℕ) → Effect → Conditions
+raised_by before caller effect =
+    map (raised_for before caller effect) (range_with_len 0 initiator_count)
+
+abbrev pub reply_of : ReservationState → (caller : ℕ) → Outcome → Result Conditions OutFault
+reply_of state caller (Ok effect) = Ok (raised_by state.registrations caller effect)
+reply_of state caller (Err fault) = Err fault
+
+-- PRGENERATION has 32 bits, and 0 comes after FFFFFFFFh.
+abbrev pub generation_after : (increments : Bool) → (generation : ℕ) → ℕ
+generation_after increments generation =
+    if increments then (generation + 1) % 2 ^ 32 else generation
+
+-- A command that is refused changes nothing.
+abbrev pub state_after : ReservationState → Outcome → ReservationState
+state_after state (Ok effect) = record {
+  registrations = effect.registrations;
+  reservation = effect.reservation;
+  generation = generation_after effect.increments_generation state.generation;
+}
+state_after state (Err fault) = state

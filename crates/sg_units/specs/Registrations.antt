@@ -1,0 +1,65 @@
+-- Registrations, in the order in which they were made (SPC-4, 5.13, registering).
+use Rattle.std.specs.Prelude.{ℕ, ◌==◌, Bool, not, ◌&&◌, ◌||◌, if◌then◌else◌}
+use Rattle.std.specs.Prelude.{List, [], ◌∷◌, ◌++◌, map, filter, find, count_by, Option, option_map}
+use Rattle.std.specs.List.{list_any}
+use Rattle.sg_units.specs.declared.registrations.Registration.{Registration}
+
+-- How many there is room for.
+abbrev pub max_registrations : ℕ
+max_registrations = 6
+
+abbrev pub registration : (initiator key : ℕ) → Registration
+registration initiator key = record { initiator = initiator; key = key }
+
+abbrev pub is_of : (initiator : ℕ) → Registration → Bool
+is_of initiator r = r.initiator == initiator
+
+abbrev pub is_under : (key : ℕ) → Registration → Bool
+is_under key r = r.key == key
+
+-- ---- Who is registered
+
+abbrev pub is_registered : List Registration → (initiator : ℕ) → Bool
+is_registered registrations initiator = list_any (is_of initiator) registrations
+
+abbrev pub is_registered_under : List Registration → (initiator key : ℕ) → Bool
+is_registered_under registrations initiator key =
+    list_any (λ r. is_of initiator r && is_under key r) registrations
+
+-- Whether some initiator is registered under a key.
+abbrev pub has_key : List Registration → (key : ℕ) → Bool
+has_key registrations key = list_any (is_under key) registrations
+
+-- The reservation key of an initiator.
+abbrev pub key_of : List Registration → (initiator : ℕ) → Option ℕ
+key_of registrations initiator =
+    option_map (λ (r : Registration). r.key) (find (is_of initiator) registrations)
+
+-- How many registrations an initiator has.
+abbrev pub registrations_of : List Registration → (initiator : ℕ) → ℕ
+registrations_of registrations initiator = count_by (is_of initiator) registrations
+
+-- ---- What they become
+
+abbrev pub with_registration : List Registration → (initiator key : ℕ) → List Registration
+with_registration registrations initiator key =
+    registrations ++ registration initiator key ∷ []
+
+-- An initiator's key is replaced.
+abbrev pub with_key_replaced : List Registration → (initiator key : ℕ) → List Registration
+with_key_replaced registrations initiator key =
+    map (λ r. if is_of initiator r then registration initiator key else r) registrations
+
+abbrev pub without_initiator : List Registration → (initiator : ℕ) → List Registration
+without_initiator registrations initiator = filter (λ r. not (is_of initiator r)) registrations
+
+abbrev pub without_key : List Registration → (key : ℕ) → List Registration
+without_key registrations key = filter (λ r. not (is_under key r)) registrations
+
+-- Those of others under a key are removed.
+abbrev pub without_key_of_others : List Registration → (initiator key : ℕ) → List Registration
+without_key_of_others registrations initiator key =
+    filter (λ r. is_of initiator r || not (is_under key r)) registrations
+
+abbrev pub without_others : List Registration → (initiator : ℕ) → List Registration
+without_others registrations initiator = filter (is_of initiator) registrations

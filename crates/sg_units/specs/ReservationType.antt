@@ -1,0 +1,50 @@
+-- The types of persistent reservation (SPC-4, 6.15.3.4).
+use Rattle.std.specs.Prelude.{ℕ, ◌==◌, Bool, true, false, List, [], ◌∷◌, find, Option}
+use Rattle.sg_units.specs.declared.reservation_type.ReservationType.{ReservationType}
+use Rattle.sg_units.specs.declared.reservation_type.ReservationType.TheVariants.{WriteExclusive, ExclusiveAccess, WriteExclusiveRegistrantsOnly, ExclusiveAccessRegistrantsOnly, WriteExclusiveAllRegistrants, ExclusiveAccessAllRegistrants}
+
+-- The code of the TYPE field. With the scope of a logical unit, 0h, it is the whole byte.
+abbrev pub code_of : ReservationType → ℕ
+code_of WriteExclusive = 0x01
+code_of ExclusiveAccess = 0x03
+code_of WriteExclusiveRegistrantsOnly = 0x05
+code_of ExclusiveAccessRegistrantsOnly = 0x06
+code_of WriteExclusiveAllRegistrants = 0x07
+code_of ExclusiveAccessAllRegistrants = 0x08
+
+abbrev pub each_type : List ReservationType
+each_type =
+    WriteExclusive
+    ∷ ExclusiveAccess
+    ∷ WriteExclusiveRegistrantsOnly
+    ∷ ExclusiveAccessRegistrantsOnly
+    ∷ WriteExclusiveAllRegistrants
+    ∷ ExclusiveAccessAllRegistrants
+    ∷ []
+
+-- The type in a byte of SCOPE and TYPE. None where the scope or the type is not valid.
+abbrev pub type_of : ℕ → Option ReservationType
+type_of scope_type = find (λ type. code_of type == scope_type) each_type
+
+abbrev pub is_same_type : ReservationType → ReservationType → Bool
+is_same_type a b = code_of a == code_of b
+
+-- Whether each registrant is a holder: the all registrants types.
+abbrev pub is_all_registrants : ReservationType → Bool
+is_all_registrants WriteExclusiveAllRegistrants = true
+is_all_registrants ExclusiveAccessAllRegistrants = true
+is_all_registrants type = false
+
+-- Whether each registrant has the access of a holder: the registrants only and the all registrants
+-- types.
+abbrev pub is_shared : ReservationType → Bool
+is_shared WriteExclusive = false
+is_shared ExclusiveAccess = false
+is_shared type = true
+
+-- Whether others may not read either: the exclusive access types.
+abbrev pub is_exclusive_access : ReservationType → Bool
+is_exclusive_access ExclusiveAccess = true
+is_exclusive_access ExclusiveAccessRegistrantsOnly = true
+is_exclusive_access ExclusiveAccessAllRegistrants = true
+is_exclusive_access type = false

@@ -1,0 +1,18 @@
+// The effect of PERSISTENT RESERVE OUT.
+use crate::registrations::Registrations;
+use crate::{Reservation, UnitAttention};
+
+// What a PERSISTENT RESERVE OUT that is not refused does.
+#[derive(Drop)]
+pub(crate) struct Effect {
+    // The registrations afterwards.
+    pub(crate) registrations: Registrations,
+    // The reservation afterwards.
+    pub(crate) reservation: Option<Reservation>,
+    // The condition for each other initiator whose registration is removed.
+    pub(crate) for_removed: Option<UnitAttention>,
+    // The condition for each other initiator whose registration remains.
+    pub(crate) for_remaining: Option<UnitAttention>,
+    // Whether PRGENERATION is incremented.
+    pub(crate) increments_generation: bool,
+}

@@ -1,0 +1,181 @@
+// Registrations.
+ghost use Rattle.std.specs.Prelude.{◌≡◌, ◌<◌, ◌≤◌, ◌==◌, [], length};
+ghost use Rattle.sg_units.specs.Registrations.{has_key, is_of, is_registered, is_registered_under};
+ghost use Rattle.sg_units.specs.Registrations.{key_of, max_registrations, with_key_replaced};
+ghost use Rattle.sg_units.specs.Registrations.{with_registration, without_initiator, without_key};
+ghost use Rattle.sg_units.specs.Registrations.{without_key_of_others, without_others};
+
+use arrayvec::ArrayVec;
+use sg_wire::Initiator;
+use std::marker::Model;
+
+/// An initiator that is registered, a registrant, and its reservation key (SPC-4, 5.13).
+#[derive(Clone, Copy)]
+pub struct Registration {
+    /// The registrant.
+    pub initiator: Initiator,
+    /// The reservation key.
+    pub key: u64,
+}
+
+// What is in the places of a table that are not in use.
+impl Default for Registration {
+    fn default() -> Registration {
+        match Initiator::new(0) {
+            Some(initiator) => Registration { initiator, key: 0 },
+            None => unreachable!(),
+        }
+    }
+}
+
+impl Registration {
+    fn is_of(&self, initiator: Initiator) -> bool
+        ensures { result ≡ is_of initiator self.now }
+    {
+        self.initiator.number() == initiator.number()
+    }
+}
+
+// How many registrations there is room for.
+const MAX_REGISTRATIONS: usize = 6;
+
+// The registrations, in the order in which they were made.
+#[derive(Drop)]
+pub(crate) struct Registrations {
+    items: ArrayVec<Registration, MAX_REGISTRATIONS>,
+}
+
+impl Model for Registrations {
+    ghost use Rattle.std.specs.Prelude.{List};
+    ghost use Rattle.sg_units.specs.declared.registrations.Registration.{Registration};
+
+    ghost Value = { List Registration };
+
+    ghost view = { λ r. r.items.items };
+}
+
+impl Registrations {
+    pub(crate) fn new() -> Registrations
+        ensures { result ≡ [] }
+    {
+        Registrations {
+            items: ArrayVec::new(),
+        }
+    }
+
+    pub(crate) fn as_slice(&self) -> &[Registration]
+        ensures value { result.now ≡ self.now }
+        ensures at_most_six { length self.now ≤ max_registrations }
+    {
+        self.items.as_slice()
+    }
+
+    pub(crate) fn is_full(&self) -> bool
+        ensures value { result ≡ (length self.now == max_registrations) }
+        ensures at_most_six { length self.now ≤ max_registrations }
+    {
+        self.items.is_full()
+    }
+
+    // Whether an initiator is registered.
+    pub(crate) fn has(&self, initiator: Initiator) -> bool
+        ensures { result ≡ is_registered self.now initiator }
+    {
+        self.items
+            .as_slice()
+            .iter()
+            .any(|registration| registration.is_of(initiator))
+    }
+
+    // Whether an initiator is registered under a key.
+    pub(crate) fn has_under(&self, initiator: Initiator, key: u64) -> bool
+        ensures { result ≡ is_registered_under self.now initiator key }
+    {
+        self.items.as_slice().iter().any(|registration| registration.is_of(initiator)
+            && registration.key == key)
+    }
+
+    // Whether some initiator is registered under a key.
+    pub(crate) fn has_key(&self, key: u64) -> bool
+        ensures { result ≡ has_key self.now key }
+    {
+        self.items
+            .as_slice()
+            .iter()
+            .any(|registration| registration.key == key)
+    }
+
+    // The reservation key of an initiator.
+    pub(crate) fn key_of(&self, initiator: Initiator) -> Option<u64>
+        ensures { result ≡ key_of self.now initiator }
+    {
+        self.items
+            .as_slice()
+            .iter()
+            .find(|registration| registration.is_of(initiator))
+            .map(|registration| registration.key)
+    }
+
+    pub(crate) fn copied(&self) -> Registrations
+        ensures { result ≡ self.now }
+    {
+        let mut items = ArrayVec::new();
+        for registration in self.items.as_slice() {
+            items.push(*registration);
+        }
+        Registrations { items }
+    }
+
+    // Adds a registration.
+    pub(crate) fn register(&mut self, initiator: Initiator, key: u64)
+        requires { length self.old < max_registrations }
+        ensures { self.new ≡ with_registration self.old initiator key }
+    {
+        self.items.push(Registration { initiator, key });
+    }
+
+    // The registrations with an initiator's key replaced.
+    pub(crate) fn with_key_replaced(&self, initiator: Initiator, key: u64) -> Registrations
+        ensures { result ≡ with_key_replaced self.now initiator key }
+    {
+        let mut items = ArrayVec::new();
+        for registration in self.items.as_slice() {
+            if registration.is_of(initiator) {
+                items.push(Registration { initiator, key });
+            } else {
+                items.push(*registration);
+            }
+        }
+        Registrations { items }
+    }
+
+    // Removes the registration of an initiator.
+    pub(crate) fn remove(&mut self, initiator: Initiator)
+        ensures { self.new ≡ without_initiator self.old initiator }
+    {
+        self.items
+            .retain(|registration| !registration.is_of(initiator));
+    }
+
+    // Removes all registrations under a key.
+    pub(crate) fn remove_key(&mut self, key: u64)
+        ensures { self.new ≡ without_key self.old key }
+    {
+        self.items.retain(|registration| registration.key != key);
+    }
+
+    // Removes the registrations under a key that are not an initiator's.
+    pub(crate) fn remove_key_of_others(&mut self, initiator: Initiator, key: u64)
+        ensures { self.new ≡ without_key_of_others self.old initiator key }
+    {
+        self.items.retain(|registration| registration.is_of(initiator) || registration.key != key);
+    }
+
+    // Removes all registrations that are not an initiator's.
+    pub(crate) fn remove_others(&mut self, initiator: Initiator)
+        ensures { self.new ≡ without_others self.old initiator }
+    {
+        self.items
+            .retain(|registration| registration.is_of(initiator));
+    }
+}

@@ -1,0 +1,62 @@
+// The persistent reservation.
+ghost use Rattle.std.specs.Prelude.{◌≡◌};
+ghost use Rattle.sg_units.specs.PersistentReserveOut.{released};
+ghost use Rattle.sg_units.specs.Reservations.{has_holder, holds, taken};
+
+use crate::registrations::Registrations;
+use crate::{ReservationType, UnitAttention};
+use sg_wire::Initiator;
+
+/// A persistent reservation that is held (SPC-4, 5.13).
+#[derive(Clone, Copy)]
+pub struct Reservation {
+    /// Its type.
+    pub kind: ReservationType,
+    /// Its one holder. None under an all registrants type, where each registrant is a holder.
+    pub holder: Option<Initiator>,
+}
+
+impl Reservation {
+    // The reservation of a type that an initiator takes.
+    pub(crate) fn taken(kind: ReservationType, initiator: Initiator) -> Reservation
+        ensures { result ≡ taken kind initiator }
+    {
+        let holder = if kind.is_all_registrants() {
+            None
+        } else {
+            Some(initiator)
+        };
+        Reservation { kind, holder }
+    }
+
+    // Whether a registrant is a holder.
+    pub(crate) fn is_held_by(&self, registrant: Initiator) -> bool
+        ensures { result ≡ holds self.now registrant }
+    {
+        match self.holder {
+            Some(holder) => registrant.number() == holder.number(),
+            None => true,
+        }
+    }
+
+    // Whether one of the registrants is a holder.
+    pub(crate) fn has_holder(&self, registrations: &Registrations) -> bool
+        ensures { result ≡ has_holder self.now registrations.now }
+    {
+        registrations
+            .as_slice()
+            .iter()
+            .any(|registration| self.is_held_by(registration.initiator))
+    }
+
+    // What its end raises for the other registrants.
+    pub(crate) fn released(kind: ReservationType) -> Option<UnitAttention>
+        ensures { result ≡ released kind }
+    {
+        if kind.is_shared() {
+            Some(UnitAttention::ReservationsReleased)
+        } else {
+            None
+        }
+    }
+}

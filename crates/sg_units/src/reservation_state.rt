@@ -1,0 +1,120 @@
+// Registrations and the persistent reservation.
+mod out;
+mod persistent_reserve_in;
+mod preempt;
+mod register;
+mod reserve;
+
+ghost use Rattle.std.specs.Prelude.{◌≡◌, Ok, None};
+ghost use Rattle.sg_units.specs.Access.{allows, standing_of};
+ghost use Rattle.sg_units.specs.PersistentReserveOut.{next_generation, same_generation};
+ghost use Rattle.sg_units.specs.Reservations.{empty_state, has_type, is_holder, while_held};
+
+use crate::access::{Standing, highest_class, is_within};
+use crate::effect::Effect;
+use crate::registrations::Registrations;
+use crate::{Reservation, ReservationType};
+use sg_wire::{Class, Initiator};
+
+// The registrations, the reservation that is held, and PRGENERATION.
+#[derive(Drop)]
+pub(crate) struct ReservationState {
+    pub(crate) registrations: Registrations,
+    pub(crate) reservation: Option<Reservation>,
+    pub(crate) generation: u32,
+}
+
+impl ReservationState {
+    pub(crate) fn new() -> ReservationState
+        ensures { result ≡ empty_state }
+    {
+        ReservationState {
+            registrations: Registrations::new(),
+            reservation: None,
+            generation: 0,
+        }
+    }
+
+    // Whether an initiator holds the reservation.
+    pub(crate) fn is_holder(&self, initiator: Initiator) -> bool
+        ensures { result ≡ is_holder self.now initiator }
+    {
+        match &self.reservation {
+            Some(reservation) => {
+                self.registrations.has(initiator) && reservation.is_held_by(initiator)
+            }
+            None => false,
+        }
+    }
+
+    // Whether a reservation is held, and is of a type.
+    pub(crate) fn has_type(&self, kind: ReservationType) -> bool
+        ensures { result ≡ has_type self.now.reservation kind }
+    {
+        match &self.reservation {
+            Some(reservation) => reservation.kind.is(kind),
+            None => false,
+        }
+    }
+
+    // The reservation, where one of the registrants holds it.
+    pub(crate) fn while_held(&self, registrations: &Registrations) -> Option<Reservation>
+        ensures { result ≡ while_held self.now.reservation registrations.now }
+    {
+        match &self.reservation {
+            Some(reservation) if reservation.has_holder(registrations) => Some(*reservation),
+            _ => None,
+        }
+    }
+
+    fn standing_of(&self, initiator: Initiator) -> Standing
+        ensures { result ≡ standing_of self.now initiator }
+    {
+        if self.is_holder(initiator) {
+            Standing::Holder
+        } else if self.registrations.has(initiator) {
+            Standing::Registrant
+        } else {
+            Standing::Other
+        }
+    }
+
+    // Whether an initiator's command of a class is allowed.
+    pub(crate) fn allows(&self, initiator: Initiator, class: Class) -> bool
+        ensures { result ≡ allows self.now initiator class }
+    {
+        match &self.reservation {
+            Some(reservation) => {
+                let standing = self.standing_of(initiator);
+                is_within(highest_class(reservation.kind, standing), class)
+            }
+            None => true,
+        }
+    }
+
+    // Nothing changes.
+    fn unchanged(&self) -> Effect
+        ensures { Ok result ≡ same_generation self.now.registrations self.now.reservation None }
+    {
+        Effect {
+            registrations: self.registrations.copied(),
+            reservation: self.reservation,
+            for_removed: None,
+            for_remaining: None,
+            increments_generation: false,
+        }
+    }
+
+    // The registrations change, the reservation stays, and nothing is raised.
+    fn with_registrations(&self, registrations: Registrations) -> Effect
+        ensures { Ok result ≡ next_generation registrations self.now.reservation None None }
+    {
+        Effect {
+            registrations,
+            reservation: self.reservation,
+            for_removed: None,
+            for_remaining: None,
+            increments_generation: true,
+        }
+    }
+}

@@ -1,0 +1,73 @@
+// PERSISTENT RESERVE OUT.
+ghost use Rattle.std.specs.Prelude.{◌≡◌};
+ghost use Rattle.sg_units.specs.PersistentReserveOut.{accepts_key, action_outcome, outcome};
+
+use super::ReservationState;
+use crate::effect::Effect;
+use crate::{OutAction, OutFault, OutList, ReservationType};
+use sg_wire::Initiator;
+
+impl ReservationState {
+    // The effect of a command, which changes nothing yet.
+    #[tactic(auto, unfolding(crate::specs::PersistentReserveOut::outcome))]
+    pub(crate) fn outcome(
+        &self,
+        caller: Initiator,
+        action: OutAction,
+        scope_type: u8,
+        list: &OutList,
+    ) -> Result<Effect, OutFault>
+        ensures { result ≡ outcome self.now caller action scope_type list.now }
+    {
+        if list.has_unsupported_flag(action) {
+            return Err(OutFault::ListField(OutList::FLAGS_AT as u8));
+        }
+        if !self.accepts_key(caller, action, list.reservation_key) {
+            return Err(OutFault::Conflict);
+        }
+        let kind = ReservationType::with_scope_and_type(scope_type);
+        self.action_outcome(caller, action, kind, list.service_action_key)
+    }
+
+    // Whether a key is the caller's, or it needs none.
+    fn accepts_key(&self, caller: Initiator, action: OutAction, key: u64) -> bool
+        ensures { result ≡ accepts_key self.now.registrations caller action key }
+    {
+        match action {
+            OutAction::RegisterAndIgnoreExistingKey => true,
+            OutAction::Register => {
+                self.registrations.has_under(caller, key)
+                    || !self.registrations.has(caller) && key == 0
+            }
+            OutAction::Reserve
+            | OutAction::Release
+            | OutAction::Clear
+            | OutAction::Preempt
+            | OutAction::PreemptAndAbort => self.registrations.has_under(caller, key),
+        }
+    }
+
+    fn action_outcome(
+        &self,
+        caller: Initiator,
+        action: OutAction,
+        kind: Option<ReservationType>,
+        sark: u64,
+    ) -> Result<Effect, OutFault>
+        ensures { result ≡ action_outcome self.now caller action kind sark }
+    {
+        match action {
+            OutAction::Register => self.register(caller, sark),
+            OutAction::Reserve => {
+                self.reserve(caller, kind.ok_or(OutFault::InvalidScopeOrType)?)
+            }
+            OutAction::Release => {
+                self.release(caller, kind.ok_or(OutFault::InvalidScopeOrType)?)
+            }
+            OutAction::Clear => Ok(self.clear()),
+            OutAction::Preempt => self.preempt(caller, kind, sark),
+            OutAction::PreemptAndAbort => self.preempt(caller, kind, sark),
+            OutAction::RegisterAndIgnoreExistingKey => self.register(caller, sark),
+        }
+    }
+}

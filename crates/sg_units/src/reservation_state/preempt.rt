@@ -1,0 +1,116 @@
+// PREEMPT and PREEMPT AND ABORT.
+ghost use Rattle.std.specs.Prelude.{◌≡◌, Ok, Some, None};
+ghost use Rattle.sg_units.specs.PersistentReserveOut.{first_case, has_one_holder, is_held_by_all};
+ghost use Rattle.sg_units.specs.PersistentReserveOut.{is_key_of_holder, next_generation, preempt_cases};
+ghost use Rattle.sg_units.specs.PersistentReserveOut.{preempted};
+ghost use Rattle.sg_units.specs.Reservations.{while_held};
+ghost use Rattle.sg_units.specs.declared.unit_attention.UnitAttention.TheVariants.{RegistrationsPreempted};
+
+use super::ReservationState;
+use crate::effect::Effect;
+use crate::registrations::Registrations;
+use crate::{OutFault, OutList, Reservation, ReservationType, UnitAttention};
+use sg_wire::Initiator;
+
+impl ReservationState {
+    // Removes the registrations under a key. Where it is the holder's, or is 0 and each registrant
+    // is a holder, the caller takes the reservation.
+    #[tactic(auto, unfolding(crate::specs::PersistentReserveOut::preempt_cases))]
+    pub(super) fn preempt(
+        &self,
+        caller: Initiator,
+        kind: Option<ReservationType>,
+        sark: u64,
+    ) -> Result<Effect, OutFault>
+        ensures { result ≡ first_case (preempt_cases self.now caller kind sark) }
+    {
+        if self.has_one_holder() && sark == 0 {
+            return Err(OutFault::ListField(OutList::SERVICE_ACTION_KEY_AT as u8));
+        }
+        let mut registrations = self.registrations.copied();
+        if self.is_key_of_holder(sark) {
+            registrations.remove_key_of_others(caller, sark);
+            return self.preempted(caller, kind, registrations);
+        }
+        if self.is_held_by_all() && sark == 0 {
+            registrations.remove_others(caller);
+            return self.preempted(caller, kind, registrations);
+        }
+        if !self.registrations.has_key(sark) {
+            return Err(OutFault::Conflict);
+        }
+        registrations.remove_key(sark);
+        Ok(self.with_registrations_preempted(registrations))
+    }
+
+    // The caller takes the reservation, and these registrations remain.
+    fn preempted(
+        &self,
+        caller: Initiator,
+        kind: Option<ReservationType>,
+        registrations: Registrations,
+    ) -> Result<Effect, OutFault>
+        ensures { result ≡ preempted self.now.reservation caller kind registrations }
+    {
+        let kind = kind.ok_or(OutFault::InvalidScopeOrType)?;
+        let for_remaining = if self.has_type(kind) {
+            None
+        } else {
+            Some(UnitAttention::ReservationsReleased)
+        };
+        Ok(Effect {
+            registrations,
+            reservation: Some(Reservation::taken(kind, caller)),
+            for_removed: Some(UnitAttention::RegistrationsPreempted),
+            for_remaining,
+            increments_generation: true,
+        })
+    }
+
+    // These registrations remain, and the reservation, where one of them holds it.
+    fn with_registrations_preempted(&self, registrations: Registrations) -> Effect
+        ensures { Ok result ≡
+            next_generation registrations (while_held self.now.reservation registrations)
+            (Some RegistrationsPreempted) None }
+    {
+        let reservation = self.while_held(&registrations);
+        Effect {
+            registrations,
+            reservation,
+            for_removed: Some(UnitAttention::RegistrationsPreempted),
+            for_remaining: None,
+            increments_generation: true,
+        }
+    }
+
+    fn has_one_holder(&self) -> bool
+        ensures { result ≡ has_one_holder self.now.reservation }
+    {
+        match &self.reservation {
+            Some(reservation) => reservation.holder.is_some(),
+            None => false,
+        }
+    }
+
+    fn is_held_by_all(&self) -> bool
+        ensures { result ≡ is_held_by_all self.now.reservation }
+    {
+        match &self.reservation {
+            Some(reservation) => reservation.holder.is_none(),
+            None => false,
+        }
+    }
+
+    // Whether a key is that of the one holder.
+    fn is_key_of_holder(&self, key: u64) -> bool
+        ensures { result ≡ is_key_of_holder self.now key }
+    {
+        match &self.reservation {
+            Some(reservation) => match reservation.holder {
+                Some(holder) => self.registrations.has_under(holder, key),
+                None => false,
+            },
+            None => false,
+        }
+    }
+}

@@ -1,0 +1,68 @@
+// REGISTER and REGISTER AND IGNORE EXISTING KEY.
+ghost use Rattle.std.specs.Prelude.{◌≡◌, Ok, None};
+ghost use Rattle.sg_units.specs.PersistentReserveOut.{first_case, next_generation, register_cases};
+ghost use Rattle.sg_units.specs.PersistentReserveOut.{released_unless_held};
+ghost use Rattle.sg_units.specs.Registrations.{without_initiator};
+ghost use Rattle.sg_units.specs.Reservations.{while_held};
+
+use super::ReservationState;
+use crate::effect::Effect;
+use crate::registrations::Registrations;
+use crate::{OutFault, Reservation, UnitAttention};
+use sg_wire::Initiator;
+
+impl ReservationState {
+    // Registers an initiator, replaces its key, or with key 0 unregisters it.
+    #[tactic(auto, unfolding(crate::specs::PersistentReserveOut::register_cases))]
+    pub(super) fn register(&self, caller: Initiator, sark: u64) -> Result<Effect, OutFault>
+        ensures { result ≡ first_case (register_cases self.now caller sark) }
+    {
+        if self.registrations.has(caller) {
+            return Ok(if sark == 0 {
+                self.unregistered(caller)
+            } else {
+                self.with_registrations(self.registrations.with_key_replaced(caller, sark))
+            });
+        }
+        if sark == 0 {
+            return Ok(self.unchanged());
+        }
+        if self.registrations.is_full() {
+            return Err(OutFault::InsufficientRegistrationResources);
+        }
+        let mut registrations = self.registrations.copied();
+        registrations.register(caller, sark);
+        Ok(self.with_registrations(registrations))
+    }
+
+    // An initiator is unregistered. The reservation ends where no registrant holds it any more.
+    fn unregistered(&self, caller: Initiator) -> Effect
+        ensures { let rest = without_initiator self.now.registrations caller in
+            Ok result ≡ next_generation rest (while_held self.now.reservation rest) None
+            (released_unless_held self.now.reservation rest) }
+    {
+        let mut registrations = self.registrations.copied();
+        registrations.remove(caller);
+        let reservation = self.while_held(&registrations);
+        let for_remaining = self.released_unless_held(&registrations);
+        Effect {
+            registrations,
+            reservation,
+            for_removed: None,
+            for_remaining,
+            increments_generation: true,
+        }
+    }
+
+    // What is raised for the registrants that remain, where none of them holds the reservation.
+    fn released_unless_held(&self, registrations: &Registrations) -> Option<UnitAttention>
+        ensures { result ≡ released_unless_held self.now.reservation registrations.now }
+    {
+        match &self.reservation {
+            Some(reservation) if !reservation.has_holder(registrations) => {
+                Reservation::released(reservation.kind)
+            }
+            _ => None,
+        }
+    }
+}

@@ -1,0 +1,68 @@
+// RESERVE, RELEASE and CLEAR.
+ghost use Rattle.std.specs.Prelude.{◌≡◌, Ok};
+ghost use Rattle.sg_units.specs.PersistentReserveOut.{cleared, first_case, release_cases};
+ghost use Rattle.sg_units.specs.PersistentReserveOut.{reserve_cases};
+
+use super::ReservationState;
+use crate::effect::Effect;
+use crate::registrations::Registrations;
+use crate::{OutFault, Reservation, ReservationType, UnitAttention};
+use sg_wire::Initiator;
+
+impl ReservationState {
+    // A registrant takes a reservation, where none is held.
+    #[tactic(auto, unfolding(crate::specs::PersistentReserveOut::reserve_cases))]
+    pub(super) fn reserve(
+        &self,
+        caller: Initiator,
+        kind: ReservationType,
+    ) -> Result<Effect, OutFault>
+        ensures { result ≡ first_case (reserve_cases self.now caller kind) }
+    {
+        if self.reservation.is_none() {
+            return Ok(Effect {
+                reservation: Some(Reservation::taken(kind, caller)),
+                ..self.unchanged()
+            });
+        }
+        if self.is_holder(caller) && self.has_type(kind) {
+            return Ok(self.unchanged());
+        }
+        Err(OutFault::Conflict)
+    }
+
+    // A holder ends the reservation.
+    #[tactic(auto, unfolding(crate::specs::PersistentReserveOut::release_cases))]
+    pub(super) fn release(
+        &self,
+        caller: Initiator,
+        kind: ReservationType,
+    ) -> Result<Effect, OutFault>
+        ensures { result ≡ first_case (release_cases self.now caller kind) }
+    {
+        if !self.is_holder(caller) {
+            return Ok(self.unchanged());
+        }
+        if !self.has_type(kind) {
+            return Err(OutFault::InvalidRelease);
+        }
+        Ok(Effect {
+            reservation: None,
+            for_remaining: Reservation::released(kind),
+            ..self.unchanged()
+        })
+    }
+
+    // All registrations are removed, and the reservation ends.
+    pub(super) fn clear(&self) -> Effect
+        ensures { Ok result ≡ cleared }
+    {
+        Effect {
+            registrations: Registrations::new(),
+            reservation: None,
+            for_removed: Some(UnitAttention::ReservationsPreempted),
+            for_remaining: None,
+            increments_generation: true,
+        }
+    }
+}

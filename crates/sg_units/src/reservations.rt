@@ -1,0 +1,114 @@
+// Registrations and the persistent reservation.
+use crate::reservation_state::ReservationState;
+use crate::{OutAction, OutFault, OutList, Raised};
+use sg_wire::{Class, Cut, Initiator};
+use std::marker::Model;
+
+/// Which initiators are registered, under which keys, who holds a persistent reservation, and
+/// PRGENERATION (SPC-4, 5.13).
+#[derive(Drop)]
+pub struct Reservations {
+    state: ReservationState,
+}
+
+impl Model for Reservations {
+    ghost use Rattle.sg_units.specs.Reservations.{IsConsistent};
+    ghost use Rattle.sg_units.specs.declared.reservation_state.ReservationState.{ReservationState};
+
+    ghost Value = { ReservationState };
+
+    ghost view = { λ r. r.state };
+
+    ghost invariant = { λ r. IsConsistent r.state };
+}
+
+ghost use Rattle.std.specs.Prelude.{◌≡◌};
+ghost use Rattle.sg_wire.specs.Cut.{Puts};
+ghost use Rattle.sg_units.specs.Access.{allows};
+ghost use Rattle.sg_units.specs.PersistentReserveIn.{capabilities_data, keys_data};
+ghost use Rattle.sg_units.specs.PersistentReserveIn.{reservation_data};
+ghost use Rattle.sg_units.specs.PersistentReserveOut.{generation_after, outcome, reply_of};
+ghost use Rattle.sg_units.specs.PersistentReserveOut.{state_after};
+ghost use Rattle.sg_units.specs.Reservations.{IsConsistent, empty_state};
+
+impl Reservations {
+    /// No initiator is registered, no reservation is held, and PRGENERATION is 0.
+    pub fn new() -> Reservations
+        ensures state { result ≡ empty_state }
+        ensures consistent { IsConsistent result }
+    {
+        Reservations {
+            state: ReservationState::new(),
+        }
+    }
+
+    /// Executes a service action of PERSISTENT RESERVE OUT for an initiator, and returns the unit
+    /// attention conditions that it establishes for others (SPC-4, 5.13). The scope and type are
+    /// byte 2 of the CDB.
+    ///
+    /// # Errors
+    /// The first fault that applies. Nothing has changed then.
+    pub fn out(
+        &mut self,
+        caller: Initiator,
+        action: OutAction,
+        scope_type: u8,
+        list: &OutList,
+    ) -> Result<Raised, OutFault>
+        ensures reply { result ≡
+            reply_of self.old caller (outcome self.old caller action scope_type list.now) }
+        ensures state { self.new ≡
+            state_after self.old (outcome self.old caller action scope_type list.now) }
+        ensures consistent { IsConsistent self.new }
+    {
+        let effect = self.state.outcome(caller, action, scope_type, list)?;
+        let raised = Raised::by(&self.state.registrations, caller, &effect);
+        self.state = ReservationState {
+            generation: generation_after(effect.increments_generation, self.state.generation),
+            registrations: effect.registrations,
+            reservation: effect.reservation,
+        };
+        Ok(raised)
+    }
+
+    /// Whether the reservation that is held, if any, allows an initiator's command of a class.
+    pub fn allows(&self, initiator: Initiator, class: Class) -> bool
+        ensures { result ≡ allows self.now initiator class }
+    {
+        self.state.allows(initiator, class)
+    }
+
+    /// Writes the data-in of READ KEYS: PRGENERATION and the keys of all registrants (SPC-4,
+    /// 6.15.2).
+    pub fn read_keys(&self, cut: &mut Cut)
+        ensures { Puts cut.old cut.new (keys_data self.now) }
+    {
+        self.state.read_keys(cut);
+    }
+
+    /// Writes the data-in of READ RESERVATION: PRGENERATION and the reservation that is held, if any
+    /// (SPC-4, 6.15.3).
+    pub fn read_reservation(&self, cut: &mut Cut)
+        ensures { Puts cut.old cut.new (reservation_data self.now) }
+    {
+        self.state.read_reservation(cut);
+    }
+
+    /// Writes the data-in of REPORT CAPABILITIES (SPC-4, 6.15.4).
+    pub fn report_capabilities(&self, cut: &mut Cut)
+        ensures { Puts cut.old cut.new capabilities_data }
+    {
+        cut.put(&[0x00, 0x08, 0x00, 0x80, 0xEA, 0x01, 0x00, 0x00]);
+    }
+}
+
+// PRGENERATION after a command.
+fn generation_after(increments: bool, generation: u32) -> u32
+    ensures { result ≡ generation_after increments generation }
+{
+    if increments {
+        generation.wrapping_add(1)
+    } else {
+        generation
+    }
+}
