@@ -1,5 +1,7 @@
 -- The queues of unit attention conditions.
-use Rattle.std.proofs.Common.{◌≡◌, ◌<◌, ◌≤◌, ◌+◌, ◌⊎◌, inl, inr, ◌==◌, ◌||◌, ℕ, zero, suc, Bool, true, false, cond, List, [], ◌∷◌, ◌++◌, length, map, drop, get_or, set, Option, Some, None, refl, sym, ap, ◌∙◌, subst, arith}
+use Rattle.std.proofs.Common.{◌≡◌, ◌<◌, ◌≤◌, ◌+◌, ◌⊎◌, inl, inr, ◌==◌, ◌||◌, ℕ, zero, suc, Bool}
+use Rattle.std.proofs.Common.{true, false, cond, List, [], ◌∷◌, ◌++◌, length, map, drop, get_or}
+use Rattle.std.proofs.Common.{set, Option, Some, None, refl, sym, ap, ◌∙◌, subst, arith}
 use Rattle.std.specs.Prelude.{if◌then◌else◌, count_by}
 use Rattle.std.proofs.lemmas.Bool.{cases_lt, false≢true}
 use Rattle.std.proofs.lemmas.List.{get_or-set_other, get_or-set_same, length-append, length-set, map-set}
@@ -7,11 +9,16 @@ use Rattle.std.proofs.lemmas.List.FromFn.{fill_by_all}
 use Rattle.std.proofs.lemmas.List.Sums.{sum_by-cons}
 use Rattle.std.proofs.lemmas.Bool.Decides.{nat_tests}
 use Rattle.arrayvec.specs.ArrayVec.{ArrayVec}
-use Rattle.sg_units.specs.Attentions.{AreDistinct, ArePending, AreQueues, IsNotAmong, IsQueue, Pending, is_pending, pending_for, power_on_pending, with_optional}
+use Rattle.sg_units.specs.Attentions.{AreDistinct, ArePending, AreQueues, IsNotAmong, IsQueue}
+use Rattle.sg_units.specs.Attentions.{Pending, is_pending, pending_for, power_on_pending}
+use Rattle.sg_units.specs.Attentions.{with_optional}
 use Rattle.sg_units.specs.Raised.{Conditions, queue_after, raised_for_each}
 use Rattle.sg_units.specs.UnitAttention.{number_of}
 use Rattle.sg_units.specs.declared.unit_attention.UnitAttention.{UnitAttention}
-use Rattle.sg_units.specs.declared.unit_attention.UnitAttention.TheVariants.{PowerOn, ModeParametersChanged, ReservationsPreempted, ReservationsReleased, RegistrationsPreempted}
+use Rattle.sg_units.specs.declared.unit_attention.UnitAttention.TheVariants.{PowerOn, ModeParametersChanged}
+use Rattle.sg_units.specs.declared.unit_attention.UnitAttention.TheVariants.{ReservationsPreempted}
+use Rattle.sg_units.specs.declared.unit_attention.UnitAttention.TheVariants.{ReservationsReleased}
+use Rattle.sg_units.specs.declared.unit_attention.UnitAttention.TheVariants.{RegistrationsPreempted}
 
 abbrev items_of : ArrayVec UnitAttention → List UnitAttention
 items_of v = v.items
@@ -35,9 +42,11 @@ condition_with-number ReservationsReleased = refl
 condition_with-number RegistrationsPreempted = refl
 
 same_condition : (c d : UnitAttention) → number_of c ≡ number_of d → c ≡ d
-same_condition c d e = sym (condition_with-number c) ∙ (ap condition_with e ∙ condition_with-number d)
+same_condition c d e =
+    sym (condition_with-number c) ∙ (ap condition_with e ∙ condition_with-number d)
 
-same-number : (c d : UnitAttention) (b : Bool) → (number_of d == number_of c) ≡ b → (c ≡ d → ⊥) → b ≡ false
+same-number : (c d : UnitAttention) (b : Bool) → (number_of d == number_of c) ≡ b
+    → (c ≡ d → ⊥) → b ≡ false
 same-number c d false e h = refl
 same-number c d true e h = absurd (h (same_condition c d (grind (arith, nat_tests))))
 
@@ -334,7 +343,8 @@ RaisedBelow-more initial conditions pending n h r =
     record {
       below =
           λ k l. below-more initial conditions pending n queue h r e k l (same_or_less k n l);
-      from = λ k l. get_or-set_other pending n k queue [] (λ d. omega arith) ∙ r.from k (omega arith);
+      from =
+          λ k l. get_or-set_other pending n k queue [] (λ d. omega arith) ∙ r.from k (omega arith);
     }
 
 pub RaisedBelow-all : (initial : Pending) (conditions : Conditions) (pending : Pending) (n : ℕ)

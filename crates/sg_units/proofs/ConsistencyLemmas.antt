@@ -1,5 +1,7 @@
 -- Every service action of PERSISTENT RESERVE OUT leaves registrations and reservation consistent.
-use Rattle.std.proofs.Common.{◌≡◌, ◌≤◌, ◌+◌, ◌==◌, ℕ, Bool, true, false, cond, not, ◌&&◌, ◌||◌, List, [], ◌∷◌, length, filter, Option, Some, None, Ok, Err, refl, sym, ap, ◌∙◌, subst, arith}
+use Rattle.std.proofs.Common.{◌≡◌, ◌≤◌, ◌+◌, ◌==◌, ℕ, Bool, true, false, cond, not, ◌&&◌, ◌||◌}
+use Rattle.std.proofs.Common.{List, [], ◌∷◌, length, filter, Option, Some, None, Ok, Err, refl}
+use Rattle.std.proofs.Common.{ap, ◌∙◌, arith}
 use Rattle.std.specs.Prelude.{if◌then◌else◌}
 use Rattle.std.specs.List.{list_any}
 use Rattle.std.proofs.lemmas.Bool.{false≢true}
@@ -8,20 +10,29 @@ use Rattle.std.proofs.lemmas.List.{length-append}
 use Rattle.std.proofs.lemmas.List.Folds.{list_any-append}
 use Rattle.std.proofs.lemmas.List.Sums.{sum_by-cons, sum_by_push, length-filter, count_by-le-length}
 use Rattle.sg_units.specs.OutList.{has_unsupported_flag}
-use Rattle.sg_units.specs.PersistentReserveOut.{Case, Outcome, accepts_key, action_outcome, first_case, outcome, preempt_cases, preempted, register_cases, release_cases, reserve_cases, state_after, with_type}
-use Rattle.sg_units.specs.Registrations.{is_of, is_registered, is_registered_under, is_under, registration, registrations_of, with_key_replaced, with_registration}
+use Rattle.sg_units.specs.ReserveOut.{Outcome, accepts_key, action_outcome, outcome}
+use Rattle.sg_units.specs.ReserveOut.{preempt_cases, register_cases, release_cases}
+use Rattle.sg_units.specs.ReserveOut.{reserve_cases, state_after}
+use Rattle.sg_units.specs.Registrations.{is_of, is_registered, is_registered_under, is_under}
+use Rattle.sg_units.specs.Registrations.{registration, registrations_of, with_key_replaced}
+use Rattle.sg_units.specs.Registrations.{with_registration}
 use Rattle.sg_units.specs.ReservationType.{is_all_registrants, type_of}
-use Rattle.sg_units.specs.Reservations.{AreConsistent, IsConsistent, has_holder, holds, is_held_if_any, names_holder, names_holder_if_any, taken, while_held}
+use Rattle.sg_units.specs.Reservations.{AreConsistent, IsConsistent, has_holder, holds}
+use Rattle.sg_units.specs.Reservations.{is_held_if_any, names_holder, names_holder_if_any, taken}
+use Rattle.sg_units.specs.Reservations.{while_held}
+use Rattle.sg_units.proofs.OutcomeLemmas.{EffectIs, FirstIs, and_false, case_or, choice, effective}
+use Rattle.sg_units.proofs.OutcomeLemmas.{last_case, not_false, not_true, refused, taking, typed}
 use Rattle.sg_units.specs.declared.effect.Effect.{Effect}
 use Rattle.sg_units.specs.declared.out_action.OutAction.{OutAction}
-use Rattle.sg_units.specs.declared.out_action.OutAction.TheVariants.{Register, Reserve, Release, Clear, Preempt, PreemptAndAbort, RegisterAndIgnoreExistingKey}
-use Rattle.sg_units.specs.declared.out_fault.OutFault.{OutFault}
-use Rattle.sg_units.specs.declared.out_fault.OutFault.TheVariants.{Conflict, InvalidScopeOrType, ListField}
+use Rattle.sg_units.specs.declared.out_action.OutAction.TheVariants.{Register, Reserve, Release, Clear}
+use Rattle.sg_units.specs.declared.out_action.OutAction.TheVariants.{Preempt, PreemptAndAbort}
+use Rattle.sg_units.specs.declared.out_action.OutAction.TheVariants.{RegisterAndIgnoreExistingKey}
+use Rattle.sg_units.specs.declared.out_fault.OutFault.TheVariants.{Conflict, ListField}
 use Rattle.sg_units.specs.declared.out_list.OutList.{OutList}
 use Rattle.sg_units.specs.declared.registrations.Registration.{Registration}
 use Rattle.sg_units.specs.declared.reservation.Reservation.{Reservation}
 use Rattle.sg_units.specs.declared.reservation_state.ReservationState.{ReservationState}
-use Rattle.sg_units.specs.declared.reservation_type.ReservationType.{ReservationType}
+use Rattle.sg_units.specs.declared.types.ReservationType.{ReservationType}
 
 -- ---- How often an initiator is registered
 
@@ -243,144 +254,92 @@ consistent-none = record {
 
 -- ---- Outcomes
 
-pub record IsConsistentOutcome (o : Outcome) : Type 0 where
-  pub after : (effect : Effect) → o ≡ Ok effect
-      → AreConsistent effect.registrations effect.reservation
-
-refused : (fault : OutFault) → IsConsistentOutcome (Err fault)
-refused fault = record { after = λ effect e. cc }
-
-effective : (effect : Effect) → AreConsistent effect.registrations effect.reservation
-    → IsConsistentOutcome (Ok effect)
-effective effect h = record {
-  after =
-      λ other e.
-      let same : effect ≡ other = cc in
-      subst (λ (x : Effect). AreConsistent x.registrations x.reservation) same h;
-}
-
-taking : (held : Option Reservation) (i : ℕ) (type : Option ReservationType)
-    (rest : List Registration)
-    → ((type : ReservationType) → AreConsistent rest (Some (taken type i)))
-    → IsConsistentOutcome (preempted held i type rest)
-taking held i None rest h = refused InvalidScopeOrType
-taking held i (Some type) rest h = effective _ (h type)
-
-typed : (type : Option ReservationType) (f : ReservationType → Outcome)
-    → ((type : ReservationType) → IsConsistentOutcome (f type))
-    → IsConsistentOutcome (with_type type f)
-typed None f h = refused InvalidScopeOrType
-typed (Some type) f h = h type
-
--- the first case that applies leaves what is consistent
-record AreConsistentCases (cases : List Case) : Type 0 where
-  pub first : IsConsistentOutcome (first_case cases)
-
-choice : (b : Bool) (x y : Outcome) → (b ≡ true → IsConsistentOutcome x)
-    → (b ≡ false → IsConsistentOutcome y) → IsConsistentOutcome (cond b x y)
-choice true x y f g = f refl
-choice false x y f g = g refl
-
-case_or : (case : Case) (cases : List Case)
-    → (case.condition ≡ true → IsConsistentOutcome case.outcome)
-    → (case.condition ≡ false → AreConsistentCases cases) → AreConsistentCases (case ∷ cases)
-case_or case cases f g =
-    record { first = choice case.condition case.outcome (first_case cases) f (λ h. (g h).first) }
-
-last_case : (case : Case) (cases : List Case) → case.condition ≡ true
-    → IsConsistentOutcome case.outcome → AreConsistentCases (case ∷ cases)
-last_case case cases e h = record {
-  first =
-      choice case.condition case.outcome (first_case cases) (λ _. h)
-      (λ no. absurd (false≢true (sym no ∙ e)));
-}
-
-known : (b : Bool) → not b ≡ true → b ≡ false
-known true h = absurd (false≢true h)
-known false h = refl
-
-also : (a b : Bool) → a ≡ true → (a && b) ≡ false → b ≡ false
-also true b h k = k
-also false b h k = absurd (false≢true h)
+abbrev pub Consistent : Effect → Type 0
+Consistent effect = AreConsistent effect.registrations effect.reservation
 
 consistent-register : (state : ReservationState) (i sark : ℕ) → IsConsistent state
-    → AreConsistentCases (register_cases state i sark)
+    → FirstIs Consistent (register_cases state i sark)
 unfolding register_cases
 consistent-register state i sark h =
     let all = state.registrations in
     let held = state.reservation in
     let others = λ (r : Registration). not (is_of i r) in
-    case_or _ _ (λ _. effective _ h)
-    (λ _. case_or _ _ (λ _. refused _)
-    (λ full. case_or _ _
-    (λ new. effective _ (consistent-push all held i sark (known _ new) (also _ _ new full) h))
-    (λ _. case_or _ _ (λ _. effective _ (consistent-replaced all held i sark h))
-    (λ _. last_case _ _ refl
-    (effective _
+    case_or Consistent _ _ (λ _. effective Consistent _ h)
+    (λ _. case_or Consistent _ _ (λ _. refused Consistent _)
+    (λ full. case_or Consistent _ _
+    (λ new. effective Consistent _
+    (consistent-push all held i sark (not_true _ new) (and_false _ _ new full) h))
+    (λ _. case_or Consistent _ _
+    (λ _. effective Consistent _ (consistent-replaced all held i sark h))
+    (λ _. last_case Consistent _ _ refl
+    (effective Consistent _
     (consistent-filter others all held _ h (held-while_held held _)
     (named-while_held held _ h.holder)))))))
 
 consistent-reserve : (state : ReservationState) (i : ℕ) (type : ReservationType)
     → is_registered state.registrations i ≡ true → IsConsistent state
-    → AreConsistentCases (reserve_cases state i type)
+    → FirstIs Consistent (reserve_cases state i type)
 unfolding reserve_cases
 consistent-reserve state i type here h =
     let all = state.registrations in
-    case_or _ _
-    (λ _. effective _
+    case_or Consistent _ _
+    (λ _. effective Consistent _
     (consistent-held all state.reservation _ h (has_holder-taken type all i here)
     (named-taken type i)))
-    (λ _. case_or _ _ (λ _. effective _ h) (λ _. last_case _ _ refl (refused _)))
+    (λ _. case_or Consistent _ _ (λ _. effective Consistent _ h)
+    (λ _. last_case Consistent _ _ refl (refused Consistent _)))
 
 consistent-release : (state : ReservationState) (i : ℕ) (type : ReservationType)
-    → IsConsistent state → AreConsistentCases (release_cases state i type)
+    → IsConsistent state → FirstIs Consistent (release_cases state i type)
 unfolding release_cases
 consistent-release state i type h =
     let all = state.registrations in
-    case_or _ _ (λ _. effective _ h)
-    (λ _. case_or _ _ (λ _. refused _)
-    (λ _. last_case _ _ refl
-    (effective _ (consistent-held all state.reservation None h refl refl))))
+    case_or Consistent _ _ (λ _. effective Consistent _ h)
+    (λ _. case_or Consistent _ _ (λ _. refused Consistent _)
+    (λ _. last_case Consistent _ _ refl
+    (effective Consistent _ (consistent-held all state.reservation None h refl refl))))
 
 consistent-preempt : (state : ReservationState) (i : ℕ) (type : Option ReservationType) (sark : ℕ)
     → is_registered state.registrations i ≡ true → IsConsistent state
-    → AreConsistentCases (preempt_cases state i type sark)
+    → FirstIs Consistent (preempt_cases state i type sark)
 unfolding preempt_cases
 consistent-preempt state i type sark here h =
     let all = state.registrations in
     let held = state.reservation in
+    let others = λ (r : Registration). not (is_under sark r) in
     let stay = λ (r : Registration). is_of i r || not (is_under sark r) in
     let stays =
     is_registered-filter stay i (λ r e. or_left (is_of i r) (not (is_under sark r)) e) all here in
     let alone = is_registered-filter (is_of i) i (λ r e. e) all here in
-    case_or _ _ (λ _. refused _)
-    (λ _. case_or _ _
-    (λ _. taking held i type _
-    (λ type. consistent-filter stay all held _ h (has_holder-taken type _ i stays)
-    (named-taken type i)))
-    (λ _. case_or _ _
-    (λ _. taking held i type _
-    (λ type. consistent-filter (is_of i) all held _ h (has_holder-taken type _ i alone)
-    (named-taken type i)))
-    (λ _. case_or _ _ (λ _. refused _)
-    (λ _. last_case _ _ refl
-    (effective _
-    (consistent-filter (λ (r : Registration). not (is_under sark r)) all held _ h (held-while_held held _)
+    case_or Consistent _ _ (λ _. refused Consistent _)
+    (λ _. case_or Consistent _ _
+    (λ _. taking Consistent held i type _
+    (λ type. effective Consistent _
+    (consistent-filter stay all held _ h (has_holder-taken type _ i stays) (named-taken type i))))
+    (λ _. case_or Consistent _ _
+    (λ _. taking Consistent held i type _
+    (λ type. effective Consistent _
+    (consistent-filter (is_of i) all held _ h (has_holder-taken type _ i alone)
+    (named-taken type i))))
+    (λ _. case_or Consistent _ _ (λ _. refused Consistent _)
+    (λ _. last_case Consistent _ _ refl
+    (effective Consistent _
+    (consistent-filter others all held _ h (held-while_held held _)
     (named-while_held held _ h.holder)))))))
 
 -- a caller whose key is accepted is registered, unless it registers
 consistent-action : (state : ReservationState) (i : ℕ) (action : OutAction)
     (type : Option ReservationType) (key sark : ℕ)
     → accepts_key state.registrations i action key ≡ true → IsConsistent state
-    → IsConsistentOutcome (action_outcome state i action type sark)
+    → EffectIs Consistent (action_outcome state i action type sark)
 consistent-action state i Register type key sark a h =
     (consistent-register state i sark h).first
 consistent-action state i Reserve type key sark a h =
     let here = is_registered-under state.registrations i key a in
-    typed type _ (λ type. (consistent-reserve state i type here h).first)
+    typed Consistent type _ (λ type. (consistent-reserve state i type here h).first)
 consistent-action state i Release type key sark a h =
-    typed type _ (λ type. (consistent-release state i type h).first)
-consistent-action state i Clear type key sark a h = effective _ consistent-none
+    typed Consistent type _ (λ type. (consistent-release state i type h).first)
+consistent-action state i Clear type key sark a h = effective Consistent _ consistent-none
 consistent-action state i Preempt type key sark a h =
     let here = is_registered-under state.registrations i key a in
     (consistent-preempt state i type sark here h).first
@@ -390,23 +349,20 @@ consistent-action state i PreemptAndAbort type key sark a h =
 consistent-action state i RegisterAndIgnoreExistingKey type key sark a h =
     (consistent-register state i sark h).first
 
-accepted : (b : Bool) → not b ≡ false → b ≡ true
-accepted true h = refl
-accepted false h = absurd (false≢true (sym h))
-
 pub consistent-outcome : (state : ReservationState) (i : ℕ) (action : OutAction) (scope_type : ℕ)
     (list : OutList) → IsConsistent state
-    → IsConsistentOutcome (outcome state i action scope_type list)
+    → EffectIs Consistent (outcome state i action scope_type list)
 unfolding outcome
 consistent-outcome state i action scope_type list h =
     let key = list.reservation_key in
     let sark = list.service_action_key in
     let accepts = accepts_key state.registrations i action key in
-    choice (has_unsupported_flag action list) _ _ (λ _. refused (ListField 20))
-    (λ _. choice (not accepts) _ _ (λ _. refused Conflict)
-    (λ a. consistent-action state i action (type_of scope_type) key sark (accepted accepts a) h))
+    choice Consistent (has_unsupported_flag action list) _ _
+    (λ _. refused Consistent (ListField 20))
+    (λ _. choice Consistent (not accepts) _ _ (λ _. refused Consistent Conflict)
+    (λ a. consistent-action state i action (type_of scope_type) key sark (not_false accepts a) h))
 
 pub consistent-state_after : (state : ReservationState) (o : Outcome) → IsConsistent state
-    → IsConsistentOutcome o → IsConsistent (state_after state o)
-consistent-state_after state (Ok effect) h k = k.after effect refl
+    → EffectIs Consistent o → IsConsistent (state_after state o)
+consistent-state_after state (Ok effect) h k = k.shown effect refl
 consistent-state_after state (Err fault) h k = h

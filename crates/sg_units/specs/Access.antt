@@ -1,5 +1,5 @@
--- Which commands a persistent reservation allows (SPC-4, 5.13, the tables of allowed commands; SBC-3,
--- 4.17).
+-- Which commands a persistent reservation allows (SPC-4, 5.13, the tables of allowed commands;
+-- SBC-3, 4.17).
 use Rattle.std.specs.Prelude.{ℕ, Bool, true, nat_le, Option, Some, None, if◌then◌else◌}
 use Rattle.sg_wire.specs.declared.command.Class.{Class}
 use Rattle.sg_wire.specs.declared.command.Class.TheVariants.{Always, Reads, Writes}
@@ -9,11 +9,15 @@ use Rattle.sg_units.specs.declared.access.Standing.{Standing}
 use Rattle.sg_units.specs.declared.access.Standing.TheVariants.{Holder, Registrant, Other}
 use Rattle.sg_units.specs.declared.reservation.Reservation.{Reservation}
 use Rattle.sg_units.specs.declared.reservation_state.ReservationState.{ReservationState}
-use Rattle.sg_units.specs.declared.reservation_type.ReservationType.{ReservationType}
-use Rattle.sg_units.specs.declared.reservation_type.ReservationType.TheVariants.{WriteExclusive, ExclusiveAccess, WriteExclusiveRegistrantsOnly, ExclusiveAccessRegistrantsOnly, WriteExclusiveAllRegistrants, ExclusiveAccessAllRegistrants}
+use Rattle.sg_units.specs.declared.types.ReservationType.{ReservationType}
+use Rattle.sg_units.specs.declared.types.ReservationType.TheVariants.{WriteExclusive, ExclusiveAccess}
+use Rattle.sg_units.specs.declared.types.ReservationType.TheVariants.{WriteExclusiveRegistrantsOnly}
+use Rattle.sg_units.specs.declared.types.ReservationType.TheVariants.{ExclusiveAccessRegistrantsOnly}
+use Rattle.sg_units.specs.declared.types.ReservationType.TheVariants.{WriteExclusiveAllRegistrants}
+use Rattle.sg_units.specs.declared.types.ReservationType.TheVariants.{ExclusiveAccessAllRegistrants}
 
--- The highest class of commands that is allowed: to a holder, to a registrant that is no holder, and
--- to every other initiator. Under an all registrants type each registrant is a holder.
+-- The highest class of commands that is allowed: to a holder, to a registrant that is no holder,
+-- and to every other initiator. Under an all registrants type each registrant is a holder.
 pub record Access : Type 0 where
   pub holder : Class
   pub registrant : Class

@@ -29,7 +29,8 @@ oldest pending initiator = slice_get (pending_for pending initiator) 0
 
 -- The oldest condition of an initiator is cleared, where one is pending.
 abbrev pub without_oldest : Pending → (initiator : ℕ) → Pending
-without_oldest pending initiator = slice_set pending initiator (drop 1 (pending_for pending initiator))
+without_oldest pending initiator =
+    slice_set pending initiator (drop 1 (pending_for pending initiator))
 
 -- A condition becomes the newest, unless it is pending already.
 abbrev pub is_condition : UnitAttention → UnitAttention → Bool

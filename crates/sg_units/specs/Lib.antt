@@ -7,5 +7,6 @@ pub mod Registrations
 pub mod Reservations
 pub mod Access
 pub mod OutList
-pub mod PersistentReserveOut
-pub mod PersistentReserveIn
+pub mod ReserveOut
+pub mod ReserveIn
+pub mod Laws

@@ -1,7 +1,11 @@
 -- The types of persistent reservation (SPC-4, 6.15.3.4).
 use Rattle.std.specs.Prelude.{ℕ, ◌==◌, Bool, true, false, List, [], ◌∷◌, find, Option}
-use Rattle.sg_units.specs.declared.reservation_type.ReservationType.{ReservationType}
-use Rattle.sg_units.specs.declared.reservation_type.ReservationType.TheVariants.{WriteExclusive, ExclusiveAccess, WriteExclusiveRegistrantsOnly, ExclusiveAccessRegistrantsOnly, WriteExclusiveAllRegistrants, ExclusiveAccessAllRegistrants}
+use Rattle.sg_units.specs.declared.types.ReservationType.{ReservationType}
+use Rattle.sg_units.specs.declared.types.ReservationType.TheVariants.{WriteExclusive, ExclusiveAccess}
+use Rattle.sg_units.specs.declared.types.ReservationType.TheVariants.{WriteExclusiveRegistrantsOnly}
+use Rattle.sg_units.specs.declared.types.ReservationType.TheVariants.{ExclusiveAccessRegistrantsOnly}
+use Rattle.sg_units.specs.declared.types.ReservationType.TheVariants.{WriteExclusiveAllRegistrants}
+use Rattle.sg_units.specs.declared.types.ReservationType.TheVariants.{ExclusiveAccessAllRegistrants}
 
 -- The code of the TYPE field. With the scope of a logical unit, 0h, it is the whole byte.
 abbrev pub code_of : ReservationType → ℕ

@@ -8,7 +8,7 @@ use Rattle.sg_units.specs.ReservationType.{is_all_registrants, is_same_type}
 use Rattle.sg_units.specs.declared.registrations.Registration.{Registration}
 use Rattle.sg_units.specs.declared.reservation.Reservation.{Reservation}
 use Rattle.sg_units.specs.declared.reservation_state.ReservationState.{ReservationState}
-use Rattle.sg_units.specs.declared.reservation_type.ReservationType.{ReservationType}
+use Rattle.sg_units.specs.declared.types.ReservationType.{ReservationType}
 
 abbrev pub empty_state : ReservationState
 empty_state = record { registrations = []; reservation = None; generation = 0 }

@@ -1,7 +1,10 @@
 -- Unit attention conditions (SAM-5, 5.14).
 use Rattle.std.specs.Prelude.{ℕ, ◌+◌, ◌*◌}
 use Rattle.sg_units.specs.declared.unit_attention.UnitAttention.{UnitAttention}
-use Rattle.sg_units.specs.declared.unit_attention.UnitAttention.TheVariants.{PowerOn, ModeParametersChanged, ReservationsPreempted, ReservationsReleased, RegistrationsPreempted}
+use Rattle.sg_units.specs.declared.unit_attention.UnitAttention.TheVariants.{PowerOn, ModeParametersChanged}
+use Rattle.sg_units.specs.declared.unit_attention.UnitAttention.TheVariants.{ReservationsPreempted}
+use Rattle.sg_units.specs.declared.unit_attention.UnitAttention.TheVariants.{ReservationsReleased}
+use Rattle.sg_units.specs.declared.unit_attention.UnitAttention.TheVariants.{RegistrationsPreempted}
 
 -- The additional sense code and qualifier of a condition (SPC-4, additional sense codes).
 abbrev pub code_of : UnitAttention → ℕ × ℕ

@@ -5,6 +5,7 @@
 mod access;
 mod attentions;
 mod effect;
+pub mod laws;
 mod out_action;
 mod out_fault;
 mod out_list;
@@ -12,8 +13,8 @@ mod raised;
 mod registrations;
 mod reservation;
 mod reservation_state;
-mod reservation_type;
 mod reservations;
+mod types;
 mod unit_attention;
 
 pub use attentions::Attentions;
@@ -23,6 +24,6 @@ pub use out_list::OutList;
 pub use raised::Raised;
 pub use registrations::Registration;
 pub use reservation::Reservation;
-pub use reservation_type::ReservationType;
 pub use reservations::Reservations;
+pub use types::ReservationType;
 pub use unit_attention::UnitAttention;

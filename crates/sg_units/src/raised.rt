@@ -1,6 +1,6 @@
 // Unit attention conditions that a command establishes.
 ghost use Rattle.std.specs.Prelude.{◌≡◌, ◌<◌, slice_index_or, None};
-ghost use Rattle.sg_units.specs.PersistentReserveOut.{raised_by, raised_for};
+ghost use Rattle.sg_units.specs.ReserveOut.{raised_by, raised_for};
 ghost use Rattle.sg_units.specs.Raised.{raised_for_others};
 
 use crate::UnitAttention;
@@ -50,7 +50,7 @@ impl Raised {
     }
 
     // What an effect of PERSISTENT RESERVE OUT raises for each initiator.
-    #[tactic(auto, unfolding(crate::specs::PersistentReserveOut::raised_by))]
+    #[tactic(auto, unfolding(crate::specs::ReserveOut::raised_by))]
     pub(crate) fn by(before: &Registrations, caller: Initiator, effect: &Effect) -> Raised
         ensures { result ≡ raised_by before.now caller effect.now }
     {

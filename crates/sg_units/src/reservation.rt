@@ -1,6 +1,6 @@
 // The persistent reservation.
 ghost use Rattle.std.specs.Prelude.{◌≡◌};
-ghost use Rattle.sg_units.specs.PersistentReserveOut.{released};
+ghost use Rattle.sg_units.specs.ReserveOut.{released};
 ghost use Rattle.sg_units.specs.Reservations.{has_holder, holds, taken};
 
 use crate::registrations::Registrations;

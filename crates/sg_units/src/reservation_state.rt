@@ -7,7 +7,7 @@ mod reserve;
 
 ghost use Rattle.std.specs.Prelude.{◌≡◌, Ok, None};
 ghost use Rattle.sg_units.specs.Access.{allows, standing_of};
-ghost use Rattle.sg_units.specs.PersistentReserveOut.{next_generation, same_generation};
+ghost use Rattle.sg_units.specs.ReserveOut.{next_generation, same_generation};
 ghost use Rattle.sg_units.specs.Reservations.{empty_state, has_type, is_holder, while_held};
 
 use crate::access::{Standing, highest_class, is_within};

@@ -25,10 +25,10 @@ impl Model for Reservations {
 ghost use Rattle.std.specs.Prelude.{◌≡◌};
 ghost use Rattle.sg_wire.specs.Cut.{Puts};
 ghost use Rattle.sg_units.specs.Access.{allows};
-ghost use Rattle.sg_units.specs.PersistentReserveIn.{capabilities_data, keys_data};
-ghost use Rattle.sg_units.specs.PersistentReserveIn.{reservation_data};
-ghost use Rattle.sg_units.specs.PersistentReserveOut.{generation_after, outcome, reply_of};
-ghost use Rattle.sg_units.specs.PersistentReserveOut.{state_after};
+ghost use Rattle.sg_units.specs.ReserveIn.{capabilities_data, keys_data};
+ghost use Rattle.sg_units.specs.ReserveIn.{reservation_data};
+ghost use Rattle.sg_units.specs.ReserveOut.{generation_after, outcome, reply_of};
+ghost use Rattle.sg_units.specs.ReserveOut.{state_after};
 ghost use Rattle.sg_units.specs.Reservations.{IsConsistent, empty_state};
 
 impl Reservations {
@@ -86,8 +86,8 @@ impl Reservations {
         self.state.read_keys(cut);
     }
 
-    /// Writes the data-in of READ RESERVATION: PRGENERATION and the reservation that is held, if any
-    /// (SPC-4, 6.15.3).
+    /// Writes the data-in of READ RESERVATION: PRGENERATION and the reservation that is held, if
+    /// any (SPC-4, 6.15.3).
     pub fn read_reservation(&self, cut: &mut Cut)
         ensures { Puts cut.old cut.new (reservation_data self.now) }
     {

@@ -1,6 +1,6 @@
 // PERSISTENT RESERVE OUT.
 ghost use Rattle.std.specs.Prelude.{◌≡◌};
-ghost use Rattle.sg_units.specs.PersistentReserveOut.{accepts_key, action_outcome, outcome};
+ghost use Rattle.sg_units.specs.ReserveOut.{accepts_key, action_outcome, outcome};
 
 use super::ReservationState;
 use crate::effect::Effect;
@@ -9,7 +9,7 @@ use sg_wire::Initiator;
 
 impl ReservationState {
     // The effect of a command, which changes nothing yet.
-    #[tactic(auto, unfolding(crate::specs::PersistentReserveOut::outcome))]
+    #[tactic(auto, unfolding(crate::specs::ReserveOut::outcome))]
     pub(crate) fn outcome(
         &self,
         caller: Initiator,

@@ -3,8 +3,8 @@ ghost use Rattle.std.specs.Prelude.{◌≡◌};
 ghost use Rattle.std.specs.List.{flat_map};
 ghost use Rattle.byteorder.specs.Endian.{big_bytes};
 ghost use Rattle.sg_wire.specs.Cut.{Puts};
-ghost use Rattle.sg_units.specs.PersistentReserveIn.{descriptor, header, holder_key, key_bytes};
-ghost use Rattle.sg_units.specs.PersistentReserveIn.{keys_data, reservation_data};
+ghost use Rattle.sg_units.specs.ReserveIn.{descriptor, header, holder_key, key_bytes};
+ghost use Rattle.sg_units.specs.ReserveIn.{keys_data, reservation_data};
 
 use super::ReservationState;
 use crate::{Registration, Reservation};
@@ -18,7 +18,7 @@ const DESCRIPTOR_LENGTH: u32 = 16;
 
 impl ReservationState {
     // READ KEYS.
-    #[tactic(auto, using(crate::proofs::Lemmas::parts), unfolding(crate::specs::PersistentReserveIn::keys_data))]
+    #[tactic(auto, using(crate::proofs::Lemmas::parts), unfolding(crate::specs::ReserveIn::keys_data))]
     pub(crate) fn read_keys(&self, cut: &mut Cut)
         ensures { Puts cut.old cut.new (keys_data self.now) }
     {
@@ -28,7 +28,7 @@ impl ReservationState {
     }
 
     // READ RESERVATION.
-    #[tactic(auto, using(crate::proofs::Lemmas::parts), unfolding(crate::specs::PersistentReserveIn::reservation_data))]
+    #[tactic(auto, using(crate::proofs::Lemmas::parts), unfolding(crate::specs::ReserveIn::reservation_data))]
     pub(crate) fn read_reservation(&self, cut: &mut Cut)
         ensures { Puts cut.old cut.new (reservation_data self.now) }
     {

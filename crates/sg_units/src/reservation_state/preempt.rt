@@ -1,8 +1,8 @@
 // PREEMPT and PREEMPT AND ABORT.
 ghost use Rattle.std.specs.Prelude.{◌≡◌, Ok, Some, None};
-ghost use Rattle.sg_units.specs.PersistentReserveOut.{first_case, has_one_holder, is_held_by_all};
-ghost use Rattle.sg_units.specs.PersistentReserveOut.{is_key_of_holder, next_generation, preempt_cases};
-ghost use Rattle.sg_units.specs.PersistentReserveOut.{preempted};
+ghost use Rattle.sg_units.specs.ReserveOut.{first_case, has_one_holder, is_held_by_all};
+ghost use Rattle.sg_units.specs.ReserveOut.{is_key_of_holder, next_generation, preempt_cases};
+ghost use Rattle.sg_units.specs.ReserveOut.{preempted};
 ghost use Rattle.sg_units.specs.Reservations.{while_held};
 ghost use Rattle.sg_units.specs.declared.unit_attention.UnitAttention.TheVariants.{RegistrationsPreempted};
 
@@ -15,7 +15,7 @@ use sg_wire::Initiator;
 impl ReservationState {
     // Removes the registrations under a key. Where it is the holder's, or is 0 and each registrant
     // is a holder, the caller takes the reservation.
-    #[tactic(auto, unfolding(crate::specs::PersistentReserveOut::preempt_cases))]
+    #[tactic(auto, unfolding(crate::specs::ReserveOut::preempt_cases))]
     pub(super) fn preempt(
         &self,
         caller: Initiator,

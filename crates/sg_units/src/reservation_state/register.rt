@@ -1,7 +1,7 @@
 // REGISTER and REGISTER AND IGNORE EXISTING KEY.
 ghost use Rattle.std.specs.Prelude.{◌≡◌, Ok, None};
-ghost use Rattle.sg_units.specs.PersistentReserveOut.{first_case, next_generation, register_cases};
-ghost use Rattle.sg_units.specs.PersistentReserveOut.{released_unless_held};
+ghost use Rattle.sg_units.specs.ReserveOut.{first_case, next_generation, register_cases};
+ghost use Rattle.sg_units.specs.ReserveOut.{released_unless_held};
 ghost use Rattle.sg_units.specs.Registrations.{without_initiator};
 ghost use Rattle.sg_units.specs.Reservations.{while_held};
 
@@ -13,7 +13,7 @@ use sg_wire::Initiator;
 
 impl ReservationState {
     // Registers an initiator, replaces its key, or with key 0 unregisters it.
-    #[tactic(auto, unfolding(crate::specs::PersistentReserveOut::register_cases))]
+    #[tactic(auto, unfolding(crate::specs::ReserveOut::register_cases))]
     pub(super) fn register(&self, caller: Initiator, sark: u64) -> Result<Effect, OutFault>
         ensures { result ≡ first_case (register_cases self.now caller sark) }
     {

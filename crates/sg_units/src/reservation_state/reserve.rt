@@ -1,7 +1,7 @@
 // RESERVE, RELEASE and CLEAR.
 ghost use Rattle.std.specs.Prelude.{◌≡◌, Ok};
-ghost use Rattle.sg_units.specs.PersistentReserveOut.{cleared, first_case, release_cases};
-ghost use Rattle.sg_units.specs.PersistentReserveOut.{reserve_cases};
+ghost use Rattle.sg_units.specs.ReserveOut.{cleared, first_case, release_cases};
+ghost use Rattle.sg_units.specs.ReserveOut.{reserve_cases};
 
 use super::ReservationState;
 use crate::effect::Effect;
@@ -11,7 +11,7 @@ use sg_wire::Initiator;
 
 impl ReservationState {
     // A registrant takes a reservation, where none is held.
-    #[tactic(auto, unfolding(crate::specs::PersistentReserveOut::reserve_cases))]
+    #[tactic(auto, unfolding(crate::specs::ReserveOut::reserve_cases))]
     pub(super) fn reserve(
         &self,
         caller: Initiator,
@@ -32,7 +32,7 @@ impl ReservationState {
     }
 
     // A holder ends the reservation.
-    #[tactic(auto, unfolding(crate::specs::PersistentReserveOut::release_cases))]
+    #[tactic(auto, unfolding(crate::specs::ReserveOut::release_cases))]
     pub(super) fn release(
         &self,
         caller: Initiator,

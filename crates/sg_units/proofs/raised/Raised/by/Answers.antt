@@ -1,7 +1,7 @@
 use Rattle.std.proofs.Common.{◌∙◌, ◌<◌, None, ap, arith, get_or, length, set}
 use Rattle.std.proofs.lemmas.List.{length-set}
 use Rattle.std.proofs.lemmas.List.Edits.{fill_by_more}
-use Rattle.sg_units.specs.PersistentReserveOut.{raised_for}
+use Rattle.sg_units.specs.ReserveOut.{raised_for}
 use Rattle.sg_units.proofs.raised.Raised.by.Goals as goal
 
 pub loop-number-preserved : goal.loop-number-preserved
@@ -9,9 +9,14 @@ loop-number-preserved c =
     let conditions = c.loop-number.conditions in
     let number = c.loop-number.number in
     let now = raised_for c.args.before.now c.args.caller c.args.effect.now in
-    let e = ap (λ i. set conditions i c.raised_for.result) c.from.ensures ∙ ap (set conditions number) c.raised_for.ensures in
+    let e =
+    ap (λ i. set conditions i c.raised_for.result) c.from.ensures
+    ∙ ap (set conditions number) c.raised_for.ensures in
+    let so_far = c.loop-number.invariant.raised_so_far in
     let room : number < length conditions = omega arith in
     record {
       eight = omega (arith, length-set conditions c.from.result c.raised_for.result);
-      raised_so_far = λ k h. ap (λ xs. get_or xs k None) e ∙ fill_by_more now conditions number None room c.loop-number.invariant.raised_so_far k h;
+      raised_so_far =
+          λ k h.
+          ap (λ xs. get_or xs k None) e ∙ fill_by_more now conditions number None room so_far k h;
     }

@@ -3,4 +3,6 @@ use Rattle.sg_units.specs.Registrations.{with_key_replaced}
 use Rattle.sg_units.proofs.registrations.Registrations.with_key_replaced.Given as goal
 
 abbrev pub invariant-loop-registration : goal.invariant-loop-registration
-invariant-loop-registration l = l.items.items ≡ with_key_replaced (take l.registration-index l.registration-items) l.initiator l.key
+invariant-loop-registration l =
+    let so_far = take l.registration-index l.registration-items in
+    l.items.items ≡ with_key_replaced so_far l.initiator l.key

@@ -14,16 +14,23 @@ use Rattle.sg_units.specs.Reservations.{has_holder, has_type, is_holder, taken, 
 use Rattle.sg_units.specs.ReservationType.{is_shared, type_of}
 use Rattle.sg_units.specs.declared.effect.Effect.{Effect}
 use Rattle.sg_units.specs.declared.out_action.OutAction.{OutAction}
-use Rattle.sg_units.specs.declared.out_action.OutAction.TheVariants.{Register, Reserve, Release, Clear, Preempt, PreemptAndAbort, RegisterAndIgnoreExistingKey}
+use Rattle.sg_units.specs.declared.out_action.OutAction.TheVariants.{Register, Reserve, Release, Clear}
+use Rattle.sg_units.specs.declared.out_action.OutAction.TheVariants.{Preempt, PreemptAndAbort}
+use Rattle.sg_units.specs.declared.out_action.OutAction.TheVariants.{RegisterAndIgnoreExistingKey}
 use Rattle.sg_units.specs.declared.out_fault.OutFault.{OutFault}
-use Rattle.sg_units.specs.declared.out_fault.OutFault.TheVariants.{Conflict, InsufficientRegistrationResources, InvalidRelease, ListField, InvalidScopeOrType}
+use Rattle.sg_units.specs.declared.out_fault.OutFault.TheVariants.{Conflict}
+use Rattle.sg_units.specs.declared.out_fault.OutFault.TheVariants.{InsufficientRegistrationResources}
+use Rattle.sg_units.specs.declared.out_fault.OutFault.TheVariants.{InvalidRelease, ListField}
+use Rattle.sg_units.specs.declared.out_fault.OutFault.TheVariants.{InvalidScopeOrType}
 use Rattle.sg_units.specs.declared.out_list.OutList.{OutList}
 use Rattle.sg_units.specs.declared.registrations.Registration.{Registration}
 use Rattle.sg_units.specs.declared.reservation.Reservation.{Reservation}
 use Rattle.sg_units.specs.declared.reservation_state.ReservationState.{ReservationState}
-use Rattle.sg_units.specs.declared.reservation_type.ReservationType.{ReservationType}
+use Rattle.sg_units.specs.declared.types.ReservationType.{ReservationType}
 use Rattle.sg_units.specs.declared.unit_attention.UnitAttention.{UnitAttention}
-use Rattle.sg_units.specs.declared.unit_attention.UnitAttention.TheVariants.{ReservationsPreempted, ReservationsReleased, RegistrationsPreempted}
+use Rattle.sg_units.specs.declared.unit_attention.UnitAttention.TheVariants.{ReservationsPreempted}
+use Rattle.sg_units.specs.declared.unit_attention.UnitAttention.TheVariants.{ReservationsReleased}
+use Rattle.sg_units.specs.declared.unit_attention.UnitAttention.TheVariants.{RegistrationsPreempted}
 
 -- ---- How a table is read
 
@@ -43,9 +50,9 @@ same_generation registrations reservation for_remaining = Ok (record {
   increments_generation = false;
 })
 
--- The registrations and the reservation afterwards, and the conditions that are raised for each other
--- initiator whose registration is removed, and for each whose registration remains. PRGENERATION is
--- incremented.
+-- The registrations and the reservation afterwards, and the conditions that are raised for each
+-- other initiator whose registration is removed, and for each whose registration remains.
+-- PRGENERATION is incremented.
 abbrev pub next_generation : List Registration → Option Reservation
     → (for_removed for_remaining : Option UnitAttention) → Outcome
 next_generation registrations reservation for_removed for_remaining = Ok (record {
@@ -157,14 +164,12 @@ preempt_cases state caller type sark =
     let all = state.registrations in
     let held = state.reservation in
     let rest = without_key all sark in
+    let take : List Registration → Outcome = preempted held caller type in
     when (has_one_holder held && sark == 0) (Err (ListField service_action_key_at))
-    ∷ when (is_key_of_holder state sark)
-    (preempted held caller type (without_key_of_others all caller sark))
-    ∷ when (is_held_by_all held && sark == 0)
-    (preempted held caller type (without_others all caller))
+    ∷ when (is_key_of_holder state sark) (take (without_key_of_others all caller sark))
+    ∷ when (is_held_by_all held && sark == 0) (take (without_others all caller))
     ∷ when (not (has_key all sark)) (Err Conflict)
-    ∷ otherwise
-    (next_generation rest (while_held held rest) (Some RegistrationsPreempted) None)
+    ∷ otherwise (next_generation rest (while_held held rest) (Some RegistrationsPreempted) None)
     ∷ []
 
 -- ---- The command

@@ -26,8 +26,8 @@ keys_data state =
 abbrev pub holder_key : List Registration → (holder : Option ℕ) → ℕ
 holder_key registrations holder = unwrap_or (option_and_then (key_of registrations) holder) 0
 
--- The descriptor of a reservation: RESERVATION KEY, five bytes obsolete or reserved, SCOPE and TYPE,
--- and two bytes obsolete.
+-- The descriptor of a reservation: RESERVATION KEY, five bytes obsolete or reserved, SCOPE and
+-- TYPE, and two bytes obsolete.
 abbrev pub descriptor_bytes : (key scope_type : ℕ) → List ℕ
 descriptor_bytes key scope_type = big_bytes 8 key ++ (replicate 5 0 ++ (scope_type ∷ 0 ∷ 0 ∷ []))
 
@@ -44,7 +44,7 @@ reservation_data_of state (Some reservation) =
 unfoldable pub reservation_data : ReservationState → List ℕ
 reservation_data state = reservation_data_of state state.reservation
 
--- REPORT CAPABILITIES (SPC-4, 6.15.4): LENGTH, no flag but TMV, and a PERSISTENT RESERVATION TYPE MASK
--- of all six types.
+-- REPORT CAPABILITIES (SPC-4, 6.15.4): LENGTH, no flag but TMV, and a PERSISTENT RESERVATION TYPE
+-- MASK of all six types.
 abbrev pub capabilities_data : List ℕ
 capabilities_data = 0x00 ∷ 0x08 ∷ 0x00 ∷ 0x80 ∷ 0xEA ∷ 0x01 ∷ 0x00 ∷ 0x00 ∷ []

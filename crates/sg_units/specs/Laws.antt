@@ -1,0 +1,111 @@
+-- Laws of the definitions, in the words of the standard.
+use Rattle.std.specs.Prelude.{◌≡◌, ◌⊎◌, ◌<◌, ◌+◌, ◌%◌, ◌^◌, ℕ, ◌==◌, true, false}
+use Rattle.std.specs.Prelude.{◌&&◌, ◌||◌, List, length, is_some}
+use Rattle.std.specs.Prelude.{Option, Some, None}
+use Rattle.sg_wire.specs.declared.command.Class.{Class}
+use Rattle.sg_wire.specs.declared.command.Class.TheVariants.{Reads, Writes}
+use Rattle.sg_units.specs.Access.{allows}
+use Rattle.sg_units.specs.Attentions.{Pending, pending_for, raised}
+use Rattle.sg_units.specs.ReserveOut.{outcome, raised_for, state_after}
+use Rattle.sg_units.specs.Registrations.{is_registered, is_registered_under}
+use Rattle.sg_units.specs.ReservationType.{is_all_registrants, is_exclusive_access, is_shared}
+use Rattle.sg_units.specs.Reservations.{IsConsistent, is_holder}
+use Rattle.sg_units.specs.declared.effect.Effect.{Effect}
+use Rattle.sg_units.specs.declared.out_action.OutAction.{OutAction}
+use Rattle.sg_units.specs.declared.out_list.OutList.{OutList}
+use Rattle.sg_units.specs.declared.registrations.Registration.{Registration}
+use Rattle.sg_units.specs.declared.reservation.Reservation.{Reservation}
+use Rattle.sg_units.specs.declared.reservation_state.ReservationState.{ReservationState}
+use Rattle.sg_units.specs.declared.unit_attention.UnitAttention.{UnitAttention}
+
+-- ---- Unit attention conditions
+
+-- A condition that is established for one initiator is pending for no other.
+abbrev pub NoConditionForAnother : Type 0
+NoConditionForAnother =
+    (pending : Pending) (initiator other : ℕ) (condition : UnitAttention)
+    → (other ≡ initiator → ⊥)
+    → pending_for (raised pending initiator condition) other ≡ pending_for pending other
+
+-- PERSISTENT RESERVE OUT establishes nothing for the initiator that sent it.
+abbrev pub NothingRaisedForCaller : Type 0
+NothingRaisedForCaller =
+    (before : List Registration) (caller : ℕ) (effect : Effect)
+    → raised_for before caller effect caller ≡ None
+
+-- ---- Registrations and holders
+
+-- An initiator is registered under one key.
+abbrev pub OneKeyEach : Type 0
+OneKeyEach =
+    (state : ReservationState) (initiator first second : ℕ) → IsConsistent state
+    → is_registered_under state.registrations initiator first ≡ true
+    → is_registered_under state.registrations initiator second ≡ true
+    → first ≡ second
+
+-- A reservation has one holder, which is registered.
+pub record HasOneHolder (state : ReservationState) (holder : Option ℕ) : Type 0 where
+  pub named : is_some holder ≡ true
+  pub registered : (initiator : ℕ) → holder ≡ Some initiator
+      → is_registered state.registrations initiator ≡ true
+  pub alone : (initiator other : ℕ) → holder ≡ Some initiator
+      → is_holder state other ≡ (other == initiator)
+
+-- So it is under every type that is not all registrants.
+abbrev pub OneHolder : Type 0
+OneHolder =
+    (state : ReservationState) (reservation : Reservation) → IsConsistent state
+    → state.reservation ≡ Some reservation → is_all_registrants reservation.kind ≡ false
+    → HasOneHolder state reservation.holder
+
+-- The holders of a reservation are the registrants, and there is at least one.
+pub record IsHeldByAll (state : ReservationState) : Type 0 where
+  pub holders : (initiator : ℕ)
+      → is_holder state initiator ≡ is_registered state.registrations initiator
+  pub at_least_one : 0 < length state.registrations
+
+-- So it is under an all registrants type.
+abbrev pub EachRegistrantHolds : Type 0
+EachRegistrantHolds =
+    (state : ReservationState) (reservation : Reservation) → IsConsistent state
+    → state.reservation ≡ Some reservation → is_all_registrants reservation.kind ≡ true
+    → IsHeldByAll state
+
+-- ---- Access
+
+-- What a reservation refuses to an initiator that neither holds nor shares it: writing under every
+-- type, and reading under the exclusive access types.
+pub record IsRefused (state : ReservationState) (held : Reservation) (initiator : ℕ) : Type 0 where
+  pub writes : allows state initiator Writes ≡ false
+  pub reads : is_exclusive_access held.kind ≡ true → allows state initiator Reads ≡ false
+
+abbrev pub OthersAreRefused : Type 0
+OthersAreRefused =
+    (state : ReservationState) (reservation : Reservation) (initiator : ℕ)
+    → state.reservation ≡ Some reservation → is_holder state initiator ≡ false
+    → (is_registered state.registrations initiator && is_shared reservation.kind) ≡ false
+    → IsRefused state reservation initiator
+
+-- A holder, and a registrant that shares a reservation, is refused nothing.
+abbrev pub SharersAreAllowed : Type 0
+SharersAreAllowed =
+    (state : ReservationState) (reservation : Reservation) (initiator : ℕ) (class : Class)
+    → state.reservation ≡ Some reservation
+    → (is_holder state initiator
+    || (is_registered state.registrations initiator && is_shared reservation.kind)) ≡ true
+    → allows state initiator class ≡ true
+
+-- ---- PRGENERATION
+
+-- It stays, and then no registration has changed, or is incremented.
+pub record CountsChanges (before after : ReservationState) : Type 0 where
+  pub by_one : (after.generation ≡ before.generation)
+      ⊎ (after.generation ≡ (before.generation + 1) % 2 ^ 32)
+  pub unchanged : after.generation ≡ before.generation
+      → after.registrations ≡ before.registrations
+
+abbrev pub GenerationCountsChanges : Type 0
+GenerationCountsChanges =
+    (state : ReservationState) (caller : ℕ) (action : OutAction) (scope_type : ℕ) (list : OutList)
+    → state.generation < 2 ^ 32
+    → CountsChanges state (state_after state (outcome state caller action scope_type list))

@@ -1,0 +1,45 @@
+//! Laws of the definitions: each is the contract of a function that does nothing.
+ghost use Rattle.sg_units.specs.Laws.{EachRegistrantHolds, GenerationCountsChanges};
+ghost use Rattle.sg_units.specs.Laws.{NoConditionForAnother, NothingRaisedForCaller, OneHolder};
+ghost use Rattle.sg_units.specs.Laws.{OneKeyEach, OthersAreRefused, SharersAreAllowed};
+
+/// A unit attention condition that is established for one initiator is pending for no other.
+pub fn no_condition_for_another()
+    ensures { NoConditionForAnother }
+{}
+
+/// PERSISTENT RESERVE OUT establishes nothing for the initiator that sent it.
+pub fn nothing_raised_for_caller()
+    ensures { NothingRaisedForCaller }
+{}
+
+/// An initiator is registered under one key.
+pub fn one_key_each()
+    ensures { OneKeyEach }
+{}
+
+/// Under a type that is not all registrants a reservation has one holder, which is registered.
+pub fn one_holder()
+    ensures { OneHolder }
+{}
+
+/// Under an all registrants type the holders are the registrants, of which there is at least one.
+pub fn each_registrant_holds()
+    ensures { EachRegistrantHolds }
+{}
+
+/// Who neither holds nor shares a reservation is refused writing under every type, and reading
+/// under the exclusive access types.
+pub fn others_are_refused()
+    ensures { OthersAreRefused }
+{}
+
+/// A holder, and a registrant that shares a reservation, is refused nothing.
+pub fn sharers_are_allowed()
+    ensures { SharersAreAllowed }
+{}
+
+/// PRGENERATION is incremented by each command that changes a registration, and by at most one.
+pub fn generation_counts_changes()
+    ensures { GenerationCountsChanges }
+{}
