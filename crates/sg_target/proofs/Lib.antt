@@ -1,4 +1,3 @@
-pub mod AttentionLemmas
 pub mod CapacityLemmas
 pub mod ExtentLemmas
 mod Lemmas

@@ -8,7 +8,7 @@ use Rattle.sg_wire.specs.declared.command.Command.{Command}
 use Rattle.sg_wire.specs.declared.command.CdbFault.{CdbFault}
 use Rattle.sg_wire.specs.declared.command.CdbFault.TheVariants.{Empty, Opcode, Short, Field}
 use Rattle.sg_blocks.specs.Disk.{Disk}
-use Rattle.sg_target.specs.Attentions.{oldest}
+use Rattle.sg_units.specs.Attentions.{oldest}
 use Rattle.sg_target.specs.Effect.{Effect}
 use Rattle.sg_target.specs.Refusal.{refusal_for}
 use Rattle.sg_target.specs.Semantics.{Semantics, semantics}

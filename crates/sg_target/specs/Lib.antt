@@ -1,6 +1,5 @@
 -- What public contracts cite, in the order in which it is read best.
 pub mod Config
-pub mod Attentions
 pub mod State
 pub mod Effect
 pub mod Refusal

@@ -6,7 +6,7 @@ use Rattle.sg_wire.specs.declared.sense.Format.TheVariants.{Fixed, Descriptor}
 use Rattle.sg_pages.specs.Identity.{IdentityFields}
 use Rattle.sg_pages.specs.InquiryData.{standard_inquiry}
 use Rattle.sg_pages.specs.VitalProductData.{page_data, page_with_code}
-use Rattle.sg_target.specs.Attentions.{oldest}
+use Rattle.sg_units.specs.Attentions.{oldest}
 use Rattle.sg_target.specs.Effect.{Effect, returning_up_to, without_attention}
 use Rattle.sg_target.specs.Refusal.{pending_sense}
 use Rattle.sg_target.specs.State.{State}

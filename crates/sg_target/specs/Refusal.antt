@@ -3,8 +3,8 @@ use Rattle.std.specs.Prelude.{ℕ, Option, Some, None, true, false}
 use Rattle.sg_wire.specs.SenseData.{SenseFields}
 use Rattle.sg_wire.specs.declared.command.CdbFault.{CdbFault}
 use Rattle.sg_wire.specs.declared.command.CdbFault.TheVariants.{Empty, Opcode, Short, Field}
-use Rattle.sg_target.specs.Attentions.{code_of}
-use Rattle.sg_target.specs.declared.attentions.UnitAttention.{UnitAttention}
+use Rattle.sg_units.specs.UnitAttention.{code_of}
+use Rattle.sg_units.specs.declared.unit_attention.UnitAttention.{UnitAttention}
 use Rattle.sg_target.specs.declared.refusal.Reason.{Reason}
 use Rattle.sg_target.specs.declared.refusal.Reason.TheVariants.{InvalidFieldInCdb, InvalidCommandOperationCode, UnitAttention as Attention, DataPhaseError, ParameterListLengthError, InvalidFieldInParameterList, LbaOutOfRange, SpaceAllocationFailed}
 use Rattle.sg_target.specs.declared.refusal.Refusal.{Refusal}

@@ -1,9 +1,9 @@
 -- The state of the disk between two commands.
-use Rattle.std.specs.Prelude.{◌≡◌, ◌≤◌, length}
+use Rattle.std.specs.Prelude.{◌≤◌}
 use Rattle.std.specs.FinMap.{len}
 use Rattle.sg_blocks.specs.Disk.{Disk, empty_disk}
 use Rattle.sg_pages.specs.Identity.{IdentityFields}
-use Rattle.sg_target.specs.Attentions.{AreQueues, Pending, initiator_count, power_on_pending}
+use Rattle.sg_units.specs.Attentions.{ArePending, Pending, power_on_pending}
 use Rattle.sg_target.specs.Config.{ConfigFields}
 
 pub record State : Type 0 where
@@ -23,5 +23,4 @@ powered_on config = record {
 -- and each of the eight initiators has a queue of at most five pending conditions, all distinct.
 pub record IsWithinLimits (state : State) : Type 0 where
   pub mapped : len state.disk.contents ≤ state.disk.pool
-  pub initiators : length state.attentions ≡ initiator_count
-  pub queues : AreQueues state.attentions
+  pub pending : ArePending state.attentions

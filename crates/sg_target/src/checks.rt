@@ -1,7 +1,7 @@
 // The checks that a command passes before it is executed, in their order.
 ghost use Rattle.std.specs.Prelude.{◌≡◌, ◌≤◌, ◌+◌, length, Some, None, Err, OnOk, IfOk, IfErr, IfNone, if◌then◌else◌};
 ghost use Rattle.sg_wire.specs.Layout.{is_blocked_by_attention};
-ghost use Rattle.sg_target.specs.Attentions.{oldest};
+ghost use Rattle.sg_units.specs.Attentions.{oldest};
 ghost use Rattle.sg_target.specs.BlockCommands.{bytes_of};
 ghost use Rattle.sg_target.specs.Checks.{checked_effect, out_of_range, past_capacity, short_data_out, unsupported_value};
 ghost use Rattle.sg_target.specs.Operation.{AreOnDisk, IsChecked};
@@ -10,13 +10,13 @@ ghost use Rattle.sg_pages.specs.ProvisioningPages.{maximum_transfer_length};
 ghost use Rattle.sg_target.specs.Semantics.{bad_count, too_long};
 ghost use Rattle.sg_target.specs.State.{IsWithinLimits};
 
-use crate::attentions::UnitAttention;
 use crate::extent::Extent;
 use crate::operation::Operation;
 use crate::refusal::{Reason, Refusal};
 use crate::target::Target;
 use sg_blocks::{MAX_CAPACITY, Store};
 use sg_pages::{MAXIMUM_TRANSFER_LENGTH, MAXIMUM_WRITE_SAME_LENGTH};
+use sg_units::UnitAttention;
 use sg_wire::{CdbFault, Command, Initiator};
 
 impl<S: Store> Target<S> {

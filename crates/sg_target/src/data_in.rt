@@ -5,12 +5,12 @@ ghost use Rattle.sg_wire.specs.CutAnswer.{first_bytes, overwritten};
 ghost use Rattle.sg_target.specs.CapacityData.{capacity_10, capacity_16};
 ghost use Rattle.sg_target.specs.Operation.{data_of};
 
-use crate::attentions::UnitAttention;
 use crate::config::Config;
 use crate::inquiry_page::InquiryPage;
 use crate::refusal::pending_sense;
 use byteorder::{BigEndian, ByteOrder};
 use sg_blocks::BLOCK_LENGTH;
+use sg_units::UnitAttention;
 use sg_wire::{Cut, Format};
 
 /// The data-in of a command that returns some, apart from the blocks of READ.

@@ -2,7 +2,6 @@
 //! other (SPC-4, 4.2; SBC-3, 4).
 #![tactic(auto)]
 
-mod attentions;
 mod call;
 mod checks;
 mod config;

@@ -205,7 +205,8 @@ impl<S: Store> Target<S> {
                 format,
                 allocation_length,
             } => {
-                let condition = self.attentions.take_oldest(initiator);
+                let condition = self.attentions.oldest(initiator);
+                self.attentions.clear_oldest(initiator);
                 let sense = DataIn::Sense { condition, format };
                 self.return_data(sense, usize::from(allocation_length), buf)
             }

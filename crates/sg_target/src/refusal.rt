@@ -1,5 +1,5 @@
 // Why a command is refused.
-use crate::attentions::UnitAttention;
+use sg_units::UnitAttention;
 use sg_wire::{CdbFault, Pointer, Sense};
 
 /// How a command is refused.

@@ -1,9 +1,9 @@
 // The target over a store.
-use crate::attentions::Attentions;
 use crate::config::Config;
 use crate::refusal::{Reason, Refusal};
 use crate::reply::Reply;
 use sg_blocks::{Counts, Store};
+use sg_units::Attentions;
 use sg_wire::{Format, Initiator};
 use std::alloc::{AllocError, Global};
 use std::marker::Model;
@@ -21,8 +21,8 @@ pub struct Target<S: Store> {
 }
 
 impl<S: Store> Model for Target<S> {
-    ghost use Rattle.std.specs.Prelude.{◌≡◌, ◌≤◌, length};
-    ghost use Rattle.sg_target.specs.Attentions.{AreQueues, initiator_count};
+    ghost use Rattle.std.specs.Prelude.{◌≡◌, ◌≤◌};
+    ghost use Rattle.sg_units.specs.Attentions.{ArePending};
     ghost use Rattle.std.specs.FinMap.{len};
     ghost use Rattle.sg_blocks.specs.declared.store.TheConstants.{MAX_POOL};
     ghost use Rattle.std.specs.Coded.{codes};
@@ -39,7 +39,7 @@ impl<S: Store> Model for Target<S> {
 
     ghost invariant = { λ t. (t.config.blocks ≡ (S.disk t.store).capacity)
         × (len (S.disk t.store).contents ≤ (S.disk t.store).pool)
-        × (length t.attentions ≡ initiator_count) × AreQueues t.attentions
+        × ArePending t.attentions
         × ((S.disk t.store).pool ≤ MAX_POOL) };
 }
 
@@ -108,7 +108,7 @@ impl<S: Store> Target<S> {
     {
         let reply = Reply::refused(refusal, self.sense_format(), counts);
         if let Refusal::Check(Reason::UnitAttention(_)) = refusal {
-            let _ = self.attentions.take_oldest(initiator);
+            self.attentions.clear_oldest(initiator);
         }
         reply
     }
