@@ -5,6 +5,10 @@ use Rattle.sg_units.specs.declared.out_action.OutAction.{OutAction}
 use Rattle.sg_units.specs.declared.out_action.OutAction.TheVariants.{Register, RegisterAndIgnoreExistingKey}
 use Rattle.sg_units.specs.declared.out_list.OutList.{OutList}
 
+-- Its length in bytes.
+abbrev pub list_length : ℕ
+list_length = 24
+
 -- Where its fields are: the first bytes of the keys, and the byte of the flags.
 abbrev pub service_action_key_at : ℕ
 service_action_key_at = 8

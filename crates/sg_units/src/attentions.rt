@@ -4,11 +4,14 @@ use arrayvec::ArrayVec;
 use sg_wire::Initiator;
 use std::marker::Model;
 
+// How many conditions can be pending for an initiator: as many as there are.
+const MAX_PENDING: usize = 5;
+
 /// The unit attention conditions that are pending for each initiator, the oldest first (SAM-5,
 /// 5.14). For one initiator none is pending twice, so at most five are.
 #[derive(Drop)]
 pub struct Attentions {
-    pending: [ArrayVec<UnitAttention, 5>; 8],
+    pending: [ArrayVec<UnitAttention, MAX_PENDING>; Initiator::COUNT],
 }
 
 impl Model for Attentions {
@@ -24,7 +27,8 @@ impl Model for Attentions {
 }
 
 ghost use Rattle.std.specs.Prelude.{◌≡◌, ◌<◌, [], ◌∷◌, drop, slice_set};
-ghost use Rattle.sg_units.specs.Attentions.{ArePending, IsQueue, is_pending, oldest, pending_for};
+ghost use Rattle.sg_units.specs.Attentions.{ArePending, IsQueue, initiator_count, is_pending};
+ghost use Rattle.sg_units.specs.Attentions.{oldest, pending_for};
 ghost use Rattle.sg_units.specs.Attentions.{power_on_pending, raised, with_optional, without_oldest};
 ghost use Rattle.sg_units.specs.Raised.{raised_for_each};
 
@@ -62,14 +66,14 @@ impl Attentions {
         ensures pending { self.new ≡ raised_for_each self.old raised.now }
         ensures limits { ArePending self.new }
     {
-        for number in 0..8 {
+        for number in 0..Initiator::COUNT {
             self.raise_at(number, raised.at(number));
         }
     }
 
     // Establishes a condition, if any, for the initiator with a number.
     fn raise_at(&mut self, number: usize, condition: Option<UnitAttention>)
-        requires { number < 8 }
+        requires { number < initiator_count }
         ensures pending { self.new ≡
             slice_set self.old number (with_optional (pending_for self.old number) condition) }
         ensures limits { ArePending self.new }
@@ -104,7 +108,7 @@ impl Attentions {
     }
 }
 
-fn power_on() -> ArrayVec<UnitAttention, 5>
+fn power_on() -> ArrayVec<UnitAttention, MAX_PENDING>
     ensures { result.items ≡ UnitAttention.PowerOn ∷ [] }
 {
     let mut queue = ArrayVec::new();
@@ -113,7 +117,7 @@ fn power_on() -> ArrayVec<UnitAttention, 5>
 }
 
 // Adds a condition, if any, to a queue, unless it is there already.
-fn establish(queue: &mut ArrayVec<UnitAttention, 5>, condition: Option<UnitAttention>)
+fn establish(queue: &mut ArrayVec<UnitAttention, MAX_PENDING>, condition: Option<UnitAttention>)
     requires { IsQueue queue.old.items }
     ensures { queue.new.items ≡ with_optional queue.old.items condition }
 {
@@ -125,7 +129,7 @@ fn establish(queue: &mut ArrayVec<UnitAttention, 5>, condition: Option<UnitAtten
 }
 
 // Removes the first condition of a queue, if there is one.
-fn remove_first(queue: &mut ArrayVec<UnitAttention, 5>)
+fn remove_first(queue: &mut ArrayVec<UnitAttention, MAX_PENDING>)
     ensures { queue.new.items ≡ drop 1 queue.old.items }
 {
     let _ = queue.pop_at(0);

@@ -1,6 +1,6 @@
 // The parameter list of PERSISTENT RESERVE OUT.
 ghost use Rattle.std.specs.Prelude.{◌≡◌, ◌≤◌, length};
-ghost use Rattle.sg_units.specs.OutList.{has_unsupported_flag, out_list};
+ghost use Rattle.sg_units.specs.OutList.{has_unsupported_flag, list_length, out_list};
 
 use crate::OutAction;
 use byteorder::{BigEndian, ByteOrder};
@@ -31,7 +31,7 @@ impl OutList {
 
     /// Decodes the fields of a list. Bytes that have no field are ignored.
     pub fn read(bytes: &[u8]) -> OutList
-        requires { 24 ≤ length bytes.now }
+        requires { list_length ≤ length bytes.now }
         ensures { result ≡ out_list bytes.now }
     {
         let flags = bytes[OutList::FLAGS_AT];

@@ -1,6 +1,7 @@
 // Unit attention conditions that a command establishes.
 ghost use Rattle.std.specs.Prelude.{◌≡◌, ◌<◌, slice_index_or, None};
 ghost use Rattle.sg_units.specs.ReserveOut.{raised_by, raised_for};
+ghost use Rattle.sg_units.specs.Attentions.{initiator_count};
 ghost use Rattle.sg_units.specs.Raised.{raised_for_others};
 
 use crate::UnitAttention;
@@ -12,7 +13,7 @@ use std::marker::Model;
 /// For each initiator the unit attention condition that a command establishes for it, if any.
 #[derive(Drop)]
 pub struct Raised {
-    conditions: [Option<UnitAttention>; 8],
+    conditions: [Option<UnitAttention>; Initiator::COUNT],
 }
 
 impl Model for Raised {
@@ -29,7 +30,7 @@ impl Raised {
     pub fn for_others(initiator: Initiator, condition: UnitAttention) -> Raised
         ensures { result ≡ raised_for_others initiator condition }
     {
-        let mut conditions = [Some(condition); 8];
+        let mut conditions = [Some(condition); Initiator::COUNT];
         conditions[usize::from(initiator.number())] = None;
         Raised { conditions }
     }
@@ -43,7 +44,7 @@ impl Raised {
 
     // The condition for the initiator with a number.
     pub(crate) fn at(&self, number: usize) -> Option<UnitAttention>
-        requires { number < 8 }
+        requires { number < initiator_count }
         ensures { result ≡ slice_index_or self.now number None }
     {
         self.conditions[number]
@@ -54,7 +55,7 @@ impl Raised {
     pub(crate) fn by(before: &Registrations, caller: Initiator, effect: &Effect) -> Raised
         ensures { result ≡ raised_by before.now caller effect.now }
     {
-        let mut conditions = [None; 8];
+        let mut conditions = [None; Initiator::COUNT];
         for number in 0..8 {
             conditions[usize::from(number)] = raised_for(before, caller, effect, number);
         }
@@ -69,7 +70,7 @@ fn raised_for(
     effect: &Effect,
     number: u8,
 ) -> Option<UnitAttention>
-    requires { number < 8 }
+    requires { number < initiator_count }
     ensures { result ≡ raised_for before.now caller effect.now number }
 {
     let initiator = Initiator::new(number)?;
