@@ -1,5 +1,6 @@
 // Where two texts differ.
-ghost use Rattle.std.specs.Prelude.{◌≡◌, ◌≢◌, ◌↔◌, ◌≤◌, ◌==◌, length, take, IsNone, IfSome, slice_get, count_by};
+ghost use Rattle.std.specs.Prelude.{◌≡◌, ◌≢◌, ◌↔◌, ◌≤◌, ◌==◌, length, take, IsNone, IfSome};
+ghost use Rattle.std.specs.Prelude.{slice_get, count_by};
 
 /// The index of the first byte in which two texts differ, which one of them may lack.
 pub(crate) fn first_difference(expected: &[u8], printed: &[u8]) -> Option<usize>

@@ -1,6 +1,7 @@
 -- The table of records, of which each maps one address to a slot, and the contents that it stands
 -- for.
-use Rattle.std.specs.Prelude.{◌≡◌, ℕ, ◌<◌, ◌≤◌, zero, suc, List, [], ◌∷◌, length, slice_index_or, Option, Some, None, if◌then◌else◌}
+use Rattle.std.specs.Prelude.{◌≡◌, ℕ, ◌<◌, ◌≤◌, zero, suc, List, [], ◌∷◌, length, slice_index_or}
+use Rattle.std.specs.Prelude.{Option, Some, None, if◌then◌else◌}
 use Rattle.std.specs.FinMap.{from_entries, contains_key}
 use Rattle.sg_blocks.specs.Disk.{Contents, zero_block}
 use Rattle.sg_blocks.specs.declared.run.Run.{Run}

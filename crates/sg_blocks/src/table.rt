@@ -1,7 +1,8 @@
 ghost use Rattle.std.specs.Prelude.{◌≡◌, ◌+◌, ◌-◌, ◌<◌, ◌≤◌, length, slice_index_or, IfOk};
 ghost use Rattle.sg_blocks.specs.Records.{start_of, IsSorted, IsLowerBound};
 ghost use Rattle.sg_blocks.specs.Meter.{probe_bound};
-ghost use Rattle.sg_blocks.specs.Table.{new_table, visited, probed, search_bound, restarted_table, spliced, rotated_left, rotated_right};
+ghost use Rattle.sg_blocks.specs.Table.{new_table, visited, probed, search_bound, restarted_table};
+ghost use Rattle.sg_blocks.specs.Table.{spliced, rotated_left, rotated_right};
 
 use crate::ghost_number::GhostNumber;
 use crate::run::Run;

@@ -5,7 +5,8 @@ ghost use Rattle.hex.specs.Hex.{encode_lower};
 ghost use Rattle.sg_wire.specs.Sense.{fields_of};
 ghost use Rattle.sg_wire.specs.SenseData.{read_sense};
 ghost use Rattle.sg_run.specs.Printed.{PrintsText};
-ghost use Rattle.sg_run.specs.SenseText.{code_text, fields_text, information_text, key_name, key_text, pointer_label, pointer_text, sense_lines};
+ghost use Rattle.sg_run.specs.SenseText.{code_text, fields_text, information_text, key_name};
+ghost use Rattle.sg_run.specs.SenseText.{key_text, pointer_label, pointer_text, sense_lines};
 
 use crate::text::header::print_number;
 use crate::text::hex_lines::print_hex_byte;
