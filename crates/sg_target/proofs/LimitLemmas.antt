@@ -6,10 +6,17 @@ use Rattle.std.proofs.lemmas.Bool.Decides.{nat_tests}
 use Rattle.sg_blocks.specs.Disk.{Disk}
 use Rattle.sg_wire.specs.Layout.{command_of}
 use Rattle.sg_wire.specs.declared.command.Command.{Command}
+use Rattle.sg_wire.specs.declared.command.Command.TheVariants.{ModeSelect6, ModeSelect10, ModeSense6, ModeSense10}
 use Rattle.sg_wire.specs.declared.command.Command.TheVariants.{RequestSense, Inquiry, WriteSame10, WriteSame16, Unmap}
 use Rattle.sg_wire.specs.declared.command.CdbFault.{CdbFault}
 use Rattle.sg_units.specs.Attentions.{ArePending, AreQueues, IsQueue, Pending, without_oldest}
-use Rattle.sg_units.proofs.AttentionLemmas.{IsQueue-drop, IsQueue-pending_for}
+use Rattle.sg_units.specs.Attentions.{pending_for}
+use Rattle.sg_units.specs.Raised.{Conditions, queue_after, raised_for_each, raised_for_others}
+use Rattle.sg_units.specs.declared.unit_attention.UnitAttention.TheVariants.{ModeParametersChanged}
+use Rattle.sg_units.proofs.AttentionLemmas.{IsQueue-drop, IsQueue-pending_for, IsQueue-with_optional}
+use Rattle.sg_pages.specs.ModePage.{ModeState}
+use Rattle.sg_pages.specs.ModeSelect.{changed_by}
+use Rattle.sg_target.specs.ModeCommands.{attentions_after, mode_parameters, returning_if_sound, selected_modes, sense_request, setting_if_sound}
 use Rattle.sg_target.specs.Checks.{cdb_checks, checked_effect, checked_parse, command_checks, first_some, no_space, unless_refused}
 use Rattle.sg_target.specs.Effect.{Effect}
 use Rattle.sg_target.specs.PrimaryCommands.{inquiry_page, returning_if_there}
@@ -45,6 +52,18 @@ without-oldest pending i h = record {
       (IsQueue-drop (get_or pending i []) (IsQueue-pending_for pending i h.queues));
 }
 
+-- one of each queue is put, if any
+raised-each : (pending : Pending) (conditions : Conditions) → ArePending pending → ArePending (raised_for_each pending conditions)
+unfolding raised_for_each
+raised-each pending conditions h =
+    let q : (i : ℕ) → IsQueue (queue_after pending conditions i) =
+    λ i. IsQueue-with_optional (pending_for pending i) (get_or conditions i None) (IsQueue-pending_for pending i h.queues) in
+    record { one_for_each = refl; queues = (q 0, (q 1, (q 2, (q 3, (q 4, (q 5, (q 6, (q 7, tt)))))))) }
+
+attentions-after : (pending : Pending) (i : ℕ) (changed : Bool) → ArePending pending → ArePending (attentions_after pending i changed)
+attentions-after pending i true h = raised-each pending (raised_for_others i ModeParametersChanged) h
+attentions-after pending i false h = h
+
 -- ---- commands
 
 without-oldest-within : (state : State) (i : ℕ) → IsWithinLimits state → IsWithinLimits (record state { attentions = without_oldest state.attentions i })
@@ -78,6 +97,14 @@ same-keeps : (state : State) (extent : Extent) (block : List ℕ) (is_unmapped :
 same-keeps state extent block true h = h
 same-keeps state extent block false h = h
 
+sensing-keeps : (state : State) (n : ℕ) (list : Result (List ℕ) Refusal) → KeepsOthers state → EffectKeeps (returning_if_sound state n list)
+sensing-keeps state n (Ok list) h = h
+sensing-keeps state n (Err refusal) h = tt
+
+setting-keeps : (state : State) (i : ℕ) (modes : Result ModeState Refusal) → KeepsOthers state → EffectKeeps (setting_if_sound state i modes)
+setting-keeps state i (Ok modes) h = attentions-after state.attentions i (changed_by state.modes modes).0 h
+setting-keeps state i (Err refusal) h = tt
+
 semantics-keeps : (state : State) (i : ℕ) (command : Command) (data_out : List ℕ) → IsWithinLimits state → EffectKeeps (semantics state i command data_out).effect
 semantics-keeps state i (RequestSense desc n) data_out h = without-oldest state.attentions i h.pending
 semantics-keeps state i (Inquiry evpd code n) data_out h = inquiry-keeps state (inquiry_page evpd code) n h.pending
@@ -87,6 +114,16 @@ semantics-keeps state i (WriteSame16 anchor unmap lba n) data_out h =
     same-keeps state (extent lba n) (block_out data_out) (unmaps unmap (block_out data_out)) h.pending
 semantics-keeps state i (Unmap anchor group n) data_out h =
     unmapping-keeps state (unmap_list (first_bytes n data_out)) h.pending
+semantics-keeps state i (ModeSelect6 pf sp n) data_out h =
+    setting-keeps state i (selected_modes state false sp (first_bytes n data_out)) h.pending
+semantics-keeps state i (ModeSelect10 pf sp n) data_out h =
+    setting-keeps state i (selected_modes state true sp (first_bytes n data_out)) h.pending
+semantics-keeps state i (ModeSense6 dbd pc page subpage n) data_out h =
+    let request = sense_request state.disk.capacity false false dbd pc page subpage in
+    sensing-keeps state n (mode_parameters state.modes request) h.pending
+semantics-keeps state i (ModeSense10 llbaa dbd pc page subpage n) data_out h =
+    let request = sense_request state.disk.capacity true llbaa dbd pc page subpage in
+    sensing-keeps state n (mode_parameters state.modes request) h.pending
 semantics-keeps state i _ data_out h = h.pending
 
 unless-keeps : (refusal : Option Refusal) (effect : Result Effect Refusal) → EffectKeeps effect → EffectKeeps (unless_refused refusal effect)

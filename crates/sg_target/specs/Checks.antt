@@ -1,5 +1,6 @@
 -- The checks that a command passes before it is executed, in their order. They know commands by
 -- their semantics alone.
+use Rattle.std.specs.Prelude.{Bool, ◌&&◌}
 use Rattle.std.specs.Prelude.{ℕ, ◌+◌, max, List, [], ◌∷◌, length, map, Option, Some, None, Result, Ok, Err, nat_lt, if◌then◌else◌}
 use Rattle.std.specs.Option.{option_map}
 use Rattle.std.specs.FinMap.{len}
@@ -8,6 +9,7 @@ use Rattle.sg_wire.specs.declared.command.Command.{Command}
 use Rattle.sg_wire.specs.declared.command.CdbFault.{CdbFault}
 use Rattle.sg_wire.specs.declared.command.CdbFault.TheVariants.{Empty, Opcode, Short, Field}
 use Rattle.sg_blocks.specs.Disk.{Disk}
+use Rattle.sg_pages.specs.ModePage.{ModeState, write_protected}
 use Rattle.sg_units.specs.Attentions.{oldest}
 use Rattle.sg_target.specs.Effect.{Effect}
 use Rattle.sg_target.specs.Refusal.{refusal_for}
@@ -15,6 +17,7 @@ use Rattle.sg_target.specs.Semantics.{Semantics, semantics}
 use Rattle.sg_target.specs.State.{State}
 use Rattle.sg_target.specs.declared.extent.Extent.{Extent}
 use Rattle.sg_target.specs.declared.refusal.Reason.TheVariants.{InvalidFieldInCdb, UnitAttention as Attention, DataPhaseError, LbaOutOfRange, SpaceAllocationFailed}
+use Rattle.sg_target.specs.declared.refusal.Reason.TheVariants.{SoftwareWriteProtected}
 use Rattle.sg_target.specs.declared.refusal.Refusal.{Refusal}
 use Rattle.sg_target.specs.declared.refusal.Refusal.TheVariants.{Check}
 
@@ -98,10 +101,17 @@ past_capacity capacity extent =
 unfoldable pub out_of_range : (capacity : ℕ) → List Extent → Option Refusal
 out_of_range capacity extents = first_some (map (past_capacity capacity) extents)
 
+-- SWP is set, and the command writes to the medium (SPC-4, Control mode page): also where it names no
+-- block.
+unfoldable pub write_protection : ModeState → (writes_medium : Bool) → Option Refusal
+write_protection modes writes_medium =
+    if write_protected modes && writes_medium then Some (Check SoftwareWriteProtected) else None
+
 abbrev pub command_checks : State → Semantics → (data_out : List ℕ) → List (Option Refusal)
 command_checks state s data_out =
     request_fault s data_out
     ∷ out_of_range state.disk.capacity s.extents
+    ∷ write_protection state.modes s.writes_medium
     ∷ []
 
 -- ---- All of them, but that for space

@@ -7,6 +7,7 @@ pub mod PrimaryCommands
 pub mod CapacityData
 pub mod BlockCommands
 pub mod ProvisioningCommands
+pub mod ModeCommands
 pub mod Semantics
 pub mod Checks
 pub mod Status

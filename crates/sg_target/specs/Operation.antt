@@ -1,5 +1,6 @@
 -- The words of the code for what is left to do of a command, in those of the definitions.
 use Rattle.std.specs.Prelude.{◌≡◌, ℕ, ◌+◌, ◌≤◌, List, [], ◌∷◌, length, Bool, Option, Some, None, Ok, if◌then◌else◌}
+use Rattle.std.specs.Prelude.{true, false}
 use Rattle.sg_wire.specs.CutAnswer.{first_bytes, overwritten}
 use Rattle.sg_wire.specs.SenseData.{sense_data}
 use Rattle.sg_wire.specs.declared.command.Command.{Command}
@@ -7,11 +8,15 @@ use Rattle.sg_wire.specs.declared.sense.Format.{Format}
 use Rattle.sg_blocks.specs.Meter.{no_counts}
 use Rattle.sg_blocks.specs.declared.store.Counts.{Counts}
 use Rattle.sg_pages.specs.Identity.{IdentityFields}
+use Rattle.sg_pages.specs.ModePage.{ModeState}
+use Rattle.sg_pages.specs.ModeSense.{fields_of}
 use Rattle.sg_pages.specs.ProvisioningPages.{maximum_transfer_length, maximum_unmap_descriptors}
 use Rattle.sg_target.specs.BlockCommands.{bytes_of, read_capacity_10, read_capacity_16, reading, writing}
 use Rattle.sg_target.specs.CapacityData.{block_length, capacity_10, capacity_16}
 use Rattle.sg_target.specs.Checks.{checked_effect, first_fault, list_fault, request_fault, short_data_out, unsupported_value}
 use Rattle.sg_target.specs.Effect.{Effect, no_effect}
+use Rattle.sg_target.specs.ModeCommands.{mode_parameter_bytes, returning_modes, selected_modes}
+use Rattle.sg_target.specs.ModeCommands.{setting_modes, unless_page_format}
 use Rattle.sg_target.specs.PrimaryCommands.{inquiry_data, returning_page, returning_sense}
 use Rattle.sg_target.specs.Refusal.{pending_sense}
 use Rattle.sg_target.specs.ProvisioningCommands.{block_out, filling, reporting_status, unmap_list, unmapping, unmaps}
@@ -19,9 +24,10 @@ use Rattle.sg_target.specs.Semantics.{bad_count, extent, semantics, unless_ancho
 use Rattle.sg_target.specs.State.{State}
 use Rattle.sg_target.specs.Step.{Step, executed_or_refused, refusal_answer}
 use Rattle.sg_target.specs.declared.data_in.DataIn.{DataIn}
-use Rattle.sg_target.specs.declared.data_in.DataIn.TheVariants.{Sense, Inquiry, Capacity10, Capacity16}
+use Rattle.sg_target.specs.declared.data_in.DataIn.TheVariants.{ModeParameters, Sense, Inquiry, Capacity10, Capacity16}
 use Rattle.sg_target.specs.declared.extent.Extent.{Extent}
 use Rattle.sg_target.specs.declared.operation.Operation.{Operation}
+use Rattle.sg_target.specs.declared.operation.Operation.TheVariants.{ModeSense, SetModes}
 use Rattle.sg_target.specs.declared.operation.Operation.TheVariants.{Nothing, RequestSense, ReturnInquiry, ReadCapacity10, ReadCapacity16, Read, Write, Synchronize, Fill, Unmap, GetLbaStatus}
 use Rattle.sg_target.specs.declared.refusal.Refusal.{Refusal}
 use Rattle.sg_target.specs.declared.reply.Reply.{Reply}
@@ -31,6 +37,8 @@ abbrev pub effect_of : State → (initiator : ℕ) → Operation → (data_out :
 effect_of state i Nothing data_out = no_effect state
 effect_of state i (RequestSense format n) data_out = returning_sense state i format n
 effect_of state i (ReturnInquiry page n) data_out = returning_page state page n
+effect_of state i (ModeSense request n) data_out = returning_modes state (fields_of request) n
+effect_of state i (SetModes modes changed) data_out = setting_modes state i modes changed
 effect_of state i ReadCapacity10 data_out = read_capacity_10 state
 effect_of state i (ReadCapacity16 n) data_out = read_capacity_16 state n
 effect_of state i (Read extent) data_out = reading state extent
@@ -49,6 +57,13 @@ extents_of (Fill extent) = extent ∷ []
 extents_of (Unmap extents) = extents
 extents_of (GetLbaStatus start n) = extent start 1 ∷ []
 extents_of _ = []
+
+-- Whether it writes to the medium.
+abbrev pub writes_medium : Operation → Bool
+writes_medium (Write extent) = true
+writes_medium (Fill extent) = true
+writes_medium (Unmap extents) = true
+writes_medium _ = false
 
 -- No more blocks are moved, and no more extents unmapped, than the disk takes; and data-out has the
 -- blocks that are written.
@@ -93,14 +108,24 @@ unmap_fault anchor n data_out =
     (short_data_out (Some n) data_out)
     (list_fault (unmap_list (first_bytes n data_out)))
 
+-- What is wrong with a MODE SELECT.
+abbrev pub mode_select_fault : State → (ten pf sp : Bool) (list_length : ℕ) (data_out : List ℕ)
+    → Option Refusal
+mode_select_fault state ten pf sp n data_out =
+    first_fault
+    (unsupported_value (unless_page_format pf))
+    (short_data_out (Some n) data_out)
+    (list_fault (selected_modes state ten sp (first_bytes n data_out)))
+
 -- The request checks have passed a command: what is left to do of it has its effect and its
--- extents.
+-- extents, and writes to the medium where the command does.
 pub record IsRequested (state : State) (initiator : ℕ) (command : Command) (data_out : List ℕ)
     (operation : Operation) : Type 0 where
   pub passed : request_fault (semantics state initiator command data_out) data_out ≡ None
   pub effect : (semantics state initiator command data_out).effect
       ≡ Ok (effect_of state initiator operation data_out)
   pub extents : (semantics state initiator command data_out).extents ≡ extents_of operation
+  pub writes : (semantics state initiator command data_out).writes_medium ≡ writes_medium operation
   pub executable : IsExecutable operation data_out
 
 -- All checks but that for space have passed a CDB.
@@ -116,12 +141,15 @@ abbrev pub step_by : State → (initiator : ℕ) → Operation → (data_out : L
 step_by state initiator operation data_out =
     executed_or_refused state initiator (effect_of state initiator operation data_out)
 
--- The full data-in of a kind, of a disk with an identity and a number of blocks.
-abbrev pub data_of : IdentityFields → (capacity : ℕ) → DataIn → List ℕ
-data_of identity capacity (Sense condition format) = sense_data format (pending_sense condition)
-data_of identity capacity (Inquiry page) = inquiry_data identity page
-data_of identity capacity Capacity10 = capacity_10 capacity
-data_of identity capacity Capacity16 = capacity_16 capacity
+-- The full data-in of a kind, of a disk with an identity, a number of blocks and mode pages.
+abbrev pub data_of : IdentityFields → (capacity : ℕ) → ModeState → DataIn → List ℕ
+data_of identity capacity modes (Sense condition format) =
+    sense_data format (pending_sense condition)
+data_of identity capacity modes (Inquiry page) = inquiry_data identity page
+data_of identity capacity modes (ModeParameters request) =
+    mode_parameter_bytes modes (fields_of request)
+data_of identity capacity modes Capacity10 = capacity_10 capacity
+data_of identity capacity modes Capacity16 = capacity_16 capacity
 
 -- The reply to a command that was executed.
 abbrev pub executed_reply : (data_in : ℕ) → Counts → Reply

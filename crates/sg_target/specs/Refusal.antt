@@ -7,6 +7,7 @@ use Rattle.sg_units.specs.UnitAttention.{code_of}
 use Rattle.sg_units.specs.declared.unit_attention.UnitAttention.{UnitAttention}
 use Rattle.sg_target.specs.declared.refusal.Reason.{Reason}
 use Rattle.sg_target.specs.declared.refusal.Reason.TheVariants.{InvalidFieldInCdb, InvalidCommandOperationCode, UnitAttention as Attention, DataPhaseError, ParameterListLengthError, InvalidFieldInParameterList, LbaOutOfRange, SpaceAllocationFailed}
+use Rattle.sg_target.specs.declared.refusal.Reason.TheVariants.{SoftwareWriteProtected}
 use Rattle.sg_target.specs.declared.refusal.Refusal.{Refusal}
 use Rattle.sg_target.specs.declared.refusal.Refusal.TheVariants.{Check}
 
@@ -46,6 +47,7 @@ sense_of (InvalidFieldInParameterList byte) =
     record (plain_sense illegal_request 0x26 0x00)
     { pointer = Some (record { in_command = false; byte = byte }) }
 sense_of (LbaOutOfRange lba) = record (plain_sense illegal_request 0x21 0x00) { information = Some lba }
+sense_of SoftwareWriteProtected = plain_sense data_protect 0x27 0x02
 sense_of SpaceAllocationFailed = plain_sense data_protect 0x27 0x07
 
 -- The sense data of REQUEST SENSE: the oldest unit attention, or NO SENSE.

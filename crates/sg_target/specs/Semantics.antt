@@ -2,11 +2,14 @@
 -- ranges take all commands alike.
 use Rattle.std.specs.Prelude.{ℕ, List, [], ◌∷◌, Bool, true, false, ◌&&◌, Option, Some, None, Result, Ok, Err, nat_le, nat_lt, if◌then◌else◌}
 use Rattle.sg_wire.specs.declared.command.Command.{Command}
+use Rattle.sg_wire.specs.declared.command.Command.TheVariants.{ModeSelect6, ModeSelect10, ModeSense6, ModeSense10}
 use Rattle.sg_wire.specs.declared.command.Command.TheVariants.{TestUnitReady, RequestSense, Inquiry, Read6, Read10, Read16, Write6, Write10, Write16, ReadCapacity10, ReadCapacity16, SynchronizeCache10, WriteSame10, WriteSame16, Unmap, GetLbaStatus}
 use Rattle.sg_wire.specs.CutAnswer.{first_bytes}
 use Rattle.sg_pages.specs.ProvisioningPages.{maximum_transfer_length, maximum_write_same_length}
 use Rattle.sg_target.specs.BlockCommands.{bytes_of, read_capacity_10, read_capacity_16, reading, writing}
 use Rattle.sg_target.specs.Effect.{Effect, no_effect}
+use Rattle.sg_target.specs.ModeCommands.{selected_modes, sense_request, sensing}
+use Rattle.sg_target.specs.ModeCommands.{setting_if_sound, unless_page_format}
 use Rattle.sg_target.specs.PrimaryCommands.{inquiry, request_sense}
 use Rattle.sg_target.specs.CapacityData.{block_length}
 use Rattle.sg_target.specs.ProvisioningCommands.{reporting_status, unmap_list, unmapping_listed, writing_same}
@@ -94,6 +97,20 @@ unmap state anchor n data_out = let listed = unmap_list (first_bytes n data_out)
   effect = unmapping_listed state listed;
 }
 
+abbrev pub mode_sense : State → (ten llbaa dbd : Bool) (pc page subpage n : ℕ) → Semantics
+mode_sense state ten llbaa dbd pc page subpage n =
+    let request = sense_request state.disk.capacity ten llbaa dbd pc page subpage in
+    without_blocks (sensing state request n)
+
+abbrev pub mode_select : State → (initiator : ℕ) → (ten pf sp : Bool) (n : ℕ) (data_out : List ℕ)
+    → Semantics
+mode_select state initiator ten pf sp n data_out =
+    let selected = selected_modes state ten sp (first_bytes n data_out) in
+    record (without_blocks (setting_if_sound state initiator selected)) {
+      unsupported = unless_page_format pf;
+      data_out_length = Some n;
+    }
+
 -- The row of each command, in a state, from an initiator, with its data-out. READ(6) and WRITE(6)
 -- name at most 256 blocks by their layout. SYNCHRONIZE CACHE has its extent checked and does
 -- nothing, as there is no cache. GET LBA STATUS has to start at a block of the disk.
@@ -101,6 +118,12 @@ abbrev pub semantics : State → (initiator : ℕ) → Command → (data_out : L
 semantics state i TestUnitReady data_out = without_blocks (Ok (no_effect state))
 semantics state i (RequestSense desc n) data_out = without_blocks (Ok (request_sense state i desc n))
 semantics state i (Inquiry evpd code n) data_out = without_blocks (inquiry state evpd code n)
+semantics state i (ModeSelect6 pf sp n) data_out = mode_select state i false pf sp n data_out
+semantics state i (ModeSelect10 pf sp n) data_out = mode_select state i true pf sp n data_out
+semantics state i (ModeSense6 dbd pc page subpage n) data_out =
+    mode_sense state false false dbd pc page subpage n
+semantics state i (ModeSense10 llbaa dbd pc page subpage n) data_out =
+    mode_sense state true llbaa dbd pc page subpage n
 semantics state i (Read6 short) data_out = read state (extent short.0 short.1) None
 semantics state i (Read10 lba n) data_out = read state (extent lba n) (too_long n 7)
 semantics state i (Read16 lba n) data_out = read state (extent lba n) (too_long n 10)

@@ -3,9 +3,10 @@ use Rattle.std.specs.Prelude.{ℕ, List, [], Option, Some, None, Result, Ok, Err
 use Rattle.sg_wire.specs.CutAnswer.{first_bytes}
 use Rattle.sg_wire.specs.SenseData.{sense_data}
 use Rattle.sg_wire.specs.declared.sense.Format.{Format}
-use Rattle.sg_wire.specs.declared.sense.Format.TheVariants.{Fixed}
+use Rattle.sg_pages.specs.ModePage.{descriptor_sense}
 use Rattle.sg_target.specs.Checks.{checked_effect, no_space}
 use Rattle.sg_target.specs.Effect.{Effect, without_attention}
+use Rattle.sg_target.specs.PrimaryCommands.{format_of}
 use Rattle.sg_target.specs.Refusal.{sense_of}
 use Rattle.sg_target.specs.State.{State}
 use Rattle.sg_target.specs.declared.refusal.Refusal.{Refusal}
@@ -26,10 +27,10 @@ pub record Step : Type 0 where
 
 -- ---- Refused
 
--- The format of the disk's sense data, but where a command asks for one. No mode page selects
--- another yet.
+-- The format of the sense data of a refused command: descriptor format where D_SENSE is set (SPC-4,
+-- Control mode page). REQUEST SENSE asks for one by its own bit DESC.
 abbrev pub sense_format : State → Format
-sense_format state = Fixed
+sense_format state = format_of (descriptor_sense state.modes)
 
 -- A conflict has a status of its own, and all else CHECK CONDITION with sense data.
 abbrev pub refusal_answer : Format → Refusal → Answer

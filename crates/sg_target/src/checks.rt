@@ -3,8 +3,8 @@ ghost use Rattle.std.specs.Prelude.{◌≡◌, ◌≤◌, ◌+◌, length, Some,
 ghost use Rattle.sg_wire.specs.Layout.{is_blocked_by_attention};
 ghost use Rattle.sg_units.specs.Attentions.{oldest};
 ghost use Rattle.sg_target.specs.BlockCommands.{bytes_of};
-ghost use Rattle.sg_target.specs.Checks.{checked_effect, out_of_range, past_capacity, short_data_out, unsupported_value};
-ghost use Rattle.sg_target.specs.Operation.{AreOnDisk, IsChecked};
+ghost use Rattle.sg_target.specs.Checks.{checked_effect, out_of_range, past_capacity, short_data_out, unsupported_value, write_protection};
+ghost use Rattle.sg_target.specs.Operation.{AreOnDisk, IsChecked, writes_medium};
 ghost use Rattle.sg_wire.specs.CutAnswer.{first_bytes};
 ghost use Rattle.sg_pages.specs.ProvisioningPages.{maximum_transfer_length};
 ghost use Rattle.sg_target.specs.Semantics.{bad_count, too_long};
@@ -45,7 +45,10 @@ impl<S: Store> Target<S> {
         }
         let command = command?;
         let operation = self.operation_of(initiator, &command, data_out)?;
-        match operation.out_of_range(capacity) {
+        if let Some(refusal) = operation.out_of_range(capacity) {
+            return Err(refusal);
+        }
+        match self.write_protection(&operation) {
             Some(refusal) => Err(refusal),
             None => Ok(operation),
         }
@@ -58,6 +61,18 @@ impl<S: Store> Target<S> {
     {
         if Command::is_blocked_by_attention(cdb) {
             self.attentions.oldest(initiator)
+        } else {
+            None
+        }
+    }
+
+    // The refusal of an operation that writes to the medium while SWP is set.
+    #[tactic(auto, unfolding(crate::specs::Checks::write_protection))]
+    fn write_protection(&self, operation: &Operation) -> Option<Refusal>
+        ensures { result ≡ write_protection self.now.state.modes (writes_medium operation.now) }
+    {
+        if self.modes.write_protected() && operation.writes_medium() {
+            Some(Refusal::Check(Reason::SoftwareWriteProtected))
         } else {
             None
         }

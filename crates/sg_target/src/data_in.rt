@@ -7,9 +7,11 @@ ghost use Rattle.sg_target.specs.Operation.{data_of};
 
 use crate::config::Config;
 use crate::inquiry_page::InquiryPage;
+use crate::mode::write_mode_parameters;
 use crate::refusal::pending_sense;
 use byteorder::{BigEndian, ByteOrder};
 use sg_blocks::BLOCK_LENGTH;
+use sg_pages::{ModePages, ModeSenseRequest};
 use sg_units::UnitAttention;
 use sg_wire::{Cut, Format};
 
@@ -23,6 +25,8 @@ pub(crate) enum DataIn {
         format: Format,
     },
     Inquiry(InquiryPage),
+    /// The mode parameter list of MODE SENSE.
+    ModeParameters(ModeSenseRequest),
     Capacity10,
     Capacity16,
 }
@@ -30,24 +34,32 @@ pub(crate) enum DataIn {
 impl DataIn {
     /// Writes the data at the beginning of a buffer, at most `limit` bytes of it. Returns the
     /// number of bytes that were written.
-    pub(crate) fn write_up_to(self, limit: usize, config: &Config, buf: &mut [u8]) -> usize
+    pub(crate) fn write_up_to(
+        self,
+        limit: usize,
+        config: &Config,
+        modes: &ModePages,
+        buf: &mut [u8],
+    ) -> usize
         requires { limit ≤ length buf.old }
-        ensures length { let full = data_of config.now.identity config.now.blocks self in
+        ensures length { let full = data_of config.now.identity config.now.blocks modes.now self in
             result ≡ length (first_bytes limit full) }
-        ensures data_in { let full = data_of config.now.identity config.now.blocks self in
+        ensures data_in { let full = data_of config.now.identity config.now.blocks modes.now self in
             buf.new ≡ overwritten (first_bytes limit full) buf.old }
     {
         let mut cut = Cut::new(buf, limit);
-        self.write(config, &mut cut);
+        self.write(config, modes, &mut cut);
         cut.written()
     }
 
-    fn write(self, config: &Config, cut: &mut Cut)
-        ensures { Puts cut.old cut.new (data_of config.now.identity config.now.blocks self) }
+    fn write(self, config: &Config, modes: &ModePages, cut: &mut Cut)
+        ensures { Puts cut.old cut.new
+            (data_of config.now.identity config.now.blocks modes.now self) }
     {
         match self {
             DataIn::Sense { condition, format } => pending_sense(condition).write(format, cut),
             DataIn::Inquiry(page) => page.write(config.identity(), cut),
+            DataIn::ModeParameters(request) => write_mode_parameters(modes, &request, cut),
             DataIn::Capacity10 => cut.put(&capacity_10(config.blocks())),
             DataIn::Capacity16 => cut.put(&capacity_16(config.blocks())),
         }

@@ -24,10 +24,11 @@ impl<S: Store> Target<S> {
     // Returns data that is in no block, at most `limit` bytes of it.
     pub(crate) fn return_data(&self, data_in: DataIn, limit: usize, buf: &mut [u8]) -> Reply
         requires { limit ≤ length buf.old }
-        ensures { let full = data_of self.now.state.identity self.now.state.disk.capacity data_in in
+        ensures { let state = self.now.state in
+            let full = data_of state.identity state.disk.capacity state.modes data_in in
             ReturnsData (first_bytes limit full) result buf.old buf.new }
     {
-        Reply::without_blocks(data_in.write_up_to(limit, &self.config, buf))
+        Reply::without_blocks(data_in.write_up_to(limit, &self.config, &self.modes, buf))
     }
 
     // READ returns the bytes of its blocks.

@@ -11,6 +11,7 @@ mod extent;
 mod extent_list;
 mod inquiry_page;
 pub mod laws;
+mod mode;
 mod operation;
 mod refusal;
 mod reply;

@@ -7,6 +7,7 @@ ghost use Rattle.sg_target.specs.CapacityData.{block_length};
 ghost use Rattle.sg_target.specs.ProvisioningCommands.{unmaps};
 ghost use Rattle.sg_target.specs.Checks.{out_of_range, request_fault, unsupported_value};
 ghost use Rattle.sg_target.specs.Operation.{AreOnDisk, IsExecutable, IsRequested, effect_of, extents_of, step_by, write_fault};
+ghost use Rattle.sg_target.specs.Operation.{writes_medium};
 ghost use Rattle.sg_target.specs.Operation.{write_same_fault, write_same_operation};
 ghost use Rattle.sg_target.specs.PrimaryCommands.{format_of, inquiry_page};
 ghost use Rattle.sg_target.specs.Ranges.{IsCharged, cost_bounds};
@@ -23,10 +24,11 @@ use crate::extent::Extent;
 use crate::extent_list::ExtentList;
 use crate::inquiry_page::InquiryPage;
 use crate::refusal::{Reason, Refusal};
-use crate::reply::Reply;
+use crate::reply::{Reply, format_of};
 use crate::target::{BUFFER_LENGTH, Target};
 use crate::unmap::unmap;
 use sg_blocks::{BLOCK_LENGTH, MAX_CAPACITY, Store};
+use sg_pages::{ModePages, ModeSenseRequest};
 use sg_wire::{Command, Format, Initiator};
 
 /// What is left to do of a command whose values, data-out and parameter list are sound, with what
@@ -46,6 +48,18 @@ pub(crate) enum Operation {
         page: InquiryPage,
         /// In bytes.
         allocation_length: u16,
+    },
+    /// MODE SENSE, of pages that the disk has.
+    ModeSense {
+        request: ModeSenseRequest,
+        /// In bytes.
+        allocation_length: u16,
+    },
+    /// MODE SELECT: the mode pages become these.
+    SetModes {
+        modes: ModePages,
+        /// Whether a current value differs from what it was.
+        changed: bool,
     },
     ReadCapacity10,
     ReadCapacity16 {
@@ -94,9 +108,21 @@ impl Operation {
             Operation::Nothing
             | Operation::RequestSense { .. }
             | Operation::ReturnInquiry { .. }
+            | Operation::ModeSense { .. }
+            | Operation::SetModes { .. }
             | Operation::ReadCapacity10
             | Operation::ReadCapacity16 { .. } => None,
         }
+    }
+
+    // Whether it writes to the medium.
+    pub(crate) fn writes_medium(&self) -> bool
+        ensures { result ≡ writes_medium self.now }
+    {
+        matches!(
+            self,
+            Operation::Write(_) | Operation::Fill(_) | Operation::Unmap(_)
+        )
     }
 }
 
@@ -127,6 +153,37 @@ impl<S: Store> Target<S> {
                 page_code,
                 allocation_length,
             } => inquiry(evpd, page_code, allocation_length),
+            Command::ModeSelect6 {
+                pf,
+                sp,
+                list_length,
+            } => self.mode_select(false, pf, sp, u16::from(list_length), data_out),
+            Command::ModeSelect10 {
+                pf,
+                sp,
+                list_length,
+            } => self.mode_select(true, pf, sp, list_length, data_out),
+            Command::ModeSense6 {
+                dbd,
+                page_control: pc,
+                page_code: page,
+                subpage_code: subpage,
+                allocation_length,
+            } => {
+                let request = self.sense_request(false, false, dbd, pc, page, subpage);
+                self.mode_sense(request, u16::from(allocation_length))
+            }
+            Command::ModeSense10 {
+                llbaa,
+                dbd,
+                page_control: pc,
+                page_code: page,
+                subpage_code: subpage,
+                allocation_length,
+            } => {
+                let request = self.sense_request(true, llbaa, dbd, pc, page, subpage);
+                self.mode_sense(request, allocation_length)
+            }
             Command::Read6(extent) => Ok(Operation::Read(Extent::from(extent))),
             Command::Read10 {
                 lba,
@@ -214,6 +271,14 @@ impl<S: Store> Target<S> {
                 page,
                 allocation_length,
             } => self.return_data(DataIn::Inquiry(page), usize::from(allocation_length), buf),
+            Operation::ModeSense {
+                request,
+                allocation_length,
+            } => {
+                let list = DataIn::ModeParameters(request);
+                self.return_data(list, usize::from(allocation_length), buf)
+            }
+            Operation::SetModes { modes, changed } => self.set_modes(initiator, modes, changed),
             Operation::ReadCapacity10 => {
                 self.return_data(DataIn::Capacity10, CAPACITY_10_LENGTH, buf)
             }
@@ -236,13 +301,8 @@ impl<S: Store> Target<S> {
 fn request_sense(desc: bool, allocation_length: u8) -> Operation
     ensures { result ≡ Operation.RequestSense (format_of desc) allocation_length }
 {
-    let format = if desc {
-        Format::Descriptor
-    } else {
-        Format::Fixed
-    };
     Operation::RequestSense {
-        format,
+        format: format_of(desc),
         allocation_length,
     }
 }

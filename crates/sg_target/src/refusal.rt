@@ -28,6 +28,8 @@ pub(crate) enum Reason {
     InvalidFieldInParameterList { byte: u16 },
     /// LOGICAL BLOCK ADDRESS OUT OF RANGE, with the first such address.
     LbaOutOfRange { lba: u64 },
+    /// LOGICAL UNIT SOFTWARE WRITE PROTECTED: SWP is set.
+    SoftwareWriteProtected,
     /// SPACE ALLOCATION FAILED WRITE PROTECT: no block is left to map.
     SpaceAllocationFailed,
 }
@@ -58,6 +60,7 @@ impl Reason {
                 information: Some(lba),
                 pointer: None,
             },
+            Reason::SoftwareWriteProtected => plain(Sense::DATA_PROTECT, 0x27, 0x02),
             Reason::SpaceAllocationFailed => plain(Sense::DATA_PROTECT, 0x27, 0x07),
         }
     }

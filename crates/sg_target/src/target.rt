@@ -1,8 +1,9 @@
 // The target over a store.
 use crate::config::Config;
 use crate::refusal::{Reason, Refusal};
-use crate::reply::Reply;
+use crate::reply::{Reply, format_of};
 use sg_blocks::{Counts, Store};
+use sg_pages::ModePages;
 use sg_units::Attentions;
 use sg_wire::{Format, Initiator};
 use std::alloc::{AllocError, Global};
@@ -17,6 +18,7 @@ pub const BUFFER_LENGTH: usize = 131_072;
 pub struct Target<S: Store> {
     pub(crate) config: Config,
     pub(crate) store: S,
+    pub(crate) modes: ModePages,
     pub(crate) attentions: Attentions,
 }
 
@@ -33,7 +35,12 @@ impl<S: Store> Model for Target<S> {
     ghost coded = { Prim.hlevel (codes, contents_code) };
 
     ghost view = { λ t. record {
-      state = record { identity = t.config.identity; disk = S.disk t.store; attentions = t.attentions };
+      state = record {
+        identity = t.config.identity;
+        disk = S.disk t.store;
+        modes = t.modes;
+        attentions = t.attentions;
+      };
       meter = S.meter t.store;
     } };
 
@@ -52,8 +59,8 @@ ghost use Rattle.sg_target.specs.State.{IsWithinLimits, powered_on};
 ghost use Rattle.sg_target.specs.Step.{after_refusal, sense_format, step};
 
 impl<S: Store> Target<S> {
-    /// A target as it is after power on: no block is mapped, and a unit attention, POWER ON, is
-    /// pending for each initiator. All memory is taken here.
+    /// A target as it is after power on: no block is mapped, the mode pages have their default values,
+    /// and a unit attention, POWER ON, is pending for each initiator. All memory is taken here.
     ///
     /// # Errors
     /// Memory was refused.
@@ -64,6 +71,7 @@ impl<S: Store> Target<S> {
         Ok(Target {
             config,
             store,
+            modes: ModePages::new(),
             attentions: Attentions::new(),
         })
     }
@@ -117,6 +125,6 @@ impl<S: Store> Target<S> {
     fn sense_format(&self) -> Format
         ensures { result ≡ sense_format self.now.state }
     {
-        Format::Fixed
+        format_of(self.modes.descriptor_sense())
     }
 }

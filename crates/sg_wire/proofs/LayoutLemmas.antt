@@ -7,6 +7,7 @@ use Rattle.std.proofs.lemmas.Nat.{and_mask}
 use Rattle.std.proofs.Math.Nat.{mod-eq_of_lt}
 use Rattle.byteorder.specs.Endian.{big_bytes, big_number}
 use Rattle.byteorder.specs.Numbers.{big_from-bytes}
+use Rattle.sg_wire.specs.declared.command.Command.TheVariants.{ModeSelect6, ModeSelect10, ModeSense6, ModeSense10}
 use Rattle.sg_wire.specs.declared.command.Command.TheVariants.{TestUnitReady, RequestSense, Inquiry, Read6, Read10, Read16, Write6, Write10, Write16, ReadCapacity10, ReadCapacity16, SynchronizeCache10, WriteSame10, WriteSame16, Unmap, GetLbaStatus}
 use Rattle.sg_wire.specs.declared.command.Class.{Class}
 use Rattle.sg_wire.specs.declared.command.Class.TheVariants.{Always, Reads}
@@ -211,3 +212,66 @@ unfolding command_of command_with cdb_of
 reads_back-get_lba_status start allocation_length l n =
     let e = number_again 8 start [] l in
     let f = number_again 4 allocation_length [] n in simp is_whole-mod cc
+
+pub reads_back-mode_select_6 : (pf sp : Bool) (list_length : ℕ) → list_length < 256
+    → command_of (cdb_of (ModeSelect6 pf sp list_length)) ≡ Ok (ModeSelect6 pf sp list_length)
+unfolding command_of command_with cdb_of
+reads_back-mode_select_6 true true list_length n = simp (is_whole list_length n)
+reads_back-mode_select_6 true false list_length n = simp (is_whole list_length n)
+reads_back-mode_select_6 false true list_length n = simp (is_whole list_length n)
+reads_back-mode_select_6 false false list_length n = simp (is_whole list_length n)
+
+pub reads_back-mode_select_10 : (pf sp : Bool) (list_length : ℕ) → list_length < 2 ^ 16
+    → command_of (cdb_of (ModeSelect10 pf sp list_length)) ≡ Ok (ModeSelect10 pf sp list_length)
+unfolding command_of command_with cdb_of
+reads_back-mode_select_10 true true list_length n = let f = number_again 2 list_length [] n in simp is_whole-mod cc
+reads_back-mode_select_10 true false list_length n = let f = number_again 2 list_length [] n in simp is_whole-mod cc
+reads_back-mode_select_10 false true list_length n = let f = number_again 2 list_length [] n in simp is_whole-mod cc
+reads_back-mode_select_10 false false list_length n = let f = number_again 2 list_length [] n in simp is_whole-mod cc
+
+-- PC and PAGE CODE share a byte
+pc_again : (pc page : ℕ) → pc < 4 → page < 64 → bit_and ((pc * 64 + page) / 64) 3 ≡ pc
+pc_again pc page p q = and_mask ((pc * 64 + page) / 64) 2 ∙ omega arith
+
+page_again : (pc page : ℕ) → pc < 4 → page < 64 → bit_and (pc * 64 + page) 63 ≡ page
+page_again pc page p q = and_mask (pc * 64 + page) 6 ∙ omega arith
+
+pub reads_back-mode_sense_6 : (dbd : Bool) (pc page subpage allocation_length : ℕ) → pc < 4 → page < 64
+    → subpage < 256 → allocation_length < 256
+    → command_of (cdb_of (ModeSense6 dbd pc page subpage allocation_length))
+    ≡ Ok (ModeSense6 dbd pc page subpage allocation_length)
+unfolding command_of command_with cdb_of
+reads_back-mode_sense_6 true pc page subpage n p q s a =
+    let e = pc_again pc page p q in
+    let f = page_again pc page p q in
+    simp (is_whole (pc * 64 + page) (omega arith), is_whole subpage s, is_whole n a) cc
+reads_back-mode_sense_6 false pc page subpage n p q s a =
+    let e = pc_again pc page p q in
+    let f = page_again pc page p q in
+    simp (is_whole (pc * 64 + page) (omega arith), is_whole subpage s, is_whole n a) cc
+
+module _ (pc page subpage n : ℕ) (p : pc < 4) (q : page < 64) (s : subpage < 256) (a : n < 2 ^ 16) where
+  pub reads_back-mode_sense_10 : (llbaa dbd : Bool)
+      → command_of (cdb_of (ModeSense10 llbaa dbd pc page subpage n))
+      ≡ Ok (ModeSense10 llbaa dbd pc page subpage n)
+  unfolding command_of command_with cdb_of
+  reads_back-mode_sense_10 true true =
+      let e = pc_again pc page p q in
+      let f = page_again pc page p q in
+      let g = number_again 2 n [] a in
+      simp (is_whole (pc * 64 + page) (omega arith), is_whole subpage s, is_whole-mod) cc
+  reads_back-mode_sense_10 true false =
+      let e = pc_again pc page p q in
+      let f = page_again pc page p q in
+      let g = number_again 2 n [] a in
+      simp (is_whole (pc * 64 + page) (omega arith), is_whole subpage s, is_whole-mod) cc
+  reads_back-mode_sense_10 false true =
+      let e = pc_again pc page p q in
+      let f = page_again pc page p q in
+      let g = number_again 2 n [] a in
+      simp (is_whole (pc * 64 + page) (omega arith), is_whole subpage s, is_whole-mod) cc
+  reads_back-mode_sense_10 false false =
+      let e = pc_again pc page p q in
+      let f = page_again pc page p q in
+      let g = number_again 2 n [] a in
+      simp (is_whole (pc * 64 + page) (omega arith), is_whole subpage s, is_whole-mod) cc

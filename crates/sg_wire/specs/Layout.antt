@@ -6,6 +6,7 @@ use Rattle.byteorder.specs.Endian.{big_bytes, big_number}
 use Rattle.sg_wire.specs.declared.command.Class.{Class}
 use Rattle.sg_wire.specs.declared.command.Class.TheVariants.{Always, Reads, Writes}
 use Rattle.sg_wire.specs.declared.command.Command.{Command}
+use Rattle.sg_wire.specs.declared.command.Command.TheVariants.{ModeSelect6, ModeSelect10, ModeSense6, ModeSense10}
 use Rattle.sg_wire.specs.declared.command.Command.TheVariants.{TestUnitReady, RequestSense, Inquiry, Read6, Read10, Read16, Write6, Write10, Write16, ReadCapacity10, ReadCapacity16, SynchronizeCache10, WriteSame10, WriteSame16, Unmap, GetLbaStatus}
 use Rattle.sg_wire.specs.declared.command.CdbFault.{CdbFault}
 use Rattle.sg_wire.specs.declared.command.CdbFault.TheVariants.{Empty, Opcode, Short, Field as BadField}
@@ -92,6 +93,32 @@ abbrev inquiry : (evpd : Bool) (page_code allocation_length : ℕ) → List Fiel
 inquiry evpd page_code allocation_length =
     field (bit 1 0) evpd ∷ field (bytes 2 2) page_code ∷ field (bytes 3 4) allocation_length ∷ []
 
+-- PF and SP of MODE SELECT.
+abbrev select_bits : (pf sp : Bool) → List Field
+select_bits pf sp = field (bit 1 4) pf ∷ field (bit 1 0) sp ∷ []
+
+-- And PARAMETER LIST LENGTH.
+abbrev mode_select_6 : (pf sp : Bool) (list_length : ℕ) → List Field
+mode_select_6 pf sp list_length = select_bits pf sp ++ field (bytes 4 4) list_length ∷ []
+
+abbrev mode_select_10 : (pf sp : Bool) (list_length : ℕ) → List Field
+mode_select_10 pf sp list_length = select_bits pf sp ++ field (bytes 7 8) list_length ∷ []
+
+-- DBD, PC, PAGE CODE and SUBPAGE CODE of MODE SENSE.
+abbrev sense_fields : (dbd : Bool) (pc page subpage : ℕ) → List Field
+sense_fields dbd pc page subpage =
+    field (bit 1 3) dbd ∷ field (bits 2 7 6) pc ∷ field (bits 2 5 0) page ∷ field (bytes 3 3) subpage ∷ []
+
+-- And ALLOCATION LENGTH, and LLBAA in the CDB of 10 bytes.
+abbrev mode_sense_6 : (dbd : Bool) (pc page subpage allocation_length : ℕ) → List Field
+mode_sense_6 dbd pc page subpage allocation_length =
+    sense_fields dbd pc page subpage ++ field (bytes 4 4) allocation_length ∷ []
+
+abbrev mode_sense_10 : (llbaa dbd : Bool) (pc page subpage allocation_length : ℕ) → List Field
+mode_sense_10 llbaa dbd pc page subpage allocation_length =
+    field (bit 1 4) llbaa ∷ sense_fields dbd pc page subpage
+    ++ field (bytes 7 8) allocation_length ∷ []
+
 -- LOGICAL BLOCK ADDRESS and TRANSFER LENGTH, or NUMBER OF LOGICAL BLOCKS, in CDBs of 6, 10 and 16
 -- bytes.
 abbrev extent_6 : ℕ × ℕ → List Field
@@ -146,6 +173,12 @@ abbrev pub layout : Command → Layout
 layout TestUnitReady = row 0x00 none Always blocked [] [] TestUnitReady
 layout (RequestSense desc n) = row 0x03 none Always unblocked (request_sense desc n) [] RequestSense
 layout (Inquiry evpd page n) = row 0x12 none Always unblocked (inquiry evpd page n) [] Inquiry
+layout (ModeSelect6 pf sp n) = row 0x15 none Writes blocked (mode_select_6 pf sp n) [] ModeSelect6
+layout (ModeSelect10 pf sp n) = row 0x55 none Writes blocked (mode_select_10 pf sp n) [] ModeSelect10
+layout (ModeSense6 dbd pc page subpage n) =
+    row 0x1A none Reads blocked (mode_sense_6 dbd pc page subpage n) [] ModeSense6
+layout (ModeSense10 llbaa dbd pc page subpage n) =
+    row 0x5A none Reads blocked (mode_sense_10 llbaa dbd pc page subpage n) [] ModeSense10
 layout (Read6 extent) = row 0x08 none Reads blocked (extent_6 extent) [] Read6
 layout (Read10 lba n) = row 0x28 none Reads blocked (extent_10 lba n) (cache_bits 6) Read10
 layout (Read16 lba n) = row 0x88 none Reads blocked (extent_16 lba n) (cache_bits 14) Read16
@@ -170,6 +203,10 @@ each_command =
     TestUnitReady
     ∷ RequestSense false 0
     ∷ Inquiry false 0 0
+    ∷ ModeSelect6 false false 0
+    ∷ ModeSelect10 false false 0
+    ∷ ModeSense6 false 0 0 0 0
+    ∷ ModeSense10 false false 0 0 0 0
     ∷ Read6 (0, 1)
     ∷ Read10 0 0
     ∷ Read16 0 0

@@ -1,6 +1,9 @@
-use Rattle.std.proofs.Common.{◌≡◌, ℕ, List, Option, Some, None, Result, Ok, Err, false, refl}
+use Rattle.std.proofs.Common.{◌≡◌, ℕ, List, Option, Some, None, Result, Ok, Err, true, false, refl}
 use Rattle.sg_wire.specs.declared.command.Command.{Command}
-use Rattle.sg_wire.specs.declared.command.Command.TheVariants.{Inquiry}
+use Rattle.sg_wire.specs.declared.command.Command.TheVariants.{Inquiry, ModeSelect6, ModeSelect10, ModeSense6, ModeSense10}
+use Rattle.sg_wire.specs.CutAnswer.{first_bytes}
+use Rattle.sg_pages.specs.ModePage.{ModeState}
+use Rattle.sg_target.specs.ModeCommands.{mode_parameters, returning_if_sound, selected_modes, sense_request, setting_if_sound}
 use Rattle.sg_blocks.specs.Disk.{Disk}
 use Rattle.sg_target.specs.Effect.{Effect}
 use Rattle.sg_target.specs.PrimaryCommands.{inquiry_page, returning_if_there}
@@ -19,9 +22,25 @@ page-leaves : (state : State) (page : Option InquiryPage) (n : ℕ) → Leaves s
 page-leaves state None n = tt
 page-leaves state (Some page) n = refl
 
+sensing-leaves : (state : State) (n : ℕ) (list : Result (List ℕ) Refusal) → Leaves state.disk (returning_if_sound state n list)
+sensing-leaves state n (Ok list) = refl
+sensing-leaves state n (Err refusal) = tt
+
+setting-leaves : (state : State) (i : ℕ) (modes : Result ModeState Refusal) → Leaves state.disk (setting_if_sound state i modes)
+setting-leaves state i (Ok modes) = refl
+setting-leaves state i (Err refusal) = tt
+
 command-leaves : (state : State) (i : ℕ) (command : Command) (data_out : List ℕ)
     → (semantics state i command data_out).writes_medium ≡ false → Leaves state.disk (semantics state i command data_out).effect
 command-leaves state i (Inquiry evpd code n) data_out h = page-leaves state (inquiry_page evpd code) n
+command-leaves state i (ModeSelect6 pf sp n) data_out h =
+    setting-leaves state i (selected_modes state false sp (first_bytes n data_out))
+command-leaves state i (ModeSelect10 pf sp n) data_out h =
+    setting-leaves state i (selected_modes state true sp (first_bytes n data_out))
+command-leaves state i (ModeSense6 dbd pc page subpage n) data_out h =
+    sensing-leaves state n (mode_parameters state.modes (sense_request state.disk.capacity false false dbd pc page subpage))
+command-leaves state i (ModeSense10 llbaa dbd pc page subpage n) data_out h =
+    sensing-leaves state n (mode_parameters state.modes (sense_request state.disk.capacity true llbaa dbd pc page subpage))
 command-leaves state i _ data_out h = cc
 
 at-effect : (disk : Disk) (result : Result Effect Refusal) (effect : Effect) → Leaves disk result → result ≡ Ok effect → effect.after.disk ≡ disk

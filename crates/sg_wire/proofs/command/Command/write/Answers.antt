@@ -1,6 +1,7 @@
 use Rattle.std.proofs.Common.{rules}
 use Rattle.sg_wire.specs.Layout.{cdb_of}
 use Rattle.sg_wire.proofs.LayoutLemmas.{reads_back-test_unit_ready, reads_back-request_sense, reads_back-inquiry, reads_back-extent_6, reads_back-extent_10, reads_back-extent_16, reads_back-read_capacity_10, reads_back-read_capacity_16, reads_back-write_same_10, reads_back-write_same_16, reads_back-unmap, reads_back-get_lba_status}
+use Rattle.sg_wire.proofs.LayoutLemmas.{reads_back-mode_select_6, reads_back-mode_select_10, reads_back-mode_sense_6, reads_back-mode_sense_10}
 use Rattle.sg_wire.proofs.command.Command.write.Goals as goal
 
 pub returns-in-TestUnitReady-clause-reads_back : goal.returns-in-TestUnitReady-clause-reads_back
@@ -16,6 +17,28 @@ pub returns-in-Inquiry-clause-reads_back : goal.returns-in-Inquiry-clause-reads_
 returns-in-Inquiry-clause-reads_back c =
     rw (c.in-Inquiry.is, c.encode_inquiry.ensures)
     (reads_back-inquiry _ _ _ (search rules) (search rules))
+
+pub returns-in-ModeSelect6-clause-reads_back : goal.returns-in-ModeSelect6-clause-reads_back
+returns-in-ModeSelect6-clause-reads_back c =
+    rw (c.in-ModeSelect6.is, c.encode_mode_select_6.ensures)
+    (reads_back-mode_select_6 _ _ _ (search rules))
+
+pub returns-in-ModeSelect10-clause-reads_back : goal.returns-in-ModeSelect10-clause-reads_back
+returns-in-ModeSelect10-clause-reads_back c =
+    rw (c.in-ModeSelect10.is, c.encode_mode_select_10.ensures)
+    (reads_back-mode_select_10 _ _ _ (search rules))
+
+pub returns-in-ModeSense6-clause-reads_back : goal.returns-in-ModeSense6-clause-reads_back
+returns-in-ModeSense6-clause-reads_back c =
+    let e = c.encode_mode_sense_6.ensures in
+    rw (c.in-ModeSense6.is, e.cdb)
+    (reads_back-mode_sense_6 _ _ _ _ _ e.page_control e.page_code (search rules) (search rules))
+
+pub returns-in-ModeSense10-clause-reads_back : goal.returns-in-ModeSense10-clause-reads_back
+returns-in-ModeSense10-clause-reads_back c =
+    let e = c.encode_mode_sense_10.ensures in
+    rw (c.in-ModeSense10.is, e.cdb)
+    (reads_back-mode_sense_10 _ _ _ _ e.page_control e.page_code (search rules) (search rules) _ _)
 
 pub returns-in-Read6-clause-reads_back : goal.returns-in-Read6-clause-reads_back
 unfolding cdb_of

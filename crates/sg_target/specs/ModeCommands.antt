@@ -1,0 +1,112 @@
+-- The effects of MODE SENSE and MODE SELECT (SPC-4, 6.9 to 6.12).
+use Rattle.std.specs.Prelude.{ℕ, List, [], Bool, ◌==◌, if◌then◌else◌, Option, Some, None, Result, Ok, Err}
+use Rattle.std.specs.Result.{result_map_both, result_unwrap_or}
+use Rattle.sg_pages.specs.ModePage.{ModeState}
+use Rattle.sg_pages.specs.ModeSelect.{changed_by, mode_select}
+use Rattle.sg_pages.specs.ModeSense.{RequestFields, mode_sense}
+use Rattle.sg_pages.specs.declared.mode_pages.mode_select.ModeSelectFault.{ModeSelectFault}
+use Rattle.sg_pages.specs.declared.mode_pages.mode_select.ModeSelectFault.TheVariants.{Length, Field}
+use Rattle.sg_pages.specs.declared.mode_pages.request.ModeSenseFault.{ModeSenseFault}
+use Rattle.sg_pages.specs.declared.mode_pages.request.ModeSenseFault.TheVariants.{Page, Subpage}
+use Rattle.sg_pages.specs.declared.mode_pages.request.PageControl.{PageControl}
+use Rattle.sg_pages.specs.declared.mode_pages.request.PageControl.TheVariants.{Current, Changeable}
+use Rattle.sg_pages.specs.declared.mode_pages.request.PageControl.TheVariants.{Default, Saved}
+use Rattle.sg_units.specs.Attentions.{Pending}
+use Rattle.sg_units.specs.Raised.{raised_for_each, raised_for_others}
+use Rattle.sg_units.specs.declared.unit_attention.UnitAttention.TheVariants.{ModeParametersChanged}
+use Rattle.sg_target.specs.Effect.{Effect, no_effect, returning_up_to}
+use Rattle.sg_target.specs.State.{State}
+use Rattle.sg_target.specs.declared.refusal.Reason.TheVariants.{InvalidFieldInCdb, InvalidFieldInParameterList}
+use Rattle.sg_target.specs.declared.refusal.Reason.TheVariants.{ParameterListLengthError}
+use Rattle.sg_target.specs.declared.refusal.Refusal.{Refusal}
+use Rattle.sg_target.specs.declared.refusal.Refusal.TheVariants.{Check}
+
+-- ---- MODE SENSE
+
+-- The values that PC names.
+abbrev pub page_control_of : (pc : ℕ) → PageControl
+page_control_of pc =
+    if pc == 0 then Current
+    else (if pc == 1 then Changeable else (if pc == 2 then Default else Saved))
+
+-- What a MODE SENSE requests of a disk with a number of blocks: by the CDB of ten bytes, which has
+-- LLBAA, or by that of six.
+abbrev pub sense_request : (blocks : ℕ) (ten llbaa dbd : Bool) (pc page_code subpage_code : ℕ)
+    → RequestFields
+sense_request blocks ten llbaa dbd pc page_code subpage_code = record {
+  ten = ten;
+  llbaa = llbaa;
+  dbd = dbd;
+  page_control = page_control_of pc;
+  page_code = page_code;
+  subpage_code = subpage_code;
+  blocks = blocks;
+}
+
+-- A page or a subpage that the disk has not is an invalid field: PAGE CODE is in byte 2, and SUBPAGE
+-- CODE is byte 3.
+abbrev pub sense_refusal : ModeSenseFault → Refusal
+sense_refusal Page = Check (InvalidFieldInCdb 2)
+sense_refusal Subpage = Check (InvalidFieldInCdb 3)
+
+-- The mode parameter list that is requested, or the refusal.
+unfoldable pub mode_parameters : ModeState → RequestFields → Result (List ℕ) Refusal
+mode_parameters modes request =
+    result_map_both (λ list. list) sense_refusal (mode_sense modes request)
+
+abbrev pub returning_if_sound : State → (allocation_length : ℕ) → Result (List ℕ) Refusal
+    → Result Effect Refusal
+returning_if_sound state n (Ok list) = Ok (returning_up_to state n list)
+returning_if_sound state n (Err refusal) = Err refusal
+
+abbrev pub sensing : State → RequestFields → (allocation_length : ℕ) → Result Effect Refusal
+sensing state request n = returning_if_sound state n (mode_parameters state.modes request)
+
+-- ---- MODE SELECT
+
+-- Its parameter list ends early, or a byte of it has a value that is not supported.
+abbrev pub select_refusal : ModeSelectFault → Refusal
+select_refusal Length = Check ParameterListLengthError
+select_refusal (Field byte) = Check (InvalidFieldInParameterList byte)
+
+-- The mode pages after a parameter list, or the refusal. With SP all of them are saved.
+unfoldable pub selected_modes : State → (ten sp : Bool) → (list : List ℕ) → Result ModeState Refusal
+selected_modes state ten sp list =
+    result_map_both (λ modes. modes) select_refusal
+    (mode_select state.modes list ten sp state.disk.capacity)
+
+-- Where a current value has changed, MODE PARAMETERS CHANGED is established for every other
+-- initiator.
+abbrev pub attentions_after : Pending → (initiator : ℕ) → (changed : Bool) → Pending
+attentions_after attentions initiator changed =
+    if changed then raised_for_each attentions (raised_for_others initiator ModeParametersChanged)
+    else attentions
+
+-- The mode pages become other ones, of which a current value differs, or none.
+abbrev pub setting_modes : State → (initiator : ℕ) → ModeState → (changed : Bool) → Effect
+setting_modes state initiator modes changed = record (no_effect state) {
+  after =
+      record state {
+        modes = modes;
+        attentions = attentions_after state.attentions initiator changed;
+      };
+}
+
+abbrev pub setting_if_sound : State → (initiator : ℕ) → Result ModeState Refusal → Result Effect Refusal
+setting_if_sound state initiator (Ok modes) =
+    Ok (setting_modes state initiator modes (changed_by state.modes modes).0)
+setting_if_sound state initiator (Err refusal) = Err refusal
+
+-- A list in another format than that of the standard is not supported: PF, in byte 1, has to be set.
+abbrev pub unless_page_format : (pf : Bool) → Option ℕ
+unless_page_format pf = if pf then None else Some 1
+
+-- ---- Cited by private contracts alone
+
+-- The mode parameter list, where it is not refused.
+abbrev pub mode_parameter_bytes : ModeState → RequestFields → List ℕ
+mode_parameter_bytes modes request = result_unwrap_or (mode_parameters modes request) []
+
+abbrev pub returning_modes : State → RequestFields → (allocation_length : ℕ) → Effect
+returning_modes state request n =
+    returning_up_to state n (mode_parameter_bytes state.modes request)

@@ -1,0 +1,53 @@
+// PC of MODE SENSE.
+use std::marker::Model;
+
+/// A PC field: which values of mode pages are requested, 0 to 3 (SPC-4, 6.11).
+#[derive(Clone, Copy, Debug, PartialEq, Eq)]
+pub struct PageControlField {
+    number: u8,
+}
+
+impl Model for PageControlField {
+    ghost use Rattle.std.specs.Prelude.{ℕ, ◌<◌};
+
+    ghost Value = { ℕ };
+
+    ghost view = { λ p. p.number };
+
+    ghost invariant = { λ p. p.number < 4 };
+
+    ghost inverse = { λ n. record { number = n } };
+}
+
+ghost use Rattle.std.specs.Prelude.{◌≡◌, ◌<◌, ◌/◌, bit_and};
+ghost use Rattle.std.specs.Option.{SomeIff};
+
+impl PageControlField {
+    /// The field with a number. None where the number is not 0 to 3.
+    pub fn new(number: u8) -> Option<PageControlField>
+        ensures { SomeIff result (number < 4) number }
+    {
+        if number < 4 {
+            Some(PageControlField { number })
+        } else {
+            None
+        }
+    }
+
+    /// Its number, 0 to 3.
+    pub fn number(self) -> u8
+        ensures value { result ≡ self }
+        ensures bound { result < 4 }
+    {
+        self.number
+    }
+
+    // The field in the high two bits of a byte.
+    pub(super) fn of_byte(byte: u8) -> PageControlField
+        ensures { result ≡ bit_and (byte / 64) 0x03 }
+    {
+        PageControlField {
+            number: (byte >> 6) & 0x03,
+        }
+    }
+}
