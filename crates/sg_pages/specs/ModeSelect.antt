@@ -1,4 +1,4 @@
--- What MODE SELECT does with a mode parameter list (SPC-4, 6.9, 6.10 and 7.5).
+-- What MODE SELECT does with a mode parameter list (SPC-4, 7.5).
 use Rattle.std.specs.Prelude.{ℕ, zero, suc, ◌+◌, ◌<◌, ⊤, min, nat_lt, bit_and, bit_or}
 use Rattle.std.specs.Prelude.{List, [], ◌∷◌, ◌++◌, length, take, drop, slice_index}
 use Rattle.std.specs.Prelude.{map, find, reverse, Bool, not, ◌&&◌, ◌||◌, ◌==◌, if◌then◌else◌}

@@ -1,4 +1,4 @@
--- The mode parameter list that MODE SENSE returns (SPC-4, 6.11, 6.12 and 7.5).
+-- The mode parameter list that MODE SENSE returns (SPC-4, 7.5).
 use Rattle.std.specs.Prelude.{ℕ, List, [], ◌∷◌, ◌++◌, length, Result, Ok, Err}
 use Rattle.std.specs.Prelude.{Bool, not, ◌&&◌, ◌||◌, ◌==◌, if◌then◌else◌}
 use Rattle.std.specs.List.{flat_map, list_any}

@@ -1,7 +1,8 @@
 -- The checks that a command passes before it is executed, in their order. They know commands by
 -- their semantics alone.
 use Rattle.std.specs.Prelude.{Bool, ◌&&◌}
-use Rattle.std.specs.Prelude.{ℕ, ◌+◌, max, List, [], ◌∷◌, length, map, Option, Some, None, Result, Ok, Err, nat_lt, if◌then◌else◌}
+use Rattle.std.specs.Prelude.{ℕ, ◌+◌, max, List, [], ◌∷◌, length, map, Option, Some, None, Result}
+use Rattle.std.specs.Prelude.{Ok, Err, nat_lt, if◌then◌else◌}
 use Rattle.std.specs.Option.{option_map}
 use Rattle.std.specs.FinMap.{len}
 use Rattle.sg_wire.specs.Layout.{command_of, is_blocked_by_attention}
@@ -16,7 +17,10 @@ use Rattle.sg_target.specs.Refusal.{refusal_for}
 use Rattle.sg_target.specs.Semantics.{Semantics, semantics}
 use Rattle.sg_target.specs.State.{State}
 use Rattle.sg_target.specs.declared.extent.Extent.{Extent}
-use Rattle.sg_target.specs.declared.refusal.Reason.TheVariants.{InvalidFieldInCdb, UnitAttention as Attention, DataPhaseError, LbaOutOfRange, SpaceAllocationFailed}
+use Rattle.sg_target.specs.declared.refusal.Reason.TheVariants.{InvalidFieldInCdb}
+use Rattle.sg_target.specs.declared.refusal.Reason.TheVariants.{UnitAttention as Attention}
+use Rattle.sg_target.specs.declared.refusal.Reason.TheVariants.{DataPhaseError, LbaOutOfRange}
+use Rattle.sg_target.specs.declared.refusal.Reason.TheVariants.{SpaceAllocationFailed}
 use Rattle.sg_target.specs.declared.refusal.Reason.TheVariants.{SoftwareWriteProtected}
 use Rattle.sg_target.specs.declared.refusal.Refusal.{Refusal}
 use Rattle.sg_target.specs.declared.refusal.Refusal.TheVariants.{Check}

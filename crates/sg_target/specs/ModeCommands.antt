@@ -1,4 +1,4 @@
--- The effects of MODE SENSE and MODE SELECT (SPC-4, 6.9 to 6.12).
+-- The effects of MODE SENSE and MODE SELECT (SPC-4).
 use Rattle.std.specs.Prelude.{ℕ, List, [], Bool, ◌==◌, if◌then◌else◌, Option, Some, None, Result, Ok, Err}
 use Rattle.std.specs.Result.{result_map_both, result_unwrap_or}
 use Rattle.sg_pages.specs.ModePage.{ModeState}
@@ -16,7 +16,8 @@ use Rattle.sg_units.specs.Raised.{raised_for_each, raised_for_others}
 use Rattle.sg_units.specs.declared.unit_attention.UnitAttention.TheVariants.{ModeParametersChanged}
 use Rattle.sg_target.specs.Effect.{Effect, no_effect, returning_up_to}
 use Rattle.sg_target.specs.State.{State}
-use Rattle.sg_target.specs.declared.refusal.Reason.TheVariants.{InvalidFieldInCdb, InvalidFieldInParameterList}
+use Rattle.sg_target.specs.declared.refusal.Reason.TheVariants.{InvalidFieldInCdb}
+use Rattle.sg_target.specs.declared.refusal.Reason.TheVariants.{InvalidFieldInParameterList}
 use Rattle.sg_target.specs.declared.refusal.Reason.TheVariants.{ParameterListLengthError}
 use Rattle.sg_target.specs.declared.refusal.Refusal.{Refusal}
 use Rattle.sg_target.specs.declared.refusal.Refusal.TheVariants.{Check}

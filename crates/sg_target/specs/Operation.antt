@@ -1,5 +1,6 @@
 -- The words of the code for what is left to do of a command, in those of the definitions.
-use Rattle.std.specs.Prelude.{◌≡◌, ℕ, ◌+◌, ◌≤◌, List, [], ◌∷◌, length, Bool, Option, Some, None, Ok, if◌then◌else◌}
+use Rattle.std.specs.Prelude.{◌≡◌, ℕ, ◌+◌, ◌≤◌, List, [], ◌∷◌, length, Bool, Option, Some, None, Ok}
+use Rattle.std.specs.Prelude.{if◌then◌else◌}
 use Rattle.std.specs.Prelude.{true, false}
 use Rattle.sg_wire.specs.CutAnswer.{first_bytes, overwritten}
 use Rattle.sg_wire.specs.SenseData.{sense_data}
@@ -13,22 +14,29 @@ use Rattle.sg_pages.specs.ModeSense.{fields_of}
 use Rattle.sg_pages.specs.ProvisioningPages.{maximum_transfer_length, maximum_unmap_descriptors}
 use Rattle.sg_target.specs.BlockCommands.{bytes_of, read_capacity_10, read_capacity_16, reading, writing}
 use Rattle.sg_target.specs.CapacityData.{block_length, capacity_10, capacity_16}
-use Rattle.sg_target.specs.Checks.{checked_effect, first_fault, list_fault, request_fault, short_data_out, unsupported_value}
+use Rattle.sg_target.specs.Checks.{checked_effect, first_fault, list_fault, request_fault}
+use Rattle.sg_target.specs.Checks.{short_data_out, unsupported_value}
 use Rattle.sg_target.specs.Effect.{Effect, no_effect}
 use Rattle.sg_target.specs.ModeCommands.{mode_parameter_bytes, returning_modes, selected_modes}
 use Rattle.sg_target.specs.ModeCommands.{setting_modes, unless_page_format}
 use Rattle.sg_target.specs.PrimaryCommands.{inquiry_data, returning_page, returning_sense}
 use Rattle.sg_target.specs.Refusal.{pending_sense}
-use Rattle.sg_target.specs.ProvisioningCommands.{block_out, filling, reporting_status, unmap_list, unmapping, unmaps}
+use Rattle.sg_target.specs.ProvisioningCommands.{block_out, filling, reporting_status, unmap_list}
+use Rattle.sg_target.specs.ProvisioningCommands.{unmapping, unmaps}
 use Rattle.sg_target.specs.Semantics.{bad_count, extent, semantics, unless_anchor}
 use Rattle.sg_target.specs.State.{State}
 use Rattle.sg_target.specs.Step.{Step, executed_or_refused, refusal_answer}
 use Rattle.sg_target.specs.declared.data_in.DataIn.{DataIn}
-use Rattle.sg_target.specs.declared.data_in.DataIn.TheVariants.{ModeParameters, Sense, Inquiry, Capacity10, Capacity16}
+use Rattle.sg_target.specs.declared.data_in.DataIn.TheVariants.{ModeParameters, Sense, Inquiry}
+use Rattle.sg_target.specs.declared.data_in.DataIn.TheVariants.{Capacity10, Capacity16}
 use Rattle.sg_target.specs.declared.extent.Extent.{Extent}
 use Rattle.sg_target.specs.declared.operation.Operation.{Operation}
 use Rattle.sg_target.specs.declared.operation.Operation.TheVariants.{ModeSense, SetModes}
-use Rattle.sg_target.specs.declared.operation.Operation.TheVariants.{Nothing, RequestSense, ReturnInquiry, ReadCapacity10, ReadCapacity16, Read, Write, Synchronize, Fill, Unmap, GetLbaStatus}
+use Rattle.sg_target.specs.declared.operation.Operation.TheVariants.{Nothing, RequestSense}
+use Rattle.sg_target.specs.declared.operation.Operation.TheVariants.{ReturnInquiry, ReadCapacity10}
+use Rattle.sg_target.specs.declared.operation.Operation.TheVariants.{ReadCapacity16, Read, Write}
+use Rattle.sg_target.specs.declared.operation.Operation.TheVariants.{Synchronize, Fill, Unmap}
+use Rattle.sg_target.specs.declared.operation.Operation.TheVariants.{GetLbaStatus}
 use Rattle.sg_target.specs.declared.refusal.Refusal.{Refusal}
 use Rattle.sg_target.specs.declared.reply.Reply.{Reply}
 use Rattle.sg_target.specs.declared.reply.Status.TheVariants.{Good}

@@ -1,5 +1,6 @@
 -- The effects of the commands of logical block provisioning (SBC-3, 4.7 and 5).
-use Rattle.std.specs.Prelude.{ℕ, ◌+◌, ◌-◌, ◌*◌, ◌/◌, ◌==◌, ◌&&◌, min, List, [], ◌∷◌, length, drop, map, Bool, Result, Ok, Err, nat_lt, if◌then◌else◌}
+use Rattle.std.specs.Prelude.{ℕ, ◌+◌, ◌-◌, ◌*◌, ◌/◌, ◌==◌, ◌&&◌, min, List, [], ◌∷◌, length, drop}
+use Rattle.std.specs.Prelude.{map, Bool, Result, Ok, Err, nat_lt, if◌then◌else◌}
 use Rattle.std.specs.List.{list_all, range_with_len}
 use Rattle.byteorder.specs.Endian.{big_number}
 use Rattle.sg_wire.specs.CutAnswer.{first_bytes}
@@ -10,7 +11,8 @@ use Rattle.sg_target.specs.CapacityData.{block_length}
 use Rattle.sg_target.specs.Effect.{Effect, Range, no_effect, range, returning_up_to, with_contents}
 use Rattle.sg_target.specs.State.{State}
 use Rattle.sg_target.specs.declared.extent.Extent.{Extent}
-use Rattle.sg_target.specs.declared.refusal.Reason.TheVariants.{ParameterListLengthError, InvalidFieldInParameterList}
+use Rattle.sg_target.specs.declared.refusal.Reason.TheVariants.{ParameterListLengthError}
+use Rattle.sg_target.specs.declared.refusal.Reason.TheVariants.{InvalidFieldInParameterList}
 use Rattle.sg_target.specs.declared.refusal.Refusal.{Refusal}
 use Rattle.sg_target.specs.declared.refusal.Refusal.TheVariants.{Check}
 

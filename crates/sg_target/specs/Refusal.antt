@@ -6,7 +6,14 @@ use Rattle.sg_wire.specs.declared.command.CdbFault.TheVariants.{Empty, Opcode, S
 use Rattle.sg_units.specs.UnitAttention.{code_of}
 use Rattle.sg_units.specs.declared.unit_attention.UnitAttention.{UnitAttention}
 use Rattle.sg_target.specs.declared.refusal.Reason.{Reason}
-use Rattle.sg_target.specs.declared.refusal.Reason.TheVariants.{InvalidFieldInCdb, InvalidCommandOperationCode, UnitAttention as Attention, DataPhaseError, ParameterListLengthError, InvalidFieldInParameterList, LbaOutOfRange, SpaceAllocationFailed}
+use Rattle.sg_target.specs.declared.refusal.Reason.TheVariants.{InvalidFieldInCdb}
+use Rattle.sg_target.specs.declared.refusal.Reason.TheVariants.{InvalidCommandOperationCode}
+use Rattle.sg_target.specs.declared.refusal.Reason.TheVariants.{UnitAttention as Attention}
+use Rattle.sg_target.specs.declared.refusal.Reason.TheVariants.{DataPhaseError}
+use Rattle.sg_target.specs.declared.refusal.Reason.TheVariants.{ParameterListLengthError}
+use Rattle.sg_target.specs.declared.refusal.Reason.TheVariants.{InvalidFieldInParameterList}
+use Rattle.sg_target.specs.declared.refusal.Reason.TheVariants.{LbaOutOfRange}
+use Rattle.sg_target.specs.declared.refusal.Reason.TheVariants.{SpaceAllocationFailed}
 use Rattle.sg_target.specs.declared.refusal.Reason.TheVariants.{SoftwareWriteProtected}
 use Rattle.sg_target.specs.declared.refusal.Refusal.{Refusal}
 use Rattle.sg_target.specs.declared.refusal.Refusal.TheVariants.{Check}

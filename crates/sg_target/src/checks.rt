@@ -1,9 +1,11 @@
 // The checks that a command passes before it is executed, in their order.
-ghost use Rattle.std.specs.Prelude.{◌≡◌, ◌≤◌, ◌+◌, length, Some, None, Err, OnOk, IfOk, IfErr, IfNone, if◌then◌else◌};
+ghost use Rattle.std.specs.Prelude.{◌≡◌, ◌≤◌, ◌+◌, length, Some, None, Err, OnOk, IfOk, IfErr};
+ghost use Rattle.std.specs.Prelude.{IfNone, if◌then◌else◌};
 ghost use Rattle.sg_wire.specs.Layout.{is_blocked_by_attention};
 ghost use Rattle.sg_units.specs.Attentions.{oldest};
 ghost use Rattle.sg_target.specs.BlockCommands.{bytes_of};
-ghost use Rattle.sg_target.specs.Checks.{checked_effect, out_of_range, past_capacity, short_data_out, unsupported_value, write_protection};
+ghost use Rattle.sg_target.specs.Checks.{checked_effect, out_of_range, past_capacity};
+ghost use Rattle.sg_target.specs.Checks.{short_data_out, unsupported_value, write_protection};
 ghost use Rattle.sg_target.specs.Operation.{AreOnDisk, IsChecked, writes_medium};
 ghost use Rattle.sg_wire.specs.CutAnswer.{first_bytes};
 ghost use Rattle.sg_pages.specs.ProvisioningPages.{maximum_transfer_length};

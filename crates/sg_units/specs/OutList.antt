@@ -1,4 +1,4 @@
--- The parameter list of PERSISTENT RESERVE OUT (SPC-4, 6.16.3).
+-- The parameter list of PERSISTENT RESERVE OUT (SPC-4).
 use Rattle.std.specs.Prelude.{ℕ, ◌==◌, Bool, not, ◌||◌, List, drop, slice_index, bit_and}
 use Rattle.byteorder.specs.Endian.{big_number}
 use Rattle.sg_units.specs.declared.out_action.OutAction.{OutAction}

@@ -1,4 +1,4 @@
--- PERSISTENT RESERVE OUT (SPC-4, 5.13 and 6.16).
+-- PERSISTENT RESERVE OUT (SPC-4, 5.13).
 use Rattle.std.specs.Prelude.{ℕ, ◌+◌, ◌%◌, ◌^◌, ◌==◌, Bool, true, false, not, ◌&&◌, ◌||◌}
 use Rattle.std.specs.Prelude.{if◌then◌else◌, List, [], ◌∷◌, length, map, Result, Ok, Err}
 use Rattle.std.specs.Prelude.{Option, Some, None, is_some, is_none}

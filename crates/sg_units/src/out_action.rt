@@ -1,6 +1,6 @@
 // The service actions of PERSISTENT RESERVE OUT.
 
-/// A service action of PERSISTENT RESERVE OUT (SPC-4, 6.16.2), with its code.
+/// A service action of PERSISTENT RESERVE OUT (SPC-4), with its code.
 #[derive(Clone, Copy)]
 pub enum OutAction {
     /// REGISTER.

@@ -5,7 +5,7 @@ ghost use Rattle.sg_units.specs.OutList.{has_unsupported_flag, list_length, out_
 use crate::OutAction;
 use byteorder::{BigEndian, ByteOrder};
 
-/// The parameter list of PERSISTENT RESERVE OUT (SPC-4, 6.16.3).
+/// The parameter list of PERSISTENT RESERVE OUT (SPC-4).
 #[derive(Clone, Copy)]
 pub struct OutList {
     /// RESERVATION KEY: the one that the initiator is registered under.

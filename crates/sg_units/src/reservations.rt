@@ -78,8 +78,7 @@ impl Reservations {
         self.state.allows(initiator, class)
     }
 
-    /// Writes the data-in of READ KEYS: PRGENERATION and the keys of all registrants (SPC-4,
-    /// 6.15.2).
+    /// Writes the data-in of READ KEYS: PRGENERATION and the keys of all registrants (SPC-4).
     pub fn read_keys(&self, cut: &mut Cut)
         ensures { Puts cut.old cut.new (keys_data self.now) }
     {
@@ -87,14 +86,14 @@ impl Reservations {
     }
 
     /// Writes the data-in of READ RESERVATION: PRGENERATION and the reservation that is held, if
-    /// any (SPC-4, 6.15.3).
+    /// any (SPC-4).
     pub fn read_reservation(&self, cut: &mut Cut)
         ensures { Puts cut.old cut.new (reservation_data self.now) }
     {
         self.state.read_reservation(cut);
     }
 
-    /// Writes the data-in of REPORT CAPABILITIES (SPC-4, 6.15.4).
+    /// Writes the data-in of REPORT CAPABILITIES (SPC-4).
     pub fn report_capabilities(&self, cut: &mut Cut)
         ensures { Puts cut.old cut.new capabilities_data }
     {

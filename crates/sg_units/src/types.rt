@@ -3,7 +3,7 @@ ghost use Rattle.std.specs.Prelude.{◌≡◌};
 ghost use Rattle.sg_units.specs.ReservationType.{code_of, is_all_registrants, is_same_type};
 ghost use Rattle.sg_units.specs.ReservationType.{is_shared, type_of};
 
-/// A type of persistent reservation (SPC-4, 6.15.3.4), with the code of its TYPE field.
+/// A type of persistent reservation (SPC-4), with the code of its TYPE field.
 #[derive(Clone, Copy)]
 pub enum ReservationType {
     /// Write Exclusive.

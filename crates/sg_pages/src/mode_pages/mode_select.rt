@@ -1,4 +1,4 @@
-// MODE SELECT (SPC-4, 6.9 and 6.10).
+// MODE SELECT (SPC-4).
 ghost use Rattle.std.specs.Prelude.{◌≡◌, ◌≤◌, ◌<◌, ◌+◌, ◌∷◌, length, not};
 ghost use Rattle.std.specs.Prelude.{IsTrue, IfErr, IfOk, OnOk};
 ghost use Rattle.std.specs.List.{flat_map};

@@ -1,4 +1,4 @@
-// MODE SENSE (SPC-4, 6.11 and 6.12).
+// MODE SENSE (SPC-4).
 ghost use Rattle.std.specs.Prelude.{◌≡◌, ◌≤◌, ◌+◌, [], ◌++◌, IfOk, IfErr, length, if◌then◌else◌};
 ghost use Rattle.std.specs.Result.{result_map_both};
 ghost use Rattle.sg_wire.specs.Cut.{Puts, answer_of};

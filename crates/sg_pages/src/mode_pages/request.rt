@@ -1,7 +1,7 @@
 // What a MODE SENSE requests.
 ghost use Rattle.std.specs.Prelude.{IsTrue};
 
-/// Which values of the pages are requested: the PC field (SPC-4, 6.11).
+/// Which values of the pages are requested: the PC field (SPC-4).
 #[derive(Clone, Copy)]
 pub enum PageControl {
     /// The current values.
@@ -14,7 +14,7 @@ pub enum PageControl {
     Saved,
 }
 
-/// What a MODE SENSE requests (SPC-4, 6.11 and 6.12).
+/// What a MODE SENSE requests (SPC-4).
 #[derive(Clone, Copy)]
 pub struct ModeSenseRequest {
     /// MODE SENSE(10), and not MODE SENSE(6).

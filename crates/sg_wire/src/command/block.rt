@@ -1,5 +1,6 @@
 // Block commands (SBC-3, 5; READ(6) and WRITE(6) of SBC-2).
-ghost use Rattle.std.specs.Prelude.{◌≡◌, ◌/◌, ◌%◌, ◌<◌, ◌≤◌, ◌^◌, [], ◌∷◌, ◌++◌, Ok, Err, length, slice_index, bit_and, IfOk, MatchResult};
+ghost use Rattle.std.specs.Prelude.{◌≡◌, ◌/◌, ◌%◌, ◌<◌, ◌≤◌, ◌^◌, [], ◌∷◌, ◌++◌, Ok, Err, length};
+ghost use Rattle.std.specs.Prelude.{slice_index, bit_and, IfOk, MatchResult};
 ghost use Rattle.byteorder.specs.Endian.{big_bytes};
 ghost use Rattle.sg_wire.specs.Layout.{cdb_of, command_with, fits_masks, number_at, value_at};
 ghost use Rattle.sg_wire.specs.Layout.Place.{short_extent};

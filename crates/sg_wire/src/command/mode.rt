@@ -1,4 +1,4 @@
-// MODE SENSE and MODE SELECT (SPC-4, 6.9 to 6.12).
+// MODE SENSE and MODE SELECT (SPC-4).
 ghost use Rattle.std.specs.Prelude.{◌≡◌, ◌+◌, ◌*◌, ◌<◌, if◌then◌else◌};
 ghost use Rattle.sg_wire.specs.Layout.{cdb_of, command_with};
 
