@@ -105,8 +105,8 @@ past_capacity capacity extent =
 unfoldable pub out_of_range : (capacity : ℕ) → List Extent → Option Refusal
 out_of_range capacity extents = first_some (map (past_capacity capacity) extents)
 
--- SWP is set, and the command writes to the medium (SPC-4, Control mode page): also where it names no
--- block.
+-- SWP is set, and the command writes to the medium (SPC-4, Control mode page): also where it names
+-- no block.
 unfoldable pub write_protection : ModeState → (writes_medium : Bool) → Option Refusal
 write_protection modes writes_medium =
     if write_protected modes && writes_medium then Some (Check SoftwareWriteProtected) else None

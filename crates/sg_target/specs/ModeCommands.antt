@@ -44,8 +44,8 @@ sense_request blocks ten llbaa dbd pc page_code subpage_code = record {
   blocks = blocks;
 }
 
--- A page or a subpage that the disk has not is an invalid field: PAGE CODE is in byte 2, and SUBPAGE
--- CODE is byte 3.
+-- A page or a subpage that the disk does not have is an invalid field: PAGE CODE is in byte 2, and
+-- SUBPAGE CODE is byte 3.
 abbrev pub sense_refusal : ModeSenseFault → Refusal
 sense_refusal Page = Check (InvalidFieldInCdb 2)
 sense_refusal Subpage = Check (InvalidFieldInCdb 3)
@@ -93,12 +93,14 @@ setting_modes state initiator modes changed = record (no_effect state) {
       };
 }
 
-abbrev pub setting_if_sound : State → (initiator : ℕ) → Result ModeState Refusal → Result Effect Refusal
+abbrev pub setting_if_sound : State → (initiator : ℕ) → Result ModeState Refusal
+    → Result Effect Refusal
 setting_if_sound state initiator (Ok modes) =
     Ok (setting_modes state initiator modes (changed_by state.modes modes).0)
 setting_if_sound state initiator (Err refusal) = Err refusal
 
--- A list in another format than that of the standard is not supported: PF, in byte 1, has to be set.
+-- A parameter list in another format than the standard's is not supported: PF, in byte 1, has to be
+-- set.
 abbrev pub unless_page_format : (pf : Bool) → Option ℕ
 unless_page_format pf = if pf then None else Some 1
 

@@ -1,11 +1,13 @@
 // MODE SENSE and MODE SELECT: what they ask for, and the change of the mode pages.
-ghost use Rattle.std.specs.Prelude.{◌≡◌, ◌<◌, ◌^◌, length, Some, None, Ok, Err, IfOk, IfErr, IsOk, IsTrue};
+ghost use Rattle.std.specs.Prelude.{◌≡◌, ◌<◌, ◌^◌, length, Some, None, Ok, Err};
+ghost use Rattle.std.specs.Prelude.{IfOk, IfErr, IsOk, IsTrue};
 ghost use Rattle.sg_wire.specs.Cut.{Puts};
 ghost use Rattle.sg_wire.specs.CutAnswer.{first_bytes};
 ghost use Rattle.sg_pages.specs.ModeSelect.{changed_by};
 ghost use Rattle.sg_pages.specs.ModeSense.{fields_of};
-ghost use Rattle.sg_target.specs.ModeCommands.{mode_parameter_bytes, page_control_of, returning_modes};
-ghost use Rattle.sg_target.specs.ModeCommands.{selected_modes, sense_request, sensing, setting_modes};
+ghost use Rattle.sg_target.specs.ModeCommands.{mode_parameter_bytes, page_control_of};
+ghost use Rattle.sg_target.specs.ModeCommands.{returning_modes, selected_modes, sense_request};
+ghost use Rattle.sg_target.specs.ModeCommands.{sensing, setting_modes};
 ghost use Rattle.sg_target.specs.Operation.{executed_reply, mode_select_fault};
 ghost use Rattle.sg_blocks.specs.Meter.{no_counts};
 
@@ -152,7 +154,8 @@ impl<S: Store> Target<S> {
         }
     }
 
-    // The mode pages become other ones.
+    // The mode pages become other ones. Where a current value has changed, the other initiators get a
+    // unit attention.
     pub(crate) fn set_modes(
         &mut self,
         initiator: Initiator,
@@ -160,7 +163,8 @@ impl<S: Store> Target<S> {
         changed: bool,
     ) -> Reply
         ensures reply { result ≡ executed_reply 0 no_counts }
-        ensures state { self.new.state ≡ (setting_modes self.old.state initiator modes changed).after }
+        ensures state { self.new.state
+            ≡ (setting_modes self.old.state initiator modes changed).after }
         ensures meter { self.new.meter ≡ self.old.meter }
     {
         self.modes = modes;

@@ -59,8 +59,8 @@ ghost use Rattle.sg_target.specs.State.{IsWithinLimits, powered_on};
 ghost use Rattle.sg_target.specs.Step.{after_refusal, sense_format, step};
 
 impl<S: Store> Target<S> {
-    /// A target as it is after power on: no block is mapped, the mode pages have their default values,
-    /// and a unit attention, POWER ON, is pending for each initiator. All memory is taken here.
+    /// A target as it is after power on: no block is mapped, the mode pages have their default
+    /// values, and a unit attention, POWER ON, is pending for each initiator. All memory is taken here.
     ///
     /// # Errors
     /// Memory was refused.
