@@ -1,6 +1,6 @@
 // Registrations and the persistent reservation.
-mod out;
 mod persistent_reserve_in;
+mod persistent_reserve_out;
 mod preempt;
 mod register;
 mod reserve;

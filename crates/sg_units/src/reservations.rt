@@ -48,7 +48,7 @@ impl Reservations {
     ///
     /// # Errors
     /// The first fault that applies. Nothing has changed then.
-    pub fn out(
+    pub fn persistent_reserve_out(
         &mut self,
         caller: Initiator,
         action: OutAction,

@@ -1,6 +1,6 @@
 use Rattle.std.proofs.Common.{◌∙◌, sym}
 use Rattle.sg_units.proofs.ConsistencyLemmas.{consistent-outcome}
-use Rattle.sg_units.proofs.reservations.Reservations.out.Goals as goal
+use Rattle.sg_units.proofs.reservations.Reservations.persistent_reserve_out.Goals as goal
 
 pub invariant_of-self : goal.invariant_of-self
 invariant_of-self c =
