@@ -11,7 +11,7 @@ use Rattle.sg_blocks.specs.declared.store.Counts.{Counts}
 use Rattle.sg_pages.specs.Identity.{IdentityFields}
 use Rattle.sg_pages.specs.ModePage.{ModeState}
 use Rattle.sg_pages.specs.ModeSense.{fields_of}
-use Rattle.sg_pages.specs.ProvisioningPages.{maximum_transfer_length, maximum_unmap_descriptors}
+use Rattle.sg_pages.specs.ProvisioningPages.{maximum_transfer_length}
 use Rattle.sg_target.specs.BlockCommands.{bytes_of, read_capacity_10, read_capacity_16, reading, writing}
 use Rattle.sg_target.specs.CapacityData.{block_length, capacity_10, capacity_16}
 use Rattle.sg_target.specs.Checks.{checked_effect, first_fault, list_fault, request_fault}
@@ -36,7 +36,7 @@ use Rattle.sg_target.specs.declared.operation.Operation.TheVariants.{Nothing, Re
 use Rattle.sg_target.specs.declared.operation.Operation.TheVariants.{ReturnInquiry, ReadCapacity10}
 use Rattle.sg_target.specs.declared.operation.Operation.TheVariants.{ReadCapacity16, Read, Write}
 use Rattle.sg_target.specs.declared.operation.Operation.TheVariants.{Synchronize, Fill, Unmap}
-use Rattle.sg_target.specs.declared.operation.Operation.TheVariants.{GetLbaStatus}
+use Rattle.sg_target.specs.declared.operation.Operation.TheVariants.{UnmapExtent, GetLbaStatus}
 use Rattle.sg_target.specs.declared.refusal.Refusal.{Refusal}
 use Rattle.sg_target.specs.declared.reply.Reply.{Reply}
 use Rattle.sg_target.specs.declared.reply.Status.TheVariants.{Good}
@@ -54,6 +54,7 @@ effect_of state i (Write extent) data_out = writing state extent data_out
 effect_of state i (Synchronize extent) data_out = no_effect state
 effect_of state i (Fill extent) data_out = filling state extent (block_out data_out)
 effect_of state i (Unmap extents) data_out = unmapping state extents
+effect_of state i (UnmapExtent extent) data_out = unmapping state (extent ∷ [])
 effect_of state i (GetLbaStatus start n) data_out = reporting_status state start n
 
 -- The extents that have to be on the disk.
@@ -63,6 +64,7 @@ extents_of (Write extent) = extent ∷ []
 extents_of (Synchronize extent) = extent ∷ []
 extents_of (Fill extent) = extent ∷ []
 extents_of (Unmap extents) = extents
+extents_of (UnmapExtent extent) = extent ∷ []
 extents_of (GetLbaStatus start n) = extent start 1 ∷ []
 extents_of _ = []
 
@@ -71,16 +73,15 @@ abbrev pub writes_medium : Operation → Bool
 writes_medium (Write extent) = true
 writes_medium (Fill extent) = true
 writes_medium (Unmap extents) = true
+writes_medium (UnmapExtent extent) = true
 writes_medium _ = false
 
--- No more blocks are moved, and no more extents unmapped, than the disk takes; and data-out has the
--- blocks that are written.
+-- No more blocks are moved than the disk takes, and data-out has the blocks that are written.
 abbrev pub IsExecutable : Operation → (data_out : List ℕ) → Type 0
 IsExecutable (Read extent) data_out = extent.count ≤ maximum_transfer_length
 IsExecutable (Write extent) data_out =
     (extent.count ≤ maximum_transfer_length) × (bytes_of extent ≤ length data_out)
 IsExecutable (Fill extent) data_out = block_length ≤ length data_out
-IsExecutable (Unmap extents) data_out = length extents ≤ maximum_unmap_descriptors
 IsExecutable _ data_out = Unit {0}
 
 abbrev pub AreOnDisk : (capacity : ℕ) → List Extent → Type 0
@@ -106,7 +107,7 @@ write_same_fault anchor count byte data_out =
 -- What is left to do of it.
 abbrev pub write_same_operation : (unmap : Bool) → Extent → (data_out : List ℕ) → Operation
 write_same_operation unmap extent data_out =
-    if unmaps unmap (block_out data_out) then Unmap (extent ∷ []) else Fill extent
+    if unmaps unmap (block_out data_out) then UnmapExtent extent else Fill extent
 
 -- What is wrong with an UNMAP.
 abbrev pub unmap_fault : (anchor : Bool) (list_length : ℕ) (data_out : List ℕ) → Option Refusal

@@ -62,8 +62,8 @@ extent_at list byte =
 unfoldable pub descriptor : (list : List ℕ) (index : ℕ) → Extent
 descriptor list index = extent_at list (unmap_header_length + unmap_descriptor_length * index)
 
-unfoldable pub descriptors : (list : List ℕ) → List Extent
-descriptors list = map (descriptor list) (range_with_len 0 (descriptor_count list))
+abbrev pub first_descriptors : (list : List ℕ) (count : ℕ) → List Extent
+first_descriptors list count = map (descriptor list) (range_with_len 0 count)
 
 -- The extents that a list names. A list without a byte names none; any other has to have its header
 -- and, counted by BLOCK DESCRIPTOR DATA LENGTH in byte 2, no more descriptors than the disk takes.
@@ -73,7 +73,7 @@ unmap_list list =
     else (if nat_lt (length list) unmap_header_length then Err (Check ParameterListLengthError)
     else (if nat_lt maximum_unmap_descriptors (descriptor_count list)
     then Err (Check (InvalidFieldInParameterList 2))
-    else Ok (descriptors list)))
+    else Ok (first_descriptors list (descriptor_count list))))
 
 -- UNMAP unmaps the extents of its list.
 abbrev pub unmapping_listed : State → Result (List Extent) Refusal → Result Effect Refusal

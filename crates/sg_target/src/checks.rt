@@ -25,12 +25,12 @@ impl<S: Store> Target<S> {
     // Checks a CDB and its command, all but that for space, which is made as the command is
     // executed. Returns what is left to do.
     #[tactic(auto, unfolding(crate::specs::Checks::checked_effect))]
-    pub(crate) fn check_command(
+    pub(crate) fn check_command<'a>(
         &self,
         initiator: Initiator,
         cdb: &[u8],
-        data_out: &[u8],
-    ) -> Result<Operation, Refusal>
+        data_out: &'a [u8],
+    ) -> Result<Operation<'a>, Refusal>
         ensures refused { IfErr result (λ refusal.
             checked_effect self.now.state initiator cdb.now data_out.now ≡ Err refusal) }
         ensures passed { IfOk result (λ operation.
@@ -70,7 +70,7 @@ impl<S: Store> Target<S> {
 
     // The refusal of an operation that writes to the medium while SWP is set.
     #[tactic(auto, unfolding(crate::specs::Checks::write_protection))]
-    fn write_protection(&self, operation: &Operation) -> Option<Refusal>
+    fn write_protection(&self, operation: &Operation<'_>) -> Option<Refusal>
         ensures { result ≡ write_protection self.now.state.modes (writes_medium operation.now) }
     {
         if self.modes.write_protected() && operation.writes_medium() {

@@ -115,7 +115,9 @@ impl<S: Store> Target<S> {
         }
     }
 
-    // GET LBA STATUS returns which blocks are mapped, from an address on.
+    // GET LBA STATUS returns which blocks are mapped, from an address on. A store may gather what it
+    // reports: room for that would else be made for every command.
+    #[inline(never)]
     pub(crate) fn report_lba_status(
         &mut self,
         start: u64,

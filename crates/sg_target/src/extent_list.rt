@@ -34,15 +34,6 @@ impl ExtentList {
         }
     }
 
-    /// One extent.
-    pub(crate) fn of(extent: Extent) -> ExtentList
-        ensures { result ≡ extent ∷ [] }
-    {
-        let mut list = ExtentList::new();
-        list.push(extent);
-        list
-    }
-
     /// Adds an extent at the end.
     pub(crate) fn push(&mut self, extent: Extent)
         requires { length self.old < maximum_unmap_descriptors }

@@ -57,7 +57,7 @@ impl<S: Store> Target<S> {
         &self,
         request: ModeSenseRequest,
         allocation_length: u16,
-    ) -> Result<Operation, Refusal>
+    ) -> Result<Operation<'static>, Refusal>
         ensures refused { IfErr result (λ refusal.
             sensing self.now.state (fields_of request) allocation_length ≡ Err refusal) }
         ensures passed { IfOk result (λ _.
@@ -115,7 +115,7 @@ impl<S: Store> Target<S> {
         sp: bool,
         list_length: u16,
         data_out: &[u8],
-    ) -> Result<Operation, Refusal>
+    ) -> Result<Operation<'static>, Refusal>
         ensures refused { IfErr result (λ refusal.
             mode_select_fault self.now.state ten pf sp list_length data_out.now ≡ Some refusal) }
         ensures passed { IfOk result (λ _.
@@ -134,7 +134,7 @@ impl<S: Store> Target<S> {
 
     // The mode pages after a parameter list.
     #[tactic(auto, unfolding(crate::specs::ModeCommands::selected_modes))]
-    fn select_modes(&self, ten: bool, sp: bool, list: &[u8]) -> Result<Operation, Refusal>
+    fn select_modes(&self, ten: bool, sp: bool, list: &[u8]) -> Result<Operation<'static>, Refusal>
         requires { length list.now < 2 ^ 16 }
         ensures refused { IfErr result (λ refusal.
             selected_modes self.now.state ten sp list.now ≡ Err refusal) }

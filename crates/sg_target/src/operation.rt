@@ -17,17 +17,15 @@ ghost use Rattle.sg_target.specs.Semantics.{semantics, too_long};
 ghost use Rattle.sg_target.specs.State.{IsWithinLimits};
 
 use crate::checks::{
-    check_data_out, check_transfer_length, check_write_same_length, first_past_capacity,
-    needed_data_out, past_capacity,
+    check_data_out, check_transfer_length, check_write_same_length, needed_data_out, past_capacity,
 };
 use crate::data_in::{CAPACITY_10_LENGTH, CAPACITY_16_LENGTH, DataIn};
 use crate::extent::Extent;
-use crate::extent_list::ExtentList;
 use crate::inquiry_page::InquiryPage;
 use crate::refusal::{Reason, Refusal};
 use crate::reply::{Reply, format_of};
 use crate::target::{BUFFER_LENGTH, Target};
-use crate::unmap::unmap;
+use crate::unmap::{ListedExtents, unmap};
 use sg_blocks::{BLOCK_LENGTH, MAX_CAPACITY, Store};
 use sg_pages::{ModePages, ModeSenseRequest};
 use sg_wire::{Command, Format, Initiator};
@@ -35,7 +33,7 @@ use sg_wire::{Command, Format, Initiator};
 /// What is left to do of a command whose values, data-out and parameter list are sound, with what
 /// that takes. Only blocks past the last one and want of space can still refuse it.
 #[derive(Drop)]
-pub(crate) enum Operation {
+pub(crate) enum Operation<'a> {
     /// TEST UNIT READY.
     Nothing,
     /// Returns the oldest unit attention as sense data, and clears it.
@@ -76,7 +74,9 @@ pub(crate) enum Operation {
     /// Replaces blocks by one block.
     Fill(Extent),
     /// Unmaps blocks, extent by extent.
-    Unmap(ExtentList),
+    Unmap(ListedExtents<'a>),
+    /// Unmaps blocks of one extent.
+    UnmapExtent(Extent),
     /// Returns which blocks are mapped, from an address on.
     GetLbaStatus {
         start: u64,
@@ -85,7 +85,7 @@ pub(crate) enum Operation {
     },
 }
 
-impl Operation {
+impl<'a> Operation<'a> {
     // Why the operation's blocks can't be reached, on a disk of `capacity` blocks.
     #[tactic(auto, using(crate::proofs::StepLemmas::first_some_one), unfolding(crate::specs::Checks::out_of_range))]
     pub(crate) fn out_of_range(&self, capacity: u64) -> Option<Refusal>
@@ -97,8 +97,9 @@ impl Operation {
             Operation::Read(extent)
             | Operation::Write(extent)
             | Operation::Synchronize(extent)
-            | Operation::Fill(extent) => past_capacity(capacity, *extent),
-            Operation::Unmap(extents) => first_past_capacity(capacity, extents.as_slice()),
+            | Operation::Fill(extent)
+            | Operation::UnmapExtent(extent) => past_capacity(capacity, *extent),
+            Operation::Unmap(extents) => extents.out_of_range(capacity),
             Operation::GetLbaStatus { start, .. } => {
                 let first = Extent {
                     lba: *start,
@@ -122,7 +123,10 @@ impl Operation {
     {
         matches!(
             self,
-            Operation::Write(_) | Operation::Fill(_) | Operation::Unmap(_)
+            Operation::Write(_)
+                | Operation::Fill(_)
+                | Operation::Unmap(_)
+                | Operation::UnmapExtent(_)
         )
     }
 }
@@ -131,12 +135,12 @@ impl<S: Store> Target<S> {
     // What a command asks for, where nothing is wrong with its values, its data-out and its
     // parameter list.
     #[tactic(auto, unfolding(crate::specs::Checks::first_fault))]
-    pub(crate) fn operation_of(
+    pub(crate) fn operation_of<'a>(
         &self,
         initiator: Initiator,
         command: &Command,
-        data_out: &[u8],
-    ) -> Result<Operation, Refusal>
+        data_out: &'a [u8],
+    ) -> Result<Operation<'a>, Refusal>
         ensures refused { IfErr result (λ refusal.
             request_fault (semantics self.now.state initiator command.now data_out.now) data_out.now
             ≡ Some refusal) }
@@ -242,7 +246,7 @@ impl<S: Store> Target<S> {
     pub(crate) fn execute_checked(
         &mut self,
         initiator: Initiator,
-        operation: Operation,
+        operation: Operation<'_>,
         data_out: &[u8],
         buf: &mut [u8],
     ) -> Reply
@@ -250,11 +254,11 @@ impl<S: Store> Target<S> {
         requires executable { IsExecutable operation data_out.now }
         requires limits { IsWithinLimits self.old.state }
         requires room { BUFFER_LENGTH ≤ length buf.old }
-        ensures reply { let done = step_by self.old.state initiator operation data_out.now in
+        ensures reply { let done = step_by self.old.state initiator operation.entry data_out.now in
             Carries done.answer result buf.old buf.new }
-        ensures state { self.new.state ≡ (step_by self.old.state initiator operation data_out.now).state }
+        ensures state { self.new.state ≡ (step_by self.old.state initiator operation.entry data_out.now).state }
         ensures charge { IsCharged (cost_bounds S.price S.least) self.old.state.disk.pool
-            (effect_of self.old.state initiator operation data_out.now).ranges
+            (effect_of self.old.state initiator operation.entry data_out.now).ranges
             self.old.meter self.new.meter result }
     {
         match operation {
@@ -290,7 +294,8 @@ impl<S: Store> Target<S> {
             Operation::Read(extent) => self.read(extent, buf),
             Operation::Write(extent) => self.write(initiator, extent, data_out, buf),
             Operation::Fill(extent) => self.fill(initiator, extent, data_out, buf),
-            Operation::Unmap(extents) => self.unmap(extents.as_slice(), buf),
+            Operation::Unmap(extents) => self.unmap_listed(&extents, buf),
+            Operation::UnmapExtent(extent) => self.unmap(&[extent], buf),
             Operation::GetLbaStatus {
                 start,
                 allocation_length,
@@ -299,7 +304,7 @@ impl<S: Store> Target<S> {
     }
 }
 
-fn request_sense(desc: bool, allocation_length: u8) -> Operation
+fn request_sense(desc: bool, allocation_length: u8) -> Operation<'static>
     ensures { result ≡ Operation.RequestSense (format_of desc) allocation_length }
 {
     Operation::RequestSense {
@@ -309,7 +314,7 @@ fn request_sense(desc: bool, allocation_length: u8) -> Operation
 }
 
 // PAGE CODE is byte 2.
-fn inquiry(evpd: bool, page_code: u8, allocation_length: u16) -> Result<Operation, Refusal>
+fn inquiry(evpd: bool, page_code: u8, allocation_length: u16) -> Result<Operation<'static>, Refusal>
     ensures refused { IfErr result (λ refusal. (inquiry_page evpd page_code ≡ None)
         × (refusal ≡ Refusal.Check (Reason.InvalidFieldInCdb 2))) }
     ensures passed { IfOk result (λ operation. IfSome (inquiry_page evpd page_code) (λ page.
@@ -326,7 +331,7 @@ fn inquiry(evpd: bool, page_code: u8, allocation_length: u16) -> Result<Operatio
 }
 
 // READ (10) and (16); TRANSFER LENGTH begins at the byte.
-fn read(extent: Extent, byte: u16) -> Result<Operation, Refusal>
+fn read(extent: Extent, byte: u16) -> Result<Operation<'static>, Refusal>
     ensures refused { IfErr result (λ refusal.
         unsupported_value (too_long extent.count byte) ≡ Some refusal) }
     ensures passed { IfOk result (λ _. too_long extent.count byte ≡ None) }
@@ -339,7 +344,7 @@ fn read(extent: Extent, byte: u16) -> Result<Operation, Refusal>
 
 // WRITE(6), whose layout names at most 256 blocks.
 #[tactic(auto, unfolding(crate::specs::Checks::first_fault))]
-fn write_6(extent: Extent, data_out: &[u8]) -> Result<Operation, Refusal>
+fn write_6(extent: Extent, data_out: &[u8]) -> Result<Operation<'static>, Refusal>
     requires { extent.count ≤ maximum_transfer_length }
     ensures refused { IfErr result (λ refusal. write_fault extent None data_out.now ≡ Some refusal) }
     ensures passed { IfOk result (λ _. write_fault extent None data_out.now ≡ None) }
@@ -352,7 +357,7 @@ fn write_6(extent: Extent, data_out: &[u8]) -> Result<Operation, Refusal>
 
 // WRITE (10) and (16); TRANSFER LENGTH begins at the byte.
 #[tactic(auto, unfolding(crate::specs::Checks::first_fault))]
-fn write(extent: Extent, byte: u16, data_out: &[u8]) -> Result<Operation, Refusal>
+fn write(extent: Extent, byte: u16, data_out: &[u8]) -> Result<Operation<'static>, Refusal>
     ensures refused { IfErr result (λ refusal.
         write_fault extent (too_long extent.count byte) data_out.now ≡ Some refusal) }
     ensures passed { IfOk result (λ _.
@@ -374,7 +379,7 @@ fn write_same(
     extent: Extent,
     byte: u16,
     data_out: &[u8],
-) -> Result<Operation, Refusal>
+) -> Result<Operation<'static>, Refusal>
     ensures refused { IfErr result (λ refusal.
         write_same_fault anchor extent.count byte data_out.now ≡ Some refusal) }
     ensures passed { IfOk result (λ _.
@@ -389,7 +394,7 @@ fn write_same(
     check_write_same_length(extent, byte)?;
     let block = needed_data_out(data_out, BLOCK_LENGTH)?;
     if unmaps(unmap, block) {
-        Ok(Operation::Unmap(ExtentList::of(extent)))
+        Ok(Operation::UnmapExtent(extent))
     } else {
         Ok(Operation::Fill(extent))
     }

@@ -1,11 +1,13 @@
 // UNMAP: its parameter list, and its work.
-ghost use Rattle.std.specs.Prelude.{◌≡◌, ◌+◌, ◌*◌, ◌≤◌, ◌<◌, length, Some, None, Err, Ok, [], IfOk, IfErr};
+ghost use Rattle.std.specs.Prelude.{◌≡◌, ◌+◌, ◌*◌, ◌-◌, ◌≤◌, ◌<◌, length, Some, None, Err, Ok, [], IfOk, IfErr, IfNone};
 ghost use Rattle.std.specs.FinMap.{len};
 ghost use Rattle.sg_wire.specs.CutAnswer.{first_bytes};
 ghost use Rattle.sg_pages.specs.ProvisioningPages.{maximum_unmap_descriptors};
 ghost use Rattle.sg_blocks.specs.Meter.{no_counts};
 ghost use Rattle.sg_target.specs.Operation.{AreOnDisk, unmap_fault};
-ghost use Rattle.sg_target.specs.ProvisioningCommands.{descriptor, descriptor_count, descriptors, extent_at};
+ghost use Rattle.sg_target.specs.Checks.{out_of_range};
+ghost use Rattle.sg_target.specs.ProvisioningCommands.{descriptor, descriptor_count};
+ghost use Rattle.sg_target.specs.ProvisioningCommands.{unmap_descriptor_length, unmap_header_length};
 ghost use Rattle.sg_target.specs.ProvisioningCommands.{ranges_in_turn, unmap_list};
 ghost use Rattle.sg_target.specs.ProvisioningCommands.{unmapped_in_turn, unmapping};
 ghost use Rattle.sg_target.specs.Ranges.{IsCharged, IsCounted, cost_bounds};
@@ -13,7 +15,7 @@ ghost use Rattle.sg_target.specs.Reply.{Carries};
 ghost use Rattle.sg_target.specs.State.{IsWithinLimits};
 ghost use Rattle.sg_target.specs.Step.{good};
 
-use crate::checks::needed_data_out;
+use crate::checks::{first_past_capacity, needed_data_out};
 use crate::extent::Extent;
 use crate::extent_list::ExtentList;
 use crate::operation::Operation;
@@ -23,6 +25,7 @@ use crate::target::Target;
 use byteorder::{BigEndian, ByteOrder};
 use sg_blocks::{MAX_CAPACITY, MAX_POOL, Store};
 use sg_pages::MAXIMUM_UNMAP_DESCRIPTORS;
+use std::marker::Model;
 
 // In bytes: the header of the parameter list, and a descriptor.
 const HEADER_LENGTH: usize = 8;
@@ -31,9 +34,57 @@ const DESCRIPTOR_LENGTH: usize = 16;
 
 // ---- The parameter list
 
+/// The extents that a parameter list names. They are read where they lie, so that what is left to do of
+/// other commands stays small.
+#[derive(Drop)]
+pub(crate) struct ListedExtents<'a> {
+    list: &'a [u8],
+    count: usize,
+    ghost at_most: { count ≤ maximum_unmap_descriptors },
+    ghost whole: { unmap_descriptor_length * count ≤ length list.now - unmap_header_length },
+}
+
+impl<'a> Model for ListedExtents<'a> {
+    ghost use Rattle.std.specs.Prelude.{List};
+    ghost use Rattle.sg_target.specs.ProvisioningCommands.{first_descriptors};
+    ghost use Rattle.sg_target.specs.declared.extent.Extent.{Extent};
+
+    ghost Value = { List Extent };
+
+    ghost view = { λ e. first_descriptors e.list.now e.count };
+}
+
+impl<'a> ListedExtents<'a> {
+    /// Why the extents can't all be reached, on a disk of `capacity` blocks.
+    #[inline(never)]
+    pub(crate) fn out_of_range(&self, capacity: u64) -> Option<Refusal>
+        requires { capacity ≤ MAX_CAPACITY }
+        ensures value { result ≡ out_of_range capacity self.now }
+        ensures on_disk { IfNone result (AreOnDisk capacity self.now) }
+    {
+        first_past_capacity(capacity, self.read().as_slice())
+    }
+
+    // Reads each descriptor.
+    fn read(&self) -> ExtentList
+        ensures extents { result ≡ self.now }
+        ensures at_most { length result ≤ maximum_unmap_descriptors }
+    {
+        let mut extents = ExtentList::new();
+        for index in 0..self.count {
+            extents.push(descriptor(self.list, index));
+        }
+        extents
+    }
+}
+
 // What an UNMAP asks for. ANCHOR is in byte 1.
 #[tactic(auto, unfolding(crate::specs::Checks::first_fault))]
-pub(crate) fn unmap(anchor: bool, list_length: u16, data_out: &[u8]) -> Result<Operation, Refusal>
+pub(crate) fn unmap(
+    anchor: bool,
+    list_length: u16,
+    data_out: &[u8],
+) -> Result<Operation<'_>, Refusal>
     ensures refused { IfErr result (λ refusal.
         unmap_fault anchor list_length data_out.now ≡ Some refusal) }
     ensures passed { IfOk result (λ _. unmap_fault anchor list_length data_out.now ≡ None) }
@@ -50,13 +101,12 @@ pub(crate) fn unmap(anchor: bool, list_length: u16, data_out: &[u8]) -> Result<O
 
 // The extents that a parameter list names.
 #[tactic(auto, unfolding(crate::specs::ProvisioningCommands::unmap_list))]
-fn extents_in(list: &[u8]) -> Result<ExtentList, Refusal>
+fn extents_in(list: &[u8]) -> Result<ListedExtents<'_>, Refusal>
     ensures refused { IfErr result (λ refusal. unmap_list list.now ≡ Err refusal) }
     ensures passed { IfOk result (λ extents. unmap_list list.now ≡ Ok extents) }
-    ensures at_most { IfOk result (λ extents. length extents ≤ maximum_unmap_descriptors) }
 {
     if list.is_empty() {
-        return Ok(ExtentList::new());
+        return Ok(ListedExtents { list, count: 0 });
     }
     if list.len() < HEADER_LENGTH {
         return Err(Refusal::Check(Reason::ParameterListLengthError));
@@ -65,7 +115,7 @@ fn extents_in(list: &[u8]) -> Result<ExtentList, Refusal>
     if count > MAXIMUM_UNMAP_DESCRIPTORS as usize {
         return Err(Refusal::Check(Reason::InvalidFieldInParameterList { byte: 2 }));
     }
-    Ok(first_extents(list, count))
+    Ok(ListedExtents { list, count })
 }
 
 #[tactic(auto, unfolding(crate::specs::ProvisioningCommands::descriptor_count))]
@@ -76,21 +126,6 @@ fn descriptor_count(list: &[u8]) -> usize
 {
     let announced = usize::from(BigEndian::read_u16(&list[2..]));
     announced.min(list.len() - HEADER_LENGTH) / DESCRIPTOR_LENGTH
-}
-
-// The extents of the first descriptors.
-fn first_extents(list: &[u8], count: usize) -> ExtentList
-    requires count { count ≡ descriptor_count list.now }
-    requires at_most { count ≤ maximum_unmap_descriptors }
-    requires whole { HEADER_LENGTH + DESCRIPTOR_LENGTH * count ≤ length list.now }
-    ensures extents { result ≡ descriptors list.now }
-    ensures at_most { length result ≤ maximum_unmap_descriptors }
-{
-    let mut extents = ExtentList::new();
-    for index in 0..count {
-        extents.push(descriptor(list, index));
-    }
-    extents
 }
 
 #[tactic(auto, unfolding(crate::specs::ProvisioningCommands::descriptor))]
@@ -108,6 +143,22 @@ fn descriptor(list: &[u8], index: usize) -> Extent
 // ---- The work
 
 impl<S: Store> Target<S> {
+    // UNMAP unmaps the extents of its parameter list. Room for their table would else be made for every
+    // command.
+    #[inline(never)]
+    pub(crate) fn unmap_listed(&mut self, listed: &ListedExtents<'_>, buf: &[u8]) -> Reply
+        requires on_disk { AreOnDisk self.old.state.disk.capacity listed.now }
+        requires limits { IsWithinLimits self.old.state }
+        ensures reply { Carries (good []) result buf.now buf.now }
+        ensures state { self.new.state ≡ (unmapping self.old.state listed.now).after }
+        ensures mapped { len self.new.state.disk.contents ≤ self.new.state.disk.pool }
+        ensures charge { IsCharged (cost_bounds S.price S.least) self.old.state.disk.pool
+            (unmapping self.old.state listed.now).ranges self.old.meter self.new.meter result }
+    {
+        let extents = listed.read();
+        self.unmap(extents.as_slice(), buf)
+    }
+
     // UNMAP, and WRITE SAME that unmaps: extents are unmapped in turn.
     pub(crate) fn unmap(&mut self, extents: &[Extent], buf: &[u8]) -> Reply
         requires on_disk { AreOnDisk self.old.state.disk.capacity extents.now }
