@@ -22,7 +22,7 @@ use Rattle.sg_units.specs.Reservations.{is_held_if_any, names_holder, names_hold
 use Rattle.sg_units.specs.Reservations.{while_held}
 use Rattle.sg_units.proofs.OutcomeLemmas.{EffectIs, FirstIs, and_false, case_or, choice, effective}
 use Rattle.sg_units.proofs.OutcomeLemmas.{last_case, not_false, not_true, refused, taking, typed}
-use Rattle.sg_units.specs.declared.effect.Effect.{Effect}
+use Rattle.sg_units.specs.declared.reservation_change.ReservationChange.{ReservationChange}
 use Rattle.sg_units.specs.declared.out_action.OutAction.{OutAction}
 use Rattle.sg_units.specs.declared.out_action.OutAction.TheVariants.{Register, Reserve, Release, Clear}
 use Rattle.sg_units.specs.declared.out_action.OutAction.TheVariants.{Preempt, PreemptAndAbort}
@@ -254,8 +254,8 @@ consistent-none = record {
 
 -- ---- Outcomes
 
-abbrev pub Consistent : Effect → Type 0
-Consistent effect = AreConsistent effect.registrations effect.reservation
+abbrev pub Consistent : ReservationChange → Type 0
+Consistent change = AreConsistent change.registrations change.reservation
 
 consistent-register : (state : ReservationState) (i sark : ℕ) → IsConsistent state
     → FirstIs Consistent (register_cases state i sark)
@@ -364,5 +364,5 @@ consistent-outcome state i action scope_type list h =
 
 pub consistent-state_after : (state : ReservationState) (o : Outcome) → IsConsistent state
     → EffectIs Consistent o → IsConsistent (state_after state o)
-consistent-state_after state (Ok effect) h k = k.shown effect refl
+consistent-state_after state (Ok change) h k = k.shown change refl
 consistent-state_after state (Err fault) h k = h

@@ -23,7 +23,7 @@ use Rattle.sg_units.specs.Reservations.{is_held_if_any, is_holder, names_holder}
 use Rattle.sg_units.specs.Reservations.{names_holder_if_any}
 use Rattle.sg_units.specs.declared.access.Standing.{Standing}
 use Rattle.sg_units.specs.declared.access.Standing.TheVariants.{Holder, Registrant, Other}
-use Rattle.sg_units.specs.declared.effect.Effect.{Effect}
+use Rattle.sg_units.specs.declared.reservation_change.ReservationChange.{ReservationChange}
 use Rattle.sg_units.specs.declared.out_action.OutAction.{OutAction}
 use Rattle.sg_units.specs.declared.out_action.OutAction.TheVariants.{Register, Reserve, Release, Clear}
 use Rattle.sg_units.specs.declared.out_action.OutAction.TheVariants.{Preempt, PreemptAndAbort}
@@ -295,9 +295,9 @@ allowed_sharers state reservation i class e h =
 
 -- ---- PRGENERATION
 
-abbrev Counted : ReservationState → Effect → Type 0
-Counted state effect =
-    effect.increments_generation ≡ false → effect.registrations ≡ state.registrations
+abbrev Counted : ReservationState → ReservationChange → Type 0
+Counted state change =
+    change.increments_generation ≡ false → change.registrations ≡ state.registrations
 
 stays : (state : ReservationState) (held : Option Reservation) (raised : Option UnitAttention)
     → EffectIs (Counted state) (same_generation state.registrations held raised)
@@ -384,10 +384,10 @@ not_incremented false n h e = refl
 
 counts_changes : (state : ReservationState) (o : Outcome) → state.generation < 2 ^ 32
     → EffectIs (Counted state) o → CountsChanges state (state_after state o)
-counts_changes state (Ok effect) h k = record {
-  by_one = same_or_next effect.increments_generation state.generation;
+counts_changes state (Ok change) h k = record {
+  by_one = same_or_next change.increments_generation state.generation;
   unchanged =
-      λ e. k.shown effect refl (not_incremented effect.increments_generation state.generation h e);
+      λ e. k.shown change refl (not_incremented change.increments_generation state.generation h e);
 }
 counts_changes state (Err fault) h k = record { by_one = inl refl; unchanged = λ e. refl }
 

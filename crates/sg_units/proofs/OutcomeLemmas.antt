@@ -1,58 +1,63 @@
--- What each effect that PERSISTENT RESERVE OUT can have is shown to be, case by case.
+-- What each change that PERSISTENT RESERVE OUT can make is shown to be, case by case.
 use Rattle.std.proofs.Common.{◌≡◌, ℕ, Bool, true, false, cond, not, ◌&&◌, List, ◌∷◌}
-use Rattle.std.proofs.Common.{Option, Some, None, Ok, Err, refl, sym, ◌∙◌, subst}
+use Rattle.std.proofs.Common.{Option, Some, None, Ok, Err, IfOk, refl, sym, ◌∙◌, subst}
 use Rattle.std.proofs.lemmas.Bool.{false≢true}
 use Rattle.sg_units.specs.ReserveOut.{Case, Outcome, first_case, preempted, with_type}
-use Rattle.sg_units.specs.declared.effect.Effect.{Effect}
+use Rattle.sg_units.specs.declared.reservation_change.ReservationChange.{ReservationChange}
 use Rattle.sg_units.specs.declared.out_fault.OutFault.{OutFault}
 use Rattle.sg_units.specs.declared.out_fault.OutFault.TheVariants.{InvalidScopeOrType}
 use Rattle.sg_units.specs.declared.registrations.Registration.{Registration}
 use Rattle.sg_units.specs.declared.reservation.Reservation.{Reservation}
 use Rattle.sg_units.specs.declared.types.ReservationType.{ReservationType}
 
--- The effect of an outcome, if it has one, is P.
-pub record EffectIs (P : Effect → Type 0) (o : Outcome) : Type 0 where
-  pub shown : (effect : Effect) → o ≡ Ok effect → P effect
+-- The change of an outcome, if it has one, is P.
+pub record EffectIs (P : ReservationChange → Type 0) (o : Outcome) : Type 0 where
+  pub shown : (change : ReservationChange) → o ≡ Ok change → P change
 
-pub refused : (P : Effect → Type 0) (fault : OutFault) → EffectIs P (Err fault)
-refused P fault = record { shown = λ effect e. cc }
+pub refused : (P : ReservationChange → Type 0) (fault : OutFault) → EffectIs P (Err fault)
+refused P fault = record { shown = λ change e. cc }
 
-pub effective : (P : Effect → Type 0) (effect : Effect) → P effect → EffectIs P (Ok effect)
-effective P effect h = record {
+pub effective : (P : ReservationChange → Type 0) (change : ReservationChange) → P change
+    → EffectIs P (Ok change)
+effective P change h = record {
   shown =
       λ other e.
-      let same : effect ≡ other = cc in
+      let same : change ≡ other = cc in
       subst P same h;
 }
 
-pub taking : (P : Effect → Type 0) (held : Option Reservation) (i : ℕ)
+pub if-ok : (P : ReservationChange → Type 0) (o p : Outcome) → o ≡ p → EffectIs P p → IfOk o P
+if-ok P (Ok change) p same h = h.shown change (sym same)
+if-ok P (Err fault) p same h = tt
+
+pub taking : (P : ReservationChange → Type 0) (held : Option Reservation) (i : ℕ)
     (type : Option ReservationType) (rest : List Registration)
     → ((type : ReservationType) → EffectIs P (preempted held i (Some type) rest))
     → EffectIs P (preempted held i type rest)
 taking P held i None rest h = refused P InvalidScopeOrType
 taking P held i (Some type) rest h = h type
 
-pub typed : (P : Effect → Type 0) (type : Option ReservationType) (f : ReservationType → Outcome)
+pub typed : (P : ReservationChange → Type 0) (type : Option ReservationType) (f : ReservationType → Outcome)
     → ((type : ReservationType) → EffectIs P (f type)) → EffectIs P (with_type type f)
 typed P None f h = refused P InvalidScopeOrType
 typed P (Some type) f h = h type
 
 -- the first case that applies
-pub record FirstIs (P : Effect → Type 0) (cases : List Case) : Type 0 where
+pub record FirstIs (P : ReservationChange → Type 0) (cases : List Case) : Type 0 where
   pub first : EffectIs P (first_case cases)
 
-pub choice : (P : Effect → Type 0) (b : Bool) (x y : Outcome) → (b ≡ true → EffectIs P x)
+pub choice : (P : ReservationChange → Type 0) (b : Bool) (x y : Outcome) → (b ≡ true → EffectIs P x)
     → (b ≡ false → EffectIs P y) → EffectIs P (cond b x y)
 choice P true x y f g = f refl
 choice P false x y f g = g refl
 
-pub case_or : (P : Effect → Type 0) (case : Case) (cases : List Case)
+pub case_or : (P : ReservationChange → Type 0) (case : Case) (cases : List Case)
     → (case.condition ≡ true → EffectIs P case.outcome)
     → (case.condition ≡ false → FirstIs P cases) → FirstIs P (case ∷ cases)
 case_or P case cases f g =
     record { first = choice P case.condition case.outcome (first_case cases) f (λ h. (g h).first) }
 
-pub last_case : (P : Effect → Type 0) (case : Case) (cases : List Case) → case.condition ≡ true
+pub last_case : (P : ReservationChange → Type 0) (case : Case) (cases : List Case) → case.condition ≡ true
     → EffectIs P case.outcome → FirstIs P (case ∷ cases)
 last_case P case cases e h = record {
   first =

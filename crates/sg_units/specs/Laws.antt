@@ -10,7 +10,7 @@ use Rattle.sg_units.specs.ReserveOut.{outcome, raised_for, state_after}
 use Rattle.sg_units.specs.Registrations.{is_registered, is_registered_under}
 use Rattle.sg_units.specs.ReservationType.{is_all_registrants, is_exclusive_access, is_shared}
 use Rattle.sg_units.specs.Reservations.{IsConsistent, is_holder}
-use Rattle.sg_units.specs.declared.effect.Effect.{Effect}
+use Rattle.sg_units.specs.declared.reservation_change.ReservationChange.{ReservationChange}
 use Rattle.sg_units.specs.declared.out_action.OutAction.{OutAction}
 use Rattle.sg_units.specs.declared.out_list.OutList.{OutList}
 use Rattle.sg_units.specs.declared.registrations.Registration.{Registration}
@@ -30,8 +30,8 @@ NoConditionForAnother =
 -- PERSISTENT RESERVE OUT establishes nothing for the initiator that sent it.
 abbrev pub NothingRaisedForCaller : Type 0
 NothingRaisedForCaller =
-    (before : List Registration) (caller : ℕ) (effect : Effect)
-    → raised_for before caller effect caller ≡ None
+    (before : List Registration) (caller : ℕ) (change : ReservationChange)
+    → raised_for before caller change caller ≡ None
 
 -- ---- Registrations and holders
 

@@ -12,7 +12,7 @@ use Rattle.sg_units.specs.Registrations.{with_key_replaced, with_registration, w
 use Rattle.sg_units.specs.Registrations.{without_key, without_key_of_others, without_others}
 use Rattle.sg_units.specs.Reservations.{has_holder, has_type, is_holder, taken, while_held}
 use Rattle.sg_units.specs.ReservationType.{is_shared, type_of}
-use Rattle.sg_units.specs.declared.effect.Effect.{Effect}
+use Rattle.sg_units.specs.declared.reservation_change.ReservationChange.{ReservationChange}
 use Rattle.sg_units.specs.declared.out_action.OutAction.{OutAction}
 use Rattle.sg_units.specs.declared.out_action.OutAction.TheVariants.{Register, Reserve, Release, Clear}
 use Rattle.sg_units.specs.declared.out_action.OutAction.TheVariants.{Preempt, PreemptAndAbort}
@@ -34,9 +34,9 @@ use Rattle.sg_units.specs.declared.unit_attention.UnitAttention.TheVariants.{Reg
 
 -- ---- How a table is read
 
--- A command has an effect, or is refused.
+-- A command has its change, or is refused.
 abbrev pub Outcome : Type 0
-Outcome = Result Effect OutFault
+Outcome = Result ReservationChange OutFault
 
 -- The registrations and the reservation afterwards, and the condition that is raised for each other
 -- registrant. PRGENERATION stays.
@@ -214,19 +214,19 @@ outcome state caller action scope_type list =
 -- ---- What it leaves
 
 -- What is raised for an initiator: nothing for the caller, nor for one that was not registered.
-abbrev pub raised_for : List Registration → (caller : ℕ) → Effect → (initiator : ℕ)
+abbrev pub raised_for : List Registration → (caller : ℕ) → ReservationChange → (initiator : ℕ)
     → Option UnitAttention
-raised_for before caller effect initiator =
+raised_for before caller change initiator =
     if initiator == caller || not (is_registered before initiator) then None
-    else (if is_registered effect.registrations initiator then effect.for_remaining
-    else effect.for_removed)
+    else (if is_registered change.registrations initiator then change.for_remaining
+    else change.for_removed)
 
-unfoldable pub raised_by : List Registration → (caller : ℕ) → Effect → Conditions
-raised_by before caller effect =
-    map (raised_for before caller effect) (range_with_len 0 initiator_count)
+unfoldable pub raised_by : List Registration → (caller : ℕ) → ReservationChange → Conditions
+raised_by before caller change =
+    map (raised_for before caller change) (range_with_len 0 initiator_count)
 
 abbrev pub reply_of : ReservationState → (caller : ℕ) → Outcome → Result Conditions OutFault
-reply_of state caller (Ok effect) = Ok (raised_by state.registrations caller effect)
+reply_of state caller (Ok change) = Ok (raised_by state.registrations caller change)
 reply_of state caller (Err fault) = Err fault
 
 -- PRGENERATION has 32 bits, and 0 comes after FFFFFFFFh.
@@ -236,9 +236,9 @@ generation_after increments generation =
 
 -- A command that is refused changes nothing.
 abbrev pub state_after : ReservationState → Outcome → ReservationState
-state_after state (Ok effect) = record {
-  registrations = effect.registrations;
-  reservation = effect.reservation;
-  generation = generation_after effect.increments_generation state.generation;
+state_after state (Ok change) = record {
+  registrations = change.registrations;
+  reservation = change.reservation;
+  generation = generation_after change.increments_generation state.generation;
 }
 state_after state (Err fault) = state

@@ -4,7 +4,6 @@
 
 mod access;
 mod attentions;
-mod effect;
 pub mod laws;
 mod out_action;
 mod out_fault;
@@ -12,6 +11,7 @@ mod out_list;
 mod raised;
 mod registrations;
 mod reservation;
+mod reservation_change;
 mod reservation_state;
 mod reservations;
 mod types;
@@ -24,6 +24,7 @@ pub use out_list::OutList;
 pub use raised::Raised;
 pub use registrations::Registration;
 pub use reservation::Reservation;
+pub use reservation_change::ReservationChange;
 pub use reservations::Reservations;
 pub use types::ReservationType;
 pub use unit_attention::UnitAttention;

@@ -5,8 +5,8 @@ ghost use Rattle.sg_units.specs.Attentions.{initiator_count};
 ghost use Rattle.sg_units.specs.Raised.{raised_for_others};
 
 use crate::UnitAttention;
-use crate::effect::Effect;
 use crate::registrations::Registrations;
+use crate::reservation_change::ReservationChange;
 use sg_wire::Initiator;
 use std::marker::Model;
 
@@ -50,36 +50,40 @@ impl Raised {
         self.conditions[number]
     }
 
-    // What an effect of PERSISTENT RESERVE OUT raises for each initiator.
+    // What a change of PERSISTENT RESERVE OUT raises for each initiator.
     #[tactic(auto, unfolding(crate::specs::ReserveOut::raised_by))]
-    pub(crate) fn by(before: &Registrations, caller: Initiator, effect: &Effect) -> Raised
-        ensures { result ≡ raised_by before.now caller effect.now }
+    pub(crate) fn by(
+        before: &Registrations,
+        caller: Initiator,
+        change: &ReservationChange,
+    ) -> Raised
+        ensures { result ≡ raised_by before.now caller change.now }
     {
         let mut conditions = [None; Initiator::COUNT];
         for number in 0..8 {
-            conditions[usize::from(number)] = raised_for(before, caller, effect, number);
+            conditions[usize::from(number)] = raised_for(before, caller, change, number);
         }
         Raised { conditions }
     }
 }
 
-// What an effect raises for the initiator with a number.
+// What a change raises for the initiator with a number.
 fn raised_for(
     before: &Registrations,
     caller: Initiator,
-    effect: &Effect,
+    change: &ReservationChange,
     number: u8,
 ) -> Option<UnitAttention>
     requires { number < initiator_count }
-    ensures { result ≡ raised_for before.now caller effect.now number }
+    ensures { result ≡ raised_for before.now caller change.now number }
 {
     let initiator = Initiator::new(number)?;
     if initiator.number() == caller.number() || !before.has(initiator) {
         return None;
     }
-    if effect.registrations.has(initiator) {
-        effect.for_remaining
+    if change.registrations.has(initiator) {
+        change.for_remaining
     } else {
-        effect.for_removed
+        change.for_removed
     }
 }

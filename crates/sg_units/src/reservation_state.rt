@@ -11,8 +11,8 @@ ghost use Rattle.sg_units.specs.ReserveOut.{next_generation, same_generation};
 ghost use Rattle.sg_units.specs.Reservations.{empty_state, has_type, is_holder, while_held};
 
 use crate::access::{Standing, highest_class, is_within};
-use crate::effect::Effect;
 use crate::registrations::Registrations;
+use crate::reservation_change::ReservationChange;
 use crate::{Reservation, ReservationType};
 use sg_wire::{Class, Initiator};
 
@@ -93,10 +93,10 @@ impl ReservationState {
     }
 
     // Nothing changes.
-    fn unchanged(&self) -> Effect
+    fn unchanged(&self) -> ReservationChange
         ensures { Ok result ≡ same_generation self.now.registrations self.now.reservation None }
     {
-        Effect {
+        ReservationChange {
             registrations: self.registrations.copied(),
             reservation: self.reservation,
             for_removed: None,
@@ -106,10 +106,10 @@ impl ReservationState {
     }
 
     // The registrations change, the reservation stays, and nothing is raised.
-    fn with_registrations(&self, registrations: Registrations) -> Effect
+    fn with_registrations(&self, registrations: Registrations) -> ReservationChange
         ensures { Ok result ≡ next_generation registrations self.now.reservation None None }
     {
-        Effect {
+        ReservationChange {
             registrations,
             reservation: self.reservation,
             for_removed: None,

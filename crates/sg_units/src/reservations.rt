@@ -1,6 +1,6 @@
 // Registrations and the persistent reservation.
 use crate::reservation_state::ReservationState;
-use crate::{OutAction, OutFault, OutList, Raised};
+use crate::{OutAction, OutFault, OutList, Raised, ReservationChange};
 use sg_wire::{Class, Cut, Initiator};
 use std::marker::Model;
 
@@ -22,14 +22,14 @@ impl Model for Reservations {
     ghost invariant = { λ r. IsConsistent r.state };
 }
 
-ghost use Rattle.std.specs.Prelude.{◌≡◌};
+ghost use Rattle.std.specs.Prelude.{◌≡◌, Ok, IfOk};
 ghost use Rattle.sg_wire.specs.Cut.{Puts};
 ghost use Rattle.sg_units.specs.Access.{allows};
 ghost use Rattle.sg_units.specs.ReserveIn.{capabilities_data, keys_data};
 ghost use Rattle.sg_units.specs.ReserveIn.{reservation_data};
-ghost use Rattle.sg_units.specs.ReserveOut.{generation_after, outcome, reply_of};
+ghost use Rattle.sg_units.specs.ReserveOut.{generation_after, outcome, raised_by, reply_of};
 ghost use Rattle.sg_units.specs.ReserveOut.{state_after};
-ghost use Rattle.sg_units.specs.Reservations.{IsConsistent, empty_state};
+ghost use Rattle.sg_units.specs.Reservations.{AreConsistent, IsConsistent, empty_state};
 
 impl Reservations {
     /// No initiator is registered, no reservation is held, and PRGENERATION is 0.
@@ -42,9 +42,43 @@ impl Reservations {
         }
     }
 
-    /// Executes a service action of PERSISTENT RESERVE OUT for an initiator, and returns the unit
-    /// attention conditions that it establishes for others (SPC-4, 5.13). The scope and type are
-    /// byte 2 of the CDB.
+    /// What a service action of PERSISTENT RESERVE OUT changes, for an initiator (SPC-4, 5.13). The
+    /// scope and type are byte 2 of the CDB. Nothing has changed yet.
+    ///
+    /// # Errors
+    /// The first fault that applies.
+    pub fn change(
+        &self,
+        caller: Initiator,
+        action: OutAction,
+        scope_type: u8,
+        list: &OutList,
+    ) -> Result<ReservationChange, OutFault>
+        ensures value { result ≡ outcome self.now caller action scope_type list.now }
+        ensures consistent { IfOk result (λ change.
+            AreConsistent change.registrations change.reservation) }
+    {
+        self.state.outcome(caller, action, scope_type, list)
+    }
+
+    /// Applies the change of an initiator's command, and returns the unit attention conditions that
+    /// it establishes for others.
+    pub fn apply(&mut self, caller: Initiator, change: ReservationChange) -> Raised
+        requires { AreConsistent change.registrations change.reservation }
+        ensures raised { result ≡ raised_by self.old.registrations caller change }
+        ensures state { self.new ≡ state_after self.old (Ok change) }
+        ensures consistent { IsConsistent self.new }
+    {
+        let raised = Raised::by(&self.state.registrations, caller, &change);
+        self.state = ReservationState {
+            generation: generation_after(change.increments_generation, self.state.generation),
+            registrations: change.registrations,
+            reservation: change.reservation,
+        };
+        raised
+    }
+
+    /// Executes a service action: what [`Reservations::change`] returns is applied.
     ///
     /// # Errors
     /// The first fault that applies. Nothing has changed then.
@@ -61,14 +95,9 @@ impl Reservations {
             state_after self.old (outcome self.old caller action scope_type list.now) }
         ensures consistent { IsConsistent self.new }
     {
-        let effect = self.state.outcome(caller, action, scope_type, list)?;
-        let raised = Raised::by(&self.state.registrations, caller, &effect);
-        self.state = ReservationState {
-            generation: generation_after(effect.increments_generation, self.state.generation),
-            registrations: effect.registrations,
-            reservation: effect.reservation,
-        };
-        Ok(raised)
+        let _ = &self.state;
+        let change = self.change(caller, action, scope_type, list)?;
+        Ok(self.apply(caller, change))
     }
 
     /// Whether the reservation that is held, if any, allows an initiator's command of a class.

@@ -3,12 +3,12 @@ ghost use Rattle.std.specs.Prelude.{◌≡◌};
 ghost use Rattle.sg_units.specs.ReserveOut.{accepts_key, action_outcome, outcome};
 
 use super::ReservationState;
-use crate::effect::Effect;
+use crate::reservation_change::ReservationChange;
 use crate::{OutAction, OutFault, OutList, ReservationType};
 use sg_wire::Initiator;
 
 impl ReservationState {
-    // The effect of a command, which changes nothing yet.
+    // The change of a command, which changes nothing yet.
     #[tactic(auto, unfolding(crate::specs::ReserveOut::outcome))]
     pub(crate) fn outcome(
         &self,
@@ -16,7 +16,7 @@ impl ReservationState {
         action: OutAction,
         scope_type: u8,
         list: &OutList,
-    ) -> Result<Effect, OutFault>
+    ) -> Result<ReservationChange, OutFault>
         ensures { result ≡ outcome self.now caller action scope_type list.now }
     {
         if list.has_unsupported_flag(action) {
@@ -53,7 +53,7 @@ impl ReservationState {
         action: OutAction,
         kind: Option<ReservationType>,
         sark: u64,
-    ) -> Result<Effect, OutFault>
+    ) -> Result<ReservationChange, OutFault>
         ensures { result ≡ action_outcome self.now caller action kind sark }
     {
         match action {

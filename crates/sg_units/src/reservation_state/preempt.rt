@@ -7,8 +7,8 @@ ghost use Rattle.sg_units.specs.Reservations.{while_held};
 ghost use Rattle.sg_units.specs.declared.unit_attention.UnitAttention.TheVariants.{RegistrationsPreempted};
 
 use super::ReservationState;
-use crate::effect::Effect;
 use crate::registrations::Registrations;
+use crate::reservation_change::ReservationChange;
 use crate::{OutFault, OutList, Reservation, ReservationType, UnitAttention};
 use sg_wire::Initiator;
 
@@ -21,7 +21,7 @@ impl ReservationState {
         caller: Initiator,
         kind: Option<ReservationType>,
         sark: u64,
-    ) -> Result<Effect, OutFault>
+    ) -> Result<ReservationChange, OutFault>
         ensures { result ≡ first_case (preempt_cases self.now caller kind sark) }
     {
         if self.has_one_holder() && sark == 0 {
@@ -49,7 +49,7 @@ impl ReservationState {
         caller: Initiator,
         kind: Option<ReservationType>,
         registrations: Registrations,
-    ) -> Result<Effect, OutFault>
+    ) -> Result<ReservationChange, OutFault>
         ensures { result ≡ preempted self.now.reservation caller kind registrations }
     {
         let kind = kind.ok_or(OutFault::InvalidScopeOrType)?;
@@ -58,7 +58,7 @@ impl ReservationState {
         } else {
             Some(UnitAttention::ReservationsReleased)
         };
-        Ok(Effect {
+        Ok(ReservationChange {
             registrations,
             reservation: Some(Reservation::taken(kind, caller)),
             for_removed: Some(UnitAttention::RegistrationsPreempted),
@@ -68,13 +68,13 @@ impl ReservationState {
     }
 
     // These registrations remain, and the reservation, where one of them holds it.
-    fn with_registrations_preempted(&self, registrations: Registrations) -> Effect
+    fn with_registrations_preempted(&self, registrations: Registrations) -> ReservationChange
         ensures { Ok result ≡
             next_generation registrations (while_held self.now.reservation registrations)
             (Some RegistrationsPreempted) None }
     {
         let reservation = self.while_held(&registrations);
-        Effect {
+        ReservationChange {
             registrations,
             reservation,
             for_removed: Some(UnitAttention::RegistrationsPreempted),

@@ -6,15 +6,19 @@ ghost use Rattle.sg_units.specs.Registrations.{without_initiator};
 ghost use Rattle.sg_units.specs.Reservations.{while_held};
 
 use super::ReservationState;
-use crate::effect::Effect;
 use crate::registrations::Registrations;
+use crate::reservation_change::ReservationChange;
 use crate::{OutFault, Reservation, UnitAttention};
 use sg_wire::Initiator;
 
 impl ReservationState {
     // Registers an initiator, replaces its key, or with key 0 unregisters it.
     #[tactic(auto, unfolding(crate::specs::ReserveOut::register_cases))]
-    pub(super) fn register(&self, caller: Initiator, sark: u64) -> Result<Effect, OutFault>
+    pub(super) fn register(
+        &self,
+        caller: Initiator,
+        sark: u64,
+    ) -> Result<ReservationChange, OutFault>
         ensures { result ≡ first_case (register_cases self.now caller sark) }
     {
         if self.registrations.has(caller) {
@@ -36,7 +40,7 @@ impl ReservationState {
     }
 
     // An initiator is unregistered. The reservation ends where no registrant holds it any more.
-    fn unregistered(&self, caller: Initiator) -> Effect
+    fn unregistered(&self, caller: Initiator) -> ReservationChange
         ensures { let rest = without_initiator self.now.registrations caller in
             Ok result ≡ next_generation rest (while_held self.now.reservation rest) None
             (released_unless_held self.now.reservation rest) }
@@ -45,7 +49,7 @@ impl ReservationState {
         registrations.remove(caller);
         let reservation = self.while_held(&registrations);
         let for_remaining = self.released_unless_held(&registrations);
-        Effect {
+        ReservationChange {
             registrations,
             reservation,
             for_removed: None,

@@ -4,8 +4,8 @@ ghost use Rattle.sg_units.specs.ReserveOut.{cleared, first_case, release_cases};
 ghost use Rattle.sg_units.specs.ReserveOut.{reserve_cases};
 
 use super::ReservationState;
-use crate::effect::Effect;
 use crate::registrations::Registrations;
+use crate::reservation_change::ReservationChange;
 use crate::{OutFault, Reservation, ReservationType, UnitAttention};
 use sg_wire::Initiator;
 
@@ -16,11 +16,11 @@ impl ReservationState {
         &self,
         caller: Initiator,
         kind: ReservationType,
-    ) -> Result<Effect, OutFault>
+    ) -> Result<ReservationChange, OutFault>
         ensures { result ≡ first_case (reserve_cases self.now caller kind) }
     {
         if self.reservation.is_none() {
-            return Ok(Effect {
+            return Ok(ReservationChange {
                 reservation: Some(Reservation::taken(kind, caller)),
                 ..self.unchanged()
             });
@@ -37,7 +37,7 @@ impl ReservationState {
         &self,
         caller: Initiator,
         kind: ReservationType,
-    ) -> Result<Effect, OutFault>
+    ) -> Result<ReservationChange, OutFault>
         ensures { result ≡ first_case (release_cases self.now caller kind) }
     {
         if !self.is_holder(caller) {
@@ -46,7 +46,7 @@ impl ReservationState {
         if !self.has_type(kind) {
             return Err(OutFault::InvalidRelease);
         }
-        Ok(Effect {
+        Ok(ReservationChange {
             reservation: None,
             for_remaining: Reservation::released(kind),
             ..self.unchanged()
@@ -54,10 +54,10 @@ impl ReservationState {
     }
 
     // All registrations are removed, and the reservation ends.
-    pub(super) fn clear(&self) -> Effect
+    pub(super) fn clear(&self) -> ReservationChange
         ensures { Ok result ≡ cleared }
     {
-        Effect {
+        ReservationChange {
             registrations: Registrations::new(),
             reservation: None,
             for_removed: Some(UnitAttention::ReservationsPreempted),

@@ -8,7 +8,7 @@ pub loop-number-preserved : goal.loop-number-preserved
 loop-number-preserved c =
     let conditions = c.loop-number.conditions in
     let number = c.loop-number.number in
-    let now = raised_for c.args.before.now c.args.caller c.args.effect.now in
+    let now = raised_for c.args.before.now c.args.caller c.args.change.now in
     let e =
     ap (λ i. set conditions i c.raised_for.result) c.from.ensures
     ∙ ap (set conditions number) c.raised_for.ensures in

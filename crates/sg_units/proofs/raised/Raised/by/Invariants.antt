@@ -7,5 +7,5 @@ abbrev pub invariant-loop-number : goal.invariant-loop-number
 invariant-loop-number l = record {
   eight : length l.conditions ≡ 8;
   raised_so_far : (k : ℕ) → k < l.number
-      → get_or l.conditions k None ≡ raised_for l.before l.caller l.effect k;
+      → get_or l.conditions k None ≡ raised_for l.before l.caller l.change k;
 }

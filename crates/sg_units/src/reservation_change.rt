@@ -1,10 +1,10 @@
-// The effect of PERSISTENT RESERVE OUT.
+// The changes that PERSISTENT RESERVE OUT makes.
 use crate::registrations::Registrations;
 use crate::{Reservation, UnitAttention};
 
-// What a PERSISTENT RESERVE OUT that is not refused does.
+/// What a PERSISTENT RESERVE OUT that is not refused changes.
 #[derive(Drop)]
-pub(crate) struct Effect {
+pub struct ReservationChange {
     // The registrations afterwards.
     pub(crate) registrations: Registrations,
     // The reservation afterwards.
