@@ -17,8 +17,11 @@ use Rattle.sg_wire.specs.declared.command.Command.TheVariants.{Write10, Write16,
 use Rattle.sg_wire.specs.declared.command.Command.TheVariants.{ReadCapacity16, SynchronizeCache10}
 use Rattle.sg_wire.specs.declared.command.Command.TheVariants.{WriteSame10, WriteSame16, Unmap}
 use Rattle.sg_wire.specs.declared.command.Command.TheVariants.{GetLbaStatus}
+use Rattle.sg_wire.specs.declared.command.Command.TheVariants.{PersistentReserveIn}
+use Rattle.sg_wire.specs.declared.command.Command.TheVariants.{PersistentReserveOut}
 use Rattle.sg_wire.specs.declared.command.CdbFault.{CdbFault}
 use Rattle.sg_wire.specs.declared.command.CdbFault.TheVariants.{Empty, Opcode, Short, Field as BadField}
+use Rattle.sg_wire.specs.ReservationAction.{in_code, out_code, each_in_action, each_out_action}
 
 -- ---- Fields
 
@@ -51,12 +54,11 @@ abbrev pub Maker : List Field → Type 0
 Maker [] = Command
 Maker (field ∷ fields) = Value field.place → Maker fields
 
--- The SERVICE ACTION field, byte 1, bits 4 to 0 (SPC-4, 4.2.5.2): the command has none; it has this
--- one; or the field is a value of the command, between two bounds.
+-- The SERVICE ACTION field, byte 1, bits 4 to 0 (SPC-4, 4.2.5.2): the command has none, or this
+-- one.
 pub data ServiceAction : Type 0 where
   none : ServiceAction
   named : (action : ℕ) → ServiceAction
-  among : (low high : ℕ) → ServiceAction
 
 -- ---- The table
 
@@ -163,6 +165,15 @@ abbrev lba_status : (start allocation_length : ℕ) → List Field
 lba_status start allocation_length =
     field (bytes 2 9) start ∷ field (bytes 10 13) allocation_length ∷ []
 
+-- ALLOCATION LENGTH of PERSISTENT RESERVE IN.
+abbrev reserve_in : ℕ → List Field
+reserve_in allocation_length = field (bytes 7 8) allocation_length ∷ []
+
+-- SCOPE and TYPE, which share a byte, and PARAMETER LIST LENGTH.
+abbrev reserve_out : (scope_type list_length : ℕ) → List Field
+reserve_out scope_type list_length =
+    field (bytes 2 2) scope_type ∷ field (bytes 5 8) list_length ∷ []
+
 -- The disk has no cache and groups no blocks. So of READ and WRITE it ignores DPO, FUA, the
 -- obsolete bit 1 and the GROUP NUMBER, and of SYNCHRONIZE CACHE the obsolete bit 2, IMMED and the
 -- GROUP NUMBER. Of WRITE SAME it ignores the GROUP NUMBER.
@@ -205,8 +216,14 @@ layout (WriteSame16 anchor unmap lba n) =
 layout (Unmap anchor group n) = row 0x42 none Writes blocked (unmap_fields anchor group n) [] Unmap
 layout (GetLbaStatus start n) =
     row 0x9E (named 0x12) Reads blocked (lba_status start n) [] GetLbaStatus
+layout (PersistentReserveIn action n) =
+    row 0x5E (named (in_code action)) Always blocked (reserve_in n) [] (PersistentReserveIn action)
+layout (PersistentReserveOut action scope_type n) =
+    row 0x5F (named (out_code action)) Always blocked (reserve_out scope_type n) []
+    (PersistentReserveOut action)
 
--- Each command once. Only the places of its fields matter here, not their values.
+-- Each command once, and where its service action is a value of it, once with each. Only the places
+-- of its fields matter here, not their values.
 abbrev pub each_command : List Command
 each_command =
     TestUnitReady
@@ -229,7 +246,8 @@ each_command =
     ∷ WriteSame16 false false 0 0
     ∷ Unmap false 0 0
     ∷ GetLbaStatus 0 0
-    ∷ []
+    ∷ map (λ action. PersistentReserveIn action 0) each_in_action
+    ++ map (λ action. PersistentReserveOut action 0 0) each_out_action
 
 abbrev pub table : List Layout
 table = map layout each_command
@@ -293,7 +311,6 @@ mask_in k short_extent = slice_index (0 ∷ 0x1F ∷ 0xFF ∷ 0xFF ∷ 0xFF ∷ 
 abbrev pub action_mask : ℕ → ServiceAction → ℕ
 action_mask k none = 0
 action_mask k (named action) = mask_in k (bits 1 4 0)
-action_mask k (among low high) = mask_in k (bits 1 4 0)
 
 -- The bits of byte k that may be set. All of byte 0, the operation code.
 abbrev pub mask_of : Layout → ℕ → ℕ
@@ -329,7 +346,6 @@ fits_masks masks cdb =
 abbrev pub is_action : ServiceAction → ℕ → Bool
 is_action none action = true
 is_action (named only) action = action == only
-is_action (among low high) action = nat_le low action && nat_le action high
 
 -- The CDB has the service action of the row.
 abbrev pub has_action_of : List ℕ → Layout → Bool
@@ -392,11 +408,9 @@ part_in k short_extent value =
     let parts = (value.0 / 65536 ∷ []) ++ big_bytes 2 (value.0 % 65536) ++ (value.1 % 256 ∷ []) in
     if nat_le 1 k && nat_le k 4 then slice_index parts (k - 1) ∷ [] else []
 
--- A service action that is a value of the command is one of its fields.
 abbrev pub action_part : ℕ → ServiceAction → List ℕ
 action_part k none = []
 action_part k (named action) = part_in k (bits 1 4 0) action
-action_part k (among low high) = []
 
 -- The parts of a byte together; a byte without one is zero.
 abbrev pub joined : List ℕ → ℕ

@@ -2,6 +2,7 @@ use Rattle.std.proofs.Common.{rules}
 use Rattle.sg_wire.specs.Layout.{cdb_of}
 use Rattle.sg_wire.proofs.LayoutLemmas.{reads_back-test_unit_ready, reads_back-request_sense, reads_back-inquiry, reads_back-extent_6, reads_back-extent_10, reads_back-extent_16, reads_back-read_capacity_10, reads_back-read_capacity_16, reads_back-write_same_10, reads_back-write_same_16, reads_back-unmap, reads_back-get_lba_status}
 use Rattle.sg_wire.proofs.LayoutLemmas.{reads_back-mode_select_6, reads_back-mode_select_10, reads_back-mode_sense_6, reads_back-mode_sense_10}
+use Rattle.sg_wire.proofs.ReservationLemmas.{reads_back-reserve_in, reads_back-reserve_out}
 use Rattle.sg_wire.proofs.command.Command.write.Goals as goal
 
 pub returns-in-TestUnitReady-clause-reads_back : goal.returns-in-TestUnitReady-clause-reads_back
@@ -116,3 +117,15 @@ pub returns-in-GetLbaStatus-clause-reads_back : goal.returns-in-GetLbaStatus-cla
 returns-in-GetLbaStatus-clause-reads_back c =
     rw (c.in-GetLbaStatus.is, c.encode_get_lba_status.ensures)
     (reads_back-get_lba_status _ _ (search rules) (search rules))
+
+pub returns-in-PersistentReserveIn-clause-reads_back :
+    goal.returns-in-PersistentReserveIn-clause-reads_back
+returns-in-PersistentReserveIn-clause-reads_back c =
+    rw (c.in-PersistentReserveIn.is, c.encode_persistent_reserve_in.ensures)
+    (reads_back-reserve_in _ (search rules) _)
+
+pub returns-in-PersistentReserveOut-clause-reads_back :
+    goal.returns-in-PersistentReserveOut-clause-reads_back
+returns-in-PersistentReserveOut-clause-reads_back c =
+    rw (c.in-PersistentReserveOut.is, c.encode_persistent_reserve_out.ensures)
+    (reads_back-reserve_out _ _ (search rules) (search rules) _)

@@ -1,0 +1,105 @@
+-- The CDBs of PERSISTENT RESERVE IN and PERSISTENT RESERVE OUT.
+use Rattle.std.proofs.Common.{◌≡◌, ◌<◌, ◌≤◌, ℕ, ◌^◌, ◌==◌, List, [], ◌∷◌, length, drop, get_or, map}
+use Rattle.std.proofs.Common.{Bool, true, false, Option, Some, None, Result, Ok, Err, cond}
+use Rattle.std.proofs.Common.{refl, ◌∙◌, arith}
+use Rattle.std.specs.Prelude.{bit_and, find, option_map, nat_lt, if◌then◌else◌}
+use Rattle.std.proofs.lemmas.Bool.Decides.{nat_tests}
+use Rattle.byteorder.specs.Endian.{big_number}
+use Rattle.sg_wire.specs.declared.command.in_action.InAction.{InAction}
+use Rattle.sg_wire.specs.declared.command.in_action.InAction.TheVariants.{ReadKeys, ReadReservation}
+use Rattle.sg_wire.specs.declared.command.in_action.InAction.TheVariants.{ReportCapabilities, ReadFullStatus}
+use Rattle.sg_wire.specs.declared.command.out_action.OutAction.{OutAction}
+use Rattle.sg_wire.specs.declared.command.out_action.OutAction.TheVariants.{Register, Reserve}
+use Rattle.sg_wire.specs.declared.command.out_action.OutAction.TheVariants.{Release, Clear, Preempt}
+use Rattle.sg_wire.specs.declared.command.out_action.OutAction.TheVariants.{PreemptAndAbort}
+use Rattle.sg_wire.specs.declared.command.out_action.OutAction.TheVariants.{RegisterAndIgnoreExistingKey}
+use Rattle.sg_wire.specs.declared.command.Command.TheVariants.{PersistentReserveIn, PersistentReserveOut}
+use Rattle.sg_wire.specs.declared.command.CdbFault.{CdbFault}
+use Rattle.sg_wire.specs.declared.command.CdbFault.TheVariants.{Short}
+use Rattle.sg_wire.specs.Layout.{Layout, layout, has_action_of, command_of, command_by_row}
+use Rattle.sg_wire.specs.Layout.{command_with, cdb_of, masks, first_bad, fits_masks, unless_bad}
+use Rattle.sg_wire.specs.ReservationAction.{out_code, each_out_action, out_action_with}
+use Rattle.sg_wire.proofs.LayoutLemmas.{is_whole, is_whole-mod, number_again}
+
+abbrev out_row : OutAction → Layout
+out_row action = layout (PersistentReserveOut action 0 0)
+
+mapped-cond : (action : OutAction) (other : Option OutAction) (is_found : Bool)
+    → cond is_found (Some (out_row action)) (option_map out_row other)
+    ≡ option_map out_row (cond is_found (Some action) other)
+mapped-cond action other true = refl
+mapped-cond action other false = refl
+
+-- a row is found by its service action
+find-row : (cdb : List ℕ) (actions : List OutAction) → find (has_action_of cdb) (map out_row actions)
+    ≡ option_map out_row (find (λ action. bit_and (get_or cdb 1 0) 0x1F == out_code action) actions)
+find-row cdb [] = refl
+find-row cdb (action ∷ actions) =
+    rw (find-row cdb actions) (mapped-cond action _ (bit_and (get_or cdb 1 0) 0x1F == out_code action))
+
+long_enough : (count : ℕ) → 10 ≤ count → nat_lt count 10 ≡ false
+long_enough count h = grind (arith, nat_tests)
+
+pub reserve_out-known : (cdb : List ℕ) (action : OutAction) → 10 ≤ length cdb
+    → out_action_with (bit_and (get_or cdb 1 0) 0x1F) ≡ Some action
+    → command_with 0x5F cdb ≡ command_by_row cdb (Some (out_row action))
+unfolding command_with
+reserve_out-known cdb action whole known =
+    rw (long_enough (length cdb) whole, find-row cdb each_out_action, known) refl
+
+-- no byte is bad where the masks fit
+abbrev fit : (is_short : Bool) (count : ℕ) → Option ℕ → Result Unit CdbFault
+fit is_short count bad = if is_short then Err (Short count) else unless_bad bad tt
+
+unless_bad-fit : {A : Type 0} (value : A) (is_short : Bool) (count : ℕ) (bad : Option ℕ)
+    → fit is_short count bad ≡ Ok tt → unless_bad bad value ≡ Ok value
+unless_bad-fit value true count bad e = cc
+unless_bad-fit value false count None e = refl
+unless_bad-fit value false count (Some byte) e = cc
+
+pub reserve_out-fits : (cdb : List ℕ) (action : OutAction) → 10 ≤ length cdb
+    → out_action_with (bit_and (get_or cdb 1 0) 0x1F) ≡ Some action
+    → fits_masks (masks (out_row action)) cdb ≡ Ok tt → command_with 0x5F cdb
+    ≡ Ok (PersistentReserveOut action (get_or cdb 2 0) (big_number 4 (drop 5 cdb)))
+unfolding fits_masks
+reserve_out-fits cdb action whole known fits =
+    let bits = masks (out_row action) in
+    reserve_out-known cdb action whole known
+    ∙ unless_bad-fit (PersistentReserveOut action (get_or cdb 2 0) (big_number 4 (drop 5 cdb)))
+    (nat_lt (length cdb) (length bits)) (length cdb) (first_bad 0 bits cdb) fits
+
+-- ---- the CDB of each command is decoded as it again
+
+module _ (allocation_length : ℕ) (n : allocation_length < 2 ^ 16) where
+  pub reads_back-reserve_in : (action : InAction)
+      → command_of (cdb_of (PersistentReserveIn action allocation_length))
+      ≡ Ok (PersistentReserveIn action allocation_length)
+  unfolding command_of command_with cdb_of
+  reads_back-reserve_in ReadKeys =
+      let f = number_again 2 allocation_length [] n in simp is_whole-mod cc
+  reads_back-reserve_in ReadReservation =
+      let f = number_again 2 allocation_length [] n in simp is_whole-mod cc
+  reads_back-reserve_in ReportCapabilities =
+      let f = number_again 2 allocation_length [] n in simp is_whole-mod cc
+  reads_back-reserve_in ReadFullStatus =
+      let f = number_again 2 allocation_length [] n in simp is_whole-mod cc
+
+module _ (scope_type list_length : ℕ) (s : scope_type < 256) (n : list_length < 2 ^ 32) where
+  pub reads_back-reserve_out : (action : OutAction)
+      → command_of (cdb_of (PersistentReserveOut action scope_type list_length))
+      ≡ Ok (PersistentReserveOut action scope_type list_length)
+  unfolding command_of command_with cdb_of
+  reads_back-reserve_out Register =
+      let f = number_again 4 list_length [] n in simp (is_whole scope_type s, is_whole-mod) cc
+  reads_back-reserve_out Reserve =
+      let f = number_again 4 list_length [] n in simp (is_whole scope_type s, is_whole-mod) cc
+  reads_back-reserve_out Release =
+      let f = number_again 4 list_length [] n in simp (is_whole scope_type s, is_whole-mod) cc
+  reads_back-reserve_out Clear =
+      let f = number_again 4 list_length [] n in simp (is_whole scope_type s, is_whole-mod) cc
+  reads_back-reserve_out Preempt =
+      let f = number_again 4 list_length [] n in simp (is_whole scope_type s, is_whole-mod) cc
+  reads_back-reserve_out PreemptAndAbort =
+      let f = number_again 4 list_length [] n in simp (is_whole scope_type s, is_whole-mod) cc
+  reads_back-reserve_out RegisterAndIgnoreExistingKey =
+      let f = number_again 4 list_length [] n in simp (is_whole scope_type s, is_whole-mod) cc
