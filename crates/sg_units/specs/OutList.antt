@@ -1,8 +1,9 @@
 -- The parameter list of PERSISTENT RESERVE OUT (SPC-4).
 use Rattle.std.specs.Prelude.{ℕ, ◌==◌, Bool, not, ◌||◌, List, drop, slice_index, bit_and}
 use Rattle.byteorder.specs.Endian.{big_number}
-use Rattle.sg_units.specs.declared.out_action.OutAction.{OutAction}
-use Rattle.sg_units.specs.declared.out_action.OutAction.TheVariants.{Register, RegisterAndIgnoreExistingKey}
+use Rattle.sg_wire.specs.declared.command.out_action.OutAction.{OutAction}
+use Rattle.sg_wire.specs.declared.command.out_action.OutAction.TheVariants.{Register}
+use Rattle.sg_wire.specs.declared.command.out_action.OutAction.TheVariants.{RegisterAndIgnoreExistingKey}
 use Rattle.sg_units.specs.declared.out_list.OutList.{OutList}
 
 -- Its length in bytes.

@@ -13,10 +13,11 @@ use Rattle.sg_units.specs.Registrations.{without_key, without_key_of_others, wit
 use Rattle.sg_units.specs.Reservations.{has_holder, has_type, is_holder, taken, while_held}
 use Rattle.sg_units.specs.ReservationType.{is_shared, type_of}
 use Rattle.sg_units.specs.declared.reservation_change.ReservationChange.{ReservationChange}
-use Rattle.sg_units.specs.declared.out_action.OutAction.{OutAction}
-use Rattle.sg_units.specs.declared.out_action.OutAction.TheVariants.{Register, Reserve, Release, Clear}
-use Rattle.sg_units.specs.declared.out_action.OutAction.TheVariants.{Preempt, PreemptAndAbort}
-use Rattle.sg_units.specs.declared.out_action.OutAction.TheVariants.{RegisterAndIgnoreExistingKey}
+use Rattle.sg_wire.specs.declared.command.out_action.OutAction.{OutAction}
+use Rattle.sg_wire.specs.declared.command.out_action.OutAction.TheVariants.{Register, Reserve}
+use Rattle.sg_wire.specs.declared.command.out_action.OutAction.TheVariants.{Release, Clear, Preempt}
+use Rattle.sg_wire.specs.declared.command.out_action.OutAction.TheVariants.{PreemptAndAbort}
+use Rattle.sg_wire.specs.declared.command.out_action.OutAction.TheVariants.{RegisterAndIgnoreExistingKey}
 use Rattle.sg_units.specs.declared.out_fault.OutFault.{OutFault}
 use Rattle.sg_units.specs.declared.out_fault.OutFault.TheVariants.{Conflict}
 use Rattle.sg_units.specs.declared.out_fault.OutFault.TheVariants.{InsufficientRegistrationResources}

@@ -5,7 +5,6 @@
 mod access;
 mod attentions;
 pub mod laws;
-mod out_action;
 mod out_fault;
 mod out_list;
 mod raised;
@@ -18,7 +17,6 @@ mod types;
 mod unit_attention;
 
 pub use attentions::Attentions;
-pub use out_action::OutAction;
 pub use out_fault::OutFault;
 pub use out_list::OutList;
 pub use raised::Raised;

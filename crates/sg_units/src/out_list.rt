@@ -2,8 +2,8 @@
 ghost use Rattle.std.specs.Prelude.{◌≡◌, ◌≤◌, length};
 ghost use Rattle.sg_units.specs.OutList.{has_unsupported_flag, list_length, out_list};
 
-use crate::OutAction;
 use byteorder::{BigEndian, ByteOrder};
+use sg_wire::OutAction;
 
 /// The parameter list of PERSISTENT RESERVE OUT (SPC-4).
 #[derive(Clone, Copy)]

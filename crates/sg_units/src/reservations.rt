@@ -1,7 +1,7 @@
 // Registrations and the persistent reservation.
 use crate::reservation_state::ReservationState;
-use crate::{OutAction, OutFault, OutList, Raised, ReservationChange};
-use sg_wire::{Class, Cut, Initiator};
+use crate::{OutFault, OutList, Raised, ReservationChange};
+use sg_wire::{Class, Cut, Initiator, OutAction};
 use std::marker::Model;
 
 /// Which initiators are registered, under which keys, who holds a persistent reservation, and

@@ -4,8 +4,8 @@ ghost use Rattle.sg_units.specs.ReserveOut.{accepts_key, action_outcome, outcome
 
 use super::ReservationState;
 use crate::reservation_change::ReservationChange;
-use crate::{OutAction, OutFault, OutList, ReservationType};
-use sg_wire::Initiator;
+use crate::{OutFault, OutList, ReservationType};
+use sg_wire::{Initiator, OutAction};
 
 impl ReservationState {
     // The change of a command, which changes nothing yet.
