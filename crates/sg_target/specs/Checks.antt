@@ -4,13 +4,15 @@ use Rattle.std.specs.Prelude.{Bool, ◌&&◌}
 use Rattle.std.specs.Prelude.{ℕ, ◌+◌, max, List, [], ◌∷◌, length, map, Option, Some, None, Result}
 use Rattle.std.specs.Prelude.{Ok, Err, nat_lt, if◌then◌else◌}
 use Rattle.std.specs.Option.{option_map}
+use Rattle.std.specs.Prelude.{option_and_then}
 use Rattle.std.specs.FinMap.{len}
-use Rattle.sg_wire.specs.Layout.{command_of, is_blocked_by_attention}
+use Rattle.sg_wire.specs.Layout.{class_of, command_of, is_blocked_by_attention}
 use Rattle.sg_wire.specs.declared.command.Command.{Command}
 use Rattle.sg_wire.specs.declared.command.CdbFault.{CdbFault}
 use Rattle.sg_wire.specs.declared.command.CdbFault.TheVariants.{Empty, Opcode, Short, Field}
 use Rattle.sg_blocks.specs.Disk.{Disk}
 use Rattle.sg_pages.specs.ModePage.{ModeState, write_protected}
+use Rattle.sg_units.specs.Access.{allows}
 use Rattle.sg_units.specs.Attentions.{oldest}
 use Rattle.sg_target.specs.Effect.{Effect}
 use Rattle.sg_target.specs.Refusal.{refusal_for}
@@ -23,7 +25,7 @@ use Rattle.sg_target.specs.declared.refusal.Reason.TheVariants.{DataPhaseError, 
 use Rattle.sg_target.specs.declared.refusal.Reason.TheVariants.{SpaceAllocationFailed}
 use Rattle.sg_target.specs.declared.refusal.Reason.TheVariants.{SoftwareWriteProtected}
 use Rattle.sg_target.specs.declared.refusal.Refusal.{Refusal}
-use Rattle.sg_target.specs.declared.refusal.Refusal.TheVariants.{Check}
+use Rattle.sg_target.specs.declared.refusal.Refusal.TheVariants.{Conflict, Check}
 
 -- The first check that refuses decides.
 abbrev pub first_some : {A : Type 0} → List (Option A) → Option A
@@ -49,6 +51,14 @@ abbrev pub unknown_opcode : Result Command CdbFault → Option Refusal
 unknown_opcode (Err Opcode) = Some (refusal_for Opcode)
 unknown_opcode _ = None
 
+-- The reservation that is held does not allow the command to the initiator, by its class. That shows
+-- in the operation code and the service action, so it comes before what is wrong with other fields.
+abbrev pub reservation_conflict : State → (initiator : ℕ) → List ℕ → Option Refusal
+reservation_conflict state initiator cdb =
+    option_and_then
+    (λ class. if allows state.reservations initiator class then None else Some Conflict)
+    (class_of cdb)
+
 -- It ends early.
 abbrev pub short_cdb : Result Command CdbFault → Option Refusal
 short_cdb (Err (Short length)) = Some (refusal_for (Short length))
@@ -64,6 +74,7 @@ cdb_checks state initiator cdb = let command = command_of cdb in
     empty_cdb command
     ∷ pending_attention state initiator cdb
     ∷ unknown_opcode command
+    ∷ reservation_conflict state initiator cdb
     ∷ short_cdb command
     ∷ bad_field command
     ∷ []

@@ -8,6 +8,7 @@ pub mod CapacityData
 pub mod BlockCommands
 pub mod ProvisioningCommands
 pub mod ModeCommands
+pub mod ReservationCommands
 pub mod Semantics
 pub mod Checks
 pub mod Status

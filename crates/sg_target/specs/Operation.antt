@@ -5,6 +5,7 @@ use Rattle.std.specs.Prelude.{true, false}
 use Rattle.sg_wire.specs.CutAnswer.{first_bytes, overwritten}
 use Rattle.sg_wire.specs.SenseData.{sense_data}
 use Rattle.sg_wire.specs.declared.command.Command.{Command}
+use Rattle.sg_wire.specs.declared.command.out_action.OutAction.{OutAction}
 use Rattle.sg_wire.specs.declared.sense.Format.{Format}
 use Rattle.sg_blocks.specs.Meter.{no_counts}
 use Rattle.sg_blocks.specs.declared.store.Counts.{Counts}
@@ -12,6 +13,8 @@ use Rattle.sg_pages.specs.Identity.{IdentityFields}
 use Rattle.sg_pages.specs.ModePage.{ModeState}
 use Rattle.sg_pages.specs.ModeSense.{fields_of}
 use Rattle.sg_pages.specs.ProvisioningPages.{maximum_transfer_length}
+use Rattle.sg_units.specs.Reservations.{AreConsistent}
+use Rattle.sg_units.specs.declared.reservation_state.ReservationState.{ReservationState}
 use Rattle.sg_target.specs.BlockCommands.{bytes_of, read_capacity_10, read_capacity_16, reading, writing}
 use Rattle.sg_target.specs.CapacityData.{block_length, capacity_10, capacity_16}
 use Rattle.sg_target.specs.Checks.{checked_effect, first_fault, list_fault, request_fault}
@@ -23,12 +26,14 @@ use Rattle.sg_target.specs.PrimaryCommands.{inquiry_data, returning_page, return
 use Rattle.sg_target.specs.Refusal.{pending_sense}
 use Rattle.sg_target.specs.ProvisioningCommands.{block_out, filling, reporting_status, unmap_list}
 use Rattle.sg_target.specs.ProvisioningCommands.{unmapping, unmaps}
+use Rattle.sg_target.specs.ReservationCommands.{changing_reservations, reporting, reserve_in_data}
+use Rattle.sg_target.specs.ReservationCommands.{reservation_change, unless_type}
 use Rattle.sg_target.specs.Semantics.{bad_count, extent, semantics, unless_anchor}
 use Rattle.sg_target.specs.State.{State}
 use Rattle.sg_target.specs.Step.{Step, executed_or_refused, refusal_answer}
 use Rattle.sg_target.specs.declared.data_in.DataIn.{DataIn}
 use Rattle.sg_target.specs.declared.data_in.DataIn.TheVariants.{ModeParameters, Sense, Inquiry}
-use Rattle.sg_target.specs.declared.data_in.DataIn.TheVariants.{Capacity10, Capacity16}
+use Rattle.sg_target.specs.declared.data_in.DataIn.TheVariants.{Capacity10, Capacity16, Reservations}
 use Rattle.sg_target.specs.declared.extent.Extent.{Extent}
 use Rattle.sg_target.specs.declared.operation.Operation.{Operation}
 use Rattle.sg_target.specs.declared.operation.Operation.TheVariants.{ModeSense, SetModes}
@@ -37,6 +42,8 @@ use Rattle.sg_target.specs.declared.operation.Operation.TheVariants.{ReturnInqui
 use Rattle.sg_target.specs.declared.operation.Operation.TheVariants.{ReadCapacity16, Read, Write}
 use Rattle.sg_target.specs.declared.operation.Operation.TheVariants.{Synchronize, Fill, Unmap}
 use Rattle.sg_target.specs.declared.operation.Operation.TheVariants.{UnmapExtent, GetLbaStatus}
+use Rattle.sg_target.specs.declared.operation.Operation.TheVariants.{PersistentReserveIn}
+use Rattle.sg_target.specs.declared.operation.Operation.TheVariants.{ChangeReservations}
 use Rattle.sg_target.specs.declared.refusal.Refusal.{Refusal}
 use Rattle.sg_target.specs.declared.reply.Reply.{Reply}
 use Rattle.sg_target.specs.declared.reply.Status.TheVariants.{Good}
@@ -56,6 +63,8 @@ effect_of state i (Fill extent) data_out = filling state extent (block_out data_
 effect_of state i (Unmap extents) data_out = unmapping state extents
 effect_of state i (UnmapExtent extent) data_out = unmapping state (extent ∷ [])
 effect_of state i (GetLbaStatus start n) data_out = reporting_status state start n
+effect_of state i (PersistentReserveIn kind n) data_out = reporting state kind n
+effect_of state i (ChangeReservations change) data_out = changing_reservations state i change
 
 -- The extents that have to be on the disk.
 abbrev pub extents_of : Operation → List Extent
@@ -76,12 +85,15 @@ writes_medium (Unmap extents) = true
 writes_medium (UnmapExtent extent) = true
 writes_medium _ = false
 
--- No more blocks are moved than the disk takes, and data-out has the blocks that are written.
+-- No more blocks are moved than the disk takes, data-out has the blocks that are written, and
+-- registrations and reservation belong together.
 abbrev pub IsExecutable : Operation → (data_out : List ℕ) → Type 0
 IsExecutable (Read extent) data_out = extent.count ≤ maximum_transfer_length
 IsExecutable (Write extent) data_out =
     (extent.count ≤ maximum_transfer_length) × (bytes_of extent ≤ length data_out)
 IsExecutable (Fill extent) data_out = block_length ≤ length data_out
+IsExecutable (ChangeReservations change) data_out =
+    AreConsistent change.registrations change.reservation
 IsExecutable _ data_out = Unit {0}
 
 abbrev pub AreOnDisk : (capacity : ℕ) → List Extent → Type 0
@@ -126,6 +138,15 @@ mode_select_fault state ten pf sp n data_out =
     (short_data_out (Some n) data_out)
     (list_fault (selected_modes state ten sp (first_bytes n data_out)))
 
+-- What is wrong with a PERSISTENT RESERVE OUT.
+abbrev pub reserve_out_fault : State → (initiator : ℕ) → OutAction → (scope_type list_length : ℕ)
+    → (data_out : List ℕ) → Option Refusal
+reserve_out_fault state initiator action scope_type n data_out =
+    first_fault
+    (unsupported_value (unless_type action scope_type))
+    (short_data_out (Some n) data_out)
+    (list_fault (reservation_change state initiator action scope_type (first_bytes n data_out)))
+
 -- The request checks have passed a command: what is left to do of it has its effect and its
 -- extents, and writes to the medium where the command does.
 pub record IsRequested (state : State) (initiator : ℕ) (command : Command) (data_out : List ℕ)
@@ -150,15 +171,18 @@ abbrev pub step_by : State → (initiator : ℕ) → Operation → (data_out : L
 step_by state initiator operation data_out =
     executed_or_refused state initiator (effect_of state initiator operation data_out)
 
--- The full data-in of a kind, of a disk with an identity, a number of blocks and mode pages.
-abbrev pub data_of : IdentityFields → (capacity : ℕ) → ModeState → DataIn → List ℕ
-data_of identity capacity modes (Sense condition format) =
+-- The full data-in of a kind, of a disk with an identity, a number of blocks, mode pages and
+-- reservations.
+abbrev pub data_of : IdentityFields → (capacity : ℕ) → ModeState → ReservationState → DataIn
+    → List ℕ
+data_of identity capacity modes reservations (Sense condition format) =
     sense_data format (pending_sense condition)
-data_of identity capacity modes (Inquiry page) = inquiry_data identity page
-data_of identity capacity modes (ModeParameters request) =
+data_of identity capacity modes reservations (Inquiry page) = inquiry_data identity page
+data_of identity capacity modes reservations (ModeParameters request) =
     mode_parameter_bytes modes (fields_of request)
-data_of identity capacity modes Capacity10 = capacity_10 capacity
-data_of identity capacity modes Capacity16 = capacity_16 capacity
+data_of identity capacity modes reservations (Reservations kind) = reserve_in_data reservations kind
+data_of identity capacity modes reservations Capacity10 = capacity_10 capacity
+data_of identity capacity modes reservations Capacity16 = capacity_16 capacity
 
 -- The reply to a command that was executed.
 abbrev pub executed_reply : (data_in : ℕ) → Counts → Reply

@@ -12,6 +12,8 @@ use Rattle.sg_target.specs.declared.refusal.Reason.TheVariants.{UnitAttention as
 use Rattle.sg_target.specs.declared.refusal.Reason.TheVariants.{DataPhaseError}
 use Rattle.sg_target.specs.declared.refusal.Reason.TheVariants.{ParameterListLengthError}
 use Rattle.sg_target.specs.declared.refusal.Reason.TheVariants.{InvalidFieldInParameterList}
+use Rattle.sg_target.specs.declared.refusal.Reason.TheVariants.{InsufficientRegistrationResources}
+use Rattle.sg_target.specs.declared.refusal.Reason.TheVariants.{InvalidRelease}
 use Rattle.sg_target.specs.declared.refusal.Reason.TheVariants.{LbaOutOfRange}
 use Rattle.sg_target.specs.declared.refusal.Reason.TheVariants.{SpaceAllocationFailed}
 use Rattle.sg_target.specs.declared.refusal.Reason.TheVariants.{SoftwareWriteProtected}
@@ -53,6 +55,8 @@ sense_of ParameterListLengthError = plain_sense illegal_request 0x1A 0x00
 sense_of (InvalidFieldInParameterList byte) =
     record (plain_sense illegal_request 0x26 0x00)
     { pointer = Some (record { in_command = false; byte = byte }) }
+sense_of InvalidRelease = plain_sense illegal_request 0x26 0x04
+sense_of InsufficientRegistrationResources = plain_sense illegal_request 0x55 0x04
 sense_of (LbaOutOfRange lba) = record (plain_sense illegal_request 0x21 0x00) { information = Some lba }
 sense_of SoftwareWriteProtected = plain_sense data_protect 0x27 0x02
 sense_of SpaceAllocationFailed = plain_sense data_protect 0x27 0x07

@@ -10,7 +10,9 @@ use Rattle.sg_wire.specs.declared.command.Command.TheVariants.{Read6, Read10, Re
 use Rattle.sg_wire.specs.declared.command.Command.TheVariants.{Write10, Write16, ReadCapacity10}
 use Rattle.sg_wire.specs.declared.command.Command.TheVariants.{ReadCapacity16, SynchronizeCache10}
 use Rattle.sg_wire.specs.declared.command.Command.TheVariants.{WriteSame10, WriteSame16, Unmap}
-use Rattle.sg_wire.specs.declared.command.Command.TheVariants.{GetLbaStatus}
+use Rattle.sg_wire.specs.declared.command.Command.TheVariants.{GetLbaStatus, PersistentReserveIn}
+use Rattle.sg_wire.specs.declared.command.Command.TheVariants.{PersistentReserveOut}
+use Rattle.sg_wire.specs.declared.command.out_action.OutAction.{OutAction}
 use Rattle.sg_wire.specs.CutAnswer.{first_bytes}
 use Rattle.sg_pages.specs.ProvisioningPages.{maximum_transfer_length, maximum_write_same_length}
 use Rattle.sg_target.specs.BlockCommands.{bytes_of, read_capacity_10, read_capacity_16, reading, writing}
@@ -20,6 +22,8 @@ use Rattle.sg_target.specs.ModeCommands.{setting_if_sound, unless_page_format}
 use Rattle.sg_target.specs.PrimaryCommands.{inquiry, request_sense}
 use Rattle.sg_target.specs.CapacityData.{block_length}
 use Rattle.sg_target.specs.ProvisioningCommands.{reporting_status, unmap_list, unmapping_listed, writing_same}
+use Rattle.sg_target.specs.ReservationCommands.{changing_if_sound, in_data_of, reporting_if_supported}
+use Rattle.sg_target.specs.ReservationCommands.{reservation_change, unless_type}
 use Rattle.sg_target.specs.State.{State}
 use Rattle.sg_target.specs.declared.extent.Extent.{Extent}
 use Rattle.sg_target.specs.declared.refusal.Refusal.{Refusal}
@@ -118,6 +122,15 @@ mode_select state initiator ten pf sp n data_out =
       data_out_length = Some n;
     }
 
+abbrev pub reserve_out : State → (initiator : ℕ) → OutAction → (scope_type n : ℕ) (data_out : List ℕ)
+    → Semantics
+reserve_out state initiator action scope_type n data_out =
+    let change = reservation_change state initiator action scope_type (first_bytes n data_out) in
+    record (without_blocks (changing_if_sound state initiator change)) {
+      unsupported = unless_type action scope_type;
+      data_out_length = Some n;
+    }
+
 -- The row of each command, in a state, from an initiator, with its data-out. READ(6) and WRITE(6)
 -- name at most 256 blocks by their layout. SYNCHRONIZE CACHE has its extent checked and does
 -- nothing, as there is no cache. GET LBA STATUS has to start at a block of the disk.
@@ -147,3 +160,7 @@ semantics state i (WriteSame16 anchor unmapping lba n) data_out =
 semantics state i (Unmap anchor group n) data_out = unmap state anchor n data_out
 semantics state i (GetLbaStatus start n) data_out =
     over (extent start 1) (reporting_status state start n)
+semantics state i (PersistentReserveIn action n) data_out =
+    without_blocks (reporting_if_supported state (in_data_of action) n)
+semantics state i (PersistentReserveOut action scope_type n) data_out =
+    reserve_out state i action scope_type n data_out

@@ -5,6 +5,8 @@ use Rattle.sg_blocks.specs.Disk.{Disk, empty_disk}
 use Rattle.sg_pages.specs.Identity.{IdentityFields}
 use Rattle.sg_pages.specs.ModePage.{ModeState, initial_state}
 use Rattle.sg_units.specs.Attentions.{ArePending, Pending, power_on_pending}
+use Rattle.sg_units.specs.Reservations.{IsConsistent, empty_state}
+use Rattle.sg_units.specs.declared.reservation_state.ReservationState.{ReservationState}
 use Rattle.sg_target.specs.Config.{ConfigFields}
 
 pub record State : Type 0 where
@@ -12,18 +14,23 @@ pub record State : Type 0 where
   pub disk : Disk
   pub modes : ModeState
   pub attentions : Pending
+  pub reservations : ReservationState
 
--- After power on no block is mapped, and the mode pages have their default values.
+-- After power on no block is mapped, the mode pages have their default values, and no initiator is
+-- registered.
 abbrev pub powered_on : ConfigFields → State
 powered_on config = record {
   identity = config.identity;
   disk = empty_disk config.blocks config.pool;
   modes = initial_state;
   attentions = power_on_pending;
+  reservations = empty_state;
 }
 
 -- No table of the disk is past its limit: no more addresses are mapped than the pool has blocks,
--- and each of the eight initiators has a queue of at most five pending conditions, all distinct.
+-- each of the eight initiators has a queue of at most five pending conditions, all distinct, and at
+-- most six initiators are registered, none twice. A reservation has the holders of its type.
 pub record IsWithinLimits (state : State) : Type 0 where
   pub mapped : len state.disk.contents ≤ state.disk.pool
   pub pending : ArePending state.attentions
+  pub registered : IsConsistent state.reservations

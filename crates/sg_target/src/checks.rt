@@ -5,7 +5,8 @@ ghost use Rattle.sg_wire.specs.Layout.{is_blocked_by_attention};
 ghost use Rattle.sg_units.specs.Attentions.{oldest};
 ghost use Rattle.sg_target.specs.BlockCommands.{bytes_of};
 ghost use Rattle.sg_target.specs.Checks.{checked_effect, out_of_range, past_capacity};
-ghost use Rattle.sg_target.specs.Checks.{short_data_out, unsupported_value, write_protection};
+ghost use Rattle.sg_target.specs.Checks.{reservation_conflict, short_data_out, unsupported_value};
+ghost use Rattle.sg_target.specs.Checks.{write_protection};
 ghost use Rattle.sg_target.specs.Operation.{AreOnDisk, IsChecked, writes_medium};
 ghost use Rattle.sg_wire.specs.CutAnswer.{first_bytes};
 ghost use Rattle.sg_pages.specs.ProvisioningPages.{maximum_transfer_length};
@@ -45,6 +46,12 @@ impl<S: Store> Target<S> {
         if let Some(condition) = self.blocking_attention(initiator, cdb) {
             return Err(Refusal::Check(Reason::UnitAttention(condition)));
         }
+        if let Err(CdbFault::Opcode) = command {
+            return Err(Refusal::from(CdbFault::Opcode));
+        }
+        if let Some(conflict) = self.reservation_conflict(initiator, cdb) {
+            return Err(conflict);
+        }
         let command = command?;
         let operation = self.operation_of(initiator, &command, data_out)?;
         if let Some(refusal) = operation.out_of_range(capacity) {
@@ -65,6 +72,16 @@ impl<S: Store> Target<S> {
             self.attentions.oldest(initiator)
         } else {
             None
+        }
+    }
+
+    // The refusal of a command that the reservation does not allow to an initiator.
+    fn reservation_conflict(&self, initiator: Initiator, cdb: &[u8]) -> Option<Refusal>
+        ensures { result ≡ reservation_conflict self.now.state initiator cdb.now }
+    {
+        match Command::class_of(cdb) {
+            Some(class) if !self.reservations.allows(initiator, class) => Some(Refusal::Conflict),
+            _ => None,
         }
     }
 

@@ -9,10 +9,11 @@ use crate::config::Config;
 use crate::inquiry_page::InquiryPage;
 use crate::mode::write_mode_parameters;
 use crate::refusal::pending_sense;
+use crate::reservation::ReserveInData;
 use byteorder::{BigEndian, ByteOrder};
 use sg_blocks::BLOCK_LENGTH;
 use sg_pages::{ModePages, ModeSenseRequest};
-use sg_units::UnitAttention;
+use sg_units::{Reservations, UnitAttention};
 use sg_wire::{Cut, Format};
 
 /// The data-in of a command that returns some, apart from the blocks of READ.
@@ -27,6 +28,8 @@ pub(crate) enum DataIn {
     Inquiry(InquiryPage),
     /// The mode parameter list of MODE SENSE.
     ModeParameters(ModeSenseRequest),
+    /// What PERSISTENT RESERVE IN returns.
+    Reservations(ReserveInData),
     Capacity10,
     Capacity16,
 }
@@ -39,27 +42,31 @@ impl DataIn {
         limit: usize,
         config: &Config,
         modes: &ModePages,
+        reservations: &Reservations,
         buf: &mut [u8],
     ) -> usize
         requires { limit ≤ length buf.old }
-        ensures length { let full = data_of config.now.identity config.now.blocks modes.now self in
+        ensures length { let full = data_of config.now.identity config.now.blocks modes.now
+            reservations.now self in
             result ≡ length (first_bytes limit full) }
-        ensures data_in { let full = data_of config.now.identity config.now.blocks modes.now self in
+        ensures data_in { let full = data_of config.now.identity config.now.blocks modes.now
+            reservations.now self in
             buf.new ≡ overwritten (first_bytes limit full) buf.old }
     {
         let mut cut = Cut::new(buf, limit);
-        self.write(config, modes, &mut cut);
+        self.write(config, modes, reservations, &mut cut);
         cut.written()
     }
 
-    fn write(self, config: &Config, modes: &ModePages, cut: &mut Cut)
+    fn write(self, config: &Config, modes: &ModePages, reservations: &Reservations, cut: &mut Cut)
         ensures { Puts cut.old cut.new
-            (data_of config.now.identity config.now.blocks modes.now self) }
+            (data_of config.now.identity config.now.blocks modes.now reservations.now self) }
     {
         match self {
             DataIn::Sense { condition, format } => pending_sense(condition).write(format, cut),
             DataIn::Inquiry(page) => page.write(config.identity(), cut),
             DataIn::ModeParameters(request) => write_mode_parameters(modes, &request, cut),
+            DataIn::Reservations(kind) => kind.write(reservations, cut),
             DataIn::Capacity10 => cut.put(&capacity_10(config.blocks())),
             DataIn::Capacity16 => cut.put(&capacity_16(config.blocks())),
         }

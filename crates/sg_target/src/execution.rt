@@ -25,10 +25,18 @@ impl<S: Store> Target<S> {
     pub(crate) fn return_data(&self, data_in: DataIn, limit: usize, buf: &mut [u8]) -> Reply
         requires { limit ≤ length buf.old }
         ensures { let state = self.now.state in
-            let full = data_of state.identity state.disk.capacity state.modes data_in in
+            let full = data_of state.identity state.disk.capacity state.modes
+            state.reservations data_in in
             ReturnsData (first_bytes limit full) result buf.old buf.new }
     {
-        Reply::without_blocks(data_in.write_up_to(limit, &self.config, &self.modes, buf))
+        let written = data_in.write_up_to(
+            limit,
+            &self.config,
+            &self.modes,
+            &self.reservations,
+            buf,
+        );
+        Reply::without_blocks(written)
     }
 
     // READ returns the bytes of its blocks.

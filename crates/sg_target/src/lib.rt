@@ -15,6 +15,7 @@ mod mode;
 mod operation;
 mod refusal;
 mod reply;
+mod reservation;
 mod run;
 mod target;
 mod unmap;

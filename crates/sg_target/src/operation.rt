@@ -24,10 +24,12 @@ use crate::extent::Extent;
 use crate::inquiry_page::InquiryPage;
 use crate::refusal::{Reason, Refusal};
 use crate::reply::{Reply, format_of};
+use crate::reservation::{ReserveInData, persistent_reserve_in};
 use crate::target::{BUFFER_LENGTH, Target};
 use crate::unmap::{ListedExtents, unmap};
 use sg_blocks::{BLOCK_LENGTH, MAX_CAPACITY, Store};
 use sg_pages::{ModePages, ModeSenseRequest};
+use sg_units::ReservationChange;
 use sg_wire::{Command, Format, Initiator};
 
 /// What is left to do of a command whose values, data-out and parameter list are sound, with what
@@ -83,6 +85,14 @@ pub(crate) enum Operation<'a> {
         /// In bytes.
         allocation_length: u32,
     },
+    /// PERSISTENT RESERVE IN.
+    PersistentReserveIn {
+        kind: ReserveInData,
+        /// In bytes.
+        allocation_length: u16,
+    },
+    /// PERSISTENT RESERVE OUT: registrations and reservation change.
+    ChangeReservations(ReservationChange),
 }
 
 impl<'a> Operation<'a> {
@@ -113,7 +123,9 @@ impl<'a> Operation<'a> {
             | Operation::ModeSense { .. }
             | Operation::SetModes { .. }
             | Operation::ReadCapacity10
-            | Operation::ReadCapacity16 { .. } => None,
+            | Operation::ReadCapacity16 { .. }
+            | Operation::PersistentReserveIn { .. }
+            | Operation::ChangeReservations(_) => None,
         }
     }
 
@@ -238,6 +250,15 @@ impl<S: Store> Target<S> {
                 start,
                 allocation_length,
             }),
+            Command::PersistentReserveIn {
+                action,
+                allocation_length,
+            } => persistent_reserve_in(action, allocation_length),
+            Command::PersistentReserveOut {
+                action,
+                scope_type,
+                list_length: length,
+            } => self.persistent_reserve_out(initiator, action, scope_type, length, data_out),
         }
     }
 
@@ -300,6 +321,14 @@ impl<S: Store> Target<S> {
                 start,
                 allocation_length,
             } => self.report_lba_status(start, allocation_length, buf),
+            Operation::PersistentReserveIn {
+                kind,
+                allocation_length,
+            } => {
+                let data_in = DataIn::Reservations(kind);
+                self.return_data(data_in, usize::from(allocation_length), buf)
+            }
+            Operation::ChangeReservations(change) => self.change_reservations(initiator, change),
         }
     }
 }

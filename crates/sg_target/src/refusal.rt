@@ -26,6 +26,10 @@ pub(crate) enum Reason {
     ParameterListLengthError,
     /// INVALID FIELD IN PARAMETER LIST, at this byte.
     InvalidFieldInParameterList { byte: u16 },
+    /// INVALID RELEASE OF PERSISTENT RESERVATION: the one that is held has another type.
+    InvalidRelease,
+    /// INSUFFICIENT REGISTRATION RESOURCES: there is no room for another registration.
+    InsufficientRegistrationResources,
     /// LOGICAL BLOCK ADDRESS OUT OF RANGE, with the first such address.
     LbaOutOfRange { lba: u64 },
     /// LOGICAL UNIT SOFTWARE WRITE PROTECTED: SWP is set.
@@ -53,6 +57,10 @@ impl Reason {
             Reason::DataPhaseError => plain(Sense::ABORTED_COMMAND, 0x4B, 0x00),
             Reason::ParameterListLengthError => plain(Sense::ILLEGAL_REQUEST, 0x1A, 0x00),
             Reason::InvalidFieldInParameterList { byte } => invalid_field(0x26, false, byte),
+            Reason::InvalidRelease => plain(Sense::ILLEGAL_REQUEST, 0x26, 0x04),
+            Reason::InsufficientRegistrationResources => {
+                plain(Sense::ILLEGAL_REQUEST, 0x55, 0x04)
+            }
             Reason::LbaOutOfRange { lba } => Sense {
                 key: Sense::ILLEGAL_REQUEST,
                 asc: 0x21,

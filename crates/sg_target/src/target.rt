@@ -4,7 +4,7 @@ use crate::refusal::{Reason, Refusal};
 use crate::reply::{Reply, format_of};
 use sg_blocks::{Counts, Store};
 use sg_pages::ModePages;
-use sg_units::Attentions;
+use sg_units::{Attentions, Reservations};
 use sg_wire::{Format, Initiator};
 use std::alloc::{AllocError, Global};
 use std::marker::Model;
@@ -20,11 +20,13 @@ pub struct Target<S: Store> {
     pub(crate) store: S,
     pub(crate) modes: ModePages,
     pub(crate) attentions: Attentions,
+    pub(crate) reservations: Reservations,
 }
 
 impl<S: Store> Model for Target<S> {
     ghost use Rattle.std.specs.Prelude.{◌≡◌, ◌≤◌};
     ghost use Rattle.sg_units.specs.Attentions.{ArePending};
+    ghost use Rattle.sg_units.specs.Reservations.{IsConsistent};
     ghost use Rattle.std.specs.FinMap.{len};
     ghost use Rattle.sg_blocks.specs.declared.store.TheConstants.{MAX_POOL};
     ghost use Rattle.std.specs.Coded.{codes};
@@ -40,6 +42,7 @@ impl<S: Store> Model for Target<S> {
         disk = S.disk t.store;
         modes = t.modes;
         attentions = t.attentions;
+        reservations = t.reservations;
       };
       meter = S.meter t.store;
     } };
@@ -47,6 +50,7 @@ impl<S: Store> Model for Target<S> {
     ghost invariant = { λ t. (t.config.blocks ≡ (S.disk t.store).capacity)
         × (len (S.disk t.store).contents ≤ (S.disk t.store).pool)
         × ArePending t.attentions
+        × IsConsistent t.reservations
         × ((S.disk t.store).pool ≤ MAX_POOL) };
 }
 
@@ -60,7 +64,8 @@ ghost use Rattle.sg_target.specs.Step.{after_refusal, sense_format, step};
 
 impl<S: Store> Target<S> {
     /// A target as it is after power on: no block is mapped, the mode pages have their default
-    /// values, and a unit attention, POWER ON, is pending for each initiator. All memory is taken here.
+    /// values, a unit attention, POWER ON, is pending for each initiator, and none is registered. All
+    /// memory is taken here.
     ///
     /// # Errors
     /// Memory was refused.
@@ -73,6 +78,7 @@ impl<S: Store> Target<S> {
             store,
             modes: ModePages::new(),
             attentions: Attentions::new(),
+            reservations: Reservations::new(),
         })
     }
 

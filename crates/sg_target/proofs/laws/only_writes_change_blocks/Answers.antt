@@ -1,7 +1,12 @@
 use Rattle.std.proofs.Common.{◌≡◌, ℕ, List, Option, Some, None, Result, Ok, Err, true, false, refl}
 use Rattle.sg_wire.specs.declared.command.Command.{Command}
 use Rattle.sg_wire.specs.declared.command.Command.TheVariants.{Inquiry, ModeSelect6, ModeSelect10, ModeSense6, ModeSense10}
+use Rattle.sg_wire.specs.declared.command.Command.TheVariants.{PersistentReserveIn, PersistentReserveOut}
 use Rattle.sg_wire.specs.CutAnswer.{first_bytes}
+use Rattle.sg_units.specs.declared.reservation_change.ReservationChange.{ReservationChange}
+use Rattle.sg_target.specs.ReservationCommands.{changing_if_sound, in_data_of, reporting_if_supported}
+use Rattle.sg_target.specs.ReservationCommands.{reservation_change}
+use Rattle.sg_target.specs.declared.reservation.ReserveInData.{ReserveInData}
 use Rattle.sg_pages.specs.ModePage.{ModeState}
 use Rattle.sg_target.specs.ModeCommands.{mode_parameters, returning_if_sound, selected_modes, sense_request, setting_if_sound}
 use Rattle.sg_blocks.specs.Disk.{Disk}
@@ -30,6 +35,16 @@ setting-leaves : (state : State) (i : ℕ) (modes : Result ModeState Refusal) �
 setting-leaves state i (Ok modes) = refl
 setting-leaves state i (Err refusal) = tt
 
+reporting-leaves : (state : State) (kind : Option ReserveInData) (n : ℕ)
+    → Leaves state.disk (reporting_if_supported state kind n)
+reporting-leaves state (Some kind) n = refl
+reporting-leaves state None n = tt
+
+changing-leaves : (state : State) (i : ℕ) (change : Result ReservationChange Refusal)
+    → Leaves state.disk (changing_if_sound state i change)
+changing-leaves state i (Ok change) = refl
+changing-leaves state i (Err refusal) = tt
+
 command-leaves : (state : State) (i : ℕ) (command : Command) (data_out : List ℕ)
     → (semantics state i command data_out).writes_medium ≡ false → Leaves state.disk (semantics state i command data_out).effect
 command-leaves state i (Inquiry evpd code n) data_out h = page-leaves state (inquiry_page evpd code) n
@@ -41,6 +56,10 @@ command-leaves state i (ModeSense6 dbd pc page subpage n) data_out h =
     sensing-leaves state n (mode_parameters state.modes (sense_request state.disk.capacity false false dbd pc page subpage))
 command-leaves state i (ModeSense10 llbaa dbd pc page subpage n) data_out h =
     sensing-leaves state n (mode_parameters state.modes (sense_request state.disk.capacity true llbaa dbd pc page subpage))
+command-leaves state i (PersistentReserveIn action n) data_out h =
+    reporting-leaves state (in_data_of action) n
+command-leaves state i (PersistentReserveOut action scope_type n) data_out h =
+    changing-leaves state i (reservation_change state i action scope_type (first_bytes n data_out))
 command-leaves state i _ data_out h = cc
 
 at-effect : (disk : Disk) (result : Result Effect Refusal) (effect : Effect) → Leaves disk result → result ≡ Ok effect → effect.after.disk ≡ disk

@@ -31,7 +31,10 @@ returns-in_err-take-clause-stopped g c =
     on-err c.from_residual.result _ stopped
 
 pub returns-in_err-take-clause-limits : goal.returns-in_err-take-clause-limits
-returns-in_err-take-clause-limits g c n = all-within _ c.args.calls.now n (subst (λ (t : TargetFields). IsWithinLimits t.state) c.self.view_is (record { mapped = c.self.invariant.1; pending = c.self.invariant.2 }))
+returns-in_err-take-clause-limits g c n =
+    all-within _ c.args.calls.now n
+    (subst (λ (t : TargetFields). IsWithinLimits t.state) c.self.view_is
+    (record { mapped = c.self.invariant.1; pending = c.self.invariant.2; registered = c.self.invariant.3 }))
 
 pub loop-call-preserved : goal.loop-call-preserved
 loop-call-preserved g c =
@@ -52,4 +55,7 @@ loop-call-preserved g c =
     }
 
 pub returns-clause-limits : goal.returns-clause-limits
-returns-clause-limits g c n = all-within _ c.args.calls.now n (subst (λ (t : TargetFields). IsWithinLimits t.state) c.self.view_is (record { mapped = c.self.invariant.1; pending = c.self.invariant.2 }))
+returns-clause-limits g c n =
+    all-within _ c.args.calls.now n
+    (subst (λ (t : TargetFields). IsWithinLimits t.state) c.self.view_is
+    (record { mapped = c.self.invariant.1; pending = c.self.invariant.2; registered = c.self.invariant.3 }))

@@ -1,0 +1,105 @@
+-- The effects of PERSISTENT RESERVE IN and PERSISTENT RESERVE OUT (SPC-4, 5.13).
+use Rattle.std.specs.Prelude.{ℕ, ◌==◌, List, length, Bool, true, false, ◌&&◌, Option, Some, None}
+use Rattle.std.specs.Prelude.{is_none, Result, Ok, Err, if◌then◌else◌}
+use Rattle.std.specs.Result.{result_map_both}
+use Rattle.sg_wire.specs.declared.command.in_action.InAction.{InAction}
+use Rattle.sg_wire.specs.declared.command.in_action.InAction.TheVariants.{ReadKeys, ReadReservation}
+use Rattle.sg_wire.specs.declared.command.in_action.InAction.TheVariants.{ReportCapabilities}
+use Rattle.sg_wire.specs.declared.command.in_action.InAction.TheVariants.{ReadFullStatus}
+use Rattle.sg_wire.specs.declared.command.out_action.OutAction.{OutAction}
+use Rattle.sg_wire.specs.declared.command.out_action.OutAction.TheVariants.{Reserve, Release}
+use Rattle.sg_units.specs.OutList.{list_length, out_list}
+use Rattle.sg_units.specs.Raised.{raised_for_each}
+use Rattle.sg_units.specs.ReservationType.{type_of}
+use Rattle.sg_units.specs.ReserveIn.{capabilities_data, keys_data, reservation_data}
+use Rattle.sg_units.specs.ReserveOut.{outcome, raised_by, state_after}
+use Rattle.sg_units.specs.declared.out_fault.OutFault.{OutFault}
+use Rattle.sg_units.specs.declared.out_fault.OutFault.TheVariants.{Conflict as OutConflict}
+use Rattle.sg_units.specs.declared.out_fault.OutFault.TheVariants.{InsufficientRegistrationResources as NoRoom}
+use Rattle.sg_units.specs.declared.out_fault.OutFault.TheVariants.{InvalidRelease as OtherType, ListField}
+use Rattle.sg_units.specs.declared.out_fault.OutFault.TheVariants.{InvalidScopeOrType}
+use Rattle.sg_units.specs.declared.reservation_change.ReservationChange.{ReservationChange}
+use Rattle.sg_units.specs.declared.reservation_state.ReservationState.{ReservationState}
+use Rattle.sg_target.specs.Effect.{Effect, no_effect, returning_up_to}
+use Rattle.sg_target.specs.State.{State}
+use Rattle.sg_target.specs.declared.refusal.Reason.TheVariants.{InsufficientRegistrationResources}
+use Rattle.sg_target.specs.declared.refusal.Reason.TheVariants.{InvalidFieldInCdb}
+use Rattle.sg_target.specs.declared.refusal.Reason.TheVariants.{InvalidFieldInParameterList}
+use Rattle.sg_target.specs.declared.refusal.Reason.TheVariants.{InvalidRelease}
+use Rattle.sg_target.specs.declared.refusal.Reason.TheVariants.{ParameterListLengthError}
+use Rattle.sg_target.specs.declared.refusal.Refusal.{Refusal}
+use Rattle.sg_target.specs.declared.refusal.Refusal.TheVariants.{Conflict, Check}
+use Rattle.sg_target.specs.declared.reservation.ReserveInData.{ReserveInData}
+use Rattle.sg_target.specs.declared.reservation.ReserveInData.TheVariants.{Keys, Reservation}
+use Rattle.sg_target.specs.declared.reservation.ReserveInData.TheVariants.{Capabilities}
+
+-- ---- PERSISTENT RESERVE IN
+
+-- What a service action returns. READ FULL STATUS is not supported.
+abbrev pub in_data_of : InAction → Option ReserveInData
+in_data_of ReadKeys = Some Keys
+in_data_of ReadReservation = Some Reservation
+in_data_of ReportCapabilities = Some Capabilities
+in_data_of ReadFullStatus = None
+
+abbrev pub reserve_in_data : ReservationState → ReserveInData → List ℕ
+reserve_in_data reservations Keys = keys_data reservations
+reserve_in_data reservations Reservation = reservation_data reservations
+reserve_in_data reservations Capabilities = capabilities_data
+
+abbrev pub reporting : State → ReserveInData → (allocation_length : ℕ) → Effect
+reporting state kind n = returning_up_to state n (reserve_in_data state.reservations kind)
+
+-- SERVICE ACTION is in byte 1.
+abbrev pub reporting_if_supported : State → Option ReserveInData → (allocation_length : ℕ)
+    → Result Effect Refusal
+reporting_if_supported state (Some kind) n = Ok (reporting state kind n)
+reporting_if_supported state None n = Err (Check (InvalidFieldInCdb 1))
+
+-- ---- PERSISTENT RESERVE OUT
+
+-- RESERVE and RELEASE need a valid scope and type, in byte 2. PREEMPT needs one where it takes the
+-- reservation, and no other service action looks at them.
+abbrev pub always_needs_type : OutAction → Bool
+always_needs_type Reserve = true
+always_needs_type Release = true
+always_needs_type _ = false
+
+unfoldable pub unless_type : OutAction → (scope_type : ℕ) → Option ℕ
+unless_type action scope_type =
+    if always_needs_type action && is_none (type_of scope_type) then Some 2 else None
+
+-- The status or the sense data of each fault.
+abbrev pub out_refusal : OutFault → Refusal
+out_refusal OutConflict = Conflict
+out_refusal NoRoom = Check InsufficientRegistrationResources
+out_refusal OtherType = Check InvalidRelease
+out_refusal (ListField byte) = Check (InvalidFieldInParameterList byte)
+out_refusal InvalidScopeOrType = Check (InvalidFieldInCdb 2)
+
+-- What a parameter list asks for, or the refusal. A list of another length than that of its fields
+-- is an error.
+unfoldable pub reservation_change : State → (initiator : ℕ) → OutAction → (scope_type : ℕ)
+    → (list : List ℕ) → Result ReservationChange Refusal
+reservation_change state initiator action scope_type list =
+    if length list == list_length
+    then result_map_both (λ change. change) out_refusal
+    (outcome state.reservations initiator action scope_type (out_list list))
+    else Err (Check ParameterListLengthError)
+
+-- Registrations and reservation change, and conditions are established for other initiators.
+abbrev pub changing_reservations : State → (initiator : ℕ) → ReservationChange → Effect
+changing_reservations state initiator change =
+    let raised = raised_by state.reservations.registrations initiator change in
+    record (no_effect state) {
+      after =
+          record state {
+            reservations = state_after state.reservations (Ok change);
+            attentions = raised_for_each state.attentions raised;
+          };
+    }
+
+abbrev pub changing_if_sound : State → (initiator : ℕ) → Result ReservationChange Refusal
+    → Result Effect Refusal
+changing_if_sound state initiator (Ok change) = Ok (changing_reservations state initiator change)
+changing_if_sound state initiator (Err refusal) = Err refusal
