@@ -1,5 +1,5 @@
 // CDBs as SPC-4 and SBC-3 lay them out. Their faults and their ignored bits are worked rows.
-use sg_wire::{Class, Command, ShortExtent};
+use sg_wire::{Class, Command, InAction, OutAction, ShortExtent};
 use std::test::Fail;
 
 const READY: Command = Command::TestUnitReady;
@@ -83,7 +83,30 @@ const GET_LBA_STATUS: Command = Command::GetLbaStatus {
     allocation_length: 0x090A_0B0C,
 };
 
-const CDBS: [(&[u8], Command); 16] = [
+// PERSISTENT RESERVE IN, and PERSISTENT RESERVE OUT with a scope that no logical unit has.
+const READ_RESERVATION: Command = Command::PersistentReserveIn {
+    action: InAction::ReadReservation,
+    allocation_length: 0x0102,
+};
+
+const FULL_STATUS: Command = Command::PersistentReserveIn {
+    action: InAction::ReadFullStatus,
+    allocation_length: 0xFFFE,
+};
+
+const RESERVE: Command = Command::PersistentReserveOut {
+    action: OutAction::Reserve,
+    scope_type: 0x05,
+    list_length: 24,
+};
+
+const REGISTER_AND_IGNORE: Command = Command::PersistentReserveOut {
+    action: OutAction::RegisterAndIgnoreExistingKey,
+    scope_type: 0xF8,
+    list_length: 0x0102_0304,
+};
+
+const CDBS: [(&[u8], Command); 20] = [
     (&[0x00, 0, 0, 0, 0, 0], READY),
     (&[0x03, 0x00, 0, 0, 0x12, 0], FIXED),
     (&[0x03, 0x01, 0, 0, 0xFC, 0], DESCRIPTOR),
@@ -117,6 +140,13 @@ const CDBS: [(&[u8], Command); 16] = [
     (
         &[0x9E, 0x12, 1, 2, 3, 4, 5, 6, 7, 8, 9, 10, 11, 12, 0, 0],
         GET_LBA_STATUS,
+    ),
+    (&[0x5E, 0x01, 0, 0, 0, 0, 0, 1, 2, 0], READ_RESERVATION),
+    (&[0x5E, 0x03, 0, 0, 0, 0, 0, 0xFF, 0xFE, 0], FULL_STATUS),
+    (&[0x5F, 0x01, 0x05, 0, 0, 0, 0, 0, 24, 0], RESERVE),
+    (
+        &[0x5F, 0x06, 0xF8, 0, 0, 1, 2, 3, 4, 0],
+        REGISTER_AND_IGNORE,
     ),
 ];
 
@@ -155,7 +185,7 @@ fn six_bytes_name_1_to_256_blocks(rt: HostRuntime) -> Result<(), Fail> {
 }
 
 // The class, and whether a pending unit attention blocks the command.
-const COLUMNS: [(&[u8], Option<Class>, bool); 18] = [
+const COLUMNS: [(&[u8], Option<Class>, bool); 20] = [
     (&[0x03], Some(Class::Always), false),
     (&[0x00], Some(Class::Always), true),
     (&[0x08], Some(Class::Reads), true),
@@ -167,6 +197,8 @@ const COLUMNS: [(&[u8], Option<Class>, bool); 18] = [
     (&[0x35], Some(Class::Writes), true),
     (&[0x41], Some(Class::Writes), true),
     (&[0x42], Some(Class::Writes), true),
+    (&[0x5E, 0x00], Some(Class::Always), true),
+    (&[0x5F, 0x07], Some(Class::Always), true),
     (&[0x88], Some(Class::Reads), true),
     (&[0x8A], Some(Class::Writes), true),
     (&[0x93], Some(Class::Writes), true),
