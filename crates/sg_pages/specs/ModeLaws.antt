@@ -1,5 +1,5 @@
 -- Laws of the mode pages, in the subject's words.
-use Rattle.std.specs.Prelude.{◌≡◌, ℕ, List, [], Bool, Ok}
+use Rattle.std.specs.Prelude.{◌≡◌, ℕ, List, [], Bool, false, Ok}
 use Rattle.sg_pages.specs.declared.mode_pages.mode_page.ModePage.{ModePage}
 use Rattle.sg_pages.specs.ModePage.{ModeState, row_of, values_of}
 use Rattle.sg_pages.specs.ModeSelect.{differences, mode_select}
@@ -13,3 +13,10 @@ OnlyChangeableBitsChange =
     → differences 2 (values_of before.current page) (row_of page).changeable
     (values_of after.current page)
     ≡ []
+
+-- A MODE SELECT without SP leaves the saved values as they are.
+abbrev pub OnlySpSaves : Type 0
+OnlySpSaves =
+    (before after : ModeState) (list : List ℕ) (ten : Bool) (blocks : ℕ)
+    → mode_select before list ten false blocks ≡ Ok after
+    → after.saved ≡ before.saved

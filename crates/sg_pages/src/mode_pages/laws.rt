@@ -1,13 +1,18 @@
 // Laws of the mode pages: each is the contract of a function that changes nothing.
 ghost use Rattle.std.specs.Prelude.{◌≡◌, length};
 ghost use Rattle.sg_pages.specs.ModePage.{changeable_bits, default_values, page_length, values_of};
-ghost use Rattle.sg_pages.specs.ModeLaws.{OnlyChangeableBitsChange};
+ghost use Rattle.sg_pages.specs.ModeLaws.{OnlyChangeableBitsChange, OnlySpSaves};
 
 use super::{ModePage, ModePages};
 
 /// A MODE SELECT changes only bits that can be changed.
 pub fn only_changeable_bits_change()
     ensures { OnlyChangeableBitsChange }
+{}
+
+/// A MODE SELECT without SP leaves the saved values as they are.
+pub fn only_sp_saves()
+    ensures { OnlySpSaves }
 {}
 
 impl ModePages {
