@@ -4,7 +4,6 @@ mod exit_status;
 mod failures;
 mod fakes;
 mod limit;
-mod sense_text;
 
 use fakes::{Pieces, Sink};
 use sg_blocks::PlainMap;

@@ -1,7 +1,9 @@
 -- What a line of a script does.
-use Rattle.std.specs.Prelude.{ℕ, ◌*◌, List, [], ◌++◌, replicate, Option, codes}
+use Rattle.std.specs.Prelude.{ℕ, ◌*◌, List, [], ◌∷◌, ◌++◌, replicate, Option, codes}
 use Rattle.sg_wire.specs.Layout.{cdb_of}
 use Rattle.sg_wire.specs.SenseData.{read_sense}
+use Rattle.sg_decode.specs.HexText.{hex_lines}
+use Rattle.sg_decode.specs.SenseText.{sense_line}
 use Rattle.sg_wire.specs.declared.command.Command.TheVariants.{Write16}
 use Rattle.sg_target.specs.CapacityData.{block_length}
 use Rattle.sg_target.specs.State.{State}
@@ -9,11 +11,9 @@ use Rattle.sg_target.specs.Step.{Step, step}
 use Rattle.sg_target.specs.declared.reply.Status.{Status}
 use Rattle.sg_target.specs.declared.reply.Status.TheVariants.{Good, CheckCondition, ReservationConflict}
 use Rattle.sg_run.specs.ExitStatus.{exit_status}
-use Rattle.sg_run.specs.HexText.{hex_lines}
 use Rattle.sg_run.specs.LineFault.{fault_message}
 use Rattle.sg_run.specs.LineText.{line_header}
 use Rattle.sg_run.specs.Request.{LineRequest, nothing, faulty, send, fill, request_of}
-use Rattle.sg_run.specs.SenseText.{sense_lines}
 
 -- What is printed, the exit status, and the state of the disk afterwards.
 pub record Outcome : Type 0 where
@@ -29,6 +29,11 @@ abbrev pub status_name : Status → List ℕ
 status_name Good = codes "GOOD"
 status_name CheckCondition = codes "CHECK CONDITION"
 status_name ReservationConflict = codes "RESERVATION CONFLICT"
+
+-- The line of sense data, if there is some.
+abbrev pub sense_lines : (sense : List ℕ) → List ℕ
+sense_lines [] = []
+sense_lines (byte ∷ bytes) = sense_line (byte ∷ bytes)
 
 -- A command's status, its sense data where it has some, and its data-in.
 abbrev pub reply_text : (number : ℕ) → Status → (sense data_in : List ℕ) → List ℕ

@@ -4,21 +4,22 @@ ghost use Rattle.sg_wire.specs.Watched.{has_failed, inner_of};
 ghost use Rattle.sg_wire.specs.Sending.{Sends};
 ghost use Rattle.sg_wire.specs.Sense.{fields_of};
 ghost use Rattle.sg_run.specs.Limits.{longest_line};
-ghost use Rattle.sg_run.specs.Memory.{gathered_text, longest_transfer, reply_length};
+ghost use Rattle.sg_run.specs.Memory.{longest_transfer, reply_length};
 ghost use Rattle.sg_run.specs.Outcome.{by_request, outcome, reply_outcome, reply_text, status_name};
 ghost use Rattle.sg_run.specs.Printed.{HasOutcome, PrintsText};
 ghost use Rattle.sg_run.specs.Request.{fill};
 ghost use Rattle.sg_run.specs.RequestLines.{line_request};
 ghost use Rattle.sg_wire.specs.SenseData.{read_sense};
+ghost use Rattle.sg_decode.specs.HexText.{gathered_text};
 ghost use Rattle.sg_target.specs.Step.{step};
 
 use crate::buffers::{Buffers, LONGEST_TRANSFER};
 use crate::exit_status::exit_status;
 use crate::request::{FilledBlocks, Request, read_request};
 use crate::text::header::print_line_header;
-use crate::text::hex_lines::print_hex_lines;
 use crate::text::sense::print_sense;
 use sg_blocks::{BLOCK_LENGTH, Store};
+use sg_decode::put_hex_lines;
 use sg_target::{Call, Reply, Status, Target};
 use sg_wire::{Printer, Sense, Watched};
 use std::io;
@@ -152,7 +153,7 @@ fn print_reply<W: Write>(
 {
     print_line_header(number, status_name(reply.status), out);
     print_sense(reply.sense.as_slice(), sense, out);
-    print_hex_lines(data_in, lines, out);
+    put_hex_lines(data_in, lines, out);
 }
 
 fn status_name(status: Status) -> &'static [u8]

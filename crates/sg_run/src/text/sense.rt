@@ -1,119 +1,22 @@
-// The text of sense data.
+// The sense data of a reply.
 ghost use Rattle.std.specs.Prelude.{◌≡◌, option_map};
-ghost use Rattle.std.specs.Int.{to_be_bytes, w64};
-ghost use Rattle.hex.specs.Hex.{encode_lower};
 ghost use Rattle.sg_wire.specs.Sense.{fields_of};
 ghost use Rattle.sg_wire.specs.SenseData.{read_sense};
+ghost use Rattle.sg_run.specs.Outcome.{sense_lines};
 ghost use Rattle.sg_run.specs.Printed.{PrintsText};
-ghost use Rattle.sg_run.specs.SenseText.{code_text, fields_text, information_text, key_name};
-ghost use Rattle.sg_run.specs.SenseText.{key_text, pointer_label, pointer_text, sense_lines};
 
-use crate::text::header::print_number;
-use crate::text::hex_lines::print_hex_byte;
-use sg_wire::{Pointer, Printer, Sense};
+use sg_decode::put_read_sense;
+use sg_wire::{Printer, Sense};
 use std::io::Write;
 
 /// Prints the line of sense data, if there is some. `sense` is what was read of it, `None` where it could
 /// not be read.
-#[tactic(auto, using(crate::proofs::TextLemmas::prints), unfolding(crate::specs::SenseText::sense_lines))]
-pub fn print_sense<W: Write>(bytes: &[u8], sense: Option<Sense>, out: &mut Printer<'_, W>)
+#[tactic(auto, using(crate::proofs::TextLemmas::prints), unfolding(sg_decode::specs::SenseText::sense_line))]
+pub(crate) fn print_sense<W: Write>(bytes: &[u8], sense: Option<Sense>, out: &mut Printer<'_, W>)
     requires { option_map fields_of sense ≡ read_sense bytes.now }
     ensures { PrintsText W.contents out.old out.new (sense_lines bytes.now) }
 {
-    if bytes.is_empty() {
-        return;
-    }
-    match sense {
-        Some(sense) => print_fields(&sense, out),
-        None => out.put(b"  sense: unreadable\n"),
-    }
-}
-
-#[tactic(auto, using(crate::proofs::TextLemmas::prints), unfolding(crate::specs::SenseText::fields_text))]
-fn print_fields<W: Write>(sense: &Sense, out: &mut Printer<'_, W>)
-    ensures { PrintsText W.contents out.old out.new (fields_text (fields_of sense.now)) }
-{
-    out.put(b"  sense: ");
-    print_key(sense.key, out);
-    print_code(sense.asc, sense.ascq, out);
-    print_information(sense.information, out);
-    print_pointer(sense.pointer, out);
-    out.put(b"\n");
-}
-
-#[tactic(auto, using(crate::proofs::TextLemmas::prints))]
-fn print_key<W: Write>(key: u8, out: &mut Printer<'_, W>)
-    ensures { PrintsText W.contents out.old out.new (key_text key) }
-{
-    match key_name(key) {
-        Some(name) => out.put(name),
-        None => {
-            out.put(b"KEY ");
-            print_hex_byte(key, out);
-        }
-    }
-}
-
-// The name of a sense key.
-fn key_name(key: u8) -> Option<&'static [u8]>
-    ensures { option_map (λ b. b.now) result ≡ key_name key }
-{
-    match key {
-        Sense::NO_SENSE => Some(b"NO SENSE"),
-        Sense::ILLEGAL_REQUEST => Some(b"ILLEGAL REQUEST"),
-        Sense::UNIT_ATTENTION => Some(b"UNIT ATTENTION"),
-        Sense::DATA_PROTECT => Some(b"DATA PROTECT"),
-        Sense::ABORTED_COMMAND => Some(b"ABORTED COMMAND"),
-        _ => None,
-    }
-}
-
-#[tactic(auto, using(crate::proofs::TextLemmas::prints), unfolding(crate::specs::SenseText::code_text))]
-fn print_code<W: Write>(asc: u8, ascq: u8, out: &mut Printer<'_, W>)
-    ensures { PrintsText W.contents out.old out.new (code_text asc ascq) }
-{
-    out.put(b", ");
-    print_hex_byte(asc, out);
-    out.put(b"/");
-    print_hex_byte(ascq, out);
-}
-
-#[tactic(auto, using(crate::proofs::TextLemmas::prints), unfolding(crate::specs::SenseText::information_text))]
-fn print_information<W: Write>(information: Option<u64>, out: &mut Printer<'_, W>)
-    ensures { PrintsText W.contents out.old out.new (information_text information) }
-{
-    if let Some(information) = information {
-        out.put(b", information 0x");
-        out.put(&hex_digits(information));
-    }
-}
-
-// The sixteen digits of a number, in lower case.
-fn hex_digits(number: u64) -> [u8; 16]
-    ensures { result ≡ encode_lower (to_be_bytes w64 number) }
-{
-    let mut digits = [0; 16];
-    hex::encode_to_slice(number.to_be_bytes(), &mut digits).unwrap();
-    digits
-}
-
-#[tactic(auto, using(crate::proofs::TextLemmas::prints), unfolding(crate::specs::SenseText::pointer_text))]
-fn print_pointer<W: Write>(pointer: Option<Pointer>, out: &mut Printer<'_, W>)
-    ensures { PrintsText W.contents out.old out.new (pointer_text pointer) }
-{
-    if let Some(pointer) = pointer {
-        print_pointer_label(pointer.in_command, out);
-        print_number(u64::from(pointer.byte), out);
-    }
-}
-
-#[tactic(auto, using(crate::proofs::TextLemmas::prints))]
-fn print_pointer_label<W: Write>(in_command: bool, out: &mut Printer<'_, W>)
-    ensures { PrintsText W.contents out.old out.new (pointer_label in_command) }
-{
-    if in_command {
-        out.put(b", command byte ");
-    } else {
-        out.put(b", list byte ");
+    if !bytes.is_empty() {
+        put_read_sense(sense, out);
     }
 }

@@ -1,0 +1,5 @@
+use Rattle.sg_wire.proofs.PrintingLemmas.{Prints-on}
+use Rattle.sg_decode.proofs.entry.put_mode_page.Goals as goal
+
+pub returns : goal.returns
+returns g c = Prints-on (rw c.page_line.ensures.line at c.put_line.ensures) c.put_parameters.ensures

@@ -1,0 +1,13 @@
+use Rattle.sg_decode.specs.ModeParameters.{mode_parameters_6}
+use Rattle.sg_decode.proofs.DecoderLemmas.{header_ends, goes_on}
+use Rattle.sg_decode.proofs.mode_parameters.put_modes_6.Goals as goal
+
+pub returns-then-show_lines : goal.returns-then-show_lines
+returns-then-show_lines g c =
+    goes_on mode_parameters_6 _ _ _ _ _ c.show_lines.ensures.verdict c.if-show_lines.true
+    c.show_lines.ensures.text (rw (c.from-size.ensures, c.from.ensures) at c.show_body.ensures)
+
+pub returns-else-show_lines : goal.returns-else-show_lines
+returns-else-show_lines g c =
+    header_ends mode_parameters_6 _ _ _ _ c.show_lines.ensures.verdict c.if-show_lines.false
+    c.show_lines.ensures.text

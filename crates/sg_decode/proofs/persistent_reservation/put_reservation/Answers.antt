@@ -1,0 +1,13 @@
+use Rattle.sg_decode.specs.PersistentReservation.{reservation}
+use Rattle.sg_decode.proofs.DecoderLemmas.{header_ends, goes_on}
+use Rattle.sg_decode.proofs.persistent_reservation.put_reservation.Goals as goal
+
+pub returns-then-show_lines : goal.returns-then-show_lines
+returns-then-show_lines g c =
+    goes_on reservation _ _ _ _ _ c.show_lines.ensures.verdict c.if-show_lines.true
+    c.show_lines.ensures.text (rw c.number_of_four.ensures.value at c.show_reservation.ensures)
+
+pub returns-else-show_lines : goal.returns-else-show_lines
+returns-else-show_lines g c =
+    header_ends reservation _ _ _ _ c.show_lines.ensures.verdict c.if-show_lines.false
+    c.show_lines.ensures.text

@@ -1,0 +1,16 @@
+-- ---- What public contracts cite: the one rule of all texts,
+pub mod Items
+pub mod Lines
+pub mod Values
+-- the table of each answer,
+pub mod Inquiry
+pub mod VitalProductData
+pub mod ModeParameters
+pub mod LbaStatus
+pub mod PersistentReservation
+pub mod Entries
+-- and the texts that are no table.
+pub mod SenseText
+pub mod HexText
+-- ---- What only private contracts cite.
+pub mod HexPieces

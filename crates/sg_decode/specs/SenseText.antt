@@ -1,0 +1,50 @@
+-- The text of sense data.
+use Rattle.std.specs.Prelude.{ℕ, List, [], ◌++◌, codes, decimal, Option, Some, None, Bool}
+use Rattle.std.specs.Prelude.{unwrap_or, ◌==◌, if◌then◌else◌}
+use Rattle.std.specs.Int.{to_be_bytes, w64}
+use Rattle.hex.specs.Hex.{encode_lower}
+use Rattle.sg_wire.specs.SenseData.{SenseFields, read_sense}
+use Rattle.sg_wire.specs.declared.sense.Pointer.{Pointer}
+use Rattle.sg_decode.specs.HexText.{upper_hex_byte}
+
+-- The name of a sense key (SPC-4, sense key descriptions).
+abbrev pub key_name : ℕ → Option (List ℕ)
+key_name key =
+    if key == 0 then Some (codes "NO SENSE")
+    else (if key == 5 then Some (codes "ILLEGAL REQUEST")
+    else (if key == 6 then Some (codes "UNIT ATTENTION")
+    else (if key == 7 then Some (codes "DATA PROTECT")
+    else (if key == 11 then Some (codes "ABORTED COMMAND")
+    else None))))
+
+abbrev pub key_text : ℕ → List ℕ
+key_text key = unwrap_or (key_name key) (codes "KEY " ++ upper_hex_byte key)
+
+-- An additional sense code and its qualifier.
+unfoldable pub code_text : (asc ascq : ℕ) → List ℕ
+code_text asc ascq = codes ", " ++ (upper_hex_byte asc ++ (codes "/" ++ upper_hex_byte ascq))
+
+unfoldable pub information_text : Option ℕ → List ℕ
+information_text None = []
+information_text (Some n) = codes ", information 0x" ++ encode_lower (to_be_bytes w64 n)
+
+abbrev pub pointer_label : (in_command : Bool) → List ℕ
+pointer_label in_command = if in_command then codes ", command byte " else codes ", list byte "
+
+unfoldable pub pointer_text : Option Pointer → List ℕ
+pointer_text None = []
+pointer_text (Some p) = pointer_label p.in_command ++ decimal p.byte
+
+-- One line: the sense key, the additional sense code and its qualifier, and what else there is.
+unfoldable pub fields_text : SenseFields → List ℕ
+fields_text s =
+    codes "  sense: " ++ (key_text s.key ++ (code_text s.asc s.ascq
+    ++ (information_text s.information ++ (pointer_text s.pointer ++ codes "\n"))))
+
+abbrev pub sense_text : Option SenseFields → List ℕ
+sense_text None = codes "  sense: unreadable\n"
+sense_text (Some s) = fields_text s
+
+-- The line of sense data. No byte is sense data that can't be read.
+unfoldable pub sense_line : List ℕ → List ℕ
+sense_line bytes = sense_text (read_sense bytes)

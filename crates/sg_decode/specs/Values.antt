@@ -1,0 +1,109 @@
+-- How the value of a field is shown.
+use Rattle.std.specs.Prelude.{ℕ, ◌+◌, ◌-◌, ◌/◌, ◌%◌, ◌^◌, List, [], ◌∷◌, ◌++◌, map, drop, codes}
+use Rattle.std.specs.Prelude.{decimal, slice_index, slice_range, Option, Some, None, unwrap_or}
+use Rattle.std.specs.Prelude.{Bool, ◌&&◌, ◌==◌, nat_le, nat_lt, if◌then◌else◌}
+use Rattle.std.specs.List.{flat_map}
+use Rattle.byteorder.specs.Endian.{big_number}
+use Rattle.hex.specs.Hex.{encode_lower}
+use Rattle.sg_decode.specs.HexText.{upper_hex_byte}
+use Rattle.sg_decode.specs.declared.value.Value.{Value}
+use Rattle.sg_decode.specs.declared.value.Value.TheVariants.{Bits, Code, Number, Address}
+use Rattle.sg_decode.specs.declared.value.Value.TheVariants.{Text, TextFrom, HexFrom}
+use Rattle.sg_decode.specs.declared.value.Value.TheVariants.{ProvisioningStatus, ReservationTypes}
+
+-- The bits of a byte from a high one down to a low one, as a number.
+abbrev pub bits : (byte high low : ℕ) → ℕ
+bits byte high low = (byte / 2 ^ low) % 2 ^ (high + 1 - low)
+
+abbrev pub has_flag : (byte bit : ℕ) → Bool
+has_flag byte bit = bits byte bit bit == 1
+
+-- A byte of a text. One that is no printable ASCII is shown as a dot.
+abbrev pub printable : ℕ → ℕ
+printable byte = if nat_le 0x20 byte && nat_le byte 0x7E then byte else 0x2E
+
+abbrev pub bracketed : List ℕ → List ℕ
+bracketed bytes = codes "[" ++ (map printable bytes ++ codes "]")
+
+-- PROVISIONING STATUS of an LBA status descriptor (SBC-3, 5.4.2.2).
+abbrev pub provisioning_name : ℕ → Option (List ℕ)
+provisioning_name status =
+    if status == 0 then Some (codes "mapped")
+    else (if status == 1 then Some (codes "deallocated")
+    else (if status == 2 then Some (codes "anchored")
+    else None))
+
+abbrev pub provisioning_text : ℕ → List ℕ
+provisioning_text status =
+    unwrap_or (provisioning_name status) (codes "reserved " ++ decimal status)
+
+-- A bit of the PERSISTENT RESERVATION TYPE MASK of REPORT CAPABILITIES (SPC-4), and the name of the
+-- type of persistent reservation that it stands for.
+pub record ReservationType : Type 0 where
+  pub byte : ℕ
+  pub bit : ℕ
+  pub name : List ℕ
+
+abbrev reservation_type : (byte bit : ℕ) → List ℕ → ReservationType
+reservation_type byte bit name = record { byte = byte; bit = bit; name = name }
+
+-- In ascending order of the bits of each byte.
+abbrev pub reservation_types : List ReservationType
+reservation_types =
+    reservation_type 0 1 (codes " WE")
+    ∷ reservation_type 0 3 (codes " EA")
+    ∷ reservation_type 0 5 (codes " WE-RO")
+    ∷ reservation_type 0 6 (codes " EA-RO")
+    ∷ reservation_type 0 7 (codes " WE-AR")
+    ∷ reservation_type 1 0 (codes " EA-AR")
+    ∷ []
+
+abbrev pub type_name : (mask : List ℕ) → ReservationType → List ℕ
+type_name mask t = if has_flag (slice_index mask t.byte) t.bit then t.name else []
+
+-- The names of the types whose bits are set in a mask of two bytes.
+unfoldable pub type_names : (mask : List ℕ) → List ℕ
+type_names mask = flat_map (type_name mask) reservation_types
+
+-- The text of a value of some bytes.
+unfoldable pub value_text : Value → List ℕ → List ℕ
+value_text (Bits byte high low) bytes = decimal (bits (slice_index bytes byte) high low)
+value_text (Code byte high low) bytes = upper_hex_byte (bits (slice_index bytes byte) high low)
+value_text (Number first count) bytes = decimal (big_number count (drop first bytes))
+value_text (Address first) bytes =
+    codes "0x" ++ encode_lower (slice_range bytes first (first + 8))
+value_text (Text first count) bytes = bracketed (slice_range bytes first (first + count))
+value_text (TextFrom first) bytes = bracketed (drop first bytes)
+value_text (HexFrom first) bytes = encode_lower (drop first bytes)
+value_text (ProvisioningStatus byte) bytes = provisioning_text (bits (slice_index bytes byte) 3 0)
+value_text (ReservationTypes first) bytes = type_names (drop first bytes)
+
+-- The index after the last byte that a value needs.
+abbrev pub value_end : Value → ℕ
+value_end (Bits byte high low) = byte + 1
+value_end (Code byte high low) = byte + 1
+value_end (Number first count) = first + count
+value_end (Address first) = first + 8
+value_end (Text first count) = first + count
+value_end (TextFrom first) = first
+value_end (HexFrom first) = first
+value_end (ProvisioningStatus byte) = byte + 1
+value_end (ReservationTypes first) = first + 2
+
+-- Bits are bits of a byte, a number has one to eight bytes, and each index is less than 256.
+abbrev is_index : ℕ → Bool
+is_index n = nat_lt n 256
+
+abbrev are_bits : (high low : ℕ) → Bool
+are_bits high low = nat_lt high 8 && nat_le low high
+
+abbrev pub is_sound : Value → Bool
+is_sound (Bits byte high low) = is_index byte && are_bits high low
+is_sound (Code byte high low) = is_index byte && are_bits high low
+is_sound (Number first count) = is_index first && (nat_le 1 count && nat_le count 8)
+is_sound (Address first) = is_index first
+is_sound (Text first count) = is_index first && is_index count
+is_sound (TextFrom first) = is_index first
+is_sound (HexFrom first) = is_index first
+is_sound (ProvisioningStatus byte) = is_index byte
+is_sound (ReservationTypes first) = is_index first

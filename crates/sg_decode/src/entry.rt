@@ -1,0 +1,238 @@
+// The entries of answers, each kind by its own header.
+ghost use Rattle.std.specs.Prelude.{◌≡◌, ◌≤◌, ◌<◌, ◌^◌, ◌∷◌, [], length, true, option_map};
+ghost use Rattle.std.specs.Prelude.{option_to_list, IfSome};
+ghost use Rattle.std.specs.List.{flat_map};
+ghost use Rattle.sg_wire.specs.Printer.{PrintsText};
+ghost use Rattle.sg_decode.specs.Items.{entry_text, size};
+ghost use Rattle.sg_decode.specs.Entries.{designator_line, entry_of, has_subpage, page_line};
+ghost use Rattle.sg_decode.specs.Entries.{parameter_lines, shown_parameters};
+ghost use Rattle.sg_decode.specs.Lines.{is_sound_line, line_end, line_of, line_text};
+
+use crate::line::{line_end, put_line};
+use crate::value::{Field, Value, bits, number_of_two};
+use sg_wire::Printer;
+use std::io::Write;
+
+/// A kind of entries that follow one another in an answer.
+#[derive(Clone, Copy)]
+pub(crate) enum EntryKind {
+    /// Page codes of the page Supported VPD Pages, a byte each.
+    SupportedPages,
+    /// Designation descriptors: four bytes and the designator (SPC-4, 7.8.6.1).
+    Designators,
+    /// Mode pages: two bytes, or four with a subpage code, and the parameters (SPC-4, 7.5).
+    ModePages,
+    /// LBA status descriptors of 16 bytes (SBC-3, 5.4.2.2).
+    LbaStatusDescriptors,
+    /// Reservation keys of eight bytes.
+    ReservationKeys,
+}
+
+const SUPPORTED_PAGE: &[Field] = &[Field(b"  supported: ", Value::Code(0, 7, 0))];
+
+const TEXT_DESIGNATOR: &[Field] = &[
+    Field(b"  designator: code set ", Value::Bits(0, 3, 0)),
+    Field(b", association ", Value::Bits(1, 5, 4)),
+    Field(b", type ", Value::Bits(1, 3, 0)),
+    Field(b", length ", Value::Number(3, 1)),
+    Field(b"\n    ", Value::TextFrom(4)),
+];
+
+const HEX_DESIGNATOR: &[Field] = &[
+    Field(b"  designator: code set ", Value::Bits(0, 3, 0)),
+    Field(b", association ", Value::Bits(1, 5, 4)),
+    Field(b", type ", Value::Bits(1, 3, 0)),
+    Field(b", length ", Value::Number(3, 1)),
+    Field(b"\n    hex: ", Value::HexFrom(4)),
+];
+
+const MODE_PAGE: &[Field] = &[
+    Field(b"  page ", Value::Code(0, 5, 0)),
+    Field(b", PS ", Value::Bits(0, 7, 7)),
+    Field(b": ", Value::HexFrom(2)),
+];
+
+const MODE_SUBPAGE: &[Field] = &[
+    Field(b"  page ", Value::Code(0, 5, 0)),
+    Field(b"/", Value::Code(1, 7, 0)),
+    Field(b", PS ", Value::Bits(0, 7, 7)),
+    Field(b": ", Value::HexFrom(4)),
+];
+
+const ERROR_RECOVERY: &[Field] = &[
+    Field(b"    AWRE: ", Value::Bits(2, 7, 7)),
+    Field(b", ARRE: ", Value::Bits(2, 6, 6)),
+    Field(b", read retries: ", Value::Number(3, 1)),
+    Field(b", write retries: ", Value::Number(8, 1)),
+];
+
+const CACHING: &[Field] = &[
+    Field(b"    WCE: ", Value::Bits(2, 2, 2)),
+    Field(b", RCD: ", Value::Bits(2, 0, 0)),
+];
+
+const CONTROL: &[Field] = &[
+    Field(b"    D_SENSE: ", Value::Bits(2, 2, 2)),
+    Field(b", SWP: ", Value::Bits(4, 3, 3)),
+];
+
+const INFORMATIONAL_EXCEPTIONS: &[Field] = &[Field(b"    DEXCPT: ", Value::Bits(2, 3, 3))];
+
+const LBA_STATUS: &[Field] = &[
+    Field(b"  ", Value::Address(0)),
+    Field(b" ", Value::Number(8, 4)),
+    Field(b" ", Value::ProvisioningStatus(12)),
+];
+
+const RESERVATION_KEY: &[Field] = &[Field(b"  key: ", Value::Address(0))];
+
+impl EntryKind {
+    /// The size of the first entry of some bytes. One whose header is not all present has the size
+    /// of its header.
+    pub(crate) fn size(self, bytes: &[u8]) -> usize
+        ensures value { result ≡ size (entry_of self) bytes.now }
+        ensures not_zero { 1 ≤ result }
+        ensures bound { result < 2 ^ 33 }
+    {
+        let header = self.header(bytes);
+        if header <= bytes.len() {
+            header + self.following(bytes)
+        } else {
+            header
+        }
+    }
+
+    // The length of its header.
+    fn header(self, bytes: &[u8]) -> usize
+        ensures value { result ≡ (entry_of self).header bytes.now }
+        ensures not_zero { 1 ≤ result }
+        ensures at_most_24 { result ≤ 24 }
+    {
+        match self {
+            EntryKind::SupportedPages => 1,
+            EntryKind::Designators => 4,
+            EntryKind::ModePages => if has_subpage(bytes) { 4 } else { 2 },
+            EntryKind::LbaStatusDescriptors => 16,
+            EntryKind::ReservationKeys => 8,
+        }
+    }
+
+    // The number of bytes behind its header.
+    fn following(self, bytes: &[u8]) -> usize
+        requires { (entry_of self).header bytes.now ≤ length bytes.now }
+        ensures value { result ≡ (entry_of self).following bytes.now }
+        ensures bound { result < 2 ^ 32 }
+    {
+        match self {
+            EntryKind::SupportedPages
+            | EntryKind::LbaStatusDescriptors
+            | EntryKind::ReservationKeys => 0,
+            EntryKind::Designators => usize::from(bytes[3]),
+            EntryKind::ModePages => parameter_length(bytes),
+        }
+    }
+
+    /// Prints an entry, of which at least the header is present.
+    pub(crate) fn put_text<W: Write>(self, bytes: &[u8], out: &mut Printer<'_, W>)
+        requires { (entry_of self).header bytes.now ≤ length bytes.now }
+        ensures { PrintsText W.contents out.old out.new (entry_text (entry_of self) bytes.now) }
+    {
+        match self {
+            EntryKind::SupportedPages => put_line(SUPPORTED_PAGE, bytes, out),
+            EntryKind::Designators => put_line(designator_line(bytes), bytes, out),
+            EntryKind::ModePages => put_mode_page(bytes, out),
+            EntryKind::LbaStatusDescriptors => put_line(LBA_STATUS, bytes, out),
+            EntryKind::ReservationKeys => put_line(RESERVATION_KEY, bytes, out),
+        }
+    }
+}
+
+// The line of a designation descriptor.
+fn designator_line(own: &[u8]) -> &'static [Field]
+    requires { 4 ≤ length own.now }
+    ensures line { line_of result.now ≡ designator_line own.now }
+    ensures sound { is_sound_line (line_of result.now) ≡ true }
+    ensures end { line_end (line_of result.now) ≡ 4 }
+{
+    if bits(own[0], 3, 0) == 2 {
+        TEXT_DESIGNATOR
+    } else {
+        HEX_DESIGNATOR
+    }
+}
+
+// SPF: whether a mode page has a subpage code, and two bytes of length.
+fn has_subpage(page: &[u8]) -> bool
+    ensures { result ≡ has_subpage page.now }
+{
+    match page.first() {
+        Some(byte) => bits(*byte, 6, 6) == 1,
+        None => false,
+    }
+}
+
+// PAGE LENGTH of a mode page.
+fn parameter_length(page: &[u8]) -> usize
+    requires { (entry_of EntryKind.ModePages).header page.now ≤ length page.now }
+    ensures value { result ≡ (entry_of EntryKind.ModePages).following page.now }
+    ensures bound { result < 2 ^ 16 }
+{
+    if has_subpage(page) {
+        number_of_two(2, page)
+    } else {
+        usize::from(page[1])
+    }
+}
+
+fn put_mode_page<W: Write>(page: &[u8], out: &mut Printer<'_, W>)
+    requires { (entry_of EntryKind.ModePages).header page.now ≤ length page.now }
+    ensures { PrintsText W.contents out.old out.new
+        (entry_text (entry_of EntryKind.ModePages) page.now) }
+{
+    put_line(page_line(page), page, out);
+    put_parameters(page, out);
+}
+
+fn page_line(page: &[u8]) -> &'static [Field]
+    ensures line { line_of result.now ≡ page_line page.now }
+    ensures sound { is_sound_line (line_of result.now) ≡ true }
+    ensures end { line_end (line_of result.now) ≡ (entry_of EntryKind.ModePages).header page.now }
+{
+    if has_subpage(page) {
+        MODE_SUBPAGE
+    } else {
+        MODE_PAGE
+    }
+}
+
+// Prints some parameters of a page without subpage code that has them all.
+fn put_parameters<W: Write>(page: &[u8], out: &mut Printer<'_, W>)
+    requires { 1 ≤ length page.now }
+    ensures { PrintsText W.contents out.old out.new
+        (flat_map (λ line. line_text line page.now) (shown_parameters page.now)) }
+{
+    if has_subpage(page) {
+        return;
+    }
+    let Some(line) = parameter_line(bits(page[0], 5, 0)) else {
+        return;
+    };
+    if line_end(line) <= page.len() {
+        put_line(line, page, out);
+    }
+}
+
+// The line of some parameters of a page, by its page code.
+fn parameter_line(code: u8) -> Option<&'static [Field]>
+    ensures line { option_to_list (option_map (λ fields. line_of fields.now) result)
+        ≡ parameter_lines code }
+    ensures sound { IfSome result (λ fields. is_sound_line (line_of fields.now) ≡ true) }
+{
+    match code {
+        0x01 => Some(ERROR_RECOVERY),
+        0x08 => Some(CACHING),
+        0x0a => Some(CONTROL),
+        0x1c => Some(INFORMATIONAL_EXCEPTIONS),
+        _ => None,
+    }
+}

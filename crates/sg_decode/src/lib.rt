@@ -1,0 +1,33 @@
+//! The texts of answers: what the bytes of data-in and of sense data contain, field by field.
+//!
+//! Each text is defined for every list of bytes, also for an answer that is cut, that reports
+//! another length than it has, or that another target returned. `put_..` prints a text into a
+//! [`sg_wire::Printer`], behind what was printed before; `print_..` writes it to a writer.
+#![tactic(auto)]
+
+mod entry;
+mod hex_digits;
+mod hex_lines;
+mod inquiry;
+mod items;
+mod lba_status;
+mod line;
+mod mode_parameters;
+mod number_text;
+mod persistent_reservation;
+mod print;
+mod sense;
+mod value;
+mod vital_product_data;
+
+pub use hex_lines::{GATHERED_TEXT, put_hex, put_hex_lines};
+pub use inquiry::put_inquiry;
+pub use lba_status::put_lba_status;
+pub use mode_parameters::put_modes;
+pub use persistent_reservation::{put_capabilities, put_keys, put_reservation};
+pub use print::{
+    print_capabilities, print_hex, print_inquiry, print_keys, print_lba_status, print_modes,
+    print_reservation, print_sense, print_vpd,
+};
+pub use sense::{put_read_sense, put_sense};
+pub use vital_product_data::put_vpd;

@@ -1,8 +1,0 @@
-use Rattle.sg_run.proofs.LaneLemmas.{high_ok, high_digits-are}
-use Rattle.sg_run.proofs.text.hex_digits.high_digits.Goals as goal
-
-pub swizzle : goal.swizzle
-swizzle c = high_ok c.args.bytes c.fits-bytes
-
-pub returns : goal.returns
-returns c = high_digits-are c.args.bytes c.fits-bytes

@@ -1,8 +1,0 @@
-use Rattle.sg_wire.proofs.PrintingLemmas.{Prints-on}
-use Rattle.sg_run.specs.SenseText.{code_text}
-use Rattle.sg_run.proofs.text.sense.print_code.Goals as goal
-
-pub returns : goal.returns
-unfolding code_text
-returns g c =
-    Prints-on c.put.ensures (Prints-on c.print_hex_byte.ensures (Prints-on c.put-2.ensures c.print_hex_byte-2.ensures))
