@@ -1,0 +1,7 @@
+pub mod ActionLemmas
+pub mod NumberLemmas
+pub mod NumberListLemmas
+pub mod OptionLemmas
+pub mod ParameterLemmas
+pub mod RequestLemmas
+pub mod UnmapLemmas

@@ -1,0 +1,56 @@
+-- The exit status of a command's reply (sg3_utils(8), EXIT STATUS).
+use Rattle.std.specs.Prelude.{ℕ, List, [], ◌∷◌, Option, Some, None, Bool, true, ◌==◌, ◌&&◌}
+use Rattle.std.specs.Prelude.{if◌then◌else◌}
+use Rattle.sg_wire.specs.SenseData.{SenseFields}
+
+-- Sense data with a sense key, and with an additional sense code and its qualifier where these
+-- matter, and its exit status.
+pub record SenseStatus : Type 0 where
+  pub key : ℕ
+  pub codes : Option (ℕ × ℕ)
+  pub exit_status : ℕ
+
+abbrev with_codes : (key asc ascq exit_status : ℕ) → SenseStatus
+with_codes key asc ascq exit_status =
+    record { key = key; codes = Some (asc, ascq); exit_status = exit_status }
+
+abbrev with_key : (key exit_status : ℕ) → SenseStatus
+with_key key exit_status = record { key = key; codes = None; exit_status = exit_status }
+
+-- The first row that applies decides.
+abbrev pub sense_statuses : List SenseStatus
+sense_statuses =
+    with_codes 0x5 0x20 0x00 9  -- ILLEGAL REQUEST, INVALID COMMAND OPERATION CODE
+    ∷ with_codes 0x5 0x21 0x00 22  -- ILLEGAL REQUEST, LOGICAL BLOCK ADDRESS OUT OF RANGE
+    ∷ with_key 0x5 5  -- ILLEGAL REQUEST
+    ∷ with_key 0x6 6  -- UNIT ATTENTION
+    ∷ with_key 0x7 7  -- DATA PROTECT
+    ∷ with_key 0xB 11  -- ABORTED COMMAND
+    ∷ []
+
+-- Every other failure, unreadable sense data too.
+abbrev pub other_failure : ℕ
+other_failure = 99
+
+abbrev pub has_codes : Option (ℕ × ℕ) → SenseFields → Bool
+has_codes None sense = true
+has_codes (Some codes) sense = sense.asc == codes.0 && sense.ascq == codes.1
+
+abbrev pub applies : SenseStatus → SenseFields → Bool
+applies row sense = sense.key == row.key && has_codes row.codes sense
+
+abbrev pub status_by : List SenseStatus → SenseFields → ℕ
+status_by [] sense = other_failure
+status_by (row ∷ rows) sense = if applies row sense then row.exit_status else status_by rows sense
+
+abbrev pub sense_status : Option SenseFields → ℕ
+sense_status None = other_failure
+sense_status (Some sense) = status_by sense_statuses sense
+
+-- GOOD is 00h, CHECK CONDITION 02h and RESERVATION CONFLICT 18h (SAM-5, status codes).
+abbrev pub exit_status : (status : ℕ) → Option SenseFields → ℕ
+exit_status status sense =
+    if status == 0x00 then 0
+    else (if status == 0x02 then sense_status sense
+    else (if status == 0x18 then 24
+    else other_failure))

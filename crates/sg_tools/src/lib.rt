@@ -1,0 +1,31 @@
+//! The tools modelled on sg3_utils: what the words of their command lines ask for, the command and
+//! the parameter list that each sends, how its answer is shown, and its exit status.
+#![tactic(auto)]
+
+mod extents;
+mod given_options;
+mod inquiry;
+mod lba_status;
+mod mode_sense;
+mod number;
+mod number_list;
+mod option_text;
+mod options;
+mod parameters;
+mod reply_status;
+mod reserve;
+mod service_action;
+mod show;
+mod tool;
+mod tool_fault;
+mod tool_name;
+mod unmap;
+
+pub use extents::{Extent, Extents};
+pub use number::{read_number, read_number_up_to};
+pub use parameters::{MAX_DATA_OUT, Parameters, ReserveOutParameters};
+pub use reply_status::{exit_status, status_of};
+pub use show::Show;
+pub use tool::{Plan, Tool};
+pub use tool_fault::ToolFault;
+pub use tool_name::ToolName;

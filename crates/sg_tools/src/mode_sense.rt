@@ -1,0 +1,121 @@
+// sg_modes.
+ghost use Rattle.std.specs.Prelude.{◌≡◌, ◌≤◌, option_map, IfSome};
+ghost use Rattle.sg_tools.specs.Number.{number_up_to};
+ghost use Rattle.sg_tools.specs.OptionTexts.{both, mode_page, value_or};
+ghost use Rattle.sg_tools.specs.Requests.{mode_sense, modes_show, sg_modes};
+
+use crate::given_options::GivenOptions;
+use crate::number::read_number_up_to;
+use crate::number_list::{after, first_comma};
+use crate::option_text::number_or;
+use crate::show::Show;
+use crate::tool::Tool;
+use crate::tool_fault::ToolFault;
+use sg_wire::{Command, PageCode, PageControlField};
+
+// The page that stands for all pages (SPC-4).
+const ALL_PAGES: u64 = 0x3f;
+
+// What the options of sg_modes ask for.
+pub(crate) fn sg_modes(options: &GivenOptions) -> Result<Tool, ToolFault>
+    ensures { result ≡ sg_modes options.now }
+{
+    let page = options.text("page");
+    let six = options.is_set("six");
+    let llbaa = options.is_set("llbaa");
+    if (options.is_set("all") && page.is_some()) || (six && llbaa) {
+        return Err(ToolFault::Exclusive);
+    }
+    let page_control = page_control(options.text("control"));
+    let page = mode_page_or_all(page);
+    let (Some(page_control), Some(page)) = (page_control, page) else {
+        return Err(ToolFault::Number);
+    };
+    let command = mode_sense(six, llbaa, options.is_set("dbd"), page_control, page);
+    Ok(Tool::without_parameters(command, modes_show(six, options.is_set("hex"))))
+}
+
+fn mode_sense(
+    six: bool,
+    llbaa: bool,
+    dbd: bool,
+    page_control: PageControlField,
+    page: (PageCode, u8),
+) -> Command
+    ensures { result ≡ mode_sense six llbaa dbd page_control page }
+{
+    let (page_code, subpage_code) = page;
+    if six {
+        Command::ModeSense6 {
+            dbd,
+            page_control,
+            page_code,
+            subpage_code,
+            allocation_length: 252,
+        }
+    } else {
+        Command::ModeSense10 {
+            llbaa,
+            dbd,
+            page_control,
+            page_code,
+            subpage_code,
+            allocation_length: 1024,
+        }
+    }
+}
+
+fn modes_show(six: bool, hex: bool) -> Show
+    ensures { result ≡ modes_show six hex }
+{
+    match (hex, six) {
+        (true, _) => Show::Hex,
+        (false, true) => Show::ModeParameters6,
+        (false, false) => Show::ModeParameters10,
+    }
+}
+
+// The page control of a text, that of current values where there is no text.
+fn page_control(text: Option<&str>) -> Option<PageControlField>
+    ensures { result ≡ value_or 0 (number_up_to 3) (option_map (λ t. t.now) text.entry) }
+{
+    PageControlField::new(number_or(0, 3, text)? as u8)
+}
+
+// The page and the subpage of a text, all pages where there is no text.
+fn mode_page_or_all(text: Option<&str>) -> Option<(PageCode, u8)>
+    ensures { result ≡ value_or (0x3F, 0x00) mode_page (option_map (λ t. t.now) text.entry) }
+{
+    match text {
+        None => both(Some(ALL_PAGES), Some(0x00)),
+        Some(text) => mode_page(text.as_bytes()),
+    }
+}
+
+// A page code, or a page code, a comma and a subpage code.
+fn mode_page(text: &[u8]) -> Option<(PageCode, u8)>
+    ensures { result ≡ mode_page text.now }
+{
+    let Some(end) = first_comma(text) else {
+        return both(read_number_up_to(0x3f, text), Some(0x00));
+    };
+    let subpage = after(end, text);
+    if first_comma(subpage).is_some() {
+        return None;
+    }
+    both(
+        read_number_up_to(0x3f, &text[..end]),
+        read_number_up_to(0xff, subpage),
+    )
+}
+
+fn both(page: Option<u64>, subpage: Option<u64>) -> Option<(PageCode, u8)>
+    requires page { IfSome page (λ n. n ≤ 0x3F) }
+    requires subpage { IfSome subpage (λ n. n ≤ 0xFF) }
+    ensures { result ≡ both page subpage }
+{
+    let (Some(page), Some(subpage)) = (page, subpage) else {
+        return None;
+    };
+    Some((PageCode::new(page as u8)?, subpage as u8))
+}

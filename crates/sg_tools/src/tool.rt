@@ -1,0 +1,105 @@
+// What a tool sends.
+ghost use Rattle.std.specs.Prelude.{◌≡◌, ◌≤◌, Ok, length, map, take};
+ghost use Rattle.sg_wire.specs.Layout.{cdb_of};
+ghost use Rattle.sg_tools.specs.GivenOptions.{IsUnlessOutOfMemory};
+ghost use Rattle.sg_tools.specs.ParameterLists.{max_data_out, parameter_list};
+ghost use Rattle.sg_tools.specs.Requests.{asks, request, request_of};
+
+use crate::given_options::GivenOptions;
+use crate::inquiry::{sg_inq, sg_vpd};
+use crate::lba_status::sg_get_lba_status;
+use crate::mode_sense::sg_modes;
+use crate::parameters::Parameters;
+use crate::reserve::sg_persist;
+use crate::show::Show;
+use crate::tool_fault::ToolFault;
+use crate::tool_name::ToolName;
+use crate::unmap::sg_unmap;
+use sg_wire::{CdbBytes, Command};
+use std::alloc::Global;
+
+/// What the words of a tool ask for: a command, its parameter list, and how the answer is shown.
+#[derive(Drop)]
+pub struct Tool {
+    /// The command.
+    pub command: Command,
+    /// Its parameter list.
+    pub parameters: Parameters,
+    /// How the answer is shown, where the command ends with GOOD.
+    pub show: Show,
+}
+
+/// What a tool sends, as bytes.
+#[derive(Drop)]
+pub struct Plan {
+    /// The CDB.
+    pub cdb: CdbBytes,
+    /// The length of the data-out, in bytes.
+    pub data_out: usize,
+    /// How the answer is shown, where the command ends with GOOD.
+    pub show: Show,
+}
+
+impl Tool {
+    /// What words ask a tool for. The first word is the name of the tool, the others are its
+    /// options.
+    ///
+    /// # Errors
+    /// The first of these that applies:
+    /// - `Usage` where clap does not accept the words, or a list of sg_unmap is not given,
+    /// - `Exclusive` where two options exclude one another,
+    /// - `Number` where the text of an option, needed or not, has no value or one out of range,
+    /// - `Usage` where the lists of sg_unmap have unequal lengths or more than 64 entries, or `--out`
+    ///   of sg_persist is given without a service action.
+    ///
+    /// `OutOfMemory` is returned in place of any of these, and of a success, where memory is refused.
+    pub fn parse<'a>(alloc: Global, tool: ToolName, words: &'a [&'a str]) -> Result<Tool, ToolFault>
+        ensures { IsUnlessOutOfMemory (request tool (map (λ word. word.now) words.entry.now)) result }
+    {
+        match GivenOptions::of_words(alloc, tool, words) {
+            Ok(options) => request_of(tool, &options),
+            Err(fault) => Err(fault),
+        }
+    }
+
+    /// The CDB and the data-out that the tool sends, which is written to the first bytes of
+    /// `data_out`. The other bytes are not changed.
+    pub fn plan(&self, data_out: &mut [u8]) -> Plan
+        requires { max_data_out ≤ length data_out.old }
+        ensures cdb { result.cdb ≡ cdb_of self.now.command }
+        ensures data_out { take result.data_out data_out.new ≡ parameter_list self.now.parameters }
+        ensures length { result.data_out ≤ max_data_out }
+        ensures show { result.show ≡ self.now.show }
+    {
+        Plan {
+            cdb: self.command.write(),
+            data_out: self.parameters.write(data_out),
+            show: self.show,
+        }
+    }
+
+    // A tool without data-out.
+    pub(crate) fn without_parameters(command: Command, show: Show) -> Tool
+        ensures { Ok result ≡ asks command show }
+    {
+        Tool {
+            command,
+            parameters: Parameters::Nothing,
+            show,
+        }
+    }
+}
+
+// What the options of a tool ask for.
+fn request_of(tool: ToolName, options: &GivenOptions) -> Result<Tool, ToolFault>
+    ensures { result ≡ request_of tool options.now }
+{
+    match tool {
+        ToolName::SgInq => sg_inq(options),
+        ToolName::SgVpd => sg_vpd(options),
+        ToolName::SgModes => sg_modes(options),
+        ToolName::SgUnmap => sg_unmap(options),
+        ToolName::SgGetLbaStatus => sg_get_lba_status(options),
+        ToolName::SgPersist => sg_persist(options),
+    }
+}
