@@ -87,11 +87,16 @@ fn show_body<W: Write>(
     bytes: &[u8],
     out: &mut Printer<'_, W>,
 )
+    // Where the descriptor begins, behind the header, and its length.
     requires not_first_byte { 1 ≤ first }
     requires first { first ≤ 8 }
     requires descriptor { size < 2 ^ 16 }
+
+    // The reported end, and that there is a header.
     requires end { end ≤ 2 ^ 17 }
     requires not_empty { 0 < length bytes.now }
+
+    // The descriptor and the pages are shown by the rule.
     ensures { PrintsText W.contents out.old out.new
         (shown (Some end) bytes.now (mode_body first long size bytes.now)) }
 {

@@ -1,5 +1,5 @@
 // Numbers and bytes as text.
-ghost use Rattle.std.specs.Prelude.{◌≡◌, ◌++◌, decimal, codes, map};
+ghost use Rattle.std.specs.Prelude.{◌≡◌, ◌++◌, decimal, codes, length, map};
 ghost use Rattle.hex.specs.Hex.{encode_lower};
 ghost use Rattle.sg_wire.specs.Printer.{PrintsText};
 ghost use Rattle.sg_decode.specs.HexText.{hex_byte};
@@ -54,7 +54,17 @@ pub(crate) fn put_joined_hex<W: Write>(bytes: &[u8], out: &mut Printer<'_, W>)
     }
 }
 
-// The two digits of a byte.
+/// The sixteen digits of eight bytes, in lower case.
+pub(crate) fn sixteen_digits(bytes: &[u8]) -> [u8; 16]
+    requires { length bytes.now ≡ 8 }
+    ensures { result ≡ encode_lower bytes.now }
+{
+    let mut digits = [0; 16];
+    hex::encode_to_slice(bytes, &mut digits).unwrap();
+    digits
+}
+
+// The two digits of a byte, in lower case.
 fn digits_of(byte: u8) -> [u8; 2]
     ensures { result ≡ hex_byte byte }
 {

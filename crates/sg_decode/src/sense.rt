@@ -9,7 +9,7 @@ ghost use Rattle.sg_decode.specs.SenseText.{key_text, pointer_label, pointer_tex
 ghost use Rattle.sg_decode.specs.SenseText.{sense_text};
 
 use crate::hex_lines::put_hex_byte;
-use crate::number_text::put_number;
+use crate::number_text::{put_number, sixteen_digits};
 use sg_wire::{Pointer, Printer, Sense};
 use std::io::Write;
 
@@ -86,17 +86,8 @@ fn put_information<W: Write>(information: Option<u64>, out: &mut Printer<'_, W>)
 {
     if let Some(information) = information {
         out.put(b", information 0x");
-        out.put(&hex_digits(information));
+        out.put(&sixteen_digits(&information.to_be_bytes()));
     }
-}
-
-// The sixteen digits of a number, in lower case.
-fn hex_digits(number: u64) -> [u8; 16]
-    ensures { result ≡ encode_lower (to_be_bytes w64 number) }
-{
-    let mut digits = [0; 16];
-    hex::encode_to_slice(number.to_be_bytes(), &mut digits).unwrap();
-    digits
 }
 
 #[tactic(auto, using(crate::proofs::TextLemmas::prints), unfolding(crate::specs::SenseText::pointer_text))]

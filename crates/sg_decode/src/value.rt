@@ -8,7 +8,7 @@ ghost use Rattle.sg_decode.specs.Values.{bits, value_text, value_end, is_sound, 
 ghost use Rattle.sg_decode.specs.Values.{provisioning_name, provisioning_text, type_names};
 
 use crate::hex_lines::put_hex_byte;
-use crate::number_text::{put_bracketed, put_joined_hex, put_number};
+use crate::number_text::{put_bracketed, put_joined_hex, put_number, sixteen_digits};
 use byteorder::{BigEndian, ByteOrder};
 use sg_wire::Printer;
 use std::io::Write;
@@ -117,7 +117,7 @@ fn put_address<W: Write>(bytes: &[u8], out: &mut Printer<'_, W>)
     ensures { PrintsText W.contents out.old out.new (codes "0x" ++ encode_lower bytes.now) }
 {
     out.put(b"0x");
-    put_joined_hex(bytes, out);
+    out.put(&sixteen_digits(bytes));
 }
 
 #[tactic(auto, using(crate::proofs::TextLemmas::prints))]

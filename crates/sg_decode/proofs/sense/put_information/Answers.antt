@@ -5,4 +5,5 @@ use Rattle.sg_decode.proofs.sense.put_information.Goals as goal
 pub returns-in-Some : goal.returns-in-Some
 unfolding information_text
 returns-in-Some g c =
-    rw (c.in-Some.is, ← c.hex_digits.ensures) (Prints-on c.put.ensures c.put-in-Some.ensures)
+    let digits = rw (c.sixteen_digits.ensures, c.to_be_bytes.ensures) at c.put-in-Some.ensures in
+    rw c.in-Some.is (Prints-on c.put.ensures digits)
