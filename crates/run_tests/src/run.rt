@@ -1,6 +1,5 @@
 // Runs of whole scripts.
 mod ends;
-mod exit_status;
 mod failures;
 mod fakes;
 mod limit;

@@ -7,7 +7,7 @@ use Rattle.hex.specs.Hex.{decode_of, decode_pairs, digit_or_error, hex_digit_val
 use Rattle.hex.specs.declared.error.FromHexError.TheVariants.{InvalidHexCharacter}
 use Rattle.hex.proofs.Pairs.{prepend, decode_start, decode_step, decode_err, decode_done}
 use Rattle.hex.proofs.HexLemmas.{decode_of-even}
-use Rattle.sg_run.specs.HexDigits.{no_digit, digit_or_none}
+use Rattle.sg_tools.specs.HexDigits.{no_digit, digit_or_none}
 
 -- what is known after the first pairs: the bytes so far, or that a digit was none
 abbrev pub ReadsPairs : (are_digits : Bool) → (digits bytes : List ℕ) → (count : ℕ) → Type 0
@@ -66,21 +66,3 @@ pub all_pairs : (are_digits : Bool) (s out : List ℕ) (i : ℕ) → length out 
     → result_ok (decode_of s) ≡ cond are_digits (Some out) None
 all_pairs true s out i all long so_far = ap result_ok (decode_of-even s (omega arith) ∙ decode_done s out i all (omega arith) so_far)
 all_pairs false s out i all long so_far = ap result_ok (decode_of-even s (omega arith)) ∙ so_far
-
--- ---- a table of digits
-
--- the test of the first n places of a table, which computes
-abbrev pub has_values : List ℕ → ℕ → Bool
-has_values table zero = true
-has_values table (suc n) = (slice_index table n == digit_or_none n) && has_values table n
-
-pub value-at : (table : List ℕ) (n byte : ℕ) → has_values table n ≡ true → byte < n → slice_index table byte ≡ digit_or_none byte
-value-at table zero byte h below = absurd (omega arith)
-value-at table (suc n) byte h below =
-    let parts = and_parts (slice_index table n == digit_or_none n) (has_values table n) h in
-    elim (cases_lt byte n) [
-      | inl before ↦ value-at table n byte parts.1 before
-      | inr last ↦
-          let same : byte ≡ n = omega arith in
-          rw same (eqb-true (slice_index table n) (digit_or_none n) parts.0)
-    ]

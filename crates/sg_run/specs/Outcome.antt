@@ -5,12 +5,13 @@ use Rattle.sg_wire.specs.SenseData.{read_sense}
 use Rattle.sg_decode.specs.HexText.{hex_lines}
 use Rattle.sg_decode.specs.SenseText.{sense_line}
 use Rattle.sg_wire.specs.declared.command.Command.TheVariants.{Write16}
+use Rattle.sg_tools.specs.ExitStatus.{exit_status}
 use Rattle.sg_target.specs.CapacityData.{block_length}
 use Rattle.sg_target.specs.State.{State}
+use Rattle.sg_target.specs.Status.{status_code}
 use Rattle.sg_target.specs.Step.{Step, step}
 use Rattle.sg_target.specs.declared.reply.Status.{Status}
 use Rattle.sg_target.specs.declared.reply.Status.TheVariants.{Good, CheckCondition, ReservationConflict}
-use Rattle.sg_run.specs.ExitStatus.{exit_status}
 use Rattle.sg_run.specs.LineFault.{fault_message}
 use Rattle.sg_run.specs.LineText.{line_header}
 use Rattle.sg_run.specs.Request.{LineRequest, nothing, faulty, send, fill, request_of}
@@ -43,7 +44,7 @@ reply_text number status sense data_in =
 abbrev pub reply_outcome : (number : ℕ) → Step → Outcome
 reply_outcome number s = let answer = s.answer in record {
   text = reply_text number answer.status answer.sense answer.data_in;
-  status = exit_status answer.status (read_sense answer.sense);
+  status = exit_status (status_code answer.status) (read_sense answer.sense);
   state = s.state;
 }
 

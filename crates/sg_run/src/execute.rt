@@ -14,13 +14,13 @@ ghost use Rattle.sg_decode.specs.HexText.{gathered_text};
 ghost use Rattle.sg_target.specs.Step.{step};
 
 use crate::buffers::{Buffers, LONGEST_TRANSFER};
-use crate::exit_status::exit_status;
 use crate::request::{FilledBlocks, Request, read_request};
 use crate::text::header::print_line_header;
 use crate::text::sense::print_sense;
 use sg_blocks::{BLOCK_LENGTH, Store};
 use sg_decode::put_hex_lines;
 use sg_target::{Call, Reply, Status, Target};
+use sg_tools::exit_status;
 use sg_wire::{Printer, Sense, Watched};
 use std::io;
 use std::io::Write;
@@ -131,7 +131,7 @@ fn send<W: Write, S: Store>(
     let reply = target.execute(call.initiator, call.cdb, call.data_out, data_in);
     let sense = Sense::read(reply.sense.as_slice());
     print_reply(number, &reply, sense, &data_in[..reply.data_in], lines, out);
-    exit_status(reply.status, sense)
+    exit_status(reply.status.code(), sense)
 }
 
 // Prints a reply: its status, its sense data, of which `sense` was read, and its

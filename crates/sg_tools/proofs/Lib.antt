@@ -1,4 +1,5 @@
 pub mod ActionLemmas
+pub mod DigitLemmas
 pub mod NumberLemmas
 pub mod NumberListLemmas
 pub mod OptionLemmas

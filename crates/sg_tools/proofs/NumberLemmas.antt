@@ -1,14 +1,14 @@
 -- Digits as numbers.
-use Rattle.std.proofs.Common.{◌≡◌, ◌<◌, ◌≤◌, ℕ, zero, suc, ◌^◌, List, [], ◌∷◌, length, drop, Bool, true, false, cond, Option, Some, None, Result, Ok, Err, refl, sym, ap, ◌∙◌, arith}
-use Rattle.std.specs.Prelude.{◌&&◌, ◌≢◌, ◌==◌, nat_le, nat_lt, slice_index, if◌then◌else◌}
+use Rattle.std.proofs.Common.{◌≡◌, ◌<◌, ◌≤◌, ℕ, ◌^◌, ◌+◌, ◌*◌, List, [], ◌∷◌, length, drop, Bool, true, false, cond, Option, Some, None, refl, sym, ap, ◌∙◌, arith}
+use Rattle.std.specs.Prelude.{◌&&◌, nat_le, nat_lt, slice_index, if◌then◌else◌}
 use Rattle.std.specs.Char.{digit_value, is_digit}
 use Rattle.std.specs.List.{list_all}
-use Rattle.std.specs.Result.{result_ok}
-use Rattle.std.specs.Str.{IsAscii, IsUtf8}
-use Rattle.std.specs.Str.Parse.{AllDigits, IsNumeral, ParsesUnsigned, digits_value, without_leading_plus}
+use Rattle.std.specs.Str.Parse.{AllDigits, IsNumeral, digits_value, digits_value_after}
 use Rattle.std.proofs.lemmas.Bool.{lt-ltb, ltb-true}
 use Rattle.std.proofs.lemmas.Bool.Decides.{nat_tests}
-use Rattle.std.proofs.lemmas.Str.{IsUtf8-from_ascii}
+use Rattle.std.proofs.lemmas.List.{drop_all, drop_more}
+use Rattle.std.proofs.Math.Nat.{mul-le-mul_left}
+use Rattle.sg_tools.specs.HexDigits.{digit_or_none}
 use Rattle.sg_tools.specs.Number.{has_0x, is_numeral, number_in}
 use Rattle.sg_tools.specs.OptionTexts.{hex_digits_up_to}
 
@@ -59,38 +59,83 @@ number-none : (radix : ℕ) (digits : List ℕ) → (IsNumeral radix digits × (
 unfolding number_in fits
 number-none radix digits h = none-by (fits radix digits) (digits_value radix digits) (λ e. h (true-fits radix digits e))
 
--- a sign is no digit
-plus : (radix : ℕ) (digits : List ℕ) → radix ≤ 36 → slice_index digits 0 ≡ 43 → AllDigits radix digits → 0 < length digits → ⊥
-plus radix [] most e all some = absurd (omega arith)
-plus radix (c ∷ cs) most e all some =
-    let value : digit_value c ≡ 36 = ap digit_value e in
-    absurd (omega (arith, all.0))
+-- ---- digits, one after the other
 
-pub number-plus : (radix : ℕ) (digits : List ℕ) → radix ≤ 36 → slice_index digits 0 ≡ 43 → number_in radix digits ≡ None
-number-plus radix digits most e = number-none radix digits (λ h. plus radix digits most e h.0.1 h.0.0)
+-- the value of a digit of a radix up to 16
+digit-same : (c radix : ℕ) → radix ≤ 16 → digit_or_none c < radix → digit_value c ≡ digit_or_none c
+digit-same c radix most below = grind (arith, nat_tests)
 
--- digits are ASCII, which is UTF-8
-small : (c : ℕ) → digit_value c < 36 → c < 128
-small c h = grind (arith, nat_tests)
+digit-none : (c radix : ℕ) → radix ≤ 16 → radix ≤ digit_or_none c → digit_value c < radix → ⊥
+digit-none c radix most above below = grind (arith, nat_tests)
 
-ascii : (radix : ℕ) (digits : List ℕ) → radix ≤ 36 → AllDigits radix digits → IsAscii digits
-ascii radix [] most all i = omega arith
-ascii radix (c ∷ cs) most all zero = small c (omega (arith, all.0))
-ascii radix (c ∷ cs) most all (suc i) = ascii radix cs most all.1 i
+-- digits that follow only make a number larger
+value-grows : (radix number : ℕ) (digits : List ℕ) → 1 ≤ radix → number ≤ digits_value_after radix number digits
+value-grows radix number [] some = omega arith
+value-grows radix number (c ∷ cs) some =
+    let more = value-grows radix (number * radix + digit_value c) cs some in
+    let times : number * 1 ≤ number * radix = mul-le-mul_left number some in
+    omega arith
 
-pub number-not_text : (radix : ℕ) (digits : List ℕ) → radix ≤ 36 → (IsUtf8 digits → ⊥) → number_in radix digits ≡ None
-number-not_text radix digits most h = number-none radix digits (λ f. h (IsUtf8-from_ascii digits (ascii radix digits most f.0.1)))
+-- what is known after the first digits, which stand for a number
+pub record ReadsDigits (radix : ℕ) (digits : List ℕ) (count number : ℕ) : Type 0 where
+  pub others : AllDigits radix (drop count digits) → AllDigits radix digits
+  pub among : AllDigits radix digits → AllDigits radix (drop count digits)
+  pub value : digits_value_after radix number (drop count digits) ≡ digits_value radix digits
 
--- the standard library reads the same number
-by_result : {E : Type 0} (radix : ℕ) (digits : List ℕ) (r : Result ℕ E) → ParsesUnsigned 64 radix digits r → without_leading_plus digits ≡ digits → result_ok r ≡ number_in radix digits
-by_result radix digits (Ok n) p e = let q = rw e at p in ap Some q.1 ∙ sym (number-fits radix digits q.0)
-by_result radix digits (Err x) p e = let q = rw e at p in sym (number-none radix digits q)
+pub no_digits : (radix : ℕ) (digits : List ℕ) → ReadsDigits radix digits 0 0
+no_digits radix digits = record { others = λ h. h; among = λ h. h; value = refl }
 
-no-plus : (digits : List ℕ) → slice_index digits 0 ≢ 43 → without_leading_plus digits ≡ digits
-no-plus digits h = let no : (slice_index digits 0 == 43) ≡ false = grind (arith, nat_tests) in ap (λ (b : Bool). drop (cond b 1 0) digits) no
+-- one more digit, which has this value
+pub next_digit : (radix : ℕ) (digits : List ℕ) (count number digit after : ℕ) → radix ≤ 16 → count < length digits → digit ≡ digit_or_none (slice_index digits count) → digit < radix
+    → after ≡ number * radix + digit → ReadsDigits radix digits count number → ReadsDigits radix digits (count + 1) after
+next_digit radix digits count number digit after most within e below is so_far =
+    let c : ℕ = slice_index digits count in
+    let at : drop count digits ≡ c ∷ drop (count + 1) digits = drop_more digits count 0 within in
+    let small : digit_or_none c < radix = omega (arith, e, below) in
+    let same : digit_value c ≡ digit_or_none c = digit-same c radix most small in
+    let fits : digit_value c < radix = omega (arith, same, small) in
+    let next : number * radix + digit_value c ≡ after = rw (same, is, e) refl in
+    record {
+      others = λ h. so_far.others (rw at (fits, h));
+      among = λ h. let all : AllDigits radix (c ∷ drop (count + 1) digits) = rw at at (so_far.among h) in all.1;
+      value = ap (λ n. digits_value_after radix n (drop (count + 1) digits)) (sym next) ∙ (ap (digits_value_after radix number) (sym at) ∙ so_far.value);
+    }
 
-pub number-parsed : {E : Type 0} (radix : ℕ) (digits : List ℕ) (r : Result ℕ E) → slice_index digits 0 ≢ 43 → ParsesUnsigned 64 radix digits r → result_ok r ≡ number_in radix digits
-number-parsed radix digits r h p = by_result radix digits r p (no-plus digits h)
+-- a byte that is no digit of the radix
+pub not_digit : (radix : ℕ) (digits : List ℕ) (count number digit : ℕ) → radix ≤ 16 → count < length digits → digit ≡ digit_or_none (slice_index digits count) → radix ≤ digit
+    → ReadsDigits radix digits count number → number_in radix digits ≡ None
+not_digit radix digits count number digit most within e above so_far =
+    let c : ℕ = slice_index digits count in
+    let at : drop count digits ≡ c ∷ drop (count + 1) digits = drop_more digits count 0 within in
+    let large : radix ≤ digit_or_none c = omega (arith, e, above) in
+    number-none radix digits (λ h.
+    let all : AllDigits radix (c ∷ drop (count + 1) digits) = rw at at (so_far.among h.0.1) in
+    digit-none c radix most large all.0)
+
+-- a number of more than 64 bits
+too_large : (radix : ℕ) (digits : List ℕ) (count number : ℕ) → 1 ≤ radix → 2 ^ 64 ≤ number
+    → ReadsDigits radix digits count number → number_in radix digits ≡ None
+too_large radix digits count number some large so_far =
+    let more = value-grows radix number (drop count digits) some in
+    number-none radix digits (λ h. absurd (omega (arith, more, so_far.value, h.1)))
+
+-- one more digit makes the number larger than 64 bits
+pub overflows : (radix : ℕ) (digits : List ℕ) (count number digit : ℕ) → 1 ≤ radix → radix ≤ 16 → count < length digits → digit ≡ digit_or_none (slice_index digits count) → digit < radix
+    → 2 ^ 64 ≤ number * radix + digit → ReadsDigits radix digits count number → number_in radix digits ≡ None
+overflows radix digits count number digit some most within e below large so_far =
+    too_large radix digits (count + 1) (number * radix + digit) some large (next_digit radix digits count number digit (number * radix + digit) most within e below refl so_far)
+
+-- all digits
+pub all_digits : (radix : ℕ) (digits : List ℕ) (count number : ℕ) → 0 < length digits → length digits ≤ count → number < 2 ^ 64
+    → ReadsDigits radix digits count number → number_in radix digits ≡ Some number
+all_digits radix digits count number some all small so_far =
+    let none : drop count digits ≡ [] = drop_all count digits all in
+    let value : number ≡ digits_value radix digits = rw none at so_far.value in
+    let each : AllDigits radix digits = so_far.others (rw none tt) in
+    number-fits radix digits ((some, each), omega (arith, value, small)) ∙ ap Some (sym value)
+
+pub no_number : (radix : ℕ) (digits : List ℕ) → length digits ≡ 0 → number_in radix digits ≡ None
+no_number radix digits none = number-none radix digits (λ h. absurd (omega (arith, none, h.0.0)))
 
 -- ---- one hexadecimal digit
 

@@ -2,6 +2,7 @@
 pub mod ToolNames
 pub mod Options
 pub mod GivenOptions
+pub mod HexDigits
 pub mod Number
 pub mod OptionTexts
 pub mod Requests

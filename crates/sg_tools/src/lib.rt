@@ -2,6 +2,7 @@
 //! the parameter list that each sends, how its answer is shown, and its exit status.
 #![tactic(auto)]
 
+mod digits;
 mod extents;
 mod given_options;
 mod inquiry;
@@ -21,6 +22,7 @@ mod tool_fault;
 mod tool_name;
 mod unmap;
 
+pub use digits::digit_value;
 pub use extents::{Extent, Extents};
 pub use number::{read_number, read_number_up_to};
 pub use parameters::{MAX_DATA_OUT, Parameters, ReserveOutParameters};

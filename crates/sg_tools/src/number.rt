@@ -1,8 +1,8 @@
 // Numbers in scripts and options.
-ghost use Rattle.std.specs.Prelude.{◌≡◌, ◌≤◌, ◌==◌, slice_index, IfSome};
+ghost use Rattle.std.specs.Prelude.{◌≡◌, ◌≤◌, IfSome};
 ghost use Rattle.sg_tools.specs.Number.{number_in, number_of, number_up_to};
 
-use std::str;
+use crate::digits::digit_value;
 
 /// The number of a word: digits, or `0x` and hexadecimal digits, or hexadecimal digits and `h`, with
 /// letters in either case. None where it is no such word or has more than 64 bits.
@@ -30,23 +30,21 @@ pub fn read_number_up_to(limit: u64, word: &[u8]) -> Option<u64>
 }
 
 // The number that digits of a radix stand for, without a sign.
-pub(crate) fn read_digits(digits: &[u8], radix: u32) -> Option<u64>
-    requires at_least_2 { 2 ≤ radix }
-    requires at_most_36 { radix ≤ 36 }
+pub(crate) fn read_digits(digits: &[u8], radix: u64) -> Option<u64>
+    requires at_least_1 { 1 ≤ radix }
+    requires at_most_16 { radix ≤ 16 }
     ensures { result ≡ number_in radix digits.now }
 {
-    if begins_with_plus(digits) {
+    if digits.is_empty() {
         return None;
     }
-    let Ok(text) = str::from_utf8(digits) else {
-        return None;
-    };
-    u64::from_str_radix(text, radix).ok()
-}
-
-// A sign that the standard library would read.
-fn begins_with_plus(digits: &[u8]) -> bool
-    ensures { result ≡ (slice_index digits.now 0 == 0x2B) }
-{
-    matches!(digits, [b'+', ..])
+    let mut number: u64 = 0;
+    for byte in digits {
+        let digit = u64::from(digit_value(*byte));
+        if digit >= radix {
+            return None;
+        }
+        number = number.checked_mul(radix)?.checked_add(digit)?;
+    }
+    Some(number)
 }

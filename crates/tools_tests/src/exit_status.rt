@@ -1,7 +1,14 @@
 // Exit statuses, as sg3_utils(8) lists them.
-use sg_run::exit_status::exit_status;
-use sg_target::Status;
-use sg_wire::Sense;
+use sg_tools::status_of;
+
+// Status codes (SAM-5).
+const GOOD: u8 = 0x00;
+
+const CHECK_CONDITION: u8 = 0x02;
+
+const BUSY: u8 = 0x08;
+
+const RESERVATION_CONFLICT: u8 = 0x18;
 
 // A sense key, an additional sense code with its qualifier, and the exit status.
 const STATUSES: [(u8, u8, u8, u8); 12] = [
@@ -25,12 +32,11 @@ fn a_status_follows_from_the_sense_data(rt: HostRuntime) {
         let sense = [
             0x70, 0, key, 0, 0, 0, 0, 0x0A, 0, 0, 0, 0, asc, ascq, 0, 0, 0, 0,
         ];
-        assert_eq!(rt;
-            exit_status(Status::CheckCondition, Sense::read(&sense)),
-            status
-        );
-        assert_eq!(rt; exit_status(Status::Good, Sense::read(&sense)), 0);
+        assert_eq!(rt; status_of(CHECK_CONDITION, &sense), status);
+        assert_eq!(rt; status_of(GOOD, &sense), 0);
     }
-    assert_eq!(rt; exit_status(Status::CheckCondition, None), 99);
-    assert_eq!(rt; exit_status(Status::Good, None), 0);
+    assert_eq!(rt; status_of(CHECK_CONDITION, &[]), 99);
+    assert_eq!(rt; status_of(GOOD, &[]), 0);
+    assert_eq!(rt; status_of(RESERVATION_CONFLICT, &[]), 24);
+    assert_eq!(rt; status_of(BUSY, &[]), 99);
 }
