@@ -7,7 +7,8 @@ use Rattle.std.specs.Str.Parse.{digits_value}
 
 -- One digit or more of a radix, and nothing else.
 abbrev pub is_numeral : (radix : ℕ) → List ℕ → Bool
-is_numeral radix digits = nat_lt 0 (length digits) && list_all (λ digit. is_digit digit radix) digits
+is_numeral radix digits =
+    nat_lt 0 (length digits) && list_all (λ digit. is_digit digit radix) digits
 
 -- The number that digits stand for, where it has at most 64 bits.
 unfoldable pub number_in : (radix : ℕ) → List ℕ → Option ℕ

@@ -12,6 +12,9 @@ abbrev pub value_or : {A : Type 0} → (default : A) → (value_of : Text → Op
 value_or default value_of None = Some default
 value_or default value_of (Some text) = value_of text
 
+abbrev pub number_or : (default limit : ℕ) → Option Text → Option ℕ
+number_or default limit text = value_or default (number_up_to limit) text
+
 -- ---- Pages of vital product data: a name of sg_vpd(8), or a number
 
 pub record PageName : Type 0 where

@@ -5,11 +5,10 @@ use Rattle.std.specs.Prelude.{ℕ, ◌^◌, ◌-◌, List, [], ◌∷◌, length
 use Rattle.std.specs.Prelude.{None, is_some, Result, Ok, Err, Bool, true, false, ◌==◌, ◌&&◌, ◌||◌}
 use Rattle.std.specs.Prelude.{nat_le, if◌then◌else◌}
 use Rattle.clap.specs.Words.{Row, Text}
-use Rattle.sg_tools.specs.Number.{number_up_to}
 use Rattle.sg_tools.specs.Options.{command_line}
 use Rattle.sg_tools.specs.GivenOptions.{is_set, given_options, text_of}
 use Rattle.sg_tools.specs.OptionTexts.{reservation_key, reservation_type, numbers_up_to, mode_page}
-use Rattle.sg_tools.specs.OptionTexts.{vpd_page, value_or}
+use Rattle.sg_tools.specs.OptionTexts.{number_or, value_or, vpd_page}
 use Rattle.sg_tools.specs.ParameterLists.{unmap_list_length, reserve_out_list_length}
 use Rattle.sg_tools.specs.declared.extents.Extent.{Extent}
 use Rattle.sg_tools.specs.declared.parameters.ReserveOutParameters.{ReserveOutParameters}
@@ -67,7 +66,7 @@ abbrev pub inquiry_length : (evpd : Bool) → (given : ℕ) → ℕ
 inquiry_length evpd given = if given == 0 then (if evpd then 252 else 36) else given
 
 abbrev pub inquiry_show : (evpd hex : Bool) → Show
-inquiry_show evpd hex = if hex then show.Hex else (if evpd then show.VitalProductData else show.Inquiry)
+inquiry_show evpd hex = if hex then show.Hex else (if evpd then show.Vpd else show.Inquiry)
 
 abbrev pub inquiry : (evpd : Bool) (page length : Option ℕ) (hex : Bool) → Request
 inquiry evpd page length hex =
@@ -78,7 +77,7 @@ abbrev pub page_or : (default : ℕ) → Option Text → Option ℕ
 page_or default text = value_or default vpd_page text
 
 abbrev pub length_or_0 : Option Text → Option ℕ
-length_or_0 text = value_or 0 (number_up_to 0xFFFF) text
+length_or_0 text = number_or 0 0xFFFF text
 
 abbrev pub default_page : (id : Bool) → ℕ
 default_page id = if id then 0x83 else 0x00
@@ -108,7 +107,7 @@ mode_sense six llbaa dbd pc page =
 
 abbrev pub modes_show : (six hex : Bool) → Show
 modes_show six hex =
-    if hex then show.Hex else (if six then show.ModeParameters6 else show.ModeParameters10)
+    if hex then show.Hex else (if six then show.Modes6 else show.Modes10)
 
 -- Without --page it asks for all pages, page 3Fh.
 abbrev pub sg_modes : List Row → Request
@@ -117,7 +116,7 @@ sg_modes rows =
     let six = is_set (codes "six") rows in
     let llbaa = is_set (codes "llbaa") rows in
     unless_exclusive ((is_set (codes "all") rows && is_some page) || (six && llbaa))
-    (with_value (value_or 0 (number_up_to 3) (text_of (codes "control") rows)) (λ pc.
+    (with_value (number_or 0 3 (text_of (codes "control") rows)) (λ pc.
     with_value (value_or (0x3F, 0x00) mode_page page) (λ page.
     asks (mode_sense six llbaa (is_set (codes "dbd") rows) pc page)
     (modes_show six (is_set (codes "hex") rows)))))
@@ -153,7 +152,7 @@ sg_unmap rows =
     with_both_lists (text_of (codes "lba") rows) (text_of (codes "num") rows) (λ lba num.
     with_value (numbers_up_to (2 ^ 64 - 1) lba) (λ lbas.
     with_value (numbers_up_to (2 ^ 32 - 1) num) (λ counts.
-    with_value (value_or 0 (number_up_to 31) (text_of (codes "grpnum") rows)) (λ group.
+    with_value (number_or 0 31 (text_of (codes "grpnum") rows)) (λ group.
     unmap_each (is_set (codes "anchor") rows) group lbas counts))))
 
 -- ---- sg_get_lba_status: GET LBA STATUS
@@ -168,8 +167,8 @@ sg_get_lba_status rows =
     let brief = is_set (codes "brief") rows in
     let hex = is_set (codes "hex") rows in
     unless_exclusive (brief && hex)
-    (with_value (value_or 0 (number_up_to (2 ^ 64 - 1)) (text_of (codes "lba") rows)) (λ start.
-    with_value (value_or 24 (number_up_to (2 ^ 32 - 1)) (text_of (codes "maxlen") rows)) (λ length.
+    (with_value (number_or 0 (2 ^ 64 - 1) (text_of (codes "lba") rows)) (λ start.
+    with_value (number_or 24 (2 ^ 32 - 1) (text_of (codes "maxlen") rows)) (λ length.
     asks (command.GetLbaStatus start length) (lba_status_show brief hex))))
 
 -- ---- sg_persist: PERSISTENT RESERVE IN and PERSISTENT RESERVE OUT
@@ -200,7 +199,8 @@ action_flags =
 -- The service actions whose flags are given.
 unfoldable pub given_actions : List ActionFlag → List Row → List ServiceAction
 given_actions flags rows =
-    map (λ (row : ActionFlag). row.action) (filter (λ (row : ActionFlag). is_set row.flag rows) flags)
+    map (λ (row : ActionFlag). row.action)
+    (filter (λ (row : ActionFlag). is_set row.flag rows) flags)
 
 -- Two service actions; --in with --out; or one of them with an action of the other.
 abbrev pub are_exclusive : (as_in as_out : Bool) → List ServiceAction → Bool
@@ -210,9 +210,9 @@ are_exclusive as_in as_out (Out action ∷ []) = as_in
 are_exclusive as_in as_out (first ∷ second ∷ others) = true
 
 abbrev pub reserve_in_show : InAction → Show
-reserve_in_show ReadKeys = show.ReservationKeys
+reserve_in_show ReadKeys = show.Keys
 reserve_in_show ReadReservation = show.Reservation
-reserve_in_show ReportCapabilities = show.ReservationCapabilities
+reserve_in_show ReportCapabilities = show.Capabilities
 reserve_in_show ReadFullStatus = show.Hex
 
 abbrev pub reserve_in : InAction → Request

@@ -85,7 +85,7 @@ fn inquiry_show(evpd: bool, hex: bool) -> Show
 {
     match (hex, evpd) {
         (true, _) => Show::Hex,
-        (false, true) => Show::VitalProductData,
+        (false, true) => Show::Vpd,
         (false, false) => Show::Inquiry,
     }
 }

@@ -1,7 +1,6 @@
 // sg_modes.
 ghost use Rattle.std.specs.Prelude.{◌≡◌, ◌≤◌, option_map, IfSome};
-ghost use Rattle.sg_tools.specs.Number.{number_up_to};
-ghost use Rattle.sg_tools.specs.OptionTexts.{both, mode_page, value_or};
+ghost use Rattle.sg_tools.specs.OptionTexts.{both, mode_page, number_or, value_or};
 ghost use Rattle.sg_tools.specs.Requests.{mode_sense, modes_show, sg_modes};
 
 use crate::given_options::GivenOptions;
@@ -70,14 +69,14 @@ fn modes_show(six: bool, hex: bool) -> Show
 {
     match (hex, six) {
         (true, _) => Show::Hex,
-        (false, true) => Show::ModeParameters6,
-        (false, false) => Show::ModeParameters10,
+        (false, true) => Show::Modes6,
+        (false, false) => Show::Modes10,
     }
 }
 
 // The page control of a text, that of current values where there is no text.
 fn page_control(text: Option<&str>) -> Option<PageControlField>
-    ensures { result ≡ value_or 0 (number_up_to 3) (option_map (λ t. t.now) text.entry) }
+    ensures { result ≡ number_or 0 3 (option_map (λ t. t.now) text.entry) }
 {
     PageControlField::new(number_or(0, 3, text)? as u8)
 }

@@ -4,8 +4,8 @@ ghost use Rattle.sg_tools.specs.Number.{number_in, number_of, number_up_to};
 
 use crate::digits::digit_value;
 
-/// The number of a word: digits, or `0x` and hexadecimal digits, or hexadecimal digits and `h`, with
-/// letters in either case. None where it is no such word or has more than 64 bits.
+/// The number of a word: decimal digits, or `0x` and hexadecimal digits, or hexadecimal digits and
+/// `h`, with letters in either case. None where it is no such word or has more than 64 bits.
 #[tactic(auto, unfolding(crate::specs::Number::number_of))]
 pub fn read_number(word: &[u8]) -> Option<u64>
     ensures { result ≡ number_of word.now }

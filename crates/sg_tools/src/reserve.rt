@@ -67,9 +67,9 @@ fn reserve_in_show(action: InAction) -> Show
     ensures { result ≡ reserve_in_show action }
 {
     match action {
-        InAction::ReadKeys => Show::ReservationKeys,
+        InAction::ReadKeys => Show::Keys,
         InAction::ReadReservation => Show::Reservation,
-        InAction::ReportCapabilities => Show::ReservationCapabilities,
+        InAction::ReportCapabilities => Show::Capabilities,
         InAction::ReadFullStatus => Show::Hex,
     }
 }

@@ -10,19 +10,19 @@ pub enum Show {
     /// As standard INQUIRY data.
     Inquiry,
     /// As a page of vital product data.
-    VitalProductData,
+    Vpd,
     /// As the mode parameters of MODE SENSE(6).
-    ModeParameters6,
+    Modes6,
     /// As the mode parameters of MODE SENSE(10).
-    ModeParameters10,
+    Modes10,
     /// As the parameter data of GET LBA STATUS.
     LbaStatus,
     /// As the descriptors of GET LBA STATUS.
     LbaStatusBrief,
     /// As the parameter data of READ KEYS.
-    ReservationKeys,
+    Keys,
     /// As the parameter data of READ RESERVATION.
     Reservation,
     /// As the parameter data of REPORT CAPABILITIES.
-    ReservationCapabilities,
+    Capabilities,
 }

@@ -49,12 +49,13 @@ impl Tool {
     /// - `Usage` where clap does not accept the words, or a list of sg_unmap is not given,
     /// - `Exclusive` where two options exclude one another,
     /// - `Number` where the text of an option, needed or not, has no value or one out of range,
-    /// - `Usage` where the lists of sg_unmap have unequal lengths or more than 64 entries, or `--out`
-    ///   of sg_persist is given without a service action.
+    /// - `Usage` where the lists of sg_unmap have unequal lengths or more than 64 entries, or
+    ///   `--out` of sg_persist is given without a service action.
     ///
-    /// `OutOfMemory` is returned in place of any of these, and of a success, where memory is refused.
+    /// `OutOfMemory` comes in place of any result, where memory is refused.
     pub fn parse<'a>(alloc: Global, tool: ToolName, words: &'a [&'a str]) -> Result<Tool, ToolFault>
-        ensures { IsUnlessOutOfMemory (request tool (map (λ word. word.now) words.entry.now)) result }
+        ensures { let texts = map (λ word. word.now) words.entry.now in
+            IsUnlessOutOfMemory (request tool texts) result }
     {
         match GivenOptions::of_words(alloc, tool, words) {
             Ok(options) => request_of(tool, &options),
@@ -62,8 +63,8 @@ impl Tool {
         }
     }
 
-    /// The CDB and the data-out that the tool sends, which is written to the first bytes of
-    /// `data_out`. The other bytes are not changed.
+    /// The CDB and the data-out that the tool sends. The data-out is written to the first bytes of
+    /// `data_out`, which has at least [`MAX_DATA_OUT`](crate::MAX_DATA_OUT) bytes.
     pub fn plan(&self, data_out: &mut [u8]) -> Plan
         requires { max_data_out ≤ length data_out.old }
         ensures cdb { result.cdb ≡ cdb_of self.now.command }

@@ -1,7 +1,6 @@
 // sg_unmap.
 ghost use Rattle.std.specs.Prelude.{◌≡◌, ◌≤◌, ◌<◌, ◌^◌, ℕ, Ok, length, option_map, slice_index};
-ghost use Rattle.sg_tools.specs.OptionTexts.{value_or};
-ghost use Rattle.sg_tools.specs.Number.{number_up_to};
+ghost use Rattle.sg_tools.specs.OptionTexts.{number_or};
 ghost use Rattle.sg_tools.specs.Requests.{max_unmap_descriptors, paired, sg_unmap, unmap};
 
 use crate::extents::{Extent, Extents, MAX_EXTENTS};
@@ -50,7 +49,7 @@ fn unmap(anchor: bool, group: GroupNumber, extents: Extents) -> Tool
 
 // The group number of a text, 0 where there is no text.
 fn group_number(text: Option<&str>) -> Option<GroupNumber>
-    ensures { result ≡ value_or 0 (number_up_to 31) (option_map (λ t. t.now) text.entry) }
+    ensures { result ≡ number_or 0 31 (option_map (λ t. t.now) text.entry) }
 {
     GroupNumber::new(number_or(0, 31, text)? as u8)
 }

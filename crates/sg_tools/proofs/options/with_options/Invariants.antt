@@ -6,4 +6,5 @@ use Rattle.sg_tools.proofs.options.with_options.Given as goal
 
 -- the options so far are added
 abbrev pub invariant-loop-option : goal.invariant-loop-option
-invariant-loop-option l = app_of l.command ≡ with_rules (app_of l.fn.command) (map rule (option_rows (take l.option-index l.options)))
+invariant-loop-option l = app_of l.command ≡ with_rules (app_of l.fn.command)
+    (map rule (option_rows (take l.option-index l.options)))

@@ -10,4 +10,5 @@ returns-clause-list c =
     let first : 16 ≡ 0 + length c.both_keys-keys.result = omega arith in
     let whole : 24 ≡ 16 + length c.flag_bytes.result = omega arith in
     ap (λ (n : ℕ). take n c.write_at-2.new.data_out) whole ∙ c.write_at-2.ensures
-    ∙ ap₂ (λ (x y : List ℕ). x ++ y) (ap (λ (n : ℕ). take n c.write_at.new.data_out) first ∙ c.write_at.ensures ∙ c.both_keys-keys.ensures) c.flag_bytes.ensures
+    ∙ ap₂ (λ (x y : List ℕ). x ++ y) (ap (λ (n : ℕ). take n c.write_at.new.data_out) first
+    ∙ c.write_at.ensures ∙ c.both_keys-keys.ensures) c.flag_bytes.ensures

@@ -5,4 +5,5 @@ use Rattle.sg_tools.proofs.parameters.write_unmap_list.Given as goal
 
 -- the descriptors so far stand behind the header
 abbrev pub invariant-loop-k : goal.invariant-loop-k
-invariant-loop-k l = take (16 * l.k + 8) l.data_out ≡ unmap_header (length l.extents) ++ flat_map unmap_descriptor (take l.k l.extents)
+invariant-loop-k l = take (16 * l.k + 8) l.data_out ≡ unmap_header (length l.extents)
+    ++ flat_map unmap_descriptor (take l.k l.extents)

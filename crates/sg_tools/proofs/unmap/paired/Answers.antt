@@ -8,7 +8,13 @@ loop-k-preserved c =
     let i = c.loop-k.invariant in
     let more = pushed _ _ _ c.push.ensures in
     record {
-      extents = c.push.ensures ∙ ap (λ (t : List Extent). t ++ (record { lba = get_or c.args.lbas.now c.loop-k.k 0; count = get_or c.args.counts.now c.loop-k.k 0 } ∷ [])) i.extents
-          ∙ sym (paired_more c.args.lbas.now c.args.counts.now c.loop-k.k (omega arith) (omega arith));
+      extents = c.push.ensures ∙ ap (λ (t : List Extent). t
+          ++ (record {
+            lba = get_or c.args.lbas.now c.loop-k.k 0;
+            count = get_or c.args.counts.now
+                c.loop-k.k 0;
+          } ∷ [])) i.extents
+          ∙ sym (paired_more c.args.lbas.now c.args.counts.now c.loop-k.k (omega arith)
+          (omega arith));
       count = more ∙ ap (λ n. n + 1) i.count;
     }

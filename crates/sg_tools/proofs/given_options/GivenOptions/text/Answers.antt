@@ -7,4 +7,5 @@ use Rattle.sg_tools.proofs.given_options.GivenOptions.text.Goals as goal
 pub returns : goal.returns
 returns c =
     let view : rows_of (found_of c.self.inside.matches) ≡ c.args.self.now = c.self.view_is in
-    c.get_str.ensures ∙ first_value-rows (found_of c.self.inside.matches) c.args.option.now ∙ ap (λ (rows : List Row). text_of c.args.option.now rows) view
+    c.get_str.ensures ∙ first_value-rows (found_of c.self.inside.matches) c.args.option.now
+    ∙ ap (λ (rows : List Row). text_of c.args.option.now rows) view
