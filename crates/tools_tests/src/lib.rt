@@ -1,5 +1,8 @@
-//! Tests of the tools: exit statuses, as a table of sg3_utils has them.
+//! Tests of the tools: what their words send, how they are refused, and exit statuses, by the tables of
+//! sg3_utils.
 #![tactic(auto)]
 
 #[cfg(test)]
 mod exit_status;
+#[cfg(test)]
+mod tools;
