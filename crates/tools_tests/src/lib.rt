@@ -3,6 +3,4 @@
 #![tactic(auto)]
 
 #[cfg(test)]
-mod exit_status;
-#[cfg(test)]
 mod tools;

@@ -242,7 +242,7 @@ fn tools_refuse_words(rt: HostRuntime) -> Result<(), Fail> {
 }
 
 // The status code of a reply, its sense data, and the exit status.
-const STATUSES: [(u8, &[u8], u8); 12] = [
+const STATUSES: [(u8, &[u8], u8); 16] = [
     (0x00, b"", 0),
     (0x18, b"", 24),
     (0x08, b"", 99),
@@ -262,6 +262,10 @@ const STATUSES: [(u8, &[u8], u8); 12] = [
     (0x02, b"\x70\0\x06\0\0\0\0\x0A\0\0\0\0\x29\x00\0\0\0\0", 6),
     (0x02, b"\x72\x07\x27\x02\0\0\0\0", 7),
     (0x02, b"\x72\x0B\x4B\x00\0\0\0\0", 11),
+    (0x02, b"\x72\x05\x1A\x00\0\0\0\0", 5),
+    (0x02, b"\x72\x05\x20\x02\0\0\0\0", 5),
+    (0x02, b"\x72\x05\x21\x01\0\0\0\0", 5),
+    (0x02, b"\x72\x00\x00\x00\0\0\0\0", 99),
     (0x02, b"\x72\x03\x21\x00\0\0\0\0", 99),
 ];
 
