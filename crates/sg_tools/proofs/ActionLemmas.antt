@@ -1,6 +1,6 @@
 -- The service actions whose flags are given.
 use Rattle.std.proofs.Common.{◌≡◌, ◌<◌, ◌+◌, ℕ, List, [], ◌∷◌, ◌++◌, map, length, take, get_or}
-use Rattle.std.proofs.Common.{true, false, refl, ap, sym, ◌∙◌, append-nil}
+use Rattle.std.proofs.Common.{true, false, refl, ap, ◌∙◌, append-nil}
 use Rattle.std.specs.Prelude.{filter, if◌then◌else◌}
 use Rattle.std.proofs.lemmas.List.{map_more, map-append}
 use Rattle.std.proofs.lemmas.List.Elements.{filter-append}

@@ -1,6 +1,6 @@
 -- Extents of addresses and counts.
 use Rattle.std.proofs.Common.{◌≡◌, ◌≤◌, ◌<◌, ◌+◌, ◌-◌, ◌^◌, ℕ, zero, suc, List, [], ◌∷◌, ◌++◌}
-use Rattle.std.proofs.Common.{length, take, get_or, Bool, true, false, cond, Option, Some, None, Ok}
+use Rattle.std.proofs.Common.{length, take, get_or, Bool, true, false, cond, Option, Some, None}
 use Rattle.std.proofs.Common.{codes, nat_le, refl, sym, ap, ◌∙◌, arith}
 use Rattle.std.specs.Prelude.{◌==◌}
 use Rattle.std.proofs.lemmas.List.{take_all}

@@ -2,7 +2,7 @@
 -- docs/SCRIPT.md). Of two faults the first in this order is returned: `Usage` of clap, or of a list
 -- that is not given; `Exclusive`; `Number`; and then any other `Usage`.
 use Rattle.std.specs.Prelude.{ℕ, ◌^◌, ◌-◌, List, [], ◌∷◌, length, codes, filter, map, Option, Some}
-use Rattle.std.specs.Prelude.{None, is_some, Result, Ok, Err, Bool, true, false, ◌==◌, ◌&&◌, ◌||◌}
+use Rattle.std.specs.Prelude.{None, is_some, Result, Ok, Err, Bool, true, ◌==◌, ◌&&◌, ◌||◌}
 use Rattle.std.specs.Prelude.{nat_le, if◌then◌else◌}
 use Rattle.clap.specs.Words.{Row, Text}
 use Rattle.sg_tools.specs.Options.{command_line}

@@ -1,4 +1,4 @@
-use Rattle.std.proofs.Common.{arith, sym, ◌∙◌}
+use Rattle.std.proofs.Common.{arith, sym}
 use Rattle.sg_tools.proofs.NumberLemmas.{one_digit}
 use Rattle.sg_tools.proofs.reserve.type_or_0.Goals as goal
 

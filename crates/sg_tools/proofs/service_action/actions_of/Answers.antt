@@ -1,5 +1,4 @@
-use Rattle.std.proofs.Common.{refl, sym, ◌∙◌, arith, ap, length}
-use Rattle.std.proofs.lemmas.Grind.{common_steps}
+use Rattle.std.proofs.Common.{sym, ◌∙◌, arith}
 use Rattle.sg_tools.specs.Requests.{given_actions}
 use Rattle.sg_tools.proofs.ActionLemmas.{one_more, no_more}
 use Rattle.sg_tools.proofs.service_action.actions_of.Goals as goal

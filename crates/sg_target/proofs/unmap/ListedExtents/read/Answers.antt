@@ -1,4 +1,4 @@
-use Rattle.std.proofs.Common.{◌≡◌, ◌+◌, List, ◌∷◌, [], ◌++◌, length, length-append, ap, sym, ◌∙◌, arith}
+use Rattle.std.proofs.Common.{◌+◌, List, ◌∷◌, [], ◌++◌, length, length-append, ap, sym, ◌∙◌, arith}
 use Rattle.std.proofs.lemmas.List.FromFn.{map-range_with_len_more}
 use Rattle.sg_target.specs.ProvisioningCommands.{descriptor, first_descriptors}
 use Rattle.sg_target.specs.declared.extent.Extent.{Extent}
