@@ -10,7 +10,7 @@ use sg_wire::Printer;
 use std::io::Write;
 
 /// Prints a number in decimal.
-pub(crate) fn put_number<W: Write>(number: u64, out: &mut Printer<'_, W>)
+pub fn put_number<W: Write>(number: u64, out: &mut Printer<'_, W>)
     ensures { PrintsText W.contents out.old out.new (decimal number) }
 {
     let mut digits = Buffer::new();

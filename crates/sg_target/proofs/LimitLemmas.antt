@@ -37,7 +37,8 @@ use Rattle.sg_target.specs.declared.refusal.Reason.TheVariants.{ParameterListLen
 use Rattle.sg_units.specs.OutList.{list_length, out_list}
 use Rattle.sg_units.specs.ReserveOut.{Outcome, outcome, raised_by}
 use Rattle.sg_units.specs.Reservations.{IsConsistent}
-use Rattle.sg_units.proofs.ConsistencyLemmas.{Consistent, consistent-outcome}
+use Rattle.sg_units.specs.ReserveOut.{IsConsistentChange}
+use Rattle.sg_units.proofs.ConsistencyLemmas.{consistent-outcome}
 use Rattle.sg_units.proofs.OutcomeLemmas.{EffectIs}
 use Rattle.sg_units.specs.declared.unit_attention.UnitAttention.{UnitAttention}
 use Rattle.sg_target.specs.declared.inquiry_page.InquiryPage.{InquiryPage}
@@ -131,7 +132,7 @@ reporting-keeps : (state : State) (kind : Option ReserveInData) (n : ℕ) → Ke
 reporting-keeps state (Some kind) n h = h
 reporting-keeps state None n h = tt
 
-changing-keeps : (state : State) (i : ℕ) (o : Outcome) → KeepsOthers state → EffectIs Consistent o
+changing-keeps : (state : State) (i : ℕ) (o : Outcome) → KeepsOthers state → EffectIs IsConsistentChange o
     → EffectKeeps (changing_if_sound state i (result_map_both (λ change. change) out_refusal o))
 changing-keeps state i (Ok change) h k =
     let raised = raised_by state.reservations.registrations i change in
@@ -139,7 +140,7 @@ changing-keeps state i (Ok change) h k =
 changing-keeps state i (Err fault) h k = tt
 
 length-keeps : (state : State) (i : ℕ) (is_whole : Bool) (o : Outcome) → KeepsOthers state
-    → EffectIs Consistent o
+    → EffectIs IsConsistentChange o
     → EffectKeeps (changing_if_sound state i (cond is_whole
     (result_map_both (λ change. change) out_refusal o) (Err (Check ParameterListLengthError))))
 length-keeps state i true o h k = changing-keeps state i o h k

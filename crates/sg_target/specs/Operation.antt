@@ -13,7 +13,7 @@ use Rattle.sg_pages.specs.Identity.{IdentityFields}
 use Rattle.sg_pages.specs.ModePage.{ModeState}
 use Rattle.sg_pages.specs.ModeSense.{fields_of}
 use Rattle.sg_pages.specs.ProvisioningPages.{maximum_transfer_length}
-use Rattle.sg_units.specs.Reservations.{AreConsistent}
+use Rattle.sg_units.specs.ReserveOut.{IsConsistentChange}
 use Rattle.sg_units.specs.declared.reservation_state.ReservationState.{ReservationState}
 use Rattle.sg_target.specs.BlockCommands.{bytes_of, read_capacity_10, read_capacity_16, reading, writing}
 use Rattle.sg_target.specs.CapacityData.{block_length, capacity_10, capacity_16}
@@ -92,8 +92,7 @@ IsExecutable (Read extent) data_out = extent.count ≤ maximum_transfer_length
 IsExecutable (Write extent) data_out =
     (extent.count ≤ maximum_transfer_length) × (bytes_of extent ≤ length data_out)
 IsExecutable (Fill extent) data_out = block_length ≤ length data_out
-IsExecutable (ChangeReservations change) data_out =
-    AreConsistent change.registrations change.reservation
+IsExecutable (ChangeReservations change) data_out = IsConsistentChange change
 IsExecutable _ data_out = Unit {0}
 
 abbrev pub AreOnDisk : (capacity : ℕ) → List Extent → Type 0

@@ -29,7 +29,8 @@ powered_on config = record {
 
 -- No table of the disk is past its limit: no more addresses are mapped than the pool has blocks,
 -- each of the eight initiators has a queue of at most five pending conditions, all distinct, and at
--- most six initiators are registered, none twice. A reservation has the holders of its type.
+-- most six initiators are registered, none twice and none under the key 0. A reservation has the
+-- holders of its type.
 pub record IsWithinLimits (state : State) : Type 0 where
   pub mapped : len state.disk.contents ≤ state.disk.pool
   pub pending : ArePending state.attentions

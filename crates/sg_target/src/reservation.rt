@@ -4,7 +4,7 @@ ghost use Rattle.std.specs.Prelude.{IfOk, IfErr, IfSome, IsSome};
 ghost use Rattle.sg_wire.specs.Cut.{Puts};
 ghost use Rattle.sg_wire.specs.CutAnswer.{first_bytes};
 ghost use Rattle.sg_blocks.specs.Meter.{no_counts};
-ghost use Rattle.sg_units.specs.Reservations.{AreConsistent};
+ghost use Rattle.sg_units.specs.ReserveOut.{IsConsistentChange};
 ghost use Rattle.sg_target.specs.Operation.{executed_reply, reserve_out_fault};
 ghost use Rattle.sg_target.specs.ReservationCommands.{always_needs_type, changing_reservations};
 ghost use Rattle.sg_target.specs.ReservationCommands.{in_data_of, out_refusal, reservation_change};
@@ -130,7 +130,7 @@ impl<S: Store> Target<S> {
         ensures consistent { IfOk result (λ operation.
             IfOk (reservation_change self.now.state initiator action scope_type
             (first_bytes list_length data_out.now))
-            (λ change. AreConsistent change.registrations change.reservation)) }
+            IsConsistentChange) }
     {
         if always_needs_type(action) && ReservationType::with_scope_and_type(scope_type).is_none() {
             return Err(Refusal::Check(Reason::InvalidFieldInCdb { byte: 2 }));
@@ -151,8 +151,7 @@ impl<S: Store> Target<S> {
     ) -> Result<ReservationChange, Refusal>
         ensures value { result
             ≡ reservation_change self.now.state initiator action scope_type list.now }
-        ensures consistent { IfOk result (λ change.
-            AreConsistent change.registrations change.reservation) }
+        ensures consistent { IfOk result IsConsistentChange }
     {
         if list.len() != OutList::LENGTH {
             return Err(Refusal::Check(Reason::ParameterListLengthError));
@@ -170,7 +169,7 @@ impl<S: Store> Target<S> {
         initiator: Initiator,
         change: ReservationChange,
     ) -> Reply
-        requires { AreConsistent change.registrations change.reservation }
+        requires { IsConsistentChange change }
         ensures reply { result ≡ executed_reply 0 no_counts }
         ensures state { self.new.state
             ≡ (changing_reservations self.old.state initiator change).after }

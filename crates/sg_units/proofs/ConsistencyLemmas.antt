@@ -10,10 +10,12 @@ use Rattle.std.proofs.lemmas.List.{length-append}
 use Rattle.std.proofs.lemmas.List.Folds.{list_any-append}
 use Rattle.std.proofs.lemmas.List.Sums.{sum_by-cons, sum_by_push, length-filter, count_by-le-length}
 use Rattle.sg_units.specs.OutList.{has_unsupported_flag}
-use Rattle.sg_units.specs.ReserveOut.{Outcome, accepts_key, action_outcome, outcome}
+use Rattle.sg_units.specs.ReserveOut.{IsConsistentChange, Outcome, accepts_key, action_outcome}
+use Rattle.sg_units.specs.ReserveOut.{outcome}
 use Rattle.sg_units.specs.ReserveOut.{preempt_cases, register_cases, release_cases}
 use Rattle.sg_units.specs.ReserveOut.{reserve_cases, state_after}
-use Rattle.sg_units.specs.Registrations.{is_of, is_registered, is_registered_under, is_under}
+use Rattle.sg_units.specs.Registrations.{has_key, is_of, is_registered, is_registered_under}
+use Rattle.sg_units.specs.Registrations.{is_under}
 use Rattle.sg_units.specs.Registrations.{registration, registrations_of, with_key_replaced}
 use Rattle.sg_units.specs.Registrations.{with_registration}
 use Rattle.sg_units.specs.ReservationType.{is_all_registrants, type_of}
@@ -203,6 +205,44 @@ is_registered-filter p i f (r ∷ rs) h =
     filtered_first r i (p r) (filter p rs) (is_registered rs i) (f r)
     (is_registered-filter p i f rs) h
 
+-- ---- No key is 0
+
+or_false : (a b : Bool) → (a || b) ≡ false → (a ≡ false) × (b ≡ false)
+or_false true b h = cc
+or_false false b h = (refl, h)
+
+key-filtered : (key : ℕ) (r : Registration) (keep : Bool) (rest : List Registration)
+    → is_under key r ≡ false → has_key rest key ≡ false
+    → has_key (cond keep (r ∷ rest) rest) key ≡ false
+key-filtered key r true rest e h = rw (e, h) refl
+key-filtered key r false rest e h = h
+
+has_key-filter : (p : Registration → Bool) (rs : List Registration) (key : ℕ)
+    → has_key rs key ≡ false → has_key (filter p rs) key ≡ false
+has_key-filter p [] key h = refl
+has_key-filter p (r ∷ rs) key h =
+    let parts = or_false (is_under key r) (has_key rs key) h in
+    key-filtered key r (p r) (filter p rs) parts.0 (has_key-filter p rs key parts.1)
+
+key-replaced : (r : Registration) (i key : ℕ) (is_own : Bool) → (key == 0) ≡ false
+    → is_under 0 r ≡ false → is_under 0 (cond is_own (registration i key) r) ≡ false
+key-replaced r i key true e h = e
+key-replaced r i key false e h = h
+
+has_key-replaced : (rs : List Registration) (i key : ℕ) → (key == 0) ≡ false
+    → has_key rs 0 ≡ false → has_key (with_key_replaced rs i key) 0 ≡ false
+has_key-replaced [] i key e h = refl
+has_key-replaced (r ∷ rs) i key e h =
+    let parts = or_false (is_under 0 r) (has_key rs 0) h in
+    rw (key-replaced r i key (is_of i r) e parts.0, has_key-replaced rs i key e parts.1) refl
+
+has_key-push : (rs : List Registration) (i key : ℕ) → (key == 0) ≡ false → has_key rs 0 ≡ false
+    → has_key (with_registration rs i key) 0 ≡ false
+has_key-push [] i key e h = rw e refl
+has_key-push (r ∷ rs) i key e h =
+    let parts = or_false (is_under 0 r) (has_key rs 0) h in
+    rw (parts.0, has_key-push rs i key e parts.1) refl
+
 -- ---- What is consistent
 
 consistent-filter : (p : Registration → Bool) (rs : List Registration)
@@ -211,15 +251,18 @@ consistent-filter : (p : Registration → Bool) (rs : List Registration)
     → AreConsistent (filter p rs) new
 consistent-filter p rs held new h k n = record {
   one_each = λ i. omega (arith, h.one_each i, registrations_of-filter p rs i);
+  no_zero_key = has_key-filter p rs 0 h.no_zero_key;
   at_most_six = omega (arith, h.at_most_six, length-filter-le p rs);
   held = k;
   holder = n;
 }
 
 consistent-replaced : (rs : List Registration) (held : Option Reservation) (i key : ℕ)
-    → AreConsistent rs held → AreConsistent (with_key_replaced rs i key) held
-consistent-replaced rs held i key h = record {
+    → (key == 0) ≡ false → AreConsistent rs held
+    → AreConsistent (with_key_replaced rs i key) held
+consistent-replaced rs held i key e h = record {
   one_each = λ j. omega (arith, h.one_each j, registrations_of-replaced rs i key j);
+  no_zero_key = has_key-replaced rs i key e h.no_zero_key;
   at_most_six = omega (arith, h.at_most_six, length-replaced rs i key);
   held = held-replaced held rs i key h.held;
   holder = h.holder;
@@ -230,10 +273,11 @@ six : (rs : List Registration) → (length rs == 6) ≡ false → length rs ≤ 
 six rs e h = grind (arith, nat_tests)
 
 consistent-push : (rs : List Registration) (held : Option Reservation) (i key : ℕ)
-    → is_registered rs i ≡ false → (length rs == 6) ≡ false → AreConsistent rs held
-    → AreConsistent (with_registration rs i key) held
-consistent-push rs held i key new room h = record {
+    → is_registered rs i ≡ false → (length rs == 6) ≡ false → (key == 0) ≡ false
+    → AreConsistent rs held → AreConsistent (with_registration rs i key) held
+consistent-push rs held i key new room e h = record {
   one_each = λ j. registrations_of-push rs i key j new (h.one_each j);
+  no_zero_key = has_key-push rs i key e h.no_zero_key;
   at_most_six =
       omega (arith, length-append rs (registration i key ∷ []), six rs room h.at_most_six);
   held = held-push held rs i key h.held;
@@ -243,11 +287,18 @@ consistent-push rs held i key new room h = record {
 consistent-held : (rs : List Registration) (held new : Option Reservation) → AreConsistent rs held
     → is_held_if_any new rs ≡ true → names_holder_if_any new ≡ true → AreConsistent rs new
 consistent-held rs held new h k n =
-    record { one_each = h.one_each; at_most_six = h.at_most_six; held = k; holder = n }
+    record {
+      one_each = h.one_each;
+      no_zero_key = h.no_zero_key;
+      at_most_six = h.at_most_six;
+      held = k;
+      holder = n;
+    }
 
 pub consistent-none : AreConsistent [] None
 consistent-none = record {
   one_each = λ i. omega arith;
+  no_zero_key = refl;
   at_most_six = omega arith;
   held = refl;
   holder = refl;
@@ -255,54 +306,52 @@ consistent-none = record {
 
 -- ---- Outcomes
 
-abbrev pub Consistent : ReservationChange → Type 0
-Consistent change = AreConsistent change.registrations change.reservation
-
 consistent-register : (state : ReservationState) (i sark : ℕ) → IsConsistent state
-    → FirstIs Consistent (register_cases state i sark)
+    → FirstIs IsConsistentChange (register_cases state i sark)
 unfolding register_cases
 consistent-register state i sark h =
     let all = state.registrations in
     let held = state.reservation in
     let others = λ (r : Registration). not (is_of i r) in
-    case_or Consistent _ _ (λ _. effective Consistent _ h)
-    (λ _. case_or Consistent _ _ (λ _. refused Consistent _)
-    (λ full. case_or Consistent _ _
-    (λ new. effective Consistent _
-    (consistent-push all held i sark (not_true _ new) (and_false _ _ new full) h))
-    (λ _. case_or Consistent _ _
-    (λ _. effective Consistent _ (consistent-replaced all held i sark h))
-    (λ _. last_case Consistent _ _ refl
-    (effective Consistent _
+    case_or IsConsistentChange _ _ (λ _. effective IsConsistentChange _ h)
+    (λ zero. case_or IsConsistentChange _ _ (λ _. refused IsConsistentChange _)
+    (λ full. case_or IsConsistentChange _ _
+    (λ new. effective IsConsistentChange _
+    (consistent-push all held i sark (not_true _ new) (and_false _ _ new full)
+    (and_false _ _ new zero) h))
+    (λ _. case_or IsConsistentChange _ _
+    (λ other. effective IsConsistentChange _ (consistent-replaced all held i sark (not_true _ other) h))
+    (λ _. last_case IsConsistentChange _ _ refl
+    (effective IsConsistentChange _
     (consistent-filter others all held _ h (held-while_held held _)
     (named-while_held held _ h.holder)))))))
 
 consistent-reserve : (state : ReservationState) (i : ℕ) (type : ReservationType)
     → is_registered state.registrations i ≡ true → IsConsistent state
-    → FirstIs Consistent (reserve_cases state i type)
+    → FirstIs IsConsistentChange (reserve_cases state i type)
 unfolding reserve_cases
 consistent-reserve state i type here h =
     let all = state.registrations in
-    case_or Consistent _ _
-    (λ _. effective Consistent _
+    case_or IsConsistentChange _ _
+    (λ _. effective IsConsistentChange _
     (consistent-held all state.reservation _ h (has_holder-taken type all i here)
     (named-taken type i)))
-    (λ _. case_or Consistent _ _ (λ _. effective Consistent _ h)
-    (λ _. last_case Consistent _ _ refl (refused Consistent _)))
+    (λ _. case_or IsConsistentChange _ _ (λ _. effective IsConsistentChange _ h)
+    (λ _. last_case IsConsistentChange _ _ refl (refused IsConsistentChange _)))
 
 consistent-release : (state : ReservationState) (i : ℕ) (type : ReservationType)
-    → IsConsistent state → FirstIs Consistent (release_cases state i type)
+    → IsConsistent state → FirstIs IsConsistentChange (release_cases state i type)
 unfolding release_cases
 consistent-release state i type h =
     let all = state.registrations in
-    case_or Consistent _ _ (λ _. effective Consistent _ h)
-    (λ _. case_or Consistent _ _ (λ _. refused Consistent _)
-    (λ _. last_case Consistent _ _ refl
-    (effective Consistent _ (consistent-held all state.reservation None h refl refl))))
+    case_or IsConsistentChange _ _ (λ _. effective IsConsistentChange _ h)
+    (λ _. case_or IsConsistentChange _ _ (λ _. refused IsConsistentChange _)
+    (λ _. last_case IsConsistentChange _ _ refl
+    (effective IsConsistentChange _ (consistent-held all state.reservation None h refl refl))))
 
 consistent-preempt : (state : ReservationState) (i : ℕ) (type : Option ReservationType) (sark : ℕ)
     → is_registered state.registrations i ≡ true → IsConsistent state
-    → FirstIs Consistent (preempt_cases state i type sark)
+    → FirstIs IsConsistentChange (preempt_cases state i type sark)
 unfolding preempt_cases
 consistent-preempt state i type sark here h =
     let all = state.registrations in
@@ -312,19 +361,19 @@ consistent-preempt state i type sark here h =
     let stays =
     is_registered-filter stay i (λ r e. or_left (is_of i r) (not (is_under sark r)) e) all here in
     let alone = is_registered-filter (is_of i) i (λ r e. e) all here in
-    case_or Consistent _ _ (λ _. refused Consistent _)
-    (λ _. case_or Consistent _ _
-    (λ _. taking Consistent held i type _
-    (λ type. effective Consistent _
+    case_or IsConsistentChange _ _ (λ _. refused IsConsistentChange _)
+    (λ _. case_or IsConsistentChange _ _
+    (λ _. taking IsConsistentChange held i type _
+    (λ type. effective IsConsistentChange _
     (consistent-filter stay all held _ h (has_holder-taken type _ i stays) (named-taken type i))))
-    (λ _. case_or Consistent _ _
-    (λ _. taking Consistent held i type _
-    (λ type. effective Consistent _
+    (λ _. case_or IsConsistentChange _ _
+    (λ _. taking IsConsistentChange held i type _
+    (λ type. effective IsConsistentChange _
     (consistent-filter (is_of i) all held _ h (has_holder-taken type _ i alone)
     (named-taken type i))))
-    (λ _. case_or Consistent _ _ (λ _. refused Consistent _)
-    (λ _. last_case Consistent _ _ refl
-    (effective Consistent _
+    (λ _. case_or IsConsistentChange _ _ (λ _. refused IsConsistentChange _)
+    (λ _. last_case IsConsistentChange _ _ refl
+    (effective IsConsistentChange _
     (consistent-filter others all held _ h (held-while_held held _)
     (named-while_held held _ h.holder)))))))
 
@@ -332,15 +381,15 @@ consistent-preempt state i type sark here h =
 consistent-action : (state : ReservationState) (i : ℕ) (action : OutAction)
     (type : Option ReservationType) (key sark : ℕ)
     → accepts_key state.registrations i action key ≡ true → IsConsistent state
-    → EffectIs Consistent (action_outcome state i action type sark)
+    → EffectIs IsConsistentChange (action_outcome state i action type sark)
 consistent-action state i Register type key sark a h =
     (consistent-register state i sark h).first
 consistent-action state i Reserve type key sark a h =
     let here = is_registered-under state.registrations i key a in
-    typed Consistent type _ (λ type. (consistent-reserve state i type here h).first)
+    typed IsConsistentChange type _ (λ type. (consistent-reserve state i type here h).first)
 consistent-action state i Release type key sark a h =
-    typed Consistent type _ (λ type. (consistent-release state i type h).first)
-consistent-action state i Clear type key sark a h = effective Consistent _ consistent-none
+    typed IsConsistentChange type _ (λ type. (consistent-release state i type h).first)
+consistent-action state i Clear type key sark a h = effective IsConsistentChange _ consistent-none
 consistent-action state i Preempt type key sark a h =
     let here = is_registered-under state.registrations i key a in
     (consistent-preempt state i type sark here h).first
@@ -352,18 +401,18 @@ consistent-action state i RegisterAndIgnoreExistingKey type key sark a h =
 
 pub consistent-outcome : (state : ReservationState) (i : ℕ) (action : OutAction) (scope_type : ℕ)
     (list : OutList) → IsConsistent state
-    → EffectIs Consistent (outcome state i action scope_type list)
+    → EffectIs IsConsistentChange (outcome state i action scope_type list)
 unfolding outcome
 consistent-outcome state i action scope_type list h =
     let key = list.reservation_key in
     let sark = list.service_action_key in
     let accepts = accepts_key state.registrations i action key in
-    choice Consistent (has_unsupported_flag action list) _ _
-    (λ _. refused Consistent (ListField 20))
-    (λ _. choice Consistent (not accepts) _ _ (λ _. refused Consistent Conflict)
+    choice IsConsistentChange (has_unsupported_flag action list) _ _
+    (λ _. refused IsConsistentChange (ListField 20))
+    (λ _. choice IsConsistentChange (not accepts) _ _ (λ _. refused IsConsistentChange Conflict)
     (λ a. consistent-action state i action (type_of scope_type) key sark (not_false accepts a) h))
 
 pub consistent-state_after : (state : ReservationState) (o : Outcome) → IsConsistent state
-    → EffectIs Consistent o → IsConsistent (state_after state o)
+    → EffectIs IsConsistentChange o → IsConsistent (state_after state o)
 consistent-state_after state (Ok change) h k = k.shown change refl
 consistent-state_after state (Err fault) h k = h

@@ -3,7 +3,8 @@ use Rattle.std.specs.Prelude.{ℕ, ◌≡◌, ◌≤◌, ◌==◌, Bool, true, f
 use Rattle.std.specs.Prelude.{List, [], length, Option, Some, None, is_some, is_none}
 use Rattle.std.specs.List.{list_any}
 use Rattle.std.specs.Option.{option_map_or}
-use Rattle.sg_units.specs.Registrations.{is_registered, max_registrations, registrations_of}
+use Rattle.sg_units.specs.Registrations.{has_key, is_registered, max_registrations}
+use Rattle.sg_units.specs.Registrations.{registrations_of}
 use Rattle.sg_units.specs.ReservationType.{is_all_registrants, is_same_type}
 use Rattle.sg_units.specs.declared.registrations.Registration.{Registration}
 use Rattle.sg_units.specs.declared.reservation.Reservation.{Reservation}
@@ -68,10 +69,11 @@ names_holder_if_any None = true
 names_holder_if_any (Some reservation) =
     names_holder (is_all_registrants reservation.kind) reservation.holder
 
--- No initiator is registered twice, there are no more registrations than there is room for, and a
--- reservation has the holders that its type asks for.
+-- No initiator is registered twice, none under the key 0, there are no more registrations than there
+-- is room for, and a reservation has the holders that its type asks for.
 pub record AreConsistent (registrations : List Registration) (reservation : Option Reservation) : Type 0 where
   pub one_each : (initiator : ℕ) → registrations_of registrations initiator ≤ 1
+  pub no_zero_key : has_key registrations 0 ≡ false
   pub at_most_six : length registrations ≤ max_registrations
   pub held : is_held_if_any reservation registrations ≡ true
   pub holder : names_holder_if_any reservation ≡ true

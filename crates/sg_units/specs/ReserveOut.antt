@@ -10,7 +10,8 @@ use Rattle.sg_units.specs.Raised.{Conditions}
 use Rattle.sg_units.specs.Registrations.{has_key, is_registered, is_registered_under, max_registrations}
 use Rattle.sg_units.specs.Registrations.{with_key_replaced, with_registration, without_initiator}
 use Rattle.sg_units.specs.Registrations.{without_key, without_key_of_others, without_others}
-use Rattle.sg_units.specs.Reservations.{has_holder, has_type, is_holder, taken, while_held}
+use Rattle.sg_units.specs.Reservations.{AreConsistent, has_holder, has_type, is_holder, taken}
+use Rattle.sg_units.specs.Reservations.{while_held}
 use Rattle.sg_units.specs.ReservationType.{is_shared, type_of}
 use Rattle.sg_units.specs.declared.reservation_change.ReservationChange.{ReservationChange}
 use Rattle.sg_wire.specs.declared.command.out_action.OutAction.{OutAction}
@@ -213,6 +214,10 @@ outcome state caller action scope_type list =
     ∷ [])
 
 -- ---- What it leaves
+
+-- The registrations and the reservation of a change belong together.
+abbrev pub IsConsistentChange : ReservationChange → Type 0
+IsConsistentChange change = AreConsistent change.registrations change.reservation
 
 -- What is raised for an initiator: nothing for the caller, nor for one that was not registered.
 abbrev pub raised_for : List Registration → (caller : ℕ) → ReservationChange → (initiator : ℕ)

@@ -27,9 +27,9 @@ ghost use Rattle.sg_wire.specs.Cut.{Puts};
 ghost use Rattle.sg_units.specs.Access.{allows};
 ghost use Rattle.sg_units.specs.ReserveIn.{capabilities_data, keys_data};
 ghost use Rattle.sg_units.specs.ReserveIn.{reservation_data};
-ghost use Rattle.sg_units.specs.ReserveOut.{generation_after, outcome, raised_by, reply_of};
-ghost use Rattle.sg_units.specs.ReserveOut.{state_after};
-ghost use Rattle.sg_units.specs.Reservations.{AreConsistent, IsConsistent, empty_state};
+ghost use Rattle.sg_units.specs.ReserveOut.{IsConsistentChange, generation_after, outcome};
+ghost use Rattle.sg_units.specs.ReserveOut.{raised_by, reply_of, state_after};
+ghost use Rattle.sg_units.specs.Reservations.{IsConsistent, empty_state};
 
 impl Reservations {
     /// No initiator is registered, no reservation is held, and PRGENERATION is 0.
@@ -55,8 +55,7 @@ impl Reservations {
         list: &OutList,
     ) -> Result<ReservationChange, OutFault>
         ensures value { result ≡ outcome self.now caller action scope_type list.now }
-        ensures consistent { IfOk result (λ change.
-            AreConsistent change.registrations change.reservation) }
+        ensures consistent { IfOk result IsConsistentChange }
     {
         self.state.outcome(caller, action, scope_type, list)
     }
@@ -64,7 +63,7 @@ impl Reservations {
     /// Applies the change of an initiator's command, and returns the unit attention conditions that
     /// it establishes for others.
     pub fn apply(&mut self, caller: Initiator, change: ReservationChange) -> Raised
-        requires { AreConsistent change.registrations change.reservation }
+        requires { IsConsistentChange change }
         ensures raised { result ≡ raised_by self.old.registrations caller change }
         ensures state { self.new ≡ state_after self.old (Ok change) }
         ensures consistent { IsConsistent self.new }

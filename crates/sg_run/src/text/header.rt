@@ -1,19 +1,10 @@
 // The first line of what a line of a script prints.
-ghost use Rattle.std.specs.Prelude.{decimal};
 ghost use Rattle.sg_run.specs.LineText.{line_header};
-ghost use Rattle.sg_run.specs.Printed.{PrintsText};
+ghost use Rattle.sg_wire.specs.Printer.{PrintsText};
 
-use itoa::Buffer;
+use sg_decode::put_number;
 use sg_wire::Printer;
 use std::io::Write;
-
-/// Prints a number in decimal.
-pub(crate) fn print_number<W: Write>(number: u64, out: &mut Printer<'_, W>)
-    ensures { PrintsText W.contents out.old out.new (decimal number) }
-{
-    let mut digits = Buffer::new();
-    out.put(digits.format(number).as_bytes());
-}
 
 /// Prints a message about the line with this number, as in `line 12: GOOD`.
 #[tactic(auto, using(crate::proofs::TextLemmas::prints))]
@@ -21,7 +12,7 @@ pub(crate) fn print_line_header<W: Write>(number: u64, message: &[u8], out: &mut
     ensures { PrintsText W.contents out.old out.new (line_header number message.now) }
 {
     out.put(b"line ");
-    print_number(number, out);
+    put_number(number, out);
     out.put(b": ");
     out.put(message);
     out.put(b"\n");

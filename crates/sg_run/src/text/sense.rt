@@ -3,7 +3,7 @@ ghost use Rattle.std.specs.Prelude.{◌≡◌, option_map};
 ghost use Rattle.sg_wire.specs.Sense.{fields_of};
 ghost use Rattle.sg_wire.specs.SenseData.{read_sense};
 ghost use Rattle.sg_run.specs.Outcome.{sense_lines};
-ghost use Rattle.sg_run.specs.Printed.{PrintsText};
+ghost use Rattle.sg_wire.specs.Printer.{PrintsText};
 
 use sg_decode::put_read_sense;
 use sg_wire::{Printer, Sense};
