@@ -1,5 +1,5 @@
-// Texts of answers, as a reader sees them. Their bytes are those of the standards' examples, and of
-// other targets as their documents show them; their texts are written by hand.
+// Texts of answers, as a reader sees them. Bytes and texts are written by hand: the bytes as the
+// standards lay them out, with values of other targets than ours.
 mod inquiry;
 mod mode_parameters;
 mod provisioning;

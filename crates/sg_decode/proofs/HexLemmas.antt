@@ -209,9 +209,8 @@ no-line : (offset : ℕ) (bytes : List ℕ) → first_hex_lines_from offset 0 by
 unfolding first_hex_lines_from
 no-line offset bytes = refl
 
--- the offsets of sixteen lines that follow a multiple of 256 are that many behind it, also where
--- the
--- offset has begun again at 0
+-- the lines of a chunk, whose offset is a multiple of 256, have offsets that do not begin again
+-- within it
 lines-of-chunk : (bytes part rest : List ℕ) (count k : ℕ) → 16 * count % 256 ≡ 0
     → drop (16 * count) bytes ≡ part ++ rest → length part ≡ min 256 (length (part ++ rest))
     → 16 * k < length part + 16

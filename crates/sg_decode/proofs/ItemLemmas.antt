@@ -190,7 +190,7 @@ entries_end reported bytes entry first start end a b c w same ending q =
     rw (w.whole, entries-stop reported bytes entry start w.count end same (omega arith) ending)
     (Prints-on w.printed (rw ending at q))
 
--- the header of an entry is told by its first byte
+-- the length of an entry's header depends on its first byte alone
 pub header_own : (kind : EntryKind) (rest : List ℕ) (n : ℕ) → 1 ≤ n
     → (entry_of kind).header (take n rest) ≡ (entry_of kind).header rest
 header_own SupportedPages rest n some = refl
@@ -373,7 +373,7 @@ unfolding all_shown
 one_ending reported bytes x a b ending p =
     (rw (shown-none reported bytes x [] ending) (rw ending at p), rw ending refl)
 
--- an item that is needed and not told of
+-- an item that has to be present and has no text
 pub blank_shown : (reported : Option ℕ) (bytes : List ℕ) (first end : ℕ) (a b : Printing)
     (all : Bool) → all ≡ is_shown reported bytes end → Prints a b (end_text reported bytes end)
     → Prints a b (shown reported bytes (item first end (λ own. []) ∷ []))

@@ -1,7 +1,7 @@
 // Standard INQUIRY data and pages of vital product data.
 use super::{Answer, Kind};
 
-// That of a virtual CD-ROM drive, which is removable.
+// Of a CD-ROM drive, which is removable.
 pub(super) const INQUIRY: Answer = Answer {
     kind: Kind::Inquiry,
     bytes: b"\x05\x80\x05\x02\x1f\x00\x00\x10QEMU    QEMU DVD-ROM    2.5+",

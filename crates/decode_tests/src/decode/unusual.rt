@@ -6,7 +6,7 @@ const STANDARD: &[u8] = b"\x00\x00\x06\x02\x1f\x00\x00\x00SGMODEL THIN DISK     
 
 pub(super) const UNUSUAL: [(Kind, &[u8], &str); 27] = [
     (Kind::Inquiry, b"", "  truncated\n"),
-    // Vendor specific bytes and version descriptors, as scsi_debug has them.
+    // With vendor specific bytes and version descriptors.
     (
         Kind::Inquiry,
         b"\x00\x00\x07\x02\x5b\x01\x00\x02Linux   scsi_debug      0191\
