@@ -1,4 +1,5 @@
-use Rattle.std.proofs.Common.{◌≡◌, ap, sym, ◌∙◌, List, [], ◌∷◌, true, map, refl, Ok, Err, inl, inr}
+use Rattle.std.proofs.Common.{◌≡◌, ap, sym, ◌∙◌, List, [], ◌∷◌, Bool, true, false, ◌&&◌}
+use Rattle.std.proofs.Common.{map, refl, Ok, Err, inl, inr}
 use Rattle.clap.proofs.OnLiterals.{clap_on_literals}
 use Rattle.clap.specs.Words.{App, Row, Text, Kinds, app_of, found_of, rows_of, is_simple}
 use Rattle.clap.specs.Words.{is_simple_and_free, fault_of, matches_of, IsAmong}
@@ -20,14 +21,12 @@ is_free SgUnmap = refl
 is_free SgGetLbaStatus = refl
 is_free SgPersist = refl
 
+left : (a b : Bool) → (a && b) ≡ true → a ≡ true
+left true b h = refl
+left false b h = h
+
 is_plain : (tool : ToolName) → is_simple (command_line tool) ≡ true
-unfolding clap_on_literals with_rules
-is_plain SgInq = refl
-is_plain SgVpd = refl
-is_plain SgModes = refl
-is_plain SgUnmap = refl
-is_plain SgGetLbaStatus = refl
-is_plain SgPersist = refl
+is_plain tool = left _ _ (is_free tool)
 
 -- where there is no fault, the rows are the answer
 given_options-ok : (a : App) (words : List Text) (rows : List Row) → fault_of a words ≡ []
