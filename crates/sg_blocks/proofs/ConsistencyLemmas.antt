@@ -1,5 +1,6 @@
 -- A table and a pool that are consistent, after a step.
-use Rattle.std.proofs.Common.{◌≡◌, ◌≢◌, ℕ, ◌+◌, ◌-◌, ◌<◌, ◌≤◌, List, ◌∷◌, ◌++◌, length, get_or, set, arith, sym, ap, ◌∙◌, cond, Bool, eq-eqb, refl, length-set}
+use Rattle.std.proofs.Common.{◌≡◌, ◌≢◌, ℕ, ◌+◌, ◌-◌, ◌<◌, ◌≤◌, List, ◌∷◌, ◌++◌, length, get_or, set}
+use Rattle.std.proofs.Common.{arith, sym, ap, ◌∙◌, cond, Bool, eq-eqb, refl, length-set}
 use Rattle.std.proofs.lemmas.List.Edits.{length-insert}
 use Rattle.std.specs.Prelude.{insert}
 use Rattle.std.specs.FinMap as map
@@ -9,44 +10,60 @@ use Rattle.sg_blocks.specs.Slots.{slots_of, one_if_equal, occurrences, IsEachOnc
 use Rattle.sg_blocks.specs.declared.run.Run.{Run}
 use Rattle.sg_blocks.proofs.DiskLemmas.{len-replaced}
 use Rattle.sg_blocks.proofs.RecordLemmas.{len-contents_of}
-use Rattle.sg_blocks.proofs.OccurrenceLemmas.{occurrences-append, occurrences-more, occurrences-at, occurrences-insert, once-le, below_count}
+use Rattle.sg_blocks.proofs.OccurrenceLemmas.{occurrences-append, occurrences-more, occurrences-at}
+use Rattle.sg_blocks.proofs.OccurrenceLemmas.{occurrences-insert, once-le, below_count}
 use Rattle.sg_blocks.proofs.IndexLemmas.{sorted-insert, mapped_among-indices}
 use Rattle.sg_blocks.proofs.BlockLemmas.{added, overwritten}
 
 -- how often a slot occurs among those of the records and the free ones, of which one is taken
-pub parted : (t s : ℕ) (used free : List ℕ) → occurrences t (used ++ s ∷ free) ≡ occurrences t used + (one_if_equal t s + occurrences t free)
-parted t s used free = occurrences-append t used (s ∷ free) ∙ ap (λ n. occurrences t used + n) (occurrences-more t s free)
+pub parted : (t s : ℕ) (used free : List ℕ) → occurrences t (used ++ s ∷ free) ≡
+    occurrences t used + (one_if_equal t s + occurrences t free)
+parted t s used free = occurrences-append t used (s ∷ free)
+    ∙ ap (λ n. occurrences t used + n) (occurrences-more t s free)
 
 pub same_slot : (s : ℕ) → one_if_equal s s ≡ 1
 same_slot s = ap (λ (b : Bool). cond b 1 0) (eq-eqb s s refl)
 
 -- a slot that is taken is among the slots, and no record has it
 pub taken_below : (count : ℕ) (used free : List ℕ) (s : ℕ) → IsEachOnce count (used ++ s ∷ free) → s < count
-taken_below count used free s once = let p = parted s s used free in let one = same_slot s in below_count count (used ++ s ∷ free) s once (omega arith)
+taken_below count used free s once = let p = parted s s used free in let one = same_slot s in
+    below_count count (used ++ s ∷ free) s once (omega arith)
 
-taken_unused : (count : ℕ) (used free : List ℕ) (s : ℕ) → IsEachOnce count (used ++ s ∷ free) → occurrences s used ≡ 0
+taken_unused : (count : ℕ) (used free : List ℕ) (s : ℕ) → IsEachOnce count (used ++ s ∷ free)
+    → occurrences s used ≡ 0
 taken_unused count used free s once =
-    let p = parted s s used free in let one = same_slot s in let e = once-le count (used ++ s ∷ free) s once in omega arith
+    let p = parted s s used free in let one = same_slot s in let e =
+    once-le count (used ++ s ∷ free) s once in omega arith
 
-taken_once : (count : ℕ) (rs : List Run) (free : List ℕ) (i : ℕ) (r : Run) → IsEachOnce count (slots_of rs ++ r.slot ∷ free) → IsEachOnce count (slots_of (insert rs i r) ++ free)
+taken_once : (count : ℕ) (rs : List Run) (free : List ℕ) (i : ℕ) (r : Run)
+    → IsEachOnce count (slots_of rs ++ r.slot ∷ free)
+    → IsEachOnce count (slots_of (insert rs i r) ++ free)
 taken_once count rs free i r once = record {
   each = λ t.
-      let p = parted t r.slot (slots_of rs) free in let d = occurrences-append t (slots_of (insert rs i r)) free in let e = occurrences-insert t rs i r in
-      let same : occurrences t (slots_of (insert rs i r) ++ free) ≡ occurrences t (slots_of rs ++ r.slot ∷ free) = omega arith in same ∙ once.each t;
+      let p = parted t r.slot (slots_of rs) free in let d =
+      occurrences-append t (slots_of (insert rs i r)) free in let e =
+      occurrences-insert t rs i r in
+      let same : occurrences t (slots_of (insert rs i r) ++ free) ≡
+      occurrences t (slots_of rs ++ r.slot ∷ free) = omega arith in same ∙ once.each t;
 }
 
-used_once : (count : ℕ) (used free : List ℕ) (s : ℕ) → IsEachOnce count (used ++ free) → occurrences s used ≤ 1
-used_once count used free s once = let a = occurrences-append s used free in let e = once-le count (used ++ free) s once in omega arith
+used_once : (count : ℕ) (used free : List ℕ) (s : ℕ) → IsEachOnce count (used ++ free)
+    → occurrences s used ≤ 1
+used_once count used free s once = let a = occurrences-append s used free in let e =
+    once-le count (used ++ free) s once in omega arith
 
 -- the slots of the records are among all
-pub have_slots : (rs : List Run) (bs : List (List ℕ)) (free : List ℕ) (room : ℕ) → IsConsistent rs bs free room → HaveSlots rs (length bs)
+pub have_slots : (rs : List Run) (bs : List (List ℕ)) (free : List ℕ) (room : ℕ)
+    → IsConsistent rs bs free room → HaveSlots rs (length bs)
 have_slots rs bs free room consistent i r h e =
     let some = occurrences-at rs i r h (sym e) in
     let both = occurrences-append r.slot (slots_of rs) free in
     below_count (length bs) (slots_of rs ++ free) r.slot consistent.once (omega arith)
 
 -- a block more
-pub consistent-added : (rs : List Run) (bs : List (List ℕ)) (free : List ℕ) (room i : ℕ) (r : Run) (b : List ℕ) → IsConsistent rs bs (r.slot ∷ free) room → IsLowerBound rs i r.start → ((j : ℕ) → j < length rs → start_of rs j ≢ r.start)
+pub consistent-added : (rs : List Run) (bs : List (List ℕ)) (free : List ℕ) (room i : ℕ) (r : Run)
+    (b : List ℕ) → IsConsistent rs bs (r.slot ∷ free) room → IsLowerBound rs i r.start
+    → ((j : ℕ) → j < length rs → start_of rs j ≢ r.start)
     → IsConsistent (insert rs i r) (set bs r.slot b) free room
 consistent-added rs bs free room i r b consistent p none =
     let len : length (insert rs i r) ≡ length rs + 1 = length-insert rs i r p.within in
@@ -57,13 +74,17 @@ consistent-added rs bs free room i r b consistent p none =
       pool = rw length-set consistent.pool;
     }
 
-pub contents-added : (rs : List Run) (bs : List (List ℕ)) (free : List ℕ) (room i : ℕ) (r : Run) (b : List ℕ) → IsConsistent rs bs (r.slot ∷ free) room → ((j : ℕ) → j < length rs → start_of rs j ≢ r.start)
+pub contents-added : (rs : List Run) (bs : List (List ℕ)) (free : List ℕ) (room i : ℕ) (r : Run)
+    (b : List ℕ) → IsConsistent rs bs (r.slot ∷ free) room
+    → ((j : ℕ) → j < length rs → start_of rs j ≢ r.start)
     → contents_of (insert rs i r) (set bs r.slot b) ≡ map.insert (contents_of rs bs) r.start b
 contents-added rs bs free room i r b consistent none =
-    added rs bs i r b none (taken_below (length bs) (slots_of rs) free r.slot consistent.once) (taken_unused (length bs) (slots_of rs) free r.slot consistent.once)
+    added rs bs i r b none (taken_below (length bs) (slots_of rs) free r.slot consistent.once)
+    (taken_unused (length bs) (slots_of rs) free r.slot consistent.once)
 
 -- a block written over
-pub consistent-over : (rs : List Run) (bs : List (List ℕ)) (free : List ℕ) (room s : ℕ) (b : List ℕ) → IsConsistent rs bs free room → IsConsistent rs (set bs s b) free room
+pub consistent-over : (rs : List Run) (bs : List (List ℕ)) (free : List ℕ) (room s : ℕ) (b : List ℕ)
+    → IsConsistent rs bs free room → IsConsistent rs (set bs s b) free room
 consistent-over rs bs free room s b consistent = record {
   sorted = consistent.sorted;
   once = rw length-set consistent.once;
@@ -71,13 +92,18 @@ consistent-over rs bs free room s b consistent = record {
   pool = rw length-set consistent.pool;
 }
 
-pub contents-over : (rs : List Run) (bs : List (List ℕ)) (free : List ℕ) (room i : ℕ) (r : Run) (b : List ℕ) → IsConsistent rs bs free room → i < length rs → r ≡ get_or rs i r
+pub contents-over : (rs : List Run) (bs : List (List ℕ)) (free : List ℕ) (room i : ℕ) (r : Run)
+    (b : List ℕ) → IsConsistent rs bs free room → i < length rs → r ≡ get_or rs i r
     → contents_of rs (set bs r.slot b) ≡ map.insert (contents_of rs bs) r.start b
 contents-over rs bs free room i r b consistent h e =
-    overwritten rs bs i r b consistent.sorted h e (have_slots rs bs free room consistent i r h (sym e)) (used_once (length bs) (slots_of rs) free r.slot consistent.once)
+    overwritten rs bs i r b consistent.sorted h e
+    (have_slots rs bs free room consistent i r h (sym e))
+    (used_once (length bs) (slots_of rs) free r.slot consistent.once)
 
 -- the slots that a range needs, from the indices where it begins and ends
-pub len-after : (rs : List Run) (bs : List (List ℕ)) (free : List ℕ) (room i j a k : ℕ) (f : ℕ → List ℕ) → IsConsistent rs bs free room → IsLowerBound rs i a → IsLowerBound rs j (a + k)
+pub len-after : (rs : List Run) (bs : List (List ℕ)) (free : List ℕ) (room i j a k : ℕ)
+    (f : ℕ → List ℕ) → IsConsistent rs bs free room → IsLowerBound rs i a
+    → IsLowerBound rs j (a + k)
     → map.len (replaced (contents_of rs bs) a k f) + length free + (j - i) ≡ room + k
 len-after rs bs free room i j a k f consistent p q =
     let mapped = mapped_among-indices rs bs i a k j consistent.sorted p q in
@@ -85,5 +111,7 @@ len-after rs bs free room i j a k f consistent p q =
     let all = len-contents_of rs bs consistent.sorted in
     omega (arith, consistent.count)
 
-pub mapped_between : (rs : List Run) (bs : List (List ℕ)) (i j a k : ℕ) → IsSorted rs → IsLowerBound rs i a → IsLowerBound rs j (a + k) → mapped_among (contents_of rs bs) a k ≡ j - i
-mapped_between rs bs i j a k rises p q = let mapped = mapped_among-indices rs bs i a k j rises p q in omega arith
+pub mapped_between : (rs : List Run) (bs : List (List ℕ)) (i j a k : ℕ) → IsSorted rs
+    → IsLowerBound rs i a → IsLowerBound rs j (a + k) → mapped_among (contents_of rs bs) a k ≡ j - i
+mapped_between rs bs i j a k rises p q = let mapped =
+    mapped_among-indices rs bs i a k j rises p q in omega arith

@@ -1,5 +1,6 @@
 -- How often slots occur in lists.
-use Rattle.std.proofs.Common.{◌≡◌, ◌≢◌, ℕ, ◌+◌, ◌<◌, ◌≤◌, zero, suc, List, [], ◌∷◌, ◌++◌, arith, sym, ap, ◌∙◌, cond, Bool, true, false, eq-eqb, refl, length, get_or}
+use Rattle.std.proofs.Common.{◌≡◌, ◌≢◌, ℕ, ◌+◌, ◌<◌, ◌≤◌, zero, suc, List, [], ◌∷◌, ◌++◌, arith}
+use Rattle.std.proofs.Common.{sym, ap, ◌∙◌, cond, Bool, true, false, eq-eqb, refl, length, get_or}
 use Rattle.std.proofs.lemmas.Bool.Decides.{nat_tests}
 use Rattle.std.specs.Prelude.{nat_lt, insert}
 use Rattle.std.specs.List.{range_with_len}
@@ -8,9 +9,11 @@ use Rattle.sg_blocks.specs.declared.run.Run.{Run}
 use Rattle.sg_blocks.proofs.DiskLemmas.{range-more}
 
 pub not_equal : (t x : ℕ) → one_if_equal t x ≡ 0 → x ≢ t
-not_equal t x none e = let one : one_if_equal t x ≡ 1 = ap (λ (b : Bool). cond b 1 0) (eq-eqb x t e) in absurd (omega arith)
+not_equal t x none e = let one : one_if_equal t x ≡ 1 =
+    ap (λ (b : Bool). cond b 1 0) (eq-eqb x t e) in absurd (omega arith)
 
-pub occurrences-append : (t : ℕ) (xs ys : List ℕ) → occurrences t (xs ++ ys) ≡ occurrences t xs + occurrences t ys
+pub occurrences-append : (t : ℕ) (xs ys : List ℕ) → occurrences t (xs ++ ys) ≡
+    occurrences t xs + occurrences t ys
 unfolding occurrences
 occurrences-append t [] ys = omega arith
 occurrences-append t (x ∷ xs) ys = omega (arith, occurrences-append t xs ys)
@@ -46,7 +49,9 @@ once_step t n m e = grind (arith, nat_tests)
 
 once-more : (n : ℕ) (xs : List ℕ) → IsEachOnce n xs → IsEachOnce (n + 1) (xs ++ n ∷ [])
 once-more n xs once = record {
-  each = λ t. occurrences-append t xs (n ∷ []) ∙ ap (λ k. occurrences t xs + k) (occurrences-one t n) ∙ once_step t n (occurrences t xs) (once.each t);
+  each = λ t. occurrences-append t xs (n ∷ [])
+      ∙ ap (λ k. occurrences t xs + k) (occurrences-one t n)
+      ∙ once_step t n (occurrences t xs) (once.each t);
 }
 
 -- the numbers below a count
@@ -55,17 +60,22 @@ once-range zero = once-none
 once-range (suc n) =
     let e : n + 1 ≡ suc n = omega arith in
     let here : n ≡ 0 + n = omega arith in
-    let more : range_with_len 0 n ++ n ∷ [] ≡ range_with_len 0 (n + 1) = ap (λ k. range_with_len 0 n ++ k ∷ []) here ∙ sym (range-more 0 n) in
+    let more : range_with_len 0 n ++ n ∷ [] ≡ range_with_len 0 (n + 1) =
+    ap (λ k. range_with_len 0 n ++ k ∷ []) here ∙ sym (range-more 0 n) in
     rw e at (rw more at (once-more n (range_with_len 0 n) (once-range n)))
 
 -- the slot of record i
-pub occurrences-at : (rs : List Run) (i : ℕ) (r : Run) → i < length rs → r ≡ get_or rs i r → 1 ≤ occurrences r.slot (slots_of rs)
+pub occurrences-at : (rs : List Run) (i : ℕ) (r : Run) → i < length rs → r ≡ get_or rs i r
+    → 1 ≤ occurrences r.slot (slots_of rs)
 unfolding occurrences
 occurrences-at [] i r h e = absurd (omega arith)
-occurrences-at (x ∷ rs) zero r h e = let one : one_if_equal r.slot x.slot ≡ 1 = ap (λ (c : Bool). cond c 1 0) (eq-eqb x.slot r.slot (ap (λ (y : Run). y.slot) (sym e))) in omega arith
+occurrences-at (x ∷ rs) zero r h e = let one : one_if_equal r.slot x.slot ≡ 1 =
+    ap (λ (c : Bool). cond c 1 0) (eq-eqb x.slot r.slot (ap (λ (y : Run). y.slot) (sym e))) in
+    omega arith
 occurrences-at (x ∷ rs) (suc i) r h e = omega (arith, occurrences-at rs i r (omega arith) e)
 
-pub occurrences-insert : (t : ℕ) (rs : List Run) (i : ℕ) (r : Run) → occurrences t (slots_of (insert rs i r)) ≡ one_if_equal t r.slot + occurrences t (slots_of rs)
+pub occurrences-insert : (t : ℕ) (rs : List Run) (i : ℕ) (r : Run)
+    → occurrences t (slots_of (insert rs i r)) ≡ one_if_equal t r.slot + occurrences t (slots_of rs)
 unfolding occurrences
 occurrences-insert t rs zero r = refl
 occurrences-insert t [] (suc i) r = refl

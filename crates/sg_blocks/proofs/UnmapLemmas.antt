@@ -1,5 +1,7 @@
 -- A range that is unmapped.
-use Rattle.std.proofs.Common.{◌≡◌, ◌≢◌, ℕ, ◌+◌, ◌<◌, ◌≤◌, zero, suc, List, [], ◌∷◌, ◌++◌, length, get_or, arith, refl, sym, ap, ◌∙◌, length-append, ◌⊎◌, cond, Bool, true, false, Option, Some, None, is_some, inl, inr}
+use Rattle.std.proofs.Common.{◌≡◌, ◌≢◌, ℕ, ◌+◌, ◌<◌, ◌≤◌, zero, suc, List, [], ◌∷◌, ◌++◌, length}
+use Rattle.std.proofs.Common.{get_or, arith, refl, sym, ap, ◌∙◌, length-append, ◌⊎◌, cond, Bool}
+use Rattle.std.proofs.Common.{true, false, Option, Some, None, is_some, inl, inr}
 use Rattle.std.proofs.lemmas.Bool.{cases_lt}
 use Rattle.std.proofs.lemmas.Bool.Decides.{nat_tests}
 use Rattle.std.proofs.lemmas.List.Edits.{length-insert}
@@ -22,11 +24,14 @@ use Rattle.sg_blocks.proofs.SpliceLemmas.{front_of, insert-splice, same-splice}
 use Rattle.sg_blocks.proofs.ConsistencyLemmas.{parted, same_slot}
 
 -- what is found at an address afterwards
-pub get-unmapped : (m : Contents) (a k q : ℕ) → map.get (unmapped m a k) q ≡ cond (not (lies_in a k q)) (map.get m q) None
+pub get-unmapped : (m : Contents) (a k q : ℕ) → map.get (unmapped m a k) q ≡
+    cond (not (lies_in a k q)) (map.get m q) None
 unfolding unmapped
-get-unmapped m a k q = get-retain_keys m (λ x. not (lies_in a k x)) q (λ x e. ap (λ y. not (lies_in a k y)) (sym (nat_cmp-IsAntisymmetric q x e)))
+get-unmapped m a k q = get-retain_keys m (λ x. not (lies_in a k x)) q
+    (λ x e. ap (λ y. not (lies_in a k y)) (sym (nat_cmp-IsAntisymmetric q x e)))
 
-block-kept : (b : Bool) (o : Option (List ℕ)) → unwrap_or (cond (not b) o None) zero_block ≡ cond b zero_block (unwrap_or o zero_block)
+block-kept : (b : Bool) (o : Option (List ℕ)) → unwrap_or (cond (not b) o None) zero_block ≡
+    cond b zero_block (unwrap_or o zero_block)
 block-kept true o = refl
 block-kept false o = refl
 
@@ -35,7 +40,8 @@ is-kept true o = refl
 is-kept false o = refl
 
 pub block-unmapped : UnmapsEachBlock
-block-unmapped m a k q = ap (λ o. unwrap_or o zero_block) (get-unmapped m a k q) ∙ block-kept (lies_in a k q) (map.get m q)
+block-unmapped m a k q = ap (λ o. unwrap_or o zero_block) (get-unmapped m a k q)
+    ∙ block-kept (lies_in a k q) (map.get m q)
 
 pub contains-unmapped : UnmapsEachAddress
 contains-unmapped m a k q = ap is_some (get-unmapped m a k q) ∙ is-kept (lies_in a k q) (map.get m q)
@@ -44,9 +50,11 @@ was_there : (b : Bool) (o : Option (List ℕ)) (block : List ℕ) → cond b o N
 was_there true o block e = e
 was_there false o block e = let wrong = e in cc
 
-pub well_formed-unmapped : (capacity : ℕ) (m : Contents) (a k : ℕ) → IsWellFormed capacity m → IsWellFormed capacity (unmapped m a k)
+pub well_formed-unmapped : (capacity : ℕ) (m : Contents) (a k : ℕ) → IsWellFormed capacity m
+    → IsWellFormed capacity (unmapped m a k)
 well_formed-unmapped capacity m a k whole = record {
-  each = λ q block e. whole.each q block (was_there (not (lies_in a k q)) (map.get m q) block (sym (get-unmapped m a k q) ∙ e));
+  each = λ q block e. whole.each q block
+      (was_there (not (lies_in a k q)) (map.get m q) block (sym (get-unmapped m a k q) ∙ e));
 }
 
 -- the table without a record
@@ -55,31 +63,41 @@ sorted-removed rs i r within rises x y lt below =
     let len = length-insert rs i r within in
     elim (cases_lt y i) [
       | inl y_low ↦
-          let sx = start_of-insert_below rs i r x (omega arith) within in let sy = start_of-insert_below rs i r y y_low within in
+          let sx = start_of-insert_below rs i r x (omega arith) within in let sy =
+          start_of-insert_below rs i r y y_low within in
           let up = rises x y lt (omega arith) in omega arith
       | inr y_high ↦
           let sy = start_of-insert_above rs i r y y_high within in
           elim (cases_lt x i) [
-            | inl x_low ↦ let sx = start_of-insert_below rs i r x x_low within in let up = rises x (suc y) (omega arith) (omega arith) in omega arith
-            | inr x_high ↦ let sx = start_of-insert_above rs i r x x_high within in let up = rises (suc x) (suc y) (omega arith) (omega arith) in omega arith
+            | inl x_low ↦ let sx = start_of-insert_below rs i r x x_low within in let up =
+                rises x (suc y) (omega arith) (omega arith) in omega arith
+            | inr x_high ↦ let sx = start_of-insert_above rs i r x x_high within in let up =
+                rises (suc x) (suc y) (omega arith) (omega arith) in omega arith
           ]
     ]
 
 -- the slot of a record is free instead
-consistent-removed : (rs : List Run) (bs : List (List ℕ)) (free : List ℕ) (room i : ℕ) (r : Run) → i ≤ length rs → IsConsistent (insert rs i r) bs free room → IsConsistent rs bs (r.slot ∷ free) room
+consistent-removed : (rs : List Run) (bs : List (List ℕ)) (free : List ℕ) (room i : ℕ) (r : Run)
+    → i ≤ length rs → IsConsistent (insert rs i r) bs free room
+    → IsConsistent rs bs (r.slot ∷ free) room
 consistent-removed rs bs free room i r within consistent = record {
   sorted = sorted-removed rs i r within consistent.sorted;
   once = record {
     each = λ t.
-        let p = parted t r.slot (slots_of rs) free in let d = occurrences-append t (slots_of (insert rs i r)) free in let e = occurrences-insert t rs i r in
-        let same : occurrences t (slots_of rs ++ r.slot ∷ free) ≡ occurrences t (slots_of (insert rs i r) ++ free) = omega arith in same ∙ consistent.once.each t;
+        let p = parted t r.slot (slots_of rs) free in let d =
+        occurrences-append t (slots_of (insert rs i r)) free in let e =
+        occurrences-insert t rs i r in
+        let same : occurrences t (slots_of rs ++ r.slot ∷ free) ≡
+        occurrences t (slots_of (insert rs i r) ++ free) = omega arith in same
+        ∙ consistent.once.each t;
   };
   count = omega (arith, consistent.count, length-insert rs i r within);
   pool = consistent.pool;
 }
 
 -- what may be said of the slot of a record
-slot-used : (rs : List Run) (bs : List (List ℕ)) (free : List ℕ) (room i : ℕ) (r : Run) → i ≤ length rs → IsConsistent (insert rs i r) bs free room
+slot-used : (rs : List Run) (bs : List (List ℕ)) (free : List ℕ) (room i : ℕ) (r : Run)
+    → i ≤ length rs → IsConsistent (insert rs i r) bs free room
     → (r.slot < length bs) × (occurrences r.slot free ≡ 0) × (length free < room)
 slot-used rs bs free room i r within consistent =
     let slots = slots_of (insert rs i r) ++ free in
@@ -93,19 +111,22 @@ slot-used rs bs free room i r within consistent =
     )
 
 -- the records from one index to another are removed, in turn
-module _ (rs : List Run) (from i : ℕ) (r : Run) (le : from ≤ i) (lt : i < length rs) (at : r ≡ get_or rs i r) where
+module _ (rs : List Run) (from i : ℕ) (r : Run) (le : from ≤ i) (lt : i < length rs)
+    (at : r ≡ get_or rs i r) where
   abbrev less : List Run
   less = splice rs from (i + 1) []
 
   one_less : splice rs from i [] ≡ insert less from r
   one_less =
       let begin : from + 0 ≡ from = omega arith in
-      sym (same-splice rs [] from i r lt at) ∙ sym (rw begin at (insert-splice rs [] from (i + 1) r (omega arith)))
+      sym (same-splice rs [] from i r lt at)
+      ∙ sym (rw begin at (insert-splice rs [] from (i + 1) r (omega arith)))
 
   within : from ≤ length less
   within = omega (arith, length-append (take from rs) ([] ++ drop (i + 1) rs), front_of rs from (omega arith))
 
-  module _ (bs : List (List ℕ)) (free : List ℕ) (room : ℕ) (h : IsConsistent (splice rs from i []) bs free room) where
+  module _ (bs : List (List ℕ)) (free : List ℕ) (room : ℕ)
+      (h : IsConsistent (splice rs from i []) bs free room) where
     pub unmapped-slot : (r.slot < length bs) × (occurrences r.slot free ≡ 0) × (length free < room)
     unmapped-slot = slot-used less bs free room from r within (rw one_less at h)
 
@@ -113,39 +134,54 @@ module _ (rs : List Run) (from i : ℕ) (r : Run) (le : from ≤ i) (lt : i < le
     unmapped-consistent = consistent-removed less bs free room from r within (rw one_less at h)
 
 -- the address of a record that stays
-find-drop : (rs : List Run) (bs : List (List ℕ)) (n q : ℕ) → ((i : ℕ) → i < n → i < length rs → start_of rs i ≢ q)
+find-drop : (rs : List Run) (bs : List (List ℕ)) (n q : ℕ)
+    → ((i : ℕ) → i < n → i < length rs → start_of rs i ≢ q)
     → find nat_cmp q (mapped_blocks (drop n rs) bs) ≡ find nat_cmp q (mapped_blocks rs bs)
 find-drop rs bs zero q other = refl
 find-drop [] bs (suc n) q other = refl
 find-drop (x ∷ rs) bs (suc n) q other =
-    rw (eq_other q x.start (λ e. other 0 (omega arith) (omega arith) (sym e))) (find-drop rs bs n q (λ i lt h. other (suc i) (omega arith) (omega arith)))
+    rw (eq_other q x.start (λ e. other 0 (omega arith) (omega arith) (sym e)))
+    (find-drop rs bs n q (λ i lt h. other (suc i) (omega arith) (omega arith)))
 
-find-splice : (rs : List Run) (bs : List (List ℕ)) (from to q : ℕ) → from ≤ to → ((i : ℕ) → from ≤ i → i < to → i < length rs → start_of rs i ≢ q)
+find-splice : (rs : List Run) (bs : List (List ℕ)) (from to q : ℕ) → from ≤ to
+    → ((i : ℕ) → from ≤ i → i < to → i < length rs → start_of rs i ≢ q)
     → find nat_cmp q (mapped_blocks (splice rs from to []) bs) ≡ find nat_cmp q (mapped_blocks rs bs)
 find-splice rs bs zero to q le other = find-drop rs bs to q (λ i lt h. other i (omega arith) lt h)
 find-splice rs bs (suc from) zero q le other = absurd (omega arith)
 find-splice [] bs (suc from) (suc to) q le other = refl
 find-splice (x ∷ rs) bs (suc from) (suc to) q le other =
-    ap (cond _ (Some (slice_index_or bs x.slot zero_block))) (find-splice rs bs from to q (omega arith) (λ i ge lt h. other (suc i) (omega arith) (omega arith) (omega arith)))
+    ap (cond _ (Some (slice_index_or bs x.slot zero_block)))
+    (find-splice rs bs from to q (omega arith)
+    (λ i ge lt h. other (suc i) (omega arith) (omega arith) (omega arith)))
 
 -- and of one that is removed
-drop-none : (rs : List Run) (bs : List (List ℕ)) (n q : ℕ) → ((i : ℕ) → n ≤ i → i < length rs → start_of rs i ≢ q) → find nat_cmp q (mapped_blocks (drop n rs) bs) ≡ None
+drop-none : (rs : List Run) (bs : List (List ℕ)) (n q : ℕ)
+    → ((i : ℕ) → n ≤ i → i < length rs → start_of rs i ≢ q)
+    → find nat_cmp q (mapped_blocks (drop n rs) bs) ≡ None
 drop-none rs bs zero q other = find-unmapped rs bs q (λ i h. other i (omega arith) h)
 drop-none [] bs (suc n) q other = refl
-drop-none (x ∷ rs) bs (suc n) q other = drop-none rs bs n q (λ i ge h. other (suc i) (omega arith) (omega arith))
+drop-none (x ∷ rs) bs (suc n) q other =
+    drop-none rs bs n q (λ i ge h. other (suc i) (omega arith) (omega arith))
 
-splice-none : (rs : List Run) (bs : List (List ℕ)) (from to q : ℕ) → from ≤ to → ((i : ℕ) → i < from → i < length rs → start_of rs i ≢ q) → ((i : ℕ) → to ≤ i → i < length rs → start_of rs i ≢ q)
+splice-none : (rs : List Run) (bs : List (List ℕ)) (from to q : ℕ) → from ≤ to
+    → ((i : ℕ) → i < from → i < length rs → start_of rs i ≢ q)
+    → ((i : ℕ) → to ≤ i → i < length rs → start_of rs i ≢ q)
     → find nat_cmp q (mapped_blocks (splice rs from to []) bs) ≡ None
 splice-none rs bs zero to q le before after = drop-none rs bs to q after
 splice-none rs bs (suc from) zero q le before after = absurd (omega arith)
 splice-none [] bs (suc from) (suc to) q le before after = refl
 splice-none (x ∷ rs) bs (suc from) (suc to) q le before after =
     rw (eq_other q x.start (λ e. before 0 (omega arith) (omega arith) (sym e)))
-    (splice-none rs bs from to q (omega arith) (λ i lt h. before (suc i) (omega arith) (omega arith)) (λ i ge h. after (suc i) (omega arith) (omega arith)))
+    (splice-none rs bs from to q (omega arith)
+    (λ i lt h. before (suc i) (omega arith) (omega arith))
+    (λ i ge h. after (suc i) (omega arith) (omega arith)))
 
 -- the contents without the records of a range
-module _ (rs : List Run) (bs : List (List ℕ)) (from to a k : ℕ) (rises : IsSorted rs) (p : IsLowerBound rs from a) (t : IsLowerBound rs to (a + k)) (le : from ≤ to) where
-  outside : (q : ℕ) → (q < a) ⊎ (a + k ≤ q) → find nat_cmp q (mapped_blocks (splice rs from to []) bs) ≡ find nat_cmp q (mapped_blocks rs bs)
+module _ (rs : List Run) (bs : List (List ℕ)) (from to a k : ℕ) (rises : IsSorted rs)
+    (p : IsLowerBound rs from a) (t : IsLowerBound rs to (a + k)) (le : from ≤ to) where
+  outside : (q : ℕ) → (q < a) ⊎ (a + k ≤ q)
+      → find nat_cmp q (mapped_blocks (splice rs from to []) bs) ≡
+      find nat_cmp q (mapped_blocks rs bs)
   outside q out = find-splice rs bs from to q le (λ i ge lt h e.
       let low : a ≤ start_of rs i = p.after i ge h in
       let high : start_of rs i < a + k = t.before i lt in
@@ -156,7 +192,8 @@ module _ (rs : List Run) (bs : List (List ℕ)) (from to a k : ℕ) (rises : IsS
       (λ i lt h e. let b : start_of rs i < a = p.before i lt in absurd (omega arith))
       (λ i ge h e. let b : a + k ≤ start_of rs i = t.after i ge h in absurd (omega arith))
 
-  at_each : (q : ℕ) → find nat_cmp q (mapped_blocks (splice rs from to []) bs) ≡ cond (not (lies_in a k q)) (find nat_cmp q (mapped_blocks rs bs)) None
+  at_each : (q : ℕ) → find nat_cmp q (mapped_blocks (splice rs from to []) bs) ≡
+      cond (not (lies_in a k q)) (find nat_cmp q (mapped_blocks rs bs)) None
   at_each q = elim (cases_lt q a) [
     | inl below ↦ let no : lies_in a k q ≡ false = grind (arith, nat_tests) in rw no (outside q (inl below))
     | inr low ↦ elim (cases_lt q (a + k)) [
@@ -169,5 +206,6 @@ module _ (rs : List Run) (bs : List (List ℕ)) (from to a k : ℕ) (rises : IsS
   contents-unmapped = same_map nat_cmp_total nat_cmp-IsAntisymmetric _ _ (λ q.
       get-from_entries nat_cmp_total (mapped_blocks (splice rs from to []) bs) q
       ∙ at_each q
-      ∙ ap (λ o. cond (not (lies_in a k q)) o None) (sym (get-from_entries nat_cmp_total (mapped_blocks rs bs) q))
+      ∙ ap (λ o. cond (not (lies_in a k q)) o None)
+      (sym (get-from_entries nat_cmp_total (mapped_blocks rs bs) q))
       ∙ sym (get-unmapped (contents_of rs bs) a k q))

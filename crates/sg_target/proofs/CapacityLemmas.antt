@@ -14,9 +14,11 @@ unfolding capacity_16
 length-capacity_16 capacity = refl
 
 -- a longer allocation length cuts nothing more
-pub cut-capacity_16 : (n capacity : ℕ) → first_bytes (min 32 n) (capacity_16 capacity) ≡ first_bytes n (capacity_16 capacity)
+pub cut-capacity_16 : (n capacity : ℕ) → first_bytes (min 32 n) (capacity_16 capacity) ≡
+    first_bytes n (capacity_16 capacity)
 cut-capacity_16 n capacity =
-    let least : min 32 n ≡ min n (length (capacity_16 capacity)) = omega (arith, length-capacity_16 capacity) in
+    let least : min 32 n ≡ min n (length (capacity_16 capacity)) =
+    omega (arith, length-capacity_16 capacity) in
     ap (λ m. take m (capacity_16 capacity)) least ∙ take_min n (capacity_16 capacity)
 
 pub ruleset capacity_lengths = (whole-capacity_10, cut-capacity_16)

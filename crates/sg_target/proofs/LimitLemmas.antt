@@ -8,8 +8,10 @@ use Rattle.std.proofs.lemmas.Bool.Decides.{nat_tests}
 use Rattle.sg_blocks.specs.Disk.{Disk}
 use Rattle.sg_wire.specs.Layout.{command_of}
 use Rattle.sg_wire.specs.declared.command.Command.{Command}
-use Rattle.sg_wire.specs.declared.command.Command.TheVariants.{ModeSelect6, ModeSelect10, ModeSense6, ModeSense10}
-use Rattle.sg_wire.specs.declared.command.Command.TheVariants.{RequestSense, Inquiry, WriteSame10, WriteSame16, Unmap}
+use Rattle.sg_wire.specs.declared.command.Command.TheVariants.{ModeSelect6, ModeSelect10}
+use Rattle.sg_wire.specs.declared.command.Command.TheVariants.{ModeSense6, ModeSense10}
+use Rattle.sg_wire.specs.declared.command.Command.TheVariants.{RequestSense, Inquiry, WriteSame10}
+use Rattle.sg_wire.specs.declared.command.Command.TheVariants.{WriteSame16, Unmap}
 use Rattle.sg_wire.specs.declared.command.Command.TheVariants.{PersistentReserveIn, PersistentReserveOut}
 use Rattle.sg_wire.specs.declared.command.out_action.OutAction.{OutAction}
 use Rattle.sg_wire.specs.declared.command.CdbFault.{CdbFault}
@@ -20,12 +22,15 @@ use Rattle.sg_units.specs.declared.unit_attention.UnitAttention.TheVariants.{Mod
 use Rattle.sg_units.proofs.AttentionLemmas.{IsQueue-drop, IsQueue-pending_for, IsQueue-with_optional}
 use Rattle.sg_pages.specs.ModePage.{ModeState}
 use Rattle.sg_pages.specs.ModeSelect.{changed_by}
-use Rattle.sg_target.specs.ModeCommands.{attentions_after, mode_parameters, returning_if_sound, selected_modes, sense_request, setting_if_sound}
-use Rattle.sg_target.specs.Checks.{cdb_checks, checked_effect, checked_parse, command_checks, first_some, no_space, unless_refused}
+use Rattle.sg_target.specs.ModeCommands.{attentions_after, mode_parameters, returning_if_sound}
+use Rattle.sg_target.specs.ModeCommands.{selected_modes, sense_request, setting_if_sound}
+use Rattle.sg_target.specs.Checks.{cdb_checks, checked_effect, checked_parse, command_checks}
+use Rattle.sg_target.specs.Checks.{first_some, no_space, unless_refused}
 use Rattle.sg_target.specs.Effect.{Effect}
 use Rattle.sg_target.specs.PrimaryCommands.{inquiry_page, returning_if_there}
 use Rattle.sg_wire.specs.CutAnswer.{first_bytes}
-use Rattle.sg_target.specs.ProvisioningCommands.{block_out, filling, unmap_list, unmapping, unmapping_listed, unmaps}
+use Rattle.sg_target.specs.ProvisioningCommands.{block_out, filling, unmap_list, unmapping}
+use Rattle.sg_target.specs.ProvisioningCommands.{unmapping_listed, unmaps}
 use Rattle.sg_target.specs.Semantics.{extent, semantics}
 use Rattle.sg_target.specs.declared.extent.Extent.{Extent}
 use Rattle.sg_target.specs.State.{IsWithinLimits, State}
@@ -53,7 +58,8 @@ space disk e = grind (arith, nat_tests)
 
 -- ---- the queues of unit attentions
 
-queue-set : (pending : Pending) (i : ℕ) (queue : List UnitAttention) → AreQueues pending → IsQueue queue → AreQueues (set pending i queue)
+queue-set : (pending : Pending) (i : ℕ) (queue : List UnitAttention) → AreQueues pending
+    → IsQueue queue → AreQueues (set pending i queue)
 queue-set [] i queue h q = h
 queue-set (first ∷ more) zero queue h q = (q, h.1)
 queue-set (first ∷ more) (suc i) queue h q = (h.0, queue-set more i queue h.1 q)
@@ -67,20 +73,24 @@ without-oldest pending i h = record {
 }
 
 -- one of each queue is put, if any
-raised-each : (pending : Pending) (conditions : Conditions) → ArePending pending → ArePending (raised_for_each pending conditions)
+raised-each : (pending : Pending) (conditions : Conditions) → ArePending pending
+    → ArePending (raised_for_each pending conditions)
 unfolding raised_for_each
 raised-each pending conditions h =
     let q : (i : ℕ) → IsQueue (queue_after pending conditions i) =
-    λ i. IsQueue-with_optional (pending_for pending i) (get_or conditions i None) (IsQueue-pending_for pending i h.queues) in
+    λ i. IsQueue-with_optional (pending_for pending i) (get_or conditions i None)
+    (IsQueue-pending_for pending i h.queues) in
     record { one_for_each = refl; queues = (q 0, (q 1, (q 2, (q 3, (q 4, (q 5, (q 6, (q 7, tt)))))))) }
 
-attentions-after : (pending : Pending) (i : ℕ) (changed : Bool) → ArePending pending → ArePending (attentions_after pending i changed)
+attentions-after : (pending : Pending) (i : ℕ) (changed : Bool) → ArePending pending
+    → ArePending (attentions_after pending i changed)
 attentions-after pending i true h = raised-each pending (raised_for_others i ModeParametersChanged) h
 attentions-after pending i false h = h
 
 -- ---- commands
 
-without-oldest-within : (state : State) (i : ℕ) → IsWithinLimits state → IsWithinLimits (record state { attentions = without_oldest state.attentions i })
+without-oldest-within : (state : State) (i : ℕ) → IsWithinLimits state
+    → IsWithinLimits (record state { attentions = without_oldest state.attentions i })
 without-oldest-within state i h =
     record {
       mapped = h.mapped;
@@ -88,7 +98,8 @@ without-oldest-within state i h =
       registered = h.registered;
     }
 
-refused-within : (state : State) (i : ℕ) (refusal : Refusal) → IsWithinLimits state → IsWithinLimits (refused state i refusal).state
+refused-within : (state : State) (i : ℕ) (refusal : Refusal) → IsWithinLimits state
+    → IsWithinLimits (refused state i refusal).state
 refused-within state i (Check (Attention condition)) h = without-oldest-within state i h
 refused-within state i _ h = h
 
@@ -104,7 +115,8 @@ abbrev EffectKeeps : Result Effect Refusal → Type 0
 EffectKeeps (Ok effect) = KeepsOthers effect.after
 EffectKeeps (Err refusal) = Unit {0}
 
-inquiry-keeps : (state : State) (page : Option InquiryPage) (n : ℕ) → KeepsOthers state → EffectKeeps (returning_if_there state page n)
+inquiry-keeps : (state : State) (page : Option InquiryPage) (n : ℕ) → KeepsOthers state
+    → EffectKeeps (returning_if_there state page n)
 inquiry-keeps state None n h = tt
 inquiry-keeps state (Some page) n h = h
 
@@ -118,11 +130,13 @@ same-keeps : (state : State) (extent : Extent) (block : List ℕ) (is_unmapped :
 same-keeps state extent block true h = h
 same-keeps state extent block false h = h
 
-sensing-keeps : (state : State) (n : ℕ) (list : Result (List ℕ) Refusal) → KeepsOthers state → EffectKeeps (returning_if_sound state n list)
+sensing-keeps : (state : State) (n : ℕ) (list : Result (List ℕ) Refusal) → KeepsOthers state
+    → EffectKeeps (returning_if_sound state n list)
 sensing-keeps state n (Ok list) h = h
 sensing-keeps state n (Err refusal) h = tt
 
-setting-keeps : (state : State) (i : ℕ) (modes : Result ModeState Refusal) → KeepsOthers state → EffectKeeps (setting_if_sound state i modes)
+setting-keeps : (state : State) (i : ℕ) (modes : Result ModeState Refusal) → KeepsOthers state
+    → EffectKeeps (setting_if_sound state i modes)
 setting-keeps state i (Ok modes) h =
     (attentions-after state.attentions i (changed_by state.modes modes).0 h.0, h.1)
 setting-keeps state i (Err refusal) h = tt
@@ -152,13 +166,16 @@ reserving-keeps : (state : State) (i : ℕ) (action : OutAction) (scope_type : �
 unfolding reservation_change
 reserving-keeps state i action scope_type list h =
     let fields = out_list list in
-    length-keeps state i (length list == list_length) (outcome state.reservations i action scope_type fields) h
+    length-keeps state i (length list == list_length)
+    (outcome state.reservations i action scope_type fields) h
     (consistent-outcome state.reservations i action scope_type fields h.1)
 
-semantics-keeps : (state : State) (i : ℕ) (command : Command) (data_out : List ℕ) → IsWithinLimits state → EffectKeeps (semantics state i command data_out).effect
+semantics-keeps : (state : State) (i : ℕ) (command : Command) (data_out : List ℕ)
+    → IsWithinLimits state → EffectKeeps (semantics state i command data_out).effect
 semantics-keeps state i (RequestSense desc n) data_out h =
     (without-oldest state.attentions i h.pending, h.registered)
-semantics-keeps state i (Inquiry evpd code n) data_out h = inquiry-keeps state (inquiry_page evpd code) n (others state h)
+semantics-keeps state i (Inquiry evpd code n) data_out h =
+    inquiry-keeps state (inquiry_page evpd code) n (others state h)
 semantics-keeps state i (WriteSame10 anchor unmap lba n) data_out h =
     same-keeps state (extent lba n) (block_out data_out) (unmaps unmap (block_out data_out)) (others state h)
 semantics-keeps state i (WriteSame16 anchor unmap lba n) data_out h =
@@ -181,30 +198,40 @@ semantics-keeps state i (PersistentReserveOut action scope_type n) data_out h =
     reserving-keeps state i action scope_type (first_bytes n data_out) (others state h)
 semantics-keeps state i _ data_out h = others state h
 
-unless-keeps : (refusal : Option Refusal) (effect : Result Effect Refusal) → EffectKeeps effect → EffectKeeps (unless_refused refusal effect)
+unless-keeps : (refusal : Option Refusal) (effect : Result Effect Refusal) → EffectKeeps effect
+    → EffectKeeps (unless_refused refusal effect)
 unless-keeps None effect h = h
 unless-keeps (Some refusal) effect h = tt
 
-parse-keeps : (state : State) (i : ℕ) (parsed : Result Command CdbFault) (data_out : List ℕ) → IsWithinLimits state → EffectKeeps (checked_parse state i parsed data_out)
+parse-keeps : (state : State) (i : ℕ) (parsed : Result Command CdbFault) (data_out : List ℕ)
+    → IsWithinLimits state → EffectKeeps (checked_parse state i parsed data_out)
 parse-keeps state i (Err fault) data_out h = tt
 parse-keeps state i (Ok command) data_out h =
     let s = semantics state i command data_out in
-    unless-keeps (first_some (command_checks state s data_out)) s.effect (semantics-keeps state i command data_out h)
+    unless-keeps (first_some (command_checks state s data_out)) s.effect
+    (semantics-keeps state i command data_out h)
 
-effect-keeps : (state : State) (i : ℕ) (cdb data_out : List ℕ) → IsWithinLimits state → EffectKeeps (checked_effect state i cdb data_out)
+effect-keeps : (state : State) (i : ℕ) (cdb data_out : List ℕ) → IsWithinLimits state
+    → EffectKeeps (checked_effect state i cdb data_out)
 unfolding checked_effect
 effect-keeps state i cdb data_out h =
     unless-keeps (first_some (cdb_checks state i cdb)) (checked_parse state i (command_of cdb) data_out)
     (parse-keeps state i (command_of cdb) data_out h)
 
-by-space : (state : State) (i : ℕ) (effect : Effect) (refusal : Option Refusal) → IsWithinLimits state → KeepsOthers effect.after → no_space effect.after.disk ≡ refusal → IsWithinLimits (unless_no_space state i effect refusal).state
+by-space : (state : State) (i : ℕ) (effect : Effect) (refusal : Option Refusal)
+    → IsWithinLimits state → KeepsOthers effect.after → no_space effect.after.disk ≡ refusal
+    → IsWithinLimits (unless_no_space state i effect refusal).state
 by-space state i effect None h k e =
     record { mapped = space effect.after.disk e; pending = k.0; registered = k.1 }
 by-space state i effect (Some refusal) h k e = refused-within state i refusal h
 
-outcome-within : (state : State) (i : ℕ) (effect : Result Effect Refusal) → IsWithinLimits state → EffectKeeps effect → IsWithinLimits (step_outcome state i effect).state
+outcome-within : (state : State) (i : ℕ) (effect : Result Effect Refusal) → IsWithinLimits state
+    → EffectKeeps effect → IsWithinLimits (step_outcome state i effect).state
 outcome-within state i (Err refusal) h k = refused-within state i refusal h
 outcome-within state i (Ok effect) h k = by-space state i effect (no_space effect.after.disk) h k refl
 
-pub step-within : (state : State) (i : ℕ) (cdb data_out : List ℕ) → IsWithinLimits state → IsWithinLimits (step state i cdb data_out).state
-step-within state i cdb data_out h = outcome-within state i (checked_effect state i cdb data_out) h (effect-keeps state i cdb data_out h)
+pub step-within : (state : State) (i : ℕ) (cdb data_out : List ℕ) → IsWithinLimits state
+    → IsWithinLimits (step state i cdb data_out).state
+step-within state i cdb data_out h =
+    outcome-within state i (checked_effect state i cdb data_out) h
+    (effect-keeps state i cdb data_out h)

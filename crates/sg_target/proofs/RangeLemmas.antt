@@ -5,7 +5,9 @@ use Rattle.sg_target.specs.Effect.{Range}
 use Rattle.sg_target.specs.Ranges.{sum_over, visit_bound}
 
 -- no kind of store visits more than two more than the blocks of each
-pub price-within : (price : Contents → ℕ → ℕ → ℕ) → ((contents : Contents) (lba count : ℕ) → price contents lba count ≤ count + 2) → (over : List Range) → sum_over price over ≤ visit_bound over
+pub price-within : (price : Contents → ℕ → ℕ → ℕ)
+    → ((contents : Contents) (lba count : ℕ) → price contents lba count ≤ count + 2)
+    → (over : List Range) → sum_over price over ≤ visit_bound over
 price-within price h [] = omega arith
 price-within price h (range ∷ rest) =
     let others = price-within price h rest in

@@ -1,10 +1,13 @@
 -- The parameter data of GET LBA STATUS within its own length.
-use Rattle.std.proofs.Common.{◌≡◌, ◌≤◌, ℕ, ◌+◌, ◌*◌, zero, suc, min, List, [], ◌∷◌, length, length-append, take, Bool, true, false, cond, refl, ap, sym, ◌∙◌, arith}
+use Rattle.std.proofs.Common.{◌≡◌, ◌≤◌, ℕ, ◌+◌, ◌*◌, zero, suc, min, List, [], ◌∷◌, length}
+use Rattle.std.proofs.Common.{length-append, take, Bool, true, false, cond, refl, ap, sym, ◌∙◌}
+use Rattle.std.proofs.Common.{arith}
 use Rattle.std.specs.Prelude.{nat_lt}
 use Rattle.std.specs.List.{flat_map}
 use Rattle.std.proofs.lemmas.List.{take_min}
 use Rattle.sg_blocks.specs.Disk.{Contents, Disk}
-use Rattle.sg_blocks.specs.LbaStatus.{count_alike, descriptor_at, descriptor_bytes, descriptors_from, lba_status, status_data}
+use Rattle.sg_blocks.specs.LbaStatus.{count_alike, descriptor_at, descriptor_bytes}
+use Rattle.sg_blocks.specs.LbaStatus.{descriptors_from, lba_status, status_data}
 use Rattle.sg_blocks.specs.declared.lba_status.StatusDescriptor.{StatusDescriptor}
 use Rattle.sg_blocks.specs.declared.store.Counts.{Counts}
 use Rattle.sg_wire.specs.CutAnswer.{first_bytes, overwritten}
@@ -26,7 +29,8 @@ descriptors-within contents capacity lba (suc most) =
     either-within (nat_lt lba capacity) (descriptor_at contents capacity lba) _ most
     (descriptors-within contents capacity (lba + count_alike contents capacity lba) most)
 
-length-descriptors : (found : List StatusDescriptor) → length (flat_map descriptor_bytes found) ≡ 16 * length found
+length-descriptors : (found : List StatusDescriptor) → length (flat_map descriptor_bytes found) ≡
+    16 * length found
 length-descriptors [] = refl
 length-descriptors (first ∷ rest) =
     let more = length-descriptors rest in

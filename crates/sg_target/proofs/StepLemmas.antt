@@ -25,16 +25,20 @@ room disk h = grind (arith, nat_tests)
 pub ruleset has_room = (room)
 
 module _ (state : State) (i : ℕ) (cdb data_out : List ℕ) where
-  pub step-refused : (refusal : Refusal) → checked_effect state i cdb data_out ≡ Err refusal → step state i cdb data_out ≡ refused state i refusal
+  pub step-refused : (refusal : Refusal) → checked_effect state i cdb data_out ≡ Err refusal
+      → step state i cdb data_out ≡ refused state i refusal
   step-refused refusal e = ap (outcome state i) e
 
-  pub step-passed : (effect : Effect) → checked_effect state i cdb data_out ≡ Ok effect → step state i cdb data_out ≡ executed_or_refused state i effect
+  pub step-passed : (effect : Effect) → checked_effect state i cdb data_out ≡ Ok effect
+      → step state i cdb data_out ≡ executed_or_refused state i effect
   step-passed effect e = ap (outcome state i) e
 
-  pub ranges-refused : (refusal : Refusal) → checked_effect state i cdb data_out ≡ Err refusal → ranges state i cdb data_out ≡ []
+  pub ranges-refused : (refusal : Refusal) → checked_effect state i cdb data_out ≡ Err refusal
+      → ranges state i cdb data_out ≡ []
   ranges-refused refusal e = ap ranges_in e
 
-  pub ranges-passed : (effect : Effect) → checked_effect state i cdb data_out ≡ Ok effect → ranges state i cdb data_out ≡ effect.ranges
+  pub ranges-passed : (effect : Effect) → checked_effect state i cdb data_out ≡ Ok effect
+      → ranges state i cdb data_out ≡ effect.ranges
   ranges-passed effect e = ap ranges_in e
 
 pub ruleset decided = (step-refused, step-passed, ranges-refused, ranges-passed)

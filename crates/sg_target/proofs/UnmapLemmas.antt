@@ -1,5 +1,6 @@
 -- Extents that are unmapped in turn.
-use Rattle.std.proofs.Common.{◌≡◌, ◌≤◌, ◌<◌, ℕ, ◌+◌, ◌*◌, ◌^◌, List, [], ◌∷◌, ◌++◌, length, length-append, take, get_or, refl, sym, subst, ap, ◌∙◌, arith}
+use Rattle.std.proofs.Common.{◌≡◌, ◌≤◌, ◌<◌, ℕ, ◌+◌, ◌*◌, ◌^◌, List, [], ◌∷◌, ◌++◌, length}
+use Rattle.std.proofs.Common.{length-append, take, get_or, refl, sym, subst, ap, ◌∙◌, arith}
 use Rattle.std.proofs.Math.Nat.{mul-le-mul}
 use Rattle.std.proofs.lemmas.List.{take_more}
 use Rattle.sg_blocks.specs.Disk.{Contents, Disk, disk_unmapped, unmapped}
@@ -102,8 +103,14 @@ pub has_headroom : (bounds : CostBounds) (pool i : ℕ) (contents : Contents) (e
     → IsCounted bounds pool (ranges_in_turn contents extents) before after → HasHeadroom after.counts
 has_headroom bounds pool i contents extents before after p few short visits counted =
     let n = length-ranges contents extents in
-    let links : pool * length (ranges_in_turn contents extents) ≤ MAX_POOL * 64 = mul-le-mul {m₂ = 64} p (omega arith) in
-    record { visits = omega arith; probes = omega (arith, counted.probes); links = omega (arith, counted.links) }
+    let links : pool * length (ranges_in_turn contents extents) ≤ MAX_POOL * 64 =
+    mul-le-mul {m₂ = 64} p (omega arith) in
+    record {
+      visits = omega arith;
+      probes = omega (arith, counted.probes);
+      links =
+          omega (arith, counted.links);
+    }
 
 -- what was counted over some ranges since a restart is charged
 pub charged : (bounds : CostBounds) (pool : ℕ) (over : List Range) (before after : Meter) (reply : Reply)
@@ -133,8 +140,11 @@ pub unmapping-charged : (bounds : CostBounds) (extents : List Extent) (before be
     → counts ≡ after.counts → reply ≡ executed_reply 0 counts
     → IsCharged bounds before.pool (ranges_in_turn before.contents extents) meter after reply
 unmapping-charged bounds extents before between meter mid after counts reply left anew some counted same is =
-    let here = subst (λ (disk : Disk). IsCounted bounds disk.pool (ranges_in_turn disk.contents extents) mid after) left counted in
+    let here =
+    subst (λ (disk : Disk). IsCounted bounds disk.pool
+    (ranges_in_turn disk.contents extents) mid after) left counted in
     charged bounds before.pool (ranges_in_turn before.contents extents) meter after reply
     (omega (arith, length-ranges before.contents extents))
-    (subst (λ (m : Meter). IsCounted bounds before.pool (ranges_in_turn before.contents extents) m after) anew here)
+    (subst (λ (m : Meter). IsCounted bounds before.pool (ranges_in_turn before.contents extents) m
+    after) anew here)
     (ap (λ (r : Reply). r.counts) is ∙ same)

@@ -14,10 +14,7 @@ use Rattle.sg_units.specs.ReservationType.{type_of}
 use Rattle.sg_units.specs.ReserveIn.{capabilities_data, keys_data, reservation_data}
 use Rattle.sg_units.specs.ReserveOut.{outcome, raised_by, state_after}
 use Rattle.sg_units.specs.declared.out_fault.OutFault.{OutFault}
-use Rattle.sg_units.specs.declared.out_fault.OutFault.TheVariants.{Conflict as OutConflict}
-use Rattle.sg_units.specs.declared.out_fault.OutFault.TheVariants.{InsufficientRegistrationResources as NoRoom}
-use Rattle.sg_units.specs.declared.out_fault.OutFault.TheVariants.{InvalidRelease as OtherType, ListField}
-use Rattle.sg_units.specs.declared.out_fault.OutFault.TheVariants.{InvalidScopeOrType}
+use Rattle.sg_units.specs.declared.out_fault.OutFault.TheVariants as out_fault
 use Rattle.sg_units.specs.declared.reservation_change.ReservationChange.{ReservationChange}
 use Rattle.sg_units.specs.declared.reservation_state.ReservationState.{ReservationState}
 use Rattle.sg_target.specs.Effect.{Effect, no_effect, returning_up_to}
@@ -71,11 +68,11 @@ unless_type action scope_type =
 
 -- The status or the sense data of each fault.
 abbrev pub out_refusal : OutFault → Refusal
-out_refusal OutConflict = Conflict
-out_refusal NoRoom = Check InsufficientRegistrationResources
-out_refusal OtherType = Check InvalidRelease
-out_refusal (ListField byte) = Check (InvalidFieldInParameterList byte)
-out_refusal InvalidScopeOrType = Check (InvalidFieldInCdb 2)
+out_refusal out_fault.Conflict = Conflict
+out_refusal out_fault.InsufficientRegistrationResources = Check InsufficientRegistrationResources
+out_refusal out_fault.InvalidRelease = Check InvalidRelease
+out_refusal (out_fault.ListField byte) = Check (InvalidFieldInParameterList byte)
+out_refusal out_fault.InvalidScopeOrType = Check (InvalidFieldInCdb 2)
 
 -- What a parameter list asks for, or the refusal. A list of another length than that of its fields
 -- is an error.

@@ -1,5 +1,6 @@
 // UNMAP: its parameter list, and its work.
-ghost use Rattle.std.specs.Prelude.{◌≡◌, ◌+◌, ◌*◌, ◌-◌, ◌≤◌, ◌<◌, length, Some, None, Err, Ok, [], IfOk, IfErr, IfNone};
+ghost use Rattle.std.specs.Prelude.{◌≡◌, ◌+◌, ◌*◌, ◌-◌, ◌≤◌, ◌<◌, length, Some, None, Err, Ok};
+ghost use Rattle.std.specs.Prelude.{[], IfOk, IfErr, IfNone};
 ghost use Rattle.std.specs.FinMap.{len};
 ghost use Rattle.sg_wire.specs.CutAnswer.{first_bytes};
 ghost use Rattle.sg_pages.specs.ProvisioningPages.{maximum_unmap_descriptors};

@@ -1,4 +1,4 @@
--- The texts of options (docs/SCRIPT.md).
+-- The texts of options (docs/DECISIONS.md).
 use Rattle.std.specs.Prelude.{ℕ, List, [], ◌∷◌, length, drop, codes, Option, Some, None, ◌==◌}
 use Rattle.std.specs.Prelude.{nat_le, if◌then◌else◌}
 use Rattle.std.specs.List.{slice_split}

@@ -1,4 +1,4 @@
--- The options of the tools (their manual pages in sg3_utils, with the choices of docs/SCRIPT.md).
+-- The options of the tools (their manual pages in sg3_utils, with the choices of docs/DECISIONS.md).
 use Rattle.std.specs.Prelude.{ℕ, List, [], ◌∷◌, map, codes, slice_index, Option, Some, None, Bool}
 use Rattle.std.specs.Prelude.{true, false, if◌then◌else◌}
 use Prim.Native.String.{String}

@@ -1,5 +1,5 @@
 -- What the options of a tool ask for (their manual pages in sg3_utils, with the choices of
--- docs/SCRIPT.md). Of two faults the first in this order is returned: `Usage` of clap, or of a list
+-- docs/DECISIONS.md). Of two faults the first in this order is returned: `Usage` of clap, or of a list
 -- that is not given; `Exclusive`; `Number`; and then any other `Usage`.
 use Rattle.std.specs.Prelude.{ℕ, ◌^◌, ◌-◌, List, [], ◌∷◌, length, codes, filter, map, Option, Some}
 use Rattle.std.specs.Prelude.{None, is_some, Result, Ok, Err, Bool, true, ◌==◌, ◌&&◌, ◌||◌}

@@ -311,7 +311,8 @@ same_or_less k n h = cases_of (cases_lt k n)
     cases_of (inr l) = inl (omega arith)
 
 -- the first n initiators have what is established for them, the others what they had
-pub record RaisedBelow (initial : Pending) (conditions : Conditions) (pending : Pending) (n : ℕ) : Type 0 where
+pub record RaisedBelow (initial : Pending) (conditions : Conditions) (pending : Pending)
+    (n : ℕ) : Type 0 where
   pub below : (k : ℕ) → k < n → pending_for pending k ≡ queue_after initial conditions k
   pub from : (k : ℕ) → n ≤ k → pending_for pending k ≡ pending_for initial k
 

@@ -1,5 +1,7 @@
 -- A CDB, byte by byte.
-use Rattle.std.proofs.Common.{◌≡◌, ◌<◌, ◌≤◌, ℕ, ◌+◌, ◌*◌, ◌/◌, ◌^◌, ◌%◌, ◌==◌, List, [], ◌∷◌, ◌++◌, length, drop, get_or, Bool, true, false, Option, Some, None, Ok, cond, eqb, eq-eqb, refl, ap, sym, subst, ◌∙◌, arith}
+use Rattle.std.proofs.Common.{◌≡◌, ◌<◌, ◌≤◌, ℕ, ◌+◌, ◌*◌, ◌/◌, ◌^◌, ◌%◌, ◌==◌, List, [], ◌∷◌, ◌++◌}
+use Rattle.std.proofs.Common.{length, drop, get_or, Bool, true, false, Option, Some, None, Ok, cond}
+use Rattle.std.proofs.Common.{eqb, eq-eqb, refl, ap, sym, subst, ◌∙◌, arith}
 use Rattle.std.specs.Prelude.{bit_and, if◌then◌else◌}
 use Rattle.std.proofs.lemmas.List.{drop_more, drop_all}
 use Rattle.std.proofs.lemmas.Bool.Decides.{nat_tests}
@@ -7,12 +9,19 @@ use Rattle.std.proofs.lemmas.Nat.{and_mask}
 use Rattle.std.proofs.Math.Nat.{mod-eq_of_lt}
 use Rattle.byteorder.specs.Endian.{big_bytes, big_number}
 use Rattle.byteorder.specs.Numbers.{big_from-bytes}
-use Rattle.sg_wire.specs.declared.command.Command.TheVariants.{ModeSelect6, ModeSelect10, ModeSense6, ModeSense10}
-use Rattle.sg_wire.specs.declared.command.Command.TheVariants.{TestUnitReady, RequestSense, Inquiry, Read6, Read10, Read16, Write6, Write10, Write16, ReadCapacity10, ReadCapacity16, SynchronizeCache10, WriteSame10, WriteSame16, Unmap, GetLbaStatus}
+use Rattle.sg_wire.specs.declared.command.Command.TheVariants.{ModeSelect6, ModeSelect10}
+use Rattle.sg_wire.specs.declared.command.Command.TheVariants.{ModeSense6, ModeSense10}
+use Rattle.sg_wire.specs.declared.command.Command.TheVariants.{TestUnitReady, RequestSense, Inquiry}
+use Rattle.sg_wire.specs.declared.command.Command.TheVariants.{Read6, Read10, Read16, Write6}
+use Rattle.sg_wire.specs.declared.command.Command.TheVariants.{Write10, Write16, ReadCapacity10}
+use Rattle.sg_wire.specs.declared.command.Command.TheVariants.{ReadCapacity16, SynchronizeCache10}
+use Rattle.sg_wire.specs.declared.command.Command.TheVariants.{WriteSame10, WriteSame16, Unmap}
+use Rattle.sg_wire.specs.declared.command.Command.TheVariants.{GetLbaStatus}
 use Rattle.sg_wire.specs.declared.command.Class.{Class}
 use Rattle.sg_wire.specs.declared.command.Class.TheVariants.{Always, Reads}
 use Rattle.std.specs.Option.{option_map_or}
-use Rattle.sg_wire.specs.Layout.{Layout, layout, class_of, first_bad, command_of, command_with, cdb_of, blocks_of}
+use Rattle.sg_wire.specs.Layout.{Layout, layout, class_of, first_bad, command_of, command_with}
+use Rattle.sg_wire.specs.Layout.{cdb_of, blocks_of}
 
 -- one more byte
 pub first_bad-more : (masks bytes : List ℕ) (k : ℕ) → k < length masks → k < length bytes →
@@ -224,10 +233,14 @@ reads_back-mode_select_6 false false list_length n = simp (is_whole list_length 
 pub reads_back-mode_select_10 : (pf sp : Bool) (list_length : ℕ) → list_length < 2 ^ 16
     → command_of (cdb_of (ModeSelect10 pf sp list_length)) ≡ Ok (ModeSelect10 pf sp list_length)
 unfolding command_of command_with cdb_of
-reads_back-mode_select_10 true true list_length n = let f = number_again 2 list_length [] n in simp is_whole-mod cc
-reads_back-mode_select_10 true false list_length n = let f = number_again 2 list_length [] n in simp is_whole-mod cc
-reads_back-mode_select_10 false true list_length n = let f = number_again 2 list_length [] n in simp is_whole-mod cc
-reads_back-mode_select_10 false false list_length n = let f = number_again 2 list_length [] n in simp is_whole-mod cc
+reads_back-mode_select_10 true true list_length n = let f = number_again 2 list_length [] n in
+    simp is_whole-mod cc
+reads_back-mode_select_10 true false list_length n = let f = number_again 2 list_length [] n in
+    simp is_whole-mod cc
+reads_back-mode_select_10 false true list_length n = let f = number_again 2 list_length [] n in
+    simp is_whole-mod cc
+reads_back-mode_select_10 false false list_length n = let f = number_again 2 list_length [] n in
+    simp is_whole-mod cc
 
 -- PC and PAGE CODE share a byte
 pc_again : (pc page : ℕ) → pc < 4 → page < 64 → bit_and ((pc * 64 + page) / 64) 3 ≡ pc

@@ -7,5 +7,6 @@ use Rattle.sg_blocks.proofs.lba_status.write_status_data.Given as goal
 -- the header and the descriptors so far are put
 abbrev pub invariant-loop-descriptor : goal.invariant-loop-descriptor
 invariant-loop-descriptor l = record {
-  puts : Puts l.fn.cut l.cut (status_header (length l.descriptors) ++ flat_map descriptor_bytes (take l.descriptor-index l.descriptors));
+  puts : Puts l.fn.cut l.cut (status_header (length l.descriptors) ++ flat_map descriptor_bytes
+      (take l.descriptor-index l.descriptors));
 }

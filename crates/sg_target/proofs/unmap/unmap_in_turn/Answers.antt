@@ -9,13 +9,15 @@ pub unmap-requires-clause-range : goal.unmap-requires-clause-range
 unmap-requires-clause-range g c =
     let same = ap (λ (d : Disk). d.capacity) c.loop-extent.invariant.disk in
     let first : Extent = record { lba = 0; count = 0 } in
-    let here = on_disk-at _ c.args.extents.now c.loop-extent.extent-index first c.loop-extent-test.true c.requires.on_disk in
+    let here = on_disk-at _ c.args.extents.now c.loop-extent.extent-index first
+    c.loop-extent-test.true c.requires.on_disk in
     omega (arith, same, here)
 
 pub unmap-requires-clause-headroom : goal.unmap-requires-clause-headroom
 unmap-requires-clause-headroom g c =
     has_headroom _ _ c.loop-extent.extent-index _ _ _ _ c.requires.pool (omega arith)
-    (omega (arith, length-take c.loop-extent.extent-index c.args.extents.now)) c.loop-extent.invariant.few c.loop-extent.invariant.counted
+    (omega (arith, length-take c.loop-extent.extent-index c.args.extents.now))
+    c.loop-extent.invariant.few c.loop-extent.invariant.counted
 
 pub loop-extent-preserved : goal.loop-extent-preserved
 loop-extent-preserved g c =
@@ -26,7 +28,8 @@ loop-extent-preserved g c =
     let e = c.unmap.ensures in
     let first : Extent = record { lba = 0; count = 0 } in
     let on_disk = on_disk-at _ extents i first here c.requires.on_disk in
-    let within = g.met.S.Store.price_within (g.S.Store.disk c.loop-extent.store).contents (get_or extents i first).lba (get_or extents i first).count in
+    let within = g.met.S.Store.price_within (g.S.Store.disk c.loop-extent.store).contents
+    (get_or extents i first).lba (get_or extents i first).count in
     record {
       disk = disk-next extents i first here _ _ _ inv.disk e.disk;
       counted = counted-next extents i first here _ _ _ _ _ _ inv.disk inv.counted e.cost e.price e.least;

@@ -32,5 +32,6 @@ of_spec 𝓤 𝓛 𝓜 𝓡 wired =
     enter ! _ _ _ _ _ $ alloc_all ! (λ l. pass_all ! refl ((tt, record { fits = are.0.1 }), tt) $
     sets ! (agg ! (no_more !)) refl (tt, tt) $
     returns ! (look_at ! 0 refl) $ free_all ! refl $
-    suffices ! _ (ends_at 𝓛 f.ended stayed c y empty_value (record { value = a.0 }) (tt, tt) (tt, tt)) $ says ! refl $
+    suffices ! _ (ends_at 𝓛 f.ended stayed c y empty_value (record { value = a.0 }) (tt, tt)
+    (tt, tt)) $ says ! refl $
     ghost_made ! (record { value = a.0 }) $ nothing ! $ nothing ! $ join ! $ nothing ! $ done !))

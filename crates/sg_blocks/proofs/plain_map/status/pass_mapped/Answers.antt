@@ -22,17 +22,22 @@ loop-run-preserved c =
     let same : c.loop-run.table.records ≡ rs = ap (λ (x : Table). x.records) inv.table in
     let e = c.new-end.ensures in
     let one = ahead-found c.loop-run.end.next c.loop-run.next run is in
-    let on : passed c.loop-run.end + ahead c.new-end.result.next ≡ passed c.new-end.result = omega (arith, e.index) in
+    let on : passed c.loop-run.end + ahead c.new-end.result.next ≡ passed c.new-end.result =
+    omega (arith, e.index) in
     record {
       order = omega (arith, e.index, inv.order);
       next = omega (arith, e.index, inv.next, here.2);
       at = record {
-        index = rw (e.index, here.2) (index-mapped rs i c.loop-run.next run c.requires.table.sorted inv.at.index here.0 (sym here.1) here.2);
+        index =
+            rw (e.index, here.2)
+            (index-mapped rs i c.loop-run.next run c.requires.table.sorted inv.at.index here.0
+            (sym here.1) here.2);
         next = rw (e.index, sym same) e.next;
       };
       row = λ q ge lt. elim (cases_lt q i) [
         | inl below ↦ inv.row q ge below
-        | inr above ↦ let at : q ≡ i = omega (arith, e.index) in rw at (omega (arith, inv.next, start, here.2))
+        | inr above ↦ let at : q ≡ i = omega (arith, e.index) in
+            rw at (omega (arith, inv.next, start, here.2))
       ];
       table = visited-on t c.loop-run.table c.new-end.new.table _ _ _ inv.table e.table ∙ ap (visited t) on;
     }

@@ -8,6 +8,7 @@ use Rattle.sg_blocks.proofs.plain_map.unmap.unmap_records.Given as goal
 abbrev pub invariant-loop-index : goal.invariant-loop-index
 invariant-loop-index l = record {
   table : l.table ≡ visited l.fn.table (l.index - l.from);
-  consistent : IsConsistent (splice l.fn.table.records l.from l.index []) l.pool.blocks l.pool.free l.fn.table.room;
+  consistent : IsConsistent (splice l.fn.table.records l.from l.index []) l.pool.blocks l.pool.free
+      l.fn.table.room;
   blocks : l.pool.blocks ≡ l.fn.pool.blocks;
 }

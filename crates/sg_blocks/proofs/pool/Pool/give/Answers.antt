@@ -16,7 +16,8 @@ invariant_of-self c =
     let low = ap (λ (s : Slots). length s.blocks) c.self.view_is in
     let none = ap (λ (s : Slots). occurrences slot s.free) c.self.view_is ∙ c.requires.used in (
       length-set p.next.items slot p.first_free ∙ c.self.invariant.0,
-      rw (chain-given p.next.items slot p.first_free p.free_count (omega (arith, c.self.invariant.0, c.requires.slot)) none)
+      rw (chain-given p.next.items slot p.first_free p.free_count
+          (omega (arith, c.self.invariant.0, c.requires.slot)) none)
           (given-below (length p.blocks.items) slot _ (omega (arith, c.requires.slot)) c.self.invariant.1),
     )
 
@@ -26,5 +27,6 @@ returns-clause-free c =
     let slot = c.args.slot in
     let low = ap (λ (s : Slots). length s.blocks) c.self.view_is in
     let none = ap (λ (s : Slots). occurrences slot s.free) c.self.view_is ∙ c.requires.used in
-    chain-given p.next.items slot p.first_free p.free_count (omega (arith, c.self.invariant.0, c.requires.slot)) none
+    chain-given p.next.items slot p.first_free p.free_count
+    (omega (arith, c.self.invariant.0, c.requires.slot)) none
     ∙ ap (λ (s : Slots). slot ∷ s.free) c.self.view_is

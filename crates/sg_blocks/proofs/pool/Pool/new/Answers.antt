@@ -8,8 +8,10 @@ pub invariant_of-result : goal.invariant_of-result
 invariant_of-result c =
     let count = c.args.count in
     let len = length-range_with_len 1 count in
-    let blocks : count ≡ length c.in_ok-vec.field-0.items = omega (arith, c.in_ok-vec.ensures.len, c.in_ok-vec.field-0.ok.0) in
-    rw (c.in_ok-links.ensures, len, chain-range count 0 count (omega arith), sym blocks) (refl, range-below count 0 count (omega arith))
+    let blocks : count ≡ length c.in_ok-vec.field-0.items =
+    omega (arith, c.in_ok-vec.ensures.len, c.in_ok-vec.field-0.ok.0) in
+    rw (c.in_ok-links.ensures, len, chain-range count 0 count (omega arith), sym blocks)
+    (refl, range-below count 0 count (omega arith))
 
 pub returns-clause-free_count : goal.returns-clause-free_count
 returns-clause-free_count c = length-chain c.in_ok-links.field-0.items 0 c.args.count

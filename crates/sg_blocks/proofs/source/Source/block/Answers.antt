@@ -6,11 +6,13 @@ use Rattle.sg_blocks.proofs.source.Source.block.Goals as goal
 
 pub slice_bounds-result-end : goal.slice_bounds-result-end
 slice_bounds-result-end c =
-    let whole : length (block_at c.in-Joined.bytes.now c.args.index) ≡ 512 = ap (λ s. length (block_of s c.args.index)) (sym c.in-Joined.is) ∙ c.requires in
+    let whole : length (block_at c.in-Joined.bytes.now c.args.index) ≡ 512 =
+    ap (λ s. length (block_of s c.args.index)) (sym c.in-Joined.is) ∙ c.requires in
     let within = block-within c.in-Joined.bytes.now c.args.index whole in
     omega (arith, within)
 
 pub returns-in-Joined : goal.returns-in-Joined
 returns-in-Joined c =
     let size : 512 * c.args.index + 512 - 512 * c.args.index ≡ 512 = omega arith in
-    ap (λ n. take n (drop (512 * c.args.index) c.in-Joined.bytes.now)) size ∙ ap (λ s. block_of s c.args.index) (sym c.in-Joined.is)
+    ap (λ n. take n (drop (512 * c.args.index) c.in-Joined.bytes.now)) size
+    ∙ ap (λ s. block_of s c.args.index) (sym c.in-Joined.is)

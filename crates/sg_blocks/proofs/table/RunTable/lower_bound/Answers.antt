@@ -9,7 +9,11 @@ use Rattle.sg_blocks.proofs.table.RunTable.lower_bound.Goals as goal
 pub start-requires-clause-headroom : goal.start-requires-clause-headroom
 start-requires-clause-headroom c =
     let rs = c.args.self.now.records in
-    omega (arith, probes-le _ (length rs) c.loop-low.invariant.cost (omega (arith, c.count-high.ensures.value, c.count-high.ensures.table_size)))
+    omega (
+      arith,
+      probes-le _ (length rs) c.loop-low.invariant.cost
+          (omega (arith, c.count-high.ensures.value, c.count-high.ensures.table_size)),
+    )
 
 -- what a probe leaves
 pub loop-low-preserved-then-start-lba : goal.loop-low-preserved-then-start-lba
@@ -19,13 +23,15 @@ loop-low-preserved-then-start-lba c =
     let n = c.loop-low.high - c.loop-low.low in
     let s = c.loop-low.self.probes - c.args.self.now.probes in
     let middle = c.loop-low.low + n / 2 in
-    let probed = probed-more c.args.self.now c.loop-low.self c.start.new.self inv.table inv.rise c.start.ensures.table in
+    let probed = probed-more c.args.self.now c.loop-low.self c.start.new.self inv.table inv.rise
+    c.start.ensures.table in
     let same : c.loop-low.self.records ≡ rs = ap (λ (t : Table). t.records) inv.table in
     let value : c.start.result ≡ start_of rs middle = rw same at c.start.ensures.value in
     record {
       ordered = omega arith;
       within = omega arith;
-      before = λ j lt. at_or_before rs middle j c.args.lba c.requires.sorted (omega arith) (omega arith) (omega arith);
+      before = λ j lt. at_or_before rs middle j c.args.lba c.requires.sorted (omega arith)
+          (omega arith) (omega arith);
       after = inv.after;
       table = probed.2;
       rise = probed.0;
@@ -40,7 +46,8 @@ loop-low-preserved c =
     let n = c.loop-low.high - c.loop-low.low in
     let s = c.loop-low.self.probes - c.args.self.now.probes in
     let middle = c.loop-low.low + n / 2 in
-    let probed = probed-more c.args.self.now c.loop-low.self c.start.new.self inv.table inv.rise c.start.ensures.table in
+    let probed = probed-more c.args.self.now c.loop-low.self c.start.new.self inv.table inv.rise
+    c.start.ensures.table in
     let same : c.loop-low.self.records ≡ rs = ap (λ (t : Table). t.records) inv.table in
     let value : c.start.result ≡ start_of rs middle = rw same at c.start.ensures.value in
     record {
@@ -57,4 +64,8 @@ loop-low-preserved c =
 pub returns-clause-probe_count : goal.returns-clause-probe_count
 returns-clause-probe_count c =
     let rs = c.args.self.now.records in
-    omega (arith, probes-le _ (length rs) c.loop-low.invariant.cost (omega (arith, c.count-high.ensures.value, c.count-high.ensures.table_size)))
+    omega (
+      arith,
+      probes-le _ (length rs) c.loop-low.invariant.cost
+          (omega (arith, c.count-high.ensures.value, c.count-high.ensures.table_size)),
+    )

@@ -6,7 +6,8 @@ use Rattle.sg_run.proofs.lines.next_line.next_line.Given as goal
 -- what was taken so far is part of a line
 abbrev pub invariant-loop-read_ahead : goal.invariant-loop-read_ahead
 invariant-loop-read_ahead g l = record {
-  part : TakesPart (to_come g.R.Read.remaining l.fn.read_ahead.ahead l.fn.reader) (to_come g.R.Read.remaining l.read_ahead.ahead l.reader) l.line l.fn.left l.left;
+  part : TakesPart (to_come g.R.Read.remaining l.fn.read_ahead.ahead l.fn.reader)
+      (to_come g.R.Read.remaining l.read_ahead.ahead l.reader) l.line l.fn.left l.left;
   start : l.before ≡ l.fn.left;
   sound : has_failed l.reader ≡ false;
 }

@@ -7,8 +7,10 @@ loop-i-init c = no_pair c.args.digits.now c.args.bytes.now
 
 pub loop-i-preserved : goal.loop-i-preserved
 loop-i-preserved c =
-    next_pair c.loop-i.are_digits c.args.digits.now c.loop-i.bytes c.loop-i.i _ _ _ (omega arith) (omega arith)
+    next_pair c.loop-i.are_digits c.args.digits.now c.loop-i.bytes c.loop-i.i _ _ _ (omega arith)
+    (omega arith)
     c.digit_value-high.ensures c.digit_value-low.ensures refl c.loop-i.invariant
 
 pub returns : goal.returns
-returns c = all_pairs c.loop-i.are_digits c.args.digits.now c.loop-i.bytes c.loop-i.i (omega arith) (omega arith) c.loop-i.invariant
+returns c = all_pairs c.loop-i.are_digits c.args.digits.now c.loop-i.bytes c.loop-i.i (omega arith)
+    (omega arith) c.loop-i.invariant

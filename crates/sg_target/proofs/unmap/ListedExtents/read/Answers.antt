@@ -13,5 +13,7 @@ loop-index-preserved c =
       extents = c.push.ensures ∙ (ap (λ (xs : List Extent). xs ++ c.descriptor.result ∷ []) inv.extents
           ∙ (ap (λ (e : Extent). first_descriptors list index ++ e ∷ []) c.descriptor.ensures
           ∙ sym (map-range_with_len_more (descriptor list) 0 index index (omega arith))));
-      count = ap length c.push.ensures ∙ length-append c.loop-index.extents (c.descriptor.result ∷ []) ∙ ap (λ n. n + 1) inv.count;
+      count = ap length c.push.ensures
+          ∙ length-append c.loop-index.extents (c.descriptor.result ∷ [])
+          ∙ ap (λ n. n + 1) inv.count;
     }

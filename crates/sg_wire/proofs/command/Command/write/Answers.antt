@@ -1,7 +1,13 @@
 use Rattle.std.proofs.Common.{rules}
 use Rattle.sg_wire.specs.Layout.{cdb_of}
-use Rattle.sg_wire.proofs.LayoutLemmas.{reads_back-test_unit_ready, reads_back-request_sense, reads_back-inquiry, reads_back-extent_6, reads_back-extent_10, reads_back-extent_16, reads_back-read_capacity_10, reads_back-read_capacity_16, reads_back-write_same_10, reads_back-write_same_16, reads_back-unmap, reads_back-get_lba_status}
-use Rattle.sg_wire.proofs.LayoutLemmas.{reads_back-mode_select_6, reads_back-mode_select_10, reads_back-mode_sense_6, reads_back-mode_sense_10}
+use Rattle.sg_wire.proofs.LayoutLemmas.{reads_back-test_unit_ready, reads_back-request_sense}
+use Rattle.sg_wire.proofs.LayoutLemmas.{reads_back-inquiry, reads_back-extent_6}
+use Rattle.sg_wire.proofs.LayoutLemmas.{reads_back-extent_10, reads_back-extent_16}
+use Rattle.sg_wire.proofs.LayoutLemmas.{reads_back-read_capacity_10, reads_back-read_capacity_16}
+use Rattle.sg_wire.proofs.LayoutLemmas.{reads_back-write_same_10, reads_back-write_same_16}
+use Rattle.sg_wire.proofs.LayoutLemmas.{reads_back-unmap, reads_back-get_lba_status}
+use Rattle.sg_wire.proofs.LayoutLemmas.{reads_back-mode_select_6, reads_back-mode_select_10}
+use Rattle.sg_wire.proofs.LayoutLemmas.{reads_back-mode_sense_6, reads_back-mode_sense_10}
 use Rattle.sg_wire.proofs.ReservationLemmas.{reads_back-reserve_in, reads_back-reserve_out}
 use Rattle.sg_wire.proofs.command.Command.write.Goals as goal
 
