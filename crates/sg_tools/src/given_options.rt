@@ -2,9 +2,9 @@
 use clap::ArgMatches;
 use std::marker::Model;
 
-// What clap finds in the words of a tool, seen as a list of options with their texts.
+/// What clap finds in words, seen as a list of options with their texts.
 #[derive(Drop)]
-pub(crate) struct GivenOptions<'a> {
+pub struct GivenOptions<'a> {
     matches: ArgMatches<'a>,
 }
 
@@ -17,19 +17,22 @@ impl<'a> Model for GivenOptions<'a> {
     ghost view = { λ g. rows_of (found_of g.matches) };
 }
 
-ghost use Rattle.std.specs.Prelude.{◌≡◌, map, option_map};
+ghost use Rattle.std.specs.Prelude.{◌≡◌, map, option_map, true};
+ghost use Rattle.clap.specs.Words.{app_of, is_simple_and_free};
 ghost use Rattle.sg_tools.specs.Options.{command_line};
 ghost use Rattle.sg_tools.specs.GivenOptions.{IsUnlessOutOfMemory, is_set, given_options, text_of};
 
 use crate::options::command_line;
 use crate::tool_fault::ToolFault;
 use crate::tool_name::ToolName;
+use clap::Command;
 use clap::error::ErrorKind;
 use std::alloc::Global;
+use std::convert::AsStr;
 
 impl<'a> GivenOptions<'a> {
     // The options that the words of a tool give.
-    pub(crate) fn of_words(
+    pub(crate) fn of_tool(
         alloc: Global,
         tool: ToolName,
         words: &'a [&'a str],
@@ -40,6 +43,23 @@ impl<'a> GivenOptions<'a> {
         let Ok(line) = command_line(alloc, tool) else {
             return Err(ToolFault::OutOfMemory);
         };
+        GivenOptions::of_words(line, words)
+    }
+
+    /// The options that words give, the first word being the name of the program. No option of the
+    /// command line has a rule on another.
+    ///
+    /// # Errors
+    /// `Usage` where clap does not accept the words or they ask for help, and `OutOfMemory` where
+    /// memory is refused.
+    pub fn of_words<S: AsStr>(
+        line: Command<'a>,
+        words: &'a [S],
+    ) -> Result<GivenOptions<'a>, ToolFault>
+        requires { is_simple_and_free (app_of line) ≡ true }
+        ensures { let texts = map S.text words.entry.now in
+            IsUnlessOutOfMemory (given_options (app_of line.entry) texts) result }
+    {
         match line.try_get_matches_from(words) {
             Ok(matches) => Ok(GivenOptions { matches }),
             Err(error) => match error.kind() {
@@ -59,8 +79,8 @@ impl<'a> GivenOptions<'a> {
         }
     }
 
-    // The text of an option, if it is given.
-    pub(crate) fn text(&self, option: &str) -> Option<&'a str>
+    /// The text of an option, if it is given.
+    pub fn text(&self, option: &str) -> Option<&'a str>
         ensures { option_map (λ t. t.now) result ≡ text_of option.now self.now }
     {
         self.matches.get_str(option)

@@ -24,7 +24,9 @@ mod unmap;
 
 pub use digits::digit_value;
 pub use extents::{Extent, Extents};
+pub use given_options::GivenOptions;
 pub use number::{read_number, read_number_up_to};
+pub use option_text::number_or;
 pub use parameters::{MAX_DATA_OUT, Parameters, ReserveOutParameters};
 pub use reply_status::{exit_status, status_of};
 pub use show::Show;

@@ -57,7 +57,7 @@ impl Tool {
         ensures { let texts = map (λ word. word.now) words.entry.now in
             IsUnlessOutOfMemory (request tool texts) result }
     {
-        match GivenOptions::of_words(alloc, tool, words) {
+        match GivenOptions::of_tool(alloc, tool, words) {
             Ok(options) => request_of(tool, &options),
             Err(fault) => Err(fault),
         }
