@@ -1,12 +1,75 @@
--- The program takes no argument.
-use Rattle.std.specs.Prelude.{ℕ, Result, Ok, Err, nat_le, if◌then◌else◌}
-use Rattle.std.specs.declared.io.ErrorKind.{ErrorKind}
-use Rattle.std.specs.declared.io.ErrorKind.TheVariants.{OutOfMemory as NoMemory}
+-- What the words of the command line ask for (docs/SCRIPT.md). Of two stops the first in this order
+-- is returned: `Usage`; `Number`; and then `Blocks` and `Pool`, as a disk is checked.
+use Rattle.std.specs.Prelude.{◌≡◌, ◌⊎◌, ℕ, ◌^◌, ◌-◌, List, codes, Option, Some, None, Result, Ok}
+use Rattle.std.specs.Prelude.{Err}
+use Rattle.clap.specs.Words.{Row, Text}
+use Rattle.sg_pages.specs.Identity.{standard_identity}
+use Rattle.sg_target.specs.Config.{ConfigFields, checked_config}
+use Rattle.sg_target.specs.declared.config.ConfigFault.{ConfigFault}
+use Rattle.sg_tools.specs.GivenOptions.{given_options, text_of}
+use Rattle.sg_tools.specs.OptionTexts.{number_or}
+use Rattle.sg_tools.specs.declared.tool_fault.ToolFault.{ToolFault}
+use Rattle.sgrun.specs.Options.{command_line}
+use Rattle.sgrun.specs.Stops.{stop_of_config, stop_of_options}
 use Rattle.sgrun.specs.declared.stop.Stop.{Stop}
-use Rattle.sgrun.specs.declared.stop.Stop.TheVariants.{Usage, OutOfMemory}
+use Rattle.sgrun.specs.declared.stop.Stop.TheVariants.{Number, OutOfMemory}
 
--- By how many words the command line has, the program's name included, or why they can't be read.
-abbrev pub checked_words : Result ℕ ErrorKind → Result (Unit {0}) Stop
-checked_words (Ok count) = if nat_le count 1 then Ok tt else Err Usage
-checked_words (Err NoMemory) = Err OutOfMemory
-checked_words (Err kind) = Err Usage
+-- ---- The disk
+
+abbrev pub default_blocks : ℕ
+default_blocks = 4096
+
+abbrev pub default_pool : ℕ
+default_pool = 4
+
+-- A disk with the standard identity, whose numbers have to be in range.
+abbrev pub disk_with : (blocks pool : ℕ) → ConfigFields
+disk_with blocks pool = record { blocks = blocks; pool = pool; identity = standard_identity }
+
+abbrev pub by_config : Result ConfigFields ConfigFault → Result ConfigFields Stop
+by_config (Ok disk) = Ok disk
+by_config (Err fault) = Err (stop_of_config fault)
+
+abbrev pub checked_disk : (blocks pool : ℕ) → Result ConfigFields Stop
+checked_disk blocks pool = by_config (checked_config (disk_with blocks pool))
+
+-- The number of an option's text, or the default where the option is not given.
+abbrev pub number_of_option : (default : ℕ) → Option Text → Option ℕ
+number_of_option default text = number_or default (2 ^ 64 - 1) text
+
+abbrev pub with_number : Option ℕ → (ℕ → Result ConfigFields Stop) → Result ConfigFields Stop
+with_number None disk = Err Number
+with_number (Some number) disk = disk number
+
+-- Both numbers are read before either is checked.
+abbrev pub disk_of : List Row → Result ConfigFields Stop
+disk_of rows =
+    with_number (number_of_option default_blocks (text_of (codes "blocks") rows)) (λ blocks.
+    with_number (number_of_option default_pool (text_of (codes "pool") rows)) (λ pool.
+    checked_disk blocks pool))
+
+-- ---- Every option
+
+-- The disk, and the file that holds the script. None is standard input.
+pub record ArgumentFields : Type 0 where
+  pub disk : ConfigFields
+  pub script : Option Text
+
+abbrev pub with_script : Option Text → Result ConfigFields Stop → Result ArgumentFields Stop
+with_script script (Err stop) = Err stop
+with_script script (Ok disk) = Ok (record { disk = disk; script = script })
+
+abbrev pub arguments_of : List Row → Result ArgumentFields Stop
+arguments_of rows = with_script (text_of (codes "script") rows) (disk_of rows)
+
+abbrev pub arguments_by : Result (List Row) ToolFault → Result ArgumentFields Stop
+arguments_by (Err fault) = Err (stop_of_options fault)
+arguments_by (Ok rows) = arguments_of rows
+
+-- What words ask for, or why there is nothing to run. The first word is the program's name.
+unfoldable pub arguments : (words : List Text) → Result ArgumentFields Stop
+arguments words = arguments_by (given_options command_line words)
+
+-- The result is this one, or memory was refused.
+abbrev pub IsUnlessOutOfMemory : {A : Type 0} → (expected result : Result A Stop) → Type 0
+IsUnlessOutOfMemory expected result = (result ≡ expected) ⊎ (result ≡ Err OutOfMemory)

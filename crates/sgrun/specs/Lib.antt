@@ -1,3 +1,7 @@
+-- What is asked for,
+pub mod Options
 pub mod Arguments
-pub mod DefaultDisk
+-- what is run,
+pub mod NewDisk
+-- and why there is no script's status.
 pub mod Stops

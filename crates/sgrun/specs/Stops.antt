@@ -1,9 +1,18 @@
 -- Why there is no script's status (docs/SCRIPT.md, exit status).
-use Rattle.std.specs.Prelude.{ℕ, List, codes, Result, Ok, Err}
+use Rattle.std.specs.Prelude.{ℕ, List, ◌++◌, codes, Result, Ok, Err}
+use Rattle.std.specs.Borrow.{Bor}
+use Rattle.std.specs.declared.io.ErrorKind.{ErrorKind}
+use Rattle.std.specs.declared.io.ErrorKind.TheVariants.{OutOfMemory as NoMemory}
 use Rattle.sg_run.specs.declared.run.RunFault.{RunFault}
 use Rattle.sg_run.specs.declared.run.RunFault.TheVariants.{Read as ReadFault, Write as WriteFault}
+use Rattle.sg_target.specs.declared.config.ConfigFault.{ConfigFault}
+use Rattle.sg_target.specs.declared.config.ConfigFault.TheVariants.{Blocks as BlocksFault}
+use Rattle.sg_target.specs.declared.config.ConfigFault.TheVariants.{Pool as PoolFault}
+use Rattle.sg_tools.specs.declared.tool_fault.ToolFault.{ToolFault}
+use Rattle.sg_tools.specs.declared.tool_fault.ToolFault.TheVariants.{OutOfMemory as NoMemoryFault}
 use Rattle.sgrun.specs.declared.stop.Stop.{Stop}
-use Rattle.sgrun.specs.declared.stop.Stop.TheVariants.{Usage, Read, Write, OutOfMemory}
+use Rattle.sgrun.specs.declared.stop.Stop.TheVariants.{Usage, Number, Blocks, Pool, CannotOpen}
+use Rattle.sgrun.specs.declared.stop.Stop.TheVariants.{Read, Write, OutOfMemory}
 
 -- What a stop prints to standard error after the program's name, and the program's exit status.
 pub record Row : Type 0 where
@@ -15,14 +24,38 @@ row message status = record { message = message; status = status }
 
 abbrev pub row_of : Stop → Row
 row_of Usage = row (codes "usage") 1
+row_of Number = row (codes "number") 1
+row_of Blocks = row (codes "blocks") 1
+row_of Pool = row (codes "pool") 1
+row_of (CannotOpen file) = row (codes "cannot open " ++ file.now) 15
 row_of Read = row (codes "read fault") 15
 row_of Write = row (codes "write fault") 15
 row_of OutOfMemory = row (codes "out of memory") 99
 
+-- The stop where the words of the command line can't be read: they are not UTF-8.
+abbrev pub stop_of_words : ErrorKind → Stop
+stop_of_words NoMemory = OutOfMemory
+stop_of_words kind = Usage
+
+-- The stop where words don't give options: clap does not accept them.
+abbrev pub stop_of_options : ToolFault → Stop
+stop_of_options NoMemoryFault = OutOfMemory
+stop_of_options fault = Usage
+
+-- The stop where a disk can't have such a size.
+abbrev pub stop_of_config : ConfigFault → Stop
+stop_of_config BlocksFault = Blocks
+stop_of_config PoolFault = Pool
+
+-- The stop where the file of this name can't be opened.
+abbrev pub stop_of_open : (file : Bor (List ℕ)) → ErrorKind → Stop
+stop_of_open file NoMemory = OutOfMemory
+stop_of_open file kind = CannotOpen file
+
 -- The stop of a run that ended before its script did.
-abbrev pub stop_of : RunFault → Stop
-stop_of ReadFault = Read
-stop_of WriteFault = Write
+abbrev pub stop_of_run : RunFault → Stop
+stop_of_run ReadFault = Read
+stop_of_run WriteFault = Write
 
 -- The program's exit status: the script's, or that of the stop.
 abbrev pub exit_status : Result ℕ Stop → ℕ

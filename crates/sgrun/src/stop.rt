@@ -1,15 +1,26 @@
 // Why there is no script's status.
-ghost use Rattle.std.specs.Prelude.{◌≡◌};
-ghost use Rattle.sgrun.specs.Stops.{exit_status, row_of};
+ghost use Rattle.std.specs.Prelude.{◌≡◌, ◌++◌};
+ghost use Rattle.sgrun.specs.Stops.{exit_status, row_of, stop_of_open, stop_of_words};
 
 use sg_run::RunFault;
+use sg_target::ConfigFault;
+use sg_tools::ToolFault;
 use std::alloc::AllocError;
+use std::io::ErrorKind;
 
 /// Why there is no script's status.
 #[derive(Clone, Copy)]
-pub(crate) enum Stop {
-    /// The program was called with an argument.
+pub(crate) enum Stop<'a> {
+    /// The words of the command line are not those of the program, or ask for help.
     Usage,
+    /// The text of an option is no number.
+    Number,
+    /// A disk can't have as many blocks.
+    Blocks,
+    /// A disk can't have a pool of this size.
+    Pool,
+    /// The file with this name could not be opened.
+    CannotOpen(&'a str),
     /// The script could not be read to its end.
     Read,
     /// A reply could not be written.
@@ -18,46 +29,96 @@ pub(crate) enum Stop {
     OutOfMemory,
 }
 
-impl Stop {
-    /// What is printed to standard error, after the program's name.
-    pub(crate) fn message(self) -> &'static str
-        ensures { result.now ≡ (row_of self).message }
+impl<'a> Stop<'a> {
+    /// Why the words of the command line can't be read.
+    pub(crate) fn of_words(kind: ErrorKind) -> Stop<'a>
+        ensures { result ≡ stop_of_words kind }
+    {
+        match kind {
+            ErrorKind::OutOfMemory => Stop::OutOfMemory,
+            _ => Stop::Usage,
+        }
+    }
+
+    /// Why a file can't be opened.
+    pub(crate) fn of_open(file: &'a str, kind: ErrorKind) -> Stop<'a>
+        ensures { result ≡ stop_of_open file.entry kind }
+    {
+        match kind {
+            ErrorKind::OutOfMemory => Stop::OutOfMemory,
+            _ => Stop::CannotOpen(file),
+        }
+    }
+
+    /// What is printed to standard error, after the program's name: two texts, one after the other.
+    pub(crate) fn message(self) -> (&'a str, &'a str)
+        ensures { result.0.now ++ result.1.now ≡ (row_of self.entry).message }
     {
         match self {
-            Stop::Usage => "usage",
-            Stop::Read => "read fault",
-            Stop::Write => "write fault",
-            Stop::OutOfMemory => "out of memory",
+            Stop::Usage => ("usage", ""),
+            Stop::Number => ("number", ""),
+            Stop::Blocks => ("blocks", ""),
+            Stop::Pool => ("pool", ""),
+            Stop::CannotOpen(file) => ("cannot open ", file),
+            Stop::Read => ("read fault", ""),
+            Stop::Write => ("write fault", ""),
+            Stop::OutOfMemory => ("out of memory", ""),
         }
     }
 
     fn status(self) -> u8
-        ensures { result ≡ (row_of self).status }
+        ensures { result ≡ (row_of self.entry).status }
     {
         match self {
-            Stop::Usage => 1,
-            Stop::Read | Stop::Write => 15,
+            Stop::Usage | Stop::Number | Stop::Blocks | Stop::Pool => 1,
+            Stop::CannotOpen(_) | Stop::Read | Stop::Write => 15,
             Stop::OutOfMemory => 99,
         }
     }
 }
 
-impl From<AllocError> for Stop {
+impl From<AllocError> for Stop<'_> {
     ghost use Rattle.sgrun.specs.declared.stop.Stop.TheVariants.{OutOfMemory};
 
     ghost from_gives = { λ _ stop. stop ≡ OutOfMemory };
 
-    fn from(_error: AllocError) -> Stop {
+    fn from(_error: AllocError) -> Self {
         Stop::OutOfMemory
     }
 }
 
-impl From<RunFault> for Stop {
-    ghost use Rattle.sgrun.specs.Stops.{stop_of};
+impl From<ToolFault> for Stop<'_> {
+    ghost use Rattle.sgrun.specs.Stops.{stop_of_options};
 
-    ghost from_gives = { λ fault stop. stop ≡ stop_of fault };
+    ghost from_gives = { λ fault stop. stop ≡ stop_of_options fault };
 
-    fn from(fault: RunFault) -> Stop {
+    fn from(fault: ToolFault) -> Self {
+        match fault {
+            ToolFault::OutOfMemory => Stop::OutOfMemory,
+            ToolFault::Usage | ToolFault::Number | ToolFault::Exclusive => Stop::Usage,
+        }
+    }
+}
+
+impl From<ConfigFault> for Stop<'_> {
+    ghost use Rattle.sgrun.specs.Stops.{stop_of_config};
+
+    ghost from_gives = { λ fault stop. stop ≡ stop_of_config fault };
+
+    fn from(fault: ConfigFault) -> Self {
+        match fault {
+            ConfigFault::Blocks => Stop::Blocks,
+            ConfigFault::Pool => Stop::Pool,
+        }
+    }
+}
+
+impl From<RunFault> for Stop<'_> {
+    ghost use Rattle.sgrun.specs.Stops.{stop_of_run};
+
+    ghost from_gives = { λ fault stop. stop ≡ stop_of_run fault };
+
+    fn from(fault: RunFault) -> Self {
         match fault {
             RunFault::Read => Stop::Read,
             RunFault::Write => Stop::Write,
@@ -67,7 +128,7 @@ impl From<RunFault> for Stop {
 
 /// The program's exit status: the script's, or that of the stop.
 pub(crate) fn exit_status(outcome: Result<u8, Stop>) -> u8
-    ensures { result ≡ exit_status outcome }
+    ensures { result ≡ exit_status outcome.entry }
 {
     match outcome {
         Ok(status) => status,

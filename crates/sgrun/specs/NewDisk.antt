@@ -1,0 +1,32 @@
+-- A script on a new disk.
+use Rattle.std.specs.Prelude.{◌≡◌, ℕ, Result, Ok, Err, ◌⊎◌}
+use Rattle.sg_run.specs.ScriptRun.{RunsScript, Snapshot}
+use Rattle.sg_run.specs.declared.run.RunFault.{RunFault}
+use Rattle.sg_target.specs.Config.{ConfigFields}
+use Rattle.sg_target.specs.State.{State, powered_on}
+use Rattle.sgrun.specs.Stops.{stop_of_run}
+use Rattle.sgrun.specs.declared.stop.Stop.{Stop}
+use Rattle.sgrun.specs.declared.stop.Stop.TheVariants.{OutOfMemory}
+
+abbrev pub by_run : Result ℕ RunFault → Result ℕ Stop
+by_run (Ok status) = Ok status
+by_run (Err fault) = Err (stop_of_run fault)
+
+-- The script was run on the disk as it is after power on. `old` and `new` are what was run on, with
+-- any state of the disk.
+pub record RunsOnNewDisk (disk : ConfigFields) (old new : State → Snapshot) (result : Result ℕ Stop)
+    : Type 0 where
+  pub ran : Result ℕ RunFault
+  pub state : State
+  pub runs : RunsScript (old (powered_on disk)) (new state) ran
+  pub result_is : result ≡ by_run ran
+
+-- Memory was refused before anything was read or written.
+pub record Refused (old new : State → Snapshot) (result : Result ℕ Stop) : Type 0 where
+  pub kept : (state : State) → new state ≡ old state
+  pub result_is : result ≡ Err OutOfMemory
+
+abbrev pub RunsUnlessOutOfMemory : ConfigFields → (old new : State → Snapshot) → Result ℕ Stop
+    → Type 0
+RunsUnlessOutOfMemory disk old new result =
+    RunsOnNewDisk disk old new result ⊎ Refused old new result

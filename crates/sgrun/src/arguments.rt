@@ -1,0 +1,115 @@
+// What the command line asks for.
+use sg_target::Config;
+use std::marker::Model;
+
+/// What the command line asks for.
+#[derive(Drop)]
+pub(crate) struct Arguments<'a> {
+    /// The disk that the script runs on.
+    pub(crate) disk: Config,
+    /// The file that holds the script. None is standard input.
+    pub(crate) script: Option<&'a str>,
+}
+
+impl<'a> Model for Arguments<'a> {
+    ghost use Rattle.std.specs.Prelude.{option_map};
+    ghost use Rattle.sgrun.specs.Arguments.{ArgumentFields};
+
+    ghost Value = { ArgumentFields };
+
+    ghost view = { λ a. record {
+      disk = a.disk;
+      script = option_map (λ file. file.now) a.script;
+    } };
+}
+
+ghost use Rattle.std.specs.Prelude.{◌≡◌, IfOk, map, option_map, false};
+ghost use Rattle.std.specs.String.{string_bytes};
+ghost use Rattle.clap.specs.Words.{app_of, rule_of};
+ghost use Rattle.sg_tools.specs.Options.{rule};
+ghost use Rattle.sgrun.specs.Arguments.{IsUnlessOutOfMemory, arguments, arguments_of, checked_disk};
+ghost use Rattle.sgrun.specs.Arguments.{disk_of, number_of_option};
+ghost use Rattle.sgrun.specs.Options.{command_line, text_option};
+
+use crate::stop::Stop;
+use clap::{Arg, ArgAction, Command};
+use sg_pages::Identity;
+use sg_tools::{GivenOptions, number_or};
+use std::alloc::{AllocError, Global};
+
+// The disk's logical blocks, and how many of them can be mapped at once, where no option says them.
+const DEFAULT_BLOCKS: u64 = 4_096;
+
+const DEFAULT_POOL: u64 = 4;
+
+impl<'a> Arguments<'a> {
+    /// What words ask for. The first word is the program's name.
+    ///
+    /// # Errors
+    /// The first of these that applies:
+    /// - `Usage` where clap does not accept the words, or they ask for help,
+    /// - `Number` where the text of `--blocks` or `--pool` is no number,
+    /// - `Blocks` or `Pool` where there is no disk of that size.
+    ///
+    /// `OutOfMemory` is returned in place of any of these, and of a success, where memory is
+    /// refused.
+    pub(crate) fn parse(alloc: Global, words: &'a [String]) -> Result<Arguments<'a>, Stop<'a>>
+        ensures { let texts = map (λ word. string_bytes word) words.entry.now in
+            IsUnlessOutOfMemory (arguments texts) result }
+    {
+        let options = GivenOptions::of_words(command_line(alloc)?, words)?;
+        Arguments::of_options(&options)
+    }
+
+    fn of_options(options: &GivenOptions<'a>) -> Result<Arguments<'a>, Stop<'a>>
+        ensures { result ≡ arguments_of options.now }
+    {
+        Ok(Arguments {
+            disk: disk(options)?,
+            script: options.text("script"),
+        })
+    }
+}
+
+// The disk that options ask for.
+fn disk<'a>(options: &GivenOptions) -> Result<Config, Stop<'a>>
+    ensures { result ≡ disk_of options.now }
+{
+    let blocks = number_of_option(DEFAULT_BLOCKS, options.text("blocks")).ok_or(Stop::Number)?;
+    let pool = number_of_option(DEFAULT_POOL, options.text("pool")).ok_or(Stop::Number)?;
+    checked_disk(blocks, pool)
+}
+
+// The number of a text, or the default where there is none.
+fn number_of_option(default: u64, text: Option<&str>) -> Option<u64>
+    ensures { result ≡ number_of_option default (option_map (λ t. t.now) text.entry) }
+{
+    number_or(default, u64::MAX, text)
+}
+
+// A disk of a size, if there can be one.
+fn checked_disk<'a>(blocks: u64, pool: u64) -> Result<Config, Stop<'a>>
+    ensures { result ≡ checked_disk blocks pool }
+{
+    // What is no u32 is too large, as is the largest one.
+    let pool = pool.min(u64::from(u32::MAX)) as u32;
+    Ok(Config::new(blocks, pool, Identity::standard())?)
+}
+
+// The command line of the program.
+fn command_line<'a>(alloc: Global) -> Result<Command<'a>, AllocError>
+    ensures { IfOk result (λ c. app_of c ≡ command_line) }
+{
+    Command::new(alloc, "sgrun")
+        .arg(text_option(alloc, "blocks"))?
+        .arg(text_option(alloc, "pool"))?
+        .arg(text_option(alloc, "script"))
+}
+
+// An option without a short name, which has a text.
+fn text_option<'a>(alloc: Global, long: &'static str) -> Arg<'a>
+    ensures rule { rule_of result ≡ rule (text_option long.now) }
+    ensures global { result.global ≡ false }
+{
+    Arg::new(alloc, long).long(long).action(ArgAction::Set)
+}

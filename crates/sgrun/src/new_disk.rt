@@ -1,0 +1,36 @@
+// A script on a new disk.
+ghost use Rattle.std.specs.Prelude.{◌≡◌, false};
+ghost use Rattle.sg_wire.specs.Watched.{has_failed};
+ghost use Rattle.sg_run.specs.ScriptRun.{snapshot};
+ghost use Rattle.sgrun.specs.NewDisk.{RunsUnlessOutOfMemory};
+
+use crate::stop::Stop;
+use sg_blocks::PlainMap;
+use sg_run::{Session, run_script};
+use sg_target::{Config, Target};
+use sg_wire::Watched;
+use std::alloc::Global;
+use std::io::{Read, Write};
+
+/// Runs a script on a disk as it is after power on. Returns the script's status.
+///
+/// # Errors
+/// Memory was refused, before anything was read; or the reader or the writer failed.
+pub(crate) fn run_on_new_disk<'a, R: Read, W: Write>(
+    alloc: Global,
+    disk: Config,
+    reader: &mut Watched<R>,
+    writer: &mut Watched<W>,
+) -> Result<u8, Stop<'a>>
+    requires reads { has_failed reader.old ≡ false }
+    requires writes { has_failed writer.old ≡ false }
+    ensures { RunsUnlessOutOfMemory disk
+        (snapshot R.remaining W.contents reader.old writer.old)
+        (snapshot R.remaining W.contents reader.new writer.new)
+        result }
+{
+    let mut target: Target<PlainMap> = Target::new(alloc, disk)?;
+    let mut session = Session::new(alloc)?;
+    let status = run_script(alloc, reader, writer, &mut session, &mut target)?;
+    Ok(status)
+}

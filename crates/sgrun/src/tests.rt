@@ -1,0 +1,78 @@
+// What the command line asks for, in the forms that clap takes, and how it is refused.
+use crate::arguments::Arguments;
+use std::alloc::{AllocError, Global};
+use std::test::Fail;
+
+// The words after the program's name, the blocks and the pool of the disk, and the script's file.
+const ASKED: [(&str, u64, u32, Option<&str>); 10] = [
+    ("", 4_096, 4, None),
+    ("--blocks 1", 1, 4, None),
+    ("--blocks=0x1f --pool 5", 31, 5, None),
+    ("--pool 0X0a --blocks 1FH", 31, 10, None),
+    ("--pool 65536", 4_096, 65_536, None),
+    ("--blocks 1099511627776", 1 << 40, 4, None),
+    ("--script FILE", 4_096, 4, Some("FILE")),
+    ("--script=", 4_096, 4, Some("")),
+    ("--script=--blocks --pool 1", 4_096, 1, Some("--blocks")),
+    ("--script - --", 4_096, 4, Some("-")),
+];
+
+// The words after the program's name, and the message of the stop.
+const REFUSED: [(&str, &str); 20] = [
+    ("FILE", "usage"),
+    ("-h", "usage"),
+    ("--help", "usage"),
+    ("--version", "usage"),
+    ("--script", "usage"),
+    ("--block 1", "usage"),
+    ("-b 1", "usage"),
+    ("--blocks 1 --blocks 1", "usage"),
+    ("--blocks zz FILE", "usage"),
+    ("--blocks=", "number"),
+    ("--blocks ff", "number"),
+    ("--blocks 18446744073709551616", "number"),
+    ("--pool 18446744073709551616", "number"),
+    ("--blocks 0 --pool zz", "number"),
+    ("--pool 0 --blocks 0", "blocks"),
+    ("--blocks 1099511627777", "blocks"),
+    ("--blocks 18446744073709551615", "blocks"),
+    ("--pool 0", "pool"),
+    ("--pool 65537", "pool"),
+    ("--pool 4294967297", "pool"),
+];
+
+// A command line: the program's name, and words with blanks between them.
+fn words(alloc: Global, line: &str) -> Result<Vec<String>, AllocError> {
+    let mut words = Vec::new(alloc);
+    words.push(String::from_str(alloc, "sgrun")?)?;
+    for word in line.split_whitespace() {
+        words.push(String::from_str(alloc, word)?)?;
+    }
+    Ok(words)
+}
+
+#[test]
+fn words_ask_for_a_disk_and_a_script(rt: HostRuntime) -> Result<(), Fail> {
+    for (line, blocks, pool, script) in ASKED {
+        let words = words(rt.alloc(), line)?;
+        let Ok(arguments) = Arguments::parse(rt.alloc(), words.as_slice()) else {
+            return Err(Fail::from(line));
+        };
+        assert_eq!(rt; arguments.disk.blocks(), blocks);
+        assert_eq!(rt; arguments.disk.pool(), pool);
+        assert_eq!(rt; arguments.script, script);
+    }
+    Ok(())
+}
+
+#[test]
+fn words_are_refused(rt: HostRuntime) -> Result<(), Fail> {
+    for (line, message) in REFUSED {
+        let words = words(rt.alloc(), line)?;
+        let Err(stop) = Arguments::parse(rt.alloc(), words.as_slice()) else {
+            return Err(Fail::from(line));
+        };
+        assert_eq!(rt; stop.message(), (message, ""));
+    }
+    Ok(())
+}
