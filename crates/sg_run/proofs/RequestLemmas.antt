@@ -1,13 +1,15 @@
 -- What a line asks for, by the first of its words.
 use Rattle.std.proofs.Common.{◌≡◌, ◌≤◌, ◌<◌, ℕ, ◌-◌, List, [], ◌∷◌, length, map, take, drop}
-use Rattle.std.proofs.Common.{slice_index, slice_index_or, Bor, true, false, refl, sym, ap, ◌∙◌, arith}
+use Rattle.std.proofs.Common.{slice_index, slice_index_or, Bor, Option, Some, None, true, false, refl}
+use Rattle.std.proofs.Common.{sym, ap, ◌∙◌, arith}
 use Rattle.std.specs.Prelude.{◌==◌, nat_lt}
 use Rattle.std.specs.List.{list_all}
 use Rattle.std.proofs.lemmas.Bool.Decides.{nat_tests}
 use Rattle.std.proofs.lemmas.List.{take_all}
 use Rattle.sg_run.specs.Limits.{word_limit}
-use Rattle.sg_run.specs.Request.{by_verb, by_words, is_allowed, text_request}
-use Rattle.sg_run.specs.Words.{words}
+use Rattle.sg_run.specs.Request.{LineRequest, by_first_word, by_verb, by_words, initiator_of}
+use Rattle.sg_run.specs.Request.{is_allowed, text_request, tool_line}
+use Rattle.sg_run.specs.Words.{tool_words, words}
 
 -- no verb takes more than four operands
 first-operands : (verb : List ℕ) (operands : List (List ℕ))
@@ -25,36 +27,71 @@ few-words count few = grind (arith, nat_tests)
 after-tests : (text verb : List ℕ) (operands : List (List ℕ))
     → (slice_index verb 0 == 0x23) ≡ false → list_all is_allowed text ≡ true
     → length (verb ∷ operands) ≤ word_limit
-    → by_words text (verb ∷ operands) ≡ by_verb verb operands
+    → by_words text (verb ∷ operands) ≡ by_first_word (initiator_of verb) verb operands
 after-tests text verb operands no_comment allowed few =
     rw (no_comment, allowed, few-words (length (verb ∷ operands)) few) refl
+
+-- the first words of a text of which this many are kept
+pub record HasFirstWords (text verb : List ℕ) (operands : List (List ℕ)) : Type 0 where
+  pub words_are : verb ∷ operands ≡ take 6 (words text)
+  pub no_comment : (slice_index verb 0 == 0x23) ≡ false
+  pub allowed : list_all is_allowed text ≡ true
+  pub few : length (words text) ≤ word_limit
 
 by-first_words : (text verb : List ℕ) (operands all : List (List ℕ))
     → verb ∷ operands ≡ take 6 all
     → (slice_index verb 0 == 0x23) ≡ false → list_all is_allowed text ≡ true
-    → length all ≤ word_limit → by_verb verb operands ≡ by_words text all
+    → length all ≤ word_limit
+    → (operands ≡ take 5 (drop 1 all))
+    × (by_words text all ≡ by_first_word (initiator_of verb) verb (drop 1 all))
 by-first_words text verb operands [] first no_comment allowed few = cc
 by-first_words text verb operands (v ∷ os) first no_comment allowed few =
     let same_verb : verb ≡ v = cc in
     let same_operands : operands ≡ take 5 os = cc in
     let tested = after-tests text v os (rw (← same_verb) no_comment) allowed few in
-    rw (same_verb, same_operands) (first-operands v os ∙ sym tested)
+    rw (same_verb) (same_operands, tested)
 
--- what the first words ask for, where they are no comment and the text has no fault as a whole
-pub request-by_verb : (text : List ℕ) (kept : List (Bor (List ℕ))) (d : Bor (List ℕ))
+-- a verb, which no initiator is
+pub request-by_verb : (text verb : List ℕ) (operands : List (List ℕ))
+    → HasFirstWords text verb operands → initiator_of verb ≡ None
+    → by_verb verb operands ≡ text_request text
+unfolding text_request
+request-by_verb text verb operands w none =
+    let all : List (List ℕ) = words text in
+    let by = by-first_words text verb operands all w.words_are w.no_comment w.allowed w.few in
+    let by_word : Option ℕ → LineRequest = λ i. by_first_word i verb (drop 1 all) in
+    ap (by_verb verb) by.0
+    ∙ (first-operands verb (drop 1 all) ∙ sym (by.1 ∙ ap by_word none))
+
+-- an initiator
+pub request-by_tool : (text verb : List ℕ) (operands : List (List ℕ)) (initiator : ℕ)
+    → HasFirstWords text verb operands → initiator_of verb ≡ Some initiator
+    → (operands ≡ take 5 (tool_words text))
+    × (tool_line initiator (tool_words text) ≡ text_request text)
+unfolding text_request
+request-by_tool text verb operands initiator w some =
+    let all : List (List ℕ) = words text in
+    let by = by-first_words text verb operands all w.words_are w.no_comment w.allowed w.few in
+    let by_word : Option ℕ → LineRequest = λ i. by_first_word i verb (drop 1 all) in
+    (by.0, sym (by.1 ∙ ap by_word some))
+
+-- of borrowed words, the first of which is the verb
+pub first_words : (text : List ℕ) (kept : List (Bor (List ℕ))) (d : Bor (List ℕ))
     → map (λ word. word.now) kept ≡ take 6 (words text) → 1 ≤ length kept
     → (slice_index (slice_index_or kept 0 d).now 0 == 0x23) ≡ false
     → list_all is_allowed text ≡ true → length (words text) ≤ word_limit
-    → by_verb (slice_index_or kept 0 d).now
-    (map (λ word. word.now) (take (length kept - 1) (drop 1 kept))) ≡ text_request text
-unfolding text_request
-request-by_verb text [] d first some no_comment allowed few = absurd (omega arith)
-request-by_verb text (verb ∷ operands) d first some no_comment allowed few =
+    → HasFirstWords text (slice_index_or kept 0 d).now
+    (map (λ word. word.now) (take (length kept - 1) (drop 1 kept)))
+first_words text [] d first some no_comment allowed few = absurd (omega arith)
+first_words text (verb ∷ operands) d first some no_comment allowed few =
     let whole : take (length (verb ∷ operands) - 1) operands ≡ operands =
     take_all _ operands (omega arith) in
-    let operand_texts : List (List ℕ) = map (λ word. word.now) operands in
-    ap (λ os. by_verb verb.now (map (λ word. word.now) os)) whole
-    ∙ by-first_words text verb.now operand_texts (words text) first no_comment allowed few
+    record {
+      words_are = ap (λ os. verb.now ∷ map (λ word. word.now) os) whole ∙ first;
+      no_comment = no_comment;
+      allowed = allowed;
+      few = few;
+    }
 
 -- an empty word has no first byte
 pub none-first : (word : List ℕ) → length word < 1 → slice_index word 0 ≡ 0

@@ -1,8 +1,8 @@
 -- What a line of a script does.
-use Rattle.std.specs.Prelude.{ℕ, ◌*◌, List, [], ◌∷◌, ◌++◌, replicate, Option, codes}
+use Rattle.std.specs.Prelude.{ℕ, ◌*◌, List, [], ◌∷◌, ◌++◌, replicate, Option, codes, Ok, Err, Bool}
+use Rattle.std.specs.Prelude.{if◌then◌else◌}
 use Rattle.sg_wire.specs.Layout.{cdb_of}
 use Rattle.sg_wire.specs.SenseData.{read_sense}
-use Rattle.sg_decode.specs.HexText.{hex_lines}
 use Rattle.sg_decode.specs.SenseText.{sense_line}
 use Rattle.sg_wire.specs.declared.command.Command.TheVariants.{Write16}
 use Rattle.sg_tools.specs.ExitStatus.{exit_status}
@@ -12,9 +12,17 @@ use Rattle.sg_target.specs.Status.{status_code}
 use Rattle.sg_target.specs.Step.{Step, step}
 use Rattle.sg_target.specs.declared.reply.Status.{Status}
 use Rattle.sg_target.specs.declared.reply.Status.TheVariants.{Good, CheckCondition, ReservationConflict}
-use Rattle.sg_run.specs.LineFault.{fault_message}
+use Rattle.sg_tools.specs.ParameterLists.{parameter_list}
+use Rattle.sg_tools.specs.Requests.{Request as ToolRequest}
+use Rattle.sg_tools.specs.declared.show.Show.{Show}
+use Rattle.sg_tools.specs.declared.show.Show.TheVariants.{Hex, Nothing}
+use Rattle.sg_tools.specs.declared.tool.Tool.{Tool}
+use Rattle.sg_run.specs.AnswerText.{answer_text}
+use Rattle.sg_run.specs.LineFault.{fault_message, fault_of_tool, fault_status}
 use Rattle.sg_run.specs.LineText.{line_header}
-use Rattle.sg_run.specs.Request.{LineRequest, nothing, faulty, send, fill, request_of}
+use Rattle.sg_run.specs.Request.{LineRequest, nothing, faulty, send, fill, run_tool, request_of}
+use Rattle.sg_run.specs.declared.request.line_fault.LineFault.{LineFault}
+use Rattle.sg_run.specs.declared.request.line_fault.LineFault.TheVariants.{OutOfMemory}
 
 -- What is printed, the exit status, and the state of the disk afterwards.
 pub record Outcome : Type 0 where
@@ -36,34 +44,59 @@ abbrev pub sense_lines : (sense : List ℕ) → List ℕ
 sense_lines [] = []
 sense_lines (byte ∷ bytes) = sense_line (byte ∷ bytes)
 
--- A command's status, its sense data where it has some, and its data-in.
-abbrev pub reply_text : (number : ℕ) → Status → (sense data_in : List ℕ) → List ℕ
-reply_text number status sense data_in =
-    line_header number (status_name status) ++ (sense_lines sense ++ hex_lines data_in)
+-- Data-in is shown where the command ended with GOOD.
+abbrev pub shown_answer : Status → Show → (data_in : List ℕ) → List ℕ
+shown_answer Good show data_in = answer_text show data_in
+shown_answer CheckCondition show data_in = []
+shown_answer ReservationConflict show data_in = []
 
-abbrev pub reply_outcome : (number : ℕ) → Step → Outcome
-reply_outcome number s = let answer = s.answer in record {
-  text = reply_text number answer.status answer.sense answer.data_in;
+-- A command's status, its sense data where it has some, and its data-in.
+abbrev pub reply_text : (number : ℕ) → Show → Status → (sense data_in : List ℕ) → List ℕ
+reply_text number show status sense data_in =
+    line_header number (status_name status) ++ (sense_lines sense ++ shown_answer status show data_in)
+
+abbrev pub reply_outcome : (number : ℕ) → Show → Step → Outcome
+reply_outcome number show s = let answer = s.answer in record {
+  text = reply_text number show answer.status answer.sense answer.data_in;
   status = exit_status (status_code answer.status) (read_sense answer.sense);
   state = s.state;
 }
 
-abbrev pub fault_outcome : (number : ℕ) → State → (message : List ℕ) → Outcome
-fault_outcome number state message = record { text = line_header number message; status = 1; state = state }
+abbrev pub fault_outcome : (number : ℕ) → State → LineFault → Outcome
+fault_outcome number state fault = record {
+  text = line_header number (fault_message fault);
+  status = fault_status fault;
+  state = state;
+}
 
 -- `fill` is WRITE(16) (SBC-3, 5.35) of blocks of one byte.
 abbrev pub fill_step : State → (initiator lba count byte : ℕ) → Step
 fill_step state initiator lba count byte =
     step state initiator (cdb_of (Write16 lba count)) (replicate (block_length * count) byte)
 
-abbrev pub by_request : (number : ℕ) → State → LineRequest → Outcome
-by_request number state nothing = silent state
-by_request number state (faulty fault) = fault_outcome number state (fault_message fault)
-by_request number state (send initiator cdb data_out) =
-    reply_outcome number (step state initiator cdb data_out)
-by_request number state (fill initiator lba count byte) =
-    reply_outcome number (fill_step state initiator lba count byte)
+abbrev pub tool_step : State → (initiator : ℕ) → Tool → Step
+tool_step state initiator tool =
+    step state initiator (cdb_of tool.command) (parameter_list tool.parameters)
 
--- What the line with a number does, by what is kept of it, which is nothing where it is too long.
-unfoldable pub outcome : (number : ℕ) → (line : Option (List ℕ)) → State → Outcome
-outcome number line state = by_request number state (request_of line)
+abbrev pub tool_outcome : (number : ℕ) → State → (initiator : ℕ) → ToolRequest → Outcome
+tool_outcome number state initiator (Err fault) = fault_outcome number state (fault_of_tool fault)
+tool_outcome number state initiator (Ok tool) =
+    reply_outcome number tool.show (tool_step state initiator tool)
+
+-- Only a tool takes memory, to read its words.
+abbrev pub by_request : (number : ℕ) → (out_of_memory : Bool) → State → LineRequest → Outcome
+by_request number out_of_memory state nothing = silent state
+by_request number out_of_memory state (faulty fault) = fault_outcome number state fault
+by_request number out_of_memory state (send initiator cdb data_out) =
+    reply_outcome number Hex (step state initiator cdb data_out)
+by_request number out_of_memory state (fill initiator lba count byte) =
+    reply_outcome number Nothing (fill_step state initiator lba count byte)
+by_request number out_of_memory state (run_tool initiator request) =
+    if out_of_memory then fault_outcome number state OutOfMemory
+    else tool_outcome number state initiator request
+
+-- What the line with a number does, by what is kept of it, which is nothing where it is too long,
+-- and by whether a tool was refused memory.
+unfoldable pub outcome : (number : ℕ) → (line : Option (List ℕ)) → (out_of_memory : Bool) → State
+    → Outcome
+outcome number line out_of_memory state = by_request number out_of_memory state (request_of line)

@@ -1,3 +1,5 @@
 // What is printed of a line.
+pub(crate) mod answer;
 pub(crate) mod header;
+pub(crate) mod reply;
 pub(crate) mod sense;

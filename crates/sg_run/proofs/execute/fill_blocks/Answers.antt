@@ -2,6 +2,7 @@ use Rattle.std.proofs.Common.{◌≡◌, ℕ, List, ap, subst, ◌∙◌}
 use Rattle.sg_wire.specs.Layout.{cdb_of}
 use Rattle.sg_target.specs.State.{State}
 use Rattle.sg_target.specs.Step.{Step, step}
+use Rattle.sg_tools.specs.declared.show.Show.TheVariants.{Nothing}
 use Rattle.sg_run.specs.Outcome.{reply_outcome}
 use Rattle.sg_run.specs.Printed.{HasOutcome}
 use Rattle.sg_run.proofs.execute.fill_blocks.Goals as goal
@@ -16,5 +17,5 @@ returns g c =
     let cdb = c.as_slice.ensures ∙ (c.write-cdb.ensures.cdb ∙ ap cdb_of c.command.ensures) in
     let same = same-step c.args.target.now.state c.args.blocks.now.initiator cdb c.fill_prefix.ensures in
     let Sent : Step → Type 0 = λ s. HasOutcome g.W.Write.contents c.args.out.now c.send.new.out
-    c.send.new.target.state c.send.result (reply_outcome c.args.number s) in
+    c.send.new.target.state c.send.result (reply_outcome c.args.number Nothing s) in
     subst Sent same c.send.ensures

@@ -1,7 +1,7 @@
 use Rattle.std.proofs.Common.{map, ap, arith, sym, ◌∙◌}
 use Rattle.std.proofs.lemmas.Bool.Decides.{nat_tests}
 use Rattle.sg_run.specs.declared.request.TheConstants.{MOST_WORDS}
-use Rattle.sg_run.proofs.RequestLemmas.{none-first, request-by_verb}
+use Rattle.sg_run.proofs.RequestLemmas.{first_words, none-first, request-by_verb}
 use Rattle.sg_run.proofs.WordLemmas.{operands-within}
 use Rattle.sg_run.proofs.request.read_text.Goals as goal
 
@@ -10,10 +10,11 @@ by_verb-requires-clause-operands c =
     let first = ap (map (λ word. word.now)) c.as_slice.ensures ∙ c.split.ensures.first in
     operands-within c.args.text.now MOST_WORDS _ _ _ first c.requires.text
 
-pub returns : goal.returns
-returns c =
+pub returns-in-None : goal.returns-in-None
+returns-in-None c =
     let first = ap (map (λ word. word.now)) c.as_slice.ensures ∙ c.split.ensures.first in
     let allowed = sym c.split.ensures.are_allowed ∙ c.if-not-words.false in
+    let kept = first_words c.args.text.now c.as_slice.result.now _ first (grind (arith, nat_tests))
+    (grind (arith, nat_tests, none-first)) allowed (omega arith) in
     c.by_verb.ensures
-    ∙ request-by_verb c.args.text.now c.as_slice.result.now _ first (grind (arith, nat_tests))
-    (grind (arith, nat_tests, none-first)) allowed (omega arith)
+    ∙ request-by_verb c.args.text.now _ _ kept (sym c.read_initiator.ensures ∙ c.in-None.is)

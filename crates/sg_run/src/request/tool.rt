@@ -1,0 +1,70 @@
+// The line of a tool.
+ghost use Rattle.std.specs.Prelude.{◌≡◌, ◌≤◌, ◌<◌, true, length, map, take};
+ghost use Rattle.std.specs.List.{list_all};
+ghost use Rattle.std.specs.Str.{IsAscii};
+ghost use Rattle.sg_tools.specs.GivenOptions.{IsUnlessOutOfMemory};
+ghost use Rattle.sg_tools.specs.Requests.{request};
+ghost use Rattle.sg_run.specs.Limits.{word_limit};
+ghost use Rattle.sg_run.specs.Request.{is_allowed, tool_line};
+ghost use Rattle.sg_run.specs.RequestLines.{line_request};
+ghost use Rattle.sg_run.specs.Words.{tool_words, words};
+
+use super::words::Words;
+use super::{LineFault, Request, ToolLine, WORD_LIMIT};
+use arrayvec::ArrayVec;
+use sg_tools::{Tool, ToolFault, ToolName};
+use sg_wire::Initiator;
+use std::alloc::Global;
+use std::str;
+
+// The line of a tool, by the words after the initiator, of which the first are kept.
+pub(super) fn read_tool_line<'a>(
+    initiator: Initiator,
+    operands: &[&[u8]],
+    text: &'a [u8],
+) -> Request<'a>
+    requires allowed { list_all is_allowed text.now ≡ true }
+    requires not_empty { 0 < length (words text.now) }
+    requires at_most_64 { length (words text.now) ≤ word_limit }
+    requires operands { map (λ word. word.now) operands.now ≡ take 5 (tool_words text.now) }
+    ensures { line_request result ≡ tool_line initiator (tool_words text.now) }
+{
+    let [name, ..] = operands else {
+        return Request::Faulty(LineFault::UnknownTool);
+    };
+    match ToolName::of_word(as_text(name)) {
+        Some(name) => Request::Tool(ToolLine {
+            initiator,
+            name,
+            text,
+        }),
+        None => Request::Faulty(LineFault::UnknownTool),
+    }
+}
+
+impl ToolLine<'_> {
+    /// What the tool is asked for.
+    ///
+    /// # Errors
+    /// The words ask for nothing, or memory was refused.
+    #[inline(never)]
+    pub(crate) fn parse(&self, alloc: Global) -> Result<Tool, ToolFault>
+        ensures { IsUnlessOutOfMemory (request self.now.name (tool_words self.now.text.now)) result }
+    {
+        let mut words: Words<'_, WORD_LIMIT> = Words::new();
+        words.split(self.text);
+        let mut texts: ArrayVec<&str, WORD_LIMIT> = ArrayVec::new();
+        for word in &words.as_slice()[1..] {
+            texts.push(as_text(word));
+        }
+        Tool::parse(alloc, self.name, texts.as_slice())
+    }
+}
+
+// A word as text.
+fn as_text(word: &[u8]) -> &str
+    requires { IsAscii word.now }
+    ensures { result.now ≡ word.now }
+{
+    str::from_utf8(word).unwrap()
+}

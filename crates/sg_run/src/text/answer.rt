@@ -1,0 +1,38 @@
+// What is printed of data-in.
+ghost use Rattle.std.specs.Prelude.{◌≤◌, length};
+ghost use Rattle.sg_wire.specs.Printer.{PrintsText};
+ghost use Rattle.sg_decode.specs.HexText.{gathered_text};
+ghost use Rattle.sg_run.specs.AnswerText.{answer_text};
+
+use sg_decode::{
+    put_capabilities, put_hex_lines, put_inquiry, put_keys, put_lba_status, put_modes,
+    put_reservation, put_vpd,
+};
+use sg_tools::Show;
+use sg_wire::Printer;
+use std::io::Write;
+
+/// Prints data-in as it is asked for. Hexadecimal lines are gathered in `lines`.
+pub(crate) fn print_answer<W: Write>(
+    show: Show,
+    data_in: &[u8],
+    lines: &mut [u8],
+    out: &mut Printer<'_, W>,
+)
+    requires lines { gathered_text ≤ length lines.old }
+    ensures { PrintsText W.contents out.old out.new (answer_text show data_in.now) }
+{
+    match show {
+        Show::Nothing => (),
+        Show::Hex => put_hex_lines(data_in, lines, out),
+        Show::Inquiry => put_inquiry(data_in, out),
+        Show::Vpd => put_vpd(data_in, out),
+        Show::Modes6 => put_modes(false, data_in, out),
+        Show::Modes10 => put_modes(true, data_in, out),
+        Show::LbaStatus => put_lba_status(false, data_in, out),
+        Show::LbaStatusBrief => put_lba_status(true, data_in, out),
+        Show::Keys => put_keys(data_in, out),
+        Show::Reservation => put_reservation(data_in, out),
+        Show::Capabilities => put_capabilities(data_in, out),
+    }
+}

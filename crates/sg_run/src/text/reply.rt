@@ -1,0 +1,49 @@
+// What is printed of a reply.
+ghost use Rattle.std.specs.Prelude.{◌≡◌, ◌≤◌, length, option_map};
+ghost use Rattle.sg_wire.specs.Printer.{PrintsText};
+ghost use Rattle.sg_wire.specs.Sense.{fields_of};
+ghost use Rattle.sg_wire.specs.SenseData.{read_sense};
+ghost use Rattle.sg_decode.specs.HexText.{gathered_text};
+ghost use Rattle.sg_run.specs.Outcome.{reply_text, status_name};
+
+use super::answer::print_answer;
+use super::header::print_line_header;
+use super::sense::print_sense;
+use sg_target::{Reply, Status};
+use sg_tools::Show;
+use sg_wire::{Printer, Sense};
+use std::io::Write;
+
+/// Prints a reply: its status, its sense data, of which `sense` was read, and under GOOD its data-in,
+/// by lines that are gathered in `lines`.
+#[tactic(auto, using(crate::proofs::TextLemmas::prints))]
+pub(crate) fn print_reply<W: Write>(
+    number: u64,
+    reply: &Reply,
+    sense: Option<Sense>,
+    show: Show,
+    data_in: &[u8],
+    lines: &mut [u8],
+    out: &mut Printer<'_, W>,
+)
+    requires lines { gathered_text ≤ length lines.old }
+    requires sense { option_map fields_of sense ≡ read_sense reply.now.sense }
+    ensures { PrintsText W.contents out.old out.new
+        (reply_text number show reply.now.status reply.now.sense data_in.now) }
+{
+    print_line_header(number, status_name(reply.status), out);
+    print_sense(reply.sense.as_slice(), sense, out);
+    if let Status::Good = reply.status {
+        print_answer(show, data_in, lines, out);
+    }
+}
+
+fn status_name(status: Status) -> &'static [u8]
+    ensures { result.now ≡ status_name status }
+{
+    match status {
+        Status::Good => b"GOOD",
+        Status::CheckCondition => b"CHECK CONDITION",
+        Status::ReservationConflict => b"RESERVATION CONFLICT",
+    }
+}
