@@ -1,10 +1,8 @@
 -- The words of a tool.
 use Rattle.std.proofs.Common.{◌≡◌, ◌≤◌, ◌<◌, ℕ, ◌-◌, List, [], ◌∷◌, length, map, take, drop}
 use Rattle.std.proofs.Common.{slice_index_or, Bor, true, refl, sym, ap, ◌∙◌, arith}
-use Rattle.std.specs.Prelude.{All}
 use Rattle.std.specs.List.{list_all}
 use Rattle.std.specs.Str.{IsAscii}
-use Rattle.std.proofs.lemmas.List.Elements.{All-drop, All-head, All-same, All-take}
 use Rattle.std.proofs.lemmas.List.{length-drop, length-map, length-take, take_all}
 use Rattle.std.specs.List.{drop-map}
 use Rattle.sg_tools.specs.ToolNames.{tool_named}
@@ -33,17 +31,6 @@ name_of initiator (word ∷ kept) d [] same some = cc
 name_of initiator (word ∷ kept) d (name ∷ options) same some =
     let is : name ≡ word.now = cc in
     ap (λ n. named_tool initiator (tool_named n) (name ∷ options)) is
-
-pub name-ascii : (text : List ℕ) (kept : List (Bor (List ℕ))) (d : Bor (List ℕ))
-    → map (λ word. word.now) kept ≡ take 5 (tool_words text) → 1 ≤ length kept
-    → list_all is_allowed text ≡ true → IsAscii (slice_index_or kept 0 d).now
-name-ascii text [] d same some allowed = absurd (omega arith)
-name-ascii text (word ∷ kept) d same some allowed =
-    let all : All IsAscii (take 5 (tool_words text)) =
-    All-take IsAscii 5 _ (All-drop IsAscii 1 _ (words-ascii text allowed)) in
-    let texts : List (List ℕ) = map (λ word. word.now) (word ∷ kept) in
-    All-head IsAscii word.now (map (λ word. word.now) kept)
-    (All-same IsAscii texts (take 5 (tool_words text)) same all)
 
 -- ---- all of them, as texts
 

@@ -1,4 +1,4 @@
--- How data-in is printed.
+-- How the bytes of an answer are printed.
 use Rattle.std.specs.Prelude.{ℕ, List, [], true, false}
 use Rattle.sg_decode.specs.HexText.{hex_lines}
 use Rattle.sg_decode.specs.Inquiry.{inquiry}
@@ -6,6 +6,7 @@ use Rattle.sg_decode.specs.Items.{decoded}
 use Rattle.sg_decode.specs.LbaStatus.{lba_status}
 use Rattle.sg_decode.specs.ModeParameters.{mode_parameters}
 use Rattle.sg_decode.specs.PersistentReservation.{capabilities, keys, reservation}
+use Rattle.sg_decode.specs.SenseText.{sense_line}
 use Rattle.sg_decode.specs.VitalProductData.{vital_product_data}
 use Rattle.sg_tools.specs.declared.show.Show.{Show}
 use Rattle.sg_tools.specs.declared.show.Show.TheVariants as show
@@ -22,3 +23,4 @@ answer_text show.LbaStatusBrief data_in = decoded (lba_status true) data_in
 answer_text show.Keys data_in = decoded keys data_in
 answer_text show.Reservation data_in = decoded reservation data_in
 answer_text show.Capabilities data_in = decoded capabilities data_in
+answer_text show.Sense data_in = sense_line data_in

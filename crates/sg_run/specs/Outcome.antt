@@ -20,7 +20,8 @@ use Rattle.sg_tools.specs.declared.tool.Tool.{Tool}
 use Rattle.sg_run.specs.AnswerText.{answer_text}
 use Rattle.sg_run.specs.LineFault.{fault_message, fault_of_tool, fault_status}
 use Rattle.sg_run.specs.LineText.{line_header}
-use Rattle.sg_run.specs.Request.{LineRequest, nothing, faulty, send, fill, run_tool, request_of}
+use Rattle.sg_run.specs.Request.{LineRequest, nothing, faulty, send, fill, run_tool}
+use Rattle.sg_run.specs.Request.{request_of, show_answer}
 use Rattle.sg_run.specs.declared.request.line_fault.LineFault.{LineFault}
 use Rattle.sg_run.specs.declared.request.line_fault.LineFault.TheVariants.{OutOfMemory}
 
@@ -69,6 +70,14 @@ fault_outcome number state fault = record {
   state = state;
 }
 
+-- Bytes are shown as an answer, and no command is sent.
+abbrev pub shown_outcome : (number : ℕ) → State → Show → (bytes : List ℕ) → Outcome
+shown_outcome number state kind bytes = record {
+  text = line_header number (codes "SHOWN") ++ answer_text kind bytes;
+  status = 0;
+  state = state;
+}
+
 -- `fill` is WRITE(16) (SBC-3, 5.35) of blocks of one byte.
 abbrev pub fill_step : State → (initiator lba count byte : ℕ) → Step
 fill_step state initiator lba count byte =
@@ -91,6 +100,8 @@ by_request number out_of_memory state (send initiator cdb data_out) =
     reply_outcome number Hex (step state initiator cdb data_out)
 by_request number out_of_memory state (fill initiator lba count byte) =
     reply_outcome number Nothing (fill_step state initiator lba count byte)
+by_request number out_of_memory state (show_answer kind bytes) =
+    shown_outcome number state kind bytes
 by_request number out_of_memory state (run_tool initiator request) =
     if out_of_memory then fault_outcome number state OutOfMemory
     else tool_outcome number state initiator request

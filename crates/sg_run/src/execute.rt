@@ -1,10 +1,12 @@
 // Executes a line.
-ghost use Rattle.std.specs.Prelude.{◌≡◌, ◌≤◌, false, length, take, replicate, option_map, IfSome};
+ghost use Rattle.std.specs.Prelude.{◌≡◌, ◌≤◌, ◌++◌, false, length, take, replicate, codes};
+ghost use Rattle.std.specs.Prelude.{option_map, IfSome};
 ghost use Rattle.sg_wire.specs.Watched.{has_failed};
 ghost use Rattle.sg_wire.specs.Sense.{fields_of};
 ghost use Rattle.sg_wire.specs.SenseData.{read_sense};
 ghost use Rattle.sg_target.specs.Step.{step};
 ghost use Rattle.sg_wire.specs.Printer.{PrintsText};
+ghost use Rattle.sg_run.specs.AnswerText.{answer_text};
 ghost use Rattle.sg_run.specs.Limits.{longest_line};
 ghost use Rattle.sg_run.specs.LineFault.{fault_message, fault_status};
 ghost use Rattle.sg_run.specs.LineText.{line_header};
@@ -16,6 +18,7 @@ ghost use Rattle.sg_run.specs.RequestLines.{line_request, tool_request};
 
 use crate::buffers::{Buffers, LONGEST_TRANSFER};
 use crate::request::{FilledBlocks, LineFault, Request, ToolLine, read_request};
+use crate::text::answer::print_answer;
 use crate::text::header::print_line_header;
 use crate::text::reply::print_reply;
 use sg_blocks::{BLOCK_LENGTH, Store};
@@ -76,6 +79,7 @@ fn execute_request<W: Write, S: Store>(
         Request::Faulty(fault) => print_fault(number, *fault, out),
         Request::Send(call) => send(number, call, Show::Hex, buffer, target, out),
         Request::Fill(blocks) => fill_blocks(number, blocks, data_out, buffer, target, out),
+        Request::Show(show, bytes) => print_shown(number, *show, bytes, buffer, out),
         Request::Tool(line) => run_tool(alloc, number, line, data_out, buffer, target, out),
     }
 }
@@ -88,6 +92,25 @@ fn print_fault<W: Write>(number: u64, fault: LineFault, out: &mut Printer<'_, W>
 {
     print_line_header(number, fault.message(), out);
     fault.status()
+}
+
+// Prints bytes as an answer, and returns the exit status.
+fn print_shown<W: Write>(
+    number: u64,
+    show: Show,
+    bytes: &[u8],
+    buffer: &mut [u8],
+    out: &mut Printer<'_, W>,
+) -> u8
+    requires { length buffer.old ≡ reply_length }
+    ensures text { PrintsText W.contents out.old out.new
+        (line_header number (codes "SHOWN") ++ answer_text show bytes.now) }
+    ensures status { result ≡ 0 }
+{
+    let (_, lines) = buffer.split_at_mut(LONGEST_TRANSFER);
+    print_line_header(number, b"SHOWN", out);
+    print_answer(show, bytes, lines, out);
+    0
 }
 
 // Fills blocks with a byte, by WRITE(16), prints the reply and returns its exit status.

@@ -8,6 +8,7 @@ pub mod OptionTexts
 pub mod Requests
 pub mod ParameterLists
 pub mod ExitStatus
+pub mod ShowKinds
 -- Only private contracts cite these.
 pub mod OptionTables
 pub mod NumberList

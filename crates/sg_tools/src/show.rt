@@ -1,6 +1,8 @@
 // How answers are shown.
+ghost use Rattle.std.specs.Prelude.{◌≡◌};
+ghost use Rattle.sg_tools.specs.ShowKinds.{show_kinds, show_named};
 
-/// How the answer to a tool's command is shown.
+/// How the answer to a tool's command is shown, or bytes that stand in a script.
 #[derive(Clone, Copy, Debug, PartialEq, Eq)]
 pub enum Show {
     /// Not at all.
@@ -25,4 +27,26 @@ pub enum Show {
     Reservation,
     /// As the parameter data of REPORT CAPABILITIES.
     Capabilities,
+    /// As sense data.
+    Sense,
+}
+
+impl Show {
+    /// How the bytes of an answer of some kind are shown. None where a word names no kind.
+    pub fn of_word(word: &str) -> Option<Show>
+        ensures { result ≡ show_named show_kinds word.now }
+    {
+        Some(match word {
+            "inq" => Show::Inquiry,
+            "vpd" => Show::Vpd,
+            "modes6" => Show::Modes6,
+            "modes10" => Show::Modes10,
+            "lba" => Show::LbaStatus,
+            "keys" => Show::Keys,
+            "resv" => Show::Reservation,
+            "caps" => Show::Capabilities,
+            "sense" => Show::Sense,
+            _ => return None,
+        })
+    }
 }

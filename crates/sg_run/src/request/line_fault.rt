@@ -21,6 +21,8 @@ pub(crate) enum LineFault {
     Usage,
     /// The initiator is not one digit, 0 to 7.
     Initiator,
+    /// A word names no kind of answer.
+    Kind,
     /// A word is not of hexadecimal digits, two a byte.
     Hex,
     /// Two options exclude one another.
@@ -56,6 +58,7 @@ impl LineFault {
             LineFault::UnknownTool => b"unknown tool",
             LineFault::Usage => b"usage",
             LineFault::Initiator => b"initiator",
+            LineFault::Kind => b"kind",
             LineFault::Hex => b"hex",
             LineFault::Exclusive => b"exclusive",
             LineFault::Number => b"number",

@@ -1,5 +1,5 @@
 // The line of a tool.
-ghost use Rattle.std.specs.Prelude.{◌≡◌, ◌≤◌, ◌<◌, true, length, map, take};
+ghost use Rattle.std.specs.Prelude.{◌≡◌, ◌≤◌, ◌<◌, All, true, length, map, take};
 ghost use Rattle.std.specs.List.{list_all};
 ghost use Rattle.std.specs.Str.{IsAscii};
 ghost use Rattle.sg_tools.specs.GivenOptions.{IsUnlessOutOfMemory};
@@ -9,13 +9,13 @@ ghost use Rattle.sg_run.specs.Request.{is_allowed, tool_line};
 ghost use Rattle.sg_run.specs.RequestLines.{line_request};
 ghost use Rattle.sg_run.specs.Words.{tool_words, words};
 
+use super::word_text::word_text;
 use super::words::Words;
 use super::{LineFault, Request, ToolLine, WORD_LIMIT};
 use arrayvec::ArrayVec;
 use sg_tools::{Tool, ToolFault, ToolName};
 use sg_wire::Initiator;
 use std::alloc::Global;
-use std::str;
 
 // The line of a tool, by the words after the initiator, of which the first are kept.
 pub(super) fn read_tool_line<'a>(
@@ -27,12 +27,13 @@ pub(super) fn read_tool_line<'a>(
     requires not_empty { 0 < length (words text.now) }
     requires at_most_64 { length (words text.now) ≤ word_limit }
     requires operands { map (λ word. word.now) operands.now ≡ take 5 (tool_words text.now) }
+    requires ascii { All (λ word. IsAscii word.now) operands.now }
     ensures { line_request result ≡ tool_line initiator (tool_words text.now) }
 {
     let [name, ..] = operands else {
         return Request::Faulty(LineFault::UnknownTool);
     };
-    match ToolName::of_word(as_text(name)) {
+    match ToolName::of_word(word_text(name)) {
         Some(name) => Request::Tool(ToolLine {
             initiator,
             name,
@@ -55,16 +56,8 @@ impl ToolLine<'_> {
         words.split(self.text);
         let mut texts: ArrayVec<&str, WORD_LIMIT> = ArrayVec::new();
         for word in &words.as_slice()[1..] {
-            texts.push(as_text(word));
+            texts.push(word_text(word));
         }
         Tool::parse(alloc, self.name, texts.as_slice())
     }
-}
-
-// A word as text.
-fn as_text(word: &[u8]) -> &str
-    requires { IsAscii word.now }
-    ensures { result.now ≡ word.now }
-{
-    str::from_utf8(word).unwrap()
 }

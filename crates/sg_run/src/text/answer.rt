@@ -1,4 +1,4 @@
-// What is printed of data-in.
+// What is printed of the bytes of an answer.
 ghost use Rattle.std.specs.Prelude.{◌≤◌, length};
 ghost use Rattle.sg_wire.specs.Printer.{PrintsText};
 ghost use Rattle.sg_decode.specs.HexText.{gathered_text};
@@ -6,13 +6,13 @@ ghost use Rattle.sg_run.specs.AnswerText.{answer_text};
 
 use sg_decode::{
     put_capabilities, put_hex_lines, put_inquiry, put_keys, put_lba_status, put_modes,
-    put_reservation, put_vpd,
+    put_reservation, put_sense, put_vpd,
 };
 use sg_tools::Show;
 use sg_wire::Printer;
 use std::io::Write;
 
-/// Prints data-in as it is asked for. Hexadecimal lines are gathered in `lines`.
+/// Prints the bytes of an answer as they are asked for. Hexadecimal lines are gathered in `lines`.
 pub(crate) fn print_answer<W: Write>(
     show: Show,
     data_in: &[u8],
@@ -34,5 +34,6 @@ pub(crate) fn print_answer<W: Write>(
         Show::Keys => put_keys(data_in, out),
         Show::Reservation => put_reservation(data_in, out),
         Show::Capabilities => put_capabilities(data_in, out),
+        Show::Sense => put_sense(data_in, out),
     }
 }

@@ -1,14 +1,27 @@
 use Rattle.std.proofs.Common.{map, ap, arith, sym, ◌∙◌}
 use Rattle.std.proofs.lemmas.Bool.Decides.{nat_tests}
+use Rattle.std.specs.Str.{IsAscii}
 use Rattle.sg_run.specs.declared.request.TheConstants.{MOST_WORDS}
 use Rattle.sg_run.proofs.RequestLemmas.{first_words, none-first, request-by_verb}
-use Rattle.sg_run.proofs.WordLemmas.{operands-within}
+use Rattle.sg_run.proofs.WordLemmas.{kept-has, operands-within, words-ascii}
 use Rattle.sg_run.proofs.request.read_text.Goals as goal
 
 pub by_verb-requires-clause-operands : goal.by_verb-requires-clause-operands
 by_verb-requires-clause-operands c =
     let first = ap (map (λ word. word.now)) c.as_slice.ensures ∙ c.split.ensures.first in
     operands-within c.args.text.now MOST_WORDS _ _ _ first c.requires.text
+
+pub by_verb-requires-clause-ascii : goal.by_verb-requires-clause-ascii
+by_verb-requires-clause-ascii c =
+    let first = ap (map (λ word. word.now)) c.as_slice.ensures ∙ c.split.ensures.first in
+    let allowed = sym c.split.ensures.are_allowed ∙ c.if-not-words.false in
+    kept-has IsAscii c.args.text.now MOST_WORDS _ _ first (words-ascii c.args.text.now allowed)
+
+pub read_tool_line-requires-clause-ascii : goal.read_tool_line-requires-clause-ascii
+read_tool_line-requires-clause-ascii c =
+    let first = ap (map (λ word. word.now)) c.as_slice.ensures ∙ c.split.ensures.first in
+    let allowed = sym c.split.ensures.are_allowed ∙ c.if-not-words.false in
+    kept-has IsAscii c.args.text.now MOST_WORDS _ _ first (words-ascii c.args.text.now allowed)
 
 pub returns-in-None : goal.returns-in-None
 returns-in-None c =

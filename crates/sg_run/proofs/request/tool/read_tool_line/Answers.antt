@@ -1,7 +1,4 @@
-use Rattle.sg_run.proofs.ToolLineLemmas.{name-ascii}
 use Rattle.sg_run.proofs.request.tool.read_tool_line.Goals as goal
 
-pub as_text-requires : goal.as_text-requires
-as_text-requires c =
-    name-ascii c.args.text.now c.args.operands.now _ c.requires.operands
-    c.in-len1-up.len_at_least c.requires.allowed
+pub word_text-requires : goal.word_text-requires
+word_text-requires c = c.requires.ascii 0 _ c.in-len1-up.len_at_least

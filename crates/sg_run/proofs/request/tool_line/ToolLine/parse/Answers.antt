@@ -4,8 +4,8 @@ use Rattle.sg_tools.specs.Requests.{request}
 use Rattle.sg_run.proofs.ToolLineLemmas.{all-texts, texts-fit, word-ascii}
 use Rattle.sg_run.proofs.request.tool_line.ToolLine.parse.Goals as goal
 
-pub as_text-requires : goal.as_text-requires
-as_text-requires c =
+pub word_text-requires : goal.word_text-requires
+word_text-requires c =
     let kept = ap (map (λ word. word.now)) c.as_slice.ensures ∙ c.split.ensures.first in
     word-ascii c.args.self.now.text.now c.as_slice.result.now c.loop-word.word-index _ kept
     c.args.self.now.allowed c.loop-word-test.true

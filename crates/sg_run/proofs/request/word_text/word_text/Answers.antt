@@ -2,7 +2,7 @@ use Rattle.std.proofs.Common.{Result, Ok, Err, MatchResult, ℕ, List, refl}
 use Rattle.std.specs.Result.{IsOk}
 use Rattle.std.specs.Str.{IsUtf8}
 use Rattle.std.proofs.lemmas.Str.{IsUtf8-from_ascii}
-use Rattle.sg_run.proofs.request.tool.as_text.Goals as goal
+use Rattle.sg_run.proofs.request.word_text.word_text.Goals as goal
 
 is_read : {A E : Type 0} (result : Result A E) (P : A → Type 0) (Q : E → Type 0) (bytes : List ℕ)
     → IsUtf8 bytes → MatchResult result P (λ e. ¬ (IsUtf8 bytes) × Q e) → IsOk result

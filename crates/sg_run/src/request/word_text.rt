@@ -1,0 +1,13 @@
+// A word as text.
+ghost use Rattle.std.specs.Prelude.{◌≡◌};
+ghost use Rattle.std.specs.Str.{IsAscii};
+
+use std::str;
+
+/// The text of a word, whose bytes are ASCII, as all of a line are.
+pub(super) fn word_text(word: &[u8]) -> &str
+    requires { IsAscii word.now }
+    ensures { result.now ≡ word.now }
+{
+    str::from_utf8(word).unwrap()
+}
