@@ -1,0 +1,122 @@
+use Rattle.std.proofs.Common.{◌≡◌, ◌<◌, ℕ, zero, suc, List, [], ◌∷◌, length, take, Option, Some}
+use Rattle.std.proofs.Common.{None, Err, true, false, refl, sym, ap, subst, ◌∙◌, arith}
+use Rattle.std.specs.Prelude.{nat_lt, map, ◌==◌}
+use Rattle.std.specs.List.{range_with_len}
+use Rattle.std.proofs.lemmas.Bool.Decides.{nat_tests}
+use Rattle.std.proofs.lemmas.List.{length-take-le}
+use Rattle.std.proofs.lemmas.List.FromFn.{length-map-range_with_len}
+use Rattle.sg_wire.specs.Layout.{Layout, cdb_of, command_by_rows, command_of}
+use Rattle.sg_wire.specs.Layout.{command_with, layout, length_of, rows_of, byte_of}
+use Rattle.sg_wire.specs.declared.command.CdbFault.TheVariants.{Short}
+use Rattle.sg_wire.specs.declared.command.Command.{Command}
+use Rattle.sg_wire.specs.Laws.{cut_at}
+use Rattle.sg_wire.specs.declared.command.Command.TheVariants.{ModeSelect6, ModeSelect10}
+use Rattle.sg_wire.specs.declared.command.Command.TheVariants.{ModeSense6, ModeSense10}
+use Rattle.sg_wire.specs.declared.command.Command.TheVariants.{TestUnitReady, RequestSense, Inquiry}
+use Rattle.sg_wire.specs.declared.command.Command.TheVariants.{Read6, Read10, Read16, Write6}
+use Rattle.sg_wire.specs.declared.command.Command.TheVariants.{Write10, Write16, ReadCapacity10}
+use Rattle.sg_wire.specs.declared.command.Command.TheVariants.{ReadCapacity16, SynchronizeCache10}
+use Rattle.sg_wire.specs.declared.command.Command.TheVariants.{WriteSame10, WriteSame16, Unmap}
+use Rattle.sg_wire.specs.declared.command.Command.TheVariants.{GetLbaStatus}
+use Rattle.sg_wire.specs.declared.command.Command.TheVariants.{PersistentReserveIn}
+use Rattle.sg_wire.specs.declared.command.Command.TheVariants.{PersistentReserveOut}
+use Rattle.sg_wire.proofs.laws.prefixes_are_refused.Goals as goal
+
+-- the operation code of the first row
+abbrev first_opcode : List Layout → Option ℕ
+first_opcode [] = None
+first_opcode (l ∷ ls) = Some l.opcode
+
+-- an operation code has a row
+HasRow : ℕ → Type 0
+HasRow opcode = first_opcode (rows_of opcode) ≡ Some opcode
+
+rows-6 : HasRow 0x00 × HasRow 0x03 × HasRow 0x08 × HasRow 0x0A × HasRow 0x12 × HasRow 0x15 × HasRow 0x1A
+unfolding HasRow
+rows-6 = (refl, refl, refl, refl, refl, refl, refl)
+
+rows-10 : HasRow 0x25 × HasRow 0x28 × HasRow 0x2A × HasRow 0x35 × HasRow 0x41 × HasRow 0x42 × HasRow 0x55
+unfolding HasRow
+rows-10 = (refl, refl, refl, refl, refl, refl, refl)
+
+rows-16 : HasRow 0x5A × HasRow 0x5E × HasRow 0x5F × HasRow 0x88 × HasRow 0x8A × HasRow 0x93 × HasRow 0x9E
+unfolding HasRow
+rows-16 = (refl, refl, refl, refl, refl, refl, refl)
+
+has_row : (command : Command) → HasRow (layout command).opcode
+has_row TestUnitReady = rows-6.0
+has_row (RequestSense desc n) = rows-6.1
+has_row (Inquiry evpd page n) = rows-6.4
+has_row (ModeSelect6 pf sp n) = rows-6.5
+has_row (ModeSelect10 pf sp n) = rows-10.6
+has_row (ModeSense6 dbd pc page subpage n) = rows-6.6
+has_row (ModeSense10 llbaa dbd pc page subpage n) = rows-16.0
+has_row (Read6 extent) = rows-6.2
+has_row (Read10 lba n) = rows-10.1
+has_row (Read16 lba n) = rows-16.3
+has_row (Write6 extent) = rows-6.3
+has_row (Write10 lba n) = rows-10.2
+has_row (Write16 lba n) = rows-16.4
+has_row ReadCapacity10 = rows-10.0
+has_row (ReadCapacity16 n) = rows-16.6
+has_row (SynchronizeCache10 lba n) = rows-10.3
+has_row (WriteSame10 anchor unmap lba n) = rows-10.4
+has_row (WriteSame16 anchor unmap lba n) = rows-16.5
+has_row (Unmap anchor group n) = rows-10.5
+has_row (GetLbaStatus start n) = rows-16.6
+has_row (PersistentReserveIn action n) = rows-16.1
+has_row (PersistentReserveOut action scope_type n) = rows-16.2
+
+-- a CDB is refused as cut where it is shorter than the first row of its operation code says
+cut-by_rows : (cdb : List ℕ) (opcode : ℕ) (rows : List Layout) → first_opcode rows ≡ Some opcode
+    → length cdb < length_of opcode → command_by_rows cdb rows ≡ Err (Short (length cdb))
+cut-by_rows cdb opcode [] e h = cc
+cut-by_rows cdb opcode (l ∷ ls) e h =
+    let same : l.opcode ≡ opcode = cc in
+    let less : nat_lt (length cdb) (length_of l.opcode) ≡ true =
+    rw same (grind (arith, nat_tests)) in
+    rw less refl
+
+cut-by_opcode : (opcode : ℕ) (rest : List ℕ) → HasRow opcode
+    → length (opcode ∷ rest) < length_of opcode
+    → command_of (opcode ∷ rest) ≡ Err (Short (length (opcode ∷ rest)))
+unfolding HasRow command_of command_with
+cut-by_opcode opcode rest row h = cut-by_rows (opcode ∷ rest) opcode (rows_of opcode) row h
+
+abbrev bytes_of : Layout → (count : ℕ) → List ℕ
+bytes_of l count = map (byte_of l) (range_with_len 0 count)
+
+-- the first bytes of a CDB begin with the operation code
+cut-by_layout : (l : Layout) (size count : ℕ) → HasRow l.opcode → size ≡ length_of l.opcode
+    → suc count < size → command_of (take (suc count) (bytes_of l size)) ≡ Err (Short (suc count))
+cut-by_layout l zero count row e h = absurd (omega arith)
+cut-by_layout l (suc size) count row e h =
+    let rest : List ℕ = take count (map (byte_of l) (range_with_len 1 size)) in
+    let all = length-map-range_with_len (byte_of l) 0 (suc size) in
+    let few : length (l.opcode ∷ rest) ≡ suc count =
+    length-take-le (suc count) (bytes_of l (suc size)) (omega (arith, all)) in
+    let less : length (l.opcode ∷ rest) < length_of l.opcode =
+    subst (λ n. length (l.opcode ∷ rest) < n) e (omega (arith, few)) in
+    subst (λ n. command_of (l.opcode ∷ rest) ≡ Err (Short n)) few
+    (cut-by_opcode l.opcode rest row less)
+
+within : (l : Layout) (size count : ℕ) → count < length (bytes_of l size) → count < size
+within l size count h = omega (arith, length-map-range_with_len (byte_of l) 0 size)
+
+cut : (command : Command) (count : ℕ) → suc count < length (cdb_of command)
+    → command_of (take (suc count) (cdb_of command)) ≡ Err (Short (suc count))
+unfolding cdb_of
+cut command count h = let l = layout command in
+    cut-by_layout l (length_of l.opcode) count (has_row command) refl
+    (within l (length_of l.opcode) (suc count) h)
+
+empty : (command : Command) → command_of (take 0 (cdb_of command)) ≡ Err (cut_at 0)
+unfolding command_of
+empty command = refl
+
+not_empty : (count : ℕ) → cut_at (suc count) ≡ Short (suc count)
+not_empty count = let no : (suc count == 0) ≡ false = grind (arith, nat_tests) in rw no refl
+
+pub returns : goal.returns
+returns c command zero h = empty command
+returns c command (suc count) h = cut command count h ∙ ap Err (sym (not_empty count))
