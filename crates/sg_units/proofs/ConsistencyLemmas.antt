@@ -24,7 +24,6 @@ use Rattle.sg_units.specs.Reservations.{is_held_if_any, names_holder, names_hold
 use Rattle.sg_units.specs.Reservations.{while_held}
 use Rattle.sg_units.proofs.OutcomeLemmas.{EffectIs, FirstIs, and_false, case_or, choice, effective}
 use Rattle.sg_units.proofs.OutcomeLemmas.{last_case, not_false, not_true, refused, taking, typed}
-use Rattle.sg_units.specs.declared.reservation_change.ReservationChange.{ReservationChange}
 use Rattle.sg_wire.specs.declared.command.out_action.OutAction.{OutAction}
 use Rattle.sg_wire.specs.declared.command.out_action.OutAction.TheVariants.{Register, Reserve}
 use Rattle.sg_wire.specs.declared.command.out_action.OutAction.TheVariants.{Release, Clear, Preempt}

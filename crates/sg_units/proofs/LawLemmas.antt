@@ -67,9 +67,9 @@ by_test : (b : Bool) → (b ≡ true → ⊥) → b ≡ false
 by_test true f = absurd (f refl)
 by_test false f = refl
 
-not_under : (rs : List Registration) (i key : ℕ) → registrations_of rs i ≡ 0
+pub unregistered_under : (rs : List Registration) (i key : ℕ) → registrations_of rs i ≡ 0
     → is_registered_under rs i key ≡ false
-not_under rs i key none =
+unregistered_under rs i key none =
     by_test (is_registered_under rs i key)
     (λ h.
     let k = some_registration rs i (is_registered-under rs i key h) in
@@ -87,8 +87,8 @@ key_here : (r : Registration) (rs : List Registration) (i first second : ℕ) (b
     → ((b && is_under second r) || is_registered_under rs i second) ≡ true → first ≡ second
 key_here r rs i first second true h rest e f =
     let none : registrations_of rs i ≡ 0 = omega arith in
-    let one = or_left_true (is_under first r) _ (not_under rs i first none) e in
-    let two = or_left_true (is_under second r) _ (not_under rs i second none) f in
+    let one = or_left_true (is_under first r) _ (unregistered_under rs i first none) e in
+    let two = or_left_true (is_under second r) _ (unregistered_under rs i second none) f in
     grind (arith, nat_tests)
 key_here r rs i first second false h rest e f = rest (omega arith) e f
 

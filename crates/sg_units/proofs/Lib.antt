@@ -4,3 +4,5 @@ pub mod KeyLemmas
 pub mod OutcomeLemmas
 pub mod ConsistencyLemmas
 pub mod LawLemmas
+pub mod FencingLemmas
+pub mod HolderLemmas

@@ -1,0 +1,369 @@
+-- What the holder's own PERSISTENT RESERVE OUT leaves of its key and of the reservation depends on
+-- these alone.
+use Rattle.std.proofs.Common.{◌≡◌, ◌≤◌, ◌+◌, ◌==◌, ℕ, Bool, true, false, cond, not, ◌&&◌, ◌||◌, List}
+use Rattle.std.proofs.Common.{[], ◌∷◌, length, Option, Some, None, Ok, Err, refl, sym, ap, ◌∙◌, arith}
+use Rattle.std.specs.Prelude.{if◌then◌else◌, is_some}
+use Rattle.std.proofs.lemmas.Bool.{false≢true}
+use Rattle.std.proofs.lemmas.Bool.Decides.{nat_tests}
+use Rattle.sg_wire.specs.declared.command.out_action.OutAction.{OutAction}
+use Rattle.sg_wire.specs.declared.command.out_action.OutAction.TheVariants.{Register, Reserve}
+use Rattle.sg_wire.specs.declared.command.out_action.OutAction.TheVariants.{Release, Clear, Preempt}
+use Rattle.sg_wire.specs.declared.command.out_action.OutAction.TheVariants.{PreemptAndAbort}
+use Rattle.sg_wire.specs.declared.command.out_action.OutAction.TheVariants.{RegisterAndIgnoreExistingKey}
+use Rattle.sg_units.specs.OutList.{has_unsupported_flag}
+use Rattle.sg_units.specs.Registrations.{is_of, is_registered, is_registered_under, is_under}
+use Rattle.sg_units.specs.Registrations.{key_of, registration, registrations_of, with_key_replaced}
+use Rattle.sg_units.specs.Registrations.{without_initiator, without_key}
+use Rattle.sg_units.specs.Reservations.{has_type, is_holder, taken, while_held}
+use Rattle.sg_units.specs.ReservationType.{type_of}
+use Rattle.sg_units.specs.ReserveOut.{Case, Outcome, accepts_key, action_outcome, first_case, outcome}
+use Rattle.sg_units.specs.ReserveOut.{preempt_cases, preempted, register_cases, release_cases}
+use Rattle.sg_units.specs.ReserveOut.{reserve_cases, state_after, with_type}
+use Rattle.sg_units.specs.declared.out_fault.OutFault.{OutFault}
+use Rattle.sg_units.specs.declared.out_list.OutList.{OutList}
+use Rattle.sg_units.specs.declared.registrations.Registration.{Registration}
+use Rattle.sg_units.specs.declared.reservation.Reservation.{Reservation}
+use Rattle.sg_units.specs.declared.reservation_change.ReservationChange.{ReservationChange}
+use Rattle.sg_units.specs.declared.reservation_state.ReservationState.{ReservationState}
+use Rattle.sg_units.specs.declared.types.ReservationType.{ReservationType}
+use Rattle.sg_units.proofs.ConsistencyLemmas.{registrations_of-cons}
+use Rattle.sg_units.proofs.LawLemmas.{unregistered_under}
+use Rattle.sg_units.proofs.OutcomeLemmas.{not_false}
+use Rattle.sg_units.proofs.FencingLemmas.{alone_in, held_alone, key_of-cons, key_of-filter}
+use Rattle.sg_units.proofs.FencingLemmas.{key_of-without_key, is_registered-key_of, stays_registered}
+use Rattle.sg_units.proofs.FencingLemmas.{while_held-alone}
+
+-- ---- The key under which i is registered
+
+or_nothing : (a b : Bool) → b ≡ false → (a || b) ≡ a
+or_nothing true b h = refl
+or_nothing false b h = h
+
+under-first : (r : Registration) (rs : List Registration) (i key k : ℕ) (b : Bool)
+    → cond {A = ℕ} b 1 0 + registrations_of rs i ≤ 1
+    → (registrations_of rs i ≤ 1 → key_of rs i ≡ Some k
+    → is_registered_under rs i key ≡ (k == key))
+    → cond b (Some r.key) (key_of rs i) ≡ Some k
+    → ((b && is_under key r) || is_registered_under rs i key) ≡ (k == key)
+under-first r rs i key k true h rest e =
+    let none : registrations_of rs i ≡ 0 = omega arith in
+    let same : r.key ≡ k = cc in
+    or_nothing (is_under key r) (is_registered_under rs i key) (unregistered_under rs i key none)
+    ∙ ap (λ n. n == key) same
+under-first r rs i key k false h rest e = rest (omega arith) e
+
+-- an initiator is registered under its key alone
+pub under-key_of : (rs : List Registration) (i key k : ℕ) → registrations_of rs i ≤ 1
+    → key_of rs i ≡ Some k → is_registered_under rs i key ≡ (k == key)
+under-key_of [] i key k h e = cc
+under-key_of (r ∷ rs) i key k h e =
+    let step = registrations_of-cons r rs i in
+    let few : cond {A = ℕ} (is_of i r) 1 0 + registrations_of rs i ≤ 1 = omega arith in
+    under-first r rs i key k (is_of i r) few (under-key_of rs i key k) (sym (key_of-cons r rs i) ∙ e)
+
+unregistered-first : (r : Registration) (i : ℕ) (b : Bool) (ys : List Registration) → is_of i r ≡ b
+    → key_of ys i ≡ None → key_of (cond (not b) (r ∷ ys) ys) i ≡ None
+unregistered-first r i true ys e h = h
+unregistered-first r i false ys e h =
+    key_of-cons r ys i ∙ (ap (λ b. cond b (Some r.key) (key_of ys i)) e ∙ h)
+
+key_of-unregistered : (rs : List Registration) (i : ℕ) → key_of (without_initiator rs i) i ≡ None
+key_of-unregistered [] i = refl
+key_of-unregistered (r ∷ rs) i =
+    unregistered-first r i (is_of i r) (without_initiator rs i) refl (key_of-unregistered rs i)
+
+replaced-first : (r : Registration) (rs : List Registration) (i key : ℕ) (b : Bool) → is_of i r ≡ b
+    → (i == i) ≡ true → (is_registered rs i ≡ true → key_of (with_key_replaced rs i key) i ≡ Some key)
+    → (b || is_registered rs i) ≡ true
+    → key_of (cond b (registration i key) r ∷ with_key_replaced rs i key) i ≡ Some key
+replaced-first r rs i key true e self rest h =
+    key_of-cons (registration i key) (with_key_replaced rs i key) i
+    ∙ ap (λ b. cond b (Some key) (key_of (with_key_replaced rs i key) i)) self
+replaced-first r rs i key false e self rest h =
+    key_of-cons r (with_key_replaced rs i key) i
+    ∙ (ap (λ b. cond b (Some r.key) (key_of (with_key_replaced rs i key) i)) e ∙ rest h)
+
+itself : (i : ℕ) → (i == i) ≡ true
+itself i = grind (arith, nat_tests)
+
+key_of-own_replaced : (rs : List Registration) (i key : ℕ) → is_registered rs i ≡ true
+    → key_of (with_key_replaced rs i key) i ≡ Some key
+key_of-own_replaced [] i key h = absurd (false≢true h)
+key_of-own_replaced (r ∷ rs) i key h =
+    replaced-first r rs i key (is_of i r) refl (itself i) (key_of-own_replaced rs i key) h
+
+-- ---- What is left
+
+-- the key of an initiator and the reservation
+abbrev pub Left : Type 0
+Left = Option ℕ × Option Reservation
+
+abbrev pub left_of : ReservationState → (initiator : ℕ) → Left
+left_of state i = (key_of state.registrations i, state.reservation)
+
+-- an outcome leaves them
+pub record Leaves (state : ReservationState) (i : ℕ) (left : Left) (o : Outcome) : Type 0 where
+  pub left_is : left_of (state_after state o) i ≡ left
+
+record CasesLeave (state : ReservationState) (i : ℕ) (left : Left) (cases : List Case) : Type 0 where
+  first : Leaves state i left (first_case cases)
+
+either : (state : ReservationState) (i : ℕ) (left : Left) (b : Bool) (x y : Outcome)
+    → (b ≡ true → Leaves state i left x) → (b ≡ false → Leaves state i left y)
+    → Leaves state i left (cond b x y)
+either state i left true x y f g = f refl
+either state i left false x y f g = g refl
+
+case_or : (state : ReservationState) (i : ℕ) (left : Left) (case : Case) (cases : List Case)
+    → (case.condition ≡ true → Leaves state i left case.outcome)
+    → (case.condition ≡ false → CasesLeave state i left cases)
+    → CasesLeave state i left (case ∷ cases)
+case_or state i left case cases f g = record {
+  first =
+      either state i left case.condition case.outcome (first_case cases) f (λ h. (g h).first);
+}
+
+last_case : (state : ReservationState) (i : ℕ) (left : Left) (case : Case) (cases : List Case)
+    → case.condition ≡ true → Leaves state i left case.outcome
+    → CasesLeave state i left (case ∷ cases)
+last_case state i left case cases e h = record {
+  first =
+      either state i left case.condition case.outcome (first_case cases) (λ _. h)
+      (λ no. absurd (false≢true (sym no ∙ e)));
+}
+
+at : (state : ReservationState) (i : ℕ) (left left' : Left) (o : Outcome) → left ≡ left'
+    → Leaves state i left' o → Leaves state i left o
+at state i left left' o e h = record { left_is = h.left_is ∙ sym e }
+
+not_known : (known b : Bool) → known ≡ true → (not known && b) ≡ true → ⊥
+not_known true b e h = false≢true h
+not_known false b e h = false≢true e
+
+not_true : (b : Bool) → b ≡ true → not b ≡ true → ⊥
+not_true true e h = false≢true h
+not_true false e h = false≢true e
+
+and_both : (a b : Bool) → a ≡ true → b ≡ true → (a && b) ≡ true
+and_both true b e f = f
+and_both false b e f = absurd (false≢true e)
+
+or_not_known : (a known b : Bool) → known ≡ true → (a || (not known && b)) ≡ a
+or_not_known true known b e = refl
+or_not_known false true b e = refl
+or_not_known false false b e = absurd (false≢true e)
+
+kept : (a b : Bool) → a ≡ true → (a || b) ≡ true
+kept true b e = refl
+kept false b e = absurd (false≢true e)
+
+not_so : (b : Bool) → not b ≡ true → b ≡ false
+not_so true h = absurd (false≢true h)
+not_so false h = refl
+
+-- i is registered under k, and the one holder of a reservation
+module _ (all : List Registration) (kind : ReservationType) (generation i k : ℕ) where
+  abbrev state : ReservationState
+  state = alone_in all kind i generation
+
+  abbrev held : Option Reservation
+  held = held_alone kind i
+
+  abbrev as_before : Left
+  as_before = (Some k, held)
+
+  leaves : (change : ReservationChange) (left : Left) → key_of change.registrations i ≡ left.0
+      → change.reservation ≡ left.1 → Leaves state i left (Ok change)
+  leaves change left e f = record { left_is = λ d. (e d, f d) }
+
+  refuses : (fault : OutFault) → key_of all i ≡ Some k → Leaves state i as_before (Err fault)
+  refuses fault key = record { left_is = λ d. (key d, held) }
+
+  here : key_of all i ≡ Some k → is_registered all i ≡ true
+  here key = is_registered-key_of all i ∙ ap is_some key
+
+  abbrev register_left : (sark : ℕ) → Left
+  register_left sark = if sark == 0 then (None, None) else (Some sark, held)
+
+  abbrev register_or : Bool → ℕ → Left
+  register_or zero sark = if zero then (None, None) else (Some sark, held)
+
+  ended : while_held held (without_initiator all i) ≡ None
+  ended =
+      let rest = without_initiator all i in
+      let gone : is_registered rest i ≡ false =
+      is_registered-key_of rest i ∙ ap is_some (key_of-unregistered all i) in
+      ap (λ b. if b then held else None) gone
+
+  register_leaves : (sark : ℕ) → key_of all i ≡ Some k
+      → CasesLeave state i (register_left sark) (register_cases state i sark)
+  unfolding register_cases
+  register_leaves sark key =
+      let v = register_left sark in
+      let known = is_registered all i in
+      let is = here key in
+      case_or state i v _ _ (λ h. absurd (not_known known (sark == 0) is h))
+      (λ _. case_or state i v _ _ (λ h. absurd (not_known known (length all == 6) is h))
+      (λ _. case_or state i v _ _ (λ h. absurd (not_true known is h))
+      (λ _. case_or state i v _ _
+      (λ other. at state i v (Some sark, held) _ (ap (λ b. register_or b sark) (not_so _ other))
+      (leaves _ (Some sark, held) (key_of-own_replaced all i sark is) refl))
+      (λ zero. last_case state i v _ _ refl
+      (at state i v (None, None) _ (ap (λ b. register_or b sark) (not_false _ zero))
+      (leaves _ (None, None) (key_of-unregistered all i) ended))))))
+
+  reserve_leaves : (new : ReservationType) → key_of all i ≡ Some k
+      → CasesLeave state i as_before (reserve_cases state i new)
+  unfolding reserve_cases
+  reserve_leaves new key =
+      case_or state i as_before _ _ (λ no. absurd (false≢true no))
+      (λ _. case_or state i as_before _ _ (λ _. leaves _ as_before key refl)
+      (λ _. last_case state i as_before _ _ refl (refuses _ key)))
+
+  abbrev release_or : Bool → Left
+  release_or same = if same then (Some k, None) else as_before
+
+  release_leaves : (new : ReservationType) → key_of all i ≡ Some k
+      → CasesLeave state i (release_or (has_type held new)) (release_cases state i new)
+  unfolding release_cases
+  release_leaves new key =
+      let v = release_or (has_type held new) in
+      let holds : is_holder state i ≡ true = and_both _ (i == i) (here key) (itself i) in
+      case_or state i v _ _ (λ h. absurd (not_true (is_holder state i) holds h))
+      (λ _. case_or state i v _ _
+      (λ other. at state i v as_before _ (ap release_or (not_so _ other)) (refuses _ key))
+      (λ same. last_case state i v _ _ refl
+      (at state i v (Some k, None) _ (ap release_or (not_false _ same)) (leaves _ (Some k, None) key refl))))
+
+  abbrev taken_left : Option ReservationType → Left
+  taken_left None = as_before
+  taken_left (Some type) = (Some k, Some (taken type i))
+
+  takes : (type : Option ReservationType) (rest : List Registration) → key_of all i ≡ Some k
+      → key_of rest i ≡ Some k → Leaves state i (taken_left type) (preempted held i type rest)
+  takes None rest key left = refuses _ key
+  takes (Some type) rest key left = leaves _ (Some k, Some (taken type i)) left refl
+
+  abbrev preempt_or : (zero own : Bool) → Option ReservationType → Left
+  preempt_or zero own type =
+      if zero then as_before else (if own then taken_left type else as_before)
+
+  preempt_leaves : (type : Option ReservationType) (sark : ℕ) → registrations_of all i ≤ 1
+      → key_of all i ≡ Some k
+      → CasesLeave state i (preempt_or (sark == 0) (k == sark) type)
+      (preempt_cases state i type sark)
+  unfolding preempt_cases
+  preempt_leaves type sark one key =
+      let v = preempt_or (sark == 0) (k == sark) type in
+      let stay = λ (r : Registration). is_of i r || not (is_under sark r) in
+      let under = under-key_of all i sark k one key in
+      case_or state i v _ _
+      (λ zero. at state i v as_before _ (ap (λ b. preempt_or b (k == sark) type) zero) (refuses _ key))
+      (λ no. case_or state i v _ _
+      (λ own. at state i v (taken_left type) _
+      (ap (λ b. preempt_or b (k == sark) type) no
+      ∙ ap (λ b. preempt_or false b type) (sym under ∙ own))
+      (takes type _ key
+      (key_of-filter stay i (λ r e. kept (is_of i r) (not (is_under sark r)) e) all ∙ key)))
+      (λ other.
+      let before : v ≡ as_before =
+      ap (λ b. preempt_or b (k == sark) type) no
+      ∙ ap (λ b. preempt_or false b type) (sym under ∙ other) in
+      case_or state i v _ _ (λ none. absurd (false≢true none))
+      (λ _. case_or state i v _ _ (λ _. at state i v as_before _ before (refuses _ key))
+      (λ _. last_case state i v _ _ refl
+      (let gone = key_of-without_key all i sark other in
+      let left = stays_registered all (without_key all sark) i gone (here key) in
+      at state i v as_before _ before
+      (leaves _ as_before (gone ∙ key) (while_held-alone kind i _ left)))))))
+
+  abbrev typed_left : Option ReservationType → (ReservationType → Left) → Left
+  typed_left None left = as_before
+  typed_left (Some type) left = left type
+
+  typed : (type : Option ReservationType) (f : ReservationType → Outcome)
+      (left : ReservationType → Left) → key_of all i ≡ Some k
+      → ((type : ReservationType) → Leaves state i (left type) (f type))
+      → Leaves state i (typed_left type left) (with_type type f)
+  typed None f left key h = refuses _ key
+  typed (Some type) f left key h = h type
+
+  abbrev action_left : OutAction → Option ReservationType → (sark : ℕ) → Left
+  action_left Register type sark = register_left sark
+  action_left Reserve type sark = typed_left type (λ new. as_before)
+  action_left Release type sark = typed_left type (λ new. release_or (has_type held new))
+  action_left Clear type sark = (None, None)
+  action_left Preempt type sark = preempt_or (sark == 0) (k == sark) type
+  action_left PreemptAndAbort type sark = preempt_or (sark == 0) (k == sark) type
+  action_left RegisterAndIgnoreExistingKey type sark = register_left sark
+
+  action_leaves : (action : OutAction) (type : Option ReservationType) (sark : ℕ)
+      → registrations_of all i ≤ 1 → key_of all i ≡ Some k
+      → Leaves state i (action_left action type sark) (action_outcome state i action type sark)
+  action_leaves Register type sark one key = (register_leaves sark key).first
+  action_leaves Reserve type sark one key =
+      typed type _ (λ new. as_before) key (λ new. (reserve_leaves new key).first)
+  action_leaves Release type sark one key =
+      typed type _ (λ new. release_or (has_type held new)) key (λ new. (release_leaves new key).first)
+  action_leaves Clear type sark one key = leaves _ (None, None) refl refl
+  action_leaves Preempt type sark one key = (preempt_leaves type sark one key).first
+  action_leaves PreemptAndAbort type sark one key = (preempt_leaves type sark one key).first
+  action_leaves RegisterAndIgnoreExistingKey type sark one key = (register_leaves sark key).first
+
+  abbrev accepts : OutAction → (key : ℕ) → Bool
+  accepts RegisterAndIgnoreExistingKey key = true
+  accepts action key = k == key
+
+  accepts-key : (action : OutAction) (key : ℕ) → registrations_of all i ≤ 1 → key_of all i ≡ Some k
+      → accepts_key all i action key ≡ accepts action key
+  accepts-key Register key one is =
+      or_not_known (is_registered_under all i key) (is_registered all i) (key == 0) (here is)
+      ∙ under-key_of all i key k one is
+  accepts-key Reserve key one is = under-key_of all i key k one is
+  accepts-key Release key one is = under-key_of all i key k one is
+  accepts-key Clear key one is = under-key_of all i key k one is
+  accepts-key Preempt key one is = under-key_of all i key k one is
+  accepts-key PreemptAndAbort key one is = under-key_of all i key k one is
+  accepts-key RegisterAndIgnoreExistingKey key one is = refl
+
+  abbrev left_or : (flag refused : Bool) → Left → Left
+  left_or flag refused left = if flag then as_before else (if refused then as_before else left)
+
+  -- what a command leaves of them
+  abbrev left_after : OutAction → (scope_type : ℕ) → OutList → Left
+  left_after action scope_type list =
+      left_or (has_unsupported_flag action list) (not (accepts action list.reservation_key))
+      (action_left action (type_of scope_type) list.service_action_key)
+
+  outcome_leaves_own : (action : OutAction) (scope_type : ℕ) (list : OutList)
+      → registrations_of all i ≤ 1 → key_of all i ≡ Some k
+      → Leaves state i (left_after action scope_type list) (outcome state i action scope_type list)
+  unfolding outcome
+  outcome_leaves_own action scope_type list one key =
+      let v = left_after action scope_type list in
+      let flag = has_unsupported_flag action list in
+      let left = action_left action (type_of scope_type) list.service_action_key in
+      let not_own = not (accepts action list.reservation_key) in
+      let is_own = ap not (accepts-key action list.reservation_key one key) in
+      either state i v flag _ _
+      (λ is. at state i v as_before _ (ap (λ b. left_or b not_own left) is) (refuses _ key))
+      (λ no. either state i v (not (accepts_key all i action list.reservation_key)) _ _
+      (λ refused. at state i v as_before _
+      (ap (λ b. left_or b not_own left) no ∙ ap (λ b. left_or false b left) (sym is_own ∙ refused))
+      (refuses _ key))
+      (λ accepted. at state i v left _
+      (ap (λ b. left_or b not_own left) no ∙ ap (λ b. left_or false b left) (sym is_own ∙ accepted))
+      (action_leaves action (type_of scope_type) list.service_action_key one key)))
+
+-- So it leaves the same of two tables in which i has the same key.
+pub own_agrees : (all rest : List Registration) (kind : ReservationType) (first second i k : ℕ)
+    (action : OutAction) (scope_type : ℕ) (list : OutList)
+    → registrations_of all i ≤ 1 → key_of all i ≡ Some k
+    → registrations_of rest i ≤ 1 → key_of rest i ≡ Some k →
+    (let a = alone_in all kind i first in
+    let b = alone_in rest kind i second in
+    left_of (state_after a (outcome a i action scope_type list)) i
+    ≡ left_of (state_after b (outcome b i action scope_type list)) i)
+own_agrees all rest kind first second i k action scope_type list one key one' key' =
+    (outcome_leaves_own all kind first i k action scope_type list one key).left_is
+    ∙ sym (outcome_leaves_own rest kind second i k action scope_type list one' key').left_is
