@@ -18,5 +18,6 @@ pub mod Ranges
 pub mod Runs
 pub mod Target
 pub mod Laws
+pub mod Fencing
 -- What private contracts cite alone.
 pub mod Operation

@@ -10,14 +10,17 @@ use Rattle.sg_wire.specs.declared.command.out_action.OutAction.{OutAction}
 use Rattle.sg_wire.specs.declared.command.out_action.OutAction.TheVariants.{Register, Reserve}
 use Rattle.sg_wire.specs.declared.command.out_action.OutAction.TheVariants.{Release, Clear, Preempt}
 use Rattle.sg_wire.specs.declared.command.out_action.OutAction.TheVariants.{PreemptAndAbort}
+use Rattle.sg_wire.specs.declared.command.out_action.OutAction.TheVariants.{}
 use Rattle.sg_wire.specs.declared.command.out_action.OutAction.TheVariants.{RegisterAndIgnoreExistingKey}
 use Rattle.sg_units.specs.OutList.{has_unsupported_flag}
-use Rattle.sg_units.specs.Registrations.{is_of, is_registered, is_registered_under, is_under, key_of}
+use Rattle.sg_units.specs.Registrations.{is_of, is_registered, is_registered_under, is_under}
+use Rattle.sg_units.specs.Registrations.{key_of}
 use Rattle.sg_units.specs.Registrations.{registration, with_key_replaced, with_registration}
 use Rattle.sg_units.specs.Registrations.{without_initiator, without_key}
 use Rattle.sg_units.specs.Reservations.{while_held}
 use Rattle.sg_units.specs.ReservationType.{is_all_registrants, type_of}
-use Rattle.sg_units.specs.ReserveOut.{accepts_key, action_outcome, outcome, preempt_cases, preempted}
+use Rattle.sg_units.specs.ReserveOut.{accepts_key, action_outcome, outcome, preempt_cases}
+use Rattle.sg_units.specs.ReserveOut.{preempted}
 use Rattle.sg_units.specs.ReserveOut.{raised_for, register_cases, release_cases, released}
 use Rattle.sg_units.specs.ReserveOut.{released_unless_held, reserve_cases}
 use Rattle.sg_units.specs.declared.out_fault.OutFault.TheVariants.{Conflict, ListField}

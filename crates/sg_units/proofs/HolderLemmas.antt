@@ -1,7 +1,9 @@
 -- What the holder's own PERSISTENT RESERVE OUT leaves of its key and of the reservation depends on
 -- these alone.
-use Rattle.std.proofs.Common.{◌≡◌, ◌≤◌, ◌+◌, ◌==◌, ℕ, Bool, true, false, cond, not, ◌&&◌, ◌||◌, List}
-use Rattle.std.proofs.Common.{[], ◌∷◌, length, Option, Some, None, Ok, Err, refl, sym, ap, ◌∙◌, arith}
+use Rattle.std.proofs.Common.{◌≡◌, ◌≤◌, ◌+◌, ◌==◌, ℕ, Bool, true, false, cond, not, ◌&&◌, ◌||◌}
+use Rattle.std.proofs.Common.{List}
+use Rattle.std.proofs.Common.{[], ◌∷◌, length, Option, Some, None, Ok, Err, refl, sym, ap, ◌∙◌}
+use Rattle.std.proofs.Common.{arith}
 use Rattle.std.specs.Prelude.{if◌then◌else◌, is_some}
 use Rattle.std.proofs.lemmas.Bool.{false≢true}
 use Rattle.std.proofs.lemmas.Bool.Decides.{nat_tests}
@@ -9,16 +11,22 @@ use Rattle.sg_wire.specs.declared.command.out_action.OutAction.{OutAction}
 use Rattle.sg_wire.specs.declared.command.out_action.OutAction.TheVariants.{Register, Reserve}
 use Rattle.sg_wire.specs.declared.command.out_action.OutAction.TheVariants.{Release, Clear, Preempt}
 use Rattle.sg_wire.specs.declared.command.out_action.OutAction.TheVariants.{PreemptAndAbort}
+use Rattle.sg_wire.specs.declared.command.out_action.OutAction.TheVariants.{}
 use Rattle.sg_wire.specs.declared.command.out_action.OutAction.TheVariants.{RegisterAndIgnoreExistingKey}
+use Rattle.sg_wire.specs.declared.command.Class.{Class}
+use Rattle.sg_units.specs.Access.{allowed, allows, standing_of}
 use Rattle.sg_units.specs.OutList.{has_unsupported_flag}
 use Rattle.sg_units.specs.Registrations.{is_of, is_registered, is_registered_under, is_under}
 use Rattle.sg_units.specs.Registrations.{key_of, registration, registrations_of, with_key_replaced}
 use Rattle.sg_units.specs.Registrations.{without_initiator, without_key}
-use Rattle.sg_units.specs.Reservations.{has_type, is_holder, taken, while_held}
+use Rattle.sg_units.specs.Reservations.{holds, has_type, is_holder, taken, while_held}
 use Rattle.sg_units.specs.ReservationType.{type_of}
-use Rattle.sg_units.specs.ReserveOut.{Case, Outcome, accepts_key, action_outcome, first_case, outcome}
+use Rattle.sg_units.specs.ReserveOut.{Case, Outcome, accepts_key, action_outcome, first_case}
+use Rattle.sg_units.specs.ReserveOut.{outcome}
 use Rattle.sg_units.specs.ReserveOut.{preempt_cases, preempted, register_cases, release_cases}
 use Rattle.sg_units.specs.ReserveOut.{reserve_cases, state_after, with_type}
+use Rattle.sg_units.specs.declared.access.Standing.{Standing}
+use Rattle.sg_units.specs.declared.access.Standing.TheVariants.{Holder, Registrant, Other}
 use Rattle.sg_units.specs.declared.out_fault.OutFault.{OutFault}
 use Rattle.sg_units.specs.declared.out_list.OutList.{OutList}
 use Rattle.sg_units.specs.declared.registrations.Registration.{Registration}
@@ -30,7 +38,8 @@ use Rattle.sg_units.proofs.ConsistencyLemmas.{registrations_of-cons}
 use Rattle.sg_units.proofs.LawLemmas.{unregistered_under}
 use Rattle.sg_units.proofs.OutcomeLemmas.{not_false}
 use Rattle.sg_units.proofs.FencingLemmas.{alone_in, held_alone, key_of-cons, key_of-filter}
-use Rattle.sg_units.proofs.FencingLemmas.{key_of-without_key, is_registered-key_of, stays_registered}
+use Rattle.sg_units.proofs.FencingLemmas.{key_of-without_key, is_registered-key_of}
+use Rattle.sg_units.proofs.FencingLemmas.{stays_registered}
 use Rattle.sg_units.proofs.FencingLemmas.{while_held-alone}
 
 -- ---- The key under which i is registered
@@ -367,3 +376,31 @@ pub own_agrees : (all rest : List Registration) (kind : ReservationType) (first 
 own_agrees all rest kind first second i k action scope_type list one key one' key' =
     (outcome_leaves_own all kind first i k action scope_type list one key).left_is
     ∙ sym (outcome_leaves_own rest kind second i k action scope_type list one' key').left_is
+
+-- ---- Access
+
+-- What i is allowed follows from whether it is registered and from the reservation.
+standing-by : (held : Option Reservation) (all rest : List Registration) (first second i : ℕ)
+    → is_registered all i ≡ is_registered rest i
+    → standing_of (record { registrations = all; reservation = held; generation = first }) i
+    ≡ standing_of (record { registrations = rest; reservation = held; generation = second }) i
+standing-by None all rest first second i e =
+    ap (λ (b : Bool). cond {A = Standing} b Registrant Other) e
+standing-by (Some reservation) all rest first second i e =
+    ap
+    (λ (b : Bool). cond {A = Standing} (b && holds reservation i) Holder
+    (cond {A = Standing} b Registrant Other)) e
+
+pub allows-same : (first second : ReservationState) (i : ℕ) (class : Class)
+    → key_of first.registrations i ≡ key_of second.registrations i
+    → first.reservation ≡ second.reservation → allows first i class ≡ allows second i class
+allows-same first second i class key reservation =
+    let registered : is_registered first.registrations i ≡ is_registered second.registrations i =
+    is_registered-key_of first.registrations i
+    ∙ (ap is_some key ∙ sym (is_registered-key_of second.registrations i)) in
+    let moved : ReservationState = record second { reservation = first.reservation } in
+    let to : moved ≡ second = λ d. record second { reservation = reservation d } in
+    ap (λ s. allowed first.reservation s class)
+    (standing-by first.reservation first.registrations second.registrations first.generation
+    second.generation i registered)
+    ∙ ap (λ (r : ReservationState). allows r i class) to

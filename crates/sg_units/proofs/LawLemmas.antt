@@ -17,7 +17,8 @@ use Rattle.sg_units.specs.ReserveOut.{preempt_cases, register_cases, release_cas
 use Rattle.sg_units.specs.ReserveOut.{reserve_cases, same_generation, state_after}
 use Rattle.sg_units.specs.Registrations.{is_of, is_registered, is_registered_under, is_under}
 use Rattle.sg_units.specs.Registrations.{registrations_of}
-use Rattle.sg_units.specs.ReservationType.{is_all_registrants, is_exclusive_access, is_shared, type_of}
+use Rattle.sg_units.specs.ReservationType.{is_all_registrants, is_exclusive_access, is_shared}
+use Rattle.sg_units.specs.ReservationType.{type_of}
 use Rattle.sg_units.specs.Reservations.{IsConsistent, has_holder, is_held_by}
 use Rattle.sg_units.specs.Reservations.{is_held_if_any, is_holder, names_holder}
 use Rattle.sg_units.specs.Reservations.{names_holder_if_any}
@@ -28,6 +29,7 @@ use Rattle.sg_wire.specs.declared.command.out_action.OutAction.{OutAction}
 use Rattle.sg_wire.specs.declared.command.out_action.OutAction.TheVariants.{Register, Reserve}
 use Rattle.sg_wire.specs.declared.command.out_action.OutAction.TheVariants.{Release, Clear, Preempt}
 use Rattle.sg_wire.specs.declared.command.out_action.OutAction.TheVariants.{PreemptAndAbort}
+use Rattle.sg_wire.specs.declared.command.out_action.OutAction.TheVariants.{}
 use Rattle.sg_wire.specs.declared.command.out_action.OutAction.TheVariants.{RegisterAndIgnoreExistingKey}
 use Rattle.sg_units.specs.declared.out_fault.OutFault.TheVariants.{Conflict, ListField}
 use Rattle.sg_units.specs.declared.out_list.OutList.{OutList}
@@ -35,8 +37,10 @@ use Rattle.sg_units.specs.declared.registrations.Registration.{Registration}
 use Rattle.sg_units.specs.declared.reservation.Reservation.{Reservation}
 use Rattle.sg_units.specs.declared.reservation_state.ReservationState.{ReservationState}
 use Rattle.sg_units.specs.declared.types.ReservationType.{ReservationType}
-use Rattle.sg_units.specs.declared.types.ReservationType.TheVariants.{WriteExclusive, ExclusiveAccess}
+use Rattle.sg_units.specs.declared.types.ReservationType.TheVariants.{WriteExclusive}
+use Rattle.sg_units.specs.declared.types.ReservationType.TheVariants.{ExclusiveAccess}
 use Rattle.sg_units.specs.declared.types.ReservationType.TheVariants.{WriteExclusiveRegistrantsOnly}
+use Rattle.sg_units.specs.declared.types.ReservationType.TheVariants.{}
 use Rattle.sg_units.specs.declared.types.ReservationType.TheVariants.{ExclusiveAccessRegistrantsOnly}
 use Rattle.sg_units.specs.declared.types.ReservationType.TheVariants.{WriteExclusiveAllRegistrants}
 use Rattle.sg_units.specs.declared.types.ReservationType.TheVariants.{ExclusiveAccessAllRegistrants}

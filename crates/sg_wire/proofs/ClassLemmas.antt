@@ -1,11 +1,13 @@
 -- The class of a CDB is that of its command.
-use Rattle.std.proofs.Common.{◌≡◌, ℕ, List, [], ◌∷◌, length, map, filter, Option, Some, None, Result}
+use Rattle.std.proofs.Common.{◌≡◌, ℕ, List, [], ◌∷◌, length, map, filter, Option, Some, None}
+use Rattle.std.proofs.Common.{Result}
 use Rattle.std.proofs.Common.{Ok, Err, Bool, true, false, cond, refl, sym, ap, ◌∙◌}
 use Rattle.std.specs.Prelude.{◌==◌, find, nat_lt, if◌then◌else◌}
 use Rattle.std.specs.Option.{option_map_or}
 use Rattle.sg_wire.specs.Layout.{Layout, class_by_rows, class_of, command_by_row}
 use Rattle.sg_wire.specs.Layout.{command_by_rows, command_of, command_with, each_command, first_bad}
-use Rattle.sg_wire.specs.Layout.{has_action_of, layout, length_of, make_from, masks, rows_of, unless_bad}
+use Rattle.sg_wire.specs.Layout.{has_action_of, layout, length_of, make_from, masks, rows_of}
+use Rattle.sg_wire.specs.Layout.{unless_bad}
 use Rattle.sg_wire.specs.declared.command.CdbFault.{CdbFault}
 use Rattle.sg_wire.specs.declared.command.CdbFault.TheVariants.{Short}
 use Rattle.sg_wire.specs.declared.command.Class.{Class}
