@@ -1,0 +1,49 @@
+// How a command ends.
+use sg_target::{Reply, Status};
+
+#[derive(Clone, Copy)]
+pub(crate) enum Ending {
+    Good,
+    Conflict,
+    /// INVALID FIELD IN CDB, with a field pointer to the byte.
+    InvalidField(usize),
+    DataPhaseError,
+}
+
+impl Ending {
+    fn status(self) -> Status {
+        match self {
+            Ending::Good => Status::Good,
+            Ending::Conflict => Status::ReservationConflict,
+            Ending::InvalidField(_) | Ending::DataPhaseError => Status::CheckCondition,
+        }
+    }
+
+    /// The sense data in fixed format, of 18 bytes, or none (SPC-4, 4.5.3).
+    fn sense(self) -> Option<[u8; 18]> {
+        match self {
+            Ending::Good | Ending::Conflict => None,
+            Ending::InvalidField(byte) => Some(invalid_field(byte)),
+            Ending::DataPhaseError => Some([
+                0x70, 0, 0x0B, 0, 0, 0, 0, 0x0A, 0, 0, 0, 0, 0x4B, 0x00, 0, 0, 0, 0,
+            ]),
+        }
+    }
+
+    /// Whether a reply ends so. A command that is refused returns no data-in.
+    pub(crate) fn is_of(self, reply: &Reply) -> bool {
+        let has_sense = match self.sense() {
+            Some(sense) => reply.sense.as_slice() == sense.as_slice() && reply.data_in == 0,
+            None => reply.sense.as_slice().is_empty(),
+        };
+        reply.status == self.status() && has_sense
+    }
+}
+
+// SKSV and C/D are set, and the pointer is to a byte of the CDB (SPC-4, 4.5.2.4.2).
+fn invalid_field(byte: usize) -> [u8; 18] {
+    let [high, low] = u16::try_from(byte).unwrap_or(u16::MAX).to_be_bytes();
+    [
+        0x70, 0, 5, 0, 0, 0, 0, 0x0A, 0, 0, 0, 0, 0x24, 0x00, 0, 0xC0, high, low,
+    ]
+}

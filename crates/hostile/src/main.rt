@@ -1,0 +1,260 @@
+//! `hostile`: sends commands that are cut short, have a bit that no field has, or come with too
+//! little or too much data-out. For each command of a table:
+//!
+//! - each shorter length of its CDB is refused, with a pointer to the first byte that is missing;
+//! - each bit that no field has and that is not ignored, alone, is refused, with a pointer to its
+//!   byte, and so is CONTROL 01h;
+//! - one byte less of data-out than it announces is a DATA PHASE ERROR, and one more changes
+//!   nothing.
+//!
+//! A line with the numbers of tries is printed for each command, and one for each try that ends
+//! otherwise. Rows that are wrong on purpose show that such tries are found.
+#![tactic(auto)]
+
+mod ending;
+mod table;
+
+ghost use Rattle.std.specs.Prelude.{◌≡◌, ◌<◌, if◌then◌else◌, ◌==◌, ◌&&◌, length};
+
+use crate::ending::Ending;
+use crate::table::{COMMANDS, Row, WRONG};
+use sg_blocks::PlainMap;
+use sg_pages::Identity;
+use sg_target::{BUFFER_LENGTH, Config, Target};
+use sg_wire::Initiator;
+use std::alloc::Global;
+use std::io;
+use std::process::ExitCode;
+use std::rt::Runtime;
+
+/// The masks of the bits of a byte.
+const BITS: [u8; 8] = [0x01, 0x02, 0x04, 0x08, 0x10, 0x20, 0x40, 0x80];
+
+/// How many tries of the wrong rows end otherwise than the rows say.
+const FOUND: u64 = 4;
+
+// In bytes.
+const LONGEST_CDB: usize = 16;
+
+/// A disk, and the initiator whose commands are tried.
+#[derive(Drop)]
+struct TestDisk {
+    target: Target<PlainMap>,
+    initiator: Initiator,
+    buf: [u8; BUFFER_LENGTH],
+}
+
+impl TestDisk {
+    /// A new disk, after its unit attention was reported.
+    fn new(alloc: Global) -> Option<TestDisk> {
+        let config = Config::new(4_096, 4, Identity::standard()).ok()?;
+        let mut disk = TestDisk {
+            target: Target::new(alloc, config).ok()?,
+            initiator: Initiator::new(0)?,
+            buf: [0; BUFFER_LENGTH],
+        };
+        let _ = disk.ends(&[0; 6], &[], Ending::Good);
+        Some(disk)
+    }
+
+    /// Executes a command. Whether it ends so.
+    fn ends(&mut self, cdb: &[u8], data_out: &[u8], ending: Ending) -> bool {
+        let reply = self
+            .target
+            .execute(self.initiator, cdb, data_out, &mut self.buf);
+        ending.is_of(&reply)
+    }
+}
+
+/// The numbers of tries: of lengths, of bits, of CONTROL and of data-out, and how many of all end
+/// otherwise than they have to.
+#[derive(Clone, Copy, Default)]
+struct Tally {
+    lengths: u64,
+    bits: u64,
+    controls: u64,
+    data_out: u64,
+    wrong: u64,
+}
+
+impl Tally {
+    fn plus(self, other: Tally) -> Tally {
+        Tally {
+            lengths: self.lengths.saturating_add(other.lengths),
+            bits: self.bits.saturating_add(other.bits),
+            controls: self.controls.saturating_add(other.controls),
+            data_out: self.data_out.saturating_add(other.data_out),
+            wrong: self.wrong.saturating_add(other.wrong),
+        }
+    }
+}
+
+/// One more where a try ends otherwise, which is printed.
+fn wrong_after(rt: &impl Print, wrong: u64, name: &str, what: &str, at: usize) -> io::Result<u64> {
+    println!(rt; "{name}: {what} {at} ends otherwise")?;
+    Ok(wrong.saturating_add(1))
+}
+
+/// Each shorter length.
+fn try_lengths(
+    rt: &impl Print,
+    disk: &mut TestDisk,
+    row: Row,
+    data_out: &[u8],
+) -> io::Result<Tally> {
+    let mut tally = Tally::default();
+    for length in 0..row.cdb.len() {
+        tally.lengths = tally.lengths.saturating_add(1);
+        if !disk.ends(&row.cdb[..length], data_out, Ending::InvalidField(length)) {
+            tally.wrong = wrong_after(rt, tally.wrong, row.name, "length", length)?;
+        }
+    }
+    Ok(tally)
+}
+
+/// A CDB with one more bit, which is refused at its byte.
+fn is_bit_refused(disk: &mut TestDisk, row: Row, data_out: &[u8], byte: usize, bit: u8) -> bool {
+    let mut cdb = [0; LONGEST_CDB];
+    let len = row.cdb.len().min(LONGEST_CDB);
+    cdb[..len].copy_from_slice(&row.cdb[..len]);
+    if byte < len {
+        cdb[byte] |= bit;
+    }
+    disk.ends(&cdb[..len], data_out, Ending::InvalidField(byte))
+}
+
+/// Each bit of a byte that no field has, alone.
+fn try_bits_of(
+    rt: &impl Print,
+    disk: &mut TestDisk,
+    row: Row,
+    data_out: &[u8],
+    byte: usize,
+) -> io::Result<Tally> {
+    let mut tally = Tally::default();
+    let named = row.named.get(byte).copied().unwrap_or(0);
+    for bit in BITS {
+        if named & bit != 0 {
+            continue;
+        }
+        tally.bits = tally.bits.saturating_add(1);
+        if !is_bit_refused(disk, row, data_out, byte, bit) {
+            tally.wrong = wrong_after(rt, tally.wrong, row.name, "a bit of byte", byte)?;
+        }
+    }
+    Ok(tally)
+}
+
+/// Those of all bytes between the operation code and CONTROL.
+fn try_bits(rt: &impl Print, disk: &mut TestDisk, row: Row, data_out: &[u8]) -> io::Result<Tally> {
+    let mut tally = Tally::default();
+    for byte in 1..row.cdb.len().saturating_sub(1).max(1) {
+        tally = tally.plus(try_bits_of(rt, disk, row, data_out, byte)?);
+    }
+    Ok(tally)
+}
+
+/// CONTROL 01h.
+fn try_control(
+    rt: &impl Print,
+    disk: &mut TestDisk,
+    row: Row,
+    data_out: &[u8],
+) -> io::Result<Tally> {
+    let mut tally = Tally::default();
+    let last = row.cdb.len().saturating_sub(1);
+    tally.controls = 1;
+    if !is_bit_refused(disk, row, data_out, last, 0x01) {
+        tally.wrong = wrong_after(rt, tally.wrong, row.name, "CONTROL 01h in byte", last)?;
+    }
+    Ok(tally)
+}
+
+/// One byte less of data-out than is announced, and one more, where some is.
+fn try_data_out(rt: &impl Print, disk: &mut TestDisk, row: Row, more: &[u8]) -> io::Result<Tally>
+    requires { row.data_out < length more.now }
+{
+    let mut tally = Tally::default();
+    if row.data_out == 0 {
+        return Ok(tally);
+    }
+    tally.data_out = 2;
+    let less = row.data_out - 1;
+    if !disk.ends(row.cdb, &more[..less], Ending::DataPhaseError) {
+        tally.wrong = wrong_after(rt, tally.wrong, row.name, "data-out of length", less)?;
+    }
+    if !disk.ends(row.cdb, more, row.ending) {
+        let length = more.len();
+        tally.wrong = wrong_after(rt, tally.wrong, row.name, "data-out of length", length)?;
+    }
+    Ok(tally)
+}
+
+fn print_tally(rt: &impl Print, name: &str, tally: Tally) -> io::Result<()> {
+    let (lengths, bits) = (tally.lengths, tally.bits);
+    let (controls, data_out) = (tally.controls, tally.data_out);
+    println!(rt;
+        "{name}: {lengths} lengths, {bits} bits, {controls} of CONTROL, {data_out} of data-out"
+    )
+}
+
+/// All tries of a command, each on the same new disk, after the command itself.
+fn try_row(rt: &HostRuntime, row: Row) -> io::Result<Tally> {
+    let Some(mut disk) = TestDisk::new(rt.alloc()) else {
+        return Err(io::Error::from(io::ErrorKind::OutOfMemory));
+    };
+    let more = vec![in rt.alloc(); 0; row.data_out.saturating_add(1)]?;
+    let data_out = &more[..row.data_out];
+    let mut tally = Tally::default();
+    if !disk.ends(row.cdb, data_out, row.ending) {
+        tally.wrong = wrong_after(
+            rt,
+            tally.wrong,
+            row.name,
+            "data-out of length",
+            row.data_out,
+        )?;
+    }
+    tally = tally.plus(try_lengths(rt, &mut disk, row, data_out)?);
+    tally = tally.plus(try_bits(rt, &mut disk, row, data_out)?);
+    tally = tally.plus(try_control(rt, &mut disk, row, data_out)?);
+    tally = tally.plus(try_data_out(rt, &mut disk, row, &more)?);
+    print_tally(rt, row.name, tally)?;
+    Ok(tally)
+}
+
+/// All rows of a table.
+fn try_rows(rt: &HostRuntime, rows: &[Row]) -> io::Result<Tally> {
+    let mut tally = Tally::default();
+    for row in rows {
+        tally = tally.plus(try_row(rt, *row)?);
+    }
+    Ok(tally)
+}
+
+/// 0 where every command ends as it has to, and the wrong rows do not.
+fn exit_status(wrong: u64, found: u64) -> u8
+    ensures { result ≡ (if wrong == 0 && found == FOUND then 0 else 1) }
+{
+    if wrong == 0 && found == FOUND { 0 } else { 1 }
+}
+
+fn run(rt: &HostRuntime) -> io::Result<u8> {
+    let tally = try_rows(rt, &COMMANDS)?;
+    print_tally(rt, "all commands", tally)?;
+    let wrong = tally.wrong;
+    println!(rt; "{wrong} tries end otherwise")?;
+    let found = try_rows(rt, &WRONG)?.wrong;
+    println!(rt; "{found} of {FOUND} faults of the wrong rows are found")?;
+    Ok(exit_status(wrong, found))
+}
+
+fn main(rt: HostRuntime) -> ExitCode {
+    match run(&rt) {
+        Ok(status) => ExitCode::from(status),
+        Err(error) => {
+            let _ = eprintln!(rt; "hostile: {error}");
+            ExitCode::from(99)
+        }
+    }
+}
