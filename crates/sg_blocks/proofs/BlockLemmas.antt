@@ -55,38 +55,38 @@ pub entries-set : (rs : List Run) (bs : List (List ℕ)) (s : ℕ) (b : List ℕ
 unfolding occurrences
 entries-set [] bs s b none = refl
 entries-set (r ∷ rs) bs s b none =
-    let other : r.slot ≢ s = not_equal s r.slot (omega arith) in
-    ap₂ (λ x xs. (r.start, x) ∷ xs) (get_or-set_other bs s r.slot b zero_block other)
+    let other : r.first ≢ s = not_equal s r.first (omega arith) in
+    ap₂ (λ x xs. (r.start, x) ∷ xs) (get_or-set_other bs s r.first b zero_block other)
     (entries-set rs bs s b (omega arith))
 
 -- a write to the slot of record i
 pub find-overwritten : (rs : List Run) (bs : List (List ℕ)) (i : ℕ) (r : Run) (b : List ℕ) (q : ℕ)
-    → IsSorted rs → i < length rs → r ≡ get_or rs i r → r.slot < length bs
-    → occurrences r.slot (slots_of rs) ≤ 1
-    → find nat_cmp q (mapped_blocks rs (set bs r.slot b)) ≡
+    → IsSorted rs → i < length rs → r ≡ get_or rs i r → r.first < length bs
+    → occurrences r.first (slots_of rs) ≤ 1
+    → find nat_cmp q (mapped_blocks rs (set bs r.first b)) ≡
     cond (eq_by_cmp nat_cmp q r.start) (Some b) (find nat_cmp q (mapped_blocks rs bs))
 unfolding occurrences
 find-overwritten [] bs i r b q rises h e low once = absurd (omega arith)
 find-overwritten (x ∷ rs) bs zero r b q rises h e low once =
-    let slot : x.slot ≡ r.slot = ap (λ (y : Run). y.slot) (sym e) in
+    let slot : x.first ≡ r.first = ap (λ (y : Run). y.first) (sym e) in
     let start : x.start ≡ r.start = ap (λ (y : Run). y.start) (sym e) in
-    let one : one_if_equal r.slot x.slot ≡ 1 = ap (λ (c : Bool). cond c 1 0) (eq-eqb x.slot r.slot slot) in
-    let none : occurrences r.slot (slots_of rs) ≡ 0 = omega arith in
-    let to : get_or (set bs r.slot b) x.slot zero_block ≡ b =
-    ap (λ k. get_or (set bs r.slot b) k zero_block) slot
-    ∙ get_or-set_same bs r.slot b zero_block low in
+    let one : one_if_equal r.first x.first ≡ 1 = ap (λ (c : Bool). cond c 1 0) (eq-eqb x.first r.first slot) in
+    let none : occurrences r.first (slots_of rs) ≡ 0 = omega arith in
+    let to : get_or (set bs r.first b) x.first zero_block ≡ b =
+    ap (λ k. get_or (set bs r.first b) k zero_block) slot
+    ∙ get_or-set_same bs r.first b zero_block low in
     ap₂ (λ v xs. cond (eq_by_cmp nat_cmp q x.start) (Some v) (find nat_cmp q xs)) to
-    (entries-set rs bs r.slot b none)
-    ∙ twice (eq_by_cmp nat_cmp q x.start) (Some b) (Some (slice_index_or bs x.slot zero_block)) _
+    (entries-set rs bs r.first b none)
+    ∙ twice (eq_by_cmp nat_cmp q x.start) (Some b) (Some (slice_index_or bs x.first zero_block)) _
     ∙ ap (λ k. cond (eq_by_cmp nat_cmp q k) (Some b) (find nat_cmp q (mapped_blocks (x ∷ rs) bs))) start
 find-overwritten (x ∷ rs) bs (suc i) r b q rises h e low once =
     let some = occurrences-at rs i r (omega arith) e in
-    let other : x.slot ≢ r.slot = not_equal r.slot x.slot (omega arith) in
+    let other : x.first ≢ r.first = not_equal r.first x.first (omega arith) in
     let at : r.start ≡ start_of rs i = start_of-read rs i r (omega arith) e in
     let above : x.start < start_of rs i = rises 0 (suc i) (omega arith) (omega arith) in
     let apart : x.start ≢ r.start = λ same. absurd (omega arith) in
     ap₂ (λ v o. cond (eq_by_cmp nat_cmp q x.start) (Some v) o)
-    (get_or-set_other bs r.slot x.slot b zero_block other)
+    (get_or-set_other bs r.first x.first b zero_block other)
     (find-overwritten rs bs i r b q (sorted_tail x rs rises) (omega arith) e low (omega arith))
     ∙ either _ _ _ _ _ (both_at q x.start r.start apart)
 
@@ -94,30 +94,30 @@ find-overwritten (x ∷ rs) bs (suc i) r b q rises h e low once =
 pub find-added : (rs : List Run) (bs : List (List ℕ)) (i : ℕ) (r : Run) (q : ℕ)
     → ((j : ℕ) → j < length rs → start_of rs j ≢ r.start)
     → find nat_cmp q (mapped_blocks (insert rs i r) bs) ≡
-    cond (eq_by_cmp nat_cmp q r.start) (Some (slice_index_or bs r.slot zero_block))
+    cond (eq_by_cmp nat_cmp q r.start) (Some (slice_index_or bs r.first zero_block))
     (find nat_cmp q (mapped_blocks rs bs))
 find-added rs bs zero r q none = refl
 find-added [] bs (suc i) r q none = refl
 find-added (x ∷ rs) bs (suc i) r q none =
-    ap (cond (eq_by_cmp nat_cmp q x.start) (Some (slice_index_or bs x.slot zero_block)))
+    ap (cond (eq_by_cmp nat_cmp q x.start) (Some (slice_index_or bs x.first zero_block)))
     (find-added rs bs i r q (λ j h. none (suc j) (omega arith)))
     ∙ either _ _ _ _ _ (both_at q x.start r.start (none 0 (omega arith)))
 
 -- a block is written over
 pub overwritten : (rs : List Run) (bs : List (List ℕ)) (i : ℕ) (r : Run) (b : List ℕ) → IsSorted rs
-    → i < length rs → r ≡ get_or rs i r → r.slot < length bs → occurrences r.slot (slots_of rs) ≤ 1
-    → contents_of rs (set bs r.slot b) ≡ map.insert (contents_of rs bs) r.start b
+    → i < length rs → r ≡ get_or rs i r → r.first < length bs → occurrences r.first (slots_of rs) ≤ 1
+    → contents_of rs (set bs r.first b) ≡ map.insert (contents_of rs bs) r.start b
 overwritten rs bs i r b rises h e low once =
-    one_put (mapped_blocks rs bs) (mapped_blocks rs (set bs r.slot b)) r.start b
+    one_put (mapped_blocks rs bs) (mapped_blocks rs (set bs r.first b)) r.start b
     (λ q. find-overwritten rs bs i r b q rises h e low once)
 
 -- a block is added in a slot that no record has
 pub added : (rs : List Run) (bs : List (List ℕ)) (i : ℕ) (r : Run) (b : List ℕ)
-    → ((j : ℕ) → j < length rs → start_of rs j ≢ r.start) → r.slot < length bs
-    → occurrences r.slot (slots_of rs) ≡ 0
-    → contents_of (insert rs i r) (set bs r.slot b) ≡ map.insert (contents_of rs bs) r.start b
+    → ((j : ℕ) → j < length rs → start_of rs j ≢ r.start) → r.first < length bs
+    → occurrences r.first (slots_of rs) ≡ 0
+    → contents_of (insert rs i r) (set bs r.first b) ≡ map.insert (contents_of rs bs) r.start b
 added rs bs i r b none low free =
-    one_put (mapped_blocks rs bs) (mapped_blocks (insert rs i r) (set bs r.slot b)) r.start b (λ q.
-    find-added rs (set bs r.slot b) i r q none
+    one_put (mapped_blocks rs bs) (mapped_blocks (insert rs i r) (set bs r.first b)) r.start b (λ q.
+    find-added rs (set bs r.first b) i r q none
     ∙ ap₂ (λ v es. cond (eq_by_cmp nat_cmp q r.start) (Some v) (find nat_cmp q es))
-    (get_or-set_same bs r.slot b zero_block low) (entries-set rs bs r.slot b free))
+    (get_or-set_same bs r.first b zero_block low) (entries-set rs bs r.first b free))

@@ -10,7 +10,7 @@ use Rattle.sg_blocks.specs.Slots.{slots_of, one_if_equal, occurrences, IsEachOnc
 use Rattle.sg_blocks.specs.declared.run.Run.{Run}
 use Rattle.sg_blocks.proofs.DiskLemmas.{len-replaced}
 use Rattle.sg_blocks.proofs.RecordLemmas.{len-contents_of}
-use Rattle.sg_blocks.proofs.OccurrenceLemmas.{occurrences-append, occurrences-more, occurrences-at}
+use Rattle.sg_blocks.proofs.OccurrenceLemmas.{same_slot, occurrences-append, occurrences-more, occurrences-at}
 use Rattle.sg_blocks.proofs.OccurrenceLemmas.{occurrences-insert, once-le, below_count}
 use Rattle.sg_blocks.proofs.IndexLemmas.{sorted-insert, mapped_among-indices}
 use Rattle.sg_blocks.proofs.BlockLemmas.{added, overwritten}
@@ -20,9 +20,6 @@ pub parted : (t s : ℕ) (used free : List ℕ) → occurrences t (used ++ s ∷
     occurrences t used + (one_if_equal t s + occurrences t free)
 parted t s used free = occurrences-append t used (s ∷ free)
     ∙ ap (λ n. occurrences t used + n) (occurrences-more t s free)
-
-pub same_slot : (s : ℕ) → one_if_equal s s ≡ 1
-same_slot s = ap (λ (b : Bool). cond b 1 0) (eq-eqb s s refl)
 
 -- a slot that is taken is among the slots, and no record has it
 pub taken_below : (count : ℕ) (used free : List ℕ) (s : ℕ) → IsEachOnce count (used ++ s ∷ free) → s < count
@@ -36,15 +33,15 @@ taken_unused count used free s once =
     once-le count (used ++ s ∷ free) s once in omega arith
 
 taken_once : (count : ℕ) (rs : List Run) (free : List ℕ) (i : ℕ) (r : Run)
-    → IsEachOnce count (slots_of rs ++ r.slot ∷ free)
+    → IsEachOnce count (slots_of rs ++ r.first ∷ free)
     → IsEachOnce count (slots_of (insert rs i r) ++ free)
 taken_once count rs free i r once = record {
   each = λ t.
-      let p = parted t r.slot (slots_of rs) free in let d =
+      let p = parted t r.first (slots_of rs) free in let d =
       occurrences-append t (slots_of (insert rs i r)) free in let e =
       occurrences-insert t rs i r in
       let same : occurrences t (slots_of (insert rs i r) ++ free) ≡
-      occurrences t (slots_of rs ++ r.slot ∷ free) = omega arith in same ∙ once.each t;
+      occurrences t (slots_of rs ++ r.first ∷ free) = omega arith in same ∙ once.each t;
 }
 
 used_once : (count : ℕ) (used free : List ℕ) (s : ℕ) → IsEachOnce count (used ++ free)
@@ -57,14 +54,14 @@ pub have_slots : (rs : List Run) (bs : List (List ℕ)) (free : List ℕ) (room 
     → IsConsistent rs bs free room → HaveSlots rs (length bs)
 have_slots rs bs free room consistent i r h e =
     let some = occurrences-at rs i r h (sym e) in
-    let both = occurrences-append r.slot (slots_of rs) free in
-    below_count (length bs) (slots_of rs ++ free) r.slot consistent.once (omega arith)
+    let both = occurrences-append r.first (slots_of rs) free in
+    below_count (length bs) (slots_of rs ++ free) r.first consistent.once (omega arith)
 
 -- a block more
 pub consistent-added : (rs : List Run) (bs : List (List ℕ)) (free : List ℕ) (room i : ℕ) (r : Run)
-    (b : List ℕ) → IsConsistent rs bs (r.slot ∷ free) room → IsLowerBound rs i r.start
+    (b : List ℕ) → IsConsistent rs bs (r.first ∷ free) room → IsLowerBound rs i r.start
     → ((j : ℕ) → j < length rs → start_of rs j ≢ r.start)
-    → IsConsistent (insert rs i r) (set bs r.slot b) free room
+    → IsConsistent (insert rs i r) (set bs r.first b) free room
 consistent-added rs bs free room i r b consistent p none =
     let len : length (insert rs i r) ≡ length rs + 1 = length-insert rs i r p.within in
     record {
@@ -75,12 +72,12 @@ consistent-added rs bs free room i r b consistent p none =
     }
 
 pub contents-added : (rs : List Run) (bs : List (List ℕ)) (free : List ℕ) (room i : ℕ) (r : Run)
-    (b : List ℕ) → IsConsistent rs bs (r.slot ∷ free) room
+    (b : List ℕ) → IsConsistent rs bs (r.first ∷ free) room
     → ((j : ℕ) → j < length rs → start_of rs j ≢ r.start)
-    → contents_of (insert rs i r) (set bs r.slot b) ≡ map.insert (contents_of rs bs) r.start b
+    → contents_of (insert rs i r) (set bs r.first b) ≡ map.insert (contents_of rs bs) r.start b
 contents-added rs bs free room i r b consistent none =
-    added rs bs i r b none (taken_below (length bs) (slots_of rs) free r.slot consistent.once)
-    (taken_unused (length bs) (slots_of rs) free r.slot consistent.once)
+    added rs bs i r b none (taken_below (length bs) (slots_of rs) free r.first consistent.once)
+    (taken_unused (length bs) (slots_of rs) free r.first consistent.once)
 
 -- a block written over
 pub consistent-over : (rs : List Run) (bs : List (List ℕ)) (free : List ℕ) (room s : ℕ) (b : List ℕ)
@@ -94,11 +91,11 @@ consistent-over rs bs free room s b consistent = record {
 
 pub contents-over : (rs : List Run) (bs : List (List ℕ)) (free : List ℕ) (room i : ℕ) (r : Run)
     (b : List ℕ) → IsConsistent rs bs free room → i < length rs → r ≡ get_or rs i r
-    → contents_of rs (set bs r.slot b) ≡ map.insert (contents_of rs bs) r.start b
+    → contents_of rs (set bs r.first b) ≡ map.insert (contents_of rs bs) r.start b
 contents-over rs bs free room i r b consistent h e =
     overwritten rs bs i r b consistent.sorted h e
     (have_slots rs bs free room consistent i r h (sym e))
-    (used_once (length bs) (slots_of rs) free r.slot consistent.once)
+    (used_once (length bs) (slots_of rs) free r.first consistent.once)
 
 -- the slots that a range needs, from the indices where it begins and ends
 pub len-after : (rs : List Run) (bs : List (List ℕ)) (free : List ℕ) (room i j a k : ℕ)

@@ -14,7 +14,8 @@ use Rattle.sg_blocks.specs.LbaStatus.{code_of, count_alike, covered, descriptor_
 use Rattle.sg_blocks.specs.Records.{start_of, IsSorted, IsLowerBound, IsNext, ahead, contents_of}
 use Rattle.sg_blocks.specs.Slots.{IsConsistent}
 use Rattle.sg_blocks.specs.Table.{Table, visited}
-use Rattle.sg_blocks.specs.PlainMap.Editing.{IsAt, VisitsRange, run_at}
+use Rattle.sg_blocks.specs.PlainMap.Editing.{IsAt, VisitsRange}
+use Rattle.sg_blocks.specs.Records.{run_at}
 use Rattle.sg_blocks.specs.PlainMap.Status.{IsTableOf, AreInRow, end_of_gap}
 use Rattle.sg_blocks.specs.declared.lba_status.ProvisioningStatus.{ProvisioningStatus}
 use Rattle.sg_blocks.specs.declared.lba_status.ProvisioningStatus.TheVariants.{Mapped, Deallocated}

@@ -6,8 +6,9 @@ use Rattle.std.specs.Prelude.{slice_index_or, insert}
 use Rattle.sg_blocks.specs.Disk.{Contents}
 use Rattle.sg_blocks.specs.Records.{contents_of, start_of, IsLowerBound, IsNext, mapped_at}
 use Rattle.sg_blocks.specs.Slots.{Slots, IsConsistent}
-use Rattle.sg_blocks.specs.PlainMap.Draft.{Drafted, pushed}
-use Rattle.sg_blocks.specs.PlainMap.Editing.{run_at, edited, IsEditing}
+use Rattle.sg_blocks.specs.Draft.{Drafted, pushed}
+use Rattle.sg_blocks.specs.PlainMap.Editing.{edited, IsEditing}
+use Rattle.sg_blocks.specs.Records.{run_at}
 use Rattle.sg_blocks.specs.declared.run.Run.{Run}
 use Rattle.sg_blocks.specs.declared.plain_map.cursor.Cursor.{Cursor}
 use Rattle.sg_blocks.proofs.RecordLemmas.{none_at, none_mapped, one_mapped, index-mapped}
@@ -46,10 +47,10 @@ module _ {rs : List Run} {room : ℕ} {slots : Slots} {draft : Drafted} {cursor 
     unmapped-there = none_mapped now slots.blocks lba not-there
 
     module _ (slots' : Slots) (draft' : Drafted) (run : Run) (b : List ℕ)
-        (taken : slots.free ≡ run.slot ∷ slots'.free)
-        (put : slots'.blocks ≡ set slots.blocks run.slot b) (start : run.start ≡ lba)
+        (taken : slots.free ≡ run.first ∷ slots'.free)
+        (put : slots'.blocks ≡ set slots.blocks run.first b) (start : run.start ≡ lba)
         (drafted : draft' ≡ pushed draft run) where
-      consistent : IsConsistent now slots.blocks (run.slot ∷ slots'.free) room
+      consistent : IsConsistent now slots.blocks (run.first ∷ slots'.free) room
       consistent = rw taken at h.consistent
 
       index : IsLowerBound now at run.start
@@ -85,14 +86,14 @@ module _ {rs : List Run} {room : ℕ} {slots : Slots} {draft : Drafted} {cursor 
     there = next-splice rs draft.records draft.from cursor.index (Some run)
         (omega (arith, h.within)) h.within.1 (here.0, here.1)
 
-    pub slot-there : run.slot < length slots.blocks
+    pub slot-there : run.first < length slots.blocks
     slot-there = have_slots now slots.blocks slots.free room h.consistent at run there.0 there.1
 
     pub mapped-there : mapped_at (contents slots draft cursor) lba ≡ 1
     mapped-there = one_mapped now slots.blocks at lba run h.consistent.sorted there.0 (sym there.1) here.2
 
     module _ (slots' : Slots) (draft' : Drafted) (b : List ℕ) (cursor' : Cursor)
-        (free : slots'.free ≡ slots.free) (put : slots'.blocks ≡ set slots.blocks run.slot b)
+        (free : slots'.free ≡ slots.free) (put : slots'.blocks ≡ set slots.blocks run.first b)
         (drafted : draft' ≡ pushed draft run) (moved : cursor'.index ≡ cursor.index + 1) where
       kept : edited rs draft' cursor' ≡ now
       kept =
@@ -114,7 +115,7 @@ module _ {rs : List Run} {room : ℕ} {slots : Slots} {draft : Drafted} {cursor 
           → IsEditing rs room slots' draft' cursor' (lba + 1)
       over-editing next = record {
         consistent = rw (kept, put, free)
-            (consistent-over now slots.blocks slots.free room run.slot b h.consistent);
+            (consistent-over now slots.blocks slots.free room run.first b h.consistent);
         within = (omega (arith, starts, moved, h.within), omega (arith, moved, here.0));
         next = next;
         index = rw (kept, drafted, on run)

@@ -45,7 +45,7 @@ get_or_any (x ∷ rs) (suc i) d e h = get_or_any rs i d e (omega arith)
 pub contains-start : (rs : List Run) (bs : List (List ℕ)) (i : ℕ) → IsSorted rs → i < length rs
     → contains_key (contents_of rs bs) (start_of rs i) ≡ true
 contains-start rs bs i rises h =
-    let r : Run = get_or rs i (record { start = 0; slot = 0 }) in
+    let r : Run = get_or rs i (record { start = 0; count = 0; first = 0; last = 0 }) in
     let same : r ≡ get_or rs i r = get_or_any rs i _ r h in
     ap (contains_key (contents_of rs bs)) (sym (start_of-read rs i r h same))
     ∙ contains-mapped rs bs i r rises h same

@@ -3,6 +3,7 @@ pub mod DiskLemmas
 pub mod WriteLemmas
 pub mod OccurrenceLemmas
 pub mod ChainLemmas
+pub mod LinkLemmas
 pub mod HalvingLemmas
 pub mod RecordLemmas
 pub mod SpliceLemmas

@@ -12,6 +12,9 @@ pub not_equal : (t x : ℕ) → one_if_equal t x ≡ 0 → x ≢ t
 not_equal t x none e = let one : one_if_equal t x ≡ 1 =
     ap (λ (b : Bool). cond b 1 0) (eq-eqb x t e) in absurd (omega arith)
 
+pub same_slot : (s : ℕ) → one_if_equal s s ≡ 1
+same_slot s = ap (λ (b : Bool). cond b 1 0) (eq-eqb s s refl)
+
 pub occurrences-append : (t : ℕ) (xs ys : List ℕ) → occurrences t (xs ++ ys) ≡
     occurrences t xs + occurrences t ys
 unfolding occurrences
@@ -66,16 +69,16 @@ once-range (suc n) =
 
 -- the slot of record i
 pub occurrences-at : (rs : List Run) (i : ℕ) (r : Run) → i < length rs → r ≡ get_or rs i r
-    → 1 ≤ occurrences r.slot (slots_of rs)
+    → 1 ≤ occurrences r.first (slots_of rs)
 unfolding occurrences
 occurrences-at [] i r h e = absurd (omega arith)
-occurrences-at (x ∷ rs) zero r h e = let one : one_if_equal r.slot x.slot ≡ 1 =
-    ap (λ (c : Bool). cond c 1 0) (eq-eqb x.slot r.slot (ap (λ (y : Run). y.slot) (sym e))) in
+occurrences-at (x ∷ rs) zero r h e = let one : one_if_equal r.first x.first ≡ 1 =
+    ap (λ (c : Bool). cond c 1 0) (eq-eqb x.first r.first (ap (λ (y : Run). y.first) (sym e))) in
     omega arith
 occurrences-at (x ∷ rs) (suc i) r h e = omega (arith, occurrences-at rs i r (omega arith) e)
 
 pub occurrences-insert : (t : ℕ) (rs : List Run) (i : ℕ) (r : Run)
-    → occurrences t (slots_of (insert rs i r)) ≡ one_if_equal t r.slot + occurrences t (slots_of rs)
+    → occurrences t (slots_of (insert rs i r)) ≡ one_if_equal t r.first + occurrences t (slots_of rs)
 unfolding occurrences
 occurrences-insert t rs zero r = refl
 occurrences-insert t [] (suc i) r = refl

@@ -36,11 +36,11 @@ find-unmapped (r ∷ rs) bs q none =
 -- a record has the address
 pub find-mapped : (rs : List Run) (bs : List (List ℕ)) (i : ℕ) (r : Run) → IsSorted rs
     → i < length rs → r ≡ get_or rs i r → find nat_cmp r.start (mapped_blocks rs bs) ≡
-    Some (slice_index_or bs r.slot zero_block)
+    Some (slice_index_or bs r.first zero_block)
 find-mapped [] bs i r rises h e = absurd (omega arith)
 find-mapped (x ∷ rs) bs zero r rises h e =
     rw (eq_same r.start x.start (ap (λ (y : Run). y.start) e))
-    (ap (λ (y : Run). Some (slice_index_or bs y.slot zero_block)) (sym e))
+    (ap (λ (y : Run). Some (slice_index_or bs y.first zero_block)) (sym e))
 find-mapped (x ∷ rs) bs (suc i) r rises h e =
     let at : r.start ≡ start_of rs i = start_of-read rs i r (omega arith) e in
     let above : x.start < start_of rs i = rises 0 (suc i) (omega arith) (omega arith) in
@@ -56,7 +56,7 @@ block-unmapped rs bs q none = ap (λ (o : Option (List ℕ)). unwrap_or o zero_b
 -- and the one at an address that a record has
 pub block-mapped : (rs : List Run) (bs : List (List ℕ)) (i : ℕ) (r : Run) → IsSorted rs
     → i < length rs → r ≡ get_or rs i r → block (contents_of rs bs) r.start ≡
-    slice_index_or bs r.slot zero_block
+    slice_index_or bs r.first zero_block
 block-mapped rs bs i r rises h e =
     ap (λ (o : Option (List ℕ)). unwrap_or o zero_block)
     (get-from_entries nat_cmp_total (mapped_blocks rs bs) r.start ∙ find-mapped rs bs i r rises h e)
@@ -150,6 +150,6 @@ len-contents_of (r ∷ rs) bs rises =
     (λ i h e. let up : r.start < start_of rs i = rises 0 (suc i) (omega arith) (omega arith) in
     absurd (omega arith)) in
     let rest = len-contents_of rs bs (sorted_tail r rs rises) in
-    len-insert nat_cmp_total (contents_of rs bs) r.start (slice_index_or bs r.slot zero_block)
+    len-insert nat_cmp_total (contents_of rs bs) r.start (slice_index_or bs r.first zero_block)
     ∙ ap (λ (b : Bool). cond b (len (contents_of rs bs)) (len (contents_of rs bs) + 1)) none
     ∙ omega arith

@@ -17,11 +17,11 @@ use Rattle.sg_blocks.specs.Records.{start_of, IsSorted, IsLowerBound, mapped_blo
 use Rattle.sg_blocks.specs.Slots.{slots_of, occurrences, IsConsistent}
 use Rattle.sg_blocks.specs.declared.run.Run.{Run}
 use Rattle.sg_blocks.proofs.DiskLemmas.{eq_other}
-use Rattle.sg_blocks.proofs.OccurrenceLemmas.{occurrences-append, occurrences-insert, once-le, below_count}
+use Rattle.sg_blocks.proofs.OccurrenceLemmas.{same_slot, occurrences-append, occurrences-insert, once-le, below_count}
 use Rattle.sg_blocks.proofs.RecordLemmas.{find-unmapped}
 use Rattle.sg_blocks.proofs.IndexLemmas.{start_of-insert_below, start_of-insert_above}
 use Rattle.sg_blocks.proofs.SpliceLemmas.{front_of, insert-splice, same-splice}
-use Rattle.sg_blocks.proofs.ConsistencyLemmas.{parted, same_slot}
+use Rattle.sg_blocks.proofs.ConsistencyLemmas.{parted}
 
 -- what is found at an address afterwards
 pub get-unmapped : (m : Contents) (a k q : ℕ) → map.get (unmapped m a k) q ≡
@@ -79,15 +79,15 @@ sorted-removed rs i r within rises x y lt below =
 -- the slot of a record is free instead
 consistent-removed : (rs : List Run) (bs : List (List ℕ)) (free : List ℕ) (room i : ℕ) (r : Run)
     → i ≤ length rs → IsConsistent (insert rs i r) bs free room
-    → IsConsistent rs bs (r.slot ∷ free) room
+    → IsConsistent rs bs (r.first ∷ free) room
 consistent-removed rs bs free room i r within consistent = record {
   sorted = sorted-removed rs i r within consistent.sorted;
   once = record {
     each = λ t.
-        let p = parted t r.slot (slots_of rs) free in let d =
+        let p = parted t r.first (slots_of rs) free in let d =
         occurrences-append t (slots_of (insert rs i r)) free in let e =
         occurrences-insert t rs i r in
-        let same : occurrences t (slots_of rs ++ r.slot ∷ free) ≡
+        let same : occurrences t (slots_of rs ++ r.first ∷ free) ≡
         occurrences t (slots_of (insert rs i r) ++ free) = omega arith in same
         ∙ consistent.once.each t;
   };
@@ -98,14 +98,14 @@ consistent-removed rs bs free room i r within consistent = record {
 -- what may be said of the slot of a record
 slot-used : (rs : List Run) (bs : List (List ℕ)) (free : List ℕ) (room i : ℕ) (r : Run)
     → i ≤ length rs → IsConsistent (insert rs i r) bs free room
-    → (r.slot < length bs) × (occurrences r.slot free ≡ 0) × (length free < room)
+    → (r.first < length bs) × (occurrences r.first free ≡ 0) × (length free < room)
 slot-used rs bs free room i r within consistent =
     let slots = slots_of (insert rs i r) ++ free in
-    let both = occurrences-append r.slot (slots_of (insert rs i r)) free in
-    let some = occurrences-insert r.slot rs i r in
-    let one = same_slot r.slot in
-    let at_most = once-le (length bs) slots r.slot consistent.once in (
-      below_count (length bs) slots r.slot consistent.once (omega arith),
+    let both = occurrences-append r.first (slots_of (insert rs i r)) free in
+    let some = occurrences-insert r.first rs i r in
+    let one = same_slot r.first in
+    let at_most = once-le (length bs) slots r.first consistent.once in (
+      below_count (length bs) slots r.first consistent.once (omega arith),
       omega arith,
       omega (arith, consistent.count, length-insert rs i r within),
     )
@@ -127,10 +127,10 @@ module _ (rs : List Run) (from i : ℕ) (r : Run) (le : from ≤ i) (lt : i < le
 
   module _ (bs : List (List ℕ)) (free : List ℕ) (room : ℕ)
       (h : IsConsistent (splice rs from i []) bs free room) where
-    pub unmapped-slot : (r.slot < length bs) × (occurrences r.slot free ≡ 0) × (length free < room)
+    pub unmapped-slot : (r.first < length bs) × (occurrences r.first free ≡ 0) × (length free < room)
     unmapped-slot = slot-used less bs free room from r within (rw one_less at h)
 
-    pub unmapped-consistent : IsConsistent less bs (r.slot ∷ free) room
+    pub unmapped-consistent : IsConsistent less bs (r.first ∷ free) room
     unmapped-consistent = consistent-removed less bs free room from r within (rw one_less at h)
 
 -- the address of a record that stays
@@ -150,7 +150,7 @@ find-splice rs bs zero to q le other = find-drop rs bs to q (λ i lt h. other i 
 find-splice rs bs (suc from) zero q le other = absurd (omega arith)
 find-splice [] bs (suc from) (suc to) q le other = refl
 find-splice (x ∷ rs) bs (suc from) (suc to) q le other =
-    ap (cond _ (Some (slice_index_or bs x.slot zero_block)))
+    ap (cond _ (Some (slice_index_or bs x.first zero_block)))
     (find-splice rs bs from to q (omega arith)
     (λ i ge lt h. other (suc i) (omega arith) (omega arith) (omega arith)))
 

@@ -12,4 +12,5 @@ pub mod Records
 pub mod Slots
 pub mod Chains
 pub mod Table
+pub mod Draft
 pub mod PlainMap

@@ -1,4 +1,3 @@
-pub mod Draft
 pub mod Editing
 pub mod State
 pub mod Status

@@ -1,10 +1,13 @@
--- The table of records, of which each maps one address to a slot, and the contents that it stands
--- for.
+-- The table of records. Where each maps one address to a slot, it stands for the contents of a disk.
 use Rattle.std.specs.Prelude.{◌≡◌, ℕ, ◌<◌, ◌≤◌, zero, suc, List, [], ◌∷◌, length, slice_index_or}
-use Rattle.std.specs.Prelude.{Option, Some, None, if◌then◌else◌}
+use Rattle.std.specs.Prelude.{Option, Some, None, if◌then◌else◌, ◌==◌}
 use Rattle.std.specs.FinMap.{from_entries, contains_key}
 use Rattle.sg_blocks.specs.Disk.{Contents, zero_block}
 use Rattle.sg_blocks.specs.declared.run.Run.{Run}
+
+-- A record of one address.
+abbrev pub single : (start slot : ℕ) → Run
+single start slot = record { start = start; count = 1; first = slot; last = slot }
 
 -- The address of the record at an index.
 abbrev pub start_of : List Run → ℕ → ℕ
@@ -20,7 +23,7 @@ IsSorted records = (i j : ℕ) → i < j → j < length records → start_of rec
 abbrev pub mapped_blocks : List Run → (blocks : List (List ℕ)) → List (ℕ × List ℕ)
 mapped_blocks [] blocks = []
 mapped_blocks (run ∷ records) blocks =
-    (run.start, slice_index_or blocks run.slot zero_block) ∷ mapped_blocks records blocks
+    (run.start, slice_index_or blocks run.first zero_block) ∷ mapped_blocks records blocks
 
 -- The contents that the records and the blocks of the slots stand for.
 abbrev pub contents_of : List Run → (blocks : List (List ℕ)) → Contents
@@ -29,7 +32,7 @@ contents_of records blocks = from_entries (mapped_blocks records blocks)
 -- The slot of each record is below `count`.
 abbrev pub HaveSlots : List Run → (count : ℕ) → Type 0
 HaveSlots records count = (i : ℕ) (run : Run) →
-    i < length records → slice_index_or records i run ≡ run → run.slot < count
+    i < length records → slice_index_or records i run ≡ run → run.first < count
 
 -- The index of the first record that is not before the address, or the end of the table.
 pub record IsLowerBound (records : List Run) (index lba : ℕ) : Type 0 where
@@ -41,6 +44,11 @@ pub record IsLowerBound (records : List Run) (index lba : ℕ) : Type 0 where
 abbrev pub IsNext : List Run → (index : ℕ) → Option Run → Type 0
 IsNext records index None = length records ≤ index
 IsNext records index (Some run) = (index < length records) × (slice_index_or records index run ≡ run)
+
+-- The record, if it is that of the address.
+abbrev pub run_at : Option Run → (lba : ℕ) → Option Run
+run_at None lba = None
+run_at (Some run) lba = if run.start == lba then Some run else None
 
 -- One where a record was visited before its address is reached.
 abbrev pub ahead : Option Run → ℕ

@@ -3,15 +3,22 @@ use Rattle.std.specs.Prelude.{◌≡◌, ℕ, ◌+◌, List, [], ◌∷◌, ◌+
 use Rattle.sg_blocks.specs.declared.run.Run.{Run}
 use Rattle.sg_blocks.specs.Records.{IsSorted}
 
--- The blocks of the slots, and the slots that are free.
+-- The blocks of the slots, the link of each slot to the next one of its chain, the slots that are
+-- free, and the links that were followed since the last restart.
 pub record Slots : Type 0 where
   pub blocks : List (List ℕ)
+  pub next : List ℕ
   pub free : List ℕ
+  pub links : ℕ
 
--- The slots of the records.
+-- `count` links were followed.
+abbrev pub followed : Slots → (count : ℕ) → Slots
+followed slots count = record slots { links = slots.links + count }
+
+-- The first slots of the records.
 abbrev pub slots_of : List Run → List ℕ
 slots_of [] = []
-slots_of (run ∷ records) = run.slot ∷ slots_of records
+slots_of (run ∷ records) = run.first ∷ slots_of records
 
 -- One where the numbers are equal.
 abbrev pub one_if_equal : ℕ → ℕ → ℕ

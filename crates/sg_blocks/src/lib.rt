@@ -2,15 +2,16 @@
 //! blocks.
 #![tactic(auto)]
 
-mod ghost_number;
+pub mod draft;
+pub mod ghost_number;
 pub mod laws;
-mod lba_status;
+pub mod lba_status;
 mod plain_map;
-mod pool;
-mod run;
-mod source;
+pub mod pool;
+pub mod run;
+pub mod source;
 mod store;
-mod table;
+pub mod table;
 
 pub use plain_map::PlainMap;
 pub use store::{BLOCK_LENGTH, Counts, MAX_CAPACITY, MAX_COUNT, MAX_POOL, Space, Store};

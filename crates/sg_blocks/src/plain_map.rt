@@ -1,5 +1,4 @@
 mod cursor;
-mod draft;
 mod read;
 mod status;
 mod unmap;
@@ -14,12 +13,12 @@ ghost use Rattle.sg_blocks.specs.PlainMap.Editing.{stored};
 ghost use Rattle.sg_blocks.specs.Slots.{IsConsistent};
 ghost use Rattle.sg_blocks.specs.declared.store.TheConstants.{MAX_CAPACITY, MAX_POOL};
 
+use crate::draft::Draft;
 use crate::lba_status::write_status_data;
 use crate::pool::Pool;
 use crate::source::Source;
 use crate::store::{BLOCK_LENGTH, Counts, Space, Store};
 use crate::table::RunTable;
-use draft::Draft;
 use read::read_blocks;
 use sg_wire::Cut;
 use status::describe_from;

@@ -1,21 +1,24 @@
 // The blocks of the mapped addresses.
-ghost use Rattle.std.specs.Prelude.{◌≡◌, ◌<◌, ◌+◌, ◌∷◌, ◌≤◌, length, slice_index_or, slice_set, IfOk};
+ghost use Rattle.std.specs.Prelude.{◌≡◌, ◌<◌, ◌+◌, ◌∷◌, ◌++◌, ◌≤◌, length, IfOk};
+ghost use Rattle.std.specs.Prelude.{slice_index, slice_index_or, slice_set};
 ghost use Rattle.std.specs.List.{range_with_len};
+ghost use Rattle.sg_blocks.specs.Chains.{chain, AreBelow, IsChain};
 ghost use Rattle.sg_blocks.specs.Disk.{zero_block};
-ghost use Rattle.sg_blocks.specs.Slots.{IsEachOnce, occurrences};
+ghost use Rattle.sg_blocks.specs.Slots.{IsEachOnce, occurrences, followed};
 
 use crate::store::{BLOCK_LENGTH, MAX_POOL};
 use std::alloc::{AllocError, Global};
 use std::marker::Model;
 
-/// Slots of one block each. The free ones are a chain, in which each slot has the number of the
-/// next.
+/// Slots of one block each, with a link from each slot to the next one of its chain. The free slots
+/// are a chain.
 #[derive(Drop)]
 pub struct Pool {
     blocks: Vec<[u8; BLOCK_LENGTH]>,
     next: Vec<u32>,
     first_free: u32,
     free_count: u32,
+    links: u64,
 }
 
 impl Model for Pool {
@@ -27,11 +30,13 @@ impl Model for Pool {
 
     ghost view = { λ p. record {
       blocks = p.blocks.items;
+      next = p.next.items;
       free = chain p.next.items p.first_free p.free_count;
+      links = p.links;
     } };
 
     ghost invariant = { λ p. (length p.next.items ≡ length p.blocks.items)
-        × AreBelow (length p.blocks.items) (chain p.next.items p.first_free p.free_count) };
+        × AreBelow (length p.next.items) (chain p.next.items p.first_free p.free_count) };
 }
 
 /// The links of `count` slots, from each to the one after it.
@@ -56,12 +61,15 @@ impl Pool {
         ensures blocks { IfOk result (λ pool. length pool.blocks ≡ count) }
         ensures free_count { IfOk result (λ pool. length pool.free ≡ count) }
         ensures free { IfOk result (λ pool. IsEachOnce count pool.free) }
+        ensures next { IfOk result (λ pool. length pool.next ≡ count) }
+        ensures links { IfOk result (λ pool. pool.links ≡ 0) }
     {
         Ok(Pool {
             blocks: vec![in alloc; [0; BLOCK_LENGTH]; count as usize]?,
             next: links(alloc, count)?,
             first_free: 0,
             free_count: count,
+            links: 0,
         })
     }
 
@@ -84,8 +92,7 @@ impl Pool {
     pub fn set(&mut self, slot: u32, bytes: &[u8])
         requires slot { slot < length self.old.blocks }
         requires byte_count { length bytes.now ≡ BLOCK_LENGTH }
-        ensures blocks { self.new.blocks ≡ slice_set self.old.blocks slot bytes.now }
-        ensures free { self.new.free ≡ self.old.free }
+        ensures { self.new ≡ record self.old { blocks = slice_set self.old.blocks slot bytes.now } }
     {
         self.blocks[slot as usize].copy_from_slice(bytes);
     }
@@ -94,7 +101,7 @@ impl Pool {
     pub fn take(&mut self) -> u32
         requires { 0 < length self.old.free }
         ensures free { self.old.free ≡ result ∷ self.new.free }
-        ensures blocks { self.new.blocks ≡ self.old.blocks }
+        ensures pool { self.new ≡ record self.old { free = self.new.free } }
     {
         let slot = self.first_free;
         self.first_free = self.next[slot as usize];
@@ -113,5 +120,64 @@ impl Pool {
         self.next[slot as usize] = self.first_free;
         self.first_free = slot;
         self.free_count += 1;
+    }
+
+    /// Frees the slots of a chain, which are taken again before the others that are free.
+    pub fn give_chain(&mut self, first: u32, last: u32, count: u32)
+        requires chain { IsChain self.old.next first last count }
+        requires slots { AreBelow (length self.old.next) (chain self.old.next first count) }
+        requires last { last < length self.old.next }
+        requires once { occurrences last (chain self.old.next first count ++ self.old.free) ≡ 1 }
+        requires room { count + length self.old.free ≤ MAX_POOL }
+
+        // Only the link of the last slot changes.
+        ensures free { self.new.free ≡ chain self.old.next first count ++ self.old.free }
+        ensures next { self.new.next ≡ slice_set self.old.next last (slice_index self.new.next last) }
+        ensures pool { self.new ≡ record self.old { next = self.new.next; free = self.new.free } }
+    {
+        self.next[last as usize] = self.first_free;
+        self.first_free = first;
+        self.free_count += count;
+    }
+
+    /// Links a slot that is not free to the next one of its chain.
+    pub fn link(&mut self, slot: u32, next: u32)
+        requires slot { slot < length self.old.next }
+        requires used { occurrences slot self.old.free ≡ 0 }
+        ensures { self.new ≡ record self.old { next = slice_set self.old.next slot next } }
+    {
+        self.next[slot as usize] = next;
+    }
+
+    /// The slot after another in its chain, which counts as a link that was followed.
+    pub fn next(&mut self, slot: u32) -> u32
+        requires slot { slot < length self.old.next }
+        requires headroom { self.old.links < u64.MAX }
+        ensures value { result ≡ slice_index self.old.next slot }
+        ensures pool { self.new ≡ followed self.old 1 }
+    {
+        self.links += 1;
+        self.next[slot as usize]
+    }
+
+    /// How many slots there are.
+    pub fn count(&self) -> usize
+        ensures { result ≡ length self.now.blocks }
+    {
+        self.blocks.len()
+    }
+
+    /// How many links were followed since the last restart.
+    pub fn links(&self) -> u64
+        ensures { result ≡ self.now.links }
+    {
+        self.links
+    }
+
+    /// Counts from nothing.
+    pub fn restart_links(&mut self)
+        ensures { self.new ≡ record self.old { links = 0 } }
+    {
+        self.links = 0;
     }
 }

@@ -1,6 +1,30 @@
-/// A record of the map: an address that is mapped, and the slot of its block.
+ghost use Rattle.std.specs.Prelude.{◌≡◌};
+ghost use Rattle.sg_blocks.specs.Records.{single};
+
+/// A record of the map: mapped addresses in a row, and the chain of slots that has their blocks. In
+/// a [`PlainMap`](crate::PlainMap) each record has one address.
 #[derive(Clone, Copy)]
 pub struct Run {
+    /// The first address.
     pub start: u64,
-    pub slot: u32,
+    /// The number of addresses.
+    pub count: u32,
+    /// The slot of the first address.
+    pub first: u32,
+    /// The slot of the last address.
+    pub last: u32,
+}
+
+impl Run {
+    /// A run of one address.
+    pub fn single(start: u64, slot: u32) -> Run
+        ensures { result ≡ single start slot }
+    {
+        Run {
+            start,
+            count: 1,
+            first: slot,
+            last: slot,
+        }
+    }
 }

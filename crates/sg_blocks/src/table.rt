@@ -1,4 +1,4 @@
-ghost use Rattle.std.specs.Prelude.{◌≡◌, ◌+◌, ◌-◌, ◌<◌, ◌≤◌, length, slice_index_or, IfOk};
+ghost use Rattle.std.specs.Prelude.{◌≡◌, ◌+◌, ◌-◌, ◌*◌, ◌^◌, ◌<◌, ◌≤◌, length, slice_index_or, IfOk};
 ghost use Rattle.sg_blocks.specs.Records.{start_of, IsSorted, IsLowerBound};
 ghost use Rattle.sg_blocks.specs.Meter.{probe_bound};
 ghost use Rattle.sg_blocks.specs.Table.{new_table, visited, probed, search_bound, restarted_table};
@@ -127,6 +127,7 @@ impl RunTable {
         ensures table { self.new ≡ probed self.old (self.new.probes - self.old.probes) }
         ensures probes_rise { self.old.probes ≤ self.new.probes }
         ensures probe_count { self.new.probes ≤ self.old.probes + search_bound }
+        ensures halving { 2 ^ (self.new.probes - self.old.probes) ≤ 2 * length self.old.records + 1 }
     {
         let mut low = 0;
         let mut high = self.count();

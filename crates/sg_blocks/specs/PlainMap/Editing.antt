@@ -1,12 +1,12 @@
 -- Reading and editing the table in the order of addresses.
-use Rattle.std.specs.Prelude.{◌≡◌, ℕ, ◌+◌, ◌≤◌, List, length, Option, Some, None, if◌then◌else◌, ◌==◌}
+use Rattle.std.specs.Prelude.{◌≡◌, ℕ, ◌+◌, ◌≤◌, List, length}
 use Rattle.std.specs.List.{splice}
 use Rattle.sg_blocks.specs.Disk.{Contents}
 use Rattle.sg_blocks.specs.PlainCost.{plain_least, plain_price}
 use Rattle.sg_blocks.specs.Records.{IsLowerBound, IsNext, ahead, contents_of}
 use Rattle.sg_blocks.specs.Slots.{Slots, IsConsistent}
 use Rattle.sg_blocks.specs.Table.{Table}
-use Rattle.sg_blocks.specs.PlainMap.Draft.{Drafted}
+use Rattle.sg_blocks.specs.Draft.{Drafted}
 use Rattle.sg_blocks.specs.declared.run.Run.{Run}
 use Rattle.sg_blocks.specs.declared.plain_map.cursor.Cursor.{Cursor}
 use Rattle.sg_blocks.specs.declared.store.TheConstants.{MAX_CAPACITY, MAX_COUNT, MAX_POOL}
@@ -14,11 +14,6 @@ use Rattle.sg_blocks.specs.declared.store.TheConstants.{MAX_CAPACITY, MAX_COUNT,
 -- The contents that a table and slots stand for.
 abbrev pub stored : Table → Slots → Contents
 stored table slots = contents_of table.records slots.blocks
-
--- The record, if it is that of the address.
-abbrev pub run_at : Option Run → (lba : ℕ) → Option Run
-run_at None lba = None
-run_at (Some run) lba = if run.start == lba then Some run else None
 
 -- The cursor is at the first record that is not before the address, which was visited if there is
 -- one.

@@ -2,7 +2,7 @@
 ghost use Rattle.std.specs.Prelude.{◌≡◌, ◌<◌, ◌≤◌, length};
 ghost use Rattle.sg_blocks.specs.Records.{IsNext, ahead};
 ghost use Rattle.sg_blocks.specs.Table.{visited};
-ghost use Rattle.sg_blocks.specs.PlainMap.Editing.{run_at};
+ghost use Rattle.sg_blocks.specs.Records.{run_at};
 
 use crate::run::Run;
 use crate::table::RunTable;

@@ -41,7 +41,7 @@ fn read_block(
         bytes.fill(0);
         return cursor;
     };
-    bytes.copy_from_slice(pool.bytes(run.slot));
+    bytes.copy_from_slice(pool.bytes(run.first));
     Cursor::new(table, cursor.index + 1)
 }
 

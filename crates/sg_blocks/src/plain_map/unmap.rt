@@ -29,7 +29,7 @@ pub fn unmap_records(
 {
     for index in from..to {
         let run = table.visit(index);
-        pool.give(run.slot);
+        pool.give(run.first);
     }
     table.splice(from, to, &[]);
 }

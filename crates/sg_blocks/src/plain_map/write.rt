@@ -10,7 +10,7 @@ ghost use Rattle.sg_blocks.specs.PlainMap.Editing.{IsEditing, IsReady, VisitsRan
 ghost use Rattle.sg_blocks.specs.PlainMap.Editing.{edited_contents};
 
 use super::cursor::Cursor;
-use super::draft::Draft;
+use crate::draft::Draft;
 use crate::pool::Pool;
 use crate::run::Run;
 use crate::source::Source;
@@ -56,10 +56,10 @@ fn put_block(
     let Some(run) = cursor.run_at(lba) else {
         let slot = pool.take();
         pool.set(slot, bytes);
-        draft.push(Run { start: lba, slot });
+        draft.push(Run::single(lba, slot));
         return cursor;
     };
-    pool.set(run.slot, bytes);
+    pool.set(run.first, bytes);
     draft.push(run);
     Cursor::new(table, cursor.index + 1)
 }

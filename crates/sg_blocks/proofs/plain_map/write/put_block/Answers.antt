@@ -1,5 +1,8 @@
 use Rattle.std.proofs.Common.{◌+◌, length, ap, sym, ◌∙◌, arith, refl}
 use Rattle.sg_blocks.specs.Records.{ahead}
+use Rattle.sg_blocks.specs.Draft.{pushed}
+use Rattle.sg_blocks.specs.Records.{single}
+use Rattle.sg_blocks.specs.Slots.{Slots}
 use Rattle.sg_blocks.specs.Table.{visited}
 use Rattle.sg_blocks.specs.declared.run.Run.{Run}
 use Rattle.sg_blocks.proofs.ConsistencyLemmas.{taken_below}
@@ -15,27 +18,29 @@ take-slot-requires c = omega (arith, c.requires.free, unmapped-there c.requires.
 pub set-requires-clause-slot : goal.set-requires-clause-slot
 set-requires-clause-slot c =
     let consistent = rw c.take-slot.ensures.free at c.requires.editing.consistent in
-    rw c.take-slot.ensures.blocks (taken_below _ _ c.take-slot.new.self.free c.take-slot.result consistent.once)
+    rw (ap (λ (s : Slots). s.blocks) c.take-slot.ensures.pool) (taken_below _ _ c.take-slot.new.self.free c.take-slot.result consistent.once)
 
 pub returns-in_default-clause-contents : goal.returns-in_default-clause-contents
 returns-in_default-clause-contents c =
-    let run : Run = record { start = c.args.lba; slot = c.take-slot.result } in
-    let taken = rw (sym c.set.ensures.free) at c.take-slot.ensures.free in
-    let put = rw c.take-slot.ensures.blocks at c.set.ensures.blocks in
-    added-contents c.requires.editing (sym c.run_at.ensures ∙ c.in_default.is) c.set.new.self c.push.new.self run c.args.bytes.now taken put refl c.push.ensures
+    let run : Run = single c.args.lba c.take-slot.result in
+    let pushed = c.push.ensures ∙ ap (pushed c.args.draft.now) c.single.ensures in
+    let taken = rw (sym (ap (λ (s : Slots). s.free) c.set.ensures)) at c.take-slot.ensures.free in
+    let put = rw (ap (λ (s : Slots). s.blocks) c.take-slot.ensures.pool) at (ap (λ (s : Slots). s.blocks) c.set.ensures) in
+    added-contents c.requires.editing (sym c.run_at.ensures ∙ c.in_default.is) c.set.new.self c.push.new.self run c.args.bytes.now taken put refl pushed
 
 pub returns-in_default-clause-editing : goal.returns-in_default-clause-editing
 returns-in_default-clause-editing c =
-    let run : Run = record { start = c.args.lba; slot = c.take-slot.result } in
-    let taken = rw (sym c.set.ensures.free) at c.take-slot.ensures.free in
-    let put = rw c.take-slot.ensures.blocks at c.set.ensures.blocks in
-    added-editing c.requires.editing (sym c.run_at.ensures ∙ c.in_default.is) c.set.new.self c.push.new.self run c.args.bytes.now taken put refl c.push.ensures
+    let run : Run = single c.args.lba c.take-slot.result in
+    let pushed = c.push.ensures ∙ ap (pushed c.args.draft.now) c.single.ensures in
+    let taken = rw (sym (ap (λ (s : Slots). s.free) c.set.ensures)) at c.take-slot.ensures.free in
+    let put = rw (ap (λ (s : Slots). s.blocks) c.take-slot.ensures.pool) at (ap (λ (s : Slots). s.blocks) c.set.ensures) in
+    added-editing c.requires.editing (sym c.run_at.ensures ∙ c.in_default.is) c.set.new.self c.push.new.self run c.args.bytes.now taken put refl pushed
 
 pub returns-in_default-clause-index : goal.returns-in_default-clause-index
 returns-in_default-clause-index c = omega (arith, unmapped-there c.requires.editing (sym c.run_at.ensures ∙ c.in_default.is))
 
 pub returns-in_default-clause-free : goal.returns-in_default-clause-free
-returns-in_default-clause-free c = rw c.set.ensures.free (omega (arith, ap length c.take-slot.ensures.free))
+returns-in_default-clause-free c = rw (ap (λ (s : Slots). s.free) c.set.ensures) (omega (arith, ap length c.take-slot.ensures.free))
 
 -- the address is mapped
 pub set-requires-2-clause-slot : goal.set-requires-2-clause-slot
@@ -44,18 +49,18 @@ set-requires-2-clause-slot c = slot-there c.requires.editing c.in-Some.run' (sym
 pub returns-clause-contents : goal.returns-clause-contents
 returns-clause-contents c =
     over-contents c.requires.editing c.in-Some.run' (sym c.run_at.ensures ∙ c.in-Some.is) c.set-2.new.self c.push-2.new.self c.args.bytes.now
-    c.new.result c.set-2.ensures.free c.set-2.ensures.blocks c.push-2.ensures c.new.ensures.index
+    c.new.result (ap (λ (s : Slots). s.free) c.set-2.ensures) (ap (λ (s : Slots). s.blocks) c.set-2.ensures) c.push-2.ensures c.new.ensures.index
 
 pub returns-clause-editing : goal.returns-clause-editing
 returns-clause-editing c =
     over-editing c.requires.editing c.in-Some.run' (sym c.run_at.ensures ∙ c.in-Some.is) c.set-2.new.self c.push-2.new.self c.args.bytes.now
-    c.new.result c.set-2.ensures.free c.set-2.ensures.blocks c.push-2.ensures c.new.ensures.index (rw c.new.ensures.index c.new.ensures.next)
+    c.new.result (ap (λ (s : Slots). s.free) c.set-2.ensures) (ap (λ (s : Slots). s.blocks) c.set-2.ensures) c.push-2.ensures c.new.ensures.index (rw c.new.ensures.index c.new.ensures.next)
 
 pub returns-clause-index : goal.returns-clause-index
 returns-clause-index c = omega (arith, c.new.ensures.index, mapped-there c.requires.editing c.in-Some.run' (sym c.run_at.ensures ∙ c.in-Some.is))
 
 pub returns-clause-free : goal.returns-clause-free
-returns-clause-free c = rw c.set-2.ensures.free (omega (arith, c.new.ensures.index))
+returns-clause-free c = rw (ap (λ (s : Slots). s.free) c.set-2.ensures) (omega (arith, c.new.ensures.index))
 
 pub returns-clause-cost : goal.returns-clause-cost
 returns-clause-cost c =

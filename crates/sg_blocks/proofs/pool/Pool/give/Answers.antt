@@ -16,9 +16,12 @@ invariant_of-self c =
     let low = ap (λ (s : Slots). length s.blocks) c.self.view_is in
     let none = ap (λ (s : Slots). occurrences slot s.free) c.self.view_is ∙ c.requires.used in (
       length-set p.next.items slot p.first_free ∙ c.self.invariant.0,
-      rw (chain-given p.next.items slot p.first_free p.free_count
-          (omega (arith, c.self.invariant.0, c.requires.slot)) none)
-          (given-below (length p.blocks.items) slot _ (omega (arith, c.requires.slot)) c.self.invariant.1),
+      rw (
+        length-set p.next.items slot p.first_free,
+        chain-given p.next.items slot p.first_free p.free_count
+            (omega (arith, c.self.invariant.0, c.requires.slot)) none,
+      )
+          (given-below (length p.next.items) slot _ (omega (arith, c.requires.slot)) c.self.invariant.1),
     )
 
 pub returns-clause-free : goal.returns-clause-free

@@ -20,3 +20,6 @@ pub returns-clause-free : goal.returns-clause-free
 returns-clause-free c =
     let count = c.args.count in
     rw (c.in_ok-links.ensures, chain-range count 0 count (omega arith)) (once-range count)
+
+pub returns-clause-next : goal.returns-clause-next
+returns-clause-next c = rw c.in_ok-links.ensures (length-range_with_len 1 c.args.count)

@@ -1,6 +1,6 @@
 // Records that are prepared for the table.
 ghost use Rattle.std.specs.Prelude.{◌≡◌, ◌<◌, [], length, IfOk};
-ghost use Rattle.sg_blocks.specs.PlainMap.Draft.{pushed};
+ghost use Rattle.sg_blocks.specs.Draft.{pushed};
 
 use crate::ghost_number::GhostNumber;
 use crate::run::Run;
@@ -17,7 +17,7 @@ pub struct Draft {
 
 impl Model for Draft {
     ghost use Rattle.std.specs.Prelude.{◌≤◌, vec_len, vec_capacity};
-    ghost use Rattle.sg_blocks.specs.PlainMap.Draft.{Drafted};
+    ghost use Rattle.sg_blocks.specs.Draft.{Drafted};
 
     ghost Value = { Drafted };
 
@@ -46,6 +46,13 @@ impl Draft {
         ensures { self.new ≡ record self.old { from = from; records = [] } }
     {
         self.from = from;
+        self.records.clear();
+    }
+
+    /// Removes all records.
+    pub fn clear(&mut self)
+        ensures { self.new ≡ record self.old { records = [] } }
+    {
         self.records.clear();
     }
 

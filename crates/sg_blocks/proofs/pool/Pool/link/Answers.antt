@@ -1,0 +1,21 @@
+use Rattle.std.proofs.Common.{length-set, set, ap, ◌∙◌}
+use Rattle.sg_blocks.specs.Slots.{Slots, occurrences}
+use Rattle.sg_blocks.proofs.ChainLemmas.{chain-set}
+use Rattle.sg_blocks.proofs.pool.Pool.link.Goals as goal
+
+pub invariant_of-self : goal.invariant_of-self
+invariant_of-self c =
+    let p = c.self.inside in
+    let free = ap (λ (s : Slots). s.free) c.self.view_is in
+    let same = chain-set p.next.items c.args.slot c.args.next p.first_free p.free_count (ap (occurrences c.args.slot) free ∙ c.requires.used) in (
+      length-set p.next.items c.args.slot c.args.next ∙ c.self.invariant.0,
+      rw (same, length-set p.next.items c.args.slot c.args.next) c.self.invariant.1,
+    )
+
+pub returns : goal.returns
+returns c =
+    let p = c.self.inside in
+    let free = ap (λ (s : Slots). s.free) c.self.view_is in
+    let same = chain-set p.next.items c.args.slot c.args.next p.first_free p.free_count (ap (occurrences c.args.slot) free ∙ c.requires.used) in
+    ap (λ xs. record { blocks = p.blocks.items; next = set p.next.items c.args.slot c.args.next; free = xs; links = p.links }) same
+    ∙ ap (λ (s : Slots). record s { next = set s.next c.args.slot c.args.next }) c.self.view_is
