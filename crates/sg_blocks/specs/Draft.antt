@@ -8,6 +8,10 @@ pub record Drafted : Type 0 where
   pub records : List Run
   pub room : ℕ
 
+-- No record is drafted.
+abbrev pub empty_draft : (room : ℕ) → Drafted
+empty_draft room = record { from = 0; records = []; room = room }
+
 -- One more record is drafted, behind the others.
 abbrev pub pushed : Drafted → Run → Drafted
 pushed draft run = record draft { records = draft.records ++ run ∷ [] }

@@ -1,6 +1,6 @@
 // Records that are prepared for the table.
 ghost use Rattle.std.specs.Prelude.{◌≡◌, ◌<◌, [], length, IfOk};
-ghost use Rattle.sg_blocks.specs.Draft.{pushed};
+ghost use Rattle.sg_blocks.specs.Draft.{empty_draft, pushed};
 
 use crate::ghost_number::GhostNumber;
 use crate::run::Run;
@@ -32,7 +32,7 @@ impl Draft {
     /// # Errors
     /// Memory was refused.
     pub fn new(alloc: Global, room: u32) -> Result<Draft, AllocError>
-        ensures { IfOk result (λ draft. draft ≡ record { from = 0; records = []; room = room }) }
+        ensures { IfOk result (λ draft. draft ≡ empty_draft room) }
     {
         Ok(Draft {
             from: 0,
@@ -51,8 +51,9 @@ impl Draft {
 
     /// Removes all records.
     pub fn clear(&mut self)
-        ensures { self.new ≡ record self.old { records = [] } }
+        ensures { self.new ≡ empty_draft self.old.room }
     {
+        self.from = 0;
         self.records.clear();
     }
 
