@@ -25,3 +25,19 @@ fn an_answer_is_cut(rt: HostRuntime) {
         assert_eq!(rt; buf, answer);
     }
 }
+
+// What is written keeps its length, and bytes behind it are dropped.
+#[test]
+fn written_bytes_are_replaced(rt: HostRuntime) {
+    let mut buf = [9; 7];
+    let mut cut = Cut::new(&mut buf, 6);
+    cut.put(&[0, 0, 0, 0, 0]);
+    assert_eq!(rt; cut.written(), 5);
+    cut.replace(2, &[0xAA, 0xBB, 0xCC, 0xDD]);
+    assert_eq!(rt; cut.written(), 5);
+    cut.put(&[0x11, 0x22]);
+    assert_eq!(rt; cut.written(), 6);
+    cut.replace(6, &[0xEE]);
+    assert_eq!(rt; cut.written(), 6);
+    assert_eq!(rt; buf, [0, 0, 0xAA, 0xBB, 0xCC, 0x11, 9]);
+}
