@@ -15,22 +15,22 @@ use Rattle.sg_blocks.specs.Records.{start_of, IsSorted, IsLowerBound, IsNext, ah
 use Rattle.sg_blocks.specs.Slots.{IsConsistent}
 use Rattle.sg_blocks.specs.Table.{Table, visited}
 use Rattle.sg_blocks.specs.PlainMap.Editing.{IsAt, VisitsRange}
-use Rattle.sg_blocks.specs.Records.{run_at}
-use Rattle.sg_blocks.specs.PlainMap.Status.{IsTableOf, AreInRow, end_of_gap}
+use Rattle.sg_blocks.specs.Records.{run_at, end_of_gap}
+use Rattle.sg_blocks.specs.PlainMap.Status.{IsTableOf, AreInRow}
 use Rattle.sg_blocks.specs.declared.lba_status.ProvisioningStatus.{ProvisioningStatus}
 use Rattle.sg_blocks.specs.declared.lba_status.ProvisioningStatus.TheVariants.{Mapped, Deallocated}
 use Rattle.sg_blocks.specs.declared.lba_status.StatusDescriptor.{StatusDescriptor}
 use Rattle.sg_blocks.specs.declared.lba_status.TheConstants.{MAX_ADDRESSES}
 use Rattle.sg_blocks.specs.declared.run.Run.{Run}
 use Rattle.sg_blocks.specs.declared.store.TheConstants.{MAX_CAPACITY, MAX_POOL}
-use Rattle.sg_blocks.specs.declared.plain_map.cursor.Cursor.{Cursor}
+use Rattle.sg_blocks.specs.declared.cursor.Cursor.{Cursor}
 use Rattle.sg_blocks.proofs.RecordLemmas.{contains-unmapped, start_of-read, at_or_past, none_at}
 use Rattle.sg_blocks.proofs.IndexLemmas.{contains-start, mapped_among-indices}
 use Rattle.sg_blocks.proofs.TableLemmas.{ahead-le}
 use Rattle.sg_blocks.proofs.CursorLemmas.{found, missed}
 
 -- the table of a disk
-below-some : (o : Option (List ℕ)) (a capacity : ℕ) → ((b : List ℕ) → o ≡ Some b → a < capacity)
+pub below-some : (o : Option (List ℕ)) (a capacity : ℕ) → ((b : List ℕ) → o ≡ Some b → a < capacity)
     → is_some o ≡ true → a < capacity
 below-some None a capacity each e = let wrong = e in cc
 below-some (Some b) a capacity each e = each b refl
@@ -90,7 +90,7 @@ module _ (m : Contents) (capacity a k : ℕ) (b : Bool) (here : contains_key m a
       (λ i lt. same_code _ _ (all i lt ∙ sym here))
       (λ lt. other_code _ _ (stop lt ∙ ap not (sym here)))
 
-  described : ◌≡◌ {A = StatusDescriptor} (record { lba = a; count = k; status = status_of b })
+  pub described : ◌≡◌ {A = StatusDescriptor} (record { lba = a; count = k; status = status_of b })
       (descriptor_at m capacity a)
   described = ap₂ (λ n (c : Bool). record { lba = a; count = n; status = status_of c }) (sym alike) (sym here)
 
@@ -208,7 +208,7 @@ unfolding descriptors_from
 descriptors-first m capacity a most below = let on : nat_lt a capacity ≡ true =
     grind (arith, nat_tests) in rw on refl
 
-descriptors-more : (m : Contents) (capacity a n : ℕ) → a < capacity → 0 < n
+pub descriptors-more : (m : Contents) (capacity a n : ℕ) → a < capacity → 0 < n
     → descriptors_from m capacity a n ≡
     descriptor_at m capacity a ∷ descriptors_from m capacity (a + count_alike m capacity a)
     (n - 1)

@@ -10,7 +10,7 @@ use Rattle.sg_blocks.specs.Draft.{Drafted, pushed}
 use Rattle.sg_blocks.specs.PlainMap.Editing.{edited, IsEditing}
 use Rattle.sg_blocks.specs.Records.{run_at}
 use Rattle.sg_blocks.specs.declared.run.Run.{Run}
-use Rattle.sg_blocks.specs.declared.plain_map.cursor.Cursor.{Cursor}
+use Rattle.sg_blocks.specs.declared.cursor.Cursor.{Cursor}
 use Rattle.sg_blocks.proofs.RecordLemmas.{none_at, none_mapped, one_mapped, index-mapped}
 use Rattle.sg_blocks.proofs.IndexLemmas.{index-insert}
 use Rattle.sg_blocks.proofs.SpliceLemmas.{insert-splice, same-splice, next-splice}

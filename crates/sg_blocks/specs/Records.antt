@@ -50,6 +50,11 @@ abbrev pub run_at : Option Run → (lba : ℕ) → Option Run
 run_at None lba = None
 run_at (Some run) lba = if run.start == lba then Some run else None
 
+-- Where the addresses end that are not mapped: at the next record, or with the disk.
+abbrev pub end_of_gap : (next : Option Run) → (capacity : ℕ) → ℕ
+end_of_gap None capacity = capacity
+end_of_gap (Some run) capacity = run.start
+
 -- One where a record was visited before its address is reached.
 abbrev pub ahead : Option Run → ℕ
 ahead None = 0

@@ -46,7 +46,8 @@ pub struct StatusDescriptor {
 }
 
 impl StatusDescriptor {
-    fn bytes(&self) -> [u8; DESCRIPTOR_LENGTH]
+    /// The bytes of the descriptor.
+    pub fn bytes(&self) -> [u8; DESCRIPTOR_LENGTH]
         ensures { result ≡ descriptor_bytes self.now }
     {
         let mut bytes = [0; DESCRIPTOR_LENGTH];
@@ -69,7 +70,7 @@ pub fn write_status_data(descriptors: &[StatusDescriptor], cut: &mut Cut)
 }
 
 /// What the parameter data of `count` descriptors begins with.
-fn header(count: usize) -> [u8; HEADER_LENGTH]
+pub fn header(count: usize) -> [u8; HEADER_LENGTH]
     requires { count ≤ MAX_DESCRIPTORS }
     ensures { result ≡ status_header count }
 {

@@ -2,6 +2,7 @@
 //! blocks.
 #![tactic(auto)]
 
+pub mod cursor;
 pub mod draft;
 pub mod ghost_number;
 pub mod laws;

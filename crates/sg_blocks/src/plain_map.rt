@@ -1,4 +1,3 @@
-mod cursor;
 mod read;
 mod status;
 mod unmap;

@@ -8,7 +8,7 @@ use Rattle.sg_blocks.specs.Slots.{Slots, IsConsistent}
 use Rattle.sg_blocks.specs.Table.{Table}
 use Rattle.sg_blocks.specs.Draft.{Drafted}
 use Rattle.sg_blocks.specs.declared.run.Run.{Run}
-use Rattle.sg_blocks.specs.declared.plain_map.cursor.Cursor.{Cursor}
+use Rattle.sg_blocks.specs.declared.cursor.Cursor.{Cursor}
 use Rattle.sg_blocks.specs.declared.store.TheConstants.{MAX_CAPACITY, MAX_COUNT, MAX_POOL}
 
 -- The contents that a table and slots stand for.

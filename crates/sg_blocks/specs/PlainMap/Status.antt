@@ -1,5 +1,5 @@
 -- The records of addresses in a row, and the gaps between them.
-use Rattle.std.specs.Prelude.{◌≡◌, ℕ, ◌+◌, ◌<◌, ◌≤◌, List, length, Option, Some, None}
+use Rattle.std.specs.Prelude.{◌≡◌, ℕ, ◌+◌, ◌<◌, ◌≤◌, List, length}
 use Rattle.sg_blocks.specs.Records.{start_of, IsSorted}
 use Rattle.sg_blocks.specs.declared.run.Run.{Run}
 use Rattle.sg_blocks.specs.declared.store.TheConstants.{MAX_CAPACITY, MAX_POOL}
@@ -14,8 +14,3 @@ pub record IsTableOf (capacity : ℕ) (records : List Run) : Type 0 where
 -- The records from one index to another are those of the addresses from one on, without a gap.
 abbrev pub AreInRow : List Run → (from to lba : ℕ) → Type 0
 AreInRow records from to lba = (i : ℕ) → from ≤ i → i < to → start_of records i + from ≡ lba + i
-
--- Where the addresses end that are not mapped: at the next record, or with the disk.
-abbrev pub end_of_gap : (next : Option Run) → (capacity : ℕ) → ℕ
-end_of_gap None capacity = capacity
-end_of_gap (Some run) capacity = run.start

@@ -4,7 +4,7 @@ ghost use Rattle.sg_blocks.specs.Records.{IsSorted, HaveSlots, mapped_at};
 ghost use Rattle.sg_blocks.specs.Table.{visited};
 ghost use Rattle.sg_blocks.specs.PlainMap.Editing.{IsAt, IsReady, VisitsRange, passed, stored};
 
-use super::cursor::Cursor;
+use crate::cursor::Cursor;
 use crate::pool::Pool;
 use crate::store::{BLOCK_LENGTH, MAX_POOL};
 use crate::table::RunTable;

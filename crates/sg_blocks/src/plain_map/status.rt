@@ -1,13 +1,13 @@
-ghost use Rattle.std.specs.Prelude.{◌≡◌, ℕ, ◌+◌, ◌-◌, ◌<◌, ◌≤◌, List, None, min};
+ghost use Rattle.std.specs.Prelude.{◌≡◌, ℕ, ◌+◌, ◌-◌, ◌<◌, ◌≤◌, List, None};
 ghost use Rattle.sg_blocks.specs.LbaStatus.{covered, descriptor_at, descriptors_from};
 ghost use Rattle.sg_blocks.specs.Records.{IsLowerBound, contents_of};
 ghost use Rattle.sg_blocks.specs.Table.{visited};
 ghost use Rattle.sg_blocks.specs.PlainMap.Editing.{IsAt, VisitsRange, passed};
 ghost use Rattle.sg_blocks.specs.Records.{run_at};
-ghost use Rattle.sg_blocks.specs.PlainMap.Status.{AreInRow, IsTableOf, end_of_gap};
+ghost use Rattle.sg_blocks.specs.PlainMap.Status.{AreInRow, IsTableOf};
 
-use super::cursor::Cursor;
-use crate::lba_status::{MAX_ADDRESSES, MAX_DESCRIPTORS, ProvisioningStatus, StatusDescriptor};
+use crate::cursor::Cursor;
+use crate::lba_status::{MAX_DESCRIPTORS, ProvisioningStatus, StatusDescriptor};
 use crate::store::{MAX_CAPACITY, MAX_COUNT, MAX_POOL};
 use crate::table::RunTable;
 use arrayvec::ArrayVec;
@@ -36,18 +36,6 @@ fn pass_mapped(table: &mut RunTable, cursor: Cursor, lba: u64) -> Cursor
     end
 }
 
-/// How many addresses from the cursor's on are not mapped, at most as many as a descriptor covers.
-fn count_unmapped(cursor: Cursor, lba: u64, capacity: u64) -> u32
-    requires { lba ≤ end_of_gap cursor.next capacity }
-    ensures { result ≡ min MAX_ADDRESSES (end_of_gap cursor.next capacity - lba) }
-{
-    let end = match cursor.next {
-        Some(run) => run.start,
-        None => capacity,
-    };
-    MAX_ADDRESSES.min(end - lba) as u32
-}
-
 /// The descriptor that begins at the cursor's address, and the cursor where it ends.
 fn describe(
     table: &mut RunTable,
@@ -68,7 +56,7 @@ fn describe(
 {
     match cursor.run_at(lba) {
         None => {
-            let count = count_unmapped(cursor, lba, capacity);
+            let count = cursor.count_unmapped(lba, capacity);
             let status = ProvisioningStatus::Deallocated;
             (StatusDescriptor { lba, count, status }, cursor)
         }

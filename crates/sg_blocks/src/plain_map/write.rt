@@ -9,7 +9,7 @@ ghost use Rattle.sg_blocks.specs.Table.{visited};
 ghost use Rattle.sg_blocks.specs.PlainMap.Editing.{IsEditing, IsReady, VisitsRange, passed, stored};
 ghost use Rattle.sg_blocks.specs.PlainMap.Editing.{edited_contents};
 
-use super::cursor::Cursor;
+use crate::cursor::Cursor;
 use crate::draft::Draft;
 use crate::pool::Pool;
 use crate::run::Run;
