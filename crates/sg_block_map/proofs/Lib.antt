@@ -1,0 +1,15 @@
+pub mod BetweenLemmas
+pub mod ExpandedLemmas
+pub mod ContentsLemmas
+pub mod GatheringLemmas
+pub mod SplitLemmas
+pub mod WalkLemmas
+pub mod CutLemmas
+pub mod CutRunsLemmas
+pub mod JoinLemmas
+pub mod WriteLemmas
+pub mod FinishLemmas
+pub mod MaximalLemmas
+pub mod OverlapLemmas
+pub mod StatusLemmas
+pub mod StoreLemmas

@@ -1,0 +1,36 @@
+-- Runs of which the addresses of a range are unmapped.
+use Rattle.std.specs.Prelude.{◌≡◌, ℕ, ◌+◌, ◌≤◌, List, ◌++◌, length, Option, IfSome, option_to_list}
+use Rattle.sg_blocks.specs.Slots.{Slots, slots_of, occurrences}
+use Rattle.sg_blocks.specs.declared.run.Run.{Run}
+use Rattle.sg_block_map.specs.Runs.{end_of, singles_of, expanded, AreChained}
+use Rattle.sg_block_map.specs.Splitting.{IsFront}
+
+-- No slot is in both lists, nor twice in one.
+abbrev pub AreDistinct : (slots others : List ℕ) → Type 0
+AreDistinct slots others = (slot : ℕ) → occurrences slot slots + occurrences slot others ≤ 1
+
+-- Links other than those of some slots stay: runs over other slots are as they were.
+abbrev pub StaysBut : (next next' : List ℕ) → (slots : List ℕ) → Type 0
+StaysBut next next' slots = (runs : List Run) → AreDistinct (slots_of (expanded next runs)) slots
+    → (expanded next' runs ≡ expanded next runs) × (AreChained next runs → AreChained next' runs)
+
+-- A run of which the addresses of a range are gone: their slots are free, and the parts before and
+-- behind them are kept.
+pub record IsCut (old new : Slots) (kept kept' : List Run) (run : Run) (low high : ℕ) : Type 0 where
+  pub front : Option Run
+  pub gone : Option Run
+  pub back : Option Run
+  pub parts :
+      expanded old.next (option_to_list front ++ (option_to_list gone ++ option_to_list back))
+      ≡ singles_of old.next run
+  pub chained :
+      AreChained old.next (option_to_list front ++ (option_to_list gone ++ option_to_list back))
+  pub before : IfSome front (IsFront run low)
+  pub inside : IfSome gone (λ part. (low ≤ part.start) × (end_of part ≤ high))
+  pub behind : IfSome back
+      (λ part. (high ≤ part.start) × (run.start ≤ part.start) × (end_of part ≡ end_of run))
+  pub keeps : kept' ≡ kept ++ (option_to_list front ++ option_to_list back)
+  pub frees : new.free ≡ slots_of (expanded old.next (option_to_list gone)) ++ old.free
+  pub stays : StaysBut old.next new.next (slots_of (expanded old.next (option_to_list gone)))
+  pub links : length new.next ≡ length old.next
+  pub blocks : new.blocks ≡ old.blocks

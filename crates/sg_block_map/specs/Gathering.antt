@@ -1,0 +1,46 @@
+-- The runs near a range: those that meet it or touch one of its ends.
+use Rattle.std.specs.Prelude.{◌≡◌, ℕ, ◌+◌, ◌-◌, ◌<◌, ◌≤◌, zero, suc, List, [], ◌∷◌, Bool}
+use Rattle.std.specs.Prelude.{nat_le, nat_lt, ◌&&◌, min, max, length, take, drop}
+use Rattle.std.specs.List.{splice}
+use Rattle.sg_blocks.specs.Draft.{Drafted}
+use Rattle.sg_blocks.specs.declared.run.Run.{Run}
+use Rattle.sg_block_map.specs.Runs.{end_of, AreMaximal}
+
+-- The address past the run at an index.
+abbrev pub end_at : List Run → ℕ → ℕ
+end_at [] index = 0
+end_at (run ∷ records) zero = end_of run
+end_at (run ∷ records) (suc index) = end_at records index
+
+-- No run ends before an address or begins past another.
+abbrev pub AreNear : (low high : ℕ) → List Run → Type 0
+AreNear low high [] = Unit
+AreNear low high (run ∷ runs) = (low ≤ end_of run) × (run.start ≤ high) × AreNear low high runs
+
+-- Whether a run begins at an address or past it, and before another.
+abbrev pub starts_in : (low high : ℕ) → Run → Bool
+starts_in low high run = nat_le low run.start && nat_lt run.start high
+
+-- The index behind the runs that were gathered.
+abbrev pub end_index : Drafted → ℕ
+end_index gathered = gathered.from + length gathered.records
+
+-- All runs near a range were gathered from the table, and no other.
+pub record AreGathered (records : List Run) (gathered : Drafted) (low high bound : ℕ) : Type 0 where
+  pub within : end_index gathered ≤ length records
+  pub same : splice records gathered.from (end_index gathered) gathered.records ≡ records
+  pub before : AreMaximal 0 low (take gathered.from records)
+  pub near : AreNear low high gathered.records
+  pub after : AreMaximal (high + 1) bound (drop (end_index gathered) records)
+
+-- The run before an index was gathered if it reaches an address.
+pub record AreBegun (records : List Run) (gathered : Drafted) (index low : ℕ) : Type 0 where
+  pub reached : end_index gathered ≡ index
+  pub same : splice records gathered.from index gathered.records ≡ records
+  pub one : index ≤ gathered.from + 1
+  pub reach : (i : ℕ) → gathered.from ≤ i → i < index → low ≤ end_at records i
+  pub before : gathered.from ≡ index → 0 < index → end_at records (index - 1) < low
+
+-- How many addresses of a run lie between two others.
+abbrev pub overlap : (low high : ℕ) → Run → ℕ
+overlap low high run = min (end_of run) high - max run.start low

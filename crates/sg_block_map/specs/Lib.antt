@@ -1,0 +1,17 @@
+-- What public contracts cite: the maximal runs, what a call costs by them, and what a `BlockMap`
+-- keeps.
+pub mod MaximalRuns
+pub mod RunCost
+pub mod RunCostLaws
+pub mod State
+pub mod Parts
+-- What only private contracts cite: runs over chains of slots, and how they are gathered, split,
+-- walked over, cut and joined.
+pub mod Runs
+pub mod RunsProps
+pub mod Gathering
+pub mod Splitting
+pub mod Walking
+pub mod Cutting
+pub mod Joining
+pub mod Status

@@ -1,0 +1,47 @@
+-- What a `BlockMap` is made of.
+use Rattle.std.specs.Prelude.{◌≡◌, ℕ, ◌≤◌}
+use Rattle.std.proofs.Common.{refl}
+use Rattle.sg_blocks.specs.Disk.{IsWellFormed}
+use Rattle.sg_blocks.specs.Draft.{empty_draft}
+use Rattle.sg_blocks.specs.Slots.{Slots}
+use Rattle.sg_blocks.specs.Table.{Table}
+use Rattle.sg_blocks.specs.declared.store.TheConstants.{MAX_CAPACITY, MAX_POOL}
+use Rattle.sg_block_map.specs.Runs.{AreRuns, chained_contents}
+use Rattle.sg_block_map.specs.declared.block_map.BlockMap.{BlockMap}
+
+-- A capacity, a table with its counts, and a pool with its links make up a disk.
+pub record FitTogether (capacity : ℕ) (table : Table) (pool : Slots) : Type 0 where
+  pub capacity_fits : capacity ≤ MAX_CAPACITY
+  pub pool_fits : table.room ≤ MAX_POOL
+  pub well_formed : IsWellFormed capacity (chained_contents table.records pool)
+  pub runs : AreRuns table.records pool table.room
+
+-- The `BlockMap` of these alone: its lists of gathered and remaining runs are empty, and it keeps
+-- nothing else.
+abbrev pub parts : (capacity : ℕ) (table : Table) (pool : Slots) → FitTogether capacity table pool → BlockMap
+parts capacity table pool fit = record {
+  capacity = capacity;
+  table = table;
+  pool = pool;
+  gathered = empty_draft table.room;
+  remaining = empty_draft table.room;
+  capacity_fits = fit.capacity_fits;
+  pool_fits = fit.pool_fits;
+  gathered_empty = refl;
+  remaining_empty = refl;
+  well_formed = fit.well_formed;
+  runs = fit.runs;
+}
+
+-- Those of a `BlockMap` fit together,
+abbrev pub fit_of : (map : BlockMap) → FitTogether map.capacity map.table map.pool
+fit_of map = record {
+  capacity_fits = map.capacity_fits;
+  pool_fits = map.pool_fits;
+  well_formed = map.well_formed;
+  runs = map.runs;
+}
+
+-- and make it up.
+abbrev pub IsMadeOfParts : Type 0
+IsMadeOfParts = (map : BlockMap) → map ≡ parts map.capacity map.table map.pool (fit_of map)

@@ -1,0 +1,21 @@
+-- What a call over a range costs in a store that has a record for each maximal run.
+use Rattle.std.specs.Prelude.{ℕ, ◌+◌, ◌^◌, ◌<◌, ◌≤◌, length}
+use Rattle.sg_blocks.specs.Disk.{Contents}
+use Rattle.sg_blocks.specs.Meter.{Meter}
+use Rattle.sg_block_map.specs.MaximalRuns.{runs, meet, blocks_near}
+
+-- At least the record of each maximal run that the range meets is visited,
+abbrev pub block_least : Contents → (lba count : ℕ) → ℕ
+block_least contents lba count = meet contents lba count
+
+-- and at most two more.
+abbrev pub block_price : Contents → (lba count : ℕ) → ℕ
+block_price contents lba count = meet contents lba count + 2
+
+-- What a call over a range compares and follows, by the maximal runs before it: at most as many
+-- addresses as the number of runs has binary digits, and at most as many links as the runs have
+-- blocks that meet the range or touch its ends.
+pub record CostsRuns (contents : Contents) (lba count : ℕ) (before after : Meter) : Type 0 where
+  pub probes : (digits : ℕ) → length (runs contents) < 2 ^ digits
+      → after.counts.probes ≤ before.counts.probes + digits
+  pub links : after.counts.links ≤ before.counts.links + blocks_near contents lba count

@@ -1,0 +1,43 @@
+-- What a `BlockMap` stands for.
+use Rattle.std.specs.Prelude.{◌≡◌, ℕ, List, [], ◌∷◌, Some, map}
+use Rattle.std.specs.FinMap.{get}
+use Rattle.std.specs.List.{range_with_len}
+use Rattle.sg_blocks.specs.Disk.{Contents, Disk}
+use Rattle.sg_blocks.specs.Meter.{Meter}
+use Rattle.sg_blocks.specs.Records.{contents_of}
+use Rattle.sg_blocks.specs.Slots.{Slots}
+use Rattle.sg_blocks.specs.Table.{Table}
+use Rattle.sg_block_map.specs.Runs.{expanded, chained_contents}
+use Rattle.sg_block_map.specs.declared.block_map.BlockMap.{BlockMap}
+
+-- The disk that it keeps.
+abbrev pub disk_of : BlockMap → Disk
+disk_of map = record {
+  capacity = map.capacity;
+  pool = map.table.room;
+  contents = chained_contents map.table.records map.pool;
+}
+
+-- What its calls cost so far.
+abbrev pub meter_at : Table → Slots → Meter
+meter_at table slots = record {
+  counts = record { visits = table.visits; probes = table.probes; links = slots.links };
+  total = table.total;
+  restarts = table.restarts;
+}
+
+abbrev pub meter_of : BlockMap → Meter
+meter_of map = meter_at map.table map.pool
+
+-- The mapped addresses, each with the number of its slot in place of its block.
+abbrev pub slot_map : Table → Slots → Contents
+slot_map table slots =
+    let numbers = map (λ slot. slot ∷ []) (range_with_len 0 table.room) in
+    contents_of (expanded slots.next table.records) numbers
+
+abbrev pub slots_by_address : BlockMap → Contents
+slots_by_address map = slot_map map.table map.pool
+
+-- What each address has, it keeps.
+abbrev pub Keeps : (before after : Contents) → Type 0
+Keeps before after = (lba : ℕ) (slot : List ℕ) → get before lba ≡ Some slot → get after lba ≡ Some slot

@@ -1,0 +1,32 @@
+-- Going over the addresses of runs in a row.
+use Rattle.std.specs.Prelude.{◌≡◌, ℕ, ◌+◌, List, [], ◌∷◌, ◌++◌, option_to_list, drop}
+use Rattle.std.specs.Prelude.{Option, Some, None, if◌then◌else◌, ◌==◌}
+use Rattle.sg_blocks.specs.Chains.{AreBelow}
+use Rattle.sg_blocks.specs.Slots.{slots_of}
+use Rattle.sg_blocks.specs.declared.run.Run.{Run}
+use Rattle.sg_blocks.specs.declared.store.TheConstants.{MAX_CAPACITY}
+use Rattle.sg_block_map.specs.Runs.{expanded, AreChained, AreMaximal}
+use Rattle.sg_block_map.specs.Splitting.{rest_of, IsSplit}
+
+-- A run, if there is one, and the runs of a list from an index on.
+abbrev pub ahead_of : List Run → Option Run → (at : ℕ) → List Run
+ahead_of runs None at = []
+ahead_of runs (Some run) at = run ∷ drop at runs
+
+-- What is left of a run and more runs when the first address is passed.
+abbrev pub passed : (next : List ℕ) → Run → List Run → List Run
+passed next run more = if run.count == 1 then more else rest_of next run 1 ∷ more
+
+-- Runs from an address on, over chains of slots that are below a count.
+pub record AreAhead (next : List ℕ) (count lba : ℕ) (runs : List Run) : Type 0 where
+  pub maximal : AreMaximal lba (MAX_CAPACITY + 1) runs
+  pub chained : AreChained next runs
+  pub below : AreBelow count (slots_of (expanded next runs))
+
+-- The first of the runs is split at an address: the part before it is apart, and the rest is ahead
+-- with the other runs.
+abbrev pub IsWalkFrom : (next : List ℕ) → List Run → (lba : ℕ) → (front : Option Run)
+    → (more : List Run) → Type 0
+IsWalkFrom next [] lba front more = (front ≡ None) × (more ≡ [])
+IsWalkFrom next (run ∷ runs) lba front more =
+    (rest : Option Run) × IsSplit next run lba front rest × (more ≡ option_to_list rest ++ runs)

@@ -1,0 +1,288 @@
+ghost use Rattle.std.specs.Prelude.{◌≡◌, ◌+◌, ◌*◌, ◌<◌, ◌≤◌, ◌↔◌, [], length, map};
+ghost use Rattle.std.specs.Prelude.{IsErr, OnOk, OnErr};
+ghost use Rattle.std.proofs.Props.{props};
+ghost use Rattle.sg_blocks.specs.Disk.{IsWellFormed, IsOverfull, blocks};
+ghost use Rattle.sg_blocks.specs.Disk.{disk_replaced, disk_written, disk_filled, disk_unmapped, unmapped};
+ghost use Rattle.sg_blocks.specs.LbaStatus.{lba_status, covered, status_data};
+ghost use Rattle.sg_blocks.specs.Meter.{Costs, HasHeadroom};
+ghost use Rattle.sg_wire.specs.Cut.{Puts};
+ghost use Rattle.sg_block_map.specs.MaximalRuns.{runs};
+ghost use Rattle.sg_block_map.specs.RunCost.{block_price, block_least, CostsRuns};
+ghost use Rattle.sg_block_map.specs.RunCostLaws.{block_price-within, block_least-positive};
+ghost use Rattle.sg_block_map.specs.Runs.{AreRuns, chained_contents, extent_of};
+ghost use Rattle.sg_block_map.specs.RunsProps.{AreMaximal-IsProp, AreChained-IsProp};
+ghost use Rattle.sg_blocks.specs.Draft.{empty_draft};
+ghost use Rattle.sg_blocks.specs.declared.store.TheConstants.{MAX_CAPACITY, MAX_POOL};
+
+use crate::gather::{gather, mapped_in};
+use crate::read::read_runs;
+use crate::status::{cursor_over, write_descriptors};
+use crate::unmap::unmap_runs;
+use crate::write::write_runs;
+use sg_blocks::draft::Draft;
+use sg_blocks::lba_status::header;
+use sg_blocks::pool::Pool;
+use sg_blocks::source::Source;
+use sg_blocks::table::RunTable;
+use sg_blocks::{BLOCK_LENGTH, Counts, MAX_CAPACITY, MAX_POOL, Space, Store};
+use sg_wire::Cut;
+use std::alloc::{AllocError, Global};
+
+/// A disk of which each maximal run of mapped addresses has one record (SBC-3, 4.7). The slots of a
+/// run are a chain, and no block is moved when runs are joined or cut.
+///
+/// A call over a range visits the records of the runs that the range meets, and at most two more.
+#[derive(Drop)]
+pub struct BlockMap {
+    capacity: u64,
+    table: RunTable,
+    pool: Pool,
+    /// The runs near a range, and what remains of them. Both are empty between calls.
+    gathered: Draft,
+    remaining: Draft,
+    ghost capacity_fits: { capacity ≤ MAX_CAPACITY },
+    ghost pool_fits: { table.room ≤ MAX_POOL },
+    ghost gathered_empty: { gathered ≡ empty_draft table.room },
+    ghost remaining_empty: { remaining ≡ empty_draft table.room },
+    ghost well_formed: { IsWellFormed capacity (chained_contents table.records pool) },
+    ghost runs: { AreRuns table.records pool table.room } by { Prim.hlevel (props, AreMaximal-IsProp, AreChained-IsProp) },
+}
+
+impl BlockMap {
+    ghost use Rattle.sg_blocks.specs.Source.{HasBlocks, block_of};
+    ghost use Rattle.sg_block_map.specs.State.{disk_of, meter_of, slots_by_address, Keeps};
+
+    /// How many maximal runs of mapped addresses there are. Each has one record, and the table has
+    /// no others.
+    pub fn run_count(&self) -> usize
+        ensures records { map extent_of self.now.table.records ≡ runs (disk_of self.now).contents }
+        ensures count { result ≡ length (runs (disk_of self.now).contents) }
+    {
+        self.table.count()
+    }
+
+    /// Replaces the blocks from an address on by those of a source.
+    ///
+    /// # Errors
+    /// More addresses would be mapped than the pool has blocks. Nothing is replaced then.
+    fn replace(&mut self, lba: u64, count: u32, source: &Source) -> Result<(), Space>
+        requires range { lba + count ≤ (disk_of self.old).capacity }
+        requires blocks { HasBlocks source.now count }
+        requires headroom { HasHeadroom (meter_of self.old).counts }
+
+        // Either the pool has too few blocks and the disk stays as it is, or all blocks are
+        // replaced.
+        ensures space { IsErr result
+            ↔ IsOverfull (disk_replaced (disk_of self.old) lba count (block_of source.now)) }
+        ensures ok { OnOk result
+            (disk_of self.new ≡ disk_replaced (disk_of self.old) lba count (block_of source.now)) }
+        ensures err { OnErr result (disk_of self.new ≡ disk_of self.old) }
+
+        // Each address that was mapped keeps its slot.
+        ensures keeps { Keeps (slots_by_address self.old) (slots_by_address self.new) }
+
+        // What the call costs, and between which bounds its visits lie.
+        ensures cost { Costs (disk_of self.old).pool (meter_of self.old) (meter_of self.new) }
+        ensures price { (meter_of self.new).total
+            ≤ (meter_of self.old).total + block_price (disk_of self.old).contents lba count }
+        ensures least { OnOk result ((meter_of self.old).total
+            + block_least (disk_of self.old).contents lba count ≤ (meter_of self.new).total) }
+        ensures runs { CostsRuns (disk_of self.old).contents lba count (meter_of self.old) (meter_of self.new) }
+    {
+        if count == 0 {
+            return Ok(());
+        }
+        gather(&mut self.table, &mut self.gathered, lba, count);
+        let mapped = mapped_in(self.gathered.records(), lba, count);
+        if u64::from(count) > self.pool.free_count() as u64 + mapped {
+            self.gathered.clear();
+            return Err(Space);
+        }
+        write_runs(
+            &mut self.table,
+            &mut self.pool,
+            &self.gathered,
+            lba,
+            count,
+            source,
+        );
+        self.gathered.clear();
+        Ok(())
+    }
+}
+
+impl Store for BlockMap {
+    ghost use Rattle.sg_block_map.specs.State.{disk_of, meter_of, slots_by_address, Keeps};
+
+    ghost disk = { disk_of };
+
+    ghost meter = { meter_of };
+
+    ghost price = { block_price };
+
+    ghost least = { block_least };
+
+    fn make(alloc: Global, capacity: u64, pool: u32) -> Result<Self, AllocError> {
+        Ok(BlockMap {
+            capacity,
+            table: RunTable::new(alloc, pool)?,
+            pool: Pool::new(alloc, pool)?,
+            gathered: Draft::new(alloc, pool)?,
+            remaining: Draft::new(alloc, pool)?,
+        })
+    }
+
+    fn read(&mut self, lba: u64, count: u32, bytes: &mut [u8])
+        requires range { lba + count ≤ (disk_of self.old).capacity }
+        requires byte_count { length bytes.old ≡ BLOCK_LENGTH * count }
+        requires headroom { HasHeadroom (meter_of self.old).counts }
+
+        // The blocks are those of the disk, which stays as it is.
+        ensures bytes { bytes.new ≡ blocks (disk_of self.old).contents lba count }
+        ensures disk { disk_of self.new ≡ disk_of self.old }
+        ensures keeps { slots_by_address self.new ≡ slots_by_address self.old }
+
+        // What the call costs, and between which bounds its visits lie.
+        ensures cost { Costs (disk_of self.old).pool (meter_of self.old) (meter_of self.new) }
+        ensures price { (meter_of self.new).total
+            ≤ (meter_of self.old).total + block_price (disk_of self.old).contents lba count }
+        ensures least { (meter_of self.old).total
+            + block_least (disk_of self.old).contents lba count ≤ (meter_of self.new).total }
+        ensures runs { CostsRuns (disk_of self.old).contents lba count (meter_of self.old) (meter_of self.new) }
+    {
+        gather(&mut self.table, &mut self.gathered, lba, count);
+        read_runs(&mut self.pool, self.gathered.records(), lba, count, bytes);
+        self.gathered.clear();
+    }
+
+    fn write(&mut self, lba: u64, count: u32, bytes: &[u8]) -> Result<(), Space>
+        requires range { lba + count ≤ (disk_of self.old).capacity }
+        requires byte_count { length bytes.now ≡ BLOCK_LENGTH * count }
+        requires headroom { HasHeadroom (meter_of self.old).counts }
+
+        // Either the pool has too few blocks and the disk stays as it is, or all blocks are
+        // replaced.
+        ensures space { IsErr result ↔ IsOverfull (disk_written (disk_of self.old) lba count bytes.now) }
+        ensures ok { OnOk result (disk_of self.new ≡ disk_written (disk_of self.old) lba count bytes.now) }
+        ensures err { OnErr result (disk_of self.new ≡ disk_of self.old) }
+
+        // Each address that was mapped keeps its slot.
+        ensures keeps { Keeps (slots_by_address self.old) (slots_by_address self.new) }
+
+        // What the call costs, and between which bounds its visits lie.
+        ensures cost { Costs (disk_of self.old).pool (meter_of self.old) (meter_of self.new) }
+        ensures price { (meter_of self.new).total
+            ≤ (meter_of self.old).total + block_price (disk_of self.old).contents lba count }
+        ensures least { OnOk result ((meter_of self.old).total
+            + block_least (disk_of self.old).contents lba count ≤ (meter_of self.new).total) }
+        ensures runs { CostsRuns (disk_of self.old).contents lba count (meter_of self.old) (meter_of self.new) }
+    {
+        self.replace(lba, count, &Source::Joined(bytes))
+    }
+
+    fn fill(&mut self, lba: u64, count: u32, block: &[u8; BLOCK_LENGTH]) -> Result<(), Space>
+        requires range { lba + count ≤ (disk_of self.old).capacity }
+        requires headroom { HasHeadroom (meter_of self.old).counts }
+
+        // Either the pool has too few blocks and the disk stays as it is, or all blocks are
+        // replaced.
+        ensures space { IsErr result ↔ IsOverfull (disk_filled (disk_of self.old) lba count block.now) }
+        ensures ok { OnOk result (disk_of self.new ≡ disk_filled (disk_of self.old) lba count block.now) }
+        ensures err { OnErr result (disk_of self.new ≡ disk_of self.old) }
+
+        // Each address that was mapped keeps its slot.
+        ensures keeps { Keeps (slots_by_address self.old) (slots_by_address self.new) }
+
+        // What the call costs, and between which bounds its visits lie.
+        ensures cost { Costs (disk_of self.old).pool (meter_of self.old) (meter_of self.new) }
+        ensures price { (meter_of self.new).total
+            ≤ (meter_of self.old).total + block_price (disk_of self.old).contents lba count }
+        ensures least { OnOk result ((meter_of self.old).total
+            + block_least (disk_of self.old).contents lba count ≤ (meter_of self.new).total) }
+        ensures runs { CostsRuns (disk_of self.old).contents lba count (meter_of self.old) (meter_of self.new) }
+    {
+        self.replace(lba, count, &Source::Repeated(block))
+    }
+
+    fn unmap(&mut self, lba: u64, count: u32)
+        requires range { lba + count ≤ (disk_of self.old).capacity }
+        requires headroom { HasHeadroom (meter_of self.old).counts }
+
+        // The addresses are mapped no more, and all others keep their slots.
+        ensures disk { disk_of self.new ≡ disk_unmapped (disk_of self.old) lba count }
+        ensures keeps { slots_by_address self.new ≡ unmapped (slots_by_address self.old) lba count }
+
+        // What the call costs, and between which bounds its visits lie.
+        ensures cost { Costs (disk_of self.old).pool (meter_of self.old) (meter_of self.new) }
+        ensures price { (meter_of self.new).total
+            ≤ (meter_of self.old).total + block_price (disk_of self.old).contents lba count }
+        ensures least { (meter_of self.old).total
+            + block_least (disk_of self.old).contents lba count ≤ (meter_of self.new).total }
+        ensures runs { CostsRuns (disk_of self.old).contents lba count (meter_of self.old) (meter_of self.new) }
+    {
+        if count == 0 {
+            return;
+        }
+        gather(&mut self.table, &mut self.gathered, lba, count);
+        unmap_runs(
+            &mut self.table,
+            &mut self.pool,
+            &self.gathered,
+            &mut self.remaining,
+            lba,
+            lba + u64::from(count),
+        );
+        self.gathered.clear();
+        self.remaining.clear();
+    }
+
+    fn status(&mut self, lba: u64, cut: &mut Cut)
+        requires address { lba < (disk_of self.old).capacity }
+        requires headroom { HasHeadroom (meter_of self.old).counts }
+
+        // All of it is put, and the disk stays as it is.
+        ensures data { Puts cut.old cut.new (status_data (lba_status (disk_of self.old) lba)) }
+        ensures disk { disk_of self.new ≡ disk_of self.old }
+        ensures keeps { slots_by_address self.new ≡ slots_by_address self.old }
+
+        // What the call costs, and between which bounds its visits lie, over the addresses that
+        // the descriptors cover.
+        ensures cost { Costs (disk_of self.old).pool (meter_of self.old) (meter_of self.new) }
+        ensures price { let count = covered (lba_status (disk_of self.old) lba) in
+            (meter_of self.new).total
+            ≤ (meter_of self.old).total + block_price (disk_of self.old).contents lba count }
+        ensures least { let count = covered (lba_status (disk_of self.old) lba) in
+            (meter_of self.old).total + block_least (disk_of self.old).contents lba count
+            ≤ (meter_of self.new).total }
+        ensures runs { let count = covered (lba_status (disk_of self.old) lba) in
+            CostsRuns (disk_of self.old).contents lba count (meter_of self.old) (meter_of self.new) }
+    {
+        let at = cut.written();
+        cut.put(&header(0));
+        let cursor = cursor_over(&mut self.table, lba);
+        let count = write_descriptors(&mut self.table, cursor, lba, self.capacity, cut);
+        // The length is known only now. It is written over the one that was put first.
+        cut.replace(at, &header(count));
+    }
+
+    fn mapped(&self) -> u32 {
+        (self.pool.count() - self.pool.free_count()) as u32
+    }
+
+    fn counts(&self) -> Counts {
+        Counts {
+            visits: self.table.visits(),
+            probes: self.table.probes(),
+            links: self.pool.links(),
+        }
+    }
+
+    fn restart_counts(&mut self) {
+        self.table.restart_counts();
+        self.pool.restart_links();
+    }
+
+    ghost price_within = { block_price-within };
+
+    ghost least_positive = { block_least-positive };
+}

@@ -1,0 +1,68 @@
+ghost use Rattle.std.specs.Prelude.{◌≡◌, ◌+◌, ◌-◌, ◌*◌, ◌<◌, ◌≤◌, ℕ, length};
+ghost use Rattle.std.specs.FinMap.{get};
+ghost use Rattle.sg_blocks.specs.Disk.{block, blocks};
+ghost use Rattle.sg_blocks.specs.Slots.{followed};
+ghost use Rattle.sg_block_map.specs.Gathering.{AreNear};
+ghost use Rattle.sg_block_map.specs.Runs.{expanded, chained_contents};
+ghost use Rattle.sg_block_map.specs.Walking.{ahead_of, AreAhead};
+
+use crate::walk::{Walk, walk_from};
+use sg_blocks::pool::Pool;
+use sg_blocks::run::Run;
+use sg_blocks::{BLOCK_LENGTH, MAX_CAPACITY};
+
+/// Reads the block at an address, and goes on to the next one.
+fn read_address(pool: &mut Pool, runs: &[Run], walk: Walk, lba: u64, bytes: &mut [u8]) -> Walk
+    requires ahead { AreAhead pool.old.next (length pool.old.next) lba
+        (ahead_of runs.now walk.run walk.at) }
+    requires pool { length pool.old.blocks ≡ length pool.old.next }
+    requires range { lba < MAX_CAPACITY }
+    requires byte_count { length bytes.old ≡ BLOCK_LENGTH }
+    requires headroom { pool.old.links < u64.MAX }
+
+    // The block is read, and the runs from the next address on are ahead.
+    ensures bytes { bytes.new
+        ≡ block (chained_contents (ahead_of runs.now walk.run walk.at) pool.old) lba }
+    ensures ahead { AreAhead pool.old.next (length pool.old.next) (lba + 1)
+        (ahead_of runs.now result.run result.at) }
+    ensures later { (address : ℕ) → lba + 1 ≤ address
+        → get (chained_contents (ahead_of runs.now result.run result.at) pool.old) address
+        ≡ get (chained_contents (ahead_of runs.now walk.run walk.at) pool.old) address }
+
+    // A link is followed only where an address is passed.
+    ensures pool { pool.new ≡ followed pool.old (pool.new.links - pool.old.links) }
+    ensures rise { pool.old.links ≤ pool.new.links }
+    ensures links { pool.new.links
+        + length (expanded pool.old.next (ahead_of runs.now result.run result.at))
+        ≤ pool.old.links + length (expanded pool.old.next (ahead_of runs.now walk.run walk.at)) }
+{
+    let Some(run) = walk.run_at(lba) else {
+        bytes.fill(0);
+        return walk;
+    };
+    bytes.copy_from_slice(pool.bytes(run.first));
+    walk.pass(pool, runs, run)
+}
+
+/// Reads the blocks from an address on. The runs are those that meet or touch the range.
+pub fn read_runs(pool: &mut Pool, runs: &[Run], lba: u64, count: u32, bytes: &mut [u8])
+    requires ahead { AreAhead pool.old.next (length pool.old.next) 0 runs.now }
+    requires near { AreNear lba (lba + count) runs.now }
+    requires pool { length pool.old.blocks ≡ length pool.old.next }
+    requires range { lba + count ≤ MAX_CAPACITY }
+    requires byte_count { length bytes.old ≡ BLOCK_LENGTH * count }
+    requires headroom { pool.old.links + length (expanded pool.old.next runs.now) < u64.MAX }
+    ensures bytes { bytes.new ≡ blocks (chained_contents runs.now pool.old) lba count }
+
+    // At most as many links are followed as the runs have blocks.
+    ensures pool { pool.new ≡ followed pool.old (pool.new.links - pool.old.links) }
+    ensures rise { pool.old.links ≤ pool.new.links }
+    ensures links { pool.new.links ≤ pool.old.links + length (expanded pool.old.next runs.now) }
+{
+    let (_before, mut walk) = walk_from(pool, runs, lba);
+    for i in 0..count {
+        let at = BLOCK_LENGTH * (i as usize);
+        let block = &mut bytes[at..at + BLOCK_LENGTH];
+        walk = read_address(pool, runs, walk, lba + u64::from(i), block);
+    }
+}

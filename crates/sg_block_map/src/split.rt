@@ -1,0 +1,76 @@
+// Splitting a run in two. No block is moved and no link is changed: the parts share the chain.
+ghost use Rattle.std.specs.Prelude.{◌≡◌, ◌+◌, ◌-◌, ◌<◌, ◌≤◌, length, option_to_list};
+ghost use Rattle.sg_blocks.specs.Chains.{chain, slot_after, AreBelow, IsChain};
+ghost use Rattle.sg_blocks.specs.Slots.{followed};
+ghost use Rattle.sg_block_map.specs.Runs.{expanded};
+ghost use Rattle.sg_block_map.specs.Splitting.{front_of, rest_of, IsSplit};
+
+use sg_blocks::MAX_CAPACITY;
+use sg_blocks::pool::Pool;
+use sg_blocks::run::Run;
+
+/// The slot that is `count` links after one.
+fn follow(pool: &mut Pool, first: u32, count: u32) -> u32
+    requires below { AreBelow (length pool.old.next) (chain pool.old.next first count) }
+    requires headroom { pool.old.links + count ≤ u64.MAX }
+    ensures value { result ≡ slot_after pool.old.next first count }
+    ensures pool { pool.new ≡ followed pool.old count }
+{
+    let mut slot = first;
+    for _i in 0..count {
+        slot = pool.next(slot);
+    }
+    slot
+}
+
+/// The first `count` addresses of a run, and those behind them.
+fn split(pool: &mut Pool, run: Run, count: u32) -> (Run, Run)
+    requires within { (0 < count) × (count < run.count) }
+    requires below { AreBelow (length pool.old.next) (chain pool.old.next run.first count) }
+    requires range { run.start + run.count ≤ MAX_CAPACITY }
+    requires headroom { pool.old.links + count ≤ u64.MAX }
+    ensures front { result.0 ≡ front_of pool.old.next run count }
+    ensures rest { result.1 ≡ rest_of pool.old.next run count }
+    ensures pool { pool.new ≡ followed pool.old count }
+{
+    let last = follow(pool, run.first, count - 1);
+    let first = pool.next(last);
+    let front = Run {
+        start: run.start,
+        count,
+        first: run.first,
+        last,
+    };
+    let rest = Run {
+        start: run.start + u64::from(count),
+        count: run.count - count,
+        first,
+        last: run.last,
+    };
+    (front, rest)
+}
+
+/// The part of a run before an address, and the part from it on.
+pub fn split_at(pool: &mut Pool, run: Run, lba: u64) -> (Option<Run>, Option<Run>)
+    requires chain { IsChain pool.old.next run.first run.last run.count }
+    requires below { AreBelow (length pool.old.next) (chain pool.old.next run.first run.count) }
+    requires range { run.start + run.count ≤ MAX_CAPACITY }
+    requires headroom { pool.old.links + run.count ≤ u64.MAX }
+    ensures split { IsSplit pool.old.next run lba result.0 result.1 }
+
+    // At most as many links are followed as the part before the address has blocks.
+    ensures pool { pool.new ≡ followed pool.old (pool.new.links - pool.old.links) }
+    ensures rise { pool.old.links ≤ pool.new.links }
+    ensures links { pool.new.links
+        ≤ pool.old.links + length (expanded pool.old.next (option_to_list result.0)) }
+{
+    if lba <= run.start {
+        return (None, Some(run));
+    }
+    let before = lba - run.start;
+    if before >= u64::from(run.count) {
+        return (Some(run), None);
+    }
+    let (front, rest) = split(pool, run, before as u32);
+    (Some(front), Some(rest))
+}

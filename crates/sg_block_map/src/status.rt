@@ -1,0 +1,135 @@
+ghost use Rattle.std.specs.Prelude.{◌≡◌, ◌+◌, ◌-◌, ◌*◌, ◌^◌, ◌<◌, ◌≤◌, ℕ, length};
+ghost use Rattle.std.specs.List.{flat_map};
+ghost use Rattle.sg_blocks.specs.LbaStatus.{covered, descriptor_at, descriptor_bytes, descriptors_from};
+ghost use Rattle.sg_blocks.specs.Records.{ahead};
+ghost use Rattle.sg_blocks.specs.Slots.{Slots};
+ghost use Rattle.sg_blocks.specs.Table.{visited, probed};
+ghost use Rattle.sg_blocks.specs.PlainMap.Editing.{passed};
+ghost use Rattle.sg_wire.specs.Cut.{Puts};
+ghost use Rattle.sg_block_map.specs.Runs.{chained_contents};
+ghost use Rattle.sg_block_map.specs.Status.{AreFrom, AreMet, IsOver, IsRunTable, records_met, run_over};
+
+use sg_blocks::cursor::Cursor;
+use sg_blocks::lba_status::{MAX_DESCRIPTORS, ProvisioningStatus, StatusDescriptor};
+use sg_blocks::run::Run;
+use sg_blocks::table::RunTable;
+use sg_blocks::{MAX_COUNT, MAX_POOL};
+use sg_wire::Cut;
+
+/// The cursor at the first run that has an address or one past it.
+pub fn cursor_over(table: &mut RunTable, lba: u64) -> Cursor
+    requires table { (capacity : ℕ) × IsRunTable capacity table.old.records }
+    requires headroom { (table.old.probes ≤ MAX_COUNT) × (table.old.visits ≤ MAX_COUNT) }
+    ensures cursor { IsOver table.old.records result lba }
+
+    // Only probes and visits are counted: the probes of one binary search, the visit of the run,
+    // and at most one more.
+    ensures table { table.new ≡ visited (probed table.old (table.new.probes - table.old.probes))
+        (table.new.total - table.old.total) }
+    ensures rise { table.old.probes ≤ table.new.probes }
+    ensures halving { 2 ^ (table.new.probes - table.old.probes) ≤ 2 * length table.old.records + 1 }
+    ensures least { table.old.total + ahead result.next ≤ table.new.total }
+    ensures most { table.new.total ≤ table.old.total + ahead result.next + 1 }
+{
+    let index = table.lower_bound(lba);
+    if index == 0 {
+        return Cursor::new(table, index);
+    }
+    let run = table.visit(index - 1);
+    if lba - run.start < u64::from(run.count) {
+        let next = Some(run);
+        return Cursor {
+            index: index - 1,
+            next,
+        };
+    }
+    Cursor::new(table, index)
+}
+
+/// The cursor's run, if it has the address or one before it.
+fn run_over(cursor: Cursor, lba: u64) -> Option<Run>
+    ensures { result ≡ run_over cursor.next lba }
+{
+    let run = cursor.next?;
+    if run.start <= lba { Some(run) } else { None }
+}
+
+/// The descriptor that begins at an address, and the cursor where it ends.
+fn describe(
+    table: &mut RunTable,
+    cursor: Cursor,
+    lba: u64,
+    capacity: u64,
+) -> (StatusDescriptor, Cursor)
+    requires cursor { IsOver table.old.records cursor lba }
+    requires table { IsRunTable capacity table.old.records }
+    requires address { lba < capacity }
+    requires headroom { table.old.visits < u64.MAX }
+
+    // Which addresses are mapped does not depend on their slots.
+    ensures descriptor { (slots : Slots) →
+        result.0 ≡ descriptor_at (chained_contents table.old.records slots) capacity lba }
+    ensures not_empty { 0 < result.0.count }
+    ensures cursor { IsOver table.old.records result.1 (lba + result.0.count) }
+
+    // The runs that the cursor goes past have addresses of the descriptor, and no others have.
+    ensures order { cursor.index ≤ result.1.index }
+    ensures met { AreMet table.old.records cursor.index result.1.index lba (lba + result.0.count) }
+    ensures rest { AreFrom table.old.records result.1.index (lba + result.0.count) }
+    ensures cost { visited table.new (passed cursor) ≡ visited table.old (passed result.1) }
+{
+    let Some(run) = run_over(cursor, lba) else {
+        let count = cursor.count_unmapped(lba, capacity);
+        let status = ProvisioningStatus::Deallocated;
+        return (StatusDescriptor { lba, count, status }, cursor);
+    };
+    let count = (run.start + u64::from(run.count) - lba) as u32;
+    let status = ProvisioningStatus::Mapped;
+    let end = Cursor::new(table, cursor.index + 1);
+    (StatusDescriptor { lba, count, status }, end)
+}
+
+/// Writes the descriptors from an address on as they are found, and returns how many there are.
+pub fn write_descriptors(
+    table: &mut RunTable,
+    cursor: Cursor,
+    lba: u64,
+    capacity: u64,
+    cut: &mut Cut,
+) -> usize
+    requires cursor { IsOver table.old.records cursor lba }
+    requires table { IsRunTable capacity table.old.records }
+    requires headroom { table.old.visits ≤ MAX_COUNT + MAX_POOL }
+
+    // Which addresses are mapped does not depend on their slots.
+    ensures data { (slots : Slots) → Puts cut.old cut.new (flat_map descriptor_bytes
+        (descriptors_from (chained_contents table.old.records slots) capacity lba MAX_DESCRIPTORS)) }
+    ensures count { (slots : Slots) → result ≡ length
+        (descriptors_from (chained_contents table.old.records slots) capacity lba MAX_DESCRIPTORS) }
+    ensures at_most { result ≤ MAX_DESCRIPTORS }
+
+    // The runs that have addresses of the descriptors are visited, and at most one more.
+    ensures table { table.new ≡ visited table.old (table.new.total - table.old.total) }
+    ensures rise { table.old.total ≤ table.new.total }
+    ensures least { (slots : Slots) →
+        let contents = chained_contents table.old.records slots in
+        let count = covered (descriptors_from contents capacity lba MAX_DESCRIPTORS) in
+        table.old.total + records_met table.old.records lba count ≤ table.new.total + ahead cursor.next }
+    ensures most { (slots : Slots) →
+        let contents = chained_contents table.old.records slots in
+        let count = covered (descriptors_from contents capacity lba MAX_DESCRIPTORS) in
+        table.new.total + ahead cursor.next
+        ≤ table.old.total + records_met table.old.records lba count + 1 }
+{
+    let mut cursor = cursor;
+    let mut next = lba;
+    let mut count = 0;
+    while next < capacity && count < MAX_DESCRIPTORS {
+        let (descriptor, end) = describe(table, cursor, next, capacity);
+        cut.put(&descriptor.bytes());
+        next += u64::from(descriptor.count);
+        cursor = end;
+        count += 1;
+    }
+    count
+}

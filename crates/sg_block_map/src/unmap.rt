@@ -1,0 +1,119 @@
+ghost use Rattle.std.specs.Prelude.{◌≡◌, ◌+◌, ◌-◌, ◌<◌, ◌≤◌, ◌++◌, ℕ, List, length};
+ghost use Rattle.std.specs.Prelude.{option_to_list, IfSome};
+ghost use Rattle.sg_blocks.specs.Chains.{chain, AreBelow, IsChain};
+ghost use Rattle.sg_blocks.specs.Disk.{unmapped};
+ghost use Rattle.sg_blocks.specs.Records.{contents_of};
+ghost use Rattle.sg_blocks.specs.Slots.{slots_of};
+ghost use Rattle.sg_block_map.specs.Cutting.{AreDistinct, StaysBut, IsCut};
+ghost use Rattle.sg_block_map.specs.Gathering.{AreGathered};
+ghost use Rattle.sg_block_map.specs.Runs.{expanded, AreRuns, blocks_of};
+
+use crate::split::split_at;
+use sg_blocks::draft::Draft;
+use sg_blocks::pool::Pool;
+use sg_blocks::run::Run;
+use sg_blocks::table::RunTable;
+use sg_blocks::{MAX_CAPACITY, MAX_COUNT, MAX_POOL};
+
+/// Keeps a part of a run, if there is one.
+fn keep(remaining: &mut Draft, part: Option<Run>)
+    requires { length remaining.old.records + length (option_to_list part) ≤ remaining.old.room }
+    ensures { remaining.new
+        ≡ record remaining.old { records = remaining.old.records ++ option_to_list part } }
+{
+    if let Some(run) = part {
+        remaining.push(run);
+    }
+}
+
+/// Frees the slots of a part of a run, if there is one.
+fn give(pool: &mut Pool, part: Option<Run>)
+    requires chain { IfSome part (λ run. IsChain pool.old.next run.first run.last run.count) }
+    requires below { AreBelow (length pool.old.next)
+        (slots_of (expanded pool.old.next (option_to_list part))) }
+    requires distinct { AreDistinct (slots_of (expanded pool.old.next (option_to_list part)))
+        pool.old.free }
+    requires room { length (expanded pool.old.next (option_to_list part)) + length pool.old.free
+        ≤ MAX_POOL }
+    ensures free { pool.new.free
+        ≡ slots_of (expanded pool.old.next (option_to_list part)) ++ pool.old.free }
+
+    // Only links of these slots change.
+    ensures stays { StaysBut pool.old.next pool.new.next
+        (slots_of (expanded pool.old.next (option_to_list part))) }
+    ensures length { length pool.new.next ≡ length pool.old.next }
+    ensures pool { pool.new ≡ record pool.old { next = pool.new.next; free = pool.new.free } }
+{
+    if let Some(run) = part {
+        pool.give_chain(run.first, run.last, run.count);
+    }
+}
+
+/// Frees the slots of a run's addresses in a range, and keeps its other parts.
+fn unmap_run(pool: &mut Pool, remaining: &mut Draft, run: Run, low: u64, high: u64)
+    // The slots of the run are a chain, and none of them is free.
+    requires chain { IsChain pool.old.next run.first run.last run.count }
+    requires below { AreBelow (length pool.old.next) (chain pool.old.next run.first run.count) }
+    requires distinct { AreDistinct (chain pool.old.next run.first run.count) pool.old.free }
+    requires slots { run.count + length pool.old.free ≤ MAX_POOL }
+
+    // There is room for the parts, and the links can be counted.
+    requires room { length remaining.old.records + run.count ≤ remaining.old.room }
+    requires range { run.start + run.count ≤ MAX_CAPACITY }
+    requires order { low < high }
+    requires headroom { pool.old.links + run.count ≤ u64.MAX }
+
+    ensures cut { IsCut pool.old pool.new remaining.old.records remaining.new.records run low high }
+    ensures draft { remaining.new ≡ record remaining.old { records = remaining.new.records } }
+
+    // At most as many links are followed as the run has blocks.
+    ensures rise { pool.old.links ≤ pool.new.links }
+    ensures links { pool.new.links ≤ pool.old.links + run.count }
+{
+    let (front, rest) = split_at(pool, run, low);
+    keep(remaining, front);
+    let Some(rest) = rest else {
+        return;
+    };
+    let (gone, back) = split_at(pool, rest, high);
+    give(pool, gone);
+    keep(remaining, back);
+}
+
+/// Unmaps the addresses from one to another in the runs that were gathered, and replaces these in
+/// the table by what remains of them.
+pub fn unmap_runs(
+    table: &mut RunTable,
+    pool: &mut Pool,
+    gathered: &Draft,
+    remaining: &mut Draft,
+    low: u64,
+    high: u64,
+)
+    requires runs { AreRuns table.old.records pool.old table.old.room }
+    requires gathered { AreGathered table.old.records gathered.now low high (MAX_CAPACITY + 1) }
+    requires room { (remaining.old.room ≡ table.old.room) × (table.old.room ≤ MAX_POOL) }
+    requires order { low < high }
+    requires headroom { pool.old.links ≤ MAX_COUNT }
+
+    // The addresses are unmapped. This holds whatever the blocks are, so the others keep their slots.
+    ensures contents { (blocks : List (List ℕ)) →
+        contents_of (expanded pool.new.next table.new.records) blocks
+        ≡ unmapped (contents_of (expanded pool.old.next table.old.records) blocks) low (high - low) }
+    ensures runs { AreRuns table.new.records pool.new table.new.room }
+    ensures table { table.new ≡ record table.old { records = table.new.records } }
+    ensures blocks { pool.new.blocks ≡ pool.old.blocks }
+    ensures draft { remaining.new.room ≡ remaining.old.room }
+
+    // At most as many links are followed as the gathered runs have blocks.
+    ensures rise { pool.old.links ≤ pool.new.links }
+    ensures links { pool.new.links ≤ pool.old.links + blocks_of gathered.now.records }
+{
+    let runs = gathered.records();
+    let from = gathered.from();
+    remaining.begin(from);
+    for i in 0..runs.len() {
+        unmap_run(pool, remaining, runs[i], low, high);
+    }
+    table.splice(from, from + runs.len(), remaining.records());
+}

@@ -1,0 +1,97 @@
+// Going over the addresses of runs in a row.
+ghost use Rattle.std.specs.Prelude.{◌≡◌, ◌+◌, ◌-◌, ◌<◌, ◌≤◌, length, drop, option_to_list};
+ghost use Rattle.sg_blocks.specs.Records.{run_at};
+ghost use Rattle.sg_blocks.specs.Slots.{followed};
+ghost use Rattle.sg_block_map.specs.Runs.{expanded};
+ghost use Rattle.sg_block_map.specs.Walking.{ahead_of, passed, AreAhead, IsWalkFrom};
+
+use crate::split::split_at;
+use sg_blocks::MAX_CAPACITY;
+use sg_blocks::pool::Pool;
+use sg_blocks::run::Run;
+
+/// The addresses that are ahead in a list of runs.
+#[derive(Clone, Copy)]
+pub struct Walk {
+    /// Those of a run of which the first ones may have been passed. None at the end of the list.
+    pub run: Option<Run>,
+    /// The index of the next run.
+    pub at: usize,
+}
+
+impl Walk {
+    /// The runs from an index on are ahead.
+    pub fn new(runs: &[Run], at: usize) -> Walk
+        ensures { ahead_of runs.now result.run result.at ≡ drop at runs.now }
+    {
+        if at < runs.len() {
+            return Walk {
+                run: Some(runs[at]),
+                at: at + 1,
+            };
+        }
+        Walk { run: None, at }
+    }
+
+    /// The run that begins at an address, if it is the first one ahead.
+    pub fn run_at(self, lba: u64) -> Option<Run>
+        ensures { result ≡ run_at self.run lba }
+    {
+        let run = self.run?;
+        if run.start == lba { Some(run) } else { None }
+    }
+
+    /// Passes the first address of the run, which is the first one ahead.
+    pub fn pass(self, pool: &mut Pool, runs: &[Run], run: Run) -> Walk
+        requires not_empty { 0 < run.count }
+        requires range { run.start < MAX_CAPACITY }
+        requires slot { run.first < length pool.old.next }
+        requires headroom { pool.old.links < u64.MAX }
+        ensures ahead { ahead_of runs.now result.run result.at
+            ≡ passed pool.old.next run (drop self.at runs.now) }
+
+        // At most one link is followed.
+        ensures pool { pool.new ≡ followed pool.old (pool.new.links - pool.old.links) }
+        ensures rise { pool.old.links ≤ pool.new.links }
+        ensures links { pool.new.links ≤ pool.old.links + 1 }
+    {
+        if run.count == 1 {
+            return Walk::new(runs, self.at);
+        }
+        let first = pool.next(run.first);
+        let rest = Run {
+            start: run.start + 1,
+            count: run.count - 1,
+            first,
+            last: run.last,
+        };
+        Walk {
+            run: Some(rest),
+            at: self.at,
+        }
+    }
+}
+
+/// The walk over the runs from an address on, and the part of the first run before the address.
+pub fn walk_from(pool: &mut Pool, runs: &[Run], lba: u64) -> (Option<Run>, Walk)
+    requires ahead { AreAhead pool.old.next (length pool.old.next) 0 runs.now }
+    requires headroom { pool.old.links + length (expanded pool.old.next runs.now) ≤ u64.MAX }
+    ensures walk { IsWalkFrom pool.old.next runs.now lba result.0
+        (ahead_of runs.now result.1.run result.1.at) }
+
+    // At most as many links are followed as the part before the address has blocks.
+    ensures pool { pool.new ≡ followed pool.old (pool.new.links - pool.old.links) }
+    ensures rise { pool.old.links ≤ pool.new.links }
+    ensures links { pool.new.links
+        ≤ pool.old.links + length (expanded pool.old.next (option_to_list result.0)) }
+{
+    let walk = Walk::new(runs, 0);
+    let Some(run) = walk.run else {
+        return (None, walk);
+    };
+    let (front, rest) = split_at(pool, run, lba);
+    if rest.is_none() {
+        return (front, Walk::new(runs, 1));
+    }
+    (front, Walk { run: rest, at: 1 })
+}

@@ -1,0 +1,203 @@
+// Writing a range: the runs near it and its addresses become one run.
+ghost use Rattle.std.specs.Prelude.{◌≡◌, ◌+◌, ◌-◌, ◌^◌, ◌<◌, ◌≤◌, ◌++◌, ◌∷◌, ℕ, List, length};
+ghost use Rattle.std.specs.Prelude.{None, Option, option_to_list, unwrap_or, IfSome};
+ghost use Rattle.std.specs.FinMap.{insert};
+ghost use Rattle.sg_blocks.specs.Disk.{replaced, mapped_among};
+ghost use Rattle.sg_blocks.specs.Records.{run_at};
+ghost use Rattle.sg_blocks.specs.Slots.{occurrences, followed};
+ghost use Rattle.sg_blocks.specs.Source.{HasBlocks, block_of};
+ghost use Rattle.sg_block_map.specs.Gathering.{AreNear, AreGathered};
+ghost use Rattle.sg_block_map.specs.Joining.{joined, linked, no_run, IsWriting, IsFinished, KeepSlots};
+ghost use Rattle.sg_block_map.specs.Runs.{expanded, AreMaximal, AreRuns, chained_contents, blocks_of};
+ghost use Rattle.sg_block_map.specs.Walking.{ahead_of, AreAhead, IsWalkFrom};
+
+use crate::walk::{Walk, walk_from};
+use sg_blocks::draft::Draft;
+use sg_blocks::pool::Pool;
+use sg_blocks::run::Run;
+use sg_blocks::source::Source;
+use sg_blocks::table::RunTable;
+use sg_blocks::{BLOCK_LENGTH, MAX_CAPACITY, MAX_COUNT, MAX_POOL};
+
+/// How far a range is written.
+#[derive(Clone, Copy)]
+struct Progress {
+    /// The run of the addresses that are written, with the mapped ones right before the range. At
+    /// first it may have none.
+    done: Run,
+    /// The mapped addresses from the next one on.
+    walk: Walk,
+}
+
+/// Joins a run to the end of another, which may have no address yet.
+fn join(pool: &mut Pool, done: Run, other: Run) -> Run
+    requires slot { 0 < done.count → done.last < length pool.old.next }
+    requires used { 0 < done.count → occurrences done.last pool.old.free ≡ 0 }
+    requires fits { done.count + other.count < 2 ^ 32 }
+    ensures run { result ≡ joined done other }
+    ensures pool { pool.new ≡ record pool.old { next = linked pool.old.next done other.first } }
+{
+    if done.count == 0 {
+        return Run {
+            start: done.start,
+            ..other
+        };
+    }
+    pool.link(done.last, other.first);
+    Run {
+        start: done.start,
+        count: done.count + other.count,
+        first: done.first,
+        last: other.last,
+    }
+}
+
+/// Writes the block at the address where the run ends, and joins the address to the run. A block
+/// that is mapped is written over in its slot, and any other takes a free one.
+fn put_address(
+    pool: &mut Pool,
+    runs: &[Run],
+    progress: Progress,
+    lba: u64,
+    bytes: &[u8],
+) -> Progress
+    requires writing { (before : List Run) × (after : List Run) × IsWriting before progress.done
+        (ahead_of runs.now progress.walk.run progress.walk.at ++ after) pool.old lba }
+    requires free { run_at progress.walk.run lba ≡ None → 0 < length pool.old.free }
+    requires range { lba < MAX_CAPACITY }
+    requires byte_count { length bytes.now ≡ BLOCK_LENGTH }
+    requires fits { progress.done.count < u32.MAX }
+    requires headroom { pool.old.links < u64.MAX }
+
+    // Whatever runs are before and after, the write comes to the next address.
+    ensures step { (before after : List Run)
+        → IsWriting before progress.done
+        (ahead_of runs.now progress.walk.run progress.walk.at ++ after) pool.old lba
+        → AreMaximal (lba + 1) (MAX_CAPACITY + 1) after
+        → IsWriting before result.done
+        (ahead_of runs.now result.walk.run result.walk.at ++ after) pool.new (lba + 1) }
+    ensures contents { (before after : List Run)
+        → IsWriting before progress.done
+        (ahead_of runs.now progress.walk.run progress.walk.at ++ after) pool.old lba
+        → AreMaximal (lba + 1) (MAX_CAPACITY + 1) after
+        → chained_contents
+        (before ++ result.done ∷ (ahead_of runs.now result.walk.run result.walk.at ++ after)) pool.new
+        ≡ insert (chained_contents
+        (before ++ progress.done ∷ (ahead_of runs.now progress.walk.run progress.walk.at ++ after))
+        pool.old) lba bytes.now }
+    ensures keeps { (before after : List Run)
+        → IsWriting before progress.done
+        (ahead_of runs.now progress.walk.run progress.walk.at ++ after) pool.old lba
+        → AreMaximal (lba + 1) (MAX_CAPACITY + 1) after
+        → KeepSlots pool.old.next
+        (before ++ progress.done ∷ (ahead_of runs.now progress.walk.run progress.walk.at ++ after))
+        pool.new.next
+        (before ++ result.done ∷ (ahead_of runs.now result.walk.run result.walk.at ++ after)) }
+    ensures near { (high : ℕ) → lba < high
+        → AreNear 0 high (ahead_of runs.now progress.walk.run progress.walk.at)
+        → AreNear 0 high (ahead_of runs.now result.walk.run result.walk.at) }
+    ensures done { (result.done.start ≡ progress.done.start)
+        × (result.done.count ≡ progress.done.count + 1) }
+    ensures length { length pool.new.next ≡ length pool.old.next }
+
+    // A link is followed only where a mapped address is passed.
+    ensures rise { pool.old.links ≤ pool.new.links }
+    ensures links { pool.new.links + blocks_of (ahead_of runs.now result.walk.run result.walk.at)
+        ≤ pool.old.links + blocks_of (ahead_of runs.now progress.walk.run progress.walk.at) }
+{
+    let Some(run) = progress.walk.run_at(lba) else {
+        let slot = pool.take();
+        pool.set(slot, bytes);
+        let done = join(pool, progress.done, Run::single(lba, slot));
+        return Progress {
+            done,
+            walk: progress.walk,
+        };
+    };
+    let walk = progress.walk.pass(pool, runs, run);
+    pool.set(run.first, bytes);
+    let done = join(pool, progress.done, Run::single(lba, run.first));
+    Progress { done, walk }
+}
+
+/// Splits the runs at the first address of a range: the part before it is to be joined.
+fn begin(pool: &mut Pool, runs: &[Run], lba: u64) -> Progress
+    requires ahead { AreAhead pool.old.next (length pool.old.next) 0 runs.now }
+    requires headroom { pool.old.links + length (expanded pool.old.next runs.now) ≤ u64.MAX }
+    ensures front { (front : Option Run)
+        × IsWalkFrom pool.old.next runs.now lba front
+        (ahead_of runs.now result.walk.run result.walk.at)
+        × (result.done ≡ unwrap_or front (no_run lba))
+        × (pool.new.links ≤ pool.old.links
+        + length (expanded pool.old.next (option_to_list front))) }
+    ensures pool { pool.new ≡ followed pool.old (pool.new.links - pool.old.links) }
+    ensures rise { pool.old.links ≤ pool.new.links }
+{
+    let (front, walk) = walk_from(pool, runs, lba);
+    let none = Run {
+        start: lba,
+        count: 0,
+        first: 0,
+        last: 0,
+    };
+    Progress {
+        done: front.unwrap_or(none),
+        walk,
+    }
+}
+
+/// Joins the run that is ahead, which meets or touches the end of the range.
+fn finish(pool: &mut Pool, progress: Progress) -> Run
+    requires slot { 0 < progress.done.count → progress.done.last < length pool.old.next }
+    requires used { 0 < progress.done.count → occurrences progress.done.last pool.old.free ≡ 0 }
+    requires fits { IfSome progress.walk.run (λ run. progress.done.count + run.count < 2 ^ 32) }
+    ensures { IsFinished pool.old pool.new progress.done progress.walk.run result }
+{
+    match progress.walk.run {
+        Some(run) => join(pool, progress.done, run),
+        None => progress.done,
+    }
+}
+
+/// Replaces the blocks from an address on by those of a source. The runs near the range and its
+/// addresses become one run of the table. There have to be free slots for the addresses that are
+/// not mapped.
+pub fn write_runs(
+    table: &mut RunTable,
+    pool: &mut Pool,
+    gathered: &Draft,
+    lba: u64,
+    count: u32,
+    source: &Source,
+)
+    requires runs { AreRuns table.old.records pool.old table.old.room }
+    requires gathered { AreGathered table.old.records gathered.now lba (lba + count) (MAX_CAPACITY + 1) }
+    requires not_empty { 0 < count }
+    requires range { lba + count ≤ MAX_CAPACITY }
+    requires blocks { HasBlocks source.now count }
+    requires room { table.old.room ≤ MAX_POOL }
+    requires free { count ≤ length pool.old.free
+        + mapped_among (chained_contents table.old.records pool.old) lba count }
+    requires headroom { pool.old.links ≤ MAX_COUNT }
+
+    // The blocks are replaced, and each mapped address keeps its slot.
+    ensures contents { chained_contents table.new.records pool.new
+        ≡ replaced (chained_contents table.old.records pool.old) lba count (block_of source.now) }
+    ensures runs { AreRuns table.new.records pool.new table.new.room }
+    ensures keeps { KeepSlots pool.old.next table.old.records pool.new.next table.new.records }
+    ensures table { table.new ≡ record table.old { records = table.new.records } }
+
+    // At most as many links are followed as the gathered runs have blocks.
+    ensures rise { pool.old.links ≤ pool.new.links }
+    ensures links { pool.new.links ≤ pool.old.links + blocks_of gathered.now.records }
+{
+    let runs = gathered.records();
+    let from = gathered.from();
+    let mut progress = begin(pool, runs, lba);
+    for i in 0..count {
+        let block = source.block(i as usize);
+        progress = put_address(pool, runs, progress, lba + u64::from(i), block);
+    }
+    let run = finish(pool, progress);
+    table.splice(from, from + runs.len(), &[run]);
+}
