@@ -1,29 +1,36 @@
 -- Single addresses that lie between two others, and runs that do.
-use Rattle.std.proofs.Common.{◌≡◌, ◌≢◌, ℕ, ◌+◌, ◌-◌, ◌<◌, ◌≤◌, zero, suc, List, [], ◌∷◌, ◌++◌, length, arith, refl, inl, inr, length-append}
+use Rattle.std.proofs.Common.{◌≡◌, ◌≢◌, ℕ, ◌+◌, ◌-◌, ◌<◌, ◌≤◌, zero, suc, List, [], ◌∷◌, ◌++◌}
+use Rattle.std.proofs.Common.{length, arith, refl, inl, inr, length-append}
 use Rattle.std.proofs.lemmas.Bool.{cases_lt}
 use Rattle.std.specs.Prelude.{slice_index}
 use Rattle.sg_blocks.specs.Records.{start_of, IsSorted, IsLowerBound}
-use Rattle.sg_block_map.specs.Runs.{end_of, singles, singles_of, expanded, AreMaximal, AreBetween}
 use Rattle.sg_blocks.specs.declared.run.Run.{Run}
+use Rattle.sg_block_map.specs.Runs.{end_of, singles, singles_of, expanded, AreMaximal, AreBetween}
 
 pub between-le : (xs : List Run) (a b : ℕ) → AreBetween a b xs → a ≤ b
 between-le [] a b h = h
 between-le (x ∷ xs) a b h = let rest = between-le xs (x.start + 1) b h.1 in omega arith
 
-pub between-weaker : (xs : List Run) (a b a' b' : ℕ) → a' ≤ a → b ≤ b' → AreBetween a b xs → AreBetween a' b' xs
+pub between-weaker : (xs : List Run) (a b a' b' : ℕ) → a' ≤ a → b ≤ b' → AreBetween a b xs
+    → AreBetween a' b' xs
 between-weaker [] a b a' b' l r h = omega arith
-between-weaker (x ∷ xs) a b a' b' l r h = (omega (arith, h.0), between-weaker xs (x.start + 1) b (x.start + 1) b' (omega arith) r h.1)
+between-weaker (x ∷ xs) a b a' b' l r h = (omega (arith, h.0),
+    between-weaker xs (x.start + 1) b (x.start + 1) b' (omega arith) r h.1)
 
-pub between-append : (xs ys : List Run) (a m b : ℕ) → AreBetween a m xs → AreBetween m b ys → AreBetween a b (xs ++ ys)
+pub between-append : (xs ys : List Run) (a m b : ℕ) → AreBetween a m xs → AreBetween m b ys
+    → AreBetween a b (xs ++ ys)
 between-append [] ys a m b h k = between-weaker ys m b a b h (omega arith) k
 between-append (x ∷ xs) ys a m b h k = (h.0, between-append xs ys (x.start + 1) m b h.1 k)
 
-pub between-low : (xs : List Run) (a b i : ℕ) → AreBetween a b xs → i < length xs → a ≤ start_of xs i
+pub between-low : (xs : List Run) (a b i : ℕ) → AreBetween a b xs → i < length xs
+    → a ≤ start_of xs i
 between-low [] a b i h lt = absurd (omega arith)
 between-low (x ∷ xs) a b zero h lt = h.0
-between-low (x ∷ xs) a b (suc i) h lt = let rest = between-low xs (x.start + 1) b i h.1 (omega arith) in omega (arith, h.0)
+between-low (x ∷ xs) a b (suc i) h lt = let rest =
+    between-low xs (x.start + 1) b i h.1 (omega arith) in omega (arith, h.0)
 
-pub between-high : (xs : List Run) (a b i : ℕ) → AreBetween a b xs → i < length xs → start_of xs i < b
+pub between-high : (xs : List Run) (a b i : ℕ) → AreBetween a b xs → i < length xs
+    → start_of xs i < b
 between-high [] a b i h lt = absurd (omega arith)
 between-high (x ∷ xs) a b zero h lt = let rest = between-le xs (x.start + 1) b h.1 in omega arith
 between-high (x ∷ xs) a b (suc i) h lt = between-high xs (x.start + 1) b i h.1 (omega arith)
@@ -32,64 +39,84 @@ pub sorted-between : (xs : List Run) (a b : ℕ) → AreBetween a b xs → IsSor
 sorted-between [] a b h i j lt below = absurd (omega arith)
 sorted-between (x ∷ xs) a b h zero zero lt below = absurd (omega arith)
 sorted-between (x ∷ xs) a b h (suc i) zero lt below = absurd (omega arith)
-sorted-between (x ∷ xs) a b h zero (suc j) lt below = let up = between-low xs (x.start + 1) b j h.1 (omega arith) in omega arith
-sorted-between (x ∷ xs) a b h (suc i) (suc j) lt below = sorted-between xs (x.start + 1) b h.1 i j (omega arith) (omega arith)
+sorted-between (x ∷ xs) a b h zero (suc j) lt below = let up =
+    between-low xs (x.start + 1) b j h.1 (omega arith) in omega arith
+sorted-between (x ∷ xs) a b h (suc i) (suc j) lt below =
+    sorted-between xs (x.start + 1) b h.1 i j (omega arith) (omega arith)
 
-pub start_of-left : (xs ys : List Run) (i : ℕ) → i < length xs → start_of (xs ++ ys) i ≡ start_of xs i
+pub start_of-left : (xs ys : List Run) (i : ℕ) → i < length xs
+    → start_of (xs ++ ys) i ≡ start_of xs i
 start_of-left [] ys i lt = absurd (omega arith)
 start_of-left (x ∷ xs) ys zero lt = refl
 start_of-left (x ∷ xs) ys (suc i) lt = start_of-left xs ys i (omega arith)
 
-pub start_of-right : (xs ys : List Run) (i : ℕ) → length xs ≤ i → start_of (xs ++ ys) i ≡ start_of ys (i - length xs)
+pub start_of-right : (xs ys : List Run) (i : ℕ) → length xs ≤ i
+    → start_of (xs ++ ys) i ≡ start_of ys (i - length xs)
 start_of-right [] ys i le = let e : i - 0 ≡ i = omega arith in rw e refl
 start_of-right (x ∷ xs) ys zero le = absurd (omega arith)
-start_of-right (x ∷ xs) ys (suc i) le = let e : suc i - suc (length xs) ≡ i - length xs = omega arith in rw e (start_of-right xs ys i (omega arith))
+start_of-right (x ∷ xs) ys (suc i) le = let e : suc i - suc (length xs) ≡ i - length xs =
+    omega arith in rw e (start_of-right xs ys i (omega arith))
 
 -- the place of an address is where those end_index it begin
-pub index-between : (xs ys : List Run) (a m n b : ℕ) → AreBetween a m xs → AreBetween n b ys → m ≤ n → IsLowerBound (xs ++ ys) (length xs) m
+pub index-between : (xs ys : List Run) (a m n b : ℕ) → AreBetween a m xs → AreBetween n b ys → m ≤ n
+    → IsLowerBound (xs ++ ys) (length xs) m
 index-between xs ys a m n b h k le =
     let len = length-append xs ys in
     record {
       within = omega arith;
-      before = λ i lt. let s = start_of-left xs ys i lt in let up = between-high xs a m i h lt in omega arith;
-      after = λ i ge lt. let s = start_of-right xs ys i ge in let up = between-low ys n b (i - length xs) k (omega arith) in omega arith;
+      before = λ i lt. let s = start_of-left xs ys i lt in let up = between-high xs a m i h lt in
+          omega arith;
+      after = λ i ge lt. let s = start_of-right xs ys i ge in
+          let up = between-low ys n b (i - length xs) k (omega arith) in omega arith;
     }
 
 -- an address that lies between the two parts
-pub none-between : (xs ys : List Run) (a m n b q : ℕ) → AreBetween a m xs → AreBetween n b ys → m ≤ q → q < n → (j : ℕ) → j < length (xs ++ ys) → start_of (xs ++ ys) j ≢ q
+pub none-between : (xs ys : List Run) (a m n b q : ℕ) → AreBetween a m xs → AreBetween n b ys
+    → m ≤ q → q < n → (j : ℕ) → j < length (xs ++ ys) → start_of (xs ++ ys) j ≢ q
 none-between xs ys a m n b q h k le lt j low same =
     let len = length-append xs ys in
     elim (cases_lt j (length xs)) [
-      | inl in_xs ↦ let s = start_of-left xs ys j in_xs in let up = between-high xs a m j h in_xs in absurd (omega arith)
-      | inr in_ys ↦ let s = start_of-right xs ys j in_ys in let up = between-low ys n b (j - length xs) k (omega arith) in absurd (omega arith)
+      | inl in_xs ↦ let s = start_of-left xs ys j in_xs in let up = between-high xs a m j h in_xs in
+          absurd (omega arith)
+      | inr in_ys ↦ let s = start_of-right xs ys j in_ys in
+          let up = between-low ys n b (j - length xs) k (omega arith) in absurd (omega arith)
     ]
 
 -- addresses of runs
-pub between-singles : (next : List ℕ) (start first n : ℕ) → AreBetween start (start + n) (singles next start first n)
+pub between-singles : (next : List ℕ) (start first n : ℕ)
+    → AreBetween start (start + n) (singles next start first n)
 unfolding singles
 between-singles next start first zero = omega arith
 between-singles next start first (suc n) =
     let e : start + 1 + n ≡ start + suc n = omega arith in
     (omega arith, rw e at (between-singles next (start + 1) (slice_index next first) n))
 
-pub between-expanded : (next : List ℕ) (runs : List Run) (a b : ℕ) → AreMaximal a b runs → AreBetween a b (expanded next runs)
+pub between-expanded : (next : List ℕ) (runs : List Run) (a b : ℕ) → AreMaximal a b runs
+    → AreBetween a b (expanded next runs)
 unfolding expanded
 between-expanded next [] a b h = h
 between-expanded next (run ∷ runs) a b h =
     let rest = between-expanded next runs (end_of run + 1) b h.1 in
     between-append (singles_of next run) (expanded next runs) a (end_of run) b
-    (between-weaker (singles_of next run) run.start (end_of run) a (end_of run) h.0 (omega arith) (between-singles next run.start run.first run.count))
-    (between-weaker (expanded next runs) (end_of run + 1) b (end_of run) b (omega arith) (omega arith) rest)
+    (between-weaker (singles_of next run) run.start (end_of run) a (end_of run) h.0 (omega arith)
+    (between-singles next run.start run.first run.count))
+    (between-weaker (expanded next runs) (end_of run + 1) b (end_of run) b (omega arith)
+    (omega arith) rest)
 
 pub maximal-le : (runs : List Run) (a b : ℕ) → AreMaximal a b runs → a ≤ b
 maximal-le [] a b h = h
-maximal-le (run ∷ runs) a b h = let rest = maximal-le runs (end_of run + 1) b h.1 in omega (arith, h.0)
+maximal-le (run ∷ runs) a b h = let rest = maximal-le runs (end_of run + 1) b h.1 in
+    omega (arith, h.0)
 
-pub maximal-weaker : (runs : List Run) (a b a' b' : ℕ) → a' ≤ a → b ≤ b' → AreMaximal a b runs → AreMaximal a' b' runs
+pub maximal-weaker : (runs : List Run) (a b a' b' : ℕ) → a' ≤ a → b ≤ b' → AreMaximal a b runs
+    → AreMaximal a' b' runs
 maximal-weaker [] a b a' b' l r h = omega arith
-maximal-weaker (run ∷ runs) a b a' b' l r h = (omega (arith, h.0), maximal-weaker runs (end_of run + 1) b (end_of run + 1) b' (omega arith) r h.1)
+maximal-weaker (run ∷ runs) a b a' b' l r h =
+    (omega (arith, h.0), maximal-weaker runs (end_of run + 1) b (end_of run + 1) b'
+    (omega arith) r h.1)
 
-pub maximal-append : (xs ys : List Run) (a m b : ℕ) → AreMaximal a m xs → AreMaximal m b ys → AreMaximal a b (xs ++ ys)
+pub maximal-append : (xs ys : List Run) (a m b : ℕ) → AreMaximal a m xs → AreMaximal m b ys
+    → AreMaximal a b (xs ++ ys)
 maximal-append [] ys a m b h k = maximal-weaker ys m b a b h (omega arith) k
 maximal-append (x ∷ xs) ys a m b h k = (h.0, maximal-append xs ys (end_of x + 1) m b h.1 k)
 
@@ -98,17 +125,21 @@ abbrev pub behind : (low : ℕ) → List Run → ℕ
 behind low [] = low
 behind low (run ∷ runs) = behind (end_of run + 1) runs
 
-pub maximal-left : (xs ys : List Run) (a b : ℕ) → AreMaximal a b (xs ++ ys) → AreMaximal a (behind a xs) xs
+pub maximal-left : (xs ys : List Run) (a b : ℕ) → AreMaximal a b (xs ++ ys)
+    → AreMaximal a (behind a xs) xs
 maximal-left [] ys a b h = omega arith
 maximal-left (x ∷ xs) ys a b h = (h.0, maximal-left xs ys (end_of x + 1) b h.1)
 
-pub maximal-right : (xs ys : List Run) (a b : ℕ) → AreMaximal a b (xs ++ ys) → AreMaximal (behind a xs) b ys
+pub maximal-right : (xs ys : List Run) (a b : ℕ) → AreMaximal a b (xs ++ ys)
+    → AreMaximal (behind a xs) b ys
 maximal-right [] ys a b h = h
 maximal-right (x ∷ xs) ys a b h = maximal-right xs ys (end_of x + 1) b h.1
 
 pub maximal-between : (runs : List Run) (a b : ℕ) → AreMaximal a b runs → AreBetween a b runs
 maximal-between [] a b h = h
-maximal-between (run ∷ runs) a b h = (h.0, between-weaker runs (end_of run + 1) b (run.start + 1) b (omega arith) (omega arith) (maximal-between runs (end_of run + 1) b h.1))
+maximal-between (run ∷ runs) a b h =
+    (h.0, between-weaker runs (end_of run + 1) b (run.start + 1) b (omega arith) (omega arith)
+    (maximal-between runs (end_of run + 1) b h.1))
 
 pub maximal-sorted : (runs : List Run) (a b : ℕ) → AreMaximal a b runs → IsSorted runs
 maximal-sorted runs a b h = sorted-between runs a b (maximal-between runs a b h)

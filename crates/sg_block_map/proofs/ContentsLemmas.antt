@@ -1,75 +1,109 @@
 -- Contents of records in several parts, and contents without the addresses of a range.
-use Rattle.std.proofs.Common.{◌≡◌, ℕ, ◌+◌, ◌<◌, ◌≤◌, zero, suc, List, [], ◌∷◌, ◌++◌, arith, refl, sym, ap, ap₂, ◌∙◌, inl, inr, Option, Some, None, cond, Bool, true, false}
+use Rattle.std.proofs.Common.{◌≡◌, ℕ, ◌+◌, ◌<◌, ◌≤◌, zero, suc, List, [], ◌∷◌, ◌++◌, arith, refl}
+use Rattle.std.proofs.Common.{sym, ap, ap₂, ◌∙◌, inl, inr, Option, Some, None, cond, Bool, true}
+use Rattle.std.proofs.Common.{false}
 use Rattle.std.proofs.lemmas.Bool.{cases_lt}
 use Rattle.std.proofs.lemmas.Bool.Decides.{nat_tests}
-use Rattle.std.specs.Prelude.{slice_index_or, unwrap_or, not, is_some}
-use Rattle.std.specs.Ordering.{nat_cmp, eq_by_cmp}
 use Rattle.std.specs.Cmp.{nat_cmp_total}
 use Rattle.std.specs.FinMap as map
-use Rattle.std.specs.FinMap.{find, get-from_entries, get-retain_keys, same_map, nat_cmp-IsAntisymmetric}
+use Rattle.std.specs.FinMap.{find, get-from_entries, get-retain_keys, same_map}
+use Rattle.std.specs.FinMap.{nat_cmp-IsAntisymmetric}
+use Rattle.std.specs.Ordering.{nat_cmp, eq_by_cmp}
+use Rattle.std.specs.Prelude.{slice_index_or, unwrap_or, not, is_some}
 use Rattle.sg_blocks.specs.Disk.{Contents, zero_block, blocks, mapped_among, lies_in, unmapped}
 use Rattle.sg_blocks.specs.Records.{mapped_blocks, contents_of}
-use Rattle.sg_block_map.specs.Runs.{AreBetween}
 use Rattle.sg_blocks.specs.declared.run.Run.{Run}
+use Rattle.sg_block_map.specs.Runs.{AreBetween}
+use Rattle.sg_blocks.proofs.DiskLemmas.{blocks-none, blocks-more, mapped_among-none}
+use Rattle.sg_blocks.proofs.DiskLemmas.{mapped_among-more}
 use Rattle.sg_blocks.proofs.RecordLemmas.{find-unmapped}
 use Rattle.sg_block_map.proofs.BetweenLemmas.{between-low, between-high}
-use Rattle.sg_blocks.proofs.DiskLemmas.{blocks-none, blocks-more, mapped_among-none, mapped_among-more}
 
 -- outside the addresses between which records lie
-pub find-below : (xs : List Run) (bs : List (List ℕ)) (a b q : ℕ) → AreBetween a b xs → q < a → find nat_cmp q (mapped_blocks xs bs) ≡ None
-find-below xs bs a b q h lt = find-unmapped xs bs q (λ i low same. let up = between-low xs a b i h low in absurd (omega arith))
+pub find-below : (xs : List Run) (bs : List (List ℕ)) (a b q : ℕ) → AreBetween a b xs → q < a
+    → find nat_cmp q (mapped_blocks xs bs) ≡ None
+find-below xs bs a b q h lt = find-unmapped xs bs q
+    (λ i low same. let up = between-low xs a b i h low in absurd (omega arith))
 
-pub find-above : (xs : List Run) (bs : List (List ℕ)) (a b q : ℕ) → AreBetween a b xs → b ≤ q → find nat_cmp q (mapped_blocks xs bs) ≡ None
-find-above xs bs a b q h le = find-unmapped xs bs q (λ i low same. let up = between-high xs a b i h low in absurd (omega arith))
+pub find-above : (xs : List Run) (bs : List (List ℕ)) (a b q : ℕ) → AreBetween a b xs → b ≤ q
+    → find nat_cmp q (mapped_blocks xs bs) ≡ None
+find-above xs bs a b q h le = find-unmapped xs bs q
+    (λ i low same. let up = between-high xs a b i h low in absurd (omega arith))
 
-blank : (c : Bool) (v : List ℕ) (o : Option (List ℕ)) → cond c (Some v) o ≡ None → (c ≡ false) × (o ≡ None)
+blank : (c : Bool) (v : List ℕ) (o : Option (List ℕ)) → cond c (Some v) o ≡ None → (c ≡ false)
+    × (o ≡ None)
 blank true v o e = let wrong = e in cc
 blank false v o e = (refl, e)
 
 -- the first part has no record of the address
-pub find-right : (xs ys : List Run) (bs : List (List ℕ)) (q : ℕ) → find nat_cmp q (mapped_blocks xs bs) ≡ None → find nat_cmp q (mapped_blocks (xs ++ ys) bs) ≡ find nat_cmp q (mapped_blocks ys bs)
+pub find-right : (xs ys : List Run) (bs : List (List ℕ)) (q : ℕ)
+    → find nat_cmp q (mapped_blocks xs bs) ≡ None
+    → find nat_cmp q (mapped_blocks (xs ++ ys) bs) ≡ find nat_cmp q (mapped_blocks ys bs)
 find-right [] ys bs q none = refl
 find-right (x ∷ xs) ys bs q none =
-    let both = blank (eq_by_cmp nat_cmp q x.start) (slice_index_or bs x.first zero_block) (find nat_cmp q (mapped_blocks xs bs)) none in
+    let both = blank (eq_by_cmp nat_cmp q x.start) (slice_index_or bs x.first zero_block)
+        (find nat_cmp q (mapped_blocks xs bs)) none in
     rw both.0 (find-right xs ys bs q both.1)
 
 -- the second part has none
-pub find-left : (xs ys : List Run) (bs : List (List ℕ)) (q : ℕ) → find nat_cmp q (mapped_blocks ys bs) ≡ None → find nat_cmp q (mapped_blocks (xs ++ ys) bs) ≡ find nat_cmp q (mapped_blocks xs bs)
+pub find-left : (xs ys : List Run) (bs : List (List ℕ)) (q : ℕ)
+    → find nat_cmp q (mapped_blocks ys bs) ≡ None
+    → find nat_cmp q (mapped_blocks (xs ++ ys) bs) ≡ find nat_cmp q (mapped_blocks xs bs)
 find-left [] ys bs q none = none
-find-left (x ∷ xs) ys bs q none = ap (cond (eq_by_cmp nat_cmp q x.start) (Some (slice_index_or bs x.first zero_block))) (find-left xs ys bs q none)
+find-left (x ∷ xs) ys bs q none =
+    ap (cond (eq_by_cmp nat_cmp q x.start) (Some (slice_index_or bs x.first zero_block)))
+    (find-left xs ys bs q none)
 
 -- only the middle part can have one
-pub find-middle : (xs ys zs : List Run) (bs : List (List ℕ)) (a b c d q : ℕ) → AreBetween a b xs → b ≤ q → AreBetween c d zs → q < c
+pub find-middle : (xs ys zs : List Run) (bs : List (List ℕ)) (a b c d q : ℕ) → AreBetween a b xs
+    → b ≤ q → AreBetween c d zs → q < c
     → find nat_cmp q (mapped_blocks (xs ++ (ys ++ zs)) bs) ≡ find nat_cmp q (mapped_blocks ys bs)
-find-middle xs ys zs bs a b c d q h le k lt = find-right xs (ys ++ zs) bs q (find-above xs bs a b q h le) ∙ find-left ys zs bs q (find-below zs bs c d q k lt)
+find-middle xs ys zs bs a b c d q h le k lt =
+    find-right xs (ys ++ zs) bs q (find-above xs bs a b q h le)
+    ∙ find-left ys zs bs q (find-below zs bs c d q k lt)
 
-pub get-middle : (xs ys zs : List Run) (bs : List (List ℕ)) (a b c d q : ℕ) → AreBetween a b xs → b ≤ q → AreBetween c d zs → q < c
+pub get-middle : (xs ys zs : List Run) (bs : List (List ℕ)) (a b c d q : ℕ) → AreBetween a b xs
+    → b ≤ q → AreBetween c d zs → q < c
     → map.get (contents_of (xs ++ (ys ++ zs)) bs) q ≡ map.get (contents_of ys bs) q
 get-middle xs ys zs bs a b c d q h le k lt =
-    get-from_entries nat_cmp_total (mapped_blocks (xs ++ (ys ++ zs)) bs) q ∙ find-middle xs ys zs bs a b c d q h le k lt ∙ sym (get-from_entries nat_cmp_total (mapped_blocks ys bs) q)
+    get-from_entries nat_cmp_total (mapped_blocks (xs ++ (ys ++ zs)) bs) q
+        ∙ find-middle xs ys zs bs a b c d q h le k lt
+        ∙ sym (get-from_entries nat_cmp_total (mapped_blocks ys bs) q)
 
 -- what a range of the contents tells
-pub blocks-same : (m n : Contents) (lba count : ℕ) → ((q : ℕ) → lba ≤ q → q < lba + count → map.get m q ≡ map.get n q) → blocks m lba count ≡ blocks n lba count
+pub blocks-same : (m n : Contents) (lba count : ℕ)
+    → ((q : ℕ) → lba ≤ q → q < lba + count → map.get m q ≡ map.get n q)
+    → blocks m lba count ≡ blocks n lba count
 blocks-same m n lba zero same = blocks-none m lba ∙ sym (blocks-none n lba)
 blocks-same m n lba (suc count) same =
     let e : suc count ≡ count + 1 = omega arith in
-    rw e (blocks-more m lba count ∙ ap₂ (λ xs ys. xs ++ ys) (blocks-same m n lba count (λ q le lt. same q le (omega arith))) (ap (λ o. unwrap_or o zero_block) (same (lba + count) (omega arith) (omega arith))) ∙ sym (blocks-more n lba count))
+    rw e (blocks-more m lba count ∙ ap₂ (λ xs ys. xs ++ ys)
+        (blocks-same m n lba count (λ q le lt. same q le (omega arith)))
+        (ap (λ o. unwrap_or o zero_block) (same (lba + count) (omega arith) (omega arith)))
+        ∙ sym (blocks-more n lba count))
 
-pub mapped_among-same : (m n : Contents) (lba count : ℕ) → ((q : ℕ) → lba ≤ q → q < lba + count → map.get m q ≡ map.get n q) → mapped_among m lba count ≡ mapped_among n lba count
+pub mapped_among-same : (m n : Contents) (lba count : ℕ)
+    → ((q : ℕ) → lba ≤ q → q < lba + count → map.get m q ≡ map.get n q)
+    → mapped_among m lba count ≡ mapped_among n lba count
 mapped_among-same m n lba zero same = mapped_among-none m lba ∙ sym (mapped_among-none n lba)
 mapped_among-same m n lba (suc count) same =
     let e : suc count ≡ count + 1 = omega arith in
-    rw e (mapped_among-more m lba count ∙ ap₂ (λ x y. x + y) (mapped_among-same m n lba count (λ q le lt. same q le (omega arith))) (ap (λ o. cond (is_some o) 1 0) (same (lba + count) (omega arith) (omega arith))) ∙ sym (mapped_among-more n lba count))
+    rw e (mapped_among-more m lba count ∙ ap₂ (λ x y. x + y)
+        (mapped_among-same m n lba count (λ q le lt. same q le (omega arith)))
+        (ap (λ o. cond (is_some o) 1 0) (same (lba + count) (omega arith) (omega arith)))
+        ∙ sym (mapped_among-more n lba count))
 
 -- contents without the addresses of a range
 turned : (b : Bool) (o : Option (List ℕ)) → cond (not b) o None ≡ cond b None o
 turned true o = refl
 turned false o = refl
 
-pub get-unmapped : (m : Contents) (lba count q : ℕ) → map.get (unmapped m lba count) q ≡ cond (lies_in lba count q) None (map.get m q)
+pub get-unmapped : (m : Contents) (lba count q : ℕ)
+    → map.get (unmapped m lba count) q ≡ cond (lies_in lba count q) None (map.get m q)
 unfolding unmapped
 get-unmapped m lba count q =
-    get-retain_keys m (λ x. not (lies_in lba count x)) q (λ x tied. ap (λ k. not (lies_in lba count k)) (sym (nat_cmp-IsAntisymmetric q x tied)))
+    get-retain_keys m (λ x. not (lies_in lba count x)) q
+        (λ x tied. ap (λ k. not (lies_in lba count k)) (sym (nat_cmp-IsAntisymmetric q x tied)))
     ∙ turned (lies_in lba count q) (map.get m q)
 
 pub inside : (a k q : ℕ) → a ≤ q → q < a + k → lies_in a k q ≡ true
@@ -81,31 +115,41 @@ below a k q h = grind (arith, nat_tests)
 pub above : (a k q : ℕ) → a + k ≤ q → lies_in a k q ≡ false
 above a k q h = grind (arith, nat_tests)
 
-find-without : (xs ys zs : List Run) (bs : List (List ℕ)) (a lba count b q : ℕ) → AreBetween a lba xs → AreBetween lba (lba + count) ys → AreBetween (lba + count) b zs
-    → find nat_cmp q (mapped_blocks (xs ++ zs) bs) ≡ cond (lies_in lba count q) None (find nat_cmp q (mapped_blocks (xs ++ (ys ++ zs)) bs))
+find-without : (xs ys zs : List Run) (bs : List (List ℕ)) (a lba count b q : ℕ)
+    → AreBetween a lba xs → AreBetween lba (lba + count) ys → AreBetween (lba + count) b zs
+    → find nat_cmp q (mapped_blocks (xs ++ zs) bs) ≡
+    cond (lies_in lba count q) None (find nat_cmp q (mapped_blocks (xs ++ (ys ++ zs)) bs))
 find-without xs ys zs bs a lba count b q h k l = elim (cases_lt q lba) [
   | inl lt ↦ rw (below lba count q lt) (
       find-left xs zs bs q (find-below zs bs (lba + count) b q l (omega arith))
-      ∙ sym (find-left xs (ys ++ zs) bs q (find-right ys zs bs q (find-below ys bs lba (lba + count) q k lt) ∙ find-below zs bs (lba + count) b q l (omega arith))))
+      ∙ sym (find-left xs (ys ++ zs) bs q (find-right ys zs bs q
+      (find-below ys bs lba (lba + count) q k lt)
+      ∙ find-below zs bs (lba + count) b q l (omega arith))))
   | inr ge ↦ elim (cases_lt q (lba + count)) [
-    | inl lt ↦ rw (inside lba count q ge lt) (find-right xs zs bs q (find-above xs bs a lba q h ge) ∙ find-below zs bs (lba + count) b q l lt)
+    | inl lt ↦ rw (inside lba count q ge lt) (find-right xs zs bs q (find-above xs bs a lba q h ge)
+        ∙ find-below zs bs (lba + count) b q l lt)
     | inr beyond ↦ rw (above lba count q beyond) (
         find-right xs zs bs q (find-above xs bs a lba q h ge)
-        ∙ sym (find-right xs (ys ++ zs) bs q (find-above xs bs a lba q h ge) ∙ find-right ys zs bs q (find-above ys bs lba (lba + count) q k beyond)))
+        ∙ sym (find-right xs (ys ++ zs) bs q (find-above xs bs a lba q h ge)
+        ∙ find-right ys zs bs q (find-above ys bs lba (lba + count) q k beyond)))
   ]
 ]
 
 -- records of the range left out
-pub contents-without : (xs ys zs : List Run) (bs : List (List ℕ)) (a lba count b : ℕ) → AreBetween a lba xs → AreBetween lba (lba + count) ys → AreBetween (lba + count) b zs
+pub contents-without : (xs ys zs : List Run) (bs : List (List ℕ)) (a lba count b : ℕ)
+    → AreBetween a lba xs → AreBetween lba (lba + count) ys → AreBetween (lba + count) b zs
     → contents_of (xs ++ zs) bs ≡ unmapped (contents_of (xs ++ (ys ++ zs)) bs) lba count
-contents-without xs ys zs bs a lba count b h k l = same_map nat_cmp_total nat_cmp-IsAntisymmetric _ _ (λ q.
+contents-without xs ys zs bs a lba count b h k l =
+    same_map nat_cmp_total nat_cmp-IsAntisymmetric _ _ (λ q.
     get-from_entries nat_cmp_total (mapped_blocks (xs ++ zs) bs) q
     ∙ find-without xs ys zs bs a lba count b q h k l
-    ∙ ap (cond (lies_in lba count q) None) (sym (get-from_entries nat_cmp_total (mapped_blocks (xs ++ (ys ++ zs)) bs) q))
+    ∙ ap (cond (lies_in lba count q) None) (sym
+    (get-from_entries nat_cmp_total (mapped_blocks (xs ++ (ys ++ zs)) bs) q))
     ∙ sym (get-unmapped (contents_of (xs ++ (ys ++ zs)) bs) lba count q))
 
 outside : (a x : ℕ) → lies_in a 0 x ≡ false
 outside a x = grind (arith, nat_tests)
 
 pub unmapped-none : (m : Contents) (lba : ℕ) → unmapped m lba 0 ≡ m
-unmapped-none m lba = same_map nat_cmp_total nat_cmp-IsAntisymmetric _ _ (λ q. get-unmapped m lba 0 q ∙ ap (λ b. cond b None (map.get m q)) (outside lba q))
+unmapped-none m lba = same_map nat_cmp_total nat_cmp-IsAntisymmetric _ _
+    (λ q. get-unmapped m lba 0 q ∙ ap (λ b. cond b None (map.get m q)) (outside lba q))

@@ -1,98 +1,157 @@
 -- A table of runs of which one is cut.
-use Rattle.std.proofs.Common.{◌≡◌, ℕ, ◌+◌, ◌-◌, ◌<◌, ◌≤◌, suc, List, [], ◌∷◌, ◌++◌, length, take, drop, get_or, arith, refl, sym, ap, ap₂, ◌∙◌, append_assoc, length-append, Option, Some, None, cond, inl, inr}
+use Rattle.std.proofs.Common.{◌≡◌, ℕ, ◌+◌, ◌-◌, ◌<◌, ◌≤◌, suc, List, [], ◌∷◌, ◌++◌, length, take}
+use Rattle.std.proofs.Common.{drop, get_or, arith, refl, sym, ap, ap₂, ◌∙◌, append_assoc}
+use Rattle.std.proofs.Common.{length-append, Option, Some, None, cond, inl, inr}
 use Rattle.std.proofs.lemmas.Bool.{cases_lt}
-use Rattle.std.specs.Prelude.{option_to_list, IfSome, slice_index_or}
-use Rattle.std.specs.Ordering.{nat_cmp, eq_by_cmp}
+use Rattle.std.proofs.lemmas.List.{drop_more, get_or-append-add, get_or_append_left}
+use Rattle.std.proofs.lemmas.List.Sums.{sum_by-cons, sum_by-append}
 use Rattle.std.specs.Cmp.{nat_cmp_total}
 use Rattle.std.specs.FinMap as map
 use Rattle.std.specs.FinMap.{find, get-from_entries, same_map, nat_cmp-IsAntisymmetric}
-use Rattle.sg_blocks.specs.Chains.{chain, AreBelow, IsChain}
-use Rattle.sg_block_map.specs.Cutting.{AreDistinct, IsCut}
-use Rattle.std.proofs.lemmas.List.{drop_more, get_or-append-add, get_or_append_left}
-use Rattle.std.proofs.lemmas.List.Sums.{sum_by-cons, sum_by-append}
 use Rattle.std.specs.List.{splice}
+use Rattle.std.specs.Ordering.{nat_cmp, eq_by_cmp}
+use Rattle.std.specs.Prelude.{option_to_list, IfSome, slice_index_or}
+use Rattle.sg_blocks.specs.Chains.{chain, AreBelow, IsChain}
 use Rattle.sg_blocks.specs.Disk.{zero_block, lies_in, unmapped}
-use Rattle.sg_block_map.specs.Gathering.{AreGathered, end_index}
 use Rattle.sg_blocks.specs.Draft.{Drafted}
 use Rattle.sg_blocks.specs.Records.{mapped_blocks, contents_of}
-use Rattle.sg_block_map.specs.Runs.{end_of, singles_of, expanded, AreChained, AreMaximal, AreBetween, AreRuns, blocks_of}
 use Rattle.sg_blocks.specs.Slots.{Slots, slots_of, occurrences, IsEachOnce}
-use Rattle.sg_block_map.specs.Splitting.{IsFront}
 use Rattle.sg_blocks.specs.declared.run.Run.{Run}
-use Rattle.sg_blocks.proofs.OccurrenceLemmas.{same_slot, occurrences-append, occurrences-more, once-le, below_count}
-use Rattle.sg_block_map.proofs.BetweenLemmas.{behind, maximal-left, maximal-right, maximal-append, maximal-le, between-expanded, between-singles, between-weaker, sorted-between}
-use Rattle.sg_block_map.proofs.ExpandedLemmas.{expanded-append, expanded-more, expanded-none, chained-append, chained-left, chained-right, slots-append, slots-both, slots-more, length-singles, runs-le}
-use Rattle.sg_block_map.proofs.SplitLemmas.{expanded-one}
-use Rattle.sg_blocks.proofs.SpliceLemmas.{front_of}
-use Rattle.sg_block_map.proofs.ContentsLemmas.{get-unmapped, inside, below, above, find-below, find-above, find-right}
 use Rattle.sg_blocks.specs.declared.store.TheConstants.{MAX_CAPACITY}
+use Rattle.sg_block_map.specs.Cutting.{AreDistinct, IsCut}
+use Rattle.sg_block_map.specs.Gathering.{AreGathered, end_index}
+use Rattle.sg_block_map.specs.Runs.{end_of, singles_of, expanded, AreChained, AreMaximal}
+use Rattle.sg_block_map.specs.Runs.{AreBetween, AreRuns, blocks_of}
+use Rattle.sg_block_map.specs.Splitting.{IsFront}
+use Rattle.sg_blocks.proofs.OccurrenceLemmas.{same_slot, occurrences-append, occurrences-more}
+use Rattle.sg_blocks.proofs.OccurrenceLemmas.{once-le, below_count}
+use Rattle.sg_blocks.proofs.SpliceLemmas.{front_of}
+use Rattle.sg_block_map.proofs.BetweenLemmas.{behind, maximal-left, maximal-right, maximal-append}
+use Rattle.sg_block_map.proofs.BetweenLemmas.{maximal-le, between-expanded, between-singles}
+use Rattle.sg_block_map.proofs.BetweenLemmas.{between-weaker, sorted-between}
+use Rattle.sg_block_map.proofs.ContentsLemmas.{get-unmapped, inside, below, above, find-below}
+use Rattle.sg_block_map.proofs.ContentsLemmas.{find-above, find-right}
+use Rattle.sg_block_map.proofs.ExpandedLemmas.{expanded-append, expanded-more, expanded-none}
+use Rattle.sg_block_map.proofs.ExpandedLemmas.{chained-append, chained-left, chained-right}
+use Rattle.sg_block_map.proofs.ExpandedLemmas.{slots-append, slots-both, slots-more, length-singles}
+use Rattle.sg_block_map.proofs.ExpandedLemmas.{runs-le}
+use Rattle.sg_block_map.proofs.SplitLemmas.{expanded-one}
 
-pub slots-two : (s : ℕ) (xs ys : List Run) → occurrences s (slots_of (xs ++ ys)) ≡ occurrences s (slots_of xs) + occurrences s (slots_of ys)
-slots-two s xs ys = ap (occurrences s) (slots-append xs ys) ∙ occurrences-append s (slots_of xs) (slots_of ys)
+pub slots-two : (s : ℕ) (xs ys : List Run) → occurrences s (slots_of (xs ++ ys)) ≡
+    occurrences s (slots_of xs) + occurrences s (slots_of ys)
+slots-two s xs ys = ap (occurrences s) (slots-append xs ys)
+    ∙ occurrences-append s (slots_of xs) (slots_of ys)
 
 pub length-slots : (xs : List Run) → length (slots_of xs) ≡ length xs
 length-slots [] = refl
 length-slots (x ∷ xs) = ap suc (length-slots xs)
 
-pub gone-between : (next : List ℕ) (low high : ℕ) (gone : Option Run) → low ≤ high → IfSome gone (λ (part : Run). (low ≤ part.start) × (end_of part ≤ high)) → AreBetween low high (expanded next (option_to_list gone))
+pub gone-between : (next : List ℕ) (low high : ℕ) (gone : Option Run) → low ≤ high
+    → IfSome gone (λ (part : Run). (low ≤ part.start) × (end_of part ≤ high))
+    → AreBetween low high (expanded next (option_to_list gone))
 gone-between next low high None le h = rw (expanded-none next) le
-gone-between next low high (Some part) le h = rw (expanded-one next part) (between-weaker (singles_of next part) part.start (end_of part) low high h.0 h.1 (between-singles next part.start part.first part.count))
+gone-between next low high (Some part) le h =
+    rw (expanded-one next part) (between-weaker (singles_of next part) part.start
+    (end_of part) low high h.0 h.1 (between-singles next part.start part.first part.count))
 
 -- records that do not have the address
-pub find-skip : (xs ys zs : List Run) (blocks : List (List ℕ)) (q : ℕ) → find nat_cmp q (mapped_blocks ys blocks) ≡ None → find nat_cmp q (mapped_blocks (xs ++ (ys ++ zs)) blocks) ≡ find nat_cmp q (mapped_blocks (xs ++ zs) blocks)
+pub find-skip : (xs ys zs : List Run) (blocks : List (List ℕ)) (q : ℕ)
+    → find nat_cmp q (mapped_blocks ys blocks) ≡ None
+    → find nat_cmp q (mapped_blocks (xs ++ (ys ++ zs)) blocks) ≡
+    find nat_cmp q (mapped_blocks (xs ++ zs) blocks)
 find-skip [] ys zs blocks q none = find-right ys zs blocks q none
-find-skip (x ∷ xs) ys zs blocks q none = ap (cond (eq_by_cmp nat_cmp q x.start) (Some (slice_index_or blocks x.first zero_block))) (find-skip xs ys zs blocks q none)
+find-skip (x ∷ xs) ys zs blocks q none =
+    ap (cond (eq_by_cmp nat_cmp q x.start) (Some (slice_index_or blocks x.first zero_block)))
+    (find-skip xs ys zs blocks q none)
 
-get-skip : (xs ys zs : List Run) (blocks : List (List ℕ)) (q : ℕ) → find nat_cmp q (mapped_blocks ys blocks) ≡ None → map.get (contents_of (xs ++ zs) blocks) q ≡ map.get (contents_of (xs ++ (ys ++ zs)) blocks) q
-get-skip xs ys zs blocks q none = get-from_entries nat_cmp_total (mapped_blocks (xs ++ zs) blocks) q ∙ sym (find-skip xs ys zs blocks q none) ∙ sym (get-from_entries nat_cmp_total (mapped_blocks (xs ++ (ys ++ zs)) blocks) q)
+get-skip : (xs ys zs : List Run) (blocks : List (List ℕ)) (q : ℕ)
+    → find nat_cmp q (mapped_blocks ys blocks) ≡ None
+    → map.get (contents_of (xs ++ zs) blocks) q ≡ map.get (contents_of (xs ++ (ys ++ zs)) blocks) q
+get-skip xs ys zs blocks q none = get-from_entries nat_cmp_total (mapped_blocks (xs ++ zs) blocks) q
+    ∙ sym (find-skip xs ys zs blocks q none) ∙ sym
+    (get-from_entries nat_cmp_total (mapped_blocks (xs ++ (ys ++ zs)) blocks) q)
 
-get-less : (xs ys zs : List Run) (blocks : List (List ℕ)) (low high q : ℕ) → AreBetween low high ys → low ≤ high
-    → cond (lies_in low (high - low) q) None (map.get (contents_of (xs ++ zs) blocks) q) ≡ cond (lies_in low (high - low) q) None (map.get (contents_of (xs ++ (ys ++ zs)) blocks) q)
+get-less : (xs ys zs : List Run) (blocks : List (List ℕ)) (low high q : ℕ) → AreBetween low high ys
+    → low ≤ high
+    → cond (lies_in low (high - low) q) None (map.get (contents_of (xs ++ zs) blocks) q) ≡
+    cond (lies_in low (high - low) q) None (map.get (contents_of (xs ++ (ys ++ zs)) blocks) q)
 get-less xs ys zs blocks low high q h le = elim (cases_lt q low) [
-  | inl lt ↦ ap (cond (lies_in low (high - low) q) None) (get-skip xs ys zs blocks q (find-below ys blocks low high q h lt))
+  | inl lt ↦ ap (cond (lies_in low (high - low) q) None)
+      (get-skip xs ys zs blocks q (find-below ys blocks low high q h lt))
   | inr ge ↦ elim (cases_lt q high) [
     | inl lt ↦ rw (inside low (high - low) q ge (omega arith)) refl
-    | inr beyond ↦ ap (cond (lies_in low (high - low) q) None) (get-skip xs ys zs blocks q (find-above ys blocks low high q h beyond))
+    | inr beyond ↦ ap (cond (lies_in low (high - low) q) None)
+        (get-skip xs ys zs blocks q (find-above ys blocks low high q h beyond))
   ]
 ]
 
 -- what is unmapped anyway
-pub unmapped-less : (xs ys zs : List Run) (blocks : List (List ℕ)) (low high : ℕ) → low ≤ high → AreBetween low high ys
-    → unmapped (contents_of (xs ++ zs) blocks) low (high - low) ≡ unmapped (contents_of (xs ++ (ys ++ zs)) blocks) low (high - low)
-unmapped-less xs ys zs blocks low high le h = same_map nat_cmp_total nat_cmp-IsAntisymmetric _ _ (λ q.
-    get-unmapped (contents_of (xs ++ zs) blocks) low (high - low) q ∙ get-less xs ys zs blocks low high q h le ∙ sym (get-unmapped (contents_of (xs ++ (ys ++ zs)) blocks) low (high - low) q))
+pub unmapped-less : (xs ys zs : List Run) (blocks : List (List ℕ)) (low high : ℕ) → low ≤ high
+    → AreBetween low high ys
+    → unmapped (contents_of (xs ++ zs) blocks) low (high - low) ≡
+    unmapped (contents_of (xs ++ (ys ++ zs)) blocks) low (high - low)
+unmapped-less xs ys zs blocks low high le h =
+    same_map nat_cmp_total nat_cmp-IsAntisymmetric _ _ (λ q.
+    get-unmapped (contents_of (xs ++ zs) blocks) low (high - low) q
+        ∙ get-less xs ys zs blocks low high q h le
+        ∙ sym (get-unmapped (contents_of (xs ++ (ys ++ zs)) blocks) low (high - low) q))
 
-outside-append : (next : List ℕ) (xs ys : List Run) (blocks : List (List ℕ)) (q : ℕ) → find nat_cmp q (mapped_blocks (expanded next xs) blocks) ≡ None → find nat_cmp q (mapped_blocks (expanded next ys) blocks) ≡ None
+outside-append : (next : List ℕ) (xs ys : List Run) (blocks : List (List ℕ)) (q : ℕ)
+    → find nat_cmp q (mapped_blocks (expanded next xs) blocks) ≡ None
+    → find nat_cmp q (mapped_blocks (expanded next ys) blocks) ≡ None
     → find nat_cmp q (mapped_blocks (expanded next (xs ++ ys)) blocks) ≡ None
-outside-append next xs ys blocks q none other = ap (λ zs. find nat_cmp q (mapped_blocks zs blocks)) (expanded-append next xs ys) ∙ find-right (expanded next xs) (expanded next ys) blocks q none ∙ other
+outside-append next xs ys blocks q none other =
+    ap (λ zs. find nat_cmp q (mapped_blocks zs blocks)) (expanded-append next xs ys)
+    ∙ find-right (expanded next xs) (expanded next ys) blocks q none ∙ other
 
-front-outside : (next : List ℕ) (run : Run) (low q : ℕ) (front : Option Run) (blocks : List (List ℕ)) → IfSome front (IsFront run low) → low ≤ q → find nat_cmp q (mapped_blocks (expanded next (option_to_list front)) blocks) ≡ None
-front-outside next run low q None blocks h le = ap (λ zs. find nat_cmp q (mapped_blocks zs blocks)) (expanded-none next)
-front-outside next run low q (Some front) blocks h le = ap (λ zs. find nat_cmp q (mapped_blocks zs blocks)) (expanded-one next front)
-    ∙ find-above (singles_of next front) blocks front.start (end_of front) q (between-singles next front.start front.first front.count) (omega (arith, h.1))
+front-outside : (next : List ℕ) (run : Run) (low q : ℕ) (front : Option Run)
+    (blocks : List (List ℕ)) → IfSome front (IsFront run low) → low ≤ q
+    → find nat_cmp q (mapped_blocks (expanded next (option_to_list front)) blocks) ≡ None
+front-outside next run low q None blocks h le =
+    ap (λ zs. find nat_cmp q (mapped_blocks zs blocks)) (expanded-none next)
+front-outside next run low q (Some front) blocks h le =
+    ap (λ zs. find nat_cmp q (mapped_blocks zs blocks)) (expanded-one next front)
+    ∙ find-above (singles_of next front) blocks front.start (end_of front) q
+    (between-singles next front.start front.first front.count) (omega (arith, h.1))
 
-back-outside : (next : List ℕ) (run : Run) (high q : ℕ) (back : Option Run) (blocks : List (List ℕ)) → IfSome back (λ (part : Run). (high ≤ part.start) × (run.start ≤ part.start) × (end_of part ≡ end_of run)) → q < high → find nat_cmp q (mapped_blocks (expanded next (option_to_list back)) blocks) ≡ None
-back-outside next run high q None blocks h lt = ap (λ zs. find nat_cmp q (mapped_blocks zs blocks)) (expanded-none next)
-back-outside next run high q (Some back) blocks h lt = ap (λ zs. find nat_cmp q (mapped_blocks zs blocks)) (expanded-one next back)
-    ∙ find-below (singles_of next back) blocks back.start (end_of back) q (between-singles next back.start back.first back.count) (omega (arith, h.0))
+back-outside : (next : List ℕ) (run : Run) (high q : ℕ) (back : Option Run) (blocks : List (List ℕ))
+    → IfSome back (λ (part : Run). (high ≤ part.start) × (run.start ≤ part.start)
+    × (end_of part ≡ end_of run)) → q < high → find nat_cmp q
+    (mapped_blocks (expanded next (option_to_list back)) blocks) ≡ None
+back-outside next run high q None blocks h lt =
+    ap (λ zs. find nat_cmp q (mapped_blocks zs blocks)) (expanded-none next)
+back-outside next run high q (Some back) blocks h lt =
+    ap (λ zs. find nat_cmp q (mapped_blocks zs blocks)) (expanded-one next back)
+    ∙ find-below (singles_of next back) blocks back.start (end_of back) q
+    (between-singles next back.start back.first back.count) (omega (arith, h.0))
 
 -- the parts lie where the run lay
-pieces-maximal : (run : Run) (low high a : ℕ) (front back : Option Run) → low < high → a ≤ run.start → IfSome front (IsFront run low) → IfSome back (λ (part : Run). (high ≤ part.start) × (run.start ≤ part.start) × (end_of part ≡ end_of run))
+pieces-maximal : (run : Run) (low high a : ℕ) (front back : Option Run) → low < high → a ≤ run.start
+    → IfSome front (IsFront run low) → IfSome back (λ (part : Run). (high ≤ part.start)
+    × (run.start ≤ part.start) × (end_of part ≡ end_of run))
     → AreMaximal a (end_of run + 1) (option_to_list front ++ option_to_list back)
 pieces-maximal run low high a None None lt le f b = omega arith
 pieces-maximal run low high a (Some front) None lt le f b = (omega (arith, f.0), omega (arith, f.1))
 pieces-maximal run low high a None (Some back) lt le f b = (omega (arith, b.1), omega (arith, b.2))
-pieces-maximal run low high a (Some front) (Some back) lt le f b = (omega (arith, f.0), (omega (arith, f.1, b.0), omega (arith, b.2)))
+pieces-maximal run low high a (Some front) (Some back) lt le f b =
+    (omega (arith, f.0), (omega (arith, f.1, b.0), omega (arith, b.2)))
 
-pub cut-maximal : (xs tail : List Run) (run : Run) (low high a b : ℕ) (front back : Option Run) → low < high → IfSome front (IsFront run low) → IfSome back (λ (part : Run). (high ≤ part.start) × (run.start ≤ part.start) × (end_of part ≡ end_of run))
-    → AreMaximal a b (xs ++ run ∷ tail) → AreMaximal a b (xs ++ ((option_to_list front ++ option_to_list back) ++ tail))
+pub cut-maximal : (xs tail : List Run) (run : Run) (low high a b : ℕ) (front back : Option Run)
+    → low < high → IfSome front (IsFront run low)
+    → IfSome back (λ (part : Run). (high ≤ part.start) × (run.start ≤ part.start)
+    × (end_of part ≡ end_of run))
+    → AreMaximal a b (xs ++ run ∷ tail) → AreMaximal a b
+    (xs ++ ((option_to_list front ++ option_to_list back) ++ tail))
 cut-maximal xs tail run low high a b front back lt f g h =
     let left = maximal-left xs (run ∷ tail) a b h in
     let right = maximal-right xs (run ∷ tail) a b h in
     maximal-append xs ((option_to_list front ++ option_to_list back) ++ tail) a (behind a xs) b left
-    (maximal-append (option_to_list front ++ option_to_list back) tail (behind a xs) (end_of run + 1) b (pieces-maximal run low high (behind a xs) front back lt right.0 f g) right.1)
+    (maximal-append (option_to_list front ++ option_to_list back) tail (behind a xs)
+    (end_of run + 1) b (pieces-maximal run low high (behind a xs) front back lt right.0 f g)
+    right.1)
 
-module _ {old new : Slots} {kept kept' : List Run} {run : Run} {low high : ℕ} (cut : IsCut old new kept kept' run low high) (xs tail : List Run) where
+module _ {old new : Slots} {kept kept' : List Run} {run : Run} {low high : ℕ}
+    (cut : IsCut old new kept kept' run low high) (xs tail : List Run) where
   abbrev fs : List Run
   fs = option_to_list cut.front
 
@@ -109,38 +168,60 @@ module _ {old new : Slots} {kept kept' : List Run} {run : Run} {low high : ℕ} 
   is = xs ++ (kept' ++ tail)
 
   pub shape : is ≡ (xs ++ kept) ++ ((fs ++ bs) ++ tail)
-  shape = ap (λ zs. xs ++ (zs ++ tail)) cut.keeps ∙ ap (λ zs. xs ++ zs) (append_assoc kept (fs ++ bs) tail) ∙ sym (append_assoc xs kept ((fs ++ bs) ++ tail))
+  shape = ap (λ zs. xs ++ (zs ++ tail)) cut.keeps
+      ∙ ap (λ zs. xs ++ zs) (append_assoc kept (fs ++ bs) tail)
+      ∙ sym (append_assoc xs kept ((fs ++ bs) ++ tail))
 
   was_shape : was ≡ (xs ++ kept) ++ (run ∷ tail)
   was_shape = sym (append_assoc xs kept (run ∷ tail))
 
   -- the single addresses before, in three parts
-  pub was_apart : expanded old.next was ≡ (expanded old.next (xs ++ kept) ++ expanded old.next fs) ++ (expanded old.next gs ++ (expanded old.next bs ++ expanded old.next tail))
+  pub was_apart : expanded old.next was ≡
+      (expanded old.next (xs ++ kept) ++ expanded old.next fs) ++
+      (expanded old.next gs ++ (expanded old.next bs ++ expanded old.next tail))
   was_apart =
-      let p : List Run = expanded old.next (xs ++ kept) in let t : List Run = expanded old.next tail in let f : List Run = expanded old.next fs in let g : List Run = expanded old.next gs in let b : List Run = expanded old.next bs in
-      let whole : singles_of old.next run ≡ f ++ (g ++ b) = sym cut.parts ∙ expanded-append old.next fs (gs ++ bs) ∙ ap (λ zs. f ++ zs) (expanded-append old.next gs bs) in
-      ap (expanded old.next) was_shape ∙ expanded-append old.next (xs ++ kept) (run ∷ tail) ∙ ap (λ zs. p ++ zs) (expanded-more old.next run tail ∙ ap (λ zs. zs ++ t) whole ∙ append_assoc f (g ++ b) t ∙ ap (λ zs. f ++ zs) (append_assoc g b t))
+      let p : List Run = expanded old.next (xs ++ kept) in
+          let t : List Run = expanded old.next tail in let f : List Run = expanded old.next fs in
+          let g : List Run = expanded old.next gs in let b : List Run = expanded old.next bs in
+      let whole : singles_of old.next run ≡ f ++ (g ++ b) = sym cut.parts
+          ∙ expanded-append old.next fs (gs ++ bs)
+          ∙ ap (λ zs. f ++ zs) (expanded-append old.next gs bs) in
+      ap (expanded old.next) was_shape ∙ expanded-append old.next (xs ++ kept) (run ∷ tail)
+          ∙ ap (λ zs. p ++ zs) (expanded-more old.next run tail ∙ ap (λ zs. zs ++ t) whole
+          ∙ append_assoc f (g ++ b) t ∙ ap (λ zs. f ++ zs) (append_assoc g b t))
       ∙ sym (append_assoc p f (g ++ (b ++ t)))
 
-  pub now_apart : expanded old.next is ≡ (expanded old.next (xs ++ kept) ++ expanded old.next fs) ++ (expanded old.next bs ++ expanded old.next tail)
+  pub now_apart : expanded old.next is ≡ (expanded old.next (xs ++ kept) ++ expanded old.next fs) ++
+      (expanded old.next bs ++ expanded old.next tail)
   now_apart =
-      let p : List Run = expanded old.next (xs ++ kept) in let t : List Run = expanded old.next tail in let f : List Run = expanded old.next fs in let b : List Run = expanded old.next bs in
+      let p : List Run = expanded old.next (xs ++ kept) in
+          let t : List Run = expanded old.next tail in let f : List Run = expanded old.next fs in
+          let b : List Run = expanded old.next bs in
       ap (expanded old.next) shape ∙ expanded-append old.next (xs ++ kept) ((fs ++ bs) ++ tail)
-      ∙ ap (λ zs. p ++ zs) (expanded-append old.next (fs ++ bs) tail ∙ ap (λ zs. zs ++ t) (expanded-append old.next fs bs) ∙ append_assoc f b t)
+      ∙ ap (λ zs. p ++ zs) (expanded-append old.next (fs ++ bs) tail
+      ∙ ap (λ zs. zs ++ t) (expanded-append old.next fs bs) ∙ append_assoc f b t)
       ∙ sym (append_assoc p f (b ++ t))
 
   -- how often a slot stood, and stands
-  slots_was : (s : ℕ) → occurrences s (slots_of (expanded old.next was)) ≡ occurrences s (slots_of (expanded old.next is)) + occurrences s (slots_of (expanded old.next gs))
+  slots_was : (s : ℕ) → occurrences s (slots_of (expanded old.next was)) ≡
+      occurrences s (slots_of (expanded old.next is)) + occurrences s
+      (slots_of (expanded old.next gs))
   slots_was s =
-      let p : List Run = expanded old.next (xs ++ kept) in let t : List Run = expanded old.next tail in let f : List Run = expanded old.next fs in let g : List Run = expanded old.next gs in let b : List Run = expanded old.next bs in
-      let w = ap (λ zs. occurrences s (slots_of zs)) was_apart ∙ slots-two s (p ++ f) (g ++ (b ++ t)) in
+      let p : List Run = expanded old.next (xs ++ kept) in
+          let t : List Run = expanded old.next tail in let f : List Run = expanded old.next fs in
+          let g : List Run = expanded old.next gs in let b : List Run = expanded old.next bs in
+      let w = ap (λ zs. occurrences s (slots_of zs)) was_apart
+          ∙ slots-two s (p ++ f) (g ++ (b ++ t)) in
       let n = ap (λ zs. occurrences s (slots_of zs)) now_apart ∙ slots-two s (p ++ f) (b ++ t) in
       let m = slots-two s g (b ++ t) in
       omega arith
 
-  lengths : length (expanded old.next was) ≡ length (expanded old.next is) + length (expanded old.next gs)
+  lengths : length (expanded old.next was) ≡ length (expanded old.next is) + length
+      (expanded old.next gs)
   lengths =
-      let p : List Run = expanded old.next (xs ++ kept) in let t : List Run = expanded old.next tail in let f : List Run = expanded old.next fs in let g : List Run = expanded old.next gs in let b : List Run = expanded old.next bs in
+      let p : List Run = expanded old.next (xs ++ kept) in
+          let t : List Run = expanded old.next tail in let f : List Run = expanded old.next fs in
+          let g : List Run = expanded old.next gs in let b : List Run = expanded old.next bs in
       let w = ap length was_apart ∙ length-append (p ++ f) (g ++ (b ++ t)) in
       let n = ap length now_apart ∙ length-append (p ++ f) (b ++ t) in
       let m = length-append g (b ++ t) in
@@ -149,12 +230,14 @@ module _ {old new : Slots} {kept kept' : List Run} {run : Run} {low high : ℕ} 
   module _ {room : ℕ} (before : AreRuns was old room) where
     distinct : AreDistinct (slots_of (expanded old.next is)) (slots_of (expanded old.next gs))
     distinct s =
-        let once = once-le (length old.blocks) (slots_of (expanded old.next was) ++ old.free) s before.consistent.once in
+        let once = once-le (length old.blocks)
+            (slots_of (expanded old.next was) ++ old.free) s before.consistent.once in
         let both = occurrences-append s (slots_of (expanded old.next was)) old.free in
         let was = slots_was s in
         omega arith
 
-    kept-distinct : AreDistinct (slots_of (expanded old.next kept')) (slots_of (expanded old.next gs))
+    kept-distinct : AreDistinct (slots_of (expanded old.next kept'))
+        (slots_of (expanded old.next gs))
     kept-distinct s =
         let d = distinct s in
         let a = slots-both old.next s xs (kept' ++ tail) in
@@ -173,30 +256,41 @@ module _ {old new : Slots} {kept kept' : List Run} {run : Run} {low high : ℕ} 
         let left = chained-left old.next (xs ++ kept) (run ∷ tail) all in
         let right = chained-right old.next (xs ++ kept) (run ∷ tail) all in
         let front = chained-left old.next fs (gs ++ bs) cut.chained in
-        let back = chained-right old.next gs bs (chained-right old.next fs (gs ++ bs) cut.chained) in
-        rw shape (chained-append old.next (xs ++ kept) ((fs ++ bs) ++ tail) left (chained-append old.next (fs ++ bs) tail (chained-append old.next fs bs front back) right.1))
+        let back = chained-right old.next gs bs
+            (chained-right old.next fs (gs ++ bs) cut.chained) in
+        rw shape (chained-append old.next (xs ++ kept) ((fs ++ bs) ++ tail) left
+            (chained-append old.next (fs ++ bs) tail
+            (chained-append old.next fs bs front back) right.1))
 
     pub cut-runs : low < high → AreRuns is new room
     cut-runs lt =
-        let maximal : AreMaximal 0 (MAX_CAPACITY + 1) is = rw shape (cut-maximal (xs ++ kept) tail run low high 0 (MAX_CAPACITY + 1) cut.front cut.back lt cut.before cut.behind (rw was_shape at before.maximal)) in
+        let maximal : AreMaximal 0 (MAX_CAPACITY + 1) is =
+            rw shape (cut-maximal (xs ++ kept) tail run low high 0
+            (MAX_CAPACITY + 1) cut.front cut.back lt cut.before cut.behind
+            (rw was_shape at before.maximal)) in
         record {
           maximal = maximal;
           chained = (cut.stays is distinct).1 chained-is;
           consistent = record {
-            sorted = sorted-between (expanded new.next is) 0 (MAX_CAPACITY + 1) (between-expanded new.next is 0 (MAX_CAPACITY + 1) maximal);
+            sorted = sorted-between (expanded new.next is) 0 (MAX_CAPACITY + 1)
+                (between-expanded new.next is 0 (MAX_CAPACITY + 1) maximal);
             once = record {
               each = λ t.
-                  let a = ap (occurrences t) (ap₂ (λ xs ys. slots_of xs ++ ys) same-expanded cut.frees) in
-                  let b = occurrences-append t (slots_of (expanded old.next is)) (slots_of (expanded old.next gs) ++ old.free) in
+                  let a = ap (occurrences t) (ap₂
+                      (λ xs ys. slots_of xs ++ ys) same-expanded cut.frees) in
+                  let b = occurrences-append t (slots_of (expanded old.next is))
+                      (slots_of (expanded old.next gs) ++ old.free) in
                   let d = occurrences-append t (slots_of (expanded old.next gs)) old.free in
                   let e = occurrences-append t (slots_of (expanded old.next was)) old.free in
                   let f = slots_was t in
-                  let same : occurrences t (slots_of (expanded new.next is) ++ new.free) ≡ occurrences t (slots_of (expanded old.next was) ++ old.free) = omega arith in
+                  let same : occurrences t (slots_of (expanded new.next is) ++ new.free) ≡
+                      occurrences t (slots_of (expanded old.next was) ++ old.free) = omega arith in
                   same ∙ rw cut.blocks (before.consistent.once.each t);
             };
             count =
                 let a = ap length same-expanded in
-                let b = ap length cut.frees ∙ length-append (slots_of (expanded old.next gs)) old.free in
+                let b = ap length cut.frees ∙ length-append
+                    (slots_of (expanded old.next gs)) old.free in
                 let d = length-slots (expanded old.next gs) in
                 omega (arith, before.consistent.count, lengths);
             pool = ap length cut.blocks ∙ before.consistent.pool;
@@ -205,35 +299,51 @@ module _ {old new : Slots} {kept kept' : List Run} {run : Run} {low high : ℕ} 
         }
 
     -- what is unmapped in the end
-    pub cut-contents : low ≤ high → (blocks : List (List ℕ)) → unmapped (contents_of (expanded new.next is) blocks) low (high - low) ≡ unmapped (contents_of (expanded old.next was) blocks) low (high - low)
+    pub cut-contents : low ≤ high → (blocks : List (List ℕ))
+        → unmapped (contents_of (expanded new.next is) blocks) low (high - low) ≡
+        unmapped (contents_of (expanded old.next was) blocks) low (high - low)
     cut-contents le blocks =
-        let p : List Run = expanded old.next (xs ++ kept) in let t : List Run = expanded old.next tail in let f : List Run = expanded old.next fs in let g : List Run = expanded old.next gs in let b : List Run = expanded old.next bs in
+        let p : List Run = expanded old.next (xs ++ kept) in
+            let t : List Run = expanded old.next tail in let f : List Run = expanded old.next fs in
+            let g : List Run = expanded old.next gs in let b : List Run = expanded old.next bs in
         ap (λ zs. unmapped (contents_of zs blocks) low (high - low)) (same-expanded ∙ now_apart)
-        ∙ unmapped-less (p ++ f) g (b ++ t) blocks low high le (gone-between old.next low high cut.gone le cut.inside)
+        ∙ unmapped-less (p ++ f) g (b ++ t) blocks low high le
+        (gone-between old.next low high cut.gone le cut.inside)
         ∙ ap (λ zs. unmapped (contents_of zs blocks) low (high - low)) (sym was_apart)
 
     -- the parts that are kept lie outside the range
-    pub cut-outside : (blocks : List (List ℕ)) (q : ℕ) → low ≤ q → q < high → find nat_cmp q (mapped_blocks (expanded old.next kept) blocks) ≡ None → find nat_cmp q (mapped_blocks (expanded new.next kept') blocks) ≡ None
+    pub cut-outside : (blocks : List (List ℕ)) (q : ℕ) → low ≤ q → q < high
+        → find nat_cmp q (mapped_blocks (expanded old.next kept) blocks) ≡ None
+        → find nat_cmp q (mapped_blocks (expanded new.next kept') blocks) ≡ None
     cut-outside blocks q le lt none =
-        ap (λ zs. find nat_cmp q (mapped_blocks zs blocks)) (kept-same ∙ ap (expanded old.next) cut.keeps)
-        ∙ outside-append old.next kept (fs ++ bs) blocks q none (outside-append old.next fs bs blocks q (front-outside old.next run low q cut.front blocks cut.before le) (back-outside old.next run high q cut.back blocks cut.behind lt))
+        ap (λ zs. find nat_cmp q (mapped_blocks zs blocks)) (kept-same
+            ∙ ap (expanded old.next) cut.keeps)
+        ∙ outside-append old.next kept (fs ++ bs) blocks q none
+        (outside-append old.next fs bs blocks q
+        (front-outside old.next run low q cut.front blocks cut.before le)
+        (back-outside old.next run high q cut.back blocks cut.behind lt))
 
 -- what stands in a part of a list where each slot stands once
-pub below-sub : (count : ℕ) (xs all : List ℕ) → IsEachOnce count all → ((t : ℕ) → occurrences t xs ≤ occurrences t all) → AreBelow count xs
+pub below-sub : (count : ℕ) (xs all : List ℕ) → IsEachOnce count all
+    → ((t : ℕ) → occurrences t xs ≤ occurrences t all) → AreBelow count xs
 unfolding AreBelow
 below-sub count [] all once sub = tt
 below-sub count (x ∷ xs) all once sub =
     let here = sub x in
     let more = occurrences-more x x xs in
     let one = same_slot x in
-    (below_count count all x once (omega arith), below-sub count xs all once (λ t. let s = sub t in let m = occurrences-more t x xs in omega arith))
+    (below_count count all x once (omega arith),
+    below-sub count xs all once (λ t. let s = sub t in let m = occurrences-more t x xs in
+    omega arith))
 
 -- a run of the table
-module _ (xs kept tail : List Run) (run : Run) (slots : Slots) (room : ℕ) (h : AreRuns (xs ++ (kept ++ run ∷ tail)) slots room) where
+module _ (xs kept tail : List Run) (run : Run) (slots : Slots) (room : ℕ)
+    (h : AreRuns (xs ++ (kept ++ run ∷ tail)) slots room) where
   abbrev all : List Run
   all = xs ++ (kept ++ run ∷ tail)
 
-  slots_of_run : (s : ℕ) → occurrences s (chain slots.next run.first run.count) ≤ occurrences s (slots_of (expanded slots.next all))
+  slots_of_run : (s : ℕ) → occurrences s (chain slots.next run.first run.count) ≤ occurrences s
+      (slots_of (expanded slots.next all))
   slots_of_run s =
       let a = slots-both slots.next s xs (kept ++ run ∷ tail) in
       let b = slots-both slots.next s kept (run ∷ tail) in
@@ -241,11 +351,13 @@ module _ (xs kept tail : List Run) (run : Run) (slots : Slots) (room : ℕ) (h :
       omega arith
 
   pub run-chain : IsChain slots.next run.first run.last run.count
-  run-chain = (chained-right slots.next kept (run ∷ tail) (chained-right slots.next xs (kept ++ run ∷ tail) h.chained)).0
+  run-chain = (chained-right slots.next kept (run ∷ tail)
+      (chained-right slots.next xs (kept ++ run ∷ tail) h.chained)).0
 
   pub run-distinct : AreDistinct (chain slots.next run.first run.count) slots.free
   run-distinct s =
-      let once = once-le (length slots.blocks) (slots_of (expanded slots.next all) ++ slots.free) s h.consistent.once in
+      let once = once-le (length slots.blocks)
+          (slots_of (expanded slots.next all) ++ slots.free) s h.consistent.once in
       let both = occurrences-append s (slots_of (expanded slots.next all)) slots.free in
       let part = slots_of_run s in
       omega arith
@@ -253,20 +365,28 @@ module _ (xs kept tail : List Run) (run : Run) (slots : Slots) (room : ℕ) (h :
   pub run-below : AreBelow (length slots.next) (chain slots.next run.first run.count)
   run-below =
       let same : length slots.next ≡ length slots.blocks = h.links ∙ sym h.consistent.pool in
-      rw same (below-sub (length slots.blocks) (chain slots.next run.first run.count) (slots_of (expanded slots.next all) ++ slots.free) h.consistent.once (λ t.
+      rw same (below-sub (length slots.blocks) (chain slots.next run.first run.count)
+          (slots_of (expanded slots.next all) ++ slots.free) h.consistent.once (λ t.
       let both = occurrences-append t (slots_of (expanded slots.next all)) slots.free in
       let part = slots_of_run t in
       omega arith))
 
-  pub run-lengths : (run.count + length slots.free ≤ room) × (length xs + length kept + run.count + length tail ≤ room)
+  pub run-lengths : (run.count + length slots.free ≤ room)
+      × (length xs + length kept + run.count + length tail ≤ room)
   run-lengths =
-      let a = ap length (expanded-append slots.next xs (kept ++ run ∷ tail)) ∙ length-append (expanded slots.next xs) (expanded slots.next (kept ++ run ∷ tail)) in
-      let b = ap length (expanded-append slots.next kept (run ∷ tail)) ∙ length-append (expanded slots.next kept) (expanded slots.next (run ∷ tail)) in
-      let d = ap length (expanded-more slots.next run tail) ∙ length-append (singles_of slots.next run) (expanded slots.next tail) in
+      let a = ap length (expanded-append slots.next xs (kept ++ run ∷ tail))
+          ∙ length-append (expanded slots.next xs) (expanded slots.next (kept ++ run ∷ tail)) in
+      let b = ap length (expanded-append slots.next kept (run ∷ tail))
+          ∙ length-append (expanded slots.next kept) (expanded slots.next (run ∷ tail)) in
+      let d = ap length (expanded-more slots.next run tail)
+          ∙ length-append (singles_of slots.next run) (expanded slots.next tail) in
       let e = length-singles slots.next run.start run.first run.count in
       let f = runs-le slots.next xs (chained-left slots.next xs (kept ++ run ∷ tail) h.chained) in
-      let g = runs-le slots.next kept (chained-left slots.next kept (run ∷ tail) (chained-right slots.next xs (kept ++ run ∷ tail) h.chained)) in
-      let i = runs-le slots.next tail ((chained-right slots.next kept (run ∷ tail) (chained-right slots.next xs (kept ++ run ∷ tail) h.chained)).1) in
+      let g = runs-le slots.next kept (chained-left slots.next kept (run ∷ tail)
+          (chained-right slots.next xs (kept ++ run ∷ tail) h.chained)) in
+      let i = runs-le slots.next tail
+          ((chained-right slots.next kept (run ∷ tail)
+          (chained-right slots.next xs (kept ++ run ∷ tail) h.chained)).1) in
       (omega (arith, h.consistent.count), omega (arith, h.consistent.count))
 
   pub run-range : end_of run ≤ MAX_CAPACITY
@@ -277,11 +397,14 @@ module _ (xs kept tail : List Run) (run : Run) (slots : Slots) (room : ℕ) (h :
       omega arith
 
 -- there are no more runs than the pool has slots
-pub runs-fit : (records : List Run) (slots : Slots) (room : ℕ) → AreRuns records slots room → length records ≤ room
-runs-fit records slots room h = let le = runs-le slots.next records h.chained in omega (arith, h.consistent.count)
+pub runs-fit : (records : List Run) (slots : Slots) (room : ℕ) → AreRuns records slots room
+    → length records ≤ room
+runs-fit records slots room h = let le = runs-le slots.next records h.chained in
+    omega (arith, h.consistent.count)
 
 -- the run that comes next
-pub gathered-next : (rs : List Run) (gathered : Drafted) (low high bound i : ℕ) (d : Run) → AreGathered rs gathered low high bound → i < length gathered.records
+pub gathered-next : (rs : List Run) (gathered : Drafted) (low high bound i : ℕ) (d : Run)
+    → AreGathered rs gathered low high bound → i < length gathered.records
     → drop (gathered.from + i) rs ≡ get_or gathered.records i d ∷ drop (gathered.from + (i + 1)) rs
 gathered-next rs gathered low high bound i d g lt =
     let xs : List Run = take gathered.from rs in
@@ -289,48 +412,77 @@ gathered-next rs gathered low high bound i d g lt =
     let lx : length xs ≡ gathered.from = front_of rs gathered.from (omega arith) in
     let e : gathered.from + i + 1 ≡ gathered.from + (i + 1) = omega arith in
     let here : get_or rs (gathered.from + i) d ≡ get_or gathered.records i d
-    = ap (λ zs. get_or zs (gathered.from + i) d) (sym g.same) ∙ ap (λ n. get_or (xs ++ (gathered.records ++ drop (end_index gathered) rs)) (n + i) d) (sym lx)
-    ∙ get_or-append-add xs (gathered.records ++ drop (end_index gathered) rs) i d ∙ get_or_append_left gathered.records (drop (end_index gathered) rs) d i lt in
-    rw e at (drop_more rs (gathered.from + i) d (omega arith)) ∙ ap (λ r. r ∷ drop (gathered.from + (i + 1)) rs) here
+    = ap (λ zs. get_or zs (gathered.from + i) d) (sym g.same)
+        ∙ ap (λ n. get_or (xs ++ (gathered.records ++ drop (end_index gathered) rs)) (n + i) d)
+        (sym lx)
+    ∙ get_or-append-add xs (gathered.records ++ drop (end_index gathered) rs) i d
+    ∙ get_or_append_left gathered.records (drop (end_index gathered) rs) d i lt in
+    rw e at (drop_more rs (gathered.from + i) d (omega arith))
+        ∙ ap (λ r. r ∷ drop (gathered.from + (i + 1)) rs) here
 
-pub gathered-here : (rs kept : List Run) (gathered : Drafted) (low high bound i : ℕ) (d : Run) → AreGathered rs gathered low high bound → i < length gathered.records
-    → splice rs gathered.from (gathered.from + i) kept ≡ take gathered.from rs ++ (kept ++ get_or gathered.records i d ∷ drop (gathered.from + (i + 1)) rs)
-gathered-here rs kept gathered low high bound i d g lt = ap (λ zs. take gathered.from rs ++ (kept ++ zs)) (gathered-next rs gathered low high bound i d g lt)
+pub gathered-here : (rs kept : List Run) (gathered : Drafted) (low high bound i : ℕ) (d : Run)
+    → AreGathered rs gathered low high bound → i < length gathered.records
+    → splice rs gathered.from (gathered.from + i) kept ≡
+    take gathered.from rs ++ (kept ++ get_or gathered.records i d ∷ drop
+    (gathered.from + (i + 1)) rs)
+gathered-here rs kept gathered low high bound i d g lt =
+    ap (λ zs. take gathered.from rs ++ (kept ++ zs))
+    (gathered-next rs gathered low high bound i d g lt)
 
 -- nothing is left in the range
-pub nothing-left : (next : List ℕ) (xs kept ys : List Run) (blocks : List (List ℕ)) (low high bound : ℕ) → low ≤ high → AreMaximal 0 low xs → AreMaximal (high + 1) bound ys
-    → ((q : ℕ) → low ≤ q → q < high → find nat_cmp q (mapped_blocks (expanded next kept) blocks) ≡ None)
-    → contents_of (expanded next (xs ++ (kept ++ ys))) blocks ≡ unmapped (contents_of (expanded next (xs ++ (kept ++ ys))) blocks) low (high - low)
-nothing-left next xs kept ys blocks low high bound le h k none = same_map nat_cmp_total nat_cmp-IsAntisymmetric _ _ (λ q.
-    sym (get-unmapped (contents_of (expanded next (xs ++ (kept ++ ys))) blocks) low (high - low) q ∙ (elim (cases_lt q low) [
-      | inl lt ↦ ap (λ b. cond b None (map.get (contents_of (expanded next (xs ++ (kept ++ ys))) blocks) q)) (below low (high - low) q lt)
+pub nothing-left : (next : List ℕ) (xs kept ys : List Run) (blocks : List (List ℕ))
+    (low high bound : ℕ) → low ≤ high → AreMaximal 0 low xs → AreMaximal (high + 1) bound ys
+    → ((q : ℕ) → low ≤ q → q < high → find nat_cmp q (mapped_blocks (expanded next kept) blocks) ≡
+    None)
+    → contents_of (expanded next (xs ++ (kept ++ ys))) blocks ≡
+    unmapped (contents_of (expanded next (xs ++ (kept ++ ys))) blocks) low (high - low)
+nothing-left next xs kept ys blocks low high bound le h k none =
+    same_map nat_cmp_total nat_cmp-IsAntisymmetric _ _ (λ q.
+    sym (get-unmapped (contents_of (expanded next (xs ++ (kept ++ ys))) blocks) low (high - low) q
+        ∙ (elim (cases_lt q low) [
+      | inl lt ↦ ap (λ b. cond b None (map.get
+          (contents_of (expanded next (xs ++ (kept ++ ys))) blocks) q))
+          (below low (high - low) q lt)
       | inr ge ↦ elim (cases_lt q high) [
         | inl lt ↦ rw (inside low (high - low) q ge (omega arith)) (sym (
-            get-from_entries nat_cmp_total (mapped_blocks (expanded next (xs ++ (kept ++ ys))) blocks) q
-            ∙ outside-append next xs (kept ++ ys) blocks q (find-above (expanded next xs) blocks 0 low q (between-expanded next xs 0 low h) ge)
-            (outside-append next kept ys blocks q (none q ge lt) (find-below (expanded next ys) blocks (high + 1) bound q (between-expanded next ys (high + 1) bound k) (omega arith)))))
-        | inr beyond ↦ ap (λ b. cond b None (map.get (contents_of (expanded next (xs ++ (kept ++ ys))) blocks) q)) (above low (high - low) q (omega arith))
+            get-from_entries nat_cmp_total (mapped_blocks
+                (expanded next (xs ++ (kept ++ ys))) blocks) q
+            ∙ outside-append next xs (kept ++ ys) blocks q
+            (find-above (expanded next xs) blocks 0 low q (between-expanded next xs 0 low h) ge)
+            (outside-append next kept ys blocks q (none q ge lt)
+            (find-below (expanded next ys) blocks (high + 1) bound q
+            (between-expanded next ys (high + 1) bound k) (omega arith)))))
+        | inr beyond ↦ ap (λ b. cond b None (map.get
+            (contents_of (expanded next (xs ++ (kept ++ ys))) blocks) q))
+            (above low (high - low) q (omega arith))
       ]
     ])))
 
 -- how many blocks runs have
-pub length-expanded : (next : List ℕ) (runs : List Run) → length (expanded next runs) ≡ blocks_of runs
+pub length-expanded : (next : List ℕ) (runs : List Run)
+    → length (expanded next runs) ≡ blocks_of runs
 length-expanded next [] = ap length (expanded-none next)
 length-expanded next (run ∷ runs) =
-    let a = ap length (expanded-more next run runs) ∙ length-append (singles_of next run) (expanded next runs) in
+    let a = ap length (expanded-more next run runs)
+        ∙ length-append (singles_of next run) (expanded next runs) in
     let b = length-singles next run.start run.first run.count in
     let d = length-expanded next runs in
     let e = sum_by-cons (λ (r : Run). r.count) run runs in
     omega arith
 
-pub blocks-fit : (records : List Run) (slots : Slots) (room : ℕ) → AreRuns records slots room → blocks_of records ≤ room
-blocks-fit records slots room h = let e = length-expanded slots.next records in omega (arith, h.consistent.count)
+pub blocks-fit : (records : List Run) (slots : Slots) (room : ℕ) → AreRuns records slots room
+    → blocks_of records ≤ room
+blocks-fit records slots room h = let e = length-expanded slots.next records in
+    omega (arith, h.consistent.count)
 
-pub gathered-blocks : (rs : List Run) (gathered : Drafted) (slots : Slots) (room low high bound : ℕ) → AreRuns rs slots room → AreGathered rs gathered low high bound → blocks_of gathered.records ≤ room
+pub gathered-blocks : (rs : List Run) (gathered : Drafted) (slots : Slots) (room low high bound : ℕ)
+    → AreRuns rs slots room → AreGathered rs gathered low high bound
+    → blocks_of gathered.records ≤ room
 gathered-blocks rs gathered slots room low high bound h g =
     let count = λ (r : Run). r.count in
     let a = ap blocks_of g.same in
-    let b = sum_by-append count (take gathered.from rs) (gathered.records ++ drop (end_index gathered) rs) in
+    let b = sum_by-append count (take gathered.from rs)
+        (gathered.records ++ drop (end_index gathered) rs) in
     let d = sum_by-append count gathered.records (drop (end_index gathered) rs) in
     let e = blocks-fit rs slots room h in
     omega arith

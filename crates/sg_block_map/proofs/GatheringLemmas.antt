@@ -1,24 +1,30 @@
 -- Gathering runs: what their addresses tell.
-use Rattle.std.proofs.Common.{◌≡◌, ℕ, ◌+◌, ◌-◌, ◌<◌, ◌≤◌, zero, suc, List, [], ◌∷◌, ◌++◌, length, length-drop, take, drop, get_or, arith, refl, sym, ap, ap₂, ◌∙◌, inl, inr, length-append, cond, Bool, true, false, zero-add}
+use Rattle.std.proofs.Common.{◌≡◌, ℕ, ◌+◌, ◌-◌, ◌<◌, ◌≤◌, zero, suc, List, [], ◌∷◌, ◌++◌, length}
+use Rattle.std.proofs.Common.{length-drop, take, drop, get_or, arith, refl, sym, ap, ap₂, ◌∙◌, inl}
+use Rattle.std.proofs.Common.{inr, length-append, cond, Bool, true, false, zero-add}
 use Rattle.std.proofs.lemmas.Bool.{cases_lt}
 use Rattle.std.proofs.lemmas.Bool.Decides.{nat_tests}
 use Rattle.std.proofs.lemmas.List.{take-append-drop}
-use Rattle.std.proofs.lemmas.List.Sums.{length-filter}
 use Rattle.std.proofs.lemmas.List.Elements.{filter-append}
+use Rattle.std.proofs.lemmas.List.Sums.{length-filter}
 use Rattle.std.specs.List.{count_by, splice}
 use Rattle.std.specs.Prelude.{nat_lt, nat_le, ◌&&◌}
-use Rattle.sg_blocks.specs.Records.{start_of, IsLowerBound}
-use Rattle.sg_block_map.specs.Runs.{end_of, AreMaximal}
 use Rattle.sg_blocks.specs.Draft.{Drafted}
-use Rattle.sg_block_map.specs.Gathering.{end_at, AreNear, starts_in, end_index, AreGathered, AreBegun}
+use Rattle.sg_blocks.specs.Records.{start_of, IsLowerBound}
 use Rattle.sg_blocks.specs.declared.run.Run.{Run}
+use Rattle.sg_block_map.specs.Gathering.{end_at, AreNear, starts_in, end_index, AreGathered}
+use Rattle.sg_block_map.specs.Gathering.{AreBegun}
+use Rattle.sg_block_map.specs.Runs.{end_of, AreMaximal}
 use Rattle.sg_blocks.proofs.SpliceLemmas.{same-splice, front_of}
 use Rattle.sg_block_map.proofs.BetweenLemmas.{start_of-left, maximal-le}
 
-pub count-append : {X : Type 0} (p : X → Bool) (xs ys : List X) → count_by p (xs ++ ys) ≡ count_by p xs + count_by p ys
-count-append p xs ys = sym (length-filter p (xs ++ ys)) ∙ ap length (filter-append p xs ys) ∙ length-append _ _ ∙ ap₂ (λ x y. x + y) (length-filter p xs) (length-filter p ys)
+pub count-append : {X : Type 0} (p : X → Bool) (xs ys : List X)
+    → count_by p (xs ++ ys) ≡ count_by p xs + count_by p ys
+count-append p xs ys = sym (length-filter p (xs ++ ys)) ∙ ap length (filter-append p xs ys)
+    ∙ length-append _ _ ∙ ap₂ (λ x y. x + y) (length-filter p xs) (length-filter p ys)
 
-pub count-more : {X : Type 0} (p : X → Bool) (x : X) (xs : List X) → count_by p (x ∷ xs) ≡ cond (p x) 1 0 + count_by p xs
+pub count-more : {X : Type 0} (p : X → Bool) (x : X) (xs : List X)
+    → count_by p (x ∷ xs) ≡ cond (p x) 1 0 + count_by p xs
 count-more p x xs = count-append p (x ∷ []) xs ∙ ap (λ n. n + count_by p xs) (zero-add _)
 
 one_if : (b : Bool) → b ≡ true → cond {A = ℕ} b 1 0 ≡ 1
@@ -31,9 +37,11 @@ lt_true a b h = grind (arith, nat_tests)
 pub start_of-drop : (rs : List Run) (n i : ℕ) → start_of (drop n rs) i ≡ start_of rs (n + i)
 start_of-drop rs zero i = let e : 0 + i ≡ i = omega arith in rw e refl
 start_of-drop [] (suc n) i = refl
-start_of-drop (x ∷ rs) (suc n) i = let e : suc n + i ≡ suc (n + i) = omega arith in rw e (start_of-drop rs n i)
+start_of-drop (x ∷ rs) (suc n) i = let e : suc n + i ≡ suc (n + i) = omega arith in
+    rw e (start_of-drop rs n i)
 
-count-front : (rs : List Run) (n high : ℕ) → ((i : ℕ) → i < n → start_of rs i < high) → n ≤ length rs → n ≤ count_by (λ (run : Run). nat_lt run.start high) rs
+count-front : (rs : List Run) (n high : ℕ) → ((i : ℕ) → i < n → start_of rs i < high)
+    → n ≤ length rs → n ≤ count_by (λ (run : Run). nat_lt run.start high) rs
 count-front rs zero high h within = omega arith
 count-front [] (suc n) high h within = absurd (omega arith)
 count-front (x ∷ rs) (suc n) high h within =
@@ -43,27 +51,36 @@ count-front (x ∷ rs) (suc n) high h within =
     omega arith
 
 -- the runs from one place to another begin before the address
-pub count-begun : (rs : List Run) (place at high : ℕ) → ((i : ℕ) → place ≤ i → i < at → start_of rs i < high) → place ≤ at → at ≤ length rs → at ≤ place + count_by (λ (run : Run). nat_lt run.start high) (drop place rs)
+pub count-begun : (rs : List Run) (place at high : ℕ)
+    → ((i : ℕ) → place ≤ i → i < at → start_of rs i < high) → place ≤ at → at ≤ length rs
+    → at ≤ place + count_by (λ (run : Run). nat_lt run.start high) (drop place rs)
 count-begun rs place at high h le within =
     let len = length-drop place rs in
-    let n = count-front (drop place rs) (at - place) high (λ i lt. let e = start_of-drop rs place i in let b = h (place + i) (omega arith) (omega arith) in omega arith) (omega arith) in
+    let n = count-front (drop place rs) (at - place) high
+        (λ i lt. let e = start_of-drop rs place i in
+        let b = h (place + i) (omega arith) (omega arith) in omega arith) (omega arith) in
     omega arith
 
 -- one run more
-pub near-more : (rs : List Run) (place at high start : ℕ) → ((i : ℕ) → place ≤ i → i < at → start_of rs i < high) → start ≡ start_of rs at → start ≤ high → (i : ℕ) → place ≤ i → i < at + 1 → start_of rs i ≤ high
+pub near-more : (rs : List Run) (place at high start : ℕ)
+    → ((i : ℕ) → place ≤ i → i < at → start_of rs i < high) → start ≡ start_of rs at → start ≤ high
+    → (i : ℕ) → place ≤ i → i < at + 1 → start_of rs i ≤ high
 near-more rs place at high start h e le i ge lt = elim (cases_lt i at) [
   | inl below ↦ let b = h i ge below in omega arith
   | inr above ↦ let same : i ≡ at = omega arith in rw same (omega arith)
 ]
 
-pub begun-more : (rs : List Run) (place at high start : ℕ) → ((i : ℕ) → place ≤ i → i < at → start_of rs i < high) → start ≡ start_of rs at → start < high → (i : ℕ) → place ≤ i → i < at + 1 → start_of rs i < high
+pub begun-more : (rs : List Run) (place at high start : ℕ)
+    → ((i : ℕ) → place ≤ i → i < at → start_of rs i < high) → start ≡ start_of rs at → start < high
+    → (i : ℕ) → place ≤ i → i < at + 1 → start_of rs i < high
 begun-more rs place at high start h e le i ge lt = elim (cases_lt i at) [
   | inl below ↦ h i ge below
   | inr above ↦ let same : i ≡ at = omega arith in rw same (omega arith)
 ]
 
 -- ends of runs by their places
-pub end_at-read : (rs : List Run) (i : ℕ) (r : Run) → i < length rs → r ≡ get_or rs i r → end_of r ≡ end_at rs i
+pub end_at-read : (rs : List Run) (i : ℕ) (r : Run) → i < length rs → r ≡ get_or rs i r
+    → end_of r ≡ end_at rs i
 end_at-read [] i r h e = absurd (omega arith)
 end_at-read (x ∷ rs) zero r h e = ap end_of e
 end_at-read (x ∷ rs) (suc i) r h e = end_at-read rs i r (omega arith) e
@@ -80,39 +97,54 @@ end_at-left (x ∷ xs) ys (suc i) lt = end_at-left xs ys i (omega arith)
 
 end_at-behind : (xs ys : List Run) (i : ℕ) → end_at (xs ++ ys) (length xs + i) ≡ end_at ys i
 end_at-behind [] ys i = let e : 0 + i ≡ i = omega arith in rw e refl
-end_at-behind (x ∷ xs) ys i = let e : suc (length xs) + i ≡ suc (length xs + i) = omega arith in rw e (end_at-behind xs ys i)
+end_at-behind (x ∷ xs) ys i = let e : suc (length xs) + i ≡ suc (length xs + i) = omega arith in
+    rw e (end_at-behind xs ys i)
 
-pub start_of-behind : (xs ys : List Run) (i : ℕ) → start_of (xs ++ ys) (length xs + i) ≡ start_of ys i
+pub start_of-behind : (xs ys : List Run) (i : ℕ)
+    → start_of (xs ++ ys) (length xs + i) ≡ start_of ys i
 start_of-behind [] ys i = let e : 0 + i ≡ i = omega arith in rw e refl
-start_of-behind (x ∷ xs) ys i = let e : suc (length xs) + i ≡ suc (length xs + i) = omega arith in rw e (start_of-behind xs ys i)
+start_of-behind (x ∷ xs) ys i = let e : suc (length xs) + i ≡ suc (length xs + i) = omega arith in
+    rw e (start_of-behind xs ys i)
 
 -- a run ends before the next one starts_in
-maximal-step : (rs : List Run) (a b i : ℕ) → AreMaximal a b rs → suc i < length rs → end_at rs i < start_of rs (suc i)
+maximal-step : (rs : List Run) (a b i : ℕ) → AreMaximal a b rs → suc i < length rs
+    → end_at rs i < start_of rs (suc i)
 maximal-step [] a b i h lt = absurd (omega arith)
 maximal-step (x ∷ []) a b i h lt = absurd (omega arith)
 maximal-step (x ∷ y ∷ rs) a b zero h lt = omega (arith, h.1.0)
-maximal-step (x ∷ y ∷ rs) a b (suc i) h lt = maximal-step (y ∷ rs) (end_of x + 1) b i h.1 (omega arith)
+maximal-step (x ∷ y ∷ rs) a b (suc i) h lt = maximal-step (y ∷ rs) (end_of x + 1) b i h.1
+    (omega arith)
 
 -- the runs before a place, and those from it on
-pub maximal-take : (rs : List Run) (n a b high : ℕ) → AreMaximal a b rs → n ≤ length rs → (n ≡ 0 → a ≤ high) → ((m : ℕ) → n ≡ suc m → end_at rs m < high) → AreMaximal a high (take n rs)
+pub maximal-take : (rs : List Run) (n a b high : ℕ) → AreMaximal a b rs → n ≤ length rs
+    → (n ≡ 0 → a ≤ high) → ((m : ℕ) → n ≡ suc m → end_at rs m < high)
+    → AreMaximal a high (take n rs)
 maximal-take rs zero a b high h within none last = none (omega arith)
 maximal-take [] (suc n) a b high h within none last = absurd (omega arith)
-maximal-take (x ∷ rs) (suc zero) a b high h within none last = (h.0, let l = last 0 (omega arith) in omega arith)
+maximal-take (x ∷ rs) (suc zero) a b high h within none last =
+    (h.0, let l = last 0 (omega arith) in omega arith)
 maximal-take (x ∷ rs) (suc (suc n)) a b high h within none last =
-    (h.0, maximal-take rs (suc n) (end_of x + 1) b high h.1 (omega arith) (λ e. absurd (omega arith)) (λ m e. last (suc m) (omega arith)))
+    (h.0, maximal-take rs (suc n) (end_of x + 1) b high h.1 (omega arith)
+    (λ e. absurd (omega arith)) (λ m e. last (suc m) (omega arith)))
 
-pub maximal-drop : (rs : List Run) (n low a b : ℕ) → AreMaximal a b rs → low ≤ b → (n < length rs → low ≤ start_of rs n) → AreMaximal low b (drop n rs)
+pub maximal-drop : (rs : List Run) (n low a b : ℕ) → AreMaximal a b rs → low ≤ b
+    → (n < length rs → low ≤ start_of rs n) → AreMaximal low b (drop n rs)
 maximal-drop [] zero low a b h le first = le
 maximal-drop [] (suc n) low a b h le first = le
 maximal-drop (x ∷ rs) zero low a b h le first = (first (omega arith), h.1)
-maximal-drop (x ∷ rs) (suc n) low a b h le first = maximal-drop rs n low (end_of x + 1) b h.1 le (λ lt. first (omega arith))
+maximal-drop (x ∷ rs) (suc n) low a b h le first =
+    maximal-drop rs n low (end_of x + 1) b h.1 le (λ lt. first (omega arith))
 
-pub near-by : (ms : List Run) (low high : ℕ) → ((i : ℕ) → i < length ms → (low ≤ end_at ms i) × (start_of ms i ≤ high)) → AreNear low high ms
+pub near-by : (ms : List Run) (low high : ℕ) → ((i : ℕ) → i < length ms → (low ≤ end_at ms i)
+    × (start_of ms i ≤ high)) → AreNear low high ms
 near-by [] low high h = tt
-near-by (x ∷ ms) low high h = let here = h 0 (omega arith) in (here.0, here.1, near-by ms low high (λ i lt. h (suc i) (omega arith)))
+near-by (x ∷ ms) low high h = let here = h 0 (omega arith) in
+    (here.0, here.1, near-by ms low high (λ i lt. h (suc i) (omega arith)))
 
 -- the run before the place reaches the address, or not
-pub begun-none : (rs : List Run) (gathered : Drafted) (place low : ℕ) → gathered.from ≡ place → gathered.records ≡ [] → place ≤ length rs → (0 < place → end_at rs (place - 1) < low) → AreBegun rs gathered place low
+pub begun-none : (rs : List Run) (gathered : Drafted) (place low : ℕ) → gathered.from ≡ place
+    → gathered.records ≡ [] → place ≤ length rs → (0 < place → end_at rs (place - 1) < low)
+    → AreBegun rs gathered place low
 begun-none rs gathered place low e none within before =
     let len = ap length none in
     record {
@@ -123,41 +155,61 @@ begun-none rs gathered place low e none within before =
       before = λ _ pos. before pos;
     }
 
-pub begun-one : (rs : List Run) (gathered : Drafted) (run : Run) (place low : ℕ) → 0 < place → place ≤ length rs → gathered.from ≡ place - 1 → gathered.records ≡ run ∷ [] → run ≡ get_or rs (place - 1) run → low ≤ end_of run → AreBegun rs gathered place low
+pub begun-one : (rs : List Run) (gathered : Drafted) (run : Run) (place low : ℕ) → 0 < place
+    → place ≤ length rs → gathered.from ≡ place - 1 → gathered.records ≡ run ∷ []
+    → run ≡ get_or rs (place - 1) run → low ≤ end_of run → AreBegun rs gathered place low
 begun-one rs gathered run place low pos within e one read reach =
     let len = ap length one in
     let on : place - 1 + 1 ≡ place = omega arith in
     let ends = end_at-read rs (place - 1) run (omega arith) read in
     record {
       reached = omega arith;
-      same = rw (e, one) (rw on at (same-splice rs [] (place - 1) (place - 1) run (omega arith) read) ∙ take-append-drop (place - 1) rs);
+      same = rw (e, one) (rw on at (same-splice rs [] (place - 1) (place - 1) run
+          (omega arith) read) ∙ take-append-drop (place - 1) rs);
       one = omega arith;
       reach = λ i ge lt. let is : i ≡ place - 1 = omega arith in rw is (omega arith);
       before = λ wrong pos. absurd (omega arith);
     }
 
 -- how the table is parted
-pub gathered-parts : (rs : List Run) (gathered : Drafted) → splice rs gathered.from (end_index gathered) gathered.records ≡ rs → rs ≡ take gathered.from rs ++ (gathered.records ++ drop (end_index gathered) rs)
+pub gathered-parts : (rs : List Run) (gathered : Drafted)
+    → splice rs gathered.from (end_index gathered) gathered.records ≡ rs
+    → rs ≡ take gathered.from rs ++ (gathered.records ++ drop (end_index gathered) rs)
 gathered-parts rs gathered same = sym same
 
-pub all-gathered : (rs : List Run) (begun gathered : Drafted) (place low high bound : ℕ) → AreBegun rs begun place low → IsLowerBound rs place low → low ≤ high
-    → gathered.from ≡ begun.from → place ≤ end_index gathered → end_index gathered ≤ length rs → splice rs gathered.from (end_index gathered) gathered.records ≡ rs
-    → ((i : ℕ) → place ≤ i → i < end_index gathered → start_of rs i ≤ high) → (end_index gathered < length rs → high < start_of rs (end_index gathered)) → AreMaximal 0 bound rs → high + 1 ≤ bound
+pub all-gathered : (rs : List Run) (begun gathered : Drafted) (place low high bound : ℕ)
+    → AreBegun rs begun place low → IsLowerBound rs place low → low ≤ high
+    → gathered.from ≡ begun.from → place ≤ end_index gathered → end_index gathered ≤ length rs
+    → splice rs gathered.from (end_index gathered) gathered.records ≡ rs
+    → ((i : ℕ) → place ≤ i → i < end_index gathered → start_of rs i ≤ high)
+    → (end_index gathered < length rs → high < start_of rs (end_index gathered))
+    → AreMaximal 0 bound rs → high + 1 ≤ bound
     → AreGathered rs gathered low high bound
-all-gathered rs begun gathered place low high bound b p order from grows within same near after maximal le =
+all-gathered rs begun gathered place low high bound b p order from grows within same near after
+    maximal le =
     let xs : List Run = take gathered.from rs in
     let reached = b.reached in
     let lx : length xs ≡ gathered.from = front_of rs gathered.from (omega arith) in
-    let ends = λ (i : ℕ) (lt : i < length gathered.records). ap (λ zs. end_at zs (gathered.from + i)) (sym same) ∙ ap (λ n. end_at (xs ++ (gathered.records ++ drop (end_index gathered) rs)) (n + i)) (sym lx)
-    ∙ end_at-behind xs (gathered.records ++ drop (end_index gathered) rs) i ∙ end_at-left gathered.records (drop (end_index gathered) rs) i lt in
-    let starts = λ (i : ℕ) (lt : i < length gathered.records). ap (λ zs. start_of zs (gathered.from + i)) (sym same) ∙ ap (λ n. start_of (xs ++ (gathered.records ++ drop (end_index gathered) rs)) (n + i)) (sym lx)
-    ∙ start_of-behind xs (gathered.records ++ drop (end_index gathered) rs) i ∙ start_of-left gathered.records (drop (end_index gathered) rs) i lt in
+    let ends = λ (i : ℕ) (lt : i < length gathered.records). ap
+        (λ zs. end_at zs (gathered.from + i)) (sym same)
+        ∙ ap (λ n. end_at (xs ++ (gathered.records ++ drop (end_index gathered) rs)) (n + i))
+        (sym lx)
+    ∙ end_at-behind xs (gathered.records ++ drop (end_index gathered) rs) i
+    ∙ end_at-left gathered.records (drop (end_index gathered) rs) i lt in
+    let starts = λ (i : ℕ) (lt : i < length gathered.records). ap
+        (λ zs. start_of zs (gathered.from + i)) (sym same)
+        ∙ ap (λ n. start_of (xs ++ (gathered.records ++ drop (end_index gathered) rs)) (n + i))
+        (sym lx)
+    ∙ start_of-behind xs (gathered.records ++ drop (end_index gathered) rs) i
+    ∙ start_of-left gathered.records (drop (end_index gathered) rs) i lt in
     record {
       within = within;
       same = same;
-      before = maximal-take rs gathered.from 0 bound low maximal (omega arith) (λ _. omega arith) (λ m is. elim (cases_lt gathered.from place) [
+      before = maximal-take rs gathered.from 0 bound low maximal (omega arith) (λ _. omega arith)
+          (λ m is. elim (cases_lt gathered.from place) [
         | inl below ↦
-            let up : end_at rs m < start_of rs gathered.from = rw (sym is) at (maximal-step rs 0 bound m maximal (omega arith)) in
+            let up : end_at rs m < start_of rs gathered.from =
+                rw (sym is) at (maximal-step rs 0 bound m maximal (omega arith)) in
             let low_there = p.before gathered.from below in omega arith
         | inr above ↦
             let here : begun.from ≡ place = omega arith in
@@ -177,30 +229,40 @@ all-gathered rs begun gathered place low high bound b p order from grows within 
                 let q = end_at-past rs (gathered.from + i) in
                 (omega arith, omega arith)
           ]);
-      after = maximal-drop rs (end_index gathered) (high + 1) 0 bound maximal le (λ lt. let a = after lt in omega arith);
+      after = maximal-drop rs (end_index gathered) (high + 1) 0 bound maximal le
+          (λ lt. let a = after lt in omega arith);
     }
 
 -- how many runs begin in the range
 true_le : (a b : ℕ) → a ≤ b → nat_le a b ≡ true
 true_le a b h = grind (arith, nat_tests)
 
-pub count-starts : (rs : List Run) (place low high : ℕ) → ((i : ℕ) → place ≤ i → i < length rs → low ≤ start_of rs i) → count_by (λ (run : Run). nat_lt run.start high) (drop place rs) ≤ count_by (starts_in low high) rs
+pub count-starts : (rs : List Run) (place low high : ℕ)
+    → ((i : ℕ) → place ≤ i → i < length rs → low ≤ start_of rs i)
+    → count_by (λ (run : Run). nat_lt run.start high) (drop place rs) ≤ count_by
+    (starts_in low high) rs
 count-starts [] zero low high after = omega arith
 count-starts [] (suc place) low high after = omega arith
 count-starts (x ∷ rs) zero low high after =
-    let rest = count-starts rs zero low high (λ i ge lt. after (suc i) (omega arith) (omega arith)) in
+    let rest = count-starts rs zero low high (λ i ge lt. after (suc i) (omega arith) (omega arith))
+        in
     let l = count-more (λ (run : Run). nat_lt run.start high) x rs in
     let r = count-more (starts_in low high) x rs in
-    let first : starts_in low high x ≡ nat_lt x.start high = ap (λ b. b && nat_lt x.start high) (true_le low x.start (after 0 (omega arith) (omega arith))) in
-    let same : cond {A = ℕ} (starts_in low high x) 1 0 ≡ cond (nat_lt x.start high) 1 0 = ap (λ b. cond b 1 0) first in
+    let first : starts_in low high x ≡ nat_lt x.start high =
+        ap (λ b. b && nat_lt x.start high) (true_le low x.start
+        (after 0 (omega arith) (omega arith))) in
+    let same : cond {A = ℕ} (starts_in low high x) 1 0 ≡ cond (nat_lt x.start high) 1 0 =
+        ap (λ b. cond b 1 0) first in
     omega arith
 count-starts (x ∷ rs) (suc place) low high after =
-    let rest = count-starts rs place low high (λ i ge lt. after (suc i) (omega arith) (omega arith)) in
+    let rest = count-starts rs place low high
+        (λ i ge lt. after (suc i) (omega arith) (omega arith)) in
     let r = count-more (starts_in low high) x rs in
     omega arith
 
 -- a run ends within the bound
-pub end-within : (rs : List Run) (a b i : ℕ) (d : Run) → AreMaximal a b rs → i < length rs → end_of (get_or rs i d) < b
+pub end-within : (rs : List Run) (a b i : ℕ) (d : Run) → AreMaximal a b rs → i < length rs
+    → end_of (get_or rs i d) < b
 end-within [] a b i d h lt = absurd (omega arith)
 end-within (x ∷ rs) a b zero d h lt = let le = maximal-le rs (end_of x + 1) b h.1 in omega arith
 end-within (x ∷ rs) a b (suc i) d h lt = end-within rs (end_of x + 1) b i d h.1 (omega arith)

@@ -1,29 +1,33 @@
 -- How many addresses of a range are mapped, from the runs.
-use Rattle.std.proofs.Common.{◌≡◌, ℕ, ◌+◌, ◌-◌, ◌<◌, ◌≤◌, zero, suc, List, [], ◌∷◌, ◌++◌, take, drop, arith, refl, sym, ap, ap₂, ◌∙◌, inl, inr, cond, Bool, true, false, Some, Option}
+use Rattle.std.proofs.Common.{◌≡◌, ℕ, ◌+◌, ◌-◌, ◌<◌, ◌≤◌, zero, suc, List, [], ◌∷◌, ◌++◌, take}
+use Rattle.std.proofs.Common.{drop, arith, refl, sym, ap, ap₂, ◌∙◌, inl, inr, cond, Bool, true}
+use Rattle.std.proofs.Common.{false, Some, Option}
 use Rattle.std.proofs.lemmas.Bool.{cases_lt}
 use Rattle.std.proofs.lemmas.Bool.Decides.{nat_tests}
 use Rattle.std.proofs.lemmas.List.Sums.{sum_by-cons}
-use Rattle.std.specs.List.{count_by, sum_by}
-use Rattle.std.specs.Prelude.{slice_index, slice_index_or, is_some, min, max}
-use Rattle.std.specs.Ordering.{nat_cmp, eq_by_cmp}
 use Rattle.std.specs.Cmp.{nat_cmp_total}
 use Rattle.std.specs.FinMap as map
+use Rattle.std.specs.List.{count_by, sum_by}
+use Rattle.std.specs.Ordering.{nat_cmp, eq_by_cmp}
+use Rattle.std.specs.Prelude.{slice_index, slice_index_or, is_some, min, max}
 use Rattle.sg_blocks.specs.Disk.{Contents, zero_block, blocks, lies_in, mapped_among}
-use Rattle.sg_blocks.specs.Records.{contents_of, mapped_at}
-use Rattle.sg_block_map.specs.Gathering.{overlap, AreGathered, end_index}
-use Rattle.sg_block_map.specs.Runs.{singles, singles_of, expanded, AreMaximal, AreBetween, chained_contents}
-use Rattle.sg_blocks.specs.Records.{single}
-use Rattle.sg_blocks.specs.Slots.{Slots}
 use Rattle.sg_blocks.specs.Draft.{Drafted}
+use Rattle.sg_blocks.specs.Records.{contents_of, mapped_at, single}
+use Rattle.sg_blocks.specs.Slots.{Slots}
 use Rattle.sg_blocks.specs.declared.run.Run.{Run}
-use Rattle.sg_block_map.proofs.ExpandedLemmas.{expanded-more, expanded-none, expanded-append}
-use Rattle.sg_block_map.proofs.BetweenLemmas.{between-expanded, between-low}
-use Rattle.sg_block_map.proofs.ContentsLemmas.{inside, below, above, blocks-same, mapped_among-same, get-middle}
+use Rattle.sg_block_map.specs.Gathering.{overlap, AreGathered, end_index}
+use Rattle.sg_block_map.specs.Runs.{singles, singles_of, expanded, AreMaximal, AreBetween}
+use Rattle.sg_block_map.specs.Runs.{chained_contents}
 use Rattle.sg_blocks.proofs.DiskLemmas.{mapped_among-none, mapped_among-more, eq_other}
 use Rattle.sg_blocks.proofs.RecordLemmas.{eq_same, none_mapped}
+use Rattle.sg_block_map.proofs.BetweenLemmas.{between-expanded, between-low}
+use Rattle.sg_block_map.proofs.ContentsLemmas.{inside, below, above, blocks-same, mapped_among-same}
+use Rattle.sg_block_map.proofs.ContentsLemmas.{get-middle}
+use Rattle.sg_block_map.proofs.ExpandedLemmas.{expanded-more, expanded-none, expanded-append}
 use Rattle.sg_block_map.proofs.GatheringLemmas.{count-append, count-more}
 
-either_some : (b : Bool) (v : List ℕ) (o : Option (List ℕ)) → cond {A = ℕ} (is_some (cond b (Some v) o)) 1 0 ≡ cond b 1 (cond (is_some o) 1 0)
+either_some : (b : Bool) (v : List ℕ) (o : Option (List ℕ))
+    → cond {A = ℕ} (is_some (cond b (Some v) o)) 1 0 ≡ cond b 1 (cond (is_some o) 1 0)
 either_some true v o = refl
 either_some false v o = refl
 
@@ -43,11 +47,15 @@ empty_among bs a (suc k) =
     rw e (omega arith)
 
 -- one address more
-at_insert : (m : Contents) (x q : ℕ) (v : List ℕ) → mapped_at (map.insert m x v) q ≡ cond (eq_by_cmp nat_cmp q x) 1 (mapped_at m q)
-at_insert m x q v = ap (λ o. cond (is_some o) 1 0) (map.get-insert nat_cmp_total m x v q) ∙ either_some (eq_by_cmp nat_cmp q x) v (map.get m q)
+at_insert : (m : Contents) (x q : ℕ) (v : List ℕ)
+    → mapped_at (map.insert m x v) q ≡ cond (eq_by_cmp nat_cmp q x) 1 (mapped_at m q)
+at_insert m x q v = ap (λ o. cond (is_some o) 1 0) (map.get-insert nat_cmp_total m x v q)
+    ∙ either_some (eq_by_cmp nat_cmp q x) v (map.get m q)
 
-among_insert : (m : Contents) (x : ℕ) (v : List ℕ) (a k : ℕ) → mapped_at m x ≡ 0 → mapped_among (map.insert m x v) a k ≡ mapped_among m a k + cond (lies_in a k x) 1 0
-among_insert m x v a zero none = mapped_among-none (map.insert m x v) a ∙ sym (ap₂ (λ n c. n + cond c 1 0) (mapped_among-none m a) (outside a x))
+among_insert : (m : Contents) (x : ℕ) (v : List ℕ) (a k : ℕ) → mapped_at m x ≡ 0
+    → mapped_among (map.insert m x v) a k ≡ mapped_among m a k + cond (lies_in a k x) 1 0
+among_insert m x v a zero none = mapped_among-none (map.insert m x v) a
+    ∙ sym (ap₂ (λ n c. n + cond c 1 0) (mapped_among-none m a) (outside a x))
 among_insert m x v a (suc k) none =
     let e : suc k ≡ k + 1 = omega arith in
     let rest = among_insert m x v a k none in
@@ -56,38 +64,51 @@ among_insert m x v a (suc k) none =
     let at = at_insert m x (a + k) v in
     rw e (elim (cases_lt x (a + k)) [
       | inl lt ↦
-          let c : eq_by_cmp nat_cmp (a + k) x ≡ false = eq_other (a + k) x (λ same. absurd (omega arith)) in
-          let here : mapped_at (map.insert m x v) (a + k) ≡ mapped_at m (a + k) = at ∙ ap (λ b. cond b 1 (mapped_at m (a + k))) c in
-          let wide : cond {A = ℕ} (lies_in a (k + 1) x) 1 0 ≡ cond (lies_in a k x) 1 0 = elim (cases_lt x a) [
+          let c : eq_by_cmp nat_cmp (a + k) x ≡ false =
+              eq_other (a + k) x (λ same. absurd (omega arith)) in
+          let here : mapped_at (map.insert m x v) (a + k) ≡ mapped_at m (a + k) = at
+              ∙ ap (λ b. cond b 1 (mapped_at m (a + k))) c in
+          let wide : cond {A = ℕ} (lies_in a (k + 1) x) 1 0 ≡ cond (lies_in a k x) 1 0 =
+              elim (cases_lt x a) [
             | inl low ↦ rw (below a (k + 1) x low, below a k x low) refl
             | inr ge ↦ rw (inside a (k + 1) x ge (omega arith), inside a k x ge lt) refl
           ] in omega arith
       | inr ge ↦ elim (cases_lt (a + k) x) [
         | inl lt ↦
-            let c : eq_by_cmp nat_cmp (a + k) x ≡ false = eq_other (a + k) x (λ same. absurd (omega arith)) in
-            let here : mapped_at (map.insert m x v) (a + k) ≡ mapped_at m (a + k) = at ∙ ap (λ b. cond b 1 (mapped_at m (a + k))) c in
-            let wide : cond {A = ℕ} (lies_in a (k + 1) x) 1 0 ≡ cond (lies_in a k x) 1 0 = rw (above a (k + 1) x (omega arith), above a k x (omega arith)) refl in omega arith
+            let c : eq_by_cmp nat_cmp (a + k) x ≡ false =
+                eq_other (a + k) x (λ same. absurd (omega arith)) in
+            let here : mapped_at (map.insert m x v) (a + k) ≡ mapped_at m (a + k) = at
+                ∙ ap (λ b. cond b 1 (mapped_at m (a + k))) c in
+            let wide : cond {A = ℕ} (lies_in a (k + 1) x) 1 0 ≡ cond (lies_in a k x) 1 0 =
+                rw (above a (k + 1) x (omega arith), above a k x (omega arith)) refl in omega arith
         | inr le ↦
             let same : a + k ≡ x = omega arith in
-            let here : mapped_at (map.insert m x v) (a + k) ≡ 1 = at ∙ ap (λ b. cond b 1 (mapped_at m (a + k))) (eq_same (a + k) x same) in
+            let here : mapped_at (map.insert m x v) (a + k) ≡ 1 = at
+                ∙ ap (λ b. cond b 1 (mapped_at m (a + k))) (eq_same (a + k) x same) in
             let not_yet : mapped_at m (a + k) ≡ 0 = ap (mapped_at m) same ∙ none in
-            let new : cond {A = ℕ} (lies_in a (k + 1) x) 1 0 ≡ 1 = ap (λ b. cond b 1 0) (inside a (k + 1) x (omega arith) (omega arith)) in
-            let old : cond {A = ℕ} (lies_in a k x) 1 0 ≡ 0 = ap (λ b. cond b 1 0) (above a k x (omega arith)) in omega arith
+            let new : cond {A = ℕ} (lies_in a (k + 1) x) 1 0 ≡ 1 =
+                ap (λ b. cond b 1 0) (inside a (k + 1) x (omega arith) (omega arith)) in
+            let old : cond {A = ℕ} (lies_in a k x) 1 0 ≡ 0 =
+                ap (λ b. cond b 1 0) (above a k x (omega arith)) in omega arith
       ]
     ])
 
 -- addresses that rise, one by one
-among_count : (xs : List Run) (bs : List (List ℕ)) (low high a k : ℕ) → AreBetween low high xs → mapped_among (contents_of xs bs) a k ≡ count_by (λ (x : Run). lies_in a k x.start) xs
+among_count : (xs : List Run) (bs : List (List ℕ)) (low high a k : ℕ) → AreBetween low high xs
+    → mapped_among (contents_of xs bs) a k ≡ count_by (λ (x : Run). lies_in a k x.start) xs
 among_count [] bs low high a k h = empty_among bs a k
 among_count (x ∷ xs) bs low high a k h =
-    let none = none_mapped xs bs x.start (λ j lt same. let up = between-low xs (x.start + 1) high j h.1 lt in absurd (omega arith)) in
+    let none = none_mapped xs bs x.start (λ j lt same. let up =
+        between-low xs (x.start + 1) high j h.1 lt in absurd (omega arith)) in
     let rest = among_count xs bs (x.start + 1) high a k h.1 in
-    let more = among_insert (contents_of xs bs) x.start (slice_index_or bs x.first zero_block) a k none in
+    let more = among_insert (contents_of xs bs) x.start
+        (slice_index_or bs x.first zero_block) a k none in
     let count = count-more (λ (x : Run). lies_in a k x.start) x xs in
     omega arith
 
 -- the addresses of a run
-overlap_step : (a k start n : ℕ) → cond (lies_in a k start) 1 0 + (min (start + 1 + n) (a + k) - max (start + 1) a) ≡ min (start + suc n) (a + k) - max start a
+overlap_step : (a k start n : ℕ) → cond (lies_in a k start) 1 0 +
+    (min (start + 1 + n) (a + k) - max (start + 1) a) ≡ min (start + suc n) (a + k) - max start a
 overlap_step a k start n = elim (cases_lt start a) [
   | inl lt ↦ rw (below a k start lt) (omega arith)
   | inr ge ↦ elim (cases_lt start (a + k)) [
@@ -96,38 +117,65 @@ overlap_step a k start n = elim (cases_lt start a) [
   ]
 ]
 
-count_run : (next : List ℕ) (a k start first n : ℕ) → count_by (λ (x : Run). lies_in a k x.start) (singles next start first n) ≡ min (start + n) (a + k) - max start a
+count_run : (next : List ℕ) (a k start first n : ℕ)
+    → count_by (λ (x : Run). lies_in a k x.start) (singles next start first n) ≡
+    min (start + n) (a + k) - max start a
 unfolding singles
 count_run next a k start first zero = omega arith
 count_run next a k start first (suc n) =
     let rest = count_run next a k (start + 1) (slice_index next first) n in
-    let count = count-more (λ (x : Run). lies_in a k x.start) (single start first) (singles next (start + 1) (slice_index next first) n) in
+    let count = count-more (λ (x : Run). lies_in a k x.start) (single start first)
+        (singles next (start + 1) (slice_index next first) n) in
     let step = overlap_step a k start n in
     omega arith
 
-count_apart : (next : List ℕ) (a k : ℕ) (runs : List Run) → count_by (λ (x : Run). lies_in a k x.start) (expanded next runs) ≡ sum_by (overlap a (a + k)) runs
+count_apart : (next : List ℕ) (a k : ℕ) (runs : List Run)
+    → count_by (λ (x : Run). lies_in a k x.start) (expanded next runs) ≡
+    sum_by (overlap a (a + k)) runs
 count_apart next a k [] = ap (count_by (λ (x : Run). lies_in a k x.start)) (expanded-none next)
 count_apart next a k (run ∷ runs) =
     let one = count_run next a k run.start run.first run.count in
     let rest = count_apart next a k runs in
-    let both = ap (count_by (λ (x : Run). lies_in a k x.start)) (expanded-more next run runs) ∙ count-append (λ (x : Run). lies_in a k x.start) (singles_of next run) (expanded next runs) in
+    let both = ap (count_by (λ (x : Run). lies_in a k x.start)) (expanded-more next run runs)
+        ∙ count-append (λ (x : Run). lies_in a k x.start) (singles_of next run)
+        (expanded next runs) in
     let sum = sum_by-cons (overlap a (a + k)) run runs in
     omega arith
 
-pub mapped-overlap : (next : List ℕ) (runs : List Run) (bs : List (List ℕ)) (low high a k : ℕ) → AreMaximal low high runs → mapped_among (contents_of (expanded next runs) bs) a k ≡ sum_by (overlap a (a + k)) runs
-mapped-overlap next runs bs low high a k h = among_count (expanded next runs) bs low high a k (between-expanded next runs low high h) ∙ count_apart next a k runs
+pub mapped-overlap : (next : List ℕ) (runs : List Run) (bs : List (List ℕ)) (low high a k : ℕ)
+    → AreMaximal low high runs → mapped_among (contents_of (expanded next runs) bs) a k ≡
+    sum_by (overlap a (a + k)) runs
+mapped-overlap next runs bs low high a k h = among_count (expanded next runs) bs low high a k
+    (between-expanded next runs low high h) ∙ count_apart next a k runs
 
 -- in the range the contents are those of the runs that were gathered
-pub get-gathered : (rs : List Run) (gathered : Drafted) (slots : Slots) (lba count bound q : ℕ) → AreGathered rs gathered lba (lba + count) bound → lba ≤ q → q < lba + count → map.get (chained_contents rs slots) q ≡ map.get (chained_contents gathered.records slots) q
+pub get-gathered : (rs : List Run) (gathered : Drafted) (slots : Slots) (lba count bound q : ℕ)
+    → AreGathered rs gathered lba (lba + count) bound → lba ≤ q → q < lba + count
+    → map.get (chained_contents rs slots) q ≡ map.get (chained_contents gathered.records slots) q
 get-gathered rs gathered slots lba count bound q g le lt =
     let xs : List Run = take gathered.from rs in let ys : List Run = drop (end_index gathered) rs in
-    let parts : expanded slots.next rs ≡ expanded slots.next xs ++ (expanded slots.next gathered.records ++ expanded slots.next ys)
-    = ap (expanded slots.next) (sym g.same) ∙ expanded-append slots.next xs (gathered.records ++ ys) ∙ ap (λ zs. expanded slots.next xs ++ zs) (expanded-append slots.next gathered.records ys) in
+    let parts : expanded slots.next rs ≡ expanded slots.next xs ++
+        (expanded slots.next gathered.records ++ expanded slots.next ys)
+    = ap (expanded slots.next) (sym g.same) ∙ expanded-append slots.next xs (gathered.records ++ ys)
+        ∙ ap (λ zs. expanded slots.next xs ++ zs)
+        (expanded-append slots.next gathered.records ys) in
     ap (λ zs. map.get (contents_of zs slots.blocks) q) parts
-    ∙ get-middle (expanded slots.next xs) (expanded slots.next gathered.records) (expanded slots.next ys) slots.blocks 0 lba (lba + count + 1) bound q (between-expanded slots.next xs 0 lba g.before) le (between-expanded slots.next ys (lba + count + 1) bound g.after) (omega arith)
+    ∙ get-middle (expanded slots.next xs) (expanded slots.next gathered.records)
+    (expanded slots.next ys) slots.blocks 0 lba (lba + count + 1) bound q
+    (between-expanded slots.next xs 0 lba g.before) le
+    (between-expanded slots.next ys (lba + count + 1) bound g.after) (omega arith)
 
-pub blocks-gathered : (rs : List Run) (gathered : Drafted) (slots : Slots) (lba count bound : ℕ) → AreGathered rs gathered lba (lba + count) bound → blocks (chained_contents rs slots) lba count ≡ blocks (chained_contents gathered.records slots) lba count
-blocks-gathered rs gathered slots lba count bound g = blocks-same _ _ lba count (λ q le lt. get-gathered rs gathered slots lba count bound q g le lt)
+pub blocks-gathered : (rs : List Run) (gathered : Drafted) (slots : Slots) (lba count bound : ℕ)
+    → AreGathered rs gathered lba (lba + count) bound
+    → blocks (chained_contents rs slots) lba count ≡
+    blocks (chained_contents gathered.records slots) lba count
+blocks-gathered rs gathered slots lba count bound g =
+    blocks-same _ _ lba count (λ q le lt. get-gathered rs gathered slots lba count bound q g le lt)
 
-pub mapped-gathered : (rs : List Run) (gathered : Drafted) (slots : Slots) (lba count bound : ℕ) → AreGathered rs gathered lba (lba + count) bound → mapped_among (chained_contents rs slots) lba count ≡ mapped_among (chained_contents gathered.records slots) lba count
-mapped-gathered rs gathered slots lba count bound g = mapped_among-same _ _ lba count (λ q le lt. get-gathered rs gathered slots lba count bound q g le lt)
+pub mapped-gathered : (rs : List Run) (gathered : Drafted) (slots : Slots) (lba count bound : ℕ)
+    → AreGathered rs gathered lba (lba + count) bound
+    → mapped_among (chained_contents rs slots) lba count ≡
+    mapped_among (chained_contents gathered.records slots) lba count
+mapped-gathered rs gathered slots lba count bound g =
+    mapped_among-same _ _ lba count
+    (λ q le lt. get-gathered rs gathered slots lba count bound q g le lt)

@@ -1,13 +1,15 @@
 -- Runs that are split.
-use Rattle.std.proofs.Common.{◌≡◌, ℕ, ◌+◌, ◌-◌, ◌<◌, ◌≤◌, List, [], ◌∷◌, ◌++◌, length, arith, refl, sym, ap, ◌∙◌, Some, None}
+use Rattle.std.proofs.Common.{◌≡◌, ℕ, ◌+◌, ◌-◌, ◌<◌, ◌≤◌, List, [], ◌∷◌, ◌++◌, length, arith, refl}
+use Rattle.std.proofs.Common.{sym, ap, ◌∙◌, Some, None}
 use Rattle.std.proofs.lemmas.List.{append-nil}
 use Rattle.sg_blocks.specs.Chains.{chain, slot_after, AreBelow, IsChain}
-use Rattle.sg_block_map.specs.Runs.{end_of, singles, singles_of, expanded}
 use Rattle.sg_blocks.specs.Slots.{Slots, followed}
-use Rattle.sg_block_map.specs.Splitting.{front_of, rest_of, IsSplit}
 use Rattle.sg_blocks.specs.declared.run.Run.{Run}
+use Rattle.sg_block_map.specs.Runs.{end_of, singles, singles_of, expanded}
+use Rattle.sg_block_map.specs.Splitting.{front_of, rest_of, IsSplit}
 use Rattle.sg_blocks.proofs.LinkLemmas.{chain-append, chain-last, slot_after-add}
-use Rattle.sg_block_map.proofs.ExpandedLemmas.{expanded-more, expanded-none, singles-append, length-singles}
+use Rattle.sg_block_map.proofs.ExpandedLemmas.{expanded-more, expanded-none, singles-append}
+use Rattle.sg_block_map.proofs.ExpandedLemmas.{length-singles}
 
 pub below-left : (count : ℕ) (xs ys : List ℕ) → AreBelow count (xs ++ ys) → AreBelow count xs
 unfolding AreBelow
@@ -23,31 +25,44 @@ below-one : (count x : ℕ) → AreBelow count (x ∷ []) → x < count
 unfolding AreBelow
 below-one count x h = h.0
 
-pub below-part_of_chain : (count : ℕ) (next : List ℕ) (first n m : ℕ) → n ≤ m → AreBelow count (chain next first m) → AreBelow count (chain next first n)
+pub below-part_of_chain : (count : ℕ) (next : List ℕ) (first n m : ℕ) → n ≤ m
+    → AreBelow count (chain next first m) → AreBelow count (chain next first n)
 below-part_of_chain count next first n m le h =
     let e : n + (m - n) ≡ m = omega arith in
-    below-left count (chain next first n) (chain next (slot_after next first n) (m - n)) (rw (sym (chain-append next first n (m - n)), e) h)
+    below-left count (chain next first n) (chain next (slot_after next first n) (m - n))
+        (rw (sym (chain-append next first n (m - n)), e) h)
 
-pub slot-below : (count : ℕ) (next : List ℕ) (first n m : ℕ) → n < m → AreBelow count (chain next first m) → slot_after next first n < count
+pub slot-below : (count : ℕ) (next : List ℕ) (first n m : ℕ) → n < m
+    → AreBelow count (chain next first m) → slot_after next first n < count
 slot-below count next first n m lt h =
     let front = below-part_of_chain count next first (n + 1) m (omega arith) h in
-    below-one count (slot_after next first n) (below-right count (chain next first n) (slot_after next first n ∷ []) (rw (chain-last next first n) at front))
+    below-one count (slot_after next first n)
+        (below-right count (chain next first n) (slot_after next first n ∷ [])
+        (rw (chain-last next first n) at front))
 
 pub expanded-one : (next : List ℕ) (run : Run) → expanded next (run ∷ []) ≡ singles_of next run
-expanded-one next run = expanded-more next run [] ∙ ap (λ xs. singles_of next run ++ xs) (expanded-none next) ∙ append-nil (singles_of next run)
+expanded-one next run = expanded-more next run []
+    ∙ ap (λ xs. singles_of next run ++ xs) (expanded-none next) ∙ append-nil (singles_of next run)
 
 -- the parts of a run
-pub split-parts : (next : List ℕ) (run : Run) (n : ℕ) → n ≤ run.count → singles_of next (front_of next run n) ++ singles_of next (rest_of next run n) ≡ singles_of next run
+pub split-parts : (next : List ℕ) (run : Run) (n : ℕ) → n ≤ run.count
+    → singles_of next (front_of next run n) ++ singles_of next (rest_of next run n) ≡
+    singles_of next run
 split-parts next run n le =
     let e : n + (run.count - n) ≡ run.count = omega arith in
-    sym (ap (singles next run.start run.first) (sym e) ∙ singles-append next run.start run.first n (run.count - n))
+    sym (ap (singles next run.start run.first) (sym e)
+        ∙ singles-append next run.start run.first n (run.count - n))
 
-pub rest-chain : (next : List ℕ) (run : Run) (n : ℕ) → n < run.count → IsChain next run.first run.last run.count → let rest = rest_of next run n in IsChain next rest.first rest.last rest.count
+pub rest-chain : (next : List ℕ) (run : Run) (n : ℕ) → n < run.count
+    → IsChain next run.first run.last run.count → let rest = rest_of next run n in
+    IsChain next rest.first rest.last rest.count
 rest-chain next run n lt is =
     let e : n + (run.count - n - 1) ≡ run.count - 1 = omega arith in
-    record { some = omega arith; ends = is.ends ∙ ap (slot_after next run.first) (sym e) ∙ slot_after-add next run.first n (run.count - n - 1) }
+    record { some = omega arith; ends = is.ends ∙ ap (slot_after next run.first) (sym e)
+        ∙ slot_after-add next run.first n (run.count - n - 1) }
 
-pub is_split-none : (next : List ℕ) (run : Run) (lba : ℕ) → lba ≤ run.start → IsChain next run.first run.last run.count → IsSplit next run lba None (Some run)
+pub is_split-none : (next : List ℕ) (run : Run) (lba : ℕ) → lba ≤ run.start
+    → IsChain next run.first run.last run.count → IsSplit next run lba None (Some run)
 is_split-none next run lba le is = record {
   parts = expanded-one next run;
   chained = (is, tt);
@@ -55,7 +70,8 @@ is_split-none next run lba le is = record {
   after = (omega arith, le, refl, omega arith);
 }
 
-pub is_split-all : (next : List ℕ) (run : Run) (lba : ℕ) → run.start < lba → end_of run ≤ lba → IsChain next run.first run.last run.count → IsSplit next run lba (Some run) None
+pub is_split-all : (next : List ℕ) (run : Run) (lba : ℕ) → run.start < lba → end_of run ≤ lba
+    → IsChain next run.first run.last run.count → IsSplit next run lba (Some run) None
 is_split-all next run lba lt le is = record {
   parts = expanded-one next run;
   chained = (is, tt);
@@ -63,28 +79,42 @@ is_split-all next run lba lt le is = record {
   after = tt;
 }
 
-pub is_split-both : (next : List ℕ) (run : Run) (lba : ℕ) → run.start < lba → lba < end_of run → IsChain next run.first run.last run.count
-    → IsSplit next run lba (Some (front_of next run (lba - run.start))) (Some (rest_of next run (lba - run.start)))
+pub is_split-both : (next : List ℕ) (run : Run) (lba : ℕ) → run.start < lba → lba < end_of run
+    → IsChain next run.first run.last run.count
+    → IsSplit next run lba (Some (front_of next run (lba - run.start)))
+    (Some (rest_of next run (lba - run.start)))
 is_split-both next run lba l r is =
     let n = lba - run.start in
     record {
-      parts = expanded-more next (front_of next run n) (rest_of next run n ∷ []) ∙ ap (λ xs. singles_of next (front_of next run n) ++ xs) (expanded-one next (rest_of next run n)) ∙ split-parts next run n (omega arith);
-      chained = (record { some = omega arith; ends = refl }, (rest-chain next run n (omega arith) is, tt));
+      parts = expanded-more next (front_of next run n) (rest_of next run n ∷ [])
+          ∙ ap (λ xs. singles_of next (front_of next run n) ++ xs)
+          (expanded-one next (rest_of next run n)) ∙ split-parts next run n (omega arith);
+      chained = (record { some = omega arith; ends = refl },
+          (rest-chain next run n (omega arith) is, tt));
       before = (refl, omega arith, omega arith);
       after = (omega arith, omega arith, omega arith, omega arith);
     }
 
 pub length-one : (next : List ℕ) (run : Run) → length (expanded next (run ∷ [])) ≡ run.count
-length-one next run = ap length (expanded-one next run) ∙ length-singles next run.start run.first run.count
+length-one next run = ap length (expanded-one next run)
+    ∙ length-singles next run.start run.first run.count
 
 -- links that are followed after others
-pub followed-more : (slots : Slots) (n m : ℕ) → followed (followed slots n) m ≡ followed slots (n + m)
-followed-more slots n m = let e : slots.links + n + m ≡ slots.links + (n + m) = omega arith in ap (λ k. record slots { links = k }) e
+pub followed-more : (slots : Slots) (n m : ℕ)
+    → followed (followed slots n) m ≡ followed slots (n + m)
+followed-more slots n m = let e : slots.links + n + m ≡ slots.links + (n + m) = omega arith in
+    ap (λ k. record slots { links = k }) e
 
 pub followed-none : (slots : Slots) → slots ≡ followed slots 0
-followed-none slots = let e : slots.links ≡ slots.links + 0 = omega arith in ap (λ k. record slots { links = k }) e
+followed-none slots = let e : slots.links ≡ slots.links + 0 = omega arith in
+    ap (λ k. record slots { links = k }) e
 
-pub followed-on : (slots now after : Slots) → now ≡ followed slots (now.links - slots.links) → slots.links ≤ now.links → after ≡ followed now (after.links - now.links) → now.links ≤ after.links → after ≡ followed slots (after.links - slots.links)
+pub followed-on : (slots now after : Slots) → now ≡ followed slots (now.links - slots.links)
+    → slots.links ≤ now.links → after ≡ followed now (after.links - now.links)
+    → now.links ≤ after.links → after ≡ followed slots (after.links - slots.links)
 followed-on slots now after e le f ge =
-    let n : now.links - slots.links + (after.links - now.links) ≡ after.links - slots.links = omega arith in
-    f ∙ ap (λ s. followed s (after.links - now.links)) e ∙ followed-more slots (now.links - slots.links) (after.links - now.links) ∙ ap (followed slots) n
+    let n : now.links - slots.links + (after.links - now.links) ≡ after.links - slots.links =
+        omega arith in
+    f ∙ ap (λ s. followed s (after.links - now.links)) e
+        ∙ followed-more slots (now.links - slots.links) (after.links - now.links)
+        ∙ ap (followed slots) n

@@ -1,98 +1,135 @@
 -- Which addresses runs have, and the descriptors of them.
 use Rattle.std.proofs.Common.{◌≡◌, ℕ, ◌+◌, ◌-◌, ◌<◌, ◌≤◌, zero, suc, List, [], ◌∷◌, ◌++◌, length}
-use Rattle.std.proofs.Common.{get_or, take, drop, length-drop, arith, refl, sym, ap, ◌∙◌, ◌⊎◌, inl, inr, cond, Bool, true, false}
-use Rattle.std.proofs.Common.{Option, Some, None}
+use Rattle.std.proofs.Common.{get_or, take, drop, length-drop, arith, refl, sym, ap, ◌∙◌, ◌⊎◌, inl}
+use Rattle.std.proofs.Common.{inr, cond, Bool, true, false, Option, Some, None}
 use Rattle.std.proofs.lemmas.Bool.{cases_lt}
 use Rattle.std.proofs.lemmas.Bool.Decides.{nat_tests}
 use Rattle.std.proofs.lemmas.List.{take_all}
-use Rattle.std.specs.Prelude.{slice_index, slice_index_or, is_some, unwrap_or, min, max, map, nat_lt, nat_le}
-use Rattle.std.specs.Ordering.{nat_cmp, eq_by_cmp}
+use Rattle.std.proofs.lemmas.List.Sums.{sum_by-cons}
 use Rattle.std.specs.Cmp.{nat_cmp_total}
 use Rattle.std.specs.FinMap.{find, get, get-from_entries, contains_key}
+use Rattle.std.specs.Ordering.{nat_cmp, eq_by_cmp}
+use Rattle.std.specs.Prelude.{slice_index, slice_index_or, is_some, unwrap_or, min, max, map}
+use Rattle.std.specs.Prelude.{nat_lt, nat_le}
+use Rattle.sg_blocks.specs.Disk.{IsWellFormed}
 use Rattle.sg_blocks.specs.LbaStatus.{descriptor_at}
-use Rattle.sg_blocks.specs.Records.{start_of, IsSorted, IsLowerBound, IsNext, ahead, end_of_gap, mapped_blocks, contents_of}
+use Rattle.sg_blocks.specs.Records.{start_of, IsSorted, IsLowerBound, IsNext, ahead, end_of_gap}
+use Rattle.sg_blocks.specs.Records.{mapped_blocks, contents_of}
+use Rattle.sg_blocks.specs.Slots.{Slots}
+use Rattle.sg_blocks.specs.Table.{Table, visited, probed}
+use Rattle.sg_blocks.specs.declared.cursor.Cursor.{Cursor}
 use Rattle.sg_blocks.specs.declared.lba_status.ProvisioningStatus.TheVariants.{Mapped, Deallocated}
 use Rattle.sg_blocks.specs.declared.lba_status.StatusDescriptor.{StatusDescriptor}
 use Rattle.sg_blocks.specs.declared.lba_status.TheConstants.{MAX_ADDRESSES}
-use Rattle.sg_blocks.specs.declared.cursor.Cursor.{Cursor}
 use Rattle.sg_blocks.specs.declared.run.Run.{Run}
+use Rattle.sg_blocks.specs.declared.store.TheConstants.{MAX_CAPACITY, MAX_POOL}
 use Rattle.sg_block_map.specs.Gathering.{end_at}
 use Rattle.sg_block_map.specs.MaximalRuns.{meets, meet}
-use Rattle.sg_block_map.specs.Runs.{end_of, singles, singles_of, expanded, AreMaximal, AreChained, AreRuns, chained_contents, blocks_of, extent_of}
+use Rattle.sg_block_map.specs.Runs.{end_of, singles, singles_of, expanded, AreMaximal, AreChained}
+use Rattle.sg_block_map.specs.Runs.{AreRuns, chained_contents, blocks_of, extent_of}
 use Rattle.sg_block_map.specs.Status.{IsRunTable, IsOver, run_over, AreMet, AreFrom, records_met}
-use Rattle.sg_blocks.specs.Disk.{IsWellFormed}
-use Rattle.sg_blocks.specs.Slots.{Slots}
-use Rattle.sg_blocks.specs.Table.{Table, visited, probed}
 use Rattle.sg_blocks.proofs.DescriptorLemmas.{described, below-some}
-use Rattle.sg_blocks.proofs.TableLemmas.{visited-more, visited-less}
 use Rattle.sg_blocks.proofs.RecordLemmas.{eq_same, start_of-read}
+use Rattle.sg_blocks.proofs.TableLemmas.{visited-more, visited-less}
 use Rattle.sg_block_map.proofs.BetweenLemmas.{between-singles, maximal-le, maximal-sorted}
 use Rattle.sg_block_map.proofs.ContentsLemmas.{find-below, find-above, find-right}
+use Rattle.sg_block_map.proofs.CutRunsLemmas.{runs-fit, blocks-fit}
 use Rattle.sg_block_map.proofs.ExpandedLemmas.{expanded-more, expanded-none}
 use Rattle.sg_block_map.proofs.GatheringLemmas.{end_at-read, count-more}
 use Rattle.sg_block_map.proofs.MaximalLemmas.{ends_before, begins_past, none-meet, runs-extents}
-use Rattle.sg_block_map.proofs.CutRunsLemmas.{runs-fit, blocks-fit}
-use Rattle.sg_blocks.specs.declared.store.TheConstants.{MAX_CAPACITY, MAX_POOL}
-use Rattle.std.proofs.lemmas.List.Sums.{sum_by-cons}
 
 -- a record of the address is found among more records
-either-some : (b : Bool) (v : List ℕ) (o : Option (List ℕ)) → is_some o ≡ true → is_some (cond b (Some v) o) ≡ true
+either-some : (b : Bool) (v : List ℕ) (o : Option (List ℕ)) → is_some o ≡ true
+    → is_some (cond b (Some v) o) ≡ true
 either-some true v o e = refl
 either-some false v o e = e
 
-left-some : (b : Bool) (v : List ℕ) (o p : Option (List ℕ)) → (is_some o ≡ true → is_some p ≡ true) → is_some (cond b (Some v) o) ≡ true → is_some (cond b (Some v) p) ≡ true
+left-some : (b : Bool) (v : List ℕ) (o p : Option (List ℕ)) → (is_some o ≡ true → is_some p ≡ true)
+    → is_some (cond b (Some v) o) ≡ true → is_some (cond b (Some v) p) ≡ true
 left-some true v o p f e = refl
 left-some false v o p f e = f e
 
-found-left : (xs ys : List Run) (bs : List (List ℕ)) (q : ℕ) → is_some (find nat_cmp q (mapped_blocks xs bs)) ≡ true → is_some (find nat_cmp q (mapped_blocks (xs ++ ys) bs)) ≡ true
+found-left : (xs ys : List Run) (bs : List (List ℕ)) (q : ℕ)
+    → is_some (find nat_cmp q (mapped_blocks xs bs)) ≡ true
+    → is_some (find nat_cmp q (mapped_blocks (xs ++ ys) bs)) ≡ true
 found-left [] ys bs q e = let wrong = e in cc
-found-left (x ∷ xs) ys bs q e = left-some (eq_by_cmp nat_cmp q x.start) _ _ _ (found-left xs ys bs q) e
+found-left (x ∷ xs) ys bs q e = left-some (eq_by_cmp nat_cmp q x.start) _ _ _
+    (found-left xs ys bs q) e
 
-found-right : (xs ys : List Run) (bs : List (List ℕ)) (q : ℕ) → is_some (find nat_cmp q (mapped_blocks ys bs)) ≡ true → is_some (find nat_cmp q (mapped_blocks (xs ++ ys) bs)) ≡ true
+found-right : (xs ys : List Run) (bs : List (List ℕ)) (q : ℕ)
+    → is_some (find nat_cmp q (mapped_blocks ys bs)) ≡ true
+    → is_some (find nat_cmp q (mapped_blocks (xs ++ ys) bs)) ≡ true
 found-right [] ys bs q e = e
-found-right (x ∷ xs) ys bs q e = either-some (eq_by_cmp nat_cmp q x.start) _ _ (found-right xs ys bs q e)
+found-right (x ∷ xs) ys bs q e = either-some (eq_by_cmp nat_cmp q x.start) _ _
+    (found-right xs ys bs q e)
 
-found-single : (next : List ℕ) (bs : List (List ℕ)) (start first n q : ℕ) → start ≤ q → q < start + n → is_some (find nat_cmp q (mapped_blocks (singles next start first n) bs)) ≡ true
+found-single : (next : List ℕ) (bs : List (List ℕ)) (start first n q : ℕ) → start ≤ q
+    → q < start + n → is_some (find nat_cmp q (mapped_blocks (singles next start first n) bs)) ≡
+    true
 unfolding singles
 found-single next bs start first zero q le lt = absurd (omega arith)
 found-single next bs start first (suc n) q le lt = elim (cases_lt start q) [
-  | inl below ↦ either-some (eq_by_cmp nat_cmp q start) _ _ (found-single next bs (start + 1) (slice_index next first) n q (omega arith) (omega arith))
-  | inr here ↦ let same : eq_by_cmp nat_cmp q start ≡ true = eq_same q start (omega arith) in rw same refl
+  | inl below ↦ either-some (eq_by_cmp nat_cmp q start) _ _
+      (found-single next bs (start + 1) (slice_index next first) n q (omega arith) (omega arith))
+  | inr here ↦ let same : eq_by_cmp nat_cmp q start ≡ true = eq_same q start (omega arith) in
+      rw same refl
 ]
 
-found-inside : (next : List ℕ) (rs : List Run) (bs : List (List ℕ)) (i q : ℕ) → i < length rs → start_of rs i ≤ q → q < end_at rs i → is_some (find nat_cmp q (mapped_blocks (expanded next rs) bs)) ≡ true
+found-inside : (next : List ℕ) (rs : List Run) (bs : List (List ℕ)) (i q : ℕ) → i < length rs
+    → start_of rs i ≤ q → q < end_at rs i → is_some
+    (find nat_cmp q (mapped_blocks (expanded next rs) bs)) ≡ true
 found-inside next [] bs i q h le lt = absurd (omega arith)
-found-inside next (x ∷ rs) bs zero q h le lt = rw (expanded-more next x rs) (found-left (singles_of next x) (expanded next rs) bs q (found-single next bs x.start x.first x.count q le lt))
-found-inside next (x ∷ rs) bs (suc i) q h le lt = rw (expanded-more next x rs) (found-right (singles_of next x) (expanded next rs) bs q (found-inside next rs bs i q (omega arith) le lt))
+found-inside next (x ∷ rs) bs zero q h le lt =
+    rw (expanded-more next x rs) (found-left (singles_of next x) (expanded next rs) bs q
+    (found-single next bs x.start x.first x.count q le lt))
+found-inside next (x ∷ rs) bs (suc i) q h le lt =
+    rw (expanded-more next x rs) (found-right (singles_of next x) (expanded next rs) bs q
+    (found-inside next rs bs i q (omega arith) le lt))
 
-pub contains-inside : (next : List ℕ) (rs : List Run) (bs : List (List ℕ)) (i q : ℕ) → i < length rs → start_of rs i ≤ q → q < end_at rs i → contains_key (contents_of (expanded next rs) bs) q ≡ true
-contains-inside next rs bs i q h le lt = ap is_some (get-from_entries nat_cmp_total (mapped_blocks (expanded next rs) bs) q) ∙ found-inside next rs bs i q h le lt
+pub contains-inside : (next : List ℕ) (rs : List Run) (bs : List (List ℕ)) (i q : ℕ) → i < length rs
+    → start_of rs i ≤ q → q < end_at rs i → contains_key (contents_of (expanded next rs) bs) q ≡
+    true
+contains-inside next rs bs i q h le lt = ap is_some
+    (get-from_entries nat_cmp_total (mapped_blocks (expanded next rs) bs) q)
+    ∙ found-inside next rs bs i q h le lt
 
 -- no run has the address
-none-outside : (next : List ℕ) (rs : List Run) (bs : List (List ℕ)) (q : ℕ) → ((i : ℕ) → i < length rs → (q < start_of rs i) ⊎ (end_at rs i ≤ q)) → find nat_cmp q (mapped_blocks (expanded next rs) bs) ≡ None
+none-outside : (next : List ℕ) (rs : List Run) (bs : List (List ℕ)) (q : ℕ)
+    → ((i : ℕ) → i < length rs → (q < start_of rs i) ⊎ (end_at rs i ≤ q))
+    → find nat_cmp q (mapped_blocks (expanded next rs) bs) ≡ None
 none-outside next [] bs q h = rw (expanded-none next) refl
 none-outside next (x ∷ rs) bs q h =
     let between = between-singles next x.start x.first x.count in
-    let none : find nat_cmp q (mapped_blocks (singles_of next x) bs) ≡ None = elim (h 0 (omega arith)) [
+    let none : find nat_cmp q (mapped_blocks (singles_of next x) bs) ≡ None =
+        elim (h 0 (omega arith)) [
       | inl lt ↦ find-below (singles_of next x) bs x.start (end_of x) q between lt
       | inr le ↦ find-above (singles_of next x) bs x.start (end_of x) q between le
     ] in
-    rw (expanded-more next x rs) (find-right (singles_of next x) (expanded next rs) bs q none ∙ none-outside next rs bs q (λ i lt. h (suc i) (omega arith)))
+    rw (expanded-more next x rs) (find-right (singles_of next x) (expanded next rs) bs q none
+        ∙ none-outside next rs bs q (λ i lt. h (suc i) (omega arith)))
 
-pub contains-outside : (next : List ℕ) (rs : List Run) (bs : List (List ℕ)) (q : ℕ) → ((i : ℕ) → i < length rs → (q < start_of rs i) ⊎ (end_at rs i ≤ q)) → contains_key (contents_of (expanded next rs) bs) q ≡ false
-contains-outside next rs bs q h = ap is_some (get-from_entries nat_cmp_total (mapped_blocks (expanded next rs) bs) q ∙ none-outside next rs bs q h)
+pub contains-outside : (next : List ℕ) (rs : List Run) (bs : List (List ℕ)) (q : ℕ)
+    → ((i : ℕ) → i < length rs → (q < start_of rs i) ⊎ (end_at rs i ≤ q))
+    → contains_key (contents_of (expanded next rs) bs) q ≡ false
+contains-outside next rs bs q h =
+    ap is_some (get-from_entries nat_cmp_total (mapped_blocks (expanded next rs) bs) q
+    ∙ none-outside next rs bs q h)
 
 -- the order of maximal runs
 maximal-past : (rs : List Run) (a b j : ℕ) → AreMaximal a b rs → j < length rs → a ≤ start_of rs j
 maximal-past [] a b j h lt = absurd (omega arith)
 maximal-past (x ∷ rs) a b zero h lt = h.0
-maximal-past (x ∷ rs) a b (suc j) h lt = omega (arith, h.0, maximal-past rs (end_of x + 1) b j h.1 (omega arith))
+maximal-past (x ∷ rs) a b (suc j) h lt = omega
+    (arith, h.0, maximal-past rs (end_of x + 1) b j h.1 (omega arith))
 
-pub maximal-order : (rs : List Run) (a b i j : ℕ) → AreMaximal a b rs → i < j → j < length rs → end_at rs i < start_of rs j
+pub maximal-order : (rs : List Run) (a b i j : ℕ) → AreMaximal a b rs → i < j → j < length rs
+    → end_at rs i < start_of rs j
 maximal-order [] a b i j h lt low = absurd (omega arith)
 maximal-order (x ∷ rs) a b i zero h lt low = absurd (omega arith)
-maximal-order (x ∷ rs) a b zero (suc j) h lt low = omega (arith, maximal-past rs (end_of x + 1) b j h.1 (omega arith))
-maximal-order (x ∷ rs) a b (suc i) (suc j) h lt low = maximal-order rs (end_of x + 1) b i j h.1 (omega arith) (omega arith)
+maximal-order (x ∷ rs) a b zero (suc j) h lt low =
+    omega (arith, maximal-past rs (end_of x + 1) b j h.1 (omega arith))
+maximal-order (x ∷ rs) a b (suc i) (suc j) h lt low =
+    maximal-order rs (end_of x + 1) b i j h.1 (omega arith) (omega arith)
 
 pub ends-below : (rs : List Run) (a b i : ℕ) → AreMaximal a b rs → i < length rs → end_at rs i < b
 ends-below [] a b i h lt = absurd (omega arith)
@@ -100,37 +137,52 @@ ends-below (x ∷ rs) a b zero h lt = omega (arith, maximal-le rs (end_of x + 1)
 ends-below (x ∷ rs) a b (suc i) h lt = ends-below rs (end_of x + 1) b i h.1 (omega arith)
 
 -- how many runs a range meets
-meets_one : (lba count start n : ℕ) → lba < start + n → start < lba + count → 0 < count → 0 < n → cond {A = ℕ} (nat_lt (max start lba) (min (start + n) (lba + count))) 1 0 ≡ 1
+meets_one : (lba count start n : ℕ) → lba < start + n → start < lba + count → 0 < count → 0 < n
+    → cond {A = ℕ} (nat_lt (max start lba) (min (start + n) (lba + count))) 1 0 ≡ 1
 meets_one lba count start n h k some any = grind (arith, nat_tests)
 
-met-more : (rs : List Run) (from to low count : ℕ) → ((i : ℕ) → i < length rs → start_of rs i < end_at rs i) → from ≤ to → to ≤ length rs
-    → ((i : ℕ) → i < from → end_at rs i ≤ low) → AreMet rs from to low (low + count) → 0 < count → AreFrom rs to (low + count) → records_met rs low count ≡ to - from
+met-more : (rs : List Run) (from to low count : ℕ)
+    → ((i : ℕ) → i < length rs → start_of rs i < end_at rs i) → from ≤ to → to ≤ length rs
+    → ((i : ℕ) → i < from → end_at rs i ≤ low) → AreMet rs from to low (low + count) → 0 < count
+    → AreFrom rs to (low + count) → records_met rs low count ≡ to - from
 met-more [] from to low count filled le within before met some rest = omega arith
-met-more (x ∷ rs) (suc from) zero low count filled le within before met some rest = absurd (omega arith)
+met-more (x ∷ rs) (suc from) zero low count filled le within before met some rest =
+    absurd (omega arith)
 met-more (x ∷ rs) (suc from) (suc to) low count filled le within before met some rest =
     let here = ends_before low count x.start x.count (before 0 (omega arith)) in
-    let more = met-more rs from to low count (λ i lt. filled (suc i) (omega arith)) (omega arith) (omega arith) (λ i lt. before (suc i) (omega arith))
-    (λ i ge lt. met (suc i) (omega arith) (omega arith)) some (λ i ge lt. rest (suc i) (omega arith) (omega arith)) in
+    let more = met-more rs from to low count (λ i lt. filled (suc i) (omega arith)) (omega arith)
+        (omega arith) (λ i lt. before (suc i) (omega arith))
+    (λ i ge lt. met (suc i) (omega arith) (omega arith)) some
+    (λ i ge lt. rest (suc i) (omega arith) (omega arith)) in
     omega (arith, count-more (meets low count) (extent_of x) (map extent_of rs))
 met-more (x ∷ rs) zero (suc to) low count filled le within before met some rest =
     let m = met 0 (omega arith) (omega arith) in
-    let here = meets_one low count x.start x.count m.0 m.1 some (omega (arith, filled 0 (omega arith))) in
-    let more = met-more rs zero to low count (λ i lt. filled (suc i) (omega arith)) (omega arith) (omega arith) (λ i lt. absurd (omega arith))
-    (λ i ge lt. met (suc i) (omega arith) (omega arith)) some (λ i ge lt. rest (suc i) (omega arith) (omega arith)) in
+    let here = meets_one low count x.start x.count m.0 m.1 some
+        (omega (arith, filled 0 (omega arith))) in
+    let more = met-more rs zero to low count (λ i lt. filled (suc i) (omega arith)) (omega arith)
+        (omega arith) (λ i lt. absurd (omega arith))
+    (λ i ge lt. met (suc i) (omega arith) (omega arith)) some
+    (λ i ge lt. rest (suc i) (omega arith) (omega arith)) in
     omega (arith, count-more (meets low count) (extent_of x) (map extent_of rs))
 met-more (x ∷ rs) zero zero low count filled le within before met some rest =
     let here = begins_past low count x.start x.count (rest 0 (omega arith) (omega arith)) in
-    let more = met-more rs zero zero low count (λ i lt. filled (suc i) (omega arith)) (omega arith) (omega arith) (λ i lt. absurd (omega arith))
+    let more = met-more rs zero zero low count (λ i lt. filled (suc i) (omega arith)) (omega arith)
+        (omega arith) (λ i lt. absurd (omega arith))
     (λ i ge lt. absurd (omega arith)) some (λ i ge lt. rest (suc i) (omega arith) (omega arith)) in
     omega (arith, count-more (meets low count) (extent_of x) (map extent_of rs))
 
 pub met-none : (rs : List Run) (low count : ℕ) → count ≡ 0 → records_met rs low count ≡ 0
 met-none rs low count e = none-meet (map extent_of rs) low count e
 
-pub met-count : (rs : List Run) (capacity from to low count : ℕ) → IsRunTable capacity rs → from ≤ to → to ≤ length rs
-    → ((i : ℕ) → i < from → end_at rs i ≤ low) → AreMet rs from to low (low + count) → ((count ≡ 0) × (from ≡ to)) ⊎ ((0 < count) × AreFrom rs to (low + count)) → records_met rs low count ≡ to - from
-met-count rs capacity from to low count t le within before met (inl none) = omega (arith, met-none rs low count none.0, none.1)
-met-count rs capacity from to low count t le within before met (inr some) = met-more rs from to low count t.filled le within before met some.0 some.1
+pub met-count : (rs : List Run) (capacity from to low count : ℕ) → IsRunTable capacity rs
+    → from ≤ to → to ≤ length rs
+    → ((i : ℕ) → i < from → end_at rs i ≤ low) → AreMet rs from to low (low + count)
+    → ((count ≡ 0) × (from ≡ to)) ⊎ ((0 < count) × AreFrom rs to (low + count))
+    → records_met rs low count ≡ to - from
+met-count rs capacity from to low count t le within before met (inl none) =
+    omega (arith, met-none rs low count none.0, none.1)
+met-count rs capacity from to low count t le within before met (inr some) =
+    met-more rs from to low count t.filled le within before met some.0 some.1
 
 -- the run of an address, from the cursor
 picked : (b : Bool) (r run : Run) → cond b (Some r) None ≡ Some run → (b ≡ true) × (r ≡ run)
@@ -147,15 +199,20 @@ le_true x y e = grind (arith, nat_tests)
 le_false : (x y : ℕ) → nat_le x y ≡ false → y < x
 le_false x y e = grind (arith, nat_tests)
 
-over : (rs : List Run) (next : Option Run) (p lba : ℕ) (run : Run) → IsNext rs p next → run_over next lba ≡ Some run → (p < length rs) × (slice_index_or rs p run ≡ run) × (run.start ≤ lba)
+over : (rs : List Run) (next : Option Run) (p lba : ℕ) (run : Run) → IsNext rs p next
+    → run_over next lba ≡ Some run → (p < length rs) × (slice_index_or rs p run ≡ run)
+    × (run.start ≤ lba)
 over rs None p lba run n e = let wrong = e in cc
 over rs (Some r) p lba run n e =
     let both = picked (nat_le r.start lba) r run e in
-    (n.0, ap (λ y. slice_index_or rs p y) (sym both.1) ∙ n.1 ∙ both.1, omega (arith, le_true r.start lba both.0, ap (λ (y : Run). y.start) both.1))
+    (n.0, ap (λ y. slice_index_or rs p y) (sym both.1) ∙ n.1
+    ∙ both.1, omega (arith, le_true r.start lba both.0, ap (λ (y : Run). y.start) both.1))
 
 -- a run of the address
-module _ (rs : List Run) (capacity lba : ℕ) (cursor : Cursor) (t : IsRunTable capacity rs) (at : IsOver rs cursor lba) (run : Run) (is : run_over cursor.next lba ≡ Some run) where
-  there : (cursor.index < length rs) × (slice_index_or rs cursor.index run ≡ run) × (run.start ≤ lba)
+module _ (rs : List Run) (capacity lba : ℕ) (cursor : Cursor) (t : IsRunTable capacity rs)
+    (at : IsOver rs cursor lba) (run : Run) (is : run_over cursor.next lba ≡ Some run) where
+  there : (cursor.index < length rs) × (slice_index_or rs cursor.index run ≡ run)
+      × (run.start ≤ lba)
   there = over rs cursor.next cursor.index lba run at.next is
 
   pub over-start : run.start ≡ start_of rs cursor.index
@@ -174,26 +231,33 @@ module _ (rs : List Run) (capacity lba : ℕ) (cursor : Cursor) (t : IsRunTable 
   over-high = omega (arith, over-end, at.after cursor.index (omega arith) there.0)
 
   pub over-within : end_of run ≤ capacity
-  over-within = omega (arith, over-end, ends-below rs 0 (capacity + 1) cursor.index t.maximal there.0)
+  over-within = omega (arith, over-end, ends-below rs 0
+      (capacity + 1) cursor.index t.maximal there.0)
 
   pub over-short : end_of run ≤ run.start + 65536
   over-short = omega (arith, over-end, over-start, t.short cursor.index there.0)
 
   outside : (i : ℕ) → i < length rs → (end_of run < start_of rs i) ⊎ (end_at rs i ≤ end_of run)
   outside i lt = elim (cases_lt cursor.index i) [
-    | inl behind ↦ inl (omega (arith, over-end, maximal-order rs 0 (capacity + 1) cursor.index i t.maximal behind lt))
+    | inl behind ↦ inl (omega (arith, over-end,
+        maximal-order rs 0 (capacity + 1) cursor.index i t.maximal behind lt))
     | inr up ↦ elim (cases_lt i cursor.index) [
       | inl before ↦ inr (omega (arith, over-high, at.before i before))
-      | inr same ↦ let e : i ≡ cursor.index = omega arith in inr (omega (arith, over-end, ap (end_at rs) e))
+      | inr same ↦ let e : i ≡ cursor.index = omega arith in
+          inr (omega (arith, over-end, ap (end_at rs) e))
     ]
   ]
 
   module _ (k : ℕ) (long : lba + k ≡ end_of run) where
-    pub over-described : (next : List ℕ) (bs : List (List ℕ)) → ◌≡◌ {A = StatusDescriptor} (record { lba = lba; count = k; status = Mapped }) (descriptor_at (contents_of (expanded next rs) bs) capacity lba)
+    pub over-described : (next : List ℕ) (bs : List (List ℕ))
+        → ◌≡◌ {A = StatusDescriptor} (record { lba = lba; count = k; status = Mapped })
+        (descriptor_at (contents_of (expanded next rs) bs) capacity lba)
     over-described next bs =
         let first : lba + 0 ≡ lba = omega arith in
-        let all : (i : ℕ) → i < k → contains_key (contents_of (expanded next rs) bs) (lba + i) ≡ true
-        = λ i lt. contains-inside next rs bs cursor.index (lba + i) there.0 (omega (arith, over-start, over-low)) (omega (arith, over-end)) in
+        let all : (i : ℕ) → i < k → contains_key (contents_of (expanded next rs) bs) (lba + i) ≡
+            true
+        = λ i lt. contains-inside next rs bs cursor.index (lba + i) there.0
+            (omega (arith, over-start, over-low)) (omega (arith, over-end)) in
         described (contents_of (expanded next rs) bs) capacity lba k true
         (rw first at (all 0 (omega (arith, over-high))))
         (omega (arith, over-within, over-short, over-low))
@@ -201,51 +265,66 @@ module _ (rs : List Run) (capacity lba : ℕ) (cursor : Cursor) (t : IsRunTable 
         (λ _. rw long (contains-outside next rs bs (end_of run) outside))
 
     pub over-met : AreMet rs cursor.index (cursor.index + 1) lba (lba + k)
-    over-met i ge lt = let e : i ≡ cursor.index = omega arith in rw e (omega (arith, over-end, over-high), omega (arith, over-start, over-low, over-high))
+    over-met i ge lt = let e : i ≡ cursor.index = omega arith in
+        rw e (omega (arith, over-end, over-high), omega (arith, over-start, over-low, over-high))
 
     pub over-rest : AreFrom rs (cursor.index + 1) (lba + k)
-    over-rest i ge lt = omega (arith, over-end, maximal-order rs 0 (capacity + 1) cursor.index i t.maximal (omega arith) lt)
+    over-rest i ge lt = omega (arith, over-end,
+        maximal-order rs 0 (capacity + 1) cursor.index i t.maximal (omega arith) lt)
 
-    pub over-on : (end : Cursor) → end.index ≡ cursor.index + 1 → IsNext rs (cursor.index + 1) end.next → IsOver rs end (lba + k)
+    pub over-on : (end : Cursor) → end.index ≡ cursor.index + 1
+        → IsNext rs (cursor.index + 1) end.next → IsOver rs end (lba + k)
     over-on end e next = record {
       within = omega (arith, there.0);
       next = rw e next;
       before = λ i lt. elim (cases_lt i cursor.index) [
         | inl before ↦ omega (arith, at.before i before)
-        | inr same ↦ let e' : i ≡ cursor.index = omega arith in omega (arith, over-end, ap (end_at rs) e')
+        | inr same ↦ let e' : i ≡ cursor.index = omega arith in
+            omega (arith, over-end, ap (end_at rs) e')
       ];
       after = λ i ge lt. omega (arith, over-rest i (omega arith) lt, t.filled i lt);
     }
 
 -- no run has the address
-gap-start : (rs : List Run) (index lba capacity : ℕ) (next : Option Run) → IsNext rs index next → run_over next lba ≡ None → lba < capacity → lba < end_of_gap next capacity
+gap-start : (rs : List Run) (index lba capacity : ℕ) (next : Option Run) → IsNext rs index next
+    → run_over next lba ≡ None → lba < capacity → lba < end_of_gap next capacity
 gap-start rs index lba capacity None n e lt = lt
-gap-start rs index lba capacity (Some r) n e lt = le_false r.start lba (dropped (nat_le r.start lba) r e)
+gap-start rs index lba capacity (Some r) n e lt =
+    le_false r.start lba (dropped (nat_le r.start lba) r e)
 
-gap-after : (rs : List Run) (capacity index : ℕ) (next : Option Run) → IsRunTable capacity rs → IsNext rs index next → AreFrom rs index (end_of_gap next capacity)
+gap-after : (rs : List Run) (capacity index : ℕ) (next : Option Run) → IsRunTable capacity rs
+    → IsNext rs index next → AreFrom rs index (end_of_gap next capacity)
 gap-after rs capacity index None t n i ge lt = absurd (omega arith)
 gap-after rs capacity index (Some r) t n i ge lt =
     let start = start_of-read rs index r n.0 (sym n.1) in
     elim (cases_lt index i) [
-      | inl behind ↦ omega (arith, start, t.filled index n.0, maximal-order rs 0 (capacity + 1) index i t.maximal behind lt)
+      | inl behind ↦ omega (arith, start, t.filled index n.0,
+          maximal-order rs 0 (capacity + 1) index i t.maximal behind lt)
       | inr up ↦ let e : i ≡ index = omega arith in omega (arith, start, ap (start_of rs) e)
     ]
 
-gap-within : (rs : List Run) (capacity index : ℕ) (next : Option Run) → IsRunTable capacity rs → IsNext rs index next → end_of_gap next capacity ≤ capacity
+gap-within : (rs : List Run) (capacity index : ℕ) (next : Option Run) → IsRunTable capacity rs
+    → IsNext rs index next → end_of_gap next capacity ≤ capacity
 gap-within rs capacity index None t n = omega arith
 gap-within rs capacity index (Some r) t n =
     let start = start_of-read rs index r n.0 (sym n.1) in
     omega (arith, start, t.filled index n.0, ends-below rs 0 (capacity + 1) index t.maximal n.0)
 
-gap-stop : (next : List ℕ) (rs : List Run) (bs : List (List ℕ)) (capacity index lba k : ℕ) (o : Option Run) → IsRunTable capacity rs → IsNext rs index o → lba < end_of_gap o capacity → k ≡ min MAX_ADDRESSES (end_of_gap o capacity - lba)
-    → k < min MAX_ADDRESSES (capacity - lba) → contains_key (contents_of (expanded next rs) bs) (lba + k) ≡ true
+gap-stop : (next : List ℕ) (rs : List Run) (bs : List (List ℕ)) (capacity index lba k : ℕ)
+    (o : Option Run) → IsRunTable capacity rs → IsNext rs index o → lba < end_of_gap o capacity
+    → k ≡ min MAX_ADDRESSES (end_of_gap o capacity - lba)
+    → k < min MAX_ADDRESSES (capacity - lba) → contains_key (contents_of (expanded next rs) bs)
+    (lba + k) ≡ true
 gap-stop next rs bs capacity index lba k None t n low is lt = absurd (omega arith)
 gap-stop next rs bs capacity index lba k (Some r) t n low is lt =
     let start = start_of-read rs index r n.0 (sym n.1) in
     let here : lba + k ≡ start_of rs index = omega arith in
-    rw here (contains-inside next rs bs index (start_of rs index) n.0 (omega arith) (t.filled index n.0))
+    rw here (contains-inside next rs bs index (start_of rs index) n.0 (omega arith)
+        (t.filled index n.0))
 
-module _ (rs : List Run) (capacity lba k : ℕ) (cursor : Cursor) (t : IsRunTable capacity rs) (at : IsOver rs cursor lba) (none : run_over cursor.next lba ≡ None) (below : lba < capacity) where
+module _ (rs : List Run) (capacity lba k : ℕ) (cursor : Cursor) (t : IsRunTable capacity rs)
+    (at : IsOver rs cursor lba) (none : run_over cursor.next lba ≡ None)
+    (below : lba < capacity) where
   pub gap-low : lba < end_of_gap cursor.next capacity
   gap-low = gap-start rs cursor.index lba capacity cursor.next at.next none below
 
@@ -253,19 +332,23 @@ module _ (rs : List Run) (capacity lba k : ℕ) (cursor : Cursor) (t : IsRunTabl
   behind-gap = gap-after rs capacity cursor.index cursor.next t at.next
 
   module _ (is : k ≡ min MAX_ADDRESSES (end_of_gap cursor.next capacity - lba)) where
-    nowhere : (q : ℕ) → lba ≤ q → q < end_of_gap cursor.next capacity → (i : ℕ) → i < length rs → (q < start_of rs i) ⊎ (end_at rs i ≤ q)
+    nowhere : (q : ℕ) → lba ≤ q → q < end_of_gap cursor.next capacity → (i : ℕ) → i < length rs
+        → (q < start_of rs i) ⊎ (end_at rs i ≤ q)
     nowhere q le lt i low = elim (cases_lt i cursor.index) [
       | inl before ↦ inr (omega (arith, at.before i before))
       | inr after ↦ inl (omega (arith, behind-gap i after low))
     ]
 
-    pub gap-described : (next : List ℕ) (bs : List (List ℕ)) → ◌≡◌ {A = StatusDescriptor} (record { lba = lba; count = k; status = Deallocated }) (descriptor_at (contents_of (expanded next rs) bs) capacity lba)
+    pub gap-described : (next : List ℕ) (bs : List (List ℕ))
+        → ◌≡◌ {A = StatusDescriptor} (record { lba = lba; count = k; status = Deallocated })
+        (descriptor_at (contents_of (expanded next rs) bs) capacity lba)
     gap-described next bs =
         let high = gap-within rs capacity cursor.index cursor.next t at.next in
         described (contents_of (expanded next rs) bs) capacity lba k false
         (contains-outside next rs bs lba (nowhere lba (omega arith) gap-low))
         (omega (arith, high))
-        (λ i lt. contains-outside next rs bs (lba + i) (nowhere (lba + i) (omega arith) (omega (arith, is, lt, gap-low))))
+        (λ i lt. contains-outside next rs bs (lba + i)
+        (nowhere (lba + i) (omega arith) (omega (arith, is, lt, gap-low))))
         (gap-stop next rs bs capacity cursor.index lba k cursor.next t at.next gap-low is)
 
     pub gap-rest : AreFrom rs cursor.index (lba + k)
@@ -280,7 +363,9 @@ module _ (rs : List Run) (capacity lba k : ℕ) (cursor : Cursor) (t : IsRunTabl
     }
 
 -- the cursor at the record before an index, which has the address, or at the index
-pub cursor-before : (rs : List Run) (capacity index lba : ℕ) (run : Run) → IsRunTable capacity rs → IsLowerBound rs index lba → 0 < index → slice_index_or rs (index - 1) run ≡ run → lba < end_of run
+pub cursor-before : (rs : List Run) (capacity index lba : ℕ) (run : Run) → IsRunTable capacity rs
+    → IsLowerBound rs index lba → 0 < index → slice_index_or rs (index - 1) run ≡ run
+    → lba < end_of run
     → IsOver rs (record { index = index - 1; next = Some run }) lba
 cursor-before rs capacity index lba run t p some is lt =
     let within = p.within in
@@ -289,14 +374,17 @@ cursor-before rs capacity index lba run t p some is lt =
     record {
       within = omega arith;
       next = (omega arith, is);
-      before = λ i low. omega (arith, start, maximal-order rs 0 (capacity + 1) i (index - 1) t.maximal low (omega arith));
+      before = λ i low. omega (arith, start, maximal-order rs 0 (capacity + 1) i
+          (index - 1) t.maximal low (omega arith));
       after = λ i ge low. elim (cases_lt i index) [
         | inl here ↦ let e : i ≡ index - 1 = omega arith in omega (arith, lt, end, ap (end_at rs) e)
         | inr behind ↦ omega (arith, p.after i behind low, t.filled i low)
       ];
     }
 
-pub cursor-at : (rs : List Run) (capacity index lba : ℕ) (cursor : Cursor) → IsRunTable capacity rs → IsLowerBound rs index lba → (0 < index → end_at rs (index - 1) ≤ lba) → cursor.index ≡ index → IsNext rs index cursor.next
+pub cursor-at : (rs : List Run) (capacity index lba : ℕ) (cursor : Cursor) → IsRunTable capacity rs
+    → IsLowerBound rs index lba → (0 < index → end_at rs (index - 1) ≤ lba) → cursor.index ≡ index
+    → IsNext rs index cursor.next
     → IsOver rs cursor lba
 cursor-at rs capacity index lba cursor t p before is next = record {
   within = rw is p.within;
@@ -305,8 +393,10 @@ cursor-at rs capacity index lba cursor t p before is next = record {
     | inl behind ↦
         let start = p.before (index - 1) (omega arith) in
         let within = p.within in
-        omega (arith, start, maximal-order rs 0 (capacity + 1) i (index - 1) t.maximal (omega arith) (omega arith))
-    | inr last ↦ let e : i ≡ index - 1 = omega (arith, is) in omega (arith, before (omega (arith, is)), ap (end_at rs) e)
+        omega (arith, start, maximal-order rs 0 (capacity + 1) i (index - 1) t.maximal (omega arith)
+            (omega arith))
+    | inr last ↦ let e : i ≡ index - 1 = omega (arith, is) in
+        omega (arith, before (omega (arith, is)), ap (end_at rs) e)
   ];
   after = λ i ge low. omega (arith, p.after i (omega (arith, is)) low, t.filled i low);
 }
@@ -316,31 +406,40 @@ pub run_table-sorted : (capacity : ℕ) (rs : List Run) → IsRunTable capacity 
 run_table-sorted capacity rs t = maximal-sorted rs 0 (capacity + 1) t.maximal
 
 -- the descriptors, one after the other
-pub next-of : (all rest : List StatusDescriptor) (n : ℕ) (d e : StatusDescriptor) → drop n all ≡ d ∷ rest → (n < length all) × (get_or all n e ≡ d) × (drop (n + 1) all ≡ rest)
+pub next-of : (all rest : List StatusDescriptor) (n : ℕ) (d e : StatusDescriptor)
+    → drop n all ≡ d ∷ rest → (n < length all) × (get_or all n e ≡ d) × (drop (n + 1) all ≡ rest)
 next-of [] rest zero d e is = let wrong = is in cc
 next-of [] rest (suc n) d e is = let wrong = is in cc
 next-of (x ∷ all) rest zero d e is = (omega arith, ap (λ xs. get_or xs 0 e) is, ap (drop 1) is)
-next-of (x ∷ all) rest (suc n) d e is = let more = next-of all rest n d e is in let on : suc n + 1 ≡ suc (n + 1) = omega arith in (omega (arith, more.0), more.1, rw on more.2)
+next-of (x ∷ all) rest (suc n) d e is = let more = next-of all rest n d e is in
+    let on : suc n + 1 ≡ suc (n + 1) = omega arith in (omega (arith, more.0), more.1, rw on more.2)
 
-pub all-of : (all : List StatusDescriptor) (n : ℕ) → drop n all ≡ [] → n ≤ length all → (take n all ≡ all) × (n ≡ length all)
-all-of all n none le = let len = ap length none in let rest = length-drop n all in (take_all n all (omega arith), omega arith)
+pub all-of : (all : List StatusDescriptor) (n : ℕ) → drop n all ≡ [] → n ≤ length all
+    → (take n all ≡ all) × (n ≡ length all)
+all-of all n none le = let len = ap length none in let rest = length-drop n all in
+    (take_all n all (omega arith), omega arith)
 
 -- visits that are counted in turn
-pub visited-trade : (t u v : Table) (a b c : ℕ) → visited v b ≡ visited u c → visited u a ≡ visited t b → visited v a ≡ visited t c
+pub visited-trade : (t u v : Table) (a b c : ℕ) → visited v b ≡ visited u c
+    → visited u a ≡ visited t b → visited v a ≡ visited t c
 visited-trade t u v a b c e f =
     let on : a + b ≡ b + a = omega arith in
     let on' : c + a ≡ a + c = omega arith in
     let on'' : b + c ≡ c + b = omega arith in
     visited-less (visited v a) t b (c + b) c
-    (visited-more v a b ∙ ap (visited v) on ∙ sym (visited-more v b a) ∙ ap (λ x. visited x a) e ∙ visited-more u c a ∙ ap (visited u) on'
-    ∙ sym (visited-more u a c) ∙ ap (λ x. visited x c) f ∙ visited-more t b c ∙ ap (visited t) on'') refl
+    (visited-more v a b ∙ ap (visited v) on ∙ sym (visited-more v b a) ∙ ap (λ x. visited x a) e
+    ∙ visited-more u c a ∙ ap (visited u) on'
+    ∙ sym (visited-more u a c) ∙ ap (λ x. visited x c) f ∙ visited-more t b c
+    ∙ ap (visited t) on'') refl
 
-pub ahead-is : (rs : List Run) (i : ℕ) (o : Option Run) → IsNext rs i o → i ≤ length rs → i + ahead o ≡ min (i + 1) (length rs)
+pub ahead-is : (rs : List Run) (i : ℕ) (o : Option Run) → IsNext rs i o → i ≤ length rs
+    → i + ahead o ≡ min (i + 1) (length rs)
 ahead-is rs i None n le = omega arith
 ahead-is rs i (Some r) n le = omega (arith, n.0)
 
 -- the table of a disk
-chained-filled : (next : List ℕ) (rs : List Run) (i : ℕ) → AreChained next rs → i < length rs → start_of rs i < end_at rs i
+chained-filled : (next : List ℕ) (rs : List Run) (i : ℕ) → AreChained next rs → i < length rs
+    → start_of rs i < end_at rs i
 chained-filled next [] i h lt = absurd (omega arith)
 chained-filled next (x ∷ rs) zero h lt = omega (arith, h.0.some)
 chained-filled next (x ∷ rs) (suc i) h lt = chained-filled next rs i h.1 (omega arith)
@@ -348,20 +447,29 @@ chained-filled next (x ∷ rs) (suc i) h lt = chained-filled next rs i h.1 (omeg
 short-by : (rs : List Run) (i : ℕ) → i < length rs → end_at rs i ≤ start_of rs i + blocks_of rs
 short-by [] i lt = absurd (omega arith)
 short-by (x ∷ rs) zero lt = omega (arith, sum_by-cons (λ (r : Run). r.count) x rs)
-short-by (x ∷ rs) (suc i) lt = omega (arith, sum_by-cons (λ (r : Run). r.count) x rs, short-by rs i (omega arith))
+short-by (x ∷ rs) (suc i) lt = omega (arith, sum_by-cons (λ (r : Run). r.count) x rs,
+    short-by rs i (omega arith))
 
-maximal-within : (rs : List Run) (a b capacity : ℕ) → AreMaximal a b rs → a ≤ capacity + 1 → ((i : ℕ) → i < length rs → end_at rs i ≤ capacity) → AreMaximal a (capacity + 1) rs
+maximal-within : (rs : List Run) (a b capacity : ℕ) → AreMaximal a b rs → a ≤ capacity + 1
+    → ((i : ℕ) → i < length rs → end_at rs i ≤ capacity) → AreMaximal a (capacity + 1) rs
 maximal-within [] a b capacity h le ends = le
-maximal-within (x ∷ rs) a b capacity h le ends = (h.0, maximal-within rs (end_of x + 1) b capacity h.1 (omega (arith, ends 0 (omega arith))) (λ i lt. ends (suc i) (omega arith)))
+maximal-within (x ∷ rs) a b capacity h le ends =
+    (h.0, maximal-within rs (end_of x + 1) b capacity h.1 (omega (arith, ends 0 (omega arith)))
+    (λ i lt. ends (suc i) (omega arith)))
 
-pub run_table-of : (capacity : ℕ) (rs : List Run) (slots : Slots) (room : ℕ) → AreRuns rs slots room → IsWellFormed capacity (chained_contents rs slots) → room ≤ MAX_POOL → capacity ≤ MAX_CAPACITY → IsRunTable capacity rs
+pub run_table-of : (capacity : ℕ) (rs : List Run) (slots : Slots) (room : ℕ) → AreRuns rs slots room
+    → IsWellFormed capacity (chained_contents rs slots) → room ≤ MAX_POOL → capacity ≤ MAX_CAPACITY
+    → IsRunTable capacity rs
 run_table-of capacity rs slots room h whole small fits =
     let m = chained_contents rs slots in
-    let filled : (i : ℕ) → i < length rs → start_of rs i < end_at rs i = λ i lt. chained-filled slots.next rs i h.chained lt in
+    let filled : (i : ℕ) → i < length rs → start_of rs i < end_at rs i =
+        λ i lt. chained-filled slots.next rs i h.chained lt in
     let ends : (i : ℕ) → i < length rs → end_at rs i ≤ capacity = λ i lt.
     let some = filled i lt in
-    let mapped = contains-inside slots.next rs slots.blocks i (end_at rs i - 1) lt (omega arith) (omega arith) in
-    let below = below-some (get m (end_at rs i - 1)) (end_at rs i - 1) capacity (λ b e. (whole.each (end_at rs i - 1) b e).0) mapped in
+    let mapped = contains-inside slots.next rs slots.blocks i (end_at rs i - 1) lt (omega arith)
+        (omega arith) in
+    let below = below-some (get m (end_at rs i - 1)) (end_at rs i - 1) capacity
+        (λ b e. (whole.each (end_at rs i - 1) b e).0) mapped in
     omega arith in
     record {
       maximal = maximal-within rs 0 (MAX_CAPACITY + 1) capacity h.maximal (omega arith) ends;
@@ -372,16 +480,20 @@ run_table-of capacity rs slots room h whole small fits =
     }
 
 -- how many maximal runs a range meets, by the records
-pub meet-records : (rs : List Run) (slots : Slots) (room lba count : ℕ) → AreRuns rs slots room → meet (chained_contents rs slots) lba count ≡ records_met rs lba count
+pub meet-records : (rs : List Run) (slots : Slots) (room lba count : ℕ) → AreRuns rs slots room
+    → meet (chained_contents rs slots) lba count ≡ records_met rs lba count
 unfolding meet
-meet-records rs slots room lba count h = rw (runs-extents slots.next rs slots.blocks 0 (MAX_CAPACITY + 1) h.maximal h.chained) refl
+meet-records rs slots room lba count h =
+    rw (runs-extents slots.next rs slots.blocks 0 (MAX_CAPACITY + 1) h.maximal h.chained) refl
 
 -- visits after probes and visits
-pub visits-joined : (s t u : Table) → t ≡ visited (probed s (t.probes - s.probes)) (t.total - s.total) → u ≡ visited t (u.total - t.total) → s.total ≤ t.total → t.total ≤ u.total
+pub visits-joined : (s t u : Table) → t ≡ visited (probed s (t.probes - s.probes))
+    (t.total - s.total) → u ≡ visited t (u.total - t.total) → s.total ≤ t.total → t.total ≤ u.total
     → u ≡ visited (probed s (u.probes - s.probes)) (u.total - s.total)
 visits-joined s t u e f le le' =
     let probes : u.probes ≡ t.probes = ap (λ (x : Table). x.probes) f in
     let all : t.total - s.total + (u.total - t.total) ≡ u.total - s.total = omega arith in
     let p = probed s (t.probes - s.probes) in
-    f ∙ ap (λ x. visited x (u.total - t.total)) e ∙ visited-more p (t.total - s.total) (u.total - t.total) ∙ ap (visited p) all
+    f ∙ ap (λ x. visited x (u.total - t.total)) e
+        ∙ visited-more p (t.total - s.total) (u.total - t.total) ∙ ap (visited p) all
     ∙ ap (λ k. visited (probed s (k - s.probes)) (u.total - s.total)) (sym probes)

@@ -1,42 +1,44 @@
 -- A disk of maximal runs: what its calls rest on.
-use Rattle.std.proofs.Common.{◌≡◌, ℕ, ◌+◌, ◌-◌, ◌*◌, ◌<◌, ◌≤◌, ◌^◌, List, [], ◌++◌, length, take, drop, arith, sym, ap, ◌∙◌, subst, add-one, inl, inr}
+use Rattle.std.proofs.Common.{◌≡◌, ℕ, ◌+◌, ◌-◌, ◌*◌, ◌<◌, ◌≤◌, ◌^◌, List, [], ◌++◌, length, take}
+use Rattle.std.proofs.Common.{drop, arith, sym, ap, ◌∙◌, subst, add-one, inl, inr}
 use Rattle.std.proofs.Math.Nat.{pow-succ'}
 use Rattle.std.proofs.Math.Pow.{pow_mono}
 use Rattle.std.proofs.lemmas.Bool.{cases_lt}
-use Rattle.sg_blocks.specs.declared.store.TheConstants.{MAX_POOL}
+use Rattle.std.proofs.lemmas.List.{length-map}
 use Rattle.std.specs.FinMap as map
 use Rattle.std.specs.List.{count_by, sum_by}
 use Rattle.sg_blocks.specs.Disk.{Contents, IsWellFormed, mapped_among, replaced}
-use Rattle.sg_block_map.specs.State.{meter_at}
-use Rattle.sg_block_map.specs.RunCost.{block_price, CostsRuns}
-use Rattle.sg_block_map.specs.Gathering.{starts_in, overlap, AreGathered, end_index}
-use Rattle.sg_block_map.specs.MaximalRuns.{runs, meet, blocks_near}
+use Rattle.sg_blocks.specs.Draft.{Drafted}
 use Rattle.sg_blocks.specs.Meter.{Meter, Costs}
 use Rattle.sg_blocks.specs.Records.{contents_of, IsSorted}
-use Rattle.sg_block_map.specs.Runs.{extent_of, expanded, AreRuns, chained_contents, blocks_of}
 use Rattle.sg_blocks.specs.Slots.{Slots, IsEachOnce}
 use Rattle.sg_blocks.specs.Table.{Table, visited, probed}
-use Rattle.sg_blocks.specs.Draft.{Drafted}
-use Rattle.sg_block_map.specs.Walking.{AreAhead}
 use Rattle.sg_blocks.specs.declared.run.Run.{Run}
-use Rattle.sg_block_map.proofs.ExpandedLemmas.{expanded-none}
-use Rattle.sg_block_map.proofs.BetweenLemmas.{maximal-sorted}
-use Rattle.sg_block_map.proofs.CutRunsLemmas.{runs-fit, gathered-blocks, length-expanded}
+use Rattle.sg_blocks.specs.declared.store.TheConstants.{MAX_POOL, MAX_CAPACITY}
+use Rattle.sg_block_map.specs.Gathering.{starts_in, overlap, AreGathered, end_index}
+use Rattle.sg_block_map.specs.MaximalRuns.{runs, meet, blocks_near}
+use Rattle.sg_block_map.specs.RunCost.{block_price, CostsRuns}
+use Rattle.sg_block_map.specs.Runs.{extent_of, expanded, AreRuns, chained_contents, blocks_of}
+use Rattle.sg_block_map.specs.State.{meter_at}
+use Rattle.sg_block_map.specs.Walking.{AreAhead}
 use Rattle.sg_blocks.proofs.DiskLemmas.{len-replaced}
-use Rattle.sg_block_map.proofs.FinishLemmas.{gathered-ahead}
 use Rattle.sg_blocks.proofs.HalvingLemmas.{probes-le}
-use Rattle.sg_block_map.proofs.MaximalLemmas.{starts-meet, runs-extents, meet-gathered, near-gathered, none-meet}
-use Rattle.std.proofs.lemmas.List.{length-map}
-use Rattle.sg_block_map.proofs.OverlapLemmas.{mapped-overlap, mapped-gathered}
 use Rattle.sg_blocks.proofs.RecordLemmas.{len-contents_of}
 use Rattle.sg_blocks.proofs.WellFormedLemmas.{well_formed-empty}
-use Rattle.sg_blocks.specs.declared.store.TheConstants.{MAX_CAPACITY}
+use Rattle.sg_block_map.proofs.BetweenLemmas.{maximal-sorted}
+use Rattle.sg_block_map.proofs.CutRunsLemmas.{runs-fit, gathered-blocks, length-expanded}
+use Rattle.sg_block_map.proofs.ExpandedLemmas.{expanded-none}
+use Rattle.sg_block_map.proofs.FinishLemmas.{gathered-ahead}
+use Rattle.sg_block_map.proofs.MaximalLemmas.{starts-meet, runs-extents, meet-gathered}
+use Rattle.sg_block_map.proofs.MaximalLemmas.{near-gathered, none-meet}
+use Rattle.sg_block_map.proofs.OverlapLemmas.{mapped-overlap, mapped-gathered}
 
 pub runs-sorted : (rs : List Run) (slots : Slots) (room : ℕ) → AreRuns rs slots room → IsSorted rs
 runs-sorted rs slots room h = maximal-sorted rs 0 (MAX_CAPACITY + 1) h.maximal
 
 -- a new disk
-pub no-runs : (slots : Slots) (room : ℕ) → length slots.blocks ≡ room → length slots.free ≡ room → IsEachOnce room slots.free → length slots.next ≡ room → AreRuns [] slots room
+pub no-runs : (slots : Slots) (room : ℕ) → length slots.blocks ≡ room → length slots.free ≡ room
+    → IsEachOnce room slots.free → length slots.next ≡ room → AreRuns [] slots room
 no-runs slots room blocks free once next = record {
   maximal = omega arith;
   chained = tt;
@@ -56,35 +58,52 @@ pub new-contents : (slots : Slots) → chained_contents [] slots ≡ map.empty
 new-contents slots = ap (λ xs. contents_of xs slots.blocks) (expanded-none slots.next)
 
 -- how many addresses are mapped
-pub size : (rs : List Run) (slots : Slots) (room : ℕ) → AreRuns rs slots room → map.len (chained_contents rs slots) + length slots.free ≡ room
-size rs slots room h = let all = len-contents_of (expanded slots.next rs) slots.blocks h.consistent.sorted in omega (arith, h.consistent.count)
+pub size : (rs : List Run) (slots : Slots) (room : ℕ) → AreRuns rs slots room
+    → map.len (chained_contents rs slots) + length slots.free ≡ room
+size rs slots room h = let all = len-contents_of
+    (expanded slots.next rs) slots.blocks h.consistent.sorted in omega (arith, h.consistent.count)
 
-pub size-replaced : (rs : List Run) (slots : Slots) (room lba count : ℕ) (f : ℕ → List ℕ) → AreRuns rs slots room → map.len (replaced (chained_contents rs slots) lba count f) + length slots.free + mapped_among (chained_contents rs slots) lba count ≡ room + count
-size-replaced rs slots room lba count f h = let all = size rs slots room h in let more = len-replaced (chained_contents rs slots) lba count f in omega arith
+pub size-replaced : (rs : List Run) (slots : Slots) (room lba count : ℕ) (f : ℕ → List ℕ)
+    → AreRuns rs slots room
+    → map.len (replaced (chained_contents rs slots) lba count f) + length slots.free + mapped_among
+    (chained_contents rs slots) lba count ≡ room + count
+size-replaced rs slots room lba count f h = let all = size rs slots room h in
+    let more = len-replaced (chained_contents rs slots) lba count f in omega arith
 
 -- the runs that were gathered
-module _ (rs : List Run) (slots : Slots) (room : ℕ) (gathered : Drafted) (lba count : ℕ) (h : AreRuns rs slots room) (g : AreGathered rs gathered lba (lba + count) (MAX_CAPACITY + 1)) where
-  parted : AreRuns (take gathered.from rs ++ (gathered.records ++ drop (end_index gathered) rs)) slots room
+module _ (rs : List Run) (slots : Slots) (room : ℕ) (gathered : Drafted) (lba count : ℕ)
+    (h : AreRuns rs slots room) (g : AreGathered rs gathered lba (lba + count) (MAX_CAPACITY + 1))
+    where
+  parted : AreRuns (take gathered.from rs ++ (gathered.records ++ drop (end_index gathered) rs))
+      slots room
   parted = subst (λ zs. AreRuns zs slots room) (sym g.same) h
 
   pub runs-ahead : AreAhead slots.next (length slots.next) 0 gathered.records
-  runs-ahead = gathered-ahead (take gathered.from rs) gathered.records (drop (end_index gathered) rs) slots room parted
+  runs-ahead = gathered-ahead (take gathered.from rs) gathered.records
+      (drop (end_index gathered) rs) slots room parted
 
   pub gathered-length : length (expanded slots.next gathered.records) ≤ room
-  gathered-length = let few = gathered-blocks rs gathered slots room lba (lba + count) (MAX_CAPACITY + 1) h g in omega (arith, length-expanded slots.next gathered.records)
+  gathered-length = let few = gathered-blocks rs gathered slots room lba (lba + count)
+      (MAX_CAPACITY + 1) h g in omega (arith, length-expanded slots.next gathered.records)
 
-  pub gathered-mapped : mapped_among (chained_contents rs slots) lba count ≡ sum_by (overlap lba (lba + count)) gathered.records
-  gathered-mapped = mapped-gathered rs gathered slots lba count (MAX_CAPACITY + 1) g ∙ mapped-overlap slots.next gathered.records slots.blocks 0 (MAX_CAPACITY + 1) lba count runs-ahead.maximal
+  pub gathered-mapped : mapped_among (chained_contents rs slots) lba count ≡
+      sum_by (overlap lba (lba + count)) gathered.records
+  gathered-mapped = mapped-gathered rs gathered slots lba count (MAX_CAPACITY + 1) g
+      ∙ mapped-overlap slots.next gathered.records slots.blocks 0
+      (MAX_CAPACITY + 1) lba count runs-ahead.maximal
 
   -- the runs that meet the range were gathered
   pub gathered-meet : meet (chained_contents rs slots) lba count ≤ length gathered.records
-  gathered-meet = meet-gathered slots.next rs slots.blocks gathered lba count (MAX_CAPACITY + 1) h.maximal h.chained g
+  gathered-meet = meet-gathered slots.next rs slots.blocks gathered lba count
+      (MAX_CAPACITY + 1) h.maximal h.chained g
 
   pub gathered-near : blocks_of gathered.records ≤ blocks_near (chained_contents rs slots) lba count
-  gathered-near = near-gathered slots.next rs slots.blocks gathered lba count (MAX_CAPACITY + 1) h.maximal h.chained g
+  gathered-near = near-gathered slots.next rs slots.blocks gathered lba count
+      (MAX_CAPACITY + 1) h.maximal h.chained g
 
 -- a count that has `digits` binary digits is halved at most as often
-halved : (probes count digits : ℕ) → 2 ^ probes ≤ 2 * count + 1 → count < 2 ^ digits → probes ≤ digits
+halved : (probes count digits : ℕ) → 2 ^ probes ≤ 2 * count + 1 → count < 2 ^ digits
+    → probes ≤ digits
 halved probes count digits h lt = elim (cases_lt digits probes) [
   | inl more ↦
       let rises : 2 ^ (digits + 1) ≤ 2 ^ probes = pow_mono (omega (arith, more)) in
@@ -94,16 +113,22 @@ halved probes count digits h lt = elim (cases_lt digits probes) [
 ]
 
 -- what a call costs, by what gathering and going over the runs cost
-module _ (rs : List Run) (slots after_slots : Slots) (room lba count : ℕ) (before after : Table) (h : AreRuns rs slots room) (same : before.records ≡ rs)
-    (table : after ≡ visited (probed before (after.probes - before.probes)) (after.total - before.total)) (rise : before.probes ≤ after.probes)
-    (halving : 2 ^ (after.probes - before.probes) ≤ 2 * length before.records + 1) (least : before.total ≤ after.total) where
-  pub gathered-costs : room ≤ MAX_POOL → slots.links ≤ after_slots.links → after_slots.links ≤ slots.links + room → Costs room (meter_at before slots) (meter_at after after_slots)
+module _ (rs : List Run) (slots after_slots : Slots) (room lba count : ℕ) (before after : Table)
+    (h : AreRuns rs slots room) (same : before.records ≡ rs)
+    (table : after ≡ visited (probed before (after.probes - before.probes))
+    (after.total - before.total)) (rise : before.probes ≤ after.probes)
+    (halving : 2 ^ (after.probes - before.probes) ≤ 2 * length before.records + 1)
+    (least : before.total ≤ after.total) where
+  pub gathered-costs : room ≤ MAX_POOL → slots.links ≤ after_slots.links
+      → after_slots.links ≤ slots.links + room
+      → Costs room (meter_at before slots) (meter_at after after_slots)
   gathered-costs small links_rise links =
       let visits = ap (λ (t : Table). t.visits) table in
       let restarts = ap (λ (t : Table). t.restarts) table in
       let fit = runs-fit rs slots room h in
       let len = ap length same in
-      let probes = probes-le (after.probes - before.probes) (length before.records) halving (omega arith) in
+      let probes = probes-le (after.probes - before.probes) (length before.records) halving
+          (omega arith) in
       record {
         visits = omega arith;
         visits_rise = least;
@@ -114,23 +139,34 @@ module _ (rs : List Run) (slots after_slots : Slots) (room lba count : ℕ) (bef
         restarts = restarts;
       }
 
-  pub gathered-price : after.total ≤ before.total + count_by (starts_in lba (lba + count)) before.records + 2 → after.total ≤ before.total + block_price (chained_contents rs slots) lba count
+  pub gathered-price : after.total ≤ before.total + count_by
+      (starts_in lba (lba + count)) before.records + 2
+      → after.total ≤ before.total + block_price (chained_contents rs slots) lba count
   gathered-price most =
-      let meets = starts-meet slots.next rs slots.blocks 0 (MAX_CAPACITY + 1) lba count h.maximal h.chained in
+      let meets = starts-meet slots.next rs slots.blocks 0
+          (MAX_CAPACITY + 1) lba count h.maximal h.chained in
       let begun = ap (λ xs. count_by (starts_in lba (lba + count)) xs) same in
       omega arith
 
-  pub gathered-runs : after_slots.links ≤ slots.links + blocks_near (chained_contents rs slots) lba count → CostsRuns (chained_contents rs slots) lba count (meter_at before slots) (meter_at after after_slots)
+  pub gathered-runs : after_slots.links ≤ slots.links + blocks_near
+      (chained_contents rs slots) lba count → CostsRuns (chained_contents rs slots) lba count
+      (meter_at before slots) (meter_at after after_slots)
   gathered-runs links =
-      let len = ap length (runs-extents slots.next rs slots.blocks 0 (MAX_CAPACITY + 1) h.maximal h.chained) ∙ length-map rs extent_of ∙ ap length (sym same) in
+      let len = ap length (runs-extents slots.next rs slots.blocks 0
+          (MAX_CAPACITY + 1) h.maximal h.chained) ∙ length-map rs extent_of
+          ∙ ap length (sym same) in
       record {
-        probes = λ digits lt. let p = halved (after.probes - before.probes) (length before.records) digits halving (omega (arith, len, lt)) in omega (arith, p, rise);
+        probes = λ digits lt. let p = halved (after.probes - before.probes)
+            (length before.records) digits halving (omega (arith, len, lt)) in
+            omega (arith, p, rise);
         links = links;
       }
 
 -- a call over no address
-pub nothing-runs : (contents : Contents) (lba count : ℕ) (meter : Meter) → CostsRuns contents lba count meter meter
-nothing-runs contents lba count meter = record { probes = λ digits lt. omega arith; links = omega arith }
+pub nothing-runs : (contents : Contents) (lba count : ℕ) (meter : Meter)
+    → CostsRuns contents lba count meter meter
+nothing-runs contents lba count meter = record { probes = λ digits lt. omega arith; links =
+    omega arith }
 
 pub nothing-meets : (contents : Contents) (lba count : ℕ) → count ≡ 0 → meet contents lba count ≡ 0
 unfolding meet

@@ -1,33 +1,39 @@
 -- Going over the addresses of runs.
-use Rattle.std.proofs.Common.{◌≡◌, ◌≢◌, ℕ, ◌+◌, ◌-◌, ◌<◌, ◌≤◌, List, [], ◌∷◌, ◌++◌, length, drop, arith, refl, sym, ap, ◌∙◌, append_assoc, Option, Some, None, cond, Bool, true, false, eq-eqb, length-append}
+use Rattle.std.proofs.Common.{◌≡◌, ◌≢◌, ℕ, ◌+◌, ◌-◌, ◌<◌, ◌≤◌, List, [], ◌∷◌, ◌++◌, length, drop}
+use Rattle.std.proofs.Common.{arith, refl, sym, ap, ◌∙◌, append_assoc, Option, Some, None, cond}
+use Rattle.std.proofs.Common.{Bool, true, false, eq-eqb, length-append}
 use Rattle.std.proofs.lemmas.Bool.Decides.{nat_tests}
 use Rattle.std.proofs.lemmas.List.{append-nil}
-use Rattle.std.specs.Prelude.{slice_index, slice_index_or, option_to_list, IfSome, unwrap_or, ◌==◌}
-use Rattle.std.specs.Ordering.{nat_cmp}
 use Rattle.std.specs.Cmp.{nat_cmp_total}
 use Rattle.std.specs.FinMap as map
 use Rattle.std.specs.FinMap.{find, get-from_entries}
-use Rattle.sg_blocks.specs.Disk.{zero_block, block}
-use Rattle.sg_blocks.specs.Records.{mapped_blocks, contents_of}
+use Rattle.std.specs.Ordering.{nat_cmp}
+use Rattle.std.specs.Prelude.{slice_index, slice_index_or, option_to_list, IfSome, unwrap_or, ◌==◌}
 use Rattle.sg_blocks.specs.Chains.{chain, AreBelow}
-use Rattle.sg_blocks.specs.Records.{run_at}
-use Rattle.sg_block_map.specs.Gathering.{AreNear}
-use Rattle.sg_block_map.specs.Runs.{end_of, singles, singles_of, expanded, AreChained, AreMaximal, AreBetween}
-use Rattle.sg_blocks.specs.Records.{single}
+use Rattle.sg_blocks.specs.Disk.{zero_block, block}
+use Rattle.sg_blocks.specs.Records.{mapped_blocks, contents_of, run_at, single}
 use Rattle.sg_blocks.specs.Slots.{slots_of}
+use Rattle.sg_blocks.specs.declared.run.Run.{Run}
+use Rattle.sg_blocks.specs.declared.store.TheConstants.{MAX_CAPACITY}
+use Rattle.sg_block_map.specs.Gathering.{AreNear}
+use Rattle.sg_block_map.specs.Runs.{end_of, singles, singles_of, expanded, AreChained, AreMaximal}
+use Rattle.sg_block_map.specs.Runs.{AreBetween}
 use Rattle.sg_block_map.specs.Splitting.{rest_of, IsFront, IsRest}
 use Rattle.sg_block_map.specs.Walking.{ahead_of, passed, AreAhead, IsWalkFrom}
-use Rattle.sg_blocks.specs.declared.run.Run.{Run}
-use Rattle.sg_blocks.proofs.LinkLemmas.{slot_after-none, slot_after-one}
-use Rattle.sg_block_map.proofs.ExpandedLemmas.{expanded-more, expanded-none, expanded-append, singles-one, slots-append, chained-append, chained-right, slots-singles, length-singles}
-use Rattle.sg_block_map.proofs.BetweenLemmas.{between-expanded, between-singles, between-weaker, maximal-weaker, maximal-le}
-use Rattle.sg_block_map.proofs.ContentsLemmas.{find-below, find-above, find-right}
 use Rattle.sg_blocks.proofs.DiskLemmas.{eq_other}
+use Rattle.sg_blocks.proofs.LinkLemmas.{slot_after-none, slot_after-one}
 use Rattle.sg_blocks.proofs.RecordLemmas.{eq_same}
-use Rattle.sg_block_map.proofs.SplitLemmas.{slot-below, below-left, below-right, split-parts, rest-chain, expanded-one}
-use Rattle.sg_blocks.specs.declared.store.TheConstants.{MAX_CAPACITY}
+use Rattle.sg_block_map.proofs.BetweenLemmas.{between-expanded, between-singles, between-weaker}
+use Rattle.sg_block_map.proofs.BetweenLemmas.{maximal-weaker, maximal-le}
+use Rattle.sg_block_map.proofs.ContentsLemmas.{find-below, find-above, find-right}
+use Rattle.sg_block_map.proofs.ExpandedLemmas.{expanded-more, expanded-none, expanded-append}
+use Rattle.sg_block_map.proofs.ExpandedLemmas.{singles-one, slots-append, chained-append}
+use Rattle.sg_block_map.proofs.ExpandedLemmas.{chained-right, slots-singles, length-singles}
+use Rattle.sg_block_map.proofs.SplitLemmas.{slot-below, below-left, below-right, split-parts}
+use Rattle.sg_block_map.proofs.SplitLemmas.{rest-chain, expanded-one}
 
-either_way : {A : Type 0} (P : A → Type 0) (b : Bool) (x y : A) → (b ≡ true → P x) → (b ≡ false → P y) → P (cond b x y)
+either_way : {A : Type 0} (P : A → Type 0) (b : Bool) (x y : A) → (b ≡ true → P x)
+    → (b ≡ false → P y) → P (cond b x y)
 either_way P true x y f g = f refl
 either_way P false x y f g = g refl
 
@@ -37,166 +43,265 @@ is_number m n e = grind (arith, nat_tests)
 not_number : (m n : ℕ) → (m == n) ≡ false → m ≢ n
 not_number m n e = grind (arith, nat_tests)
 
-pub passed-by : (P : List Run → Type 0) (next : List ℕ) (run : Run) (more : List Run) → 0 < run.count → (run.count ≡ 1 → P more) → (1 < run.count → P (rest_of next run 1 ∷ more)) → P (passed next run more)
-passed-by P next run more some f g = either_way P (run.count == 1) more (rest_of next run 1 ∷ more) (λ e. f (is_number run.count 1 e)) (λ e. let other = not_number run.count 1 e in g (omega arith))
+pub passed-by : (P : List Run → Type 0) (next : List ℕ) (run : Run) (more : List Run)
+    → 0 < run.count → (run.count ≡ 1 → P more) → (1 < run.count → P (rest_of next run 1 ∷ more))
+    → P (passed next run more)
+passed-by P next run more some f g = either_way P (run.count == 1) more (rest_of next run 1 ∷ more)
+    (λ e. f (is_number run.count 1 e)) (λ e. let other = not_number run.count 1 e in
+    g (omega arith))
 
 -- what `pass` gives where the run has more addresses
-pub passed-rest : (next : List ℕ) (run : Run) (more : List Run) (first : ℕ) → run.count ≢ 1 → first ≡ slice_index next run.first → record { start = run.start + 1; count = run.count - 1; first = first; last = run.last } ∷ more ≡ passed next run more
-passed-rest next run more first other e = either_way (λ xs. record { start = run.start + 1; count = run.count - 1; first = first; last = run.last } ∷ more ≡ xs) (run.count == 1) more (rest_of next run 1 ∷ more)
+pub passed-rest : (next : List ℕ) (run : Run) (more : List Run) (first : ℕ) → run.count ≢ 1
+    → first ≡ slice_index next run.first
+    → record { start = run.start + 1; count = run.count - 1; first = first; last =
+    run.last } ∷ more ≡ passed next run more
+passed-rest next run more first other e = either_way
+    (λ xs. record { start = run.start + 1; count = run.count - 1; first = first; last =
+    run.last } ∷ more ≡ xs) (run.count == 1) more (rest_of next run 1 ∷ more)
     (λ wrong. absurd (other (is_number run.count 1 wrong)))
-    (λ _. ap (λ s. record { start = run.start + 1; count = run.count - 1; first = s; last = run.last } ∷ more) (e ∙ sym (slot_after-one next run.first)))
+    (λ _. ap (λ s. record { start = run.start + 1; count = run.count - 1; first = s; last =
+    run.last } ∷ more) (e ∙ sym (slot_after-one next run.first)))
 
-singles-first : (next : List ℕ) (run : Run) → 1 < run.count → singles_of next run ≡ single run.start run.first ∷ singles_of next (rest_of next run 1)
-singles-first next run some = sym (split-parts next run 1 (omega arith)) ∙ ap (λ xs. xs ++ singles_of next (rest_of next run 1)) (singles-one next run.start run.first)
+singles-first : (next : List ℕ) (run : Run) → 1 < run.count
+    → singles_of next run ≡ single run.start run.first ∷ singles_of next (rest_of next run 1)
+singles-first next run some = sym (split-parts next run 1 (omega arith))
+    ∙ ap (λ xs. xs ++ singles_of next (rest_of next run 1)) (singles-one next run.start run.first)
 
-pub passed-expanded : (next : List ℕ) (run : Run) (more : List Run) → 0 < run.count → expanded next (run ∷ more) ≡ single run.start run.first ∷ expanded next (passed next run more)
-passed-expanded next run more some = passed-by (λ xs. expanded next (run ∷ more) ≡ single run.start run.first ∷ expanded next xs) next run more some
-    (λ one. expanded-more next run more ∙ ap (λ xs. xs ++ expanded next more) (ap (singles next run.start run.first) one ∙ singles-one next run.start run.first))
-    (λ many. expanded-more next run more ∙ ap (λ xs. xs ++ expanded next more) (singles-first next run many) ∙ ap (λ xs. single run.start run.first ∷ xs) (sym (expanded-more next (rest_of next run 1) more)))
+pub passed-expanded : (next : List ℕ) (run : Run) (more : List Run) → 0 < run.count
+    → expanded next (run ∷ more) ≡ single run.start run.first ∷ expanded next (passed next run more)
+passed-expanded next run more some = passed-by
+    (λ xs. expanded next (run ∷ more) ≡ single run.start run.first ∷ expanded next xs) next run more
+    some
+    (λ one. expanded-more next run more ∙ ap (λ xs. xs ++ expanded next more)
+    (ap (singles next run.start run.first) one ∙ singles-one next run.start run.first))
+    (λ many. expanded-more next run more ∙ ap (λ xs. xs ++ expanded next more)
+    (singles-first next run many) ∙ ap (λ xs. single run.start run.first ∷ xs)
+    (sym (expanded-more next (rest_of next run 1) more)))
 
-pub passed-ahead : (next : List ℕ) (count lba : ℕ) (run : Run) (more : List Run) → AreAhead next count lba (run ∷ more) → run.start ≡ lba → AreAhead next count (lba + 1) (passed next run more)
+pub passed-ahead : (next : List ℕ) (count lba : ℕ) (run : Run) (more : List Run)
+    → AreAhead next count lba (run ∷ more) → run.start ≡ lba
+    → AreAhead next count (lba + 1) (passed next run more)
 passed-ahead next count lba run more h at =
     let some = h.chained.0.some in
     let below = rw (ap slots_of (passed-expanded next run more some)) at h.below in
     record {
       maximal = passed-by (AreMaximal (lba + 1) (MAX_CAPACITY + 1)) next run more some
-          (λ one. maximal-weaker more (end_of run + 1) (MAX_CAPACITY + 1) (lba + 1) (MAX_CAPACITY + 1) (omega arith) (omega arith) h.maximal.1)
-          (λ many. let same : run.start + 1 + (run.count - 1) + 1 ≡ end_of run + 1 = omega arith in (omega arith, rw same h.maximal.1));
-      chained = passed-by (AreChained next) next run more some (λ one. h.chained.1) (λ many. (rest-chain next run 1 many h.chained.0, h.chained.1));
-      below = below-right count (run.first ∷ []) (slots_of (expanded next (passed next run more))) below;
+          (λ one. maximal-weaker more (end_of run + 1) (MAX_CAPACITY + 1) (lba + 1)
+          (MAX_CAPACITY + 1) (omega arith) (omega arith) h.maximal.1)
+          (λ many. let same : run.start + 1 + (run.count - 1) + 1 ≡ end_of run + 1 = omega arith in
+          (omega arith, rw same h.maximal.1));
+      chained = passed-by (AreChained next) next run more some (λ one. h.chained.1)
+          (λ many. (rest-chain next run 1 many h.chained.0, h.chained.1));
+      below = below-right count (run.first ∷ [])
+          (slots_of (expanded next (passed next run more))) below;
     }
 
 pub not_there : (run : Run) (lba : ℕ) → run_at (Some run) lba ≡ None → run.start ≡ lba → ⊥
-not_there run lba none same = let is : run_at (Some run) lba ≡ Some run = ap (λ b. cond b (Some run) None) (eq-eqb run.start lba same) in cc
+not_there run lba none same = let is : run_at (Some run) lba ≡ Some run =
+    ap (λ b. cond b (Some run) None) (eq-eqb run.start lba same) in cc
 
-pub there : (run : Option Run) (lba : ℕ) (found : Run) → run_at run lba ≡ Some found → (run ≡ Some found) × (found.start ≡ lba)
+pub there : (run : Option Run) (lba : ℕ) (found : Run) → run_at run lba ≡ Some found
+    → (run ≡ Some found) × (found.start ≡ lba)
 there None lba found e = let wrong = e in cc
-there (Some run) lba found e = either_way (λ o. o ≡ Some found → (Some run ≡ Some found) × (found.start ≡ lba)) (run.start == lba) (Some run) None
-    (λ at same. (same, ap (λ (r : Run). r.start) (sym (ap (λ o. unwrap_or o run) same)) ∙ is_number run.start lba at)) (λ _ wrong. cc) e
+there (Some run) lba found e = either_way (λ o. o ≡ Some found → (Some run ≡ Some found)
+    × (found.start ≡ lba)) (run.start == lba) (Some run) None
+    (λ at same. (same, ap (λ (r : Run). r.start) (sym (ap (λ o. unwrap_or o run) same))
+    ∙ is_number run.start lba at)) (λ _ wrong. cc) e
 
 -- the run that is ahead first
-pub ahead-first : (next : List ℕ) (count lba : ℕ) (run : Run) (more : List Run) → AreAhead next count lba (run ∷ more)
-    → AreBelow count (chain next run.first run.count) × (end_of run ≤ MAX_CAPACITY) × (run.count ≤ length (expanded next (run ∷ more))) × (run.first < count)
+pub ahead-first : (next : List ℕ) (count lba : ℕ) (run : Run) (more : List Run)
+    → AreAhead next count lba (run ∷ more)
+    → AreBelow count (chain next run.first run.count) × (end_of run ≤ MAX_CAPACITY)
+    × (run.count ≤ length (expanded next (run ∷ more))) × (run.first < count)
 ahead-first next count lba run more h =
     let some = h.chained.0.some in
-    let slots : slots_of (expanded next (run ∷ more)) ≡ chain next run.first run.count ++ slots_of (expanded next more)
-    = ap slots_of (expanded-more next run more) ∙ slots-append (singles_of next run) (expanded next more) ∙ ap (λ xs. xs ++ slots_of (expanded next more)) (slots-singles next run.start run.first run.count) in
-    let below = below-left count (chain next run.first run.count) (slots_of (expanded next more)) (rw slots at h.below) in
+    let slots : slots_of (expanded next (run ∷ more)) ≡
+        chain next run.first run.count ++ slots_of (expanded next more)
+    = ap slots_of (expanded-more next run more)
+        ∙ slots-append (singles_of next run) (expanded next more)
+        ∙ ap (λ xs. xs ++ slots_of (expanded next more))
+        (slots-singles next run.start run.first run.count) in
+    let below = below-left count (chain next run.first run.count) (slots_of (expanded next more))
+        (rw slots at h.below) in
     let rest = maximal-le more (end_of run + 1) (MAX_CAPACITY + 1) h.maximal.1 in
-    let len = ap length (expanded-more next run more) ∙ length-append (singles_of next run) (expanded next more) in
+    let len = ap length (expanded-more next run more)
+        ∙ length-append (singles_of next run) (expanded next more) in
     let own = length-singles next run.start run.first run.count in
-    let first = rw (slot_after-none next run.first) at (slot-below count next run.first 0 run.count some below) in
+    let first = rw (slot_after-none next run.first) at
+        (slot-below count next run.first 0 run.count some below) in
     (below, omega arith, omega arith, first)
 
 -- no run starts_in at the address
-pub ahead-skip : (next : List ℕ) (count lba at : ℕ) (runs : List Run) (run : Option Run) → AreAhead next count lba (ahead_of runs run at) → lba < MAX_CAPACITY → run_at run lba ≡ None → AreAhead next count (lba + 1) (ahead_of runs run at)
-ahead-skip next count lba at runs None h low none = record { maximal = omega arith; chained = h.chained; below = h.below }
+pub ahead-skip : (next : List ℕ) (count lba at : ℕ) (runs : List Run) (run : Option Run)
+    → AreAhead next count lba (ahead_of runs run at) → lba < MAX_CAPACITY → run_at run lba ≡ None
+    → AreAhead next count (lba + 1) (ahead_of runs run at)
+ahead-skip next count lba at runs None h low none =
+    record { maximal = omega arith; chained = h.chained; below = h.below }
 ahead-skip next count lba at runs (Some run) h low none =
     let off : run.start ≢ lba = λ same. not_there run lba none same in
-    record { maximal = (omega (arith, h.maximal.0), h.maximal.1); chained = h.chained; below = h.below }
+    record { maximal = (omega (arith, h.maximal.0), h.maximal.1); chained = h.chained; below =
+        h.below }
 
 -- the first address ahead
-pub block-first : (bs : List (List ℕ)) (r : Run) (more : List Run) → block (contents_of (r ∷ more) bs) r.start ≡ slice_index_or bs r.first zero_block
-block-first bs r more = ap (λ o. unwrap_or o zero_block) (get-from_entries nat_cmp_total (mapped_blocks (r ∷ more) bs) r.start
-    ∙ ap (λ b. cond b (Some (slice_index_or bs r.first zero_block)) (find nat_cmp r.start (mapped_blocks more bs))) (eq_same r.start r.start refl))
+pub block-first : (bs : List (List ℕ)) (r : Run) (more : List Run)
+    → block (contents_of (r ∷ more) bs) r.start ≡ slice_index_or bs r.first zero_block
+block-first bs r more = ap (λ o. unwrap_or o zero_block)
+    (get-from_entries nat_cmp_total (mapped_blocks (r ∷ more) bs) r.start
+    ∙ ap (λ b. cond b (Some (slice_index_or bs r.first zero_block))
+    (find nat_cmp r.start (mapped_blocks more bs))) (eq_same r.start r.start refl))
 
-pub get-later : (bs : List (List ℕ)) (r : Run) (more : List Run) (q : ℕ) → q ≢ r.start → map.get (contents_of (r ∷ more) bs) q ≡ map.get (contents_of more bs) q
+pub get-later : (bs : List (List ℕ)) (r : Run) (more : List Run) (q : ℕ) → q ≢ r.start
+    → map.get (contents_of (r ∷ more) bs) q ≡ map.get (contents_of more bs) q
 get-later bs r more q other = get-from_entries nat_cmp_total (mapped_blocks (r ∷ more) bs) q
-    ∙ ap (λ b. cond b (Some (slice_index_or bs r.first zero_block)) (find nat_cmp q (mapped_blocks more bs))) (eq_other q r.start other) ∙ sym (get-from_entries nat_cmp_total (mapped_blocks more bs) q)
+    ∙ ap (λ b. cond b (Some (slice_index_or bs r.first zero_block))
+    (find nat_cmp q (mapped_blocks more bs))) (eq_other q r.start other)
+    ∙ sym (get-from_entries nat_cmp_total (mapped_blocks more bs) q)
 
 -- an address before those that are ahead
-pub get-none : (next : List ℕ) (count lba q : ℕ) (runs : List Run) (bs : List (List ℕ)) → AreAhead next count lba runs → q < lba → map.get (contents_of (expanded next runs) bs) q ≡ None
-get-none next count lba q runs bs h lt = get-from_entries nat_cmp_total (mapped_blocks (expanded next runs) bs) q ∙ find-below (expanded next runs) bs lba (MAX_CAPACITY + 1) q (between-expanded next runs lba (MAX_CAPACITY + 1) h.maximal) lt
+pub get-none : (next : List ℕ) (count lba q : ℕ) (runs : List Run) (bs : List (List ℕ))
+    → AreAhead next count lba runs → q < lba → map.get (contents_of (expanded next runs) bs) q ≡
+    None
+get-none next count lba q runs bs h lt = get-from_entries nat_cmp_total
+    (mapped_blocks (expanded next runs) bs) q
+    ∙ find-below (expanded next runs) bs lba (MAX_CAPACITY + 1) q
+    (between-expanded next runs lba (MAX_CAPACITY + 1) h.maximal) lt
 
 -- runs that are taken up at an address
-pub walk_from-parts : (next : List ℕ) (runs : List Run) (lba : ℕ) (front : Option Run) (more : List Run) → IsWalkFrom next runs lba front more → expanded next (option_to_list front ++ more) ≡ expanded next runs
+pub walk_from-parts : (next : List ℕ) (runs : List Run) (lba : ℕ) (front : Option Run)
+    (more : List Run) → IsWalkFrom next runs lba front more
+    → expanded next (option_to_list front ++ more) ≡ expanded next runs
 walk_from-parts next [] lba front more h = rw (h.0, h.1) refl
 walk_from-parts next (run ∷ runs) lba front more h =
     let fs : List Run = option_to_list front in let rs : List Run = option_to_list h.0 in
-    ap (λ xs. expanded next (fs ++ xs)) h.2 ∙ ap (expanded next) (sym (append_assoc fs rs runs)) ∙ expanded-append next (fs ++ rs) runs ∙ ap (λ xs. xs ++ expanded next runs) h.1.parts ∙ sym (expanded-more next run runs)
+    ap (λ xs. expanded next (fs ++ xs)) h.2 ∙ ap (expanded next) (sym (append_assoc fs rs runs))
+        ∙ expanded-append next (fs ++ rs) runs ∙ ap (λ xs. xs ++ expanded next runs) h.1.parts
+        ∙ sym (expanded-more next run runs)
 
-pub walk_from-chained : (next : List ℕ) (runs : List Run) (lba : ℕ) (front : Option Run) (more : List Run) → AreChained next runs → IsWalkFrom next runs lba front more → AreChained next (option_to_list front ++ more)
+pub walk_from-chained : (next : List ℕ) (runs : List Run) (lba : ℕ) (front : Option Run)
+    (more : List Run) → AreChained next runs → IsWalkFrom next runs lba front more
+    → AreChained next (option_to_list front ++ more)
 walk_from-chained next [] lba front more k h = rw (h.0, h.1) tt
 walk_from-chained next (run ∷ runs) lba front more k h =
     let fs : List Run = option_to_list front in let rs : List Run = option_to_list h.0 in
     rw (h.2, sym (append_assoc fs rs runs)) (chained-append next (fs ++ rs) runs h.1.chained k.1)
 
-walk_from-rest : (run : Run) (rest : Option Run) (runs ys : List Run) (lba bound : ℕ) → IfSome rest (IsRest run lba) → lba ≤ end_of run → AreMaximal (end_of run + 1) bound (runs ++ ys) → AreMaximal lba bound ((option_to_list rest ++ runs) ++ ys)
-walk_from-rest run None runs ys lba bound after reach h = maximal-weaker (runs ++ ys) (end_of run + 1) bound lba bound (omega arith) (omega arith) h
+walk_from-rest : (run : Run) (rest : Option Run) (runs ys : List Run) (lba bound : ℕ)
+    → IfSome rest (IsRest run lba) → lba ≤ end_of run
+    → AreMaximal (end_of run + 1) bound (runs ++ ys)
+    → AreMaximal lba bound ((option_to_list rest ++ runs) ++ ys)
+walk_from-rest run None runs ys lba bound after reach h =
+    maximal-weaker (runs ++ ys) (end_of run + 1) bound lba bound (omega arith) (omega arith) h
 walk_from-rest run (Some rest) runs ys lba bound after reach h = (after.1, rw (sym after.2) at h)
 
-pub walk_from-maximal : (next : List ℕ) (runs ys : List Run) (lba high bound : ℕ) (front : Option Run) (more : List Run) → AreMaximal 0 bound (runs ++ ys) → AreMaximal lba bound ys → AreNear lba high runs → IsWalkFrom next runs lba front more → AreMaximal lba bound (more ++ ys)
+pub walk_from-maximal : (next : List ℕ) (runs ys : List Run) (lba high bound : ℕ)
+    (front : Option Run) (more : List Run) → AreMaximal 0 bound (runs ++ ys)
+    → AreMaximal lba bound ys → AreNear lba high runs → IsWalkFrom next runs lba front more
+    → AreMaximal lba bound (more ++ ys)
 walk_from-maximal next [] ys lba high bound front more h k near t = rw t.1 k
-walk_from-maximal next (run ∷ runs) ys lba high bound front more h k near t = rw t.2 (walk_from-rest run t.0 runs ys lba bound t.1.after near.0 h.1)
+walk_from-maximal next (run ∷ runs) ys lba high bound front more h k near t =
+    rw t.2 (walk_from-rest run t.0 runs ys lba bound t.1.after near.0 h.1)
 
 -- what is ahead of the address is a part of all
-pub walk_from-ahead : (next : List ℕ) (count : ℕ) (runs : List Run) (lba high : ℕ) (front : Option Run) (more : List Run) → AreAhead next count 0 runs → AreNear lba high runs → lba ≤ MAX_CAPACITY → IsWalkFrom next runs lba front more → AreAhead next count lba more
+pub walk_from-ahead : (next : List ℕ) (count : ℕ) (runs : List Run) (lba high : ℕ)
+    (front : Option Run) (more : List Run) → AreAhead next count 0 runs → AreNear lba high runs
+    → lba ≤ MAX_CAPACITY → IsWalkFrom next runs lba front more → AreAhead next count lba more
 walk_from-ahead next count runs lba high front more h near low t =
     let fs : List Run = option_to_list front in
-    let parts : expanded next runs ≡ expanded next fs ++ expanded next more = sym (walk_from-parts next runs lba front more t) ∙ expanded-append next fs more in
-    let slots : slots_of (expanded next runs) ≡ slots_of (expanded next fs) ++ slots_of (expanded next more) = ap slots_of parts ∙ slots-append (expanded next fs) (expanded next more) in
+    let parts : expanded next runs ≡ expanded next fs ++ expanded next more =
+        sym (walk_from-parts next runs lba front more t) ∙ expanded-append next fs more in
+    let slots : slots_of (expanded next runs) ≡
+        slots_of (expanded next fs) ++ slots_of (expanded next more) = ap slots_of parts
+        ∙ slots-append (expanded next fs) (expanded next more) in
     record {
-      maximal = rw (append-nil more) at (walk_from-maximal next runs [] lba high (MAX_CAPACITY + 1) front more (rw (append-nil runs) h.maximal) (omega arith) near t);
+      maximal = rw (append-nil more) at (walk_from-maximal next runs [] lba high
+          (MAX_CAPACITY + 1) front more (rw (append-nil runs) h.maximal) (omega arith) near t);
       chained = chained-right next fs more (walk_from-chained next runs lba front more h.chained t);
-      below = below-right count (slots_of (expanded next fs)) (slots_of (expanded next more)) (rw (sym slots) h.below);
+      below = below-right count (slots_of (expanded next fs)) (slots_of (expanded next more))
+          (rw (sym slots) h.below);
     }
 
 -- the part before the address ends there
-walk_from-end : (run front : Run) (lba high : ℕ) → lba ≤ end_of run → IsFront run lba front → end_of front ≡ lba
+walk_from-end : (run front : Run) (lba high : ℕ) → lba ≤ end_of run → IsFront run lba front
+    → end_of front ≡ lba
 walk_from-end run front lba high reach h = omega (arith, h.1)
 
-pub walk_from-between : (next : List ℕ) (runs : List Run) (lba high : ℕ) (front : Option Run) (more : List Run) → IsWalkFrom next runs lba front more → AreBetween 0 lba (expanded next (option_to_list front))
+pub walk_from-between : (next : List ℕ) (runs : List Run) (lba high : ℕ) (front : Option Run)
+    (more : List Run) → IsWalkFrom next runs lba front more
+    → AreBetween 0 lba (expanded next (option_to_list front))
 walk_from-between next [] lba high front more t = rw (t.0, expanded-none next) (omega arith)
 walk_from-between next (run ∷ runs) lba high None more t = rw (expanded-none next) (omega arith)
 walk_from-between next (run ∷ runs) lba high (Some front) more t =
     let f = t.1.before in
-    rw (expanded-one next front) (between-weaker (singles_of next front) front.start (end_of front) 0 lba (omega arith) (omega (arith, f.1)) (between-singles next front.start front.first front.count))
+    rw (expanded-one next front) (between-weaker (singles_of next front) front.start
+        (end_of front) 0 lba (omega arith) (omega (arith, f.1))
+        (between-singles next front.start front.first front.count))
 
 -- from the address on the contents are those of what is ahead
-pub get-walk_from : (next : List ℕ) (runs : List Run) (lba high q : ℕ) (front : Option Run) (more : List Run) (bs : List (List ℕ)) → IsWalkFrom next runs lba front more → lba ≤ q
-    → map.get (contents_of (expanded next runs) bs) q ≡ map.get (contents_of (expanded next more) bs) q
+pub get-walk_from : (next : List ℕ) (runs : List Run) (lba high q : ℕ) (front : Option Run)
+    (more : List Run) (bs : List (List ℕ)) → IsWalkFrom next runs lba front more → lba ≤ q
+    → map.get (contents_of (expanded next runs) bs) q ≡
+    map.get (contents_of (expanded next more) bs) q
 get-walk_from next runs lba high q front more bs t le =
     let fs : List Run = option_to_list front in
-    let parts : expanded next runs ≡ expanded next fs ++ expanded next more = sym (walk_from-parts next runs lba front more t) ∙ expanded-append next fs more in
+    let parts : expanded next runs ≡ expanded next fs ++ expanded next more =
+        sym (walk_from-parts next runs lba front more t) ∙ expanded-append next fs more in
     ap (λ xs. map.get (contents_of xs bs) q) parts
     ∙ get-from_entries nat_cmp_total (mapped_blocks (expanded next fs ++ expanded next more) bs) q
-    ∙ find-right (expanded next fs) (expanded next more) bs q (find-above (expanded next fs) bs 0 lba q (walk_from-between next runs lba high front more t) le)
+    ∙ find-right (expanded next fs) (expanded next more) bs q
+    (find-above (expanded next fs) bs 0 lba q
+    (walk_from-between next runs lba high front more t) le)
     ∙ sym (get-from_entries nat_cmp_total (mapped_blocks (expanded next more) bs) q)
 
 -- the address is that of the run that is ahead first
-module _ (next : List ℕ) (count lba at : ℕ) (runs : List Run) (run : Option Run) (found : Run) (h : AreAhead next count lba (ahead_of runs run at)) (is : run_at run lba ≡ Some found) where
+module _ (next : List ℕ) (count lba at : ℕ) (runs : List Run) (run : Option Run) (found : Run)
+    (h : AreAhead next count lba (ahead_of runs run at)) (is : run_at run lba ≡ Some found) where
   pub first-there : AreAhead next count lba (found ∷ drop at runs)
   first-there = rw (ap (λ o. ahead_of runs o at) (there run lba found is).0) at h
 
   pub first-slot : found.first < count
   first-slot = (ahead-first next count lba found (drop at runs) first-there).3
 
-  pub first-block : (bs : List (List ℕ)) → block (contents_of (expanded next (ahead_of runs run at)) bs) lba ≡ slice_index_or bs found.first zero_block
+  pub first-block : (bs : List (List ℕ)) → block
+      (contents_of (expanded next (ahead_of runs run at)) bs) lba ≡
+      slice_index_or bs found.first zero_block
   first-block bs =
       let t = there run lba found is in
       ap (λ o. block (contents_of (expanded next (ahead_of runs o at)) bs) lba) t.0
-      ∙ ap (λ xs. block (contents_of xs bs) lba) (passed-expanded next found (drop at runs) first-there.chained.0.some)
-      ∙ ap (λ q. block (contents_of (single found.start found.first ∷ expanded next (passed next found (drop at runs))) bs) q) (sym t.1)
-      ∙ block-first bs (single found.start found.first) (expanded next (passed next found (drop at runs)))
+      ∙ ap (λ xs. block (contents_of xs bs) lba)
+      (passed-expanded next found (drop at runs) first-there.chained.0.some)
+      ∙ ap (λ q. block (contents_of (single found.start found.first ∷ expanded next
+      (passed next found (drop at runs))) bs) q) (sym t.1)
+      ∙ block-first bs (single found.start found.first)
+      (expanded next (passed next found (drop at runs)))
 
   pub first-ahead : AreAhead next count (lba + 1) (passed next found (drop at runs))
-  first-ahead = passed-ahead next count lba found (drop at runs) first-there (there run lba found is).1
+  first-ahead = passed-ahead next count lba found (drop at runs) first-there
+      (there run lba found is).1
 
-  pub first-later : (bs : List (List ℕ)) (q : ℕ) → lba + 1 ≤ q → map.get (contents_of (expanded next (passed next found (drop at runs))) bs) q ≡ map.get (contents_of (expanded next (ahead_of runs run at)) bs) q
+  pub first-later : (bs : List (List ℕ)) (q : ℕ) → lba + 1 ≤ q
+      → map.get (contents_of (expanded next (passed next found (drop at runs))) bs) q ≡
+      map.get (contents_of (expanded next (ahead_of runs run at)) bs) q
   first-later bs q le =
       let t = there run lba found is in
       let other : q ≢ found.start = λ same. let at = t.1 in absurd (omega arith) in
       sym (ap (λ o. map.get (contents_of (expanded next (ahead_of runs o at)) bs) q) t.0
-      ∙ ap (λ xs. map.get (contents_of xs bs) q) (passed-expanded next found (drop at runs) first-there.chained.0.some)
-      ∙ get-later bs (single found.start found.first) (expanded next (passed next found (drop at runs))) q other)
+      ∙ ap (λ xs. map.get (contents_of xs bs) q)
+      (passed-expanded next found (drop at runs) first-there.chained.0.some)
+      ∙ get-later bs (single found.start found.first)
+      (expanded next (passed next found (drop at runs))) q other)
 
-  pub first-length : length (expanded next (ahead_of runs run at)) ≡ length (expanded next (passed next found (drop at runs))) + 1
+  pub first-length : length (expanded next (ahead_of runs run at)) ≡
+      length (expanded next (passed next found (drop at runs))) + 1
   first-length =
       let t = there run lba found is in
       let e = ap length (passed-expanded next found (drop at runs) first-there.chained.0.some) in
       ap (λ o. length (expanded next (ahead_of runs o at))) t.0 ∙ omega arith
 
 -- no run is there
-pub skip-block : (next : List ℕ) (count lba at : ℕ) (runs : List Run) (run : Option Run) (bs : List (List ℕ)) → AreAhead next count lba (ahead_of runs run at) → lba < MAX_CAPACITY → run_at run lba ≡ None
+pub skip-block : (next : List ℕ) (count lba at : ℕ) (runs : List Run) (run : Option Run)
+    (bs : List (List ℕ)) → AreAhead next count lba (ahead_of runs run at) → lba < MAX_CAPACITY
+    → run_at run lba ≡ None
     → map.get (contents_of (expanded next (ahead_of runs run at)) bs) lba ≡ None
-skip-block next count lba at runs run bs h low none = get-none next count (lba + 1) lba (ahead_of runs run at) bs (ahead-skip next count lba at runs run h low none) (omega arith)
+skip-block next count lba at runs run bs h low none =
+    get-none next count (lba + 1) lba (ahead_of runs run at) bs
+    (ahead-skip next count lba at runs run h low none) (omega arith)

@@ -1,34 +1,38 @@
 -- One address of a range that is written.
-use Rattle.std.proofs.Common.{◌≡◌, ◌≢◌, ℕ, ◌+◌, ◌-◌, ◌<◌, List, [], ◌∷◌, ◌++◌, length, set, drop, arith, refl, sym, ap, ap₂, ◌∙◌, subst, append_assoc, length-append, cond, Bool, true, false, Some, None, Option}
+use Rattle.std.proofs.Common.{◌≡◌, ◌≢◌, ℕ, ◌+◌, ◌-◌, ◌<◌, List, [], ◌∷◌, ◌++◌, length, set, drop}
+use Rattle.std.proofs.Common.{arith, refl, sym, ap, ap₂, ◌∙◌, subst, append_assoc, length-append}
+use Rattle.std.proofs.Common.{cond, Bool, true, false, Some, None, Option}
 use Rattle.std.proofs.Math.Seq.{take-append_seam, drop-append_seam, get_or-append_seam}
-use Rattle.std.specs.Prelude.{insert, slice_index_or, ◌==◌}
-use Rattle.std.specs.Ordering.{nat_cmp}
 use Rattle.std.specs.Cmp.{nat_cmp_total}
 use Rattle.std.specs.FinMap as map
 use Rattle.std.specs.FinMap.{find, get-from_entries}
+use Rattle.std.specs.Ordering.{nat_cmp}
+use Rattle.std.specs.Prelude.{insert, slice_index_or, ◌==◌}
 use Rattle.sg_blocks.specs.Chains.{IsChain}
 use Rattle.sg_blocks.specs.Disk.{zero_block}
-use Rattle.sg_block_map.specs.Joining.{joined, linked, IsWriting, KeepSlots}
-use Rattle.sg_blocks.specs.Records.{start_of, mapped_blocks, contents_of}
-use Rattle.sg_block_map.specs.Runs.{end_of, singles_of, expanded, AreChained, AreMaximal, AreBetween, chained_contents}
-use Rattle.sg_blocks.specs.Records.{single}
+use Rattle.sg_blocks.specs.Records.{start_of, mapped_blocks, contents_of, single, run_at}
 use Rattle.sg_blocks.specs.Slots.{Slots, slots_of, occurrences, followed, IsConsistent, IsEachOnce}
-use Rattle.sg_block_map.specs.Walking.{passed, ahead_of}
-use Rattle.sg_blocks.specs.Records.{run_at}
-use Rattle.sg_block_map.specs.Splitting.{rest_of}
 use Rattle.sg_blocks.specs.declared.run.Run.{Run}
+use Rattle.sg_blocks.specs.declared.store.TheConstants.{MAX_CAPACITY}
+use Rattle.sg_block_map.specs.Joining.{joined, linked, IsWriting, KeepSlots}
+use Rattle.sg_block_map.specs.Runs.{end_of, singles_of, expanded, AreChained, AreMaximal}
+use Rattle.sg_block_map.specs.Runs.{AreBetween, chained_contents}
+use Rattle.sg_block_map.specs.Splitting.{rest_of}
+use Rattle.sg_block_map.specs.Walking.{passed, ahead_of}
+use Rattle.sg_blocks.proofs.BlockLemmas.{find-added}
+use Rattle.sg_blocks.proofs.ConsistencyLemmas.{taken_below, consistent-added, contents-added}
+use Rattle.sg_blocks.proofs.ConsistencyLemmas.{consistent-over, contents-over}
+use Rattle.sg_blocks.proofs.DiskLemmas.{eq_other}
 use Rattle.sg_blocks.proofs.LinkLemmas.{slot_after-none, slot_after-in}
 use Rattle.sg_blocks.proofs.OccurrenceLemmas.{occurrences-append, once-le, below_count}
-use Rattle.sg_block_map.proofs.ExpandedLemmas.{expanded-append, expanded-more, singles-one, slots-both, slots-more, last-in}
-use Rattle.sg_blocks.proofs.BlockLemmas.{find-added}
-use Rattle.sg_blocks.proofs.DiskLemmas.{eq_other}
 use Rattle.sg_blocks.proofs.RecordLemmas.{find-unmapped}
-use Rattle.sg_block_map.proofs.BetweenLemmas.{between-expanded, between-append, between-singles, index-between, none-between, maximal-weaker}
-use Rattle.sg_block_map.proofs.SplitLemmas.{expanded-one, rest-chain}
-use Rattle.sg_blocks.proofs.ConsistencyLemmas.{taken_below, consistent-added, contents-added, consistent-over, contents-over}
-use Rattle.sg_block_map.proofs.WalkLemmas.{passed-by, passed-expanded, not_there, there}
+use Rattle.sg_block_map.proofs.BetweenLemmas.{between-expanded, between-append, between-singles}
+use Rattle.sg_block_map.proofs.BetweenLemmas.{index-between, none-between, maximal-weaker}
+use Rattle.sg_block_map.proofs.ExpandedLemmas.{expanded-append, expanded-more, singles-one}
+use Rattle.sg_block_map.proofs.ExpandedLemmas.{slots-both, slots-more, last-in}
 use Rattle.sg_block_map.proofs.JoinLemmas.{join-expanded, join-writing, link-slot, link-used}
-use Rattle.sg_blocks.specs.declared.store.TheConstants.{MAX_CAPACITY}
+use Rattle.sg_block_map.proofs.SplitLemmas.{expanded-one, rest-chain}
+use Rattle.sg_block_map.proofs.WalkLemmas.{passed-by, passed-expanded, not_there, there}
 
 insert-seam : (xs ys : List Run) (r : Run) → insert (xs ++ ys) (length xs) r ≡ xs ++ r ∷ ys
 insert-seam xs ys r = ap₂ (λ a b. a ++ r ∷ b) (take-append_seam xs ys) (drop-append_seam xs ys)
@@ -36,32 +40,48 @@ insert-seam xs ys r = ap₂ (λ a b. a ++ r ∷ b) (take-append_seam xs ys) (dro
 one-chain : (next : List ℕ) (slot : ℕ) → IsChain next slot slot 1
 one-chain next slot = record { some = omega arith; ends = sym (slot_after-none next slot) }
 
-single-more : (next : List ℕ) (lba slot : ℕ) (rest : List Run) → expanded next (single lba slot ∷ rest) ≡ single lba slot ∷ expanded next rest
-single-more next lba slot rest = expanded-more next (single lba slot) rest ∙ ap (λ xs. xs ++ expanded next rest) (singles-one next lba slot)
+single-more : (next : List ℕ) (lba slot : ℕ) (rest : List Run)
+    → expanded next (single lba slot ∷ rest) ≡ single lba slot ∷ expanded next rest
+single-more next lba slot rest = expanded-more next (single lba slot) rest
+    ∙ ap (λ xs. xs ++ expanded next rest) (singles-one next lba slot)
 
 -- the table to be, in the part before the address and the one from it on
-pub parted : (next : List ℕ) (before : List Run) (done : Run) (rest : List Run) → expanded next (before ++ done ∷ rest) ≡ expanded next (before ++ done ∷ []) ++ expanded next rest
-parted next before done rest = ap (expanded next) (sym (append_assoc before (done ∷ []) rest)) ∙ expanded-append next (before ++ done ∷ []) rest
+pub parted : (next : List ℕ) (before : List Run) (done : Run) (rest : List Run)
+    → expanded next (before ++ done ∷ rest) ≡
+    expanded next (before ++ done ∷ []) ++ expanded next rest
+parted next before done rest = ap (expanded next) (sym (append_assoc before (done ∷ []) rest))
+    ∙ expanded-append next (before ++ done ∷ []) rest
 
-pub before-between : (next : List ℕ) (before : List Run) (done : Run) (lba : ℕ) → AreMaximal 0 done.start before → end_of done ≡ lba → AreBetween 0 lba (expanded next (before ++ done ∷ []))
+pub before-between : (next : List ℕ) (before : List Run) (done : Run) (lba : ℕ)
+    → AreMaximal 0 done.start before → end_of done ≡ lba
+    → AreBetween 0 lba (expanded next (before ++ done ∷ []))
 before-between next before done lba h e =
-    rw (expanded-append next before (done ∷ []), expanded-one next done, sym e) (between-append (expanded next before) (singles_of next done) 0 done.start (end_of done)
-    (between-expanded next before 0 done.start h) (between-singles next done.start done.first done.count))
+    rw (expanded-append next before (done ∷ []), expanded-one next done, sym e)
+        (between-append (expanded next before) (singles_of next done) 0 done.start (end_of done)
+    (between-expanded next before 0 done.start h)
+    (between-singles next done.start done.first done.count))
 
 none_there : {o : Option (List ℕ)} {block : List ℕ} → o ≡ None → o ≡ Some block → ⊥
 none_there e f = cc
 
-keep-insert : (xs ys : List Run) (r : Run) (blocks : List (List ℕ)) (q : ℕ) (block : List ℕ) → ((j : ℕ) → j < length (xs ++ ys) → start_of (xs ++ ys) j ≢ r.start)
-    → map.get (contents_of (xs ++ ys) blocks) q ≡ Some block → map.get (contents_of (xs ++ r ∷ ys) blocks) q ≡ Some block
+keep-insert : (xs ys : List Run) (r : Run) (blocks : List (List ℕ)) (q : ℕ) (block : List ℕ)
+    → ((j : ℕ) → j < length (xs ++ ys) → start_of (xs ++ ys) j ≢ r.start)
+    → map.get (contents_of (xs ++ ys) blocks) q ≡ Some block
+    → map.get (contents_of (xs ++ r ∷ ys) blocks) q ≡ Some block
 keep-insert xs ys r blocks q block none h =
     let was = sym (get-from_entries nat_cmp_total (mapped_blocks (xs ++ ys) blocks) q) ∙ h in
-    let other : q ≢ r.start = λ same. none_there (find-unmapped (xs ++ ys) blocks r.start none) (ap (λ k. find nat_cmp k (mapped_blocks (xs ++ ys) blocks)) (sym same) ∙ was) in
+    let other : q ≢ r.start = λ same. none_there (find-unmapped (xs ++ ys) blocks r.start none)
+        (ap (λ k. find nat_cmp k (mapped_blocks (xs ++ ys) blocks)) (sym same) ∙ was) in
     get-from_entries nat_cmp_total (mapped_blocks (xs ++ r ∷ ys) blocks) q
-    ∙ ap (λ zs. find nat_cmp q (mapped_blocks zs blocks)) (sym (insert-seam xs ys r)) ∙ find-added (xs ++ ys) blocks (length xs) r q none
-    ∙ ap (λ b. cond b (Some (slice_index_or blocks r.first zero_block)) (find nat_cmp q (mapped_blocks (xs ++ ys) blocks))) (eq_other q r.start other) ∙ was
+    ∙ ap (λ zs. find nat_cmp q (mapped_blocks zs blocks)) (sym (insert-seam xs ys r))
+    ∙ find-added (xs ++ ys) blocks (length xs) r q none
+    ∙ ap (λ b. cond b (Some (slice_index_or blocks r.first zero_block))
+    (find nat_cmp q (mapped_blocks (xs ++ ys) blocks))) (eq_other q r.start other) ∙ was
 
 -- a block that was not mapped, in a slot that was free
-module _ (before : List Run) (done : Run) (rest : List Run) (slots : Slots) (lba slot : ℕ) (free : List ℕ) (b : List ℕ) (h : IsWriting before done rest slots lba) (taken : slots.free ≡ slot ∷ free) (none : AreMaximal (lba + 1) (MAX_CAPACITY + 1) rest) where
+module _ (before : List Run) (done : Run) (rest : List Run) (slots : Slots) (lba slot : ℕ)
+    (free : List ℕ) (b : List ℕ) (h : IsWriting before done rest slots lba)
+    (taken : slots.free ≡ slot ∷ free) (none : AreMaximal (lba + 1) (MAX_CAPACITY + 1) rest) where
   abbrev xs : List Run
   xs = expanded slots.next (before ++ done ∷ [])
 
@@ -78,37 +98,54 @@ module _ (before : List Run) (done : Run) (rest : List Run) (slots : Slots) (lba
   was = parted slots.next before done rest
 
   is : expanded slots.next (before ++ done ∷ (single lba slot ∷ rest)) ≡ xs ++ single lba slot ∷ ys
-  is = parted slots.next before done (single lba slot ∷ rest) ∙ ap (λ zs. xs ++ zs) (single-more slots.next lba slot rest)
+  is = parted slots.next before done (single lba slot ∷ rest)
+      ∙ ap (λ zs. xs ++ zs) (single-more slots.next lba slot rest)
 
   together_was : IsConsistent (xs ++ ys) slots.blocks (slot ∷ free) (length slots.next)
   together_was = rw (was, taken) at h.consistent
 
   nowhere : (j : ℕ) → j < length (xs ++ ys) → start_of (xs ++ ys) j ≢ lba
-  nowhere = none-between xs ys 0 lba (lba + 1) (MAX_CAPACITY + 1) lba low high (omega arith) (omega arith)
+  nowhere = none-between xs ys 0 lba (lba + 1) (MAX_CAPACITY + 1) lba low high (omega arith)
+      (omega arith)
 
-  taken_together : IsConsistent (expanded slots.next (before ++ done ∷ (single lba slot ∷ rest))) (set slots.blocks slot b) free (length slots.next)
-  taken_together = rw (is, sym (insert-seam xs ys (single lba slot))) (consistent-added (xs ++ ys) slots.blocks free (length slots.next) (length xs) (single lba slot) b together_was
+  taken_together : IsConsistent (expanded slots.next (before ++ done ∷ (single lba slot ∷ rest)))
+      (set slots.blocks slot b) free (length slots.next)
+  taken_together = rw (is, sym (insert-seam xs ys (single lba slot)))
+      (consistent-added (xs ++ ys) slots.blocks free (length slots.next) (length xs)
+      (single lba slot) b together_was
       (index-between xs ys 0 lba (lba + 1) (MAX_CAPACITY + 1) low high (omega arith)) nowhere)
 
-  taken_contents : contents_of (expanded slots.next (before ++ done ∷ (single lba slot ∷ rest))) (set slots.blocks slot b) ≡ map.insert (chained_contents (before ++ done ∷ rest) slots) lba b
-  taken_contents = rw (is, was, sym (insert-seam xs ys (single lba slot))) (contents-added (xs ++ ys) slots.blocks free (length slots.next) (length xs) (single lba slot) b together_was nowhere)
+  taken_contents : contents_of (expanded slots.next (before ++ done ∷ (single lba slot ∷ rest)))
+      (set slots.blocks slot b) ≡ map.insert (chained_contents (before ++ done ∷ rest) slots) lba b
+  taken_contents = rw (is, was, sym (insert-seam xs ys (single lba slot)))
+      (contents-added (xs ++ ys) slots.blocks free (length slots.next) (length xs)
+      (single lba slot) b together_was nowhere)
 
   abbrev after_taken : Slots
   after_taken = record slots { blocks = set slots.blocks slot b; free = free }
 
   abbrev after_new : Slots
-  after_new = record slots { blocks = set slots.blocks slot b; free = free; next = linked slots.next done slot }
+  after_new = record slots { blocks = set slots.blocks slot b; free = free; next =
+      linked slots.next done slot }
 
   pub new-writing : IsWriting before (joined done (single lba slot)) rest after_new (lba + 1)
-  new-writing = join-writing before done (single lba slot) rest after_taken taken_together h.front h.ends h.maximal_before none h.chained_before (one-chain slots.next slot) h.chained_after
+  new-writing = join-writing before done (single lba slot) rest after_taken taken_together h.front
+      h.ends h.maximal_before none h.chained_before (one-chain slots.next slot) h.chained_after
 
-  pub new-contents : chained_contents (before ++ joined done (single lba slot) ∷ rest) after_new ≡ map.insert (chained_contents (before ++ done ∷ rest) slots) lba b
-  new-contents = ap (λ zs. contents_of zs (set slots.blocks slot b)) (join-expanded before done (single lba slot) rest after_taken taken_together h.front h.ends) ∙ taken_contents
+  pub new-contents : chained_contents (before ++ joined done (single lba slot) ∷ rest) after_new ≡
+      map.insert (chained_contents (before ++ done ∷ rest) slots) lba b
+  new-contents = ap (λ zs. contents_of zs (set slots.blocks slot b))
+      (join-expanded before done (single lba slot) rest after_taken taken_together h.front h.ends)
+      ∙ taken_contents
 
-  pub new-keeps : KeepSlots slots.next (before ++ done ∷ rest) (linked slots.next done slot) (before ++ joined done (single lba slot) ∷ rest)
+  pub new-keeps : KeepSlots slots.next (before ++ done ∷ rest) (linked slots.next done slot)
+      (before ++ joined done (single lba slot) ∷ rest)
   new-keeps blocks q block e =
-      ap (λ zs. map.get (contents_of zs blocks) q) (join-expanded before done (single lba slot) rest after_taken taken_together h.front h.ends ∙ is)
-      ∙ keep-insert xs ys (single lba slot) blocks q block nowhere (ap (λ zs. map.get (contents_of zs blocks) q) (sym was) ∙ e)
+      ap (λ zs. map.get (contents_of zs blocks) q)
+          (join-expanded before done (single lba slot) rest after_taken taken_together h.front
+          h.ends ∙ is)
+      ∙ keep-insert xs ys (single lba slot) blocks q block nowhere
+      (ap (λ zs. map.get (contents_of zs blocks) q) (sym was) ∙ e)
 
   pub new-slot : 0 < done.count → done.last < length slots.next
   new-slot = link-slot before done (single lba slot) rest after_taken taken_together h.front
@@ -117,7 +154,8 @@ module _ (before : List Run) (done : Run) (rest : List Run) (slots : Slots) (lba
   new-used = link-used before done (single lba slot) rest after_taken taken_together h.front
 
 -- a block that is written over, in the slot that it has
-module _ (before : List Run) (done run : Run) (tail : List Run) (slots : Slots) (lba : ℕ) (b : List ℕ) (h : IsWriting before done (run ∷ tail) slots lba) (start : run.start ≡ lba) where
+module _ (before : List Run) (done run : Run) (tail : List Run) (slots : Slots) (lba : ℕ)
+    (b : List ℕ) (h : IsWriting before done (run ∷ tail) slots lba) (start : run.start ≡ lba) where
   abbrev xs' : List Run
   xs' = expanded slots.next (before ++ done ∷ [])
 
@@ -131,45 +169,69 @@ module _ (before : List Run) (done run : Run) (tail : List Run) (slots : Slots) 
   some' = h.chained_after.0.some
 
   was' : expanded slots.next (before ++ done ∷ (run ∷ tail)) ≡ xs' ++ single lba run.first ∷ ys'
-  was' = parted slots.next before done (run ∷ tail) ∙ ap (λ zs. xs' ++ zs) (passed-expanded slots.next run tail some' ∙ ap (λ a. single a run.first ∷ ys') start)
+  was' = parted slots.next before done (run ∷ tail)
+      ∙ ap (λ zs. xs' ++ zs) (passed-expanded slots.next run tail some'
+      ∙ ap (λ a. single a run.first ∷ ys') start)
 
-  is' : expanded slots.next (before ++ done ∷ (single lba run.first ∷ rest')) ≡ expanded slots.next (before ++ done ∷ (run ∷ tail))
-  is' = parted slots.next before done (single lba run.first ∷ rest') ∙ ap (λ zs. xs' ++ zs) (single-more slots.next lba run.first rest') ∙ sym was'
+  is' : expanded slots.next (before ++ done ∷ (single lba run.first ∷ rest')) ≡
+      expanded slots.next (before ++ done ∷ (run ∷ tail))
+  is' = parted slots.next before done (single lba run.first ∷ rest')
+      ∙ ap (λ zs. xs' ++ zs) (single-more slots.next lba run.first rest') ∙ sym was'
 
-  over_together : IsConsistent (expanded slots.next (before ++ done ∷ (single lba run.first ∷ rest'))) (set slots.blocks run.first b) slots.free (length slots.next)
-  over_together = rw is' (consistent-over (expanded slots.next (before ++ done ∷ (run ∷ tail))) slots.blocks slots.free (length slots.next) run.first b h.consistent)
+  over_together : IsConsistent (expanded slots.next
+      (before ++ done ∷ (single lba run.first ∷ rest'))) (set slots.blocks run.first b) slots.free
+      (length slots.next)
+  over_together = rw is' (consistent-over (expanded slots.next (before ++ done ∷ (run ∷ tail)))
+      slots.blocks slots.free (length slots.next) run.first b h.consistent)
 
-  over_contents : contents_of (expanded slots.next (before ++ done ∷ (run ∷ tail))) (set slots.blocks run.first b) ≡ map.insert (chained_contents (before ++ done ∷ (run ∷ tail)) slots) lba b
+  over_contents : contents_of (expanded slots.next (before ++ done ∷ (run ∷ tail)))
+      (set slots.blocks run.first b) ≡ map.insert
+      (chained_contents (before ++ done ∷ (run ∷ tail)) slots) lba b
   over_contents =
       let consistent = rw was' at h.consistent in
       let len = length-append xs' (single lba run.first ∷ ys') in
-      rw was' (contents-over (xs' ++ single lba run.first ∷ ys') slots.blocks slots.free (length slots.next) (length xs') (single lba run.first) b consistent (omega arith)
+      rw was' (contents-over (xs' ++ single lba run.first ∷ ys') slots.blocks slots.free
+          (length slots.next) (length xs') (single lba run.first) b consistent (omega arith)
       (sym (get_or-append_seam xs' (single lba run.first) ys' (single lba run.first))))
 
   passed_maximal : AreMaximal (lba + 1) (MAX_CAPACITY + 1) rest'
   passed_maximal = passed-by (AreMaximal (lba + 1) (MAX_CAPACITY + 1)) slots.next run tail some'
-      (λ one. maximal-weaker tail (end_of run + 1) (MAX_CAPACITY + 1) (lba + 1) (MAX_CAPACITY + 1) (omega arith) (omega arith) h.after.1)
-      (λ many. let same : run.start + 1 + (run.count - 1) + 1 ≡ end_of run + 1 = omega arith in (omega arith, rw same h.after.1))
+      (λ one. maximal-weaker tail (end_of run + 1) (MAX_CAPACITY + 1) (lba + 1) (MAX_CAPACITY + 1)
+      (omega arith) (omega arith) h.after.1)
+      (λ many. let same : run.start + 1 + (run.count - 1) + 1 ≡ end_of run + 1 = omega arith in
+      (omega arith, rw same h.after.1))
 
   passed_chained : AreChained slots.next rest'
-  passed_chained = passed-by (AreChained slots.next) slots.next run tail some' (λ one. h.chained_after.1) (λ many. (rest-chain slots.next run 1 many h.chained_after.0, h.chained_after.1))
+  passed_chained = passed-by (AreChained slots.next) slots.next run tail some'
+      (λ one. h.chained_after.1) (λ many. (rest-chain slots.next run 1 many h.chained_after.0,
+      h.chained_after.1))
 
   abbrev after_set : Slots
   after_set = record slots { blocks = set slots.blocks run.first b }
 
   abbrev after_over : Slots
-  after_over = record slots { blocks = set slots.blocks run.first b; next = linked slots.next done run.first }
+  after_over = record slots { blocks = set slots.blocks run.first b; next =
+      linked slots.next done run.first }
 
-  pub over-writing : IsWriting before (joined done (single lba run.first)) rest' after_over (lba + 1)
-  over-writing = join-writing before done (single lba run.first) rest' after_set over_together h.front h.ends h.maximal_before passed_maximal h.chained_before (one-chain slots.next run.first) passed_chained
+  pub over-writing : IsWriting before (joined done (single lba run.first)) rest' after_over
+      (lba + 1)
+  over-writing = join-writing before done (single lba run.first) rest' after_set over_together
+      h.front h.ends h.maximal_before passed_maximal h.chained_before
+      (one-chain slots.next run.first) passed_chained
 
-  over_apart : expanded (linked slots.next done run.first) (before ++ joined done (single lba run.first) ∷ rest') ≡ expanded slots.next (before ++ done ∷ (run ∷ tail))
-  over_apart = join-expanded before done (single lba run.first) rest' after_set over_together h.front h.ends ∙ is'
+  over_apart : expanded (linked slots.next done run.first)
+      (before ++ joined done (single lba run.first) ∷ rest') ≡
+      expanded slots.next (before ++ done ∷ (run ∷ tail))
+  over_apart = join-expanded before done (single lba run.first) rest' after_set over_together
+      h.front h.ends ∙ is'
 
-  pub over-contents : chained_contents (before ++ joined done (single lba run.first) ∷ rest') after_over ≡ map.insert (chained_contents (before ++ done ∷ (run ∷ tail)) slots) lba b
-  over-contents = ap (λ zs. contents_of zs (set slots.blocks run.first b)) over_apart ∙ over_contents
+  pub over-contents : chained_contents (before ++ joined done (single lba run.first) ∷ rest')
+      after_over ≡ map.insert (chained_contents (before ++ done ∷ (run ∷ tail)) slots) lba b
+  over-contents = ap (λ zs. contents_of zs (set slots.blocks run.first b)) over_apart
+      ∙ over_contents
 
-  pub over-keeps : KeepSlots slots.next (before ++ done ∷ (run ∷ tail)) (linked slots.next done run.first) (before ++ joined done (single lba run.first) ∷ rest')
+  pub over-keeps : KeepSlots slots.next (before ++ done ∷ (run ∷ tail))
+      (linked slots.next done run.first) (before ++ joined done (single lba run.first) ∷ rest')
   over-keeps blocks q block e = ap (λ zs. map.get (contents_of zs blocks) q) over_apart ∙ e
 
   pub over-slot : 0 < done.count → done.last < length slots.next
@@ -179,7 +241,9 @@ module _ (before : List Run) (done run : Run) (tail : List Run) (slots : Slots) 
   over-used = link-used before done (single lba run.first) rest' after_set over_together h.front
 
 -- links that are followed change nothing else
-pub writing-followed : (before : List Run) (done : Run) (rest : List Run) (slots now : Slots) (lba n : ℕ) → now ≡ followed slots n → IsWriting before done rest slots lba → IsWriting before done rest now lba
+pub writing-followed : (before : List Run) (done : Run) (rest : List Run) (slots now : Slots)
+    (lba n : ℕ) → now ≡ followed slots n → IsWriting before done rest slots lba
+    → IsWriting before done rest now lba
 writing-followed before done rest slots now lba n e h = rw e (record {
   consistent = h.consistent;
   maximal_before = h.maximal_before;
@@ -191,51 +255,71 @@ writing-followed before done rest slots now lba n e h = rw e (record {
 })
 
 -- the last slot of the run is one of the pool, and not free
-pub done-last : (before : List Run) (done : Run) (rest : List Run) (slots : Slots) (lba : ℕ) → IsWriting before done rest slots lba → 0 < done.count → (done.last < length slots.next) × (occurrences done.last slots.free ≡ 0)
+pub done-last : (before : List Run) (done : Run) (rest : List Run) (slots : Slots) (lba : ℕ)
+    → IsWriting before done rest slots lba → 0 < done.count → (done.last < length slots.next)
+    × (occurrences done.last slots.free ≡ 0)
 done-last before done rest slots lba h pos =
     let all : List Run = expanded slots.next (before ++ done ∷ rest) in
     let some = last-in slots.next done.first done.last done.count (h.front pos) in
-    let once = once-le (length slots.blocks) (slots_of all ++ slots.free) done.last h.consistent.once in
+    let once = once-le (length slots.blocks) (slots_of all ++ slots.free) done.last
+        h.consistent.once in
     let both = occurrences-append done.last (slots_of all) slots.free in
     let a = slots-both slots.next done.last before (done ∷ rest) in
     let b = slots-more slots.next done.last done rest in
-    let low = below_count (length slots.blocks) (slots_of all ++ slots.free) done.last h.consistent.once (omega arith) in
+    let low = below_count (length slots.blocks)
+        (slots_of all ++ slots.free) done.last h.consistent.once (omega arith) in
     (omega (arith, h.consistent.pool), omega arith)
 
-ap_once : (count : ℕ) (used free free' : List ℕ) → free ≡ free' → IsEachOnce count (used ++ free) → IsEachOnce count (used ++ free')
+ap_once : (count : ℕ) (used free free' : List ℕ) → free ≡ free' → IsEachOnce count (used ++ free)
+    → IsEachOnce count (used ++ free')
 ap_once count used free free' e h = subst (λ xs. IsEachOnce count (used ++ xs)) e h
 
 append_if : (b : Bool) (xs zs ys : List Run) → cond b xs zs ++ ys ≡ cond b (xs ++ ys) (zs ++ ys)
 append_if true us zs vs = refl
 append_if false us zs vs = refl
 
-pub slot-taken : (before : List Run) (done : Run) (rest : List Run) (slots : Slots) (lba slot : ℕ) (free : List ℕ) → IsWriting before done rest slots lba → slots.free ≡ slot ∷ free → slot < length slots.blocks
+pub slot-taken : (before : List Run) (done : Run) (rest : List Run) (slots : Slots) (lba slot : ℕ)
+    (free : List ℕ) → IsWriting before done rest slots lba → slots.free ≡ slot ∷ free
+    → slot < length slots.blocks
 slot-taken before done rest slots lba slot free h taken =
-    taken_below (length slots.blocks) (slots_of (expanded slots.next (before ++ done ∷ rest))) free slot (ap_once (length slots.blocks) (slots_of (expanded slots.next (before ++ done ∷ rest))) slots.free (slot ∷ free) taken h.consistent.once)
+    taken_below (length slots.blocks) (slots_of (expanded slots.next (before ++ done ∷ rest))) free
+        slot (ap_once (length slots.blocks) (slots_of (expanded slots.next (before ++ done ∷ rest)))
+        slots.free (slot ∷ free) taken h.consistent.once)
 
-pub slot-there : (before : List Run) (done run : Run) (tail : List Run) (slots : Slots) (lba : ℕ) → IsWriting before done (run ∷ tail) slots lba → run.first < length slots.blocks
+pub slot-there : (before : List Run) (done run : Run) (tail : List Run) (slots : Slots) (lba : ℕ)
+    → IsWriting before done (run ∷ tail) slots lba → run.first < length slots.blocks
 slot-there before done run tail slots lba h =
     let all : List Run = expanded slots.next (before ++ done ∷ (run ∷ tail)) in
     let c = h.chained_after.0 in
     let some = c.some in
-    let first = rw (slot_after-none slots.next run.first) at (slot_after-in slots.next run.first 0 run.count some) in
+    let first = rw (slot_after-none slots.next run.first) at
+        (slot_after-in slots.next run.first 0 run.count some) in
     let both = occurrences-append run.first (slots_of all) slots.free in
     let a = slots-both slots.next run.first before (done ∷ (run ∷ tail)) in
     let b = slots-more slots.next run.first done (run ∷ tail) in
     let d = slots-more slots.next run.first run tail in
-    below_count (length slots.blocks) (slots_of all ++ slots.free) run.first h.consistent.once (omega arith)
+    below_count (length slots.blocks) (slots_of all ++ slots.free) run.first h.consistent.once
+        (omega arith)
 
 -- no run starts_in at the address
-pub skip-maximal : (runs after : List Run) (run : Option Run) (at lba : ℕ) → AreMaximal lba (MAX_CAPACITY + 1) (ahead_of runs run at ++ after) → AreMaximal (lba + 1) (MAX_CAPACITY + 1) after → run_at run lba ≡ None → AreMaximal (lba + 1) (MAX_CAPACITY + 1) (ahead_of runs run at ++ after)
+pub skip-maximal : (runs after : List Run) (run : Option Run) (at lba : ℕ)
+    → AreMaximal lba (MAX_CAPACITY + 1) (ahead_of runs run at ++ after)
+    → AreMaximal (lba + 1) (MAX_CAPACITY + 1) after → run_at run lba ≡ None
+    → AreMaximal (lba + 1) (MAX_CAPACITY + 1) (ahead_of runs run at ++ after)
 skip-maximal runs after None at lba h k none = k
-skip-maximal runs after (Some run) at lba h k none = let off : run.start ≢ lba = λ same. not_there run lba none same in (omega (arith, h.0), h.1)
+skip-maximal runs after (Some run) at lba h k none = let off : run.start ≢ lba =
+    λ same. not_there run lba none same in (omega (arith, h.0), h.1)
 
-pub passed-append : (next : List ℕ) (run : Run) (xs ys : List Run) → passed next run xs ++ ys ≡ passed next run (xs ++ ys)
+pub passed-append : (next : List ℕ) (run : Run) (xs ys : List Run)
+    → passed next run xs ++ ys ≡ passed next run (xs ++ ys)
 passed-append next run xs ys = append_if (run.count == 1) xs (rest_of next run 1 ∷ xs) ys
 
 -- the same for what is ahead of a walk
-module _ (before after runs more : List Run) (done found : Run) (run : Option Run) (at : ℕ) (p now : Slots) (lba n : ℕ) (b : List ℕ)
-    (h : IsWriting before done (ahead_of runs run at ++ after) p lba) (is : run_at run lba ≡ Some found) (e : now ≡ followed p n) (m : more ≡ passed p.next found (drop at runs)) where
+module _ (before after runs more : List Run) (done found : Run) (run : Option Run) (at : ℕ)
+    (p now : Slots) (lba n : ℕ) (b : List ℕ)
+    (h : IsWriting before done (ahead_of runs run at ++ after) p lba)
+    (is : run_at run lba ≡ Some found) (e : now ≡ followed p n)
+    (m : more ≡ passed p.next found (drop at runs)) where
   abbrev tail_of : List Run
   tail_of = drop at runs ++ after
 
@@ -243,29 +327,45 @@ module _ (before after runs more : List Run) (done found : Run) (run : Option Ru
   here = ap (λ o. ahead_of runs o at ++ after) (there run lba found is).0
 
   now_writing : IsWriting before done (found ∷ tail_of) now lba
-  now_writing = rw here at (writing-followed before done (ahead_of runs run at ++ after) p now lba n e h)
+  now_writing = rw here at (writing-followed before done
+      (ahead_of runs run at ++ after) p now lba n e h)
 
   same_next : p.next ≡ now.next
   same_next = sym (ap (λ (s : Slots). s.next) e)
 
   same_more : more ++ after ≡ passed now.next found tail_of
-  same_more = ap (λ zs. zs ++ after) m ∙ passed-append p.next found (drop at runs) after ∙ ap (λ ns. passed ns found tail_of) same_next
+  same_more = ap (λ zs. zs ++ after) m ∙ passed-append p.next found (drop at runs) after
+      ∙ ap (λ ns. passed ns found tail_of) same_next
 
   abbrev over_slots : Slots
-  over_slots = record now { blocks = set now.blocks found.first b; next = linked now.next done found.first }
+  over_slots = record now { blocks = set now.blocks found.first b; next =
+      linked now.next done found.first }
 
-  pub walked-writing : IsWriting before (joined done (single lba found.first)) (more ++ after) over_slots (lba + 1)
-  walked-writing = rw same_more (over-writing before done found tail_of now lba b now_writing (there run lba found is).1)
+  pub walked-writing : IsWriting before (joined done (single lba found.first))
+      (more ++ after) over_slots (lba + 1)
+  walked-writing = rw same_more (over-writing before done found tail_of now lba b now_writing
+      (there run lba found is).1)
 
-  pub walked-contents : chained_contents (before ++ joined done (single lba found.first) ∷ (more ++ after)) over_slots ≡ map.insert (chained_contents (before ++ done ∷ (ahead_of runs run at ++ after)) p) lba b
+  pub walked-contents : chained_contents (before ++ joined done (single lba found.first) ∷
+      (more ++ after)) over_slots ≡ map.insert
+      (chained_contents (before ++ done ∷ (ahead_of runs run at ++ after)) p) lba b
   walked-contents =
-      ap (λ zs. chained_contents (before ++ joined done (single lba found.first) ∷ zs) over_slots) same_more
+      ap (λ zs. chained_contents (before ++ joined done (single lba found.first) ∷ zs) over_slots)
+          same_more
       ∙ over-contents before done found tail_of now lba b now_writing (there run lba found is).1
-      ∙ ap₂ (λ zs ns. map.insert (contents_of (expanded ns (before ++ done ∷ zs)) now.blocks) lba b) (sym here) (sym same_next)
-      ∙ ap (λ bs. map.insert (contents_of (expanded p.next (before ++ done ∷ (ahead_of runs run at ++ after))) bs) lba b) (ap (λ (s : Slots). s.blocks) e)
+      ∙ ap₂ (λ zs ns. map.insert (contents_of (expanded ns (before ++ done ∷ zs)) now.blocks) lba b)
+      (sym here) (sym same_next)
+      ∙ ap (λ bs. map.insert (contents_of (expanded p.next
+      (before ++ done ∷ (ahead_of runs run at ++ after))) bs) lba b)
+      (ap (λ (s : Slots). s.blocks) e)
 
-  pub walked-keeps : KeepSlots p.next (before ++ done ∷ (ahead_of runs run at ++ after)) (linked now.next done found.first) (before ++ joined done (single lba found.first) ∷ (more ++ after))
+  pub walked-keeps : KeepSlots p.next (before ++ done ∷ (ahead_of runs run at ++ after))
+      (linked now.next done found.first) (before ++ joined done (single lba found.first) ∷
+      (more ++ after))
   walked-keeps blocks q block f =
-      ap (λ zs. map.get (contents_of (expanded (linked now.next done found.first) (before ++ joined done (single lba found.first) ∷ zs)) blocks) q) same_more
-      ∙ over-keeps before done found tail_of now lba b now_writing (there run lba found is).1 blocks q block
-      (ap₂ (λ zs ns. map.get (contents_of (expanded ns (before ++ done ∷ zs)) blocks) q) (sym here) (sym same_next) ∙ f)
+      ap (λ zs. map.get (contents_of (expanded (linked now.next done found.first)
+          (before ++ joined done (single lba found.first) ∷ zs)) blocks) q) same_more
+      ∙ over-keeps before done found tail_of now lba b now_writing
+      (there run lba found is).1 blocks q block
+      (ap₂ (λ zs ns. map.get (contents_of (expanded ns (before ++ done ∷ zs)) blocks) q) (sym here)
+      (sym same_next) ∙ f)

@@ -26,7 +26,8 @@ linked next done to = if done.count == 0 then next else slice_set next done.last
 -- there on. Together they are the table to be, of which the pool has the slots.
 pub record IsWriting (before : List Run) (done : Run) (rest : List Run) (slots : Slots) (lba : ℕ) :
     Type 0 where
-  pub consistent : IsConsistent (expanded slots.next (before ++ done ∷ rest)) slots.blocks slots.free
+  pub consistent : IsConsistent (expanded slots.next (before ++ done ∷ rest)) slots.blocks
+      slots.free
       (length slots.next)
   pub maximal_before : AreMaximal 0 done.start before
   pub ends : end_of done ≡ lba

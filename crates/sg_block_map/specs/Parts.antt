@@ -18,7 +18,8 @@ pub record FitTogether (capacity : ℕ) (table : Table) (pool : Slots) : Type 0 
 
 -- The `BlockMap` of these alone: its lists of gathered and remaining runs are empty, and it keeps
 -- nothing else.
-abbrev pub parts : (capacity : ℕ) (table : Table) (pool : Slots) → FitTogether capacity table pool → BlockMap
+abbrev pub parts : (capacity : ℕ) (table : Table) (pool : Slots) → FitTogether capacity table pool
+    → BlockMap
 parts capacity table pool fit = record {
   capacity = capacity;
   table = table;

@@ -6,7 +6,8 @@ use Rattle.sg_blocks.specs.declared.run.Run.{Run}
 
 pub AreMaximal-IsProp : (low high : ℕ) (runs : List Run) → IsProp (AreMaximal low high runs)
 AreMaximal-IsProp low high [] = hlevel props
-AreMaximal-IsProp low high (run ∷ runs) = hlevel (props, AreMaximal-IsProp (end_of run + 1) high runs)
+AreMaximal-IsProp low high (run ∷ runs) = hlevel
+    (props, AreMaximal-IsProp (end_of run + 1) high runs)
 
 pub AreChained-IsProp : (next : List ℕ) (runs : List Run) → IsProp (AreChained next runs)
 AreChained-IsProp next [] = hlevel props

@@ -40,4 +40,5 @@ slots_by_address map = slot_map map.table map.pool
 
 -- What each address has, it keeps.
 abbrev pub Keeps : (before after : Contents) → Type 0
-Keeps before after = (lba : ℕ) (slot : List ℕ) → get before lba ≡ Some slot → get after lba ≡ Some slot
+Keeps before after = (lba : ℕ) (slot : List ℕ) → get before lba ≡ Some slot
+    → get after lba ≡ Some slot

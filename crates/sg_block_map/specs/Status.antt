@@ -10,7 +10,8 @@ use Rattle.sg_block_map.specs.Gathering.{end_at}
 use Rattle.sg_block_map.specs.MaximalRuns.{meets}
 use Rattle.sg_block_map.specs.Runs.{AreMaximal, extent_of}
 
--- The table of a disk: its runs are maximal, each has an address, and none has more than the largest
+-- The table of a disk: its runs are maximal, each has an address, and none has more than the
+-- largest
 -- pool has blocks. None lies past the end of the disk.
 pub record IsRunTable (capacity : ℕ) (records : List Run) : Type 0 where
   pub maximal : AreMaximal 0 (capacity + 1) records

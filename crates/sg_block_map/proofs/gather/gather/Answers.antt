@@ -6,7 +6,8 @@ use Rattle.sg_block_map.proofs.GatheringLemmas.{all-gathered, count-starts}
 use Rattle.sg_block_map.proofs.gather.gather.Goals as goal
 
 pub lower_bound-index-requires-clause-sorted : goal.lower_bound-index-requires-clause-sorted
-lower_bound-index-requires-clause-sorted c = maximal-sorted c.args.table.now.records 0 (MAX_CAPACITY + 1) c.requires.runs
+lower_bound-index-requires-clause-sorted c = maximal-sorted c.args.table.now.records 0
+    (MAX_CAPACITY + 1) c.requires.runs
 
 pub gather_from-requires-clause-sorted : goal.gather_from-requires-clause-sorted
 gather_from-requires-clause-sorted c =
@@ -23,11 +24,13 @@ returns-clause-gathered c =
     ap (λ (t : Table). t.records) c.gather_before.ensures.table ∙ one in
     let begun = rw one at c.gather_before.ensures.gathered in
     let e = c.gather_from.ensures in
-    let high : c.args.lba + c.from.result ≡ c.args.lba + c.args.count = ap (λ x. c.args.lba + x) c.from.ensures in
+    let high : c.args.lba + c.from.result ≡ c.args.lba + c.args.count =
+        ap (λ x. c.args.lba + x) c.from.ensures in
     all-gathered rs c.gather_before.new.gathered c.gather_from.new.gathered
     c.lower_bound-index.result c.args.lba (c.args.lba + c.args.count) (MAX_CAPACITY + 1) begun index
     (omega arith) e.from.0 e.grows.0 (rw two at e.grows.1) (rw two at e.same)
-    (rw (two, high) at e.near) (rw (two, high) at e.after) c.requires.runs (omega (arith, c.requires.range))
+    (rw (two, high) at e.near) (rw (two, high) at e.after) c.requires.runs
+    (omega (arith, c.requires.range))
 
 pub returns-clause-most : goal.returns-clause-most
 returns-clause-most c =
@@ -35,7 +38,8 @@ returns-clause-most c =
     let one = ap (λ (t : Table). t.records) c.lower_bound-index.ensures.table in
     let two : c.gather_before.new.table.records ≡ rs =
     ap (λ (t : Table). t.records) c.gather_before.ensures.table ∙ one in
-    let high : c.args.lba + c.from.result ≡ c.args.lba + c.args.count = ap (λ x. c.args.lba + x) c.from.ensures in
+    let high : c.args.lba + c.from.result ≡ c.args.lba + c.args.count =
+        ap (λ x. c.args.lba + x) c.from.ensures in
     let starts = count-starts rs c.lower_bound-index.result c.args.lba
     (c.args.lba + c.args.count) c.lower_bound-index.ensures.index.after in
     let most = rw (two, high) at c.gather_from.ensures.most in

@@ -1,11 +1,11 @@
 use Rattle.std.proofs.Common.{◌≡◌, ◌≢◌, ℕ, ◌+◌, ◌-◌, ◌<◌, List, length, ap, sym, ◌∙◌, arith}
 use Rattle.std.proofs.lemmas.List.{length_push}
 use Rattle.std.specs.Prelude.{slice_index_or}
+use Rattle.sg_blocks.specs.Draft.{Drafted, pushed}
 use Rattle.sg_blocks.specs.Records.{start_of}
 use Rattle.sg_blocks.specs.Table.{Table, visited}
-use Rattle.sg_blocks.specs.Draft.{Drafted, pushed}
-use Rattle.sg_block_map.specs.Gathering.{end_index}
 use Rattle.sg_blocks.specs.declared.run.Run.{Run}
+use Rattle.sg_block_map.specs.Gathering.{end_index}
 use Rattle.sg_blocks.proofs.RecordLemmas.{start_of-read}
 use Rattle.sg_blocks.proofs.SpliceLemmas.{same-splice}
 use Rattle.sg_blocks.proofs.TableLemmas.{visited-more}
@@ -13,49 +13,67 @@ use Rattle.sg_block_map.proofs.GatheringLemmas.{count-begun, near-more, begun-mo
 use Rattle.sg_block_map.proofs.gather.gather_from.Goals as goal
 
 -- the run that is visited is the one at the index
-start_here : (rs now : List Run) (at : ℕ) (run : Run) → now ≡ rs → at < length rs → slice_index_or now at run ≡ run → run.start ≡ start_of rs at
-start_here rs now at run same low e = start_of-read rs at run low (sym e ∙ ap (λ xs. slice_index_or xs at run) same)
+start_here : (rs now : List Run) (at : ℕ) (run : Run) → now ≡ rs → at < length rs
+    → slice_index_or now at run ≡ run → run.start ≡ start_of rs at
+start_here rs now at run same low e = start_of-read rs at run low (sym e
+    ∙ ap (λ xs. slice_index_or xs at run) same)
 
-pushed_past : (gathered : Drafted) (run : Run) (now : Drafted) (at : ℕ) → now ≡ pushed gathered run → end_index gathered ≡ at → end_index now ≡ at + 1
-pushed_past gathered run now at e is = ap end_index e ∙ omega (arith, length_push gathered.records run)
+pushed_past : (gathered : Drafted) (run : Run) (now : Drafted) (at : ℕ) → now ≡ pushed gathered run
+    → end_index gathered ≡ at → end_index now ≡ at + 1
+pushed_past gathered run now at e is = ap end_index e
+    ∙ omega (arith, length_push gathered.records run)
 
 pub returns-then-run-high-clause-after : goal.returns-then-run-high-clause-after
 returns-then-run-high-clause-after c =
     let rs = c.args.table.now.records in
     let inv = c.loop-at.invariant in
     let same = ap (λ (t : Table). t.records) inv.table in
-    let start = start_here rs c.loop-at.table.records c.loop-at.at c.visit-run.result same (omega (arith, c.loop-at-test.true, c.count-at-end.ensures.value)) c.visit-run.ensures.value in
+    let start = start_here rs c.loop-at.table.records c.loop-at.at c.visit-run.result same
+        (omega (arith, c.loop-at-test.true, c.count-at-end.ensures.value)) c.visit-run.ensures.value
+        in
     λ low. rw inv.reached (omega (arith, c.if-run-high.true, start))
 
 pub returns-then-run-high-clause-most : goal.returns-then-run-high-clause-most
 returns-then-run-high-clause-most c =
     let inv = c.loop-at.invariant in
-    let begun = count-begun c.args.table.now.records c.args.index c.loop-at.at c.args.high inv.near (omega arith) inv.within in
-    omega (arith, begun, ap (λ (t : Table). t.total) inv.table, ap (λ (t : Table). t.total) c.visit-run.ensures.table)
+    let begun = count-begun c.args.table.now.records c.args.index c.loop-at.at c.args.high inv.near
+        (omega arith) inv.within in
+    omega (arith, begun, ap (λ (t : Table). t.total) inv.table,
+        ap (λ (t : Table). t.total) c.visit-run.ensures.table)
 
 pub returns-then-run-high-2-clause-near : goal.returns-then-run-high-2-clause-near
 returns-then-run-high-2-clause-near c =
     let rs = c.args.table.now.records in
     let inv = c.loop-at.invariant in
     let same = ap (λ (t : Table). t.records) inv.table in
-    let start = start_here rs c.loop-at.table.records c.loop-at.at c.visit-run.result same (omega (arith, c.loop-at-test.true, c.count-at-end.ensures.value)) c.visit-run.ensures.value in
-    let on = pushed_past c.loop-at.gathered c.visit-run.result c.push.new.self c.loop-at.at c.push.ensures inv.reached in
-    rw on (near-more rs c.args.index c.loop-at.at c.args.high c.visit-run.result.start inv.near start (omega (arith, c.if-run-high.false)))
+    let start = start_here rs c.loop-at.table.records c.loop-at.at c.visit-run.result same
+        (omega (arith, c.loop-at-test.true, c.count-at-end.ensures.value)) c.visit-run.ensures.value
+        in
+    let on = pushed_past c.loop-at.gathered c.visit-run.result c.push.new.self c.loop-at.at
+        c.push.ensures inv.reached in
+    rw on (near-more rs c.args.index c.loop-at.at c.args.high c.visit-run.result.start inv.near
+        start (omega (arith, c.if-run-high.false)))
 
 pub returns-then-run-high-2-clause-after : goal.returns-then-run-high-2-clause-after
 returns-then-run-high-2-clause-after c =
     let rs = c.args.table.now.records in
     let inv = c.loop-at.invariant in
     let same = ap (λ (t : Table). t.records) inv.table in
-    let start = start_here rs c.loop-at.table.records c.loop-at.at c.visit-run.result same (omega (arith, c.loop-at-test.true, c.count-at-end.ensures.value)) c.visit-run.ensures.value in
-    let on = pushed_past c.loop-at.gathered c.visit-run.result c.push.new.self c.loop-at.at c.push.ensures inv.reached in
-    rw on (λ low. let up = c.requires.sorted c.loop-at.at (c.loop-at.at + 1) (omega arith) low in omega (arith, c.if-run-high-2.true, start, up))
+    let start = start_here rs c.loop-at.table.records c.loop-at.at c.visit-run.result same
+        (omega (arith, c.loop-at-test.true, c.count-at-end.ensures.value)) c.visit-run.ensures.value
+        in
+    let on = pushed_past c.loop-at.gathered c.visit-run.result c.push.new.self c.loop-at.at
+        c.push.ensures inv.reached in
+    rw on (λ low. let up = c.requires.sorted c.loop-at.at (c.loop-at.at + 1) (omega arith) low in
+        omega (arith, c.if-run-high-2.true, start, up))
 
 pub returns-then-run-high-2-clause-most : goal.returns-then-run-high-2-clause-most
 returns-then-run-high-2-clause-most c =
     let inv = c.loop-at.invariant in
-    let begun = count-begun c.args.table.now.records c.args.index c.loop-at.at c.args.high inv.near (omega arith) inv.within in
-    omega (arith, begun, ap (λ (t : Table). t.total) inv.table, ap (λ (t : Table). t.total) c.visit-run.ensures.table)
+    let begun = count-begun c.args.table.now.records c.args.index c.loop-at.at c.args.high inv.near
+        (omega arith) inv.within in
+    omega (arith, begun, ap (λ (t : Table). t.total) inv.table,
+        ap (λ (t : Table). t.total) c.visit-run.ensures.table)
 
 pub loop-at-preserved : goal.loop-at-preserved
 loop-at-preserved c =
@@ -65,7 +83,8 @@ loop-at-preserved c =
     let run = c.visit-run.result in
     let same = ap (λ (t : Table). t.records) inv.table in
     let low : at < length rs = omega (arith, c.loop-at-test.true, c.count-at-end.ensures.value) in
-    let read : run ≡ slice_index_or rs at run = sym c.visit-run.ensures.value ∙ ap (λ xs. slice_index_or xs at run) same in
+    let read : run ≡ slice_index_or rs at run = sym c.visit-run.ensures.value
+        ∙ ap (λ xs. slice_index_or xs at run) same in
     let start = start_here rs c.loop-at.table.records at run same low c.visit-run.ensures.value in
     let expanded : run.start ≢ c.args.high = c.if-run-high-2.false in
     let on : at - c.args.index + 1 ≡ at + 1 - c.args.index = omega arith in
@@ -73,13 +92,17 @@ loop-at-preserved c =
       from = rw c.push.ensures inv.from;
       reached = pushed_past c.loop-at.gathered run c.push.new.self at c.push.ensures inv.reached;
       within = omega arith;
-      same = rw c.push.ensures (same-splice rs c.loop-at.gathered.records c.loop-at.gathered.from at run low read ∙ inv.same);
-      near = begun-more rs c.args.index at c.args.high run.start inv.near start (omega (arith, c.if-run-high.false, expanded));
-      table = c.visit-run.ensures.table ∙ ap (λ t. visited t 1) inv.table ∙ visited-more c.args.table.now (at - c.args.index) 1 ∙ ap (visited c.args.table.now) on;
+      same = rw c.push.ensures (same-splice rs c.loop-at.gathered.records c.loop-at.gathered.from at
+          run low read ∙ inv.same);
+      near = begun-more rs c.args.index at c.args.high run.start inv.near start
+          (omega (arith, c.if-run-high.false, expanded));
+      table = c.visit-run.ensures.table ∙ ap (λ t. visited t 1) inv.table
+          ∙ visited-more c.args.table.now (at - c.args.index) 1 ∙ ap (visited c.args.table.now) on;
     }
 
 pub returns-clause-most : goal.returns-clause-most
 returns-clause-most c =
     let inv = c.loop-at.invariant in
-    let begun = count-begun c.args.table.now.records c.args.index c.loop-at.at c.args.high inv.near (omega arith) inv.within in
+    let begun = count-begun c.args.table.now.records c.args.index c.loop-at.at c.args.high inv.near
+        (omega arith) inv.within in
     omega (arith, begun, ap (λ (t : Table). t.total) inv.table)

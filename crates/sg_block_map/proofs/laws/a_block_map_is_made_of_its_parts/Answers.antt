@@ -11,7 +11,8 @@ made-of : IsMadeOfParts
 made-of map =
     let none = empty_draft map.table.room in
     let lists : ◌≡◌ {A = (d : Drafted × Drafted) × ((d.0 ≡ none) × (d.1 ≡ none))}
-    ((map.gathered, map.remaining), (map.gathered_empty, map.remaining_empty)) ((none, none), (refl, refl))
+    ((map.gathered, map.remaining), (map.gathered_empty, map.remaining_empty))
+    ((none, none), (refl, refl))
     = Σ_prop_path (λ d. hlevel props) (λ i. (map.gathered_empty i, map.remaining_empty i)) in
     λ i. record {
       capacity = map.capacity;

@@ -4,7 +4,8 @@ use Rattle.std.specs.Prelude.{unwrap_or}
 use Rattle.sg_blocks.specs.Disk.{zero_block}
 use Rattle.sg_blocks.specs.Records.{contents_of}
 use Rattle.sg_block_map.specs.Runs.{expanded}
-use Rattle.sg_block_map.proofs.WalkLemmas.{first-slot, first-block, first-ahead, first-later, first-length, skip-block}
+use Rattle.sg_block_map.proofs.WalkLemmas.{first-slot, first-block, first-ahead, first-later}
+use Rattle.sg_block_map.proofs.WalkLemmas.{first-length, skip-block}
 use Rattle.sg_block_map.proofs.read.read_address.Goals as goal
 
 zeros : (n : ℕ) (xs : List ℕ) → n ≡ 512 → xs ≡ replicate n 0 → xs ≡ zero_block
@@ -15,45 +16,54 @@ pub returns-in_default-clause-bytes : goal.returns-in_default-clause-bytes
 returns-in_default-clause-bytes c =
     let p = c.args.pool.now in
     let w = c.args.walk in
-    let none = skip-block p.next (length p.next) c.args.lba w.at c.args.runs.now w.run p.blocks c.requires.ahead c.requires.range (sym c.run_at.ensures ∙ c.in_default.is) in
-    zeros _ _ c.requires.byte_count (c.fill.ensures.after (λ y e. e)) ∙ sym (ap (λ (o : Option (List ℕ)). unwrap_or o zero_block) none)
+    let none = skip-block p.next (length p.next) c.args.lba w.at c.args.runs.now w.run p.blocks
+        c.requires.ahead c.requires.range (sym c.run_at.ensures ∙ c.in_default.is) in
+    zeros _ _ c.requires.byte_count (c.fill.ensures.after (λ y e. e))
+        ∙ sym (ap (λ (o : Option (List ℕ)). unwrap_or o zero_block) none)
 
 pub bytes-requires : goal.bytes-requires
 bytes-requires c =
     let p = c.args.pool.now in
     let w = c.args.walk in
-    rw c.requires.pool (first-slot p.next (length p.next) c.args.lba w.at c.args.runs.now w.run c.in-Some.run' c.requires.ahead (sym c.run_at.ensures ∙ c.in-Some.is))
+    rw c.requires.pool (first-slot p.next (length p.next) c.args.lba w.at c.args.runs.now w.run
+        c.in-Some.run' c.requires.ahead (sym c.run_at.ensures ∙ c.in-Some.is))
 
 pub pass-requires-clause-slot : goal.pass-requires-clause-slot
 pass-requires-clause-slot c =
     let p = c.args.pool.now in
     let w = c.args.walk in
-    first-slot p.next (length p.next) c.args.lba w.at c.args.runs.now w.run c.in-Some.run' c.requires.ahead (sym c.run_at.ensures ∙ c.in-Some.is)
+    first-slot p.next (length p.next) c.args.lba w.at c.args.runs.now w.run c.in-Some.run'
+        c.requires.ahead (sym c.run_at.ensures ∙ c.in-Some.is)
 
 pub returns-clause-bytes : goal.returns-clause-bytes
 returns-clause-bytes c =
     let p = c.args.pool.now in
     let w = c.args.walk in
     c.copy_from_slice.ensures.after ∙ c.bytes.ensures
-    ∙ sym (first-block p.next (length p.next) c.args.lba w.at c.args.runs.now w.run c.in-Some.run' c.requires.ahead (sym c.run_at.ensures ∙ c.in-Some.is) p.blocks)
+    ∙ sym (first-block p.next (length p.next) c.args.lba w.at c.args.runs.now w.run c.in-Some.run'
+    c.requires.ahead (sym c.run_at.ensures ∙ c.in-Some.is) p.blocks)
 
 pub returns-clause-ahead : goal.returns-clause-ahead
 returns-clause-ahead c =
     let p = c.args.pool.now in
     let w = c.args.walk in
-    rw c.pass.ensures.ahead (first-ahead p.next (length p.next) c.args.lba w.at c.args.runs.now w.run c.in-Some.run' c.requires.ahead (sym c.run_at.ensures ∙ c.in-Some.is))
+    rw c.pass.ensures.ahead (first-ahead p.next
+        (length p.next) c.args.lba w.at c.args.runs.now w.run c.in-Some.run' c.requires.ahead
+        (sym c.run_at.ensures ∙ c.in-Some.is))
 
 pub returns-clause-later : goal.returns-clause-later
 returns-clause-later c =
     let p = c.args.pool.now in
     let w = c.args.walk in
     λ q le. ap (λ xs. map.get (contents_of (expanded p.next xs) p.blocks) q) c.pass.ensures.ahead
-    ∙ first-later p.next (length p.next) c.args.lba w.at c.args.runs.now w.run c.in-Some.run' c.requires.ahead (sym c.run_at.ensures ∙ c.in-Some.is) p.blocks q le
+    ∙ first-later p.next (length p.next) c.args.lba w.at c.args.runs.now w.run c.in-Some.run'
+    c.requires.ahead (sym c.run_at.ensures ∙ c.in-Some.is) p.blocks q le
 
 pub returns-clause-links : goal.returns-clause-links
 returns-clause-links c =
     let p = c.args.pool.now in
     let w = c.args.walk in
-    let len = first-length p.next (length p.next) c.args.lba w.at c.args.runs.now w.run c.in-Some.run' c.requires.ahead (sym c.run_at.ensures ∙ c.in-Some.is) in
+    let len = first-length p.next (length p.next) c.args.lba w.at c.args.runs.now w.run
+        c.in-Some.run' c.requires.ahead (sym c.run_at.ensures ∙ c.in-Some.is) in
     let same = ap (λ xs. length (expanded p.next xs)) c.pass.ensures.ahead in
     omega (arith, len, same, c.pass.ensures.links)

@@ -1,10 +1,11 @@
-use Rattle.std.proofs.Common.{◌≡◌, ℕ, ◌+◌, ◌*◌, List, length, ap, ap₂, sym, ◌∙◌, arith, ◌++◌, add-zero, length-append, Option}
+use Rattle.std.proofs.Common.{◌≡◌, ℕ, ◌+◌, ◌*◌, List, length, ap, ap₂, sym, ◌∙◌, arith, ◌++◌}
+use Rattle.std.proofs.Common.{add-zero, length-append, Option}
 use Rattle.std.proofs.lemmas.Slice.{take-put_mid}
 use Rattle.std.specs.FinMap as map
 use Rattle.std.specs.Prelude.{unwrap_or, option_to_list}
 use Rattle.sg_blocks.specs.Disk.{block, zero_block}
-use Rattle.sg_block_map.specs.Runs.{expanded, chained_contents}
 use Rattle.sg_blocks.specs.Slots.{Slots}
+use Rattle.sg_block_map.specs.Runs.{expanded, chained_contents}
 use Rattle.sg_block_map.specs.Walking.{ahead_of}
 use Rattle.sg_blocks.proofs.DiskLemmas.{blocks-none, blocks-more}
 use Rattle.sg_block_map.proofs.ExpandedLemmas.{expanded-append}
@@ -20,11 +21,16 @@ loop-i-init c =
     let w = c.walk_from-before.result.1 in
     let more = ahead_of runs w.run w.at in
     let fs = option_to_list c.walk_from-before.result.0 in
-    let len = ap length (sym (walk_from-parts p.next runs c.args.lba c.walk_from-before.result.0 more t) ∙ expanded-append p.next fs more) ∙ length-append (expanded p.next fs) (expanded p.next more) in
+    let len = ap length (sym (walk_from-parts p.next runs c.args.lba c.walk_from-before.result.0
+        more t) ∙ expanded-append p.next fs more)
+        ∙ length-append (expanded p.next fs) (expanded p.next more) in
     record {
-      ahead = rw add-zero (walk_from-ahead p.next (length p.next) runs c.args.lba (c.args.lba + c.args.count) c.walk_from-before.result.0 more c.requires.ahead c.requires.near (omega (arith, c.requires.range)) t);
+      ahead = rw add-zero (walk_from-ahead p.next (length p.next) runs c.args.lba
+          (c.args.lba + c.args.count) c.walk_from-before.result.0 more c.requires.ahead
+          c.requires.near (omega (arith, c.requires.range)) t);
       bytes = sym (blocks-none (chained_contents runs p) c.args.lba);
-      later = λ q le. sym (get-walk_from p.next runs c.args.lba (c.args.lba + c.args.count) q c.walk_from-before.result.0 more p.blocks t (omega arith));
+      later = λ q le. sym (get-walk_from p.next runs c.args.lba
+          (c.args.lba + c.args.count) q c.walk_from-before.result.0 more p.blocks t (omega arith));
       pool = c.walk_from-before.ensures.pool;
       rise = c.walk_from-before.ensures.rise;
       links = omega (arith, len, c.walk_from-before.ensures.links);
@@ -41,20 +47,28 @@ loop-i-preserved c =
     let read = c.read_address-walk.new.bytes in
     let next = ap (λ (s : Slots). s.next) inv.pool in
     let bs = ap (λ (s : Slots). s.blocks) inv.pool in
-    let here : c.args.lba + c.from.result ≡ c.args.lba + i = ap (λ x. c.args.lba + x) c.from.ensures in
+    let here : c.args.lba + c.from.result ≡ c.args.lba + i =
+        ap (λ x. c.args.lba + x) c.from.ensures in
     let on : c.args.lba + i + 1 ≡ c.args.lba + (i + 1) = omega arith in
     let len : length read ≡ 512 = omega (arith, c.read_address-walk.auto.bytes) in
-    let found : map.get (chained_contents (ahead_of runs w.run w.at) p) (c.args.lba + i) ≡ map.get (chained_contents runs p) (c.args.lba + i) = inv.later (c.args.lba + i) (omega arith) in
-    let block_read : read ≡ block (chained_contents runs p) (c.args.lba + i) = rw (next, bs, here) at e.bytes ∙ ap (λ (o : Option (List ℕ)). unwrap_or o zero_block) found in
+    let found : map.get (chained_contents (ahead_of runs w.run w.at) p) (c.args.lba + i) ≡
+        map.get (chained_contents runs p) (c.args.lba + i) =
+        inv.later (c.args.lba + i) (omega arith) in
+    let block_read : read ≡ block (chained_contents runs p) (c.args.lba + i) =
+        rw (next, bs, here) at e.bytes
+        ∙ ap (λ (o : Option (List ℕ)). unwrap_or o zero_block) found in
     let ahead = rw (next, here, on) at e.ahead in
     let later = rw (next, bs, here, on) at e.later in
     let links = rw next at e.links in
     record {
       ahead = ahead;
-      bytes = take-put_mid (512 * i) _ c.loop-i.bytes read (512 * (i + 1)) (omega arith) (omega (arith, c.loop-i.auto.bytes))
-          ∙ ap₂ (λ xs ys. xs ++ ys) inv.bytes block_read ∙ sym (blocks-more (chained_contents runs p) c.args.lba i);
+      bytes = take-put_mid (512 * i) _ c.loop-i.bytes read (512 * (i + 1)) (omega arith)
+          (omega (arith, c.loop-i.auto.bytes))
+          ∙ ap₂ (λ xs ys. xs ++ ys) inv.bytes block_read
+          ∙ sym (blocks-more (chained_contents runs p) c.args.lba i);
       later = λ q le. later q le ∙ inv.later q (omega arith);
-      pool = followed-on p c.loop-i.pool c.read_address-walk.new.pool inv.pool inv.rise e.pool e.rise;
+      pool = followed-on p c.loop-i.pool c.read_address-walk.new.pool inv.pool inv.rise e.pool
+          e.rise;
       rise = omega (arith, inv.rise, e.rise);
       links = omega (arith, links, inv.links);
     }

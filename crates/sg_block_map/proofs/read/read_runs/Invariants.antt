@@ -1,8 +1,8 @@
 use Rattle.std.proofs.Common.{◌≡◌, ℕ, ◌+◌, ◌-◌, ◌*◌, ◌≤◌, take, length}
 use Rattle.std.specs.FinMap as map
 use Rattle.sg_blocks.specs.Disk.{blocks}
-use Rattle.sg_block_map.specs.Runs.{expanded, chained_contents}
 use Rattle.sg_blocks.specs.Slots.{followed}
+use Rattle.sg_block_map.specs.Runs.{expanded, chained_contents}
 use Rattle.sg_block_map.specs.Walking.{ahead_of, AreAhead}
 use Rattle.sg_block_map.proofs.read.read_runs.Given as goal
 
@@ -14,8 +14,10 @@ invariant-loop-i l =
     record {
       ahead : AreAhead slots.next (length slots.next) (l.lba + l.i) more;
       bytes : take (512 * l.i) l.bytes ≡ blocks (chained_contents l.runs slots) l.lba l.i;
-      later : (q : ℕ) → l.lba + l.i ≤ q → map.get (chained_contents more slots) q ≡ map.get (chained_contents l.runs slots) q;
+      later : (q : ℕ) → l.lba + l.i ≤ q → map.get (chained_contents more slots) q ≡
+          map.get (chained_contents l.runs slots) q;
       pool : l.pool ≡ followed slots (l.pool.links - slots.links);
       rise : slots.links ≤ l.pool.links;
-      links : l.pool.links + length (expanded slots.next more) ≤ slots.links + length (expanded slots.next l.runs);
+      links : l.pool.links + length (expanded slots.next more) ≤ slots.links + length
+          (expanded slots.next l.runs);
     }

@@ -7,7 +7,8 @@ use Rattle.sg_block_map.proofs.StatusLemmas.{cursor-before, cursor-at, run_table
 use Rattle.sg_block_map.proofs.status.cursor_over.Goals as goal
 
 pub lower_bound-index-requires-clause-sorted : goal.lower_bound-index-requires-clause-sorted
-lower_bound-index-requires-clause-sorted c = run_table-sorted c.requires.table.0 c.args.table.now.records c.requires.table.1
+lower_bound-index-requires-clause-sorted c = run_table-sorted c.requires.table.0
+    c.args.table.now.records c.requires.table.1
 
 pub overflow_sub-lba : goal.overflow_sub-lba
 overflow_sub-lba c =
@@ -15,7 +16,8 @@ overflow_sub-lba c =
     let p = c.lower_bound-index.ensures.index in
     let index = c.lower_bound-index.result in
     let within = p.within in
-    let read = sym (ap (λ (t : Table). slice_index_or t.records (index - 1) c.visit-run.result) c.lower_bound-index.ensures.table) ∙ c.visit-run.ensures.value in
+    let read = sym (ap (λ (t : Table). slice_index_or t.records (index - 1) c.visit-run.result)
+        c.lower_bound-index.ensures.table) ∙ c.visit-run.ensures.value in
     let start = start_of-read rs (index - 1) c.visit-run.result (omega arith) (sym read) in
     omega (arith, p.before (index - 1) (omega arith))
 
@@ -23,7 +25,8 @@ pub returns-then-index-eq0-clause-cursor : goal.returns-then-index-eq0-clause-cu
 returns-then-index-eq0-clause-cursor c =
     let rs = c.args.table.now.records in
     let index = c.lower_bound-index.result in
-    cursor-at rs c.requires.table.0 index c.args.lba c.new.result c.requires.table.1 c.lower_bound-index.ensures.index
+    cursor-at rs c.requires.table.0 index c.args.lba c.new.result c.requires.table.1
+        c.lower_bound-index.ensures.index
     (λ some. absurd (omega arith)) c.new.ensures.index
     (rw c.lower_bound-index.ensures.table at c.new.ensures.next)
 
@@ -33,9 +36,11 @@ returns-then-lba-run-clause-cursor c =
     let index = c.lower_bound-index.result in
     let p = c.lower_bound-index.ensures.index in
     let within = p.within in
-    let read = sym (ap (λ (t : Table). slice_index_or t.records (index - 1) c.visit-run.result) c.lower_bound-index.ensures.table) ∙ c.visit-run.ensures.value in
+    let read = sym (ap (λ (t : Table). slice_index_or t.records (index - 1) c.visit-run.result)
+        c.lower_bound-index.ensures.table) ∙ c.visit-run.ensures.value in
     let start = start_of-read rs (index - 1) c.visit-run.result (omega arith) (sym read) in
-    cursor-before rs c.requires.table.0 index c.args.lba c.visit-run.result c.requires.table.1 p (omega arith) read
+    cursor-before rs c.requires.table.0 index c.args.lba c.visit-run.result c.requires.table.1 p
+        (omega arith) read
     (omega (arith, start, p.before (index - 1) (omega arith), c.if-lba-run.true, c.from.ensures))
 
 pub returns-clause-cursor : goal.returns-clause-cursor
@@ -44,10 +49,13 @@ returns-clause-cursor c =
     let index = c.lower_bound-index.result in
     let p = c.lower_bound-index.ensures.index in
     let within = p.within in
-    let read = sym (ap (λ (t : Table). slice_index_or t.records (index - 1) c.visit-run.result) c.lower_bound-index.ensures.table) ∙ c.visit-run.ensures.value in
+    let read = sym (ap (λ (t : Table). slice_index_or t.records (index - 1) c.visit-run.result)
+        c.lower_bound-index.ensures.table) ∙ c.visit-run.ensures.value in
     let start = start_of-read rs (index - 1) c.visit-run.result (omega arith) (sym read) in
     let end = end_at-read rs (index - 1) c.visit-run.result (omega arith) (sym read) in
-    let same = ap (λ (t : Table). t.records) c.visit-run.ensures.table ∙ ap (λ (t : Table). t.records) c.lower_bound-index.ensures.table in
+    let same = ap (λ (t : Table). t.records) c.visit-run.ensures.table
+        ∙ ap (λ (t : Table). t.records) c.lower_bound-index.ensures.table in
     cursor-at rs c.requires.table.0 index c.args.lba c.new-2.result c.requires.table.1 p
-    (λ some. omega (arith, start, end, p.before (index - 1) (omega arith), c.if-lba-run.false, c.from.ensures)) c.new-2.ensures.index
+    (λ some. omega (arith, start, end, p.before (index - 1) (omega arith), c.if-lba-run.false,
+    c.from.ensures)) c.new-2.ensures.index
     (rw same at c.new-2.ensures.next)

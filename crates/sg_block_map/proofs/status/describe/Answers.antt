@@ -1,6 +1,5 @@
 use Rattle.std.proofs.Common.{◌+◌, ◌-◌, sym, ◌∙◌, arith}
-use Rattle.sg_block_map.proofs.StatusLemmas.{gap-low, gap-described, gap-rest, gap-on}
-use Rattle.sg_block_map.proofs.StatusLemmas.{over-high}
+use Rattle.sg_block_map.proofs.StatusLemmas.{gap-low, gap-described, gap-rest, gap-on, over-high}
 use Rattle.sg_block_map.proofs.StatusLemmas.{over-described, over-met, over-rest, over-on}
 use Rattle.sg_block_map.proofs.status.describe.Goals as goal
 
@@ -9,38 +8,44 @@ pub count_unmapped-count-requires : goal.count_unmapped-count-requires
 count_unmapped-count-requires c =
     omega (
       arith,
-      gap-low c.args.table.now.records c.args.capacity c.args.lba c.args.lba c.args.cursor c.requires.table c.requires.cursor
+      gap-low c.args.table.now.records c.args.capacity c.args.lba c.args.lba c.args.cursor
+          c.requires.table c.requires.cursor
           (sym c.run_over.ensures ∙ c.in_default.is) c.requires.address,
     )
 
 pub returns-in_default-clause-descriptor : goal.returns-in_default-clause-descriptor
 returns-in_default-clause-descriptor c =
-    λ slots. gap-described c.args.table.now.records c.args.capacity c.args.lba c.count_unmapped-count.result c.args.cursor
+    λ slots. gap-described c.args.table.now.records c.args.capacity c.args.lba
+        c.count_unmapped-count.result c.args.cursor
     c.requires.table c.requires.cursor (sym c.run_over.ensures ∙ c.in_default.is) c.requires.address
     c.count_unmapped-count.ensures slots.next slots.blocks
 
 pub returns-in_default-clause-cursor : goal.returns-in_default-clause-cursor
 returns-in_default-clause-cursor c =
-    gap-on c.args.table.now.records c.args.capacity c.args.lba c.count_unmapped-count.result c.args.cursor
+    gap-on c.args.table.now.records c.args.capacity c.args.lba c.count_unmapped-count.result
+        c.args.cursor
     c.requires.table c.requires.cursor (sym c.run_over.ensures ∙ c.in_default.is) c.requires.address
     c.count_unmapped-count.ensures
 
 pub returns-in_default-clause-rest : goal.returns-in_default-clause-rest
 returns-in_default-clause-rest c =
-    gap-rest c.args.table.now.records c.args.capacity c.args.lba c.count_unmapped-count.result c.args.cursor
+    gap-rest c.args.table.now.records c.args.capacity c.args.lba c.count_unmapped-count.result
+        c.args.cursor
     c.requires.table c.requires.cursor (sym c.run_over.ensures ∙ c.in_default.is) c.requires.address
     c.count_unmapped-count.ensures
 
 pub returns-in_default-clause-not_empty : goal.returns-in_default-clause-not_empty
 returns-in_default-clause-not_empty c =
-    let low = gap-low c.args.table.now.records c.args.capacity c.args.lba c.args.lba c.args.cursor c.requires.table c.requires.cursor
+    let low = gap-low c.args.table.now.records c.args.capacity c.args.lba c.args.lba c.args.cursor
+        c.requires.table c.requires.cursor
     (sym c.run_over.ensures ∙ c.in_default.is) c.requires.address in
     omega (arith, low, c.count_unmapped-count.ensures)
 
 -- the address is mapped
 pub overflow_sub-count : goal.overflow_sub-count
 overflow_sub-count c =
-    let high = over-high c.args.table.now.records c.args.capacity c.args.lba c.args.cursor c.requires.table c.requires.cursor
+    let high = over-high c.args.table.now.records c.args.capacity c.args.lba c.args.cursor
+        c.requires.table c.requires.cursor
     c.in-Some.run' (sym c.run_over.ensures ∙ c.in-Some.is) in
     omega (arith, high, c.from.ensures)
 
@@ -48,16 +53,21 @@ pub returns-clause-descriptor : goal.returns-clause-descriptor
 returns-clause-descriptor c =
     let rs = c.args.table.now.records in
     let is = sym c.run_over.ensures ∙ c.in-Some.is in
-    let high = over-high rs c.args.capacity c.args.lba c.args.cursor c.requires.table c.requires.cursor c.in-Some.run' is in
-    λ slots. over-described rs c.args.capacity c.args.lba c.args.cursor c.requires.table c.requires.cursor c.in-Some.run' is
-    (c.in-Some.run'.start + c.from.result - c.args.lba) (omega (arith, high, c.from.ensures)) slots.next slots.blocks
+    let high = over-high rs c.args.capacity c.args.lba c.args.cursor c.requires.table
+        c.requires.cursor c.in-Some.run' is in
+    λ slots. over-described rs c.args.capacity c.args.lba c.args.cursor c.requires.table
+        c.requires.cursor c.in-Some.run' is
+    (c.in-Some.run'.start + c.from.result - c.args.lba)
+    (omega (arith, high, c.from.ensures)) slots.next slots.blocks
 
 pub returns-clause-cursor : goal.returns-clause-cursor
 returns-clause-cursor c =
     let rs = c.args.table.now.records in
     let is = sym c.run_over.ensures ∙ c.in-Some.is in
-    let high = over-high rs c.args.capacity c.args.lba c.args.cursor c.requires.table c.requires.cursor c.in-Some.run' is in
-    over-on rs c.args.capacity c.args.lba c.args.cursor c.requires.table c.requires.cursor c.in-Some.run' is
+    let high = over-high rs c.args.capacity c.args.lba c.args.cursor c.requires.table
+        c.requires.cursor c.in-Some.run' is in
+    over-on rs c.args.capacity c.args.lba c.args.cursor c.requires.table c.requires.cursor
+        c.in-Some.run' is
     (c.in-Some.run'.start + c.from.result - c.args.lba) (omega (arith, high, c.from.ensures))
     c.new-end.result c.new-end.ensures.index c.new-end.ensures.next
 
@@ -65,20 +75,27 @@ pub returns-clause-met : goal.returns-clause-met
 returns-clause-met c =
     let rs = c.args.table.now.records in
     let is = sym c.run_over.ensures ∙ c.in-Some.is in
-    let high = over-high rs c.args.capacity c.args.lba c.args.cursor c.requires.table c.requires.cursor c.in-Some.run' is in
-    rw c.new-end.ensures.index (over-met rs c.args.capacity c.args.lba c.args.cursor c.requires.table c.requires.cursor c.in-Some.run' is
+    let high = over-high rs c.args.capacity c.args.lba c.args.cursor c.requires.table
+        c.requires.cursor c.in-Some.run' is in
+    rw c.new-end.ensures.index
+        (over-met rs c.args.capacity c.args.lba c.args.cursor c.requires.table c.requires.cursor
+        c.in-Some.run' is
     (c.in-Some.run'.start + c.from.result - c.args.lba) (omega (arith, high, c.from.ensures)))
 
 pub returns-clause-rest : goal.returns-clause-rest
 returns-clause-rest c =
     let rs = c.args.table.now.records in
     let is = sym c.run_over.ensures ∙ c.in-Some.is in
-    let high = over-high rs c.args.capacity c.args.lba c.args.cursor c.requires.table c.requires.cursor c.in-Some.run' is in
-    rw c.new-end.ensures.index (over-rest rs c.args.capacity c.args.lba c.args.cursor c.requires.table c.requires.cursor c.in-Some.run' is
+    let high = over-high rs c.args.capacity c.args.lba c.args.cursor c.requires.table
+        c.requires.cursor c.in-Some.run' is in
+    rw c.new-end.ensures.index
+        (over-rest rs c.args.capacity c.args.lba c.args.cursor c.requires.table c.requires.cursor
+        c.in-Some.run' is
     (c.in-Some.run'.start + c.from.result - c.args.lba) (omega (arith, high, c.from.ensures)))
 
 pub returns-clause-not_empty : goal.returns-clause-not_empty
 returns-clause-not_empty c =
-    let high = over-high c.args.table.now.records c.args.capacity c.args.lba c.args.cursor c.requires.table c.requires.cursor
+    let high = over-high c.args.table.now.records c.args.capacity c.args.lba c.args.cursor
+        c.requires.table c.requires.cursor
     c.in-Some.run' (sym c.run_over.ensures ∙ c.in-Some.is) in
     omega (arith, high, c.from.ensures)

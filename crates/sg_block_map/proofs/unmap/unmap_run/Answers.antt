@@ -1,9 +1,11 @@
 use Rattle.std.proofs.Common.{◌≡◌, ◌++◌, [], ◌∷◌, length, ap, sym, ◌∙◌, arith}
 use Rattle.std.specs.Prelude.{option_to_list}
-use Rattle.sg_block_map.specs.Runs.{expanded, singles_of}
-use Rattle.sg_blocks.specs.Slots.{Slots}
 use Rattle.sg_blocks.specs.Draft.{Drafted}
-use Rattle.sg_block_map.proofs.CutLemmas.{slots-one, length-part, part-slots, part-length, part-below, parts-twice, rest-chained, cut-front, cut-twice}
+use Rattle.sg_blocks.specs.Slots.{Slots}
+use Rattle.sg_block_map.specs.Runs.{expanded, singles_of}
+use Rattle.sg_block_map.proofs.CutLemmas.{slots-one, length-part, part-slots, part-length}
+use Rattle.sg_block_map.proofs.CutLemmas.{part-below, parts-twice, rest-chained, cut-front}
+use Rattle.sg_block_map.proofs.CutLemmas.{cut-twice}
 use Rattle.sg_block_map.proofs.unmap.unmap_run.Goals as goal
 
 pub returns-in_default-clause-cut : goal.returns-in_default-clause-cut
@@ -11,14 +13,17 @@ returns-in_default-clause-cut c =
     let p = c.args.pool.now in
     let one = rw c.in_default.is at c.split_at-front.ensures.split in
     let pool = c.split_at-front.ensures.pool in
-    cut-front p c.split_at-front.new.pool c.args.remaining.now.records c.keep.new.remaining.records c.args.run c.args.low c.args.high c.split_at-front.result.0 one
-    (ap (λ (d : Drafted). d.records) c.keep.ensures) (ap (λ (s : Slots). s.next) pool) (ap (λ (s : Slots). s.free) pool) (ap (λ (s : Slots). s.blocks) pool)
+    cut-front p c.split_at-front.new.pool c.args.remaining.now.records c.keep.new.remaining.records
+        c.args.run c.args.low c.args.high c.split_at-front.result.0 one
+    (ap (λ (d : Drafted). d.records) c.keep.ensures) (ap (λ (s : Slots). s.next) pool)
+    (ap (λ (s : Slots). s.free) pool) (ap (λ (s : Slots). s.blocks) pool)
 
 pub returns-in_default-clause-links : goal.returns-in_default-clause-links
 returns-in_default-clause-links c =
     let p = c.args.pool.now in
     let one = rw c.in_default.is at c.split_at-front.ensures.split in
-    let len = part-length p.next c.args.run (option_to_list c.split_at-front.result.0) [] [] one.parts in
+    let len = part-length p.next c.args.run (option_to_list c.split_at-front.result.0) [] []
+        one.parts in
     omega (arith, len, c.split_at-front.ensures.links)
 
 pub split_at-gone-requires-clause-chain : goal.split_at-gone-requires-clause-chain
@@ -34,16 +39,20 @@ split_at-gone-requires-clause-below c =
     let rest = c.in-Some.rest in
     let one = rw c.in-Some.is at c.split_at-front.ensures.split in
     let next = ap (λ (s : Slots). s.next) c.split_at-front.ensures.pool in
-    let parts : expanded p.next (option_to_list c.split_at-front.result.0 ++ (rest ∷ [] ++ [])) ≡ singles_of p.next c.args.run = one.parts in
-    rw (next, sym (slots-one p.next rest)) (part-below p.next (length p.next) c.args.run (option_to_list c.split_at-front.result.0) (rest ∷ []) [] parts c.requires.below)
+    let parts : expanded p.next (option_to_list c.split_at-front.result.0 ++ (rest ∷ [] ++ [])) ≡
+        singles_of p.next c.args.run = one.parts in
+    rw (next, sym (slots-one p.next rest)) (part-below p.next (length p.next) c.args.run
+        (option_to_list c.split_at-front.result.0) (rest ∷ []) [] parts c.requires.below)
 
 pub split_at-gone-requires-clause-headroom : goal.split_at-gone-requires-clause-headroom
 split_at-gone-requires-clause-headroom c =
     let p = c.args.pool.now in
     let rest = c.in-Some.rest in
     let one = rw c.in-Some.is at c.split_at-front.ensures.split in
-    let parts : expanded p.next (option_to_list c.split_at-front.result.0 ++ (rest ∷ [] ++ [])) ≡ singles_of p.next c.args.run = one.parts in
-    let len = part-length p.next c.args.run (option_to_list c.split_at-front.result.0) (rest ∷ []) [] parts in
+    let parts : expanded p.next (option_to_list c.split_at-front.result.0 ++ (rest ∷ [] ++ [])) ≡
+        singles_of p.next c.args.run = one.parts in
+    let len = part-length p.next c.args.run (option_to_list c.split_at-front.result.0)
+        (rest ∷ []) [] parts in
     let own = length-part p.next rest in
     omega (arith, len, own, c.split_at-front.ensures.links, c.requires.headroom)
 
@@ -54,9 +63,12 @@ give-requires-clause-below c =
     let first = ap (λ (s : Slots). s.next) c.split_at-front.ensures.pool in
     let next = ap (λ (s : Slots). s.next) c.split_at-gone.ensures.pool ∙ first in
     let two = rw first at c.split_at-gone.ensures.split in
-    let front = c.split_at-front.result.0 in let gone = c.split_at-gone.result.0 in let back = c.split_at-gone.result.1 in
-    rw next (part-below p.next (length p.next) c.args.run (option_to_list front) (option_to_list gone) (option_to_list back)
-    (parts-twice p.next c.args.run c.in-Some.rest c.args.low c.args.high front gone back one two) c.requires.below)
+    let front = c.split_at-front.result.0 in let gone = c.split_at-gone.result.0 in
+        let back = c.split_at-gone.result.1 in
+    rw next (part-below p.next (length p.next) c.args.run (option_to_list front)
+        (option_to_list gone) (option_to_list back)
+    (parts-twice p.next c.args.run c.in-Some.rest c.args.low c.args.high front gone back one two)
+    c.requires.below)
 
 pub give-requires-clause-distinct : goal.give-requires-clause-distinct
 give-requires-clause-distinct c =
@@ -64,11 +76,15 @@ give-requires-clause-distinct c =
     let one = rw c.in-Some.is at c.split_at-front.ensures.split in
     let first = ap (λ (s : Slots). s.next) c.split_at-front.ensures.pool in
     let next = ap (λ (s : Slots). s.next) c.split_at-gone.ensures.pool ∙ first in
-    let free = ap (λ (s : Slots). s.free) c.split_at-gone.ensures.pool ∙ ap (λ (s : Slots). s.free) c.split_at-front.ensures.pool in
+    let free = ap (λ (s : Slots). s.free) c.split_at-gone.ensures.pool
+        ∙ ap (λ (s : Slots). s.free) c.split_at-front.ensures.pool in
     let two = rw first at c.split_at-gone.ensures.split in
-    let front = c.split_at-front.result.0 in let gone = c.split_at-gone.result.0 in let back = c.split_at-gone.result.1 in
+    let front = c.split_at-front.result.0 in let gone = c.split_at-gone.result.0 in
+        let back = c.split_at-gone.result.1 in
     rw (next, free) (λ s.
-    let parts = part-slots p.next c.args.run (option_to_list front) (option_to_list gone) (option_to_list back) s (parts-twice p.next c.args.run c.in-Some.rest c.args.low c.args.high front gone back one two) in
+    let parts = part-slots p.next c.args.run (option_to_list front) (option_to_list gone)
+        (option_to_list back) s (parts-twice p.next c.args.run c.in-Some.rest c.args.low c.args.high
+        front gone back one two) in
     let d = c.requires.distinct s in
     omega arith)
 
@@ -78,10 +94,14 @@ give-requires-clause-room c =
     let one = rw c.in-Some.is at c.split_at-front.ensures.split in
     let first = ap (λ (s : Slots). s.next) c.split_at-front.ensures.pool in
     let next = ap (λ (s : Slots). s.next) c.split_at-gone.ensures.pool ∙ first in
-    let free = ap (λ (s : Slots). s.free) c.split_at-gone.ensures.pool ∙ ap (λ (s : Slots). s.free) c.split_at-front.ensures.pool in
+    let free = ap (λ (s : Slots). s.free) c.split_at-gone.ensures.pool
+        ∙ ap (λ (s : Slots). s.free) c.split_at-front.ensures.pool in
     let two = rw first at c.split_at-gone.ensures.split in
-    let front = c.split_at-front.result.0 in let gone = c.split_at-gone.result.0 in let back = c.split_at-gone.result.1 in
-    let len = part-length p.next c.args.run (option_to_list front) (option_to_list gone) (option_to_list back) (parts-twice p.next c.args.run c.in-Some.rest c.args.low c.args.high front gone back one two) in
+    let front = c.split_at-front.result.0 in let gone = c.split_at-gone.result.0 in
+        let back = c.split_at-gone.result.1 in
+    let len = part-length p.next c.args.run (option_to_list front) (option_to_list gone)
+        (option_to_list back) (parts-twice p.next c.args.run c.in-Some.rest c.args.low c.args.high
+        front gone back one two) in
     rw (next, free) (omega (arith, len, c.requires.slots))
 
 pub returns-clause-cut : goal.returns-clause-cut
@@ -90,13 +110,19 @@ returns-clause-cut c =
     let one = rw c.in-Some.is at c.split_at-front.ensures.split in
     let first = ap (λ (s : Slots). s.next) c.split_at-front.ensures.pool in
     let next = ap (λ (s : Slots). s.next) c.split_at-gone.ensures.pool ∙ first in
-    let free = ap (λ (s : Slots). s.free) c.split_at-gone.ensures.pool ∙ ap (λ (s : Slots). s.free) c.split_at-front.ensures.pool in
-    let bs = ap (λ (s : Slots). s.blocks) c.split_at-gone.ensures.pool ∙ ap (λ (s : Slots). s.blocks) c.split_at-front.ensures.pool in
+    let free = ap (λ (s : Slots). s.free) c.split_at-gone.ensures.pool
+        ∙ ap (λ (s : Slots). s.free) c.split_at-front.ensures.pool in
+    let bs = ap (λ (s : Slots). s.blocks) c.split_at-gone.ensures.pool
+        ∙ ap (λ (s : Slots). s.blocks) c.split_at-front.ensures.pool in
     let two = rw first at c.split_at-gone.ensures.split in
-    let front = c.split_at-front.result.0 in let gone = c.split_at-gone.result.0 in let back = c.split_at-gone.result.1 in
-    cut-twice p c.give.new.pool c.args.remaining.now.records c.keep-2.new.remaining.records c.args.run c.in-Some.rest c.args.low c.args.high front gone back one two
-    (ap (λ (d : Drafted). d.records) c.keep-2.ensures ∙ ap (λ (d : Drafted). d.records ++ option_to_list back) c.keep.ensures)
-    (rw (next, free) at c.give.ensures.free) (rw next at c.give.ensures.stays) (c.give.ensures.length ∙ ap length next) (ap (λ (s : Slots). s.blocks) c.give.ensures.pool ∙ bs)
+    let front = c.split_at-front.result.0 in let gone = c.split_at-gone.result.0 in
+        let back = c.split_at-gone.result.1 in
+    cut-twice p c.give.new.pool c.args.remaining.now.records c.keep-2.new.remaining.records
+        c.args.run c.in-Some.rest c.args.low c.args.high front gone back one two
+    (ap (λ (d : Drafted). d.records) c.keep-2.ensures
+    ∙ ap (λ (d : Drafted). d.records ++ option_to_list back) c.keep.ensures)
+    (rw (next, free) at c.give.ensures.free) (rw next at c.give.ensures.stays)
+    (c.give.ensures.length ∙ ap length next) (ap (λ (s : Slots). s.blocks) c.give.ensures.pool ∙ bs)
 
 pub returns-clause-links : goal.returns-clause-links
 returns-clause-links c =
@@ -104,8 +130,11 @@ returns-clause-links c =
     let one = rw c.in-Some.is at c.split_at-front.ensures.split in
     let first = ap (λ (s : Slots). s.next) c.split_at-front.ensures.pool in
     let two = rw first at c.split_at-gone.ensures.split in
-    let front = c.split_at-front.result.0 in let gone = c.split_at-gone.result.0 in let back = c.split_at-gone.result.1 in
-    let len = part-length p.next c.args.run (option_to_list front) (option_to_list gone) (option_to_list back) (parts-twice p.next c.args.run c.in-Some.rest c.args.low c.args.high front gone back one two) in
+    let front = c.split_at-front.result.0 in let gone = c.split_at-gone.result.0 in
+        let back = c.split_at-gone.result.1 in
+    let len = part-length p.next c.args.run (option_to_list front) (option_to_list gone)
+        (option_to_list back) (parts-twice p.next c.args.run c.in-Some.rest c.args.low c.args.high
+        front gone back one two) in
     let links = rw first at c.split_at-gone.ensures.links in
     let same = ap (λ (s : Slots). s.links) c.give.ensures.pool in
     omega (arith, len, links, same, c.split_at-front.ensures.links)

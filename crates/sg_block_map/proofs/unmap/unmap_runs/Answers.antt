@@ -1,27 +1,35 @@
-use Rattle.std.proofs.Common.{◌≡◌, ℕ, ◌+◌, ◌-◌, ◌<◌, ◌≤◌, List, ◌∷◌, ◌++◌, length, take, drop, ap, sym, ◌∙◌, arith, refl, length-append, length-drop}
+use Rattle.std.proofs.Common.{◌≡◌, ℕ, ◌+◌, ◌-◌, ◌<◌, ◌≤◌, List, ◌∷◌, ◌++◌, length, take, drop, ap}
+use Rattle.std.proofs.Common.{sym, ◌∙◌, arith, refl, length-append, length-drop}
 use Rattle.std.proofs.lemmas.List.{take-append-drop, length-take-le}
 use Rattle.std.proofs.lemmas.List.Sums.{sum_by_more, sum_by-take-le}
 use Rattle.std.specs.List.{splice}
 use Rattle.std.specs.Prelude.{slice_index_or}
 use Rattle.sg_blocks.specs.Disk.{unmapped}
-use Rattle.sg_block_map.specs.Gathering.{AreGathered}
+use Rattle.sg_blocks.specs.Draft.{Drafted}
 use Rattle.sg_blocks.specs.Records.{contents_of}
-use Rattle.sg_block_map.specs.Runs.{expanded, AreRuns}
 use Rattle.sg_blocks.specs.Slots.{Slots}
 use Rattle.sg_blocks.specs.Table.{Table}
-use Rattle.sg_blocks.specs.Draft.{Drafted}
 use Rattle.sg_blocks.specs.declared.run.Run.{Run}
-use Rattle.sg_block_map.proofs.ExpandedLemmas.{expanded-none}
-use Rattle.sg_block_map.proofs.CutRunsLemmas.{cut-runs, cut-contents, cut-outside, run-chain, run-distinct, run-below, run-lengths, run-range, runs-fit, gathered-here, nothing-left, gathered-blocks}
-use Rattle.sg_block_map.proofs.unmap.unmap_runs.Goals as goal
 use Rattle.sg_blocks.specs.declared.store.TheConstants.{MAX_CAPACITY}
+use Rattle.sg_block_map.specs.Gathering.{AreGathered}
+use Rattle.sg_block_map.specs.Runs.{expanded, AreRuns}
+use Rattle.sg_block_map.proofs.CutRunsLemmas.{cut-runs, cut-contents, cut-outside, run-chain}
+use Rattle.sg_block_map.proofs.CutRunsLemmas.{run-distinct, run-below, run-lengths, run-range}
+use Rattle.sg_block_map.proofs.CutRunsLemmas.{runs-fit, gathered-here, nothing-left}
+use Rattle.sg_block_map.proofs.CutRunsLemmas.{gathered-blocks}
+use Rattle.sg_block_map.proofs.ExpandedLemmas.{expanded-none}
+use Rattle.sg_block_map.proofs.unmap.unmap_runs.Goals as goal
 
 abbrev no_run : Run
 no_run = record { start = 0; count = 0; first = 0; last = 0 }
 
 -- the table with the runs so far cut, where another run follows
-here : (rs kept runs : List Run) (gathered : Drafted) (slots : Slots) (room low high bound from i : ℕ) → AreGathered rs gathered low high bound → runs ≡ gathered.records → from ≡ gathered.from → i < length runs → AreRuns (splice rs from (from + i) kept) slots room
-    → AreRuns (take gathered.from rs ++ (kept ++ slice_index_or runs i no_run ∷ drop (gathered.from + (i + 1)) rs)) slots room
+here : (rs kept runs : List Run) (gathered : Drafted) (slots : Slots)
+    (room low high bound from i : ℕ) → AreGathered rs gathered low high bound
+    → runs ≡ gathered.records → from ≡ gathered.from → i < length runs
+    → AreRuns (splice rs from (from + i) kept) slots room
+    → AreRuns (take gathered.from rs ++ (kept ++ slice_index_or runs i no_run ∷ drop
+    (gathered.from + (i + 1)) rs)) slots room
 here rs kept runs gathered slots room low high bound from i g same starts_in lt h =
     let lt' : i < length gathered.records = rw (sym same) lt in
     rw same (rw (starts_in, gathered-here rs kept gathered low high bound i no_run g lt') at h)
@@ -31,7 +39,9 @@ loop-i-init c =
     let rs = c.args.table.now.records in
     let none = ap (λ (d : Drafted). d.records) c.begin.ensures in
     let whole : splice rs c.from-from.result (c.from-from.result + 0) c.begin.new.self.records ≡ rs
-    = ap (λ n. splice rs c.from-from.result n c.begin.new.self.records) (omega arith) ∙ ap (splice rs c.from-from.result c.from-from.result) none ∙ take-append-drop c.from-from.result rs in
+    = ap (λ n. splice rs c.from-from.result n c.begin.new.self.records) (omega arith)
+        ∙ ap (splice rs c.from-from.result c.from-from.result) none
+        ∙ take-append-drop c.from-from.result rs in
     record {
       runs = rw whole c.requires.runs;
       same = λ blocks. rw whole refl;
@@ -51,7 +61,9 @@ unmap_run-requires-clause-chain c =
     let run : Run = slice_index_or c.records-runs.result.now c.loop-i.i no_run in
     let xs : List Run = take gathered.from rs in
     let tail : List Run = drop (gathered.from + (c.loop-i.i + 1)) rs in
-    let now = here rs kept c.records-runs.result.now gathered c.loop-i.pool c.args.table.now.room c.args.low c.args.high (MAX_CAPACITY + 1) c.from-from.result c.loop-i.i c.requires.gathered c.records-runs.ensures c.from-from.ensures c.loop-i-test.true inv.runs in
+    let now = here rs kept c.records-runs.result.now gathered c.loop-i.pool c.args.table.now.room
+        c.args.low c.args.high (MAX_CAPACITY + 1) c.from-from.result c.loop-i.i c.requires.gathered
+        c.records-runs.ensures c.from-from.ensures c.loop-i-test.true inv.runs in
     run-chain xs kept tail run c.loop-i.pool c.args.table.now.room now
 
 pub unmap_run-requires-clause-below : goal.unmap_run-requires-clause-below
@@ -63,7 +75,9 @@ unmap_run-requires-clause-below c =
     let run : Run = slice_index_or c.records-runs.result.now c.loop-i.i no_run in
     let xs : List Run = take gathered.from rs in
     let tail : List Run = drop (gathered.from + (c.loop-i.i + 1)) rs in
-    let now = here rs kept c.records-runs.result.now gathered c.loop-i.pool c.args.table.now.room c.args.low c.args.high (MAX_CAPACITY + 1) c.from-from.result c.loop-i.i c.requires.gathered c.records-runs.ensures c.from-from.ensures c.loop-i-test.true inv.runs in
+    let now = here rs kept c.records-runs.result.now gathered c.loop-i.pool c.args.table.now.room
+        c.args.low c.args.high (MAX_CAPACITY + 1) c.from-from.result c.loop-i.i c.requires.gathered
+        c.records-runs.ensures c.from-from.ensures c.loop-i-test.true inv.runs in
     run-below xs kept tail run c.loop-i.pool c.args.table.now.room now
 
 pub unmap_run-requires-clause-distinct : goal.unmap_run-requires-clause-distinct
@@ -75,7 +89,9 @@ unmap_run-requires-clause-distinct c =
     let run : Run = slice_index_or c.records-runs.result.now c.loop-i.i no_run in
     let xs : List Run = take gathered.from rs in
     let tail : List Run = drop (gathered.from + (c.loop-i.i + 1)) rs in
-    let now = here rs kept c.records-runs.result.now gathered c.loop-i.pool c.args.table.now.room c.args.low c.args.high (MAX_CAPACITY + 1) c.from-from.result c.loop-i.i c.requires.gathered c.records-runs.ensures c.from-from.ensures c.loop-i-test.true inv.runs in
+    let now = here rs kept c.records-runs.result.now gathered c.loop-i.pool c.args.table.now.room
+        c.args.low c.args.high (MAX_CAPACITY + 1) c.from-from.result c.loop-i.i c.requires.gathered
+        c.records-runs.ensures c.from-from.ensures c.loop-i-test.true inv.runs in
     run-distinct xs kept tail run c.loop-i.pool c.args.table.now.room now
 
 pub unmap_run-requires-clause-slots : goal.unmap_run-requires-clause-slots
@@ -87,7 +103,9 @@ unmap_run-requires-clause-slots c =
     let run : Run = slice_index_or c.records-runs.result.now c.loop-i.i no_run in
     let xs : List Run = take gathered.from rs in
     let tail : List Run = drop (gathered.from + (c.loop-i.i + 1)) rs in
-    let now = here rs kept c.records-runs.result.now gathered c.loop-i.pool c.args.table.now.room c.args.low c.args.high (MAX_CAPACITY + 1) c.from-from.result c.loop-i.i c.requires.gathered c.records-runs.ensures c.from-from.ensures c.loop-i-test.true inv.runs in
+    let now = here rs kept c.records-runs.result.now gathered c.loop-i.pool c.args.table.now.room
+        c.args.low c.args.high (MAX_CAPACITY + 1) c.from-from.result c.loop-i.i c.requires.gathered
+        c.records-runs.ensures c.from-from.ensures c.loop-i-test.true inv.runs in
     let l = run-lengths xs kept tail run c.loop-i.pool c.args.table.now.room now in
     omega (arith, l.0, c.requires.room.1)
 
@@ -100,7 +118,9 @@ unmap_run-requires-clause-room c =
     let run : Run = slice_index_or c.records-runs.result.now c.loop-i.i no_run in
     let xs : List Run = take gathered.from rs in
     let tail : List Run = drop (gathered.from + (c.loop-i.i + 1)) rs in
-    let now = here rs kept c.records-runs.result.now gathered c.loop-i.pool c.args.table.now.room c.args.low c.args.high (MAX_CAPACITY + 1) c.from-from.result c.loop-i.i c.requires.gathered c.records-runs.ensures c.from-from.ensures c.loop-i-test.true inv.runs in
+    let now = here rs kept c.records-runs.result.now gathered c.loop-i.pool c.args.table.now.room
+        c.args.low c.args.high (MAX_CAPACITY + 1) c.from-from.result c.loop-i.i c.requires.gathered
+        c.records-runs.ensures c.from-from.ensures c.loop-i-test.true inv.runs in
     let l = run-lengths xs kept tail run c.loop-i.pool c.args.table.now.room now in
     omega (arith, l.1, inv.remaining.1)
 
@@ -113,7 +133,9 @@ unmap_run-requires-clause-range c =
     let run : Run = slice_index_or c.records-runs.result.now c.loop-i.i no_run in
     let xs : List Run = take gathered.from rs in
     let tail : List Run = drop (gathered.from + (c.loop-i.i + 1)) rs in
-    let now = here rs kept c.records-runs.result.now gathered c.loop-i.pool c.args.table.now.room c.args.low c.args.high (MAX_CAPACITY + 1) c.from-from.result c.loop-i.i c.requires.gathered c.records-runs.ensures c.from-from.ensures c.loop-i-test.true inv.runs in
+    let now = here rs kept c.records-runs.result.now gathered c.loop-i.pool c.args.table.now.room
+        c.args.low c.args.high (MAX_CAPACITY + 1) c.from-from.result c.loop-i.i c.requires.gathered
+        c.records-runs.ensures c.from-from.ensures c.loop-i-test.true inv.runs in
     run-range xs kept tail run c.loop-i.pool c.args.table.now.room now
 
 pub unmap_run-requires-clause-headroom : goal.unmap_run-requires-clause-headroom
@@ -125,9 +147,12 @@ unmap_run-requires-clause-headroom c =
     let run : Run = slice_index_or c.records-runs.result.now c.loop-i.i no_run in
     let xs : List Run = take gathered.from rs in
     let tail : List Run = drop (gathered.from + (c.loop-i.i + 1)) rs in
-    let now = here rs kept c.records-runs.result.now gathered c.loop-i.pool c.args.table.now.room c.args.low c.args.high (MAX_CAPACITY + 1) c.from-from.result c.loop-i.i c.requires.gathered c.records-runs.ensures c.from-from.ensures c.loop-i-test.true inv.runs in
+    let now = here rs kept c.records-runs.result.now gathered c.loop-i.pool c.args.table.now.room
+        c.args.low c.args.high (MAX_CAPACITY + 1) c.from-from.result c.loop-i.i c.requires.gathered
+        c.records-runs.ensures c.from-from.ensures c.loop-i-test.true inv.runs in
     let l = run-lengths xs kept tail run c.loop-i.pool c.args.table.now.room now in
-    let few = gathered-blocks rs gathered c.args.pool.now c.args.table.now.room c.args.low c.args.high (MAX_CAPACITY + 1) c.requires.runs c.requires.gathered in
+    let few = gathered-blocks rs gathered c.args.pool.now c.args.table.now.room c.args.low
+        c.args.high (MAX_CAPACITY + 1) c.requires.runs c.requires.gathered in
     let part = sum_by-take-le (λ (r : Run). r.count) gathered.records c.loop-i.i in
     omega (arith, l.0, inv.links, c.requires.headroom, c.requires.room.1)
 
@@ -140,20 +165,32 @@ loop-i-preserved c =
     let run : Run = slice_index_or c.records-runs.result.now c.loop-i.i no_run in
     let xs : List Run = take gathered.from rs in
     let tail : List Run = drop (gathered.from + (c.loop-i.i + 1)) rs in
-    let now = here rs kept c.records-runs.result.now gathered c.loop-i.pool c.args.table.now.room c.args.low c.args.high (MAX_CAPACITY + 1) c.from-from.result c.loop-i.i c.requires.gathered c.records-runs.ensures c.from-from.ensures c.loop-i-test.true inv.runs in
+    let now = here rs kept c.records-runs.result.now gathered c.loop-i.pool c.args.table.now.room
+        c.args.low c.args.high (MAX_CAPACITY + 1) c.from-from.result c.loop-i.i c.requires.gathered
+        c.records-runs.ensures c.from-from.ensures c.loop-i-test.true inv.runs in
     let e = c.unmap_run.ensures in
     let order : c.args.low ≤ c.args.high = omega (arith, c.requires.order) in
-    let was : splice rs c.from-from.result (c.from-from.result + c.loop-i.i) kept ≡ xs ++ (kept ++ run ∷ tail)
-    = rw (c.from-from.ensures, c.records-runs.ensures) (gathered-here rs kept gathered c.args.low c.args.high (MAX_CAPACITY + 1) c.loop-i.i no_run c.requires.gathered (rw c.records-runs.ensures at c.loop-i-test.true)) in
-    let is : splice rs c.from-from.result (c.from-from.result + (c.loop-i.i + 1)) c.unmap_run.new.remaining.records ≡ xs ++ (c.unmap_run.new.remaining.records ++ tail) = rw c.from-from.ensures refl in
-    let links = sum_by_more (λ (r : Run). r.count) gathered.records c.loop-i.i no_run (rw c.records-runs.ensures at c.loop-i-test.true) in
+    let was : splice rs c.from-from.result (c.from-from.result + c.loop-i.i) kept ≡
+        xs ++ (kept ++ run ∷ tail)
+    = rw (c.from-from.ensures, c.records-runs.ensures)
+        (gathered-here rs kept gathered c.args.low c.args.high
+        (MAX_CAPACITY + 1) c.loop-i.i no_run c.requires.gathered
+        (rw c.records-runs.ensures at c.loop-i-test.true)) in
+    let is : splice rs c.from-from.result (c.from-from.result + (c.loop-i.i + 1))
+        c.unmap_run.new.remaining.records ≡ xs ++ (c.unmap_run.new.remaining.records ++ tail) =
+        rw c.from-from.ensures refl in
+    let links = sum_by_more (λ (r : Run). r.count) gathered.records c.loop-i.i no_run
+        (rw c.records-runs.ensures at c.loop-i-test.true) in
     let count = ap (λ rs. (slice_index_or rs c.loop-i.i no_run).count) c.records-runs.ensures in
     record {
       runs = rw is (cut-runs e.cut xs tail now c.requires.order);
-      same = λ blocks. ap (λ zs. unmapped (contents_of (expanded c.unmap_run.new.pool.next zs) blocks) c.args.low (c.args.high - c.args.low)) is
+      same = λ blocks. ap (λ zs. unmapped (contents_of
+          (expanded c.unmap_run.new.pool.next zs) blocks) c.args.low (c.args.high - c.args.low)) is
           ∙ cut-contents e.cut xs tail now order blocks
-          ∙ ap (λ zs. unmapped (contents_of (expanded c.loop-i.pool.next zs) blocks) c.args.low (c.args.high - c.args.low)) (sym was) ∙ inv.same blocks;
-      none = λ blocks q le lt. cut-outside e.cut xs tail now blocks q le lt (inv.none blocks q le lt);
+          ∙ ap (λ zs. unmapped (contents_of (expanded c.loop-i.pool.next zs) blocks) c.args.low
+          (c.args.high - c.args.low)) (sym was) ∙ inv.same blocks;
+      none = λ blocks q le lt. cut-outside e.cut xs tail now blocks q le lt
+          (inv.none blocks q le lt);
       remaining = rw e.draft inv.remaining;
       blocks = e.cut.blocks ∙ inv.blocks;
       rise = omega (arith, inv.rise, e.rise);
@@ -162,8 +199,10 @@ loop-i-preserved c =
 
 pub overflow_add-from : goal.overflow_add-from
 overflow_add-from c =
-    let fit = runs-fit c.args.table.now.records c.args.pool.now c.args.table.now.room c.requires.runs in
-    record { fits = omega (arith, fit, c.requires.room.1, c.requires.gathered.within, c.from-from.ensures, ap length c.records-runs.ensures) }
+    let fit = runs-fit c.args.table.now.records c.args.pool.now c.args.table.now.room
+        c.requires.runs in
+    record { fits = omega (arith, fit, c.requires.room.1, c.requires.gathered.within,
+        c.from-from.ensures, ap length c.records-runs.ensures) }
 
 pub splice-requires-clause-room : goal.splice-requires-clause-room
 splice-requires-clause-room c =
@@ -171,7 +210,8 @@ splice-requires-clause-room c =
     let inv = c.loop-i.invariant in
     let from = c.from-from.result in
     let kept = c.loop-i.remaining.records in
-    let fit = runs-fit (splice rs from (from + c.loop-i.i) kept) c.loop-i.pool c.args.table.now.room inv.runs in
+    let fit = runs-fit (splice rs from (from + c.loop-i.i) kept) c.loop-i.pool c.args.table.now.room
+        inv.runs in
     let a = length-append (take from rs) (kept ++ drop (from + c.loop-i.i) rs) in
     let b = length-append kept (drop (from + c.loop-i.i) rs) in
     let d = length-drop (from + c.loop-i.i) rs in
@@ -189,10 +229,18 @@ returns-clause-contents c =
     let gathered = c.args.gathered.now in
     let kept = c.loop-i.remaining.records in
     let g = c.requires.gathered in
-    let all : c.loop-i.i ≡ length gathered.records = omega (arith, c.loop-i-test.false, c.loop-i.auto.i-end, ap length c.records-runs.ensures) in
-    let is : c.splice.new.self.records ≡ take gathered.from rs ++ (kept ++ drop (gathered.from + length gathered.records) rs)
-    = ap (λ (t : Table). t.records) c.splice.ensures ∙ rw (c.from-from.ensures, c.records.ensures, c.records-runs.ensures) refl in
-    let now : splice rs c.from-from.result (c.from-from.result + c.loop-i.i) kept ≡ take gathered.from rs ++ (kept ++ drop (gathered.from + length gathered.records) rs) = rw (c.from-from.ensures, all) refl in
+    let all : c.loop-i.i ≡ length gathered.records =
+        omega (arith, c.loop-i-test.false, c.loop-i.auto.i-end, ap length c.records-runs.ensures) in
+    let is : c.splice.new.self.records ≡ take gathered.from rs ++
+        (kept ++ drop (gathered.from + length gathered.records) rs)
+    = ap (λ (t : Table). t.records) c.splice.ensures
+        ∙ rw (c.from-from.ensures, c.records.ensures, c.records-runs.ensures) refl in
+    let now : splice rs c.from-from.result (c.from-from.result + c.loop-i.i) kept ≡
+        take gathered.from rs ++ (kept ++ drop (gathered.from + length gathered.records) rs) =
+        rw (c.from-from.ensures, all) refl in
     λ blocks. ap (λ zs. contents_of (expanded c.loop-i.pool.next zs) blocks) is
-    ∙ nothing-left c.loop-i.pool.next (take gathered.from rs) kept (drop (gathered.from + length gathered.records) rs) blocks c.args.low c.args.high (MAX_CAPACITY + 1) (omega (arith, c.requires.order)) g.before g.after (inv.none blocks)
-    ∙ ap (λ zs. unmapped (contents_of (expanded c.loop-i.pool.next zs) blocks) c.args.low (c.args.high - c.args.low)) (sym now) ∙ inv.same blocks
+    ∙ nothing-left c.loop-i.pool.next (take gathered.from rs) kept
+    (drop (gathered.from + length gathered.records) rs) blocks c.args.low c.args.high
+    (MAX_CAPACITY + 1) (omega (arith, c.requires.order)) g.before g.after (inv.none blocks)
+    ∙ ap (λ zs. unmapped (contents_of (expanded c.loop-i.pool.next zs) blocks) c.args.low
+    (c.args.high - c.args.low)) (sym now) ∙ inv.same blocks

@@ -1,21 +1,25 @@
 use Rattle.std.proofs.Common.{◌≡◌, ℕ, ◌+◌, ◌-◌, ◌<◌, ◌≤◌, List, take, None}
+use Rattle.std.specs.FinMap.{find}
 use Rattle.std.specs.List.{splice}
 use Rattle.std.specs.Ordering.{nat_cmp}
-use Rattle.std.specs.FinMap.{find}
 use Rattle.sg_blocks.specs.Disk.{unmapped}
 use Rattle.sg_blocks.specs.Records.{mapped_blocks, contents_of}
 use Rattle.sg_block_map.specs.Runs.{expanded, AreRuns, blocks_of}
 use Rattle.sg_block_map.proofs.unmap.unmap_runs.Given as goal
 
--- the runs so far are cut: the range's addresses are gone from them, and what the range's unmapping gives is the same
+-- the runs so far are cut: the range's addresses are gone from them, and what the range's unmapping
+-- gives is the same
 abbrev pub invariant-loop-i : goal.invariant-loop-i
 invariant-loop-i l =
     let rs = l.fn.table.records in
     let now = splice rs l.from (l.from + l.i) l.remaining.records in
     record {
       runs : AreRuns now l.pool l.fn.table.room;
-      same : (blocks : List (List ℕ)) → unmapped (contents_of (expanded l.pool.next now) blocks) l.low (l.high - l.low) ≡ unmapped (contents_of (expanded l.fn.pool.next rs) blocks) l.low (l.high - l.low);
-      none : (blocks : List (List ℕ)) (q : ℕ) → l.low ≤ q → q < l.high → find nat_cmp q (mapped_blocks (expanded l.pool.next l.remaining.records) blocks) ≡ None;
+      same : (blocks : List (List ℕ)) → unmapped
+          (contents_of (expanded l.pool.next now) blocks) l.low (l.high - l.low) ≡
+          unmapped (contents_of (expanded l.fn.pool.next rs) blocks) l.low (l.high - l.low);
+      none : (blocks : List (List ℕ)) (q : ℕ) → l.low ≤ q → q < l.high
+          → find nat_cmp q (mapped_blocks (expanded l.pool.next l.remaining.records) blocks) ≡ None;
       remaining : (l.remaining.from ≡ l.from) × (l.remaining.room ≡ l.fn.table.room);
       blocks : l.pool.blocks ≡ l.fn.pool.blocks;
       rise : l.fn.pool.links ≤ l.pool.links;

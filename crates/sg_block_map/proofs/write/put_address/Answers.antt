@@ -1,13 +1,16 @@
-use Rattle.std.proofs.Common.{◌≡◌, ℕ, ◌-◌, List, ◌∷◌, ◌++◌, set, drop, ap, ap₂, sym, subst, ◌∙◌, arith, Some, Option}
-use Rattle.sg_block_map.specs.Joining.{joined, linked, KeepSlots}
-use Rattle.sg_block_map.specs.Runs.{chained_contents}
+use Rattle.std.proofs.Common.{◌≡◌, ℕ, ◌-◌, List, ◌∷◌, ◌++◌, set, drop, ap, ap₂, sym, subst, ◌∙◌}
+use Rattle.std.proofs.Common.{arith, Some, Option}
 use Rattle.sg_blocks.specs.Records.{single}
 use Rattle.sg_blocks.specs.Slots.{Slots, occurrences}
-use Rattle.sg_block_map.specs.Walking.{ahead_of}
 use Rattle.sg_blocks.specs.declared.run.Run.{Run}
+use Rattle.sg_block_map.specs.Joining.{joined, linked, KeepSlots}
+use Rattle.sg_block_map.specs.Runs.{chained_contents}
+use Rattle.sg_block_map.specs.Walking.{ahead_of}
 use Rattle.sg_blocks.proofs.OccurrenceLemmas.{occurrences-more}
 use Rattle.sg_block_map.proofs.WalkLemmas.{there}
-use Rattle.sg_block_map.proofs.WriteLemmas.{new-writing, new-contents, new-keeps, walked-writing, walked-contents, walked-keeps, done-last, slot-taken, slot-there, skip-maximal}
+use Rattle.sg_block_map.proofs.WriteLemmas.{new-writing, new-contents, new-keeps, walked-writing}
+use Rattle.sg_block_map.proofs.WriteLemmas.{walked-contents, walked-keeps, done-last, slot-taken}
+use Rattle.sg_block_map.proofs.WriteLemmas.{slot-there, skip-maximal}
 use Rattle.sg_block_map.proofs.write.put_address.Goals as goal
 
 -- the address is not mapped
@@ -15,24 +18,34 @@ pub set-requires-clause-slot : goal.set-requires-clause-slot
 set-requires-clause-slot c =
     let w = c.requires.writing in
     let p = c.args.pool.now in
-    rw (ap (λ (s : Slots). s.blocks) c.take-slot.ensures.pool) (slot-taken w.0 c.args.progress.done (ahead_of c.args.runs.now c.args.progress.walk.run c.args.progress.walk.at ++ w.1) p c.args.lba c.take-slot.result c.take-slot.new.self.free w.2 c.take-slot.ensures.free)
+    rw (ap (λ (s : Slots). s.blocks) c.take-slot.ensures.pool)
+        (slot-taken w.0 c.args.progress.done
+        (ahead_of c.args.runs.now c.args.progress.walk.run c.args.progress.walk.at ++ w.1) p
+        c.args.lba c.take-slot.result c.take-slot.new.self.free w.2 c.take-slot.ensures.free)
 
 pub join-done-requires-clause-slot : goal.join-done-requires-clause-slot
 join-done-requires-clause-slot c =
     let w = c.requires.writing in
     let p = c.args.pool.now in
-    let next : c.set.new.self.next ≡ p.next = ap (λ (s : Slots). s.next) c.set.ensures ∙ ap (λ (s : Slots). s.next) c.take-slot.ensures.pool in
-    λ pos. rw next ((done-last w.0 c.args.progress.done (ahead_of c.args.runs.now c.args.progress.walk.run c.args.progress.walk.at ++ w.1) p c.args.lba w.2 pos).0)
+    let next : c.set.new.self.next ≡ p.next = ap (λ (s : Slots). s.next) c.set.ensures
+        ∙ ap (λ (s : Slots). s.next) c.take-slot.ensures.pool in
+    λ pos. rw next ((done-last w.0 c.args.progress.done
+        (ahead_of c.args.runs.now c.args.progress.walk.run c.args.progress.walk.at ++ w.1) p
+        c.args.lba w.2 pos).0)
 
 pub join-done-requires-clause-used : goal.join-done-requires-clause-used
 join-done-requires-clause-used c =
     let w = c.requires.writing in
     let p = c.args.pool.now in
     let done = c.args.progress.done in
-    let free : c.set.new.self.free ≡ c.take-slot.new.self.free = ap (λ (s : Slots). s.free) c.set.ensures in
+    let free : c.set.new.self.free ≡ c.take-slot.new.self.free =
+        ap (λ (s : Slots). s.free) c.set.ensures in
     λ pos.
-    let none = (done-last w.0 done (ahead_of c.args.runs.now c.args.progress.walk.run c.args.progress.walk.at ++ w.1) p c.args.lba w.2 pos).1 in
-    let e = ap (occurrences done.last) c.take-slot.ensures.free ∙ occurrences-more done.last c.take-slot.result c.take-slot.new.self.free in
+    let none = (done-last w.0 done
+        (ahead_of c.args.runs.now c.args.progress.walk.run c.args.progress.walk.at ++ w.1) p
+        c.args.lba w.2 pos).1 in
+    let e = ap (occurrences done.last) c.take-slot.ensures.free
+        ∙ occurrences-more done.last c.take-slot.result c.take-slot.new.self.free in
     rw free (omega arith)
 
 pub returns-in_default-clause-step : goal.returns-in_default-clause-step
@@ -42,12 +55,22 @@ returns-in_default-clause-step c =
     let w = c.args.progress.walk in
     let lba = c.args.lba in
     let slot = c.take-slot.result in
-    let run_is : c.join-done.result ≡ joined done (single lba slot) = c.join-done.ensures.run ∙ ap (joined done) c.single.ensures in
-    let set_is : c.set.new.self ≡ record p { blocks = set p.blocks slot c.args.bytes.now; free = c.take-slot.new.self.free } = c.set.ensures ∙ ap (λ (s : Slots). record s { blocks = set s.blocks slot c.args.bytes.now }) c.take-slot.ensures.pool in
-    let pool_is : c.join-done.new.pool ≡ record p { blocks = set p.blocks slot c.args.bytes.now; free = c.take-slot.new.self.free; next = linked p.next done slot }
-    = c.join-done.ensures.pool ∙ ap₂ (λ (s : Slots) (o : Run). record s { next = linked s.next done o.first }) set_is c.single.ensures in
-    λ before after h k. rw (run_is, pool_is) (new-writing before done (ahead_of c.args.runs.now w.run w.at ++ after) p lba slot c.take-slot.new.self.free c.args.bytes.now h c.take-slot.ensures.free
-    (skip-maximal c.args.runs.now after w.run w.at lba h.after k (sym c.run_at.ensures ∙ c.in_default.is)))
+    let run_is : c.join-done.result ≡ joined done (single lba slot) = c.join-done.ensures.run
+        ∙ ap (joined done) c.single.ensures in
+    let set_is : c.set.new.self ≡ record p { blocks = set p.blocks slot c.args.bytes.now; free =
+        c.take-slot.new.self.free } = c.set.ensures
+        ∙ ap (λ (s : Slots). record s { blocks = set s.blocks slot c.args.bytes.now })
+        c.take-slot.ensures.pool in
+    let pool_is : c.join-done.new.pool ≡ record p { blocks = set p.blocks slot c.args.bytes.now;
+        free = c.take-slot.new.self.free; next = linked p.next done slot }
+    = c.join-done.ensures.pool
+        ∙ ap₂ (λ (s : Slots) (o : Run). record s { next = linked s.next done o.first }) set_is
+        c.single.ensures in
+    λ before after h k. rw (run_is, pool_is) (new-writing before done
+        (ahead_of c.args.runs.now w.run w.at ++ after) p lba slot c.take-slot.new.self.free
+        c.args.bytes.now h c.take-slot.ensures.free
+    (skip-maximal c.args.runs.now after w.run w.at lba h.after k (sym c.run_at.ensures
+    ∙ c.in_default.is)))
 
 pub returns-in_default-clause-contents : goal.returns-in_default-clause-contents
 returns-in_default-clause-contents c =
@@ -56,13 +79,23 @@ returns-in_default-clause-contents c =
     let w = c.args.progress.walk in
     let lba = c.args.lba in
     let slot = c.take-slot.result in
-    let run_is : c.join-done.result ≡ joined done (single lba slot) = c.join-done.ensures.run ∙ ap (joined done) c.single.ensures in
-    let set_is : c.set.new.self ≡ record p { blocks = set p.blocks slot c.args.bytes.now; free = c.take-slot.new.self.free } = c.set.ensures ∙ ap (λ (s : Slots). record s { blocks = set s.blocks slot c.args.bytes.now }) c.take-slot.ensures.pool in
-    let pool_is : c.join-done.new.pool ≡ record p { blocks = set p.blocks slot c.args.bytes.now; free = c.take-slot.new.self.free; next = linked p.next done slot }
-    = c.join-done.ensures.pool ∙ ap₂ (λ (s : Slots) (o : Run). record s { next = linked s.next done o.first }) set_is c.single.ensures in
-    λ before after h k. ap₂ (λ (r : Run) (s : Slots). chained_contents (before ++ r ∷ (ahead_of c.args.runs.now w.run w.at ++ after)) s) run_is pool_is
-    ∙ new-contents before done (ahead_of c.args.runs.now w.run w.at ++ after) p lba slot c.take-slot.new.self.free c.args.bytes.now h c.take-slot.ensures.free
-    (skip-maximal c.args.runs.now after w.run w.at lba h.after k (sym c.run_at.ensures ∙ c.in_default.is))
+    let run_is : c.join-done.result ≡ joined done (single lba slot) = c.join-done.ensures.run
+        ∙ ap (joined done) c.single.ensures in
+    let set_is : c.set.new.self ≡ record p { blocks = set p.blocks slot c.args.bytes.now; free =
+        c.take-slot.new.self.free } = c.set.ensures
+        ∙ ap (λ (s : Slots). record s { blocks = set s.blocks slot c.args.bytes.now })
+        c.take-slot.ensures.pool in
+    let pool_is : c.join-done.new.pool ≡ record p { blocks = set p.blocks slot c.args.bytes.now;
+        free = c.take-slot.new.self.free; next = linked p.next done slot }
+    = c.join-done.ensures.pool
+        ∙ ap₂ (λ (s : Slots) (o : Run). record s { next = linked s.next done o.first }) set_is
+        c.single.ensures in
+    λ before after h k. ap₂ (λ (r : Run) (s : Slots). chained_contents
+        (before ++ r ∷ (ahead_of c.args.runs.now w.run w.at ++ after)) s) run_is pool_is
+    ∙ new-contents before done (ahead_of c.args.runs.now w.run w.at ++ after) p lba slot
+    c.take-slot.new.self.free c.args.bytes.now h c.take-slot.ensures.free
+    (skip-maximal c.args.runs.now after w.run w.at lba h.after k (sym c.run_at.ensures
+    ∙ c.in_default.is))
 
 pub returns-in_default-clause-keeps : goal.returns-in_default-clause-keeps
 returns-in_default-clause-keeps c =
@@ -71,18 +104,30 @@ returns-in_default-clause-keeps c =
     let w = c.args.progress.walk in
     let lba = c.args.lba in
     let slot = c.take-slot.result in
-    let run_is : c.join-done.result ≡ joined done (single lba slot) = c.join-done.ensures.run ∙ ap (joined done) c.single.ensures in
-    let set_is : c.set.new.self ≡ record p { blocks = set p.blocks slot c.args.bytes.now; free = c.take-slot.new.self.free } = c.set.ensures ∙ ap (λ (s : Slots). record s { blocks = set s.blocks slot c.args.bytes.now }) c.take-slot.ensures.pool in
-    let pool_is : c.join-done.new.pool ≡ record p { blocks = set p.blocks slot c.args.bytes.now; free = c.take-slot.new.self.free; next = linked p.next done slot }
-    = c.join-done.ensures.pool ∙ ap₂ (λ (s : Slots) (o : Run). record s { next = linked s.next done o.first }) set_is c.single.ensures in
+    let run_is : c.join-done.result ≡ joined done (single lba slot) = c.join-done.ensures.run
+        ∙ ap (joined done) c.single.ensures in
+    let set_is : c.set.new.self ≡ record p { blocks = set p.blocks slot c.args.bytes.now; free =
+        c.take-slot.new.self.free } = c.set.ensures
+        ∙ ap (λ (s : Slots). record s { blocks = set s.blocks slot c.args.bytes.now })
+        c.take-slot.ensures.pool in
+    let pool_is : c.join-done.new.pool ≡ record p { blocks = set p.blocks slot c.args.bytes.now;
+        free = c.take-slot.new.self.free; next = linked p.next done slot }
+    = c.join-done.ensures.pool
+        ∙ ap₂ (λ (s : Slots) (o : Run). record s { next = linked s.next done o.first }) set_is
+        c.single.ensures in
     λ before after h k.
     let rest : List Run = ahead_of c.args.runs.now w.run w.at ++ after in
-    subst (λ (r : Run). KeepSlots p.next (before ++ done ∷ rest) c.join-done.new.pool.next (before ++ r ∷ rest)) (sym run_is)
-    (subst (λ (s : Slots). KeepSlots p.next (before ++ done ∷ rest) s.next (before ++ joined done (single lba slot) ∷ rest)) (sym pool_is)
-    (new-keeps before done rest p lba slot c.take-slot.new.self.free c.args.bytes.now h c.take-slot.ensures.free (skip-maximal c.args.runs.now after w.run w.at lba h.after k (sym c.run_at.ensures ∙ c.in_default.is))))
+    subst (λ (r : Run). KeepSlots p.next (before ++ done ∷ rest) c.join-done.new.pool.next
+        (before ++ r ∷ rest)) (sym run_is)
+    (subst (λ (s : Slots). KeepSlots p.next (before ++ done ∷ rest) s.next
+    (before ++ joined done (single lba slot) ∷ rest)) (sym pool_is)
+    (new-keeps before done rest p lba slot c.take-slot.new.self.free c.args.bytes.now h
+    c.take-slot.ensures.free (skip-maximal c.args.runs.now after w.run w.at lba h.after k
+    (sym c.run_at.ensures ∙ c.in_default.is))))
 
 -- the address is mapped
-here : (runs after : List Run) (run : Option Run) (found : Run) (at : ℕ) → run ≡ Some found → ahead_of runs run at ++ after ≡ found ∷ (drop at runs ++ after)
+here : (runs after : List Run) (run : Option Run) (found : Run) (at : ℕ) → run ≡ Some found
+    → ahead_of runs run at ++ after ≡ found ∷ (drop at runs ++ after)
 here runs after run found at e = ap (λ o. ahead_of runs o at ++ after) e
 
 pub set-requires-2-clause-slot : goal.set-requires-2-clause-slot
@@ -93,7 +138,9 @@ set-requires-2-clause-slot c =
     let found = c.in-Some.run' in
     let t = there w.run c.args.lba found (sym c.run_at.ensures ∙ c.in-Some.is) in
     let blocks = ap (λ (s : Slots). s.blocks) c.pass-walk.ensures.pool in
-    rw blocks (slot-there x.0 c.args.progress.done found (drop w.at c.args.runs.now ++ x.1) p c.args.lba (rw (here c.args.runs.now x.1 w.run found w.at t.0) at x.2))
+    rw blocks (slot-there x.0 c.args.progress.done found
+        (drop w.at c.args.runs.now ++ x.1) p c.args.lba
+        (rw (here c.args.runs.now x.1 w.run found w.at t.0) at x.2))
 
 pub pass-walk-requires-clause-slot : goal.pass-walk-requires-clause-slot
 pass-walk-requires-clause-slot c =
@@ -102,23 +149,29 @@ pass-walk-requires-clause-slot c =
     let w = c.args.progress.walk in
     let found = c.in-Some.run' in
     let t = there w.run c.args.lba found (sym c.run_at.ensures ∙ c.in-Some.is) in
-    rw (sym x.2.consistent.pool) (slot-there x.0 c.args.progress.done found (drop w.at c.args.runs.now ++ x.1) p c.args.lba (rw (here c.args.runs.now x.1 w.run found w.at t.0) at x.2))
+    rw (sym x.2.consistent.pool) (slot-there x.0 c.args.progress.done found
+        (drop w.at c.args.runs.now ++ x.1) p c.args.lba
+        (rw (here c.args.runs.now x.1 w.run found w.at t.0) at x.2))
 
 pub join-done-requires-2-clause-slot : goal.join-done-requires-2-clause-slot
 join-done-requires-2-clause-slot c =
     let x = c.requires.writing in
     let p = c.args.pool.now in
     let w = c.args.progress.walk in
-    let next : c.set-2.new.self.next ≡ p.next = ap (λ (s : Slots). s.next) c.set-2.ensures ∙ ap (λ (s : Slots). s.next) c.pass-walk.ensures.pool in
-    λ pos. rw next ((done-last x.0 c.args.progress.done (ahead_of c.args.runs.now w.run w.at ++ x.1) p c.args.lba x.2 pos).0)
+    let next : c.set-2.new.self.next ≡ p.next = ap (λ (s : Slots). s.next) c.set-2.ensures
+        ∙ ap (λ (s : Slots). s.next) c.pass-walk.ensures.pool in
+    λ pos. rw next ((done-last x.0 c.args.progress.done
+        (ahead_of c.args.runs.now w.run w.at ++ x.1) p c.args.lba x.2 pos).0)
 
 pub join-done-requires-2-clause-used : goal.join-done-requires-2-clause-used
 join-done-requires-2-clause-used c =
     let x = c.requires.writing in
     let p = c.args.pool.now in
     let w = c.args.progress.walk in
-    let free : c.set-2.new.self.free ≡ p.free = ap (λ (s : Slots). s.free) c.set-2.ensures ∙ ap (λ (s : Slots). s.free) c.pass-walk.ensures.pool in
-    λ pos. rw free ((done-last x.0 c.args.progress.done (ahead_of c.args.runs.now w.run w.at ++ x.1) p c.args.lba x.2 pos).1)
+    let free : c.set-2.new.self.free ≡ p.free = ap (λ (s : Slots). s.free) c.set-2.ensures
+        ∙ ap (λ (s : Slots). s.free) c.pass-walk.ensures.pool in
+    λ pos. rw free ((done-last x.0 c.args.progress.done
+        (ahead_of c.args.runs.now w.run w.at ++ x.1) p c.args.lba x.2 pos).1)
 
 pub returns-clause-step : goal.returns-clause-step
 returns-clause-step c =
@@ -131,10 +184,17 @@ returns-clause-step c =
     let now = c.pass-walk.new.pool in
     let more : List Run = ahead_of runs c.pass-walk.result.run c.pass-walk.result.at in
     let is = sym c.run_at.ensures ∙ c.in-Some.is in
-    let run_is : c.join-done-2.result ≡ joined done (single lba found.first) = c.join-done-2.ensures.run ∙ ap (joined done) c.single-2.ensures in
-    let pool_is : c.join-done-2.new.pool ≡ record now { blocks = set now.blocks found.first c.args.bytes.now; next = linked now.next done found.first }
-    = c.join-done-2.ensures.pool ∙ ap₂ (λ (s : Slots) (o : Run). record s { next = linked s.next done o.first }) c.set-2.ensures c.single-2.ensures in
-    λ before after h k. rw (run_is, pool_is) (walked-writing before after runs more done found w.run w.at p now lba (now.links - p.links) c.args.bytes.now h is c.pass-walk.ensures.pool c.pass-walk.ensures.ahead)
+    let run_is : c.join-done-2.result ≡ joined done (single lba found.first) =
+        c.join-done-2.ensures.run ∙ ap (joined done) c.single-2.ensures in
+    let pool_is : c.join-done-2.new.pool ≡ record now { blocks =
+        set now.blocks found.first c.args.bytes.now; next = linked now.next done found.first }
+    = c.join-done-2.ensures.pool
+        ∙ ap₂ (λ (s : Slots) (o : Run). record s { next = linked s.next done o.first })
+        c.set-2.ensures c.single-2.ensures in
+    λ before after h k. rw (run_is, pool_is)
+        (walked-writing before after runs more done found w.run w.at p now lba
+        (now.links - p.links) c.args.bytes.now h is c.pass-walk.ensures.pool
+        c.pass-walk.ensures.ahead)
 
 pub returns-clause-contents : goal.returns-clause-contents
 returns-clause-contents c =
@@ -147,11 +207,17 @@ returns-clause-contents c =
     let now = c.pass-walk.new.pool in
     let more : List Run = ahead_of runs c.pass-walk.result.run c.pass-walk.result.at in
     let is = sym c.run_at.ensures ∙ c.in-Some.is in
-    let run_is : c.join-done-2.result ≡ joined done (single lba found.first) = c.join-done-2.ensures.run ∙ ap (joined done) c.single-2.ensures in
-    let pool_is : c.join-done-2.new.pool ≡ record now { blocks = set now.blocks found.first c.args.bytes.now; next = linked now.next done found.first }
-    = c.join-done-2.ensures.pool ∙ ap₂ (λ (s : Slots) (o : Run). record s { next = linked s.next done o.first }) c.set-2.ensures c.single-2.ensures in
-    λ before after h k. ap₂ (λ (r : Run) (s : Slots). chained_contents (before ++ r ∷ (more ++ after)) s) run_is pool_is
-    ∙ walked-contents before after runs more done found w.run w.at p now lba (now.links - p.links) c.args.bytes.now h is c.pass-walk.ensures.pool c.pass-walk.ensures.ahead
+    let run_is : c.join-done-2.result ≡ joined done (single lba found.first) =
+        c.join-done-2.ensures.run ∙ ap (joined done) c.single-2.ensures in
+    let pool_is : c.join-done-2.new.pool ≡ record now { blocks =
+        set now.blocks found.first c.args.bytes.now; next = linked now.next done found.first }
+    = c.join-done-2.ensures.pool
+        ∙ ap₂ (λ (s : Slots) (o : Run). record s { next = linked s.next done o.first })
+        c.set-2.ensures c.single-2.ensures in
+    λ before after h k. ap₂ (λ (r : Run) (s : Slots). chained_contents
+        (before ++ r ∷ (more ++ after)) s) run_is pool_is
+    ∙ walked-contents before after runs more done found w.run w.at p now lba
+    (now.links - p.links) c.args.bytes.now h is c.pass-walk.ensures.pool c.pass-walk.ensures.ahead
 
 pub returns-clause-keeps : goal.returns-clause-keeps
 returns-clause-keeps c =
@@ -164,11 +230,18 @@ returns-clause-keeps c =
     let now = c.pass-walk.new.pool in
     let more : List Run = ahead_of runs c.pass-walk.result.run c.pass-walk.result.at in
     let is = sym c.run_at.ensures ∙ c.in-Some.is in
-    let run_is : c.join-done-2.result ≡ joined done (single lba found.first) = c.join-done-2.ensures.run ∙ ap (joined done) c.single-2.ensures in
-    let pool_is : c.join-done-2.new.pool ≡ record now { blocks = set now.blocks found.first c.args.bytes.now; next = linked now.next done found.first }
-    = c.join-done-2.ensures.pool ∙ ap₂ (λ (s : Slots) (o : Run). record s { next = linked s.next done o.first }) c.set-2.ensures c.single-2.ensures in
+    let run_is : c.join-done-2.result ≡ joined done (single lba found.first) =
+        c.join-done-2.ensures.run ∙ ap (joined done) c.single-2.ensures in
+    let pool_is : c.join-done-2.new.pool ≡ record now { blocks =
+        set now.blocks found.first c.args.bytes.now; next = linked now.next done found.first }
+    = c.join-done-2.ensures.pool
+        ∙ ap₂ (λ (s : Slots) (o : Run). record s { next = linked s.next done o.first })
+        c.set-2.ensures c.single-2.ensures in
     λ before after h k.
     let rest : List Run = ahead_of runs w.run w.at ++ after in
-    subst (λ (r : Run). KeepSlots p.next (before ++ done ∷ rest) c.join-done-2.new.pool.next (before ++ r ∷ (more ++ after))) (sym run_is)
-    (subst (λ (s : Slots). KeepSlots p.next (before ++ done ∷ rest) s.next (before ++ joined done (single lba found.first) ∷ (more ++ after))) (sym pool_is)
-    (walked-keeps before after runs more done found w.run w.at p now lba (now.links - p.links) c.args.bytes.now h is c.pass-walk.ensures.pool c.pass-walk.ensures.ahead))
+    subst (λ (r : Run). KeepSlots p.next (before ++ done ∷ rest) c.join-done-2.new.pool.next
+        (before ++ r ∷ (more ++ after))) (sym run_is)
+    (subst (λ (s : Slots). KeepSlots p.next (before ++ done ∷ rest) s.next
+    (before ++ joined done (single lba found.first) ∷ (more ++ after))) (sym pool_is)
+    (walked-keeps before after runs more done found w.run w.at p now lba
+    (now.links - p.links) c.args.bytes.now h is c.pass-walk.ensures.pool c.pass-walk.ensures.ahead))

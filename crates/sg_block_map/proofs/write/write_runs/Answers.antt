@@ -1,23 +1,28 @@
-use Rattle.std.proofs.Common.{◌≡◌, ◌+◌, ◌-◌, ◌<◌, List, ◌∷◌, ◌++◌, length, length-append, length-drop, take, drop, ap, ap₂, sym, subst, ◌∙◌, arith, refl, add-zero}
+use Rattle.std.proofs.Common.{◌≡◌, ◌+◌, ◌-◌, ◌<◌, List, ◌∷◌, ◌++◌, length, length-append}
+use Rattle.std.proofs.Common.{length-drop, take, drop, ap, ap₂, sym, subst, ◌∙◌, arith, refl}
+use Rattle.std.proofs.Common.{add-zero}
 use Rattle.std.proofs.lemmas.List.{length-take-le}
 use Rattle.std.specs.FinMap as map
 use Rattle.std.specs.Prelude.{unwrap_or}
-use Rattle.sg_block_map.specs.Gathering.{end_index}
-use Rattle.sg_block_map.specs.Joining.{no_run}
 use Rattle.sg_blocks.specs.Records.{contents_of}
-use Rattle.sg_block_map.specs.Runs.{expanded, AreRuns, chained_contents}
 use Rattle.sg_blocks.specs.Slots.{Slots}
 use Rattle.sg_blocks.specs.Source.{block_of}
 use Rattle.sg_blocks.specs.Table.{Table}
-use Rattle.sg_block_map.specs.Walking.{ahead_of}
 use Rattle.sg_blocks.specs.declared.run.Run.{Run}
-use Rattle.sg_block_map.proofs.BetweenLemmas.{maximal-weaker}
-use Rattle.sg_blocks.proofs.DiskLemmas.{replaced-none, replaced-more}
-use Rattle.sg_block_map.proofs.CutRunsLemmas.{runs-fit, gathered-blocks, length-expanded}
-use Rattle.sg_block_map.proofs.WriteLemmas.{writing-followed, done-last}
-use Rattle.sg_block_map.proofs.FinishLemmas.{begin-expanded, begin-writing, gathered-ahead, walk_from-near, walk_from-start, walk_from-blocks, free-there, done-fits, ahead-fits, finished-runs, finished-expanded, finished-blocks}
-use Rattle.sg_block_map.proofs.write.write_runs.Goals as goal
 use Rattle.sg_blocks.specs.declared.store.TheConstants.{MAX_CAPACITY}
+use Rattle.sg_block_map.specs.Gathering.{end_index}
+use Rattle.sg_block_map.specs.Joining.{no_run}
+use Rattle.sg_block_map.specs.Runs.{expanded, AreRuns, chained_contents}
+use Rattle.sg_block_map.specs.Walking.{ahead_of}
+use Rattle.sg_blocks.proofs.DiskLemmas.{replaced-none, replaced-more}
+use Rattle.sg_block_map.proofs.BetweenLemmas.{maximal-weaker}
+use Rattle.sg_block_map.proofs.CutRunsLemmas.{runs-fit, gathered-blocks, length-expanded}
+use Rattle.sg_block_map.proofs.FinishLemmas.{begin-expanded, begin-writing, gathered-ahead}
+use Rattle.sg_block_map.proofs.FinishLemmas.{walk_from-near, walk_from-start, walk_from-blocks}
+use Rattle.sg_block_map.proofs.FinishLemmas.{free-there, done-fits, ahead-fits, finished-runs}
+use Rattle.sg_block_map.proofs.FinishLemmas.{finished-expanded, finished-blocks}
+use Rattle.sg_block_map.proofs.WriteLemmas.{writing-followed, done-last}
+use Rattle.sg_block_map.proofs.write.write_runs.Goals as goal
 
 pub begin-progress-requires-clause-ahead : goal.begin-progress-requires-clause-ahead
 begin-progress-requires-clause-ahead c =
@@ -25,13 +30,18 @@ begin-progress-requires-clause-ahead c =
     let gathered = c.args.gathered.now in
     let p = c.args.pool.now in
     let g = c.requires.gathered in
-    rw c.records-runs.ensures (gathered-ahead (take gathered.from rs) gathered.records (drop (end_index gathered) rs) p c.args.table.now.room (subst (λ zs. AreRuns zs p c.args.table.now.room) (sym g.same) c.requires.runs))
+    rw c.records-runs.ensures (gathered-ahead (take gathered.from rs) gathered.records
+        (drop (end_index gathered) rs) p c.args.table.now.room
+        (subst (λ zs. AreRuns zs p c.args.table.now.room) (sym g.same) c.requires.runs))
 
 pub begin-progress-requires-clause-headroom : goal.begin-progress-requires-clause-headroom
 begin-progress-requires-clause-headroom c =
     let p = c.args.pool.now in
-    let few = gathered-blocks c.args.table.now.records c.args.gathered.now p c.args.table.now.room c.args.lba (c.args.lba + c.args.count) (MAX_CAPACITY + 1) c.requires.runs c.requires.gathered in
-    rw c.records-runs.ensures (omega (arith, few, length-expanded p.next c.args.gathered.now.records, c.requires.headroom, c.requires.room))
+    let few = gathered-blocks c.args.table.now.records c.args.gathered.now p c.args.table.now.room
+        c.args.lba (c.args.lba + c.args.count)
+        (MAX_CAPACITY + 1) c.requires.runs c.requires.gathered in
+    rw c.records-runs.ensures (omega (arith, few,
+        length-expanded p.next c.args.gathered.now.records, c.requires.headroom, c.requires.room))
 
 pub loop-i-init : goal.loop-i-init
 loop-i-init c =
@@ -49,16 +59,22 @@ loop-i-init c =
     let front = t.0 in
     let more : List Run = ahead_of gathered.records progress.walk.run progress.walk.at in
     let all = subst (λ zs. AreRuns zs p room) (sym g.same) c.requires.runs in
-    let up = maximal-weaker after (high + 1) (MAX_CAPACITY + 1) lba (MAX_CAPACITY + 1) (omega arith) (omega arith) g.after in
+    let up = maximal-weaker after (high + 1) (MAX_CAPACITY + 1) lba (MAX_CAPACITY + 1) (omega arith)
+        (omega arith) g.after in
     let now = c.begin-progress.new.pool in
     let pool = c.begin-progress.ensures.pool in
     let next = ap (λ (s : Slots). s.next) pool in
-    let writing = begin-writing before gathered.records after more p lba high room front all g.before up g.near t.1 in
+    let writing = begin-writing before gathered.records after more p lba high room front all
+        g.before up g.near t.1 in
     let same : expanded now.next (before ++ progress.done ∷ (more ++ after)) ≡ expanded p.next rs
-    = ap₂ (λ ns (r : Run). expanded ns (before ++ r ∷ (more ++ after))) next t.2 ∙ begin-expanded before gathered.records after more p lba high room front all g.before up g.near t.1 ∙ ap (expanded p.next) g.same in
+    = ap₂ (λ ns (r : Run). expanded ns (before ++ r ∷ (more ++ after))) next t.2
+        ∙ begin-expanded before gathered.records after more p lba high room front all g.before up
+        g.near t.1 ∙ ap (expanded p.next) g.same in
     record {
-      writing = rw (add-zero, t.2) (writing-followed before (unwrap_or front (no_run lba)) (more ++ after) p now lba (now.links - p.links) pool writing);
-      contents = ap₂ contents_of same (ap (λ (s : Slots). s.blocks) pool) ∙ sym (replaced-none (chained_contents rs p) lba (block_of c.args.source.now));
+      writing = rw (add-zero, t.2) (writing-followed before (unwrap_or front (no_run lba))
+          (more ++ after) p now lba (now.links - p.links) pool writing);
+      contents = ap₂ contents_of same (ap (λ (s : Slots). s.blocks) pool)
+          ∙ sym (replaced-none (chained_contents rs p) lba (block_of c.args.source.now));
       keeps = λ blocks q block e. ap (λ zs. map.get (contents_of zs blocks) q) same ∙ e;
       near = walk_from-near p.next gathered.records more lba high front (omega arith) g.near t.1;
       start = rw t.2 (walk_from-start p.next gathered.records more lba front t.1);
@@ -78,11 +94,17 @@ put_address-progress-requires-clause-free c =
     let g = c.requires.gathered in
     let after : List Run = drop (end_index gathered) rs in
     let w = c.loop-i.progress.walk in
-    let here : c.args.lba + c.from.result ≡ c.args.lba + i = ap (λ x. c.args.lba + x) c.from.ensures in
-    let up = maximal-weaker after (high + 1) (MAX_CAPACITY + 1) (c.args.lba + i + 1) (MAX_CAPACITY + 1) (omega arith) (omega arith) g.after in
-    let len : c.args.table.now.room ≡ length c.loop-i.pool.next = sym (inv.length ∙ c.requires.runs.links) in
+    let here : c.args.lba + c.from.result ≡ c.args.lba + i =
+        ap (λ x. c.args.lba + x) c.from.ensures in
+    let up = maximal-weaker after (high + 1) (MAX_CAPACITY + 1) (c.args.lba + i + 1)
+        (MAX_CAPACITY + 1) (omega arith) (omega arith) g.after in
+    let len : c.args.table.now.room ≡ length c.loop-i.pool.next =
+        sym (inv.length ∙ c.requires.runs.links) in
     let consistent = rw len at c.requires.runs.consistent in
-    rw here (λ none. free-there (take gathered.from rs) after gathered.records c.loop-i.progress.done w.run w.at c.args.lba i c.args.count p c.loop-i.pool rs (block_of c.args.source.now) inv.writing up none consistent inv.contents c.loop-i-test.true c.requires.free)
+    rw here (λ none. free-there (take gathered.from rs) after gathered.records
+        c.loop-i.progress.done w.run w.at c.args.lba i c.args.count p c.loop-i.pool rs
+        (block_of c.args.source.now) inv.writing up none consistent inv.contents c.loop-i-test.true
+        c.requires.free)
 
 pub put_address-progress-requires-clause-fits : goal.put_address-progress-requires-clause-fits
 put_address-progress-requires-clause-fits c =
@@ -93,7 +115,9 @@ put_address-progress-requires-clause-fits c =
 pub put_address-progress-requires-clause-headroom : goal.put_address-progress-requires-clause-headroom
 put_address-progress-requires-clause-headroom c =
     let inv = c.loop-i.invariant in
-    let few = gathered-blocks c.args.table.now.records c.args.gathered.now c.args.pool.now c.args.table.now.room c.args.lba (c.args.lba + c.args.count) (MAX_CAPACITY + 1) c.requires.runs c.requires.gathered in
+    let few = gathered-blocks c.args.table.now.records c.args.gathered.now c.args.pool.now
+        c.args.table.now.room c.args.lba (c.args.lba + c.args.count)
+        (MAX_CAPACITY + 1) c.requires.runs c.requires.gathered in
     omega (arith, few, inv.links, c.requires.headroom, c.requires.room)
 
 pub loop-i-preserved : goal.loop-i-preserved
@@ -111,7 +135,8 @@ loop-i-preserved c =
     let e = c.put_address-progress.ensures in
     let here : lba + c.from.result ≡ lba + i = ap (λ x. lba + x) c.from.ensures in
     let on : lba + i + 1 ≡ lba + (i + 1) = omega arith in
-    let up = maximal-weaker after (high + 1) (MAX_CAPACITY + 1) (lba + i + 1) (MAX_CAPACITY + 1) (omega arith) (omega arith) g.after in
+    let up = maximal-weaker after (high + 1) (MAX_CAPACITY + 1) (lba + i + 1) (MAX_CAPACITY + 1)
+        (omega arith) (omega arith) g.after in
     let step = rw (c.records-runs.ensures, here) at e.step in
     let contents = rw (c.records-runs.ensures, here) at e.contents in
     let keeps = rw (c.records-runs.ensures, here) at e.keeps in
@@ -119,8 +144,11 @@ loop-i-preserved c =
     let links = rw c.records-runs.ensures at e.links in
     record {
       writing = rw on at (step before after inv.writing up);
-      contents = contents before after inv.writing up ∙ rw (inv.contents, c.block-block.ensures) (sym (replaced-more (chained_contents rs p) lba i (block_of c.args.source.now)));
-      keeps = λ blocks q block f. keeps before after inv.writing up blocks q block (inv.keeps blocks q block f);
+      contents = contents before after inv.writing up
+          ∙ rw (inv.contents, c.block-block.ensures)
+          (sym (replaced-more (chained_contents rs p) lba i (block_of c.args.source.now)));
+      keeps = λ blocks q block f. keeps before after inv.writing up blocks q block
+          (inv.keeps blocks q block f);
       near = near high (omega arith) inv.near;
       start = omega (arith, inv.start, e.done.0);
       length = e.length ∙ inv.length;
@@ -140,12 +168,16 @@ finish-run-requires-clause-fits c =
     let gathered = c.args.gathered.now in
     let inv = c.loop-i.invariant in
     let w = c.loop-i.progress.walk in
-    ahead-fits (take gathered.from rs) (drop (end_index gathered) rs) gathered.records c.loop-i.progress.done w.run w.at (c.args.lba + c.loop-i.i) c.loop-i.pool inv.writing (omega (arith, inv.length, c.requires.runs.links, c.requires.room))
+    ahead-fits (take gathered.from rs) (drop (end_index gathered) rs) gathered.records
+        c.loop-i.progress.done w.run w.at (c.args.lba + c.loop-i.i) c.loop-i.pool inv.writing
+        (omega (arith, inv.length, c.requires.runs.links, c.requires.room))
 
 pub overflow_add-from : goal.overflow_add-from
 overflow_add-from c =
-    let fit = runs-fit c.args.table.now.records c.args.pool.now c.args.table.now.room c.requires.runs in
-    record { fits = omega (arith, fit, c.requires.room, c.requires.gathered.within, c.from-from.ensures, ap length c.records-runs.ensures) }
+    let fit = runs-fit c.args.table.now.records c.args.pool.now c.args.table.now.room
+        c.requires.runs in
+    record { fits = omega (arith, fit, c.requires.room, c.requires.gathered.within,
+        c.from-from.ensures, ap length c.records-runs.ensures) }
 
 pub splice-requires-clause-room : goal.splice-requires-clause-room
 splice-requires-clause-room c =
@@ -163,7 +195,9 @@ splice-requires-clause-room c =
     let all : c.loop-i.i ≡ c.args.count = omega (arith, c.loop-i-test.false, c.loop-i.auto.i-end) in
     let writing = rw all at inv.writing in
     let some : 0 < done.count = omega (arith, writing.ends, inv.start, c.requires.not_empty) in
-    let final = finished-runs before after gathered.records done c.finish-run.result w.run w.at high room c.loop-i.pool c.finish-run.new.pool writing inv.near c.finish-run.ensures some g.after (inv.length ∙ c.requires.runs.links) in
+    let final = finished-runs before after gathered.records done c.finish-run.result w.run w.at high
+        room c.loop-i.pool c.finish-run.new.pool writing inv.near c.finish-run.ensures some g.after
+        (inv.length ∙ c.requires.runs.links) in
     let fit = runs-fit (before ++ c.finish-run.result ∷ after) c.finish-run.new.pool room final in
     let a = length-append before (c.finish-run.result ∷ after) in
     let within = g.within in
@@ -188,11 +222,15 @@ returns-clause-contents c =
     let all : c.loop-i.i ≡ c.args.count = omega (arith, c.loop-i-test.false, c.loop-i.auto.i-end) in
     let writing = rw all at inv.writing in
     let some : 0 < done.count = omega (arith, writing.ends, inv.start, c.requires.not_empty) in
-    let is : c.splice.new.self.records ≡ before ++ c.finish-run.result ∷ after = ap (λ (t : Table). t.records) c.splice.ensures ∙ rw (c.from-from.ensures, c.records-runs.ensures) refl in
+    let is : c.splice.new.self.records ≡ before ++ c.finish-run.result ∷ after =
+        ap (λ (t : Table). t.records) c.splice.ensures
+        ∙ rw (c.from-from.ensures, c.records-runs.ensures) refl in
     let contents = rw all at inv.contents in
     ap (λ zs. chained_contents zs c.finish-run.new.pool) is
-    ∙ ap₂ contents_of (finished-expanded before after gathered.records done c.finish-run.result w.run w.at high room c.loop-i.pool c.finish-run.new.pool writing inv.near c.finish-run.ensures)
-    (finished-blocks done c.finish-run.result w.run c.loop-i.pool c.finish-run.new.pool c.finish-run.ensures)
+    ∙ ap₂ contents_of (finished-expanded before after gathered.records done c.finish-run.result
+    w.run w.at high room c.loop-i.pool c.finish-run.new.pool writing inv.near c.finish-run.ensures)
+    (finished-blocks done c.finish-run.result w.run c.loop-i.pool c.finish-run.new.pool
+    c.finish-run.ensures)
     ∙ contents
 
 pub returns-clause-runs : goal.returns-clause-runs
@@ -211,8 +249,12 @@ returns-clause-runs c =
     let all : c.loop-i.i ≡ c.args.count = omega (arith, c.loop-i-test.false, c.loop-i.auto.i-end) in
     let writing = rw all at inv.writing in
     let some : 0 < done.count = omega (arith, writing.ends, inv.start, c.requires.not_empty) in
-    let final = finished-runs before after gathered.records done c.finish-run.result w.run w.at high room c.loop-i.pool c.finish-run.new.pool writing inv.near c.finish-run.ensures some g.after (inv.length ∙ c.requires.runs.links) in
-    let is : c.splice.new.self.records ≡ before ++ c.finish-run.result ∷ after = ap (λ (t : Table). t.records) c.splice.ensures ∙ rw (c.from-from.ensures, c.records-runs.ensures) refl in
+    let final = finished-runs before after gathered.records done c.finish-run.result w.run w.at high
+        room c.loop-i.pool c.finish-run.new.pool writing inv.near c.finish-run.ensures some g.after
+        (inv.length ∙ c.requires.runs.links) in
+    let is : c.splice.new.self.records ≡ before ++ c.finish-run.result ∷ after =
+        ap (λ (t : Table). t.records) c.splice.ensures
+        ∙ rw (c.from-from.ensures, c.records-runs.ensures) refl in
     let same = ap (λ (t : Table). t.room) c.splice.ensures in
     rw (is, same) final
 
@@ -232,7 +274,12 @@ returns-clause-keeps c =
     let all : c.loop-i.i ≡ c.args.count = omega (arith, c.loop-i-test.false, c.loop-i.auto.i-end) in
     let writing = rw all at inv.writing in
     let some : 0 < done.count = omega (arith, writing.ends, inv.start, c.requires.not_empty) in
-    let is : c.splice.new.self.records ≡ before ++ c.finish-run.result ∷ after = ap (λ (t : Table). t.records) c.splice.ensures ∙ rw (c.from-from.ensures, c.records-runs.ensures) refl in
-    λ blocks q block f. ap (λ zs. map.get (contents_of (expanded c.finish-run.new.pool.next zs) blocks) q) is
-    ∙ ap (λ zs. map.get (contents_of zs blocks) q) (finished-expanded before after gathered.records done c.finish-run.result w.run w.at high room c.loop-i.pool c.finish-run.new.pool writing inv.near c.finish-run.ensures)
+    let is : c.splice.new.self.records ≡ before ++ c.finish-run.result ∷ after =
+        ap (λ (t : Table). t.records) c.splice.ensures
+        ∙ rw (c.from-from.ensures, c.records-runs.ensures) refl in
+    λ blocks q block f. ap (λ zs. map.get (contents_of
+        (expanded c.finish-run.new.pool.next zs) blocks) q) is
+    ∙ ap (λ zs. map.get (contents_of zs blocks) q)
+    (finished-expanded before after gathered.records done c.finish-run.result w.run w.at high room
+    c.loop-i.pool c.finish-run.new.pool writing inv.near c.finish-run.ensures)
     ∙ inv.keeps blocks q block f

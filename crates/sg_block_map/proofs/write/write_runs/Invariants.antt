@@ -17,7 +17,8 @@ invariant-loop-i l =
     let ahead = ahead_of l.gathered.records l.progress.walk.run l.progress.walk.at in
     record {
       writing : IsWriting before l.progress.done (ahead ++ after) l.pool (l.lba + l.i);
-      contents : chained_contents (before ++ l.progress.done ∷ (ahead ++ after)) l.pool ≡ replaced (chained_contents rs old) l.lba l.i (block_of l.source);
+      contents : chained_contents (before ++ l.progress.done ∷ (ahead ++ after)) l.pool ≡
+          replaced (chained_contents rs old) l.lba l.i (block_of l.source);
       keeps : KeepSlots old.next rs l.pool.next (before ++ l.progress.done ∷ (ahead ++ after));
       near : AreNear 0 (l.lba + l.count) ahead;
       start : l.progress.done.start ≤ l.lba;

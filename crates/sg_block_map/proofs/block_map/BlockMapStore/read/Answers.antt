@@ -5,17 +5,20 @@ use Rattle.sg_block_map.specs.Runs.{expanded, chained_contents}
 use Rattle.sg_block_map.specs.State.{slot_map}
 use Rattle.sg_block_map.proofs.CutRunsLemmas.{runs-fit, length-expanded}
 use Rattle.sg_block_map.proofs.OverlapLemmas.{blocks-gathered}
-use Rattle.sg_block_map.proofs.StoreLemmas.{runs-ahead, gathered-length, gathered-meet, gathered-near}
-use Rattle.sg_block_map.proofs.StoreLemmas.{gathered-costs, gathered-price, gathered-runs}
+use Rattle.sg_block_map.proofs.StoreLemmas.{runs-ahead, gathered-length, gathered-meet}
+use Rattle.sg_block_map.proofs.StoreLemmas.{gathered-near, gathered-costs, gathered-price}
+use Rattle.sg_block_map.proofs.StoreLemmas.{gathered-runs}
 use Rattle.sg_block_map.proofs.block_map.BlockMapStore.read.Goals as goal
 
 pub gather-requires-clause-fits : goal.gather-requires-clause-fits
-gather-requires-clause-fits c = let s = c.args.self.now in runs-fit s.table.records s.pool s.table.room s.runs
+gather-requires-clause-fits c = let s = c.args.self.now in
+    runs-fit s.table.records s.pool s.table.room s.runs
 
 pub read_runs-requires-clause-ahead : goal.read_runs-requires-clause-ahead
 read_runs-requires-clause-ahead c =
     let s = c.args.self.now in
-    rw c.records.ensures (runs-ahead s.table.records s.pool s.table.room c.gather.new.gathered c.args.lba c.args.count
+    rw c.records.ensures (runs-ahead s.table.records s.pool s.table.room c.gather.new.gathered
+        c.args.lba c.args.count
     s.runs c.gather.ensures.gathered)
 
 pub read_runs-requires-clause-near : goal.read_runs-requires-clause-near
@@ -24,7 +27,8 @@ read_runs-requires-clause-near c = rw c.records.ensures c.gather.ensures.gathere
 pub read_runs-requires-clause-headroom : goal.read_runs-requires-clause-headroom
 read_runs-requires-clause-headroom c =
     let s = c.args.self.now in
-    let most = gathered-length s.table.records s.pool s.table.room c.gather.new.gathered c.args.lba c.args.count
+    let most = gathered-length s.table.records s.pool s.table.room c.gather.new.gathered c.args.lba
+        c.args.count
     s.runs c.gather.ensures.gathered in
     rw c.records.ensures (omega (arith, most, s.pool_fits, c.requires.headroom.links))
 
@@ -33,7 +37,8 @@ returns-clause-bytes c =
     let s = c.args.self.now in
     c.read_runs.ensures.bytes
     ∙ ap (λ zs. blocks (chained_contents zs s.pool) c.args.lba c.args.count) c.records.ensures
-    ∙ sym (blocks-gathered s.table.records c.gather.new.gathered s.pool c.args.lba c.args.count (MAX_CAPACITY + 1)
+    ∙ sym (blocks-gathered s.table.records c.gather.new.gathered s.pool c.args.lba c.args.count
+    (MAX_CAPACITY + 1)
     c.gather.ensures.gathered)
 
 pub returns-clause-keeps : goal.returns-clause-keeps
@@ -42,19 +47,23 @@ returns-clause-keeps c = ap₂ slot_map c.gather.ensures.table c.read_runs.ensur
 pub returns-clause-cost : goal.returns-clause-cost
 returns-clause-cost c =
     let s = c.args.self.now in
-    let most = gathered-length s.table.records s.pool s.table.room c.gather.new.gathered c.args.lba c.args.count
+    let most = gathered-length s.table.records s.pool s.table.room c.gather.new.gathered c.args.lba
+        c.args.count
     s.runs c.gather.ensures.gathered in
     let e = c.gather.ensures in
     let links = ap (λ zs. length (expanded s.pool.next zs)) c.records.ensures in
-    gathered-costs s.table.records s.pool c.read_runs.new.pool s.table.room c.args.lba c.args.count s.table c.gather.new.table
-    s.runs refl e.table e.rise e.halving (omega (arith, e.least)) s.pool_fits c.read_runs.ensures.rise
+    gathered-costs s.table.records s.pool c.read_runs.new.pool s.table.room c.args.lba c.args.count
+        s.table c.gather.new.table
+    s.runs refl e.table e.rise e.halving (omega (arith, e.least)) s.pool_fits
+        c.read_runs.ensures.rise
     (omega (arith, most, c.read_runs.ensures.links, links))
 
 pub returns-clause-price : goal.returns-clause-price
 returns-clause-price c =
     let s = c.args.self.now in
     let e = c.gather.ensures in
-    gathered-price s.table.records s.pool s.pool s.table.room c.args.lba c.args.count s.table c.gather.new.table
+    gathered-price s.table.records s.pool s.pool s.table.room c.args.lba c.args.count s.table
+        c.gather.new.table
     s.runs refl e.table e.rise e.halving (omega (arith, e.least)) e.most
 
 pub returns-clause-least : goal.returns-clause-least
@@ -71,8 +80,12 @@ pub returns-clause-runs : goal.returns-clause-runs
 returns-clause-runs c =
     let s = c.args.self.now in
     let gathered = c.gather.new.gathered in
-    let near = gathered-near s.table.records s.pool s.table.room gathered c.args.lba c.args.count s.runs c.gather.ensures.gathered in
+    let near = gathered-near s.table.records s.pool s.table.room gathered c.args.lba c.args.count
+        s.runs c.gather.ensures.gathered in
     let e = c.gather.ensures in
-    let links = ap (λ zs. length (expanded s.pool.next zs)) c.records.ensures ∙ length-expanded s.pool.next gathered.records in
-    gathered-runs s.table.records s.pool c.read_runs.new.pool s.table.room c.args.lba c.args.count s.table c.gather.new.table
-    s.runs refl e.table e.rise e.halving (omega (arith, e.least)) (omega (arith, near, c.read_runs.ensures.links, links))
+    let links = ap (λ zs. length (expanded s.pool.next zs)) c.records.ensures
+        ∙ length-expanded s.pool.next gathered.records in
+    gathered-runs s.table.records s.pool c.read_runs.new.pool s.table.room c.args.lba c.args.count
+        s.table c.gather.new.table
+    s.runs refl e.table e.rise e.halving (omega (arith, e.least))
+        (omega (arith, near, c.read_runs.ensures.links, links))
