@@ -14,8 +14,10 @@ between-le (x ∷ xs) a b h = let rest = between-le xs (x.start + 1) b h.1 in om
 pub between-weaker : (xs : List Run) (a b a' b' : ℕ) → a' ≤ a → b ≤ b' → AreBetween a b xs
     → AreBetween a' b' xs
 between-weaker [] a b a' b' l r h = omega arith
-between-weaker (x ∷ xs) a b a' b' l r h = (omega (arith, h.0),
-    between-weaker xs (x.start + 1) b (x.start + 1) b' (omega arith) r h.1)
+between-weaker (x ∷ xs) a b a' b' l r h = (
+  omega (arith, h.0),
+  between-weaker xs (x.start + 1) b (x.start + 1) b' (omega arith) r h.1,
+)
 
 pub between-append : (xs ys : List Run) (a m b : ℕ) → AreBetween a m xs → AreBetween m b ys
     → AreBetween a b (xs ++ ys)
@@ -57,7 +59,7 @@ start_of-right (x ∷ xs) ys zero le = absurd (omega arith)
 start_of-right (x ∷ xs) ys (suc i) le = let e : suc i - suc (length xs) ≡ i - length xs =
     omega arith in rw e (start_of-right xs ys i (omega arith))
 
--- the place of an address is where those end_index it begin
+-- the index of an address is where those past it begin
 pub index-between : (xs ys : List Run) (a m n b : ℕ) → AreBetween a m xs → AreBetween n b ys → m ≤ n
     → IsLowerBound (xs ++ ys) (length xs) m
 index-between xs ys a m n b h k le =
@@ -111,9 +113,11 @@ maximal-le (run ∷ runs) a b h = let rest = maximal-le runs (end_of run + 1) b 
 pub maximal-weaker : (runs : List Run) (a b a' b' : ℕ) → a' ≤ a → b ≤ b' → AreMaximal a b runs
     → AreMaximal a' b' runs
 maximal-weaker [] a b a' b' l r h = omega arith
-maximal-weaker (run ∷ runs) a b a' b' l r h =
-    (omega (arith, h.0), maximal-weaker runs (end_of run + 1) b (end_of run + 1) b'
-    (omega arith) r h.1)
+maximal-weaker (run ∷ runs) a b a' b' l r h = (
+  omega (arith, h.0),
+  maximal-weaker runs (end_of run + 1) b (end_of run + 1) b'
+      (omega arith) r h.1,
+)
 
 pub maximal-append : (xs ys : List Run) (a m b : ℕ) → AreMaximal a m xs → AreMaximal m b ys
     → AreMaximal a b (xs ++ ys)
@@ -137,9 +141,11 @@ maximal-right (x ∷ xs) ys a b h = maximal-right xs ys (end_of x + 1) b h.1
 
 pub maximal-between : (runs : List Run) (a b : ℕ) → AreMaximal a b runs → AreBetween a b runs
 maximal-between [] a b h = h
-maximal-between (run ∷ runs) a b h =
-    (h.0, between-weaker runs (end_of run + 1) b (run.start + 1) b (omega arith) (omega arith)
-    (maximal-between runs (end_of run + 1) b h.1))
+maximal-between (run ∷ runs) a b h = (
+  h.0,
+  between-weaker runs (end_of run + 1) b (run.start + 1) b (omega arith) (omega arith)
+      (maximal-between runs (end_of run + 1) b h.1),
+)
 
 pub maximal-sorted : (runs : List Run) (a b : ℕ) → AreMaximal a b runs → IsSorted runs
 maximal-sorted runs a b h = sorted-between runs a b (maximal-between runs a b h)

@@ -42,7 +42,7 @@ pub find-right : (xs ys : List Run) (bs : List (List ℕ)) (q : ℕ)
 find-right [] ys bs q none = refl
 find-right (x ∷ xs) ys bs q none =
     let both = blank (eq_by_cmp nat_cmp q x.start) (slice_index_or bs x.first zero_block)
-        (find nat_cmp q (mapped_blocks xs bs)) none in
+    (find nat_cmp q (mapped_blocks xs bs)) none in
     rw both.0 (find-right xs ys bs q both.1)
 
 -- the second part has none
@@ -67,10 +67,10 @@ pub get-middle : (xs ys zs : List Run) (bs : List (List ℕ)) (a b c d q : ℕ) 
     → map.get (contents_of (xs ++ (ys ++ zs)) bs) q ≡ map.get (contents_of ys bs) q
 get-middle xs ys zs bs a b c d q h le k lt =
     get-from_entries nat_cmp_total (mapped_blocks (xs ++ (ys ++ zs)) bs) q
-        ∙ find-middle xs ys zs bs a b c d q h le k lt
-        ∙ sym (get-from_entries nat_cmp_total (mapped_blocks ys bs) q)
+    ∙ find-middle xs ys zs bs a b c d q h le k lt
+    ∙ sym (get-from_entries nat_cmp_total (mapped_blocks ys bs) q)
 
--- what a range of the contents tells
+-- contents that are alike in a range
 pub blocks-same : (m n : Contents) (lba count : ℕ)
     → ((q : ℕ) → lba ≤ q → q < lba + count → map.get m q ≡ map.get n q)
     → blocks m lba count ≡ blocks n lba count
@@ -78,9 +78,9 @@ blocks-same m n lba zero same = blocks-none m lba ∙ sym (blocks-none n lba)
 blocks-same m n lba (suc count) same =
     let e : suc count ≡ count + 1 = omega arith in
     rw e (blocks-more m lba count ∙ ap₂ (λ xs ys. xs ++ ys)
-        (blocks-same m n lba count (λ q le lt. same q le (omega arith)))
-        (ap (λ o. unwrap_or o zero_block) (same (lba + count) (omega arith) (omega arith)))
-        ∙ sym (blocks-more n lba count))
+    (blocks-same m n lba count (λ q le lt. same q le (omega arith)))
+    (ap (λ o. unwrap_or o zero_block) (same (lba + count) (omega arith) (omega arith)))
+    ∙ sym (blocks-more n lba count))
 
 pub mapped_among-same : (m n : Contents) (lba count : ℕ)
     → ((q : ℕ) → lba ≤ q → q < lba + count → map.get m q ≡ map.get n q)
@@ -89,9 +89,9 @@ mapped_among-same m n lba zero same = mapped_among-none m lba ∙ sym (mapped_am
 mapped_among-same m n lba (suc count) same =
     let e : suc count ≡ count + 1 = omega arith in
     rw e (mapped_among-more m lba count ∙ ap₂ (λ x y. x + y)
-        (mapped_among-same m n lba count (λ q le lt. same q le (omega arith)))
-        (ap (λ o. cond (is_some o) 1 0) (same (lba + count) (omega arith) (omega arith)))
-        ∙ sym (mapped_among-more n lba count))
+    (mapped_among-same m n lba count (λ q le lt. same q le (omega arith)))
+    (ap (λ o. cond (is_some o) 1 0) (same (lba + count) (omega arith) (omega arith)))
+    ∙ sym (mapped_among-more n lba count))
 
 -- contents without the addresses of a range
 turned : (b : Bool) (o : Option (List ℕ)) → cond (not b) o None ≡ cond b None o
@@ -103,7 +103,7 @@ pub get-unmapped : (m : Contents) (lba count q : ℕ)
 unfolding unmapped
 get-unmapped m lba count q =
     get-retain_keys m (λ x. not (lies_in lba count x)) q
-        (λ x tied. ap (λ k. not (lies_in lba count k)) (sym (nat_cmp-IsAntisymmetric q x tied)))
+    (λ x tied. ap (λ k. not (lies_in lba count k)) (sym (nat_cmp-IsAntisymmetric q x tied)))
     ∙ turned (lies_in lba count q) (map.get m q)
 
 pub inside : (a k q : ℕ) → a ≤ q → q < a + k → lies_in a k q ≡ true

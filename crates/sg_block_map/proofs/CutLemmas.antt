@@ -34,7 +34,7 @@ stays-set next slots last to some runs distinct =
 pub stays-same : (next slots : List ℕ) → StaysBut next next slots
 stays-same next slots runs distinct = (refl, λ h. h)
 
--- the last slot of a part stands once among its slots and the free ones
+-- the last slot of a part occurs once among its slots and the free ones
 pub once-given : (next free : List ℕ) (first last count : ℕ) → IsChain next first last count
     → AreDistinct (chain next first count) free
     → occurrences last (chain next first count ++ free) ≡ 1
@@ -51,9 +51,9 @@ pub part-slots : (next : List ℕ) (run : Run) (fs gs bs : List Run) (s : ℕ)
     occurrences s (chain next run.first run.count)
 part-slots next run fs gs bs s parts =
     let whole : occurrences s (slots_of (expanded next (fs ++ (gs ++ bs)))) ≡
-        occurrences s (chain next run.first run.count)
+    occurrences s (chain next run.first run.count)
     = ap (λ xs. occurrences s (slots_of xs)) parts
-        ∙ ap (occurrences s) (slots-singles next run.start run.first run.count) in
+    ∙ ap (occurrences s) (slots-singles next run.start run.first run.count) in
     let a = slots-both next s fs (gs ++ bs) in
     let b = slots-both next s gs bs in
     omega arith
@@ -65,9 +65,9 @@ pub part-length : (next : List ℕ) (run : Run) (fs gs bs : List Run)
 part-length next run fs gs bs parts =
     let whole = ap length parts ∙ length-singles next run.start run.first run.count in
     let a = ap length (expanded-append next fs (gs ++ bs))
-        ∙ length-append (expanded next fs) (expanded next (gs ++ bs)) in
+    ∙ length-append (expanded next fs) (expanded next (gs ++ bs)) in
     let b = ap length (expanded-append next gs bs)
-        ∙ length-append (expanded next gs) (expanded next bs) in
+    ∙ length-append (expanded next gs) (expanded next bs) in
     omega arith
 
 pub part-below : (next : List ℕ) (count : ℕ) (run : Run) (fs gs bs : List Run)
@@ -75,16 +75,16 @@ pub part-below : (next : List ℕ) (count : ℕ) (run : Run) (fs gs bs : List Ru
     → AreBelow count (chain next run.first run.count) → AreBelow count (slots_of (expanded next gs))
 part-below next count run fs gs bs parts below =
     let whole : chain next run.first run.count ≡
-        slots_of (expanded next fs) ++ (slots_of (expanded next gs) ++ slots_of (expanded next bs))
+    slots_of (expanded next fs) ++ (slots_of (expanded next gs) ++ slots_of (expanded next bs))
     = sym (slots-singles next run.start run.first run.count) ∙ ap slots_of (sym parts)
-        ∙ ap slots_of (expanded-append next fs (gs ++ bs))
-        ∙ slots-append (expanded next fs) (expanded next (gs ++ bs))
+    ∙ ap slots_of (expanded-append next fs (gs ++ bs))
+    ∙ slots-append (expanded next fs) (expanded next (gs ++ bs))
     ∙ ap (λ xs. slots_of (expanded next fs) ++ slots_of xs) (expanded-append next gs bs)
     ∙ ap (λ xs. slots_of (expanded next fs) ++ xs)
     (slots-append (expanded next gs) (expanded next bs)) in
     below-left count (slots_of (expanded next gs)) (slots_of (expanded next bs))
-        (below-right count (slots_of (expanded next fs))
-        (slots_of (expanded next gs) ++ slots_of (expanded next bs)) (rw whole at below))
+    (below-right count (slots_of (expanded next fs))
+    (slots_of (expanded next gs) ++ slots_of (expanded next bs)) (rw whole at below))
 
 -- a run that is split twice
 pub parts-twice : (next : List ℕ) (run rest : Run) (low high : ℕ) (front gone back : Option Run)
@@ -93,9 +93,9 @@ pub parts-twice : (next : List ℕ) (run rest : Run) (low high : ℕ) (front gon
     singles_of next run
 parts-twice next run rest low high front gone back one two =
     let fs : List Run = option_to_list front in
-        let gs : List Run = option_to_list gone ++ option_to_list back in
+    let gs : List Run = option_to_list gone ++ option_to_list back in
     expanded-append next fs gs ∙ ap (λ xs. expanded next fs ++ xs) (two.parts
-        ∙ sym (expanded-one next rest)) ∙ sym (expanded-append next fs (rest ∷ [])) ∙ one.parts
+    ∙ sym (expanded-one next rest)) ∙ sym (expanded-append next fs (rest ∷ [])) ∙ one.parts
 
 pub chained-twice : (next : List ℕ) (run rest : Run) (low high : ℕ) (front gone back : Option Run)
     → IsSplit next run low front (Some rest) → IsSplit next rest high gone back
@@ -156,17 +156,17 @@ pub cut-twice : (old new : Slots) (kept kept' : List Run) (run rest : Run) (low 
     → IsCut old new kept kept' run low high
 cut-twice old new kept kept' run rest low high front gone back one two keeps frees stays links
     blocks = record {
-  front = front;
-  gone = gone;
-  back = back;
-  parts = parts-twice old.next run rest low high front gone back one two;
-  chained = chained-twice old.next run rest low high front gone back one two;
-  before = one.before;
-  inside = inside-part rest low high gone one.after.1 two.before;
-  behind = behind-part run rest low high back one.after two.after;
-  keeps = keeps ∙ append_assoc kept (option_to_list front) (option_to_list back);
-  frees = frees;
-  stays = stays;
-  links = links;
-  blocks = blocks;
-}
+      front = front;
+      gone = gone;
+      back = back;
+      parts = parts-twice old.next run rest low high front gone back one two;
+      chained = chained-twice old.next run rest low high front gone back one two;
+      before = one.before;
+      inside = inside-part rest low high gone one.after.1 two.before;
+      behind = behind-part run rest low high back one.after two.after;
+      keeps = keeps ∙ append_assoc kept (option_to_list front) (option_to_list back);
+      frees = frees;
+      stays = stays;
+      links = links;
+      blocks = blocks;
+    }

@@ -93,8 +93,8 @@ pub unmapped-less : (xs ys zs : List Run) (blocks : List (List ℕ)) (low high :
 unmapped-less xs ys zs blocks low high le h =
     same_map nat_cmp_total nat_cmp-IsAntisymmetric _ _ (λ q.
     get-unmapped (contents_of (xs ++ zs) blocks) low (high - low) q
-        ∙ get-less xs ys zs blocks low high q h le
-        ∙ sym (get-unmapped (contents_of (xs ++ (ys ++ zs)) blocks) low (high - low) q))
+    ∙ get-less xs ys zs blocks low high q h le
+    ∙ sym (get-unmapped (contents_of (xs ++ (ys ++ zs)) blocks) low (high - low) q))
 
 outside-append : (next : List ℕ) (xs ys : List Run) (blocks : List (List ℕ)) (q : ℕ)
     → find nat_cmp q (mapped_blocks (expanded next xs) blocks) ≡ None
@@ -181,37 +181,37 @@ module _ {old new : Slots} {kept kept' : List Run} {run : Run} {low high : ℕ}
       (expanded old.next gs ++ (expanded old.next bs ++ expanded old.next tail))
   was_apart =
       let p : List Run = expanded old.next (xs ++ kept) in
-          let t : List Run = expanded old.next tail in let f : List Run = expanded old.next fs in
-          let g : List Run = expanded old.next gs in let b : List Run = expanded old.next bs in
+      let t : List Run = expanded old.next tail in let f : List Run = expanded old.next fs in
+      let g : List Run = expanded old.next gs in let b : List Run = expanded old.next bs in
       let whole : singles_of old.next run ≡ f ++ (g ++ b) = sym cut.parts
-          ∙ expanded-append old.next fs (gs ++ bs)
-          ∙ ap (λ zs. f ++ zs) (expanded-append old.next gs bs) in
+      ∙ expanded-append old.next fs (gs ++ bs)
+      ∙ ap (λ zs. f ++ zs) (expanded-append old.next gs bs) in
       ap (expanded old.next) was_shape ∙ expanded-append old.next (xs ++ kept) (run ∷ tail)
-          ∙ ap (λ zs. p ++ zs) (expanded-more old.next run tail ∙ ap (λ zs. zs ++ t) whole
-          ∙ append_assoc f (g ++ b) t ∙ ap (λ zs. f ++ zs) (append_assoc g b t))
+      ∙ ap (λ zs. p ++ zs) (expanded-more old.next run tail ∙ ap (λ zs. zs ++ t) whole
+      ∙ append_assoc f (g ++ b) t ∙ ap (λ zs. f ++ zs) (append_assoc g b t))
       ∙ sym (append_assoc p f (g ++ (b ++ t)))
 
   pub now_apart : expanded old.next is ≡ (expanded old.next (xs ++ kept) ++ expanded old.next fs) ++
       (expanded old.next bs ++ expanded old.next tail)
   now_apart =
       let p : List Run = expanded old.next (xs ++ kept) in
-          let t : List Run = expanded old.next tail in let f : List Run = expanded old.next fs in
-          let b : List Run = expanded old.next bs in
+      let t : List Run = expanded old.next tail in let f : List Run = expanded old.next fs in
+      let b : List Run = expanded old.next bs in
       ap (expanded old.next) shape ∙ expanded-append old.next (xs ++ kept) ((fs ++ bs) ++ tail)
       ∙ ap (λ zs. p ++ zs) (expanded-append old.next (fs ++ bs) tail
       ∙ ap (λ zs. zs ++ t) (expanded-append old.next fs bs) ∙ append_assoc f b t)
       ∙ sym (append_assoc p f (b ++ t))
 
-  -- how often a slot stood, and stands
+  -- how often a slot occurs before and after
   slots_was : (s : ℕ) → occurrences s (slots_of (expanded old.next was)) ≡
       occurrences s (slots_of (expanded old.next is)) + occurrences s
       (slots_of (expanded old.next gs))
   slots_was s =
       let p : List Run = expanded old.next (xs ++ kept) in
-          let t : List Run = expanded old.next tail in let f : List Run = expanded old.next fs in
-          let g : List Run = expanded old.next gs in let b : List Run = expanded old.next bs in
+      let t : List Run = expanded old.next tail in let f : List Run = expanded old.next fs in
+      let g : List Run = expanded old.next gs in let b : List Run = expanded old.next bs in
       let w = ap (λ zs. occurrences s (slots_of zs)) was_apart
-          ∙ slots-two s (p ++ f) (g ++ (b ++ t)) in
+      ∙ slots-two s (p ++ f) (g ++ (b ++ t)) in
       let n = ap (λ zs. occurrences s (slots_of zs)) now_apart ∙ slots-two s (p ++ f) (b ++ t) in
       let m = slots-two s g (b ++ t) in
       omega arith
@@ -220,8 +220,8 @@ module _ {old new : Slots} {kept kept' : List Run} {run : Run} {low high : ℕ}
       (expanded old.next gs)
   lengths =
       let p : List Run = expanded old.next (xs ++ kept) in
-          let t : List Run = expanded old.next tail in let f : List Run = expanded old.next fs in
-          let g : List Run = expanded old.next gs in let b : List Run = expanded old.next bs in
+      let t : List Run = expanded old.next tail in let f : List Run = expanded old.next fs in
+      let g : List Run = expanded old.next gs in let b : List Run = expanded old.next bs in
       let w = ap length was_apart ∙ length-append (p ++ f) (g ++ (b ++ t)) in
       let n = ap length now_apart ∙ length-append (p ++ f) (b ++ t) in
       let m = length-append g (b ++ t) in
@@ -231,7 +231,7 @@ module _ {old new : Slots} {kept kept' : List Run} {run : Run} {low high : ℕ}
     distinct : AreDistinct (slots_of (expanded old.next is)) (slots_of (expanded old.next gs))
     distinct s =
         let once = once-le (length old.blocks)
-            (slots_of (expanded old.next was) ++ old.free) s before.consistent.once in
+        (slots_of (expanded old.next was) ++ old.free) s before.consistent.once in
         let both = occurrences-append s (slots_of (expanded old.next was)) old.free in
         let was = slots_was s in
         omega arith
@@ -257,17 +257,17 @@ module _ {old new : Slots} {kept kept' : List Run} {run : Run} {low high : ℕ}
         let right = chained-right old.next (xs ++ kept) (run ∷ tail) all in
         let front = chained-left old.next fs (gs ++ bs) cut.chained in
         let back = chained-right old.next gs bs
-            (chained-right old.next fs (gs ++ bs) cut.chained) in
+        (chained-right old.next fs (gs ++ bs) cut.chained) in
         rw shape (chained-append old.next (xs ++ kept) ((fs ++ bs) ++ tail) left
-            (chained-append old.next (fs ++ bs) tail
-            (chained-append old.next fs bs front back) right.1))
+        (chained-append old.next (fs ++ bs) tail
+        (chained-append old.next fs bs front back) right.1))
 
     pub cut-runs : low < high → AreRuns is new room
     cut-runs lt =
         let maximal : AreMaximal 0 (MAX_CAPACITY + 1) is =
-            rw shape (cut-maximal (xs ++ kept) tail run low high 0
-            (MAX_CAPACITY + 1) cut.front cut.back lt cut.before cut.behind
-            (rw was_shape at before.maximal)) in
+        rw shape (cut-maximal (xs ++ kept) tail run low high 0
+        (MAX_CAPACITY + 1) cut.front cut.back lt cut.before cut.behind
+        (rw was_shape at before.maximal)) in
         record {
           maximal = maximal;
           chained = (cut.stays is distinct).1 chained-is;
@@ -277,20 +277,20 @@ module _ {old new : Slots} {kept kept' : List Run} {run : Run} {low high : ℕ}
             once = record {
               each = λ t.
                   let a = ap (occurrences t) (ap₂
-                      (λ xs ys. slots_of xs ++ ys) same-expanded cut.frees) in
+                  (λ xs ys. slots_of xs ++ ys) same-expanded cut.frees) in
                   let b = occurrences-append t (slots_of (expanded old.next is))
-                      (slots_of (expanded old.next gs) ++ old.free) in
+                  (slots_of (expanded old.next gs) ++ old.free) in
                   let d = occurrences-append t (slots_of (expanded old.next gs)) old.free in
                   let e = occurrences-append t (slots_of (expanded old.next was)) old.free in
                   let f = slots_was t in
                   let same : occurrences t (slots_of (expanded new.next is) ++ new.free) ≡
-                      occurrences t (slots_of (expanded old.next was) ++ old.free) = omega arith in
+                  occurrences t (slots_of (expanded old.next was) ++ old.free) = omega arith in
                   same ∙ rw cut.blocks (before.consistent.once.each t);
             };
             count =
                 let a = ap length same-expanded in
                 let b = ap length cut.frees ∙ length-append
-                    (slots_of (expanded old.next gs)) old.free in
+                (slots_of (expanded old.next gs)) old.free in
                 let d = length-slots (expanded old.next gs) in
                 omega (arith, before.consistent.count, lengths);
             pool = ap length cut.blocks ∙ before.consistent.pool;
@@ -304,8 +304,8 @@ module _ {old new : Slots} {kept kept' : List Run} {run : Run} {low high : ℕ}
         unmapped (contents_of (expanded old.next was) blocks) low (high - low)
     cut-contents le blocks =
         let p : List Run = expanded old.next (xs ++ kept) in
-            let t : List Run = expanded old.next tail in let f : List Run = expanded old.next fs in
-            let g : List Run = expanded old.next gs in let b : List Run = expanded old.next bs in
+        let t : List Run = expanded old.next tail in let f : List Run = expanded old.next fs in
+        let g : List Run = expanded old.next gs in let b : List Run = expanded old.next bs in
         ap (λ zs. unmapped (contents_of zs blocks) low (high - low)) (same-expanded ∙ now_apart)
         ∙ unmapped-less (p ++ f) g (b ++ t) blocks low high le
         (gone-between old.next low high cut.gone le cut.inside)
@@ -317,13 +317,13 @@ module _ {old new : Slots} {kept kept' : List Run} {run : Run} {low high : ℕ}
         → find nat_cmp q (mapped_blocks (expanded new.next kept') blocks) ≡ None
     cut-outside blocks q le lt none =
         ap (λ zs. find nat_cmp q (mapped_blocks zs blocks)) (kept-same
-            ∙ ap (expanded old.next) cut.keeps)
+        ∙ ap (expanded old.next) cut.keeps)
         ∙ outside-append old.next kept (fs ++ bs) blocks q none
         (outside-append old.next fs bs blocks q
         (front-outside old.next run low q cut.front blocks cut.before le)
         (back-outside old.next run high q cut.back blocks cut.behind lt))
 
--- what stands in a part of a list where each slot stands once
+-- a part of a list in which each slot occurs once
 pub below-sub : (count : ℕ) (xs all : List ℕ) → IsEachOnce count all
     → ((t : ℕ) → occurrences t xs ≤ occurrences t all) → AreBelow count xs
 unfolding AreBelow
@@ -331,10 +331,11 @@ below-sub count [] all once sub = tt
 below-sub count (x ∷ xs) all once sub =
     let here = sub x in
     let more = occurrences-more x x xs in
-    let one = same_slot x in
-    (below_count count all x once (omega arith),
-    below-sub count xs all once (λ t. let s = sub t in let m = occurrences-more t x xs in
-    omega arith))
+    let one = same_slot x in (
+      below_count count all x once (omega arith),
+      below-sub count xs all once (λ t. let s = sub t in let m = occurrences-more t x xs in
+          omega arith),
+    )
 
 -- a run of the table
 module _ (xs kept tail : List Run) (run : Run) (slots : Slots) (room : ℕ)
@@ -357,7 +358,7 @@ module _ (xs kept tail : List Run) (run : Run) (slots : Slots) (room : ℕ)
   pub run-distinct : AreDistinct (chain slots.next run.first run.count) slots.free
   run-distinct s =
       let once = once-le (length slots.blocks)
-          (slots_of (expanded slots.next all) ++ slots.free) s h.consistent.once in
+      (slots_of (expanded slots.next all) ++ slots.free) s h.consistent.once in
       let both = occurrences-append s (slots_of (expanded slots.next all)) slots.free in
       let part = slots_of_run s in
       omega arith
@@ -366,7 +367,7 @@ module _ (xs kept tail : List Run) (run : Run) (slots : Slots) (room : ℕ)
   run-below =
       let same : length slots.next ≡ length slots.blocks = h.links ∙ sym h.consistent.pool in
       rw same (below-sub (length slots.blocks) (chain slots.next run.first run.count)
-          (slots_of (expanded slots.next all) ++ slots.free) h.consistent.once (λ t.
+      (slots_of (expanded slots.next all) ++ slots.free) h.consistent.once (λ t.
       let both = occurrences-append t (slots_of (expanded slots.next all)) slots.free in
       let part = slots_of_run t in
       omega arith))
@@ -375,18 +376,18 @@ module _ (xs kept tail : List Run) (run : Run) (slots : Slots) (room : ℕ)
       × (length xs + length kept + run.count + length tail ≤ room)
   run-lengths =
       let a = ap length (expanded-append slots.next xs (kept ++ run ∷ tail))
-          ∙ length-append (expanded slots.next xs) (expanded slots.next (kept ++ run ∷ tail)) in
+      ∙ length-append (expanded slots.next xs) (expanded slots.next (kept ++ run ∷ tail)) in
       let b = ap length (expanded-append slots.next kept (run ∷ tail))
-          ∙ length-append (expanded slots.next kept) (expanded slots.next (run ∷ tail)) in
+      ∙ length-append (expanded slots.next kept) (expanded slots.next (run ∷ tail)) in
       let d = ap length (expanded-more slots.next run tail)
-          ∙ length-append (singles_of slots.next run) (expanded slots.next tail) in
+      ∙ length-append (singles_of slots.next run) (expanded slots.next tail) in
       let e = length-singles slots.next run.start run.first run.count in
       let f = runs-le slots.next xs (chained-left slots.next xs (kept ++ run ∷ tail) h.chained) in
       let g = runs-le slots.next kept (chained-left slots.next kept (run ∷ tail)
-          (chained-right slots.next xs (kept ++ run ∷ tail) h.chained)) in
+      (chained-right slots.next xs (kept ++ run ∷ tail) h.chained)) in
       let i = runs-le slots.next tail
-          ((chained-right slots.next kept (run ∷ tail)
-          (chained-right slots.next xs (kept ++ run ∷ tail) h.chained)).1) in
+      ((chained-right slots.next kept (run ∷ tail)
+      (chained-right slots.next xs (kept ++ run ∷ tail) h.chained)).1) in
       (omega (arith, h.consistent.count), omega (arith, h.consistent.count))
 
   pub run-range : end_of run ≤ MAX_CAPACITY
@@ -413,12 +414,12 @@ gathered-next rs gathered low high bound i d g lt =
     let e : gathered.from + i + 1 ≡ gathered.from + (i + 1) = omega arith in
     let here : get_or rs (gathered.from + i) d ≡ get_or gathered.records i d
     = ap (λ zs. get_or zs (gathered.from + i) d) (sym g.same)
-        ∙ ap (λ n. get_or (xs ++ (gathered.records ++ drop (end_index gathered) rs)) (n + i) d)
-        (sym lx)
+    ∙ ap (λ n. get_or (xs ++ (gathered.records ++ drop (end_index gathered) rs)) (n + i) d)
+    (sym lx)
     ∙ get_or-append-add xs (gathered.records ++ drop (end_index gathered) rs) i d
     ∙ get_or_append_left gathered.records (drop (end_index gathered) rs) d i lt in
     rw e at (drop_more rs (gathered.from + i) d (omega arith))
-        ∙ ap (λ r. r ∷ drop (gathered.from + (i + 1)) rs) here
+    ∙ ap (λ r. r ∷ drop (gathered.from + (i + 1)) rs) here
 
 pub gathered-here : (rs kept : List Run) (gathered : Drafted) (low high bound i : ℕ) (d : Run)
     → AreGathered rs gathered low high bound → i < length gathered.records
@@ -439,14 +440,14 @@ pub nothing-left : (next : List ℕ) (xs kept ys : List Run) (blocks : List (Lis
 nothing-left next xs kept ys blocks low high bound le h k none =
     same_map nat_cmp_total nat_cmp-IsAntisymmetric _ _ (λ q.
     sym (get-unmapped (contents_of (expanded next (xs ++ (kept ++ ys))) blocks) low (high - low) q
-        ∙ (elim (cases_lt q low) [
+    ∙ (elim (cases_lt q low) [
       | inl lt ↦ ap (λ b. cond b None (map.get
           (contents_of (expanded next (xs ++ (kept ++ ys))) blocks) q))
           (below low (high - low) q lt)
       | inr ge ↦ elim (cases_lt q high) [
         | inl lt ↦ rw (inside low (high - low) q ge (omega arith)) (sym (
             get-from_entries nat_cmp_total (mapped_blocks
-                (expanded next (xs ++ (kept ++ ys))) blocks) q
+            (expanded next (xs ++ (kept ++ ys))) blocks) q
             ∙ outside-append next xs (kept ++ ys) blocks q
             (find-above (expanded next xs) blocks 0 low q (between-expanded next xs 0 low h) ge)
             (outside-append next kept ys blocks q (none q ge lt)
@@ -464,7 +465,7 @@ pub length-expanded : (next : List ℕ) (runs : List Run)
 length-expanded next [] = ap length (expanded-none next)
 length-expanded next (run ∷ runs) =
     let a = ap length (expanded-more next run runs)
-        ∙ length-append (singles_of next run) (expanded next runs) in
+    ∙ length-append (singles_of next run) (expanded next runs) in
     let b = length-singles next run.start run.first run.count in
     let d = length-expanded next runs in
     let e = sum_by-cons (λ (r : Run). r.count) run runs in
@@ -482,7 +483,7 @@ gathered-blocks rs gathered slots room low high bound h g =
     let count = λ (r : Run). r.count in
     let a = ap blocks_of g.same in
     let b = sum_by-append count (take gathered.from rs)
-        (gathered.records ++ drop (end_index gathered) rs) in
+    (gathered.records ++ drop (end_index gathered) rs) in
     let d = sum_by-append count gathered.records (drop (end_index gathered) rs) in
     let e = blocks-fit rs slots room h in
     omega arith

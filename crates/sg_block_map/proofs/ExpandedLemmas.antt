@@ -1,4 +1,4 @@
--- Runs taken expanded: what splits, joins and links leave.
+-- The single addresses of runs: what splits, joins and links leave of them.
 use Rattle.std.proofs.Common.{◌≡◌, ◌≢◌, ℕ, ◌+◌, ◌-◌, ◌≤◌, zero, suc, List, [], ◌∷◌, ◌++◌, length}
 use Rattle.std.proofs.Common.{get_or, set, drop, arith, refl, sym, ap, ap₂, ◌∙◌, append_assoc}
 use Rattle.std.proofs.Common.{length-append}
@@ -44,7 +44,7 @@ singles-append next start first (suc n) m =
     let e : suc n + m ≡ suc (n + m) = omega arith in
     let f : start + suc n ≡ start + 1 + n = omega arith in
     rw (e, f) (ap (λ xs. single start first ∷ xs)
-        (singles-append next (start + 1) (slice_index next first) n m))
+    (singles-append next (start + 1) (slice_index next first) n m))
 
 -- a link of a slot that the chain does not have
 pub singles-set : (next : List ℕ) (t to start first n : ℕ) → occurrences t (chain next first n) ≡ 0
@@ -54,11 +54,11 @@ singles-set next t to start first zero none = refl
 singles-set next t to start first (suc n) none =
     let other : first ≢ t = not_equal t first (omega arith) in
     let same : get_or (set next t to) first 0 ≡ get_or next first 0 =
-        get_or-set_other next t first to 0 other in
+    get_or-set_other next t first to 0 other in
     ap (λ xs. single start first ∷ xs) (ap (λ x. singles (set next t to) (start + 1) x n) same
-        ∙ singles-set next t to (start + 1) (slice_index next first) n (omega arith))
+    ∙ singles-set next t to (start + 1) (slice_index next first) n (omega arith))
 
--- the same addresses with other slots are extent_of by the slots
+-- the slots decide which single addresses there are
 pub singles-by : (next other : List ℕ) (start first to n : ℕ)
     → chain next first n ≡ chain other to n → singles next start first n ≡ singles other start to n
 unfolding singles chain
@@ -67,7 +67,7 @@ singles-by next other start first to (suc n) e =
     let head : first ≡ to = ap (λ xs. get_or xs 0 0) e in
     let rest = ap (λ xs. drop 1 xs) e in
     ap₂ (λ s xs. single start s ∷ xs) head (singles-by next other (start + 1)
-        (slice_index next first) (slice_index other to) n rest)
+    (slice_index next first) (slice_index other to) n rest)
 
 pub expanded-none : (next : List ℕ) → expanded next [] ≡ []
 unfolding expanded
@@ -89,13 +89,13 @@ pub slots-append : (xs ys : List Run) → slots_of (xs ++ ys) ≡ slots_of xs ++
 slots-append [] ys = refl
 slots-append (x ∷ xs) ys = ap (λ zs. x.first ∷ zs) (slots-append xs ys)
 
--- how often a slot stands among those of a run and of the runs behind it
+-- how often a slot occurs among those of a run and of the runs behind it
 pub slots-more : (next : List ℕ) (t : ℕ) (run : Run) (runs : List Run)
     → occurrences t (slots_of (expanded next (run ∷ runs))) ≡
     occurrences t (chain next run.first run.count) + occurrences t (slots_of (expanded next runs))
 slots-more next t run runs =
     ap (λ zs. occurrences t (slots_of zs)) (expanded-more next run runs)
-        ∙ ap (occurrences t) (slots-append (singles_of next run) (expanded next runs))
+    ∙ ap (occurrences t) (slots-append (singles_of next run) (expanded next runs))
     ∙ occurrences-append t (slots_of (singles_of next run)) (slots_of (expanded next runs))
     ∙ ap (λ zs. occurrences t zs + occurrences t (slots_of (expanded next runs)))
     (slots-singles next run.start run.first run.count)
@@ -105,8 +105,8 @@ pub slots-both : (next : List ℕ) (t : ℕ) (xs ys : List Run)
     occurrences t (slots_of (expanded next xs)) + occurrences t (slots_of (expanded next ys))
 slots-both next t xs ys =
     ap (λ zs. occurrences t (slots_of zs)) (expanded-append next xs ys)
-        ∙ ap (occurrences t) (slots-append (expanded next xs) (expanded next ys))
-        ∙ occurrences-append t (slots_of (expanded next xs)) (slots_of (expanded next ys))
+    ∙ ap (occurrences t) (slots-append (expanded next xs) (expanded next ys))
+    ∙ occurrences-append t (slots_of (expanded next xs)) (slots_of (expanded next ys))
 
 pub expanded-set : (next : List ℕ) (t to : ℕ) (runs : List Run)
     → occurrences t (slots_of (expanded next runs)) ≡ 0
@@ -127,18 +127,22 @@ is_chain-set next t to first last count none is =
     let e : count - 1 + 1 ≡ count = omega arith in
     let parts = rw e at (chain-append next first (count - 1) 1) in
     let both = ap (occurrences t) parts ∙ occurrences-append t (chain next first (count - 1))
-        (chain next (slot_after next first (count - 1)) 1) in
-    record { some = is.some; ends = is.ends ∙ sym
-        (slot_after-set next t to first (count - 1) (omega arith)) }
+    (chain next (slot_after next first (count - 1)) 1) in
+    record {
+      some = is.some;
+      ends = is.ends ∙ sym
+          (slot_after-set next t to first (count - 1) (omega arith));
+    }
 
 pub chained-set : (next : List ℕ) (t to : ℕ) (runs : List Run)
     → occurrences t (slots_of (expanded next runs)) ≡ 0 → AreChained next runs
     → AreChained (set next t to) runs
 chained-set next t to [] none h = tt
 chained-set next t to (run ∷ runs) none h =
-    let both = slots-more next t run runs in
-    (is_chain-set next t to run.first run.last run.count (omega arith) h.0,
-    chained-set next t to runs (omega arith) h.1)
+    let both = slots-more next t run runs in (
+      is_chain-set next t to run.first run.last run.count (omega arith) h.0,
+      chained-set next t to runs (omega arith) h.1,
+    )
 
 pub chained-append : (next : List ℕ) (xs ys : List Run) → AreChained next xs → AreChained next ys
     → AreChained next (xs ++ ys)
@@ -163,11 +167,11 @@ runs-le next (run ∷ runs) h =
     let some = h.0.some in
     let rest = runs-le next runs h.1 in
     let len = ap length (expanded-more next run runs)
-        ∙ length-append (singles_of next run) (expanded next runs) in
+    ∙ length-append (singles_of next run) (expanded next runs) in
     let one = length-singles next run.start run.first run.count in
     omega arith
 
--- the last slot of a chain stands in it
+-- the last slot of a chain is in it
 pub last-in : (next : List ℕ) (first last count : ℕ) → IsChain next first last count
     → 1 ≤ occurrences last (chain next first count)
 last-in next first last count is = let some = is.some in

@@ -67,7 +67,7 @@ front_before next before (run ∷ runs) after more lba high bound (Some front) l
     let right = maximal-right before (run ∷ (runs ++ after)) 0 bound h in
     let f = t.1.before in
     maximal-weaker before 0 (behind 0 before) 0 front.start (omega arith)
-        (omega (arith, right.0, f.0)) (maximal-left before (run ∷ (runs ++ after)) 0 bound h)
+    (omega (arith, right.0, f.0)) (maximal-left before (run ∷ (runs ++ after)) 0 bound h)
 
 -- nothing is written yet
 module _ (before runs after more : List Run) (slots : Slots) (lba high room : ℕ)
@@ -146,9 +146,11 @@ last-ahead : (runs after : List Run) (run : Option Run) (at high : ℕ)
 last-ahead runs after None at high h near found e = let wrong = e in cc
 last-ahead runs after (Some run) at high h near found e =
     let same : found ≡ run = some_same found run (sym e) in
-    let start = ap (λ (r : Run). r.start) same in
-    (omega (arith, h.0, near.1), none_ahead (drop at runs) after (end_of run + 1) high
-    (omega (arith, h.0)) h.1 near.2)
+    let start = ap (λ (r : Run). r.start) same in (
+      omega (arith, h.0, near.1),
+      none_ahead (drop at runs) after (end_of run + 1) high
+          (omega (arith, h.0)) h.1 near.2,
+    )
 
 module _ (before after runs : List Run) (done result : Run) (run : Option Run) (at high room : ℕ)
     (old new : Slots) (w : IsWriting before done (ahead_of runs run at ++ after) old high)
@@ -238,16 +240,16 @@ free-there before after runs done run at lba i count old now rs f w up none t sa
     let xs : List Run = expanded now.next (before ++ done ∷ []) in
     let ys : List Run = expanded now.next rest in
     let nowhere = none-between xs ys 0 here (here + 1) (MAX_CAPACITY + 1) here
-        (before-between now.next before done here w.maximal_before w.ends)
-        (between-expanded now.next rest (here + 1) (MAX_CAPACITY + 1) skip) (omega arith)
-        (omega arith) in
+    (before-between now.next before done here w.maximal_before w.ends)
+    (between-expanded now.next rest (here + 1) (MAX_CAPACITY + 1) skip) (omega arith)
+    (omega arith) in
     let unmapped : mapped_at (chained_contents (before ++ done ∷ rest) now) here ≡ 0
     = ap (λ zs. mapped_at (contents_of zs now.blocks) here) (parted now.next before done rest)
-        ∙ none_mapped (xs ++ ys) now.blocks here nowhere in
+    ∙ none_mapped (xs ++ ys) now.blocks here nowhere in
     let not_mapped : mapped_at was here ≡ 0 =
-        sym (ap (λ m. mapped_at m here) same ∙ mapped_at-past was lba i f) ∙ unmapped in
+    sym (ap (λ m. mapped_at m here) same ∙ mapped_at-past was lba i f) ∙ unmapped in
     let all = len-contents_of (expanded now.next (before ++ done ∷ rest)) now.blocks
-        w.consistent.sorted in
+    w.consistent.sorted in
     let all_was = len-contents_of (expanded old.next rs) old.blocks t.sorted in
     let size = ap map.len same in
     let grown = len-replaced was lba i f in
@@ -261,9 +263,9 @@ pub done-fits : (before : List Run) (done : Run) (rest : List Run) (slots : Slot
     → IsWriting before done rest slots lba → done.count ≤ length slots.next
 done-fits before done rest slots lba w =
     let a = ap length (expanded-append slots.next before (done ∷ rest))
-        ∙ length-append (expanded slots.next before) (expanded slots.next (done ∷ rest)) in
+    ∙ length-append (expanded slots.next before) (expanded slots.next (done ∷ rest)) in
     let b = ap length (expanded-more slots.next done rest)
-        ∙ length-append (singles_of slots.next done) (expanded slots.next rest) in
+    ∙ length-append (singles_of slots.next done) (expanded slots.next rest) in
     let d = length-singles slots.next done.start done.first done.count in
     omega (arith, w.consistent.count)
 
@@ -271,12 +273,12 @@ pub next-fits : (before : List Run) (done run : Run) (rest : List Run) (slots : 
     → IsWriting before done (run ∷ rest) slots lba → done.count + run.count ≤ length slots.next
 next-fits before done run rest slots lba w =
     let a = ap length (expanded-append slots.next before (done ∷ (run ∷ rest)))
-        ∙ length-append (expanded slots.next before) (expanded slots.next (done ∷ (run ∷ rest))) in
+    ∙ length-append (expanded slots.next before) (expanded slots.next (done ∷ (run ∷ rest))) in
     let b = ap length (expanded-more slots.next done (run ∷ rest))
-        ∙ length-append (singles_of slots.next done) (expanded slots.next (run ∷ rest)) in
+    ∙ length-append (singles_of slots.next done) (expanded slots.next (run ∷ rest)) in
     let d = length-singles slots.next done.start done.first done.count in
     let e = ap length (expanded-more slots.next run rest)
-        ∙ length-append (singles_of slots.next run) (expanded slots.next rest) in
+    ∙ length-append (singles_of slots.next run) (expanded slots.next rest) in
     let f = length-singles slots.next run.start run.first run.count in
     omega (arith, w.consistent.count)
 
@@ -299,7 +301,7 @@ gathered-ahead before runs after slots room h =
     let right = maximal-right before (runs ++ after) 0 (MAX_CAPACITY + 1) h.maximal in
     let own = maximal-left runs after (behind 0 before) (MAX_CAPACITY + 1) right in
     let le = maximal-le after (behind (behind 0 before) runs) (MAX_CAPACITY + 1)
-        (maximal-right runs after (behind 0 before) (MAX_CAPACITY + 1) right) in
+    (maximal-right runs after (behind 0 before) (MAX_CAPACITY + 1) right) in
     let same : length slots.next ≡ length slots.blocks = h.links ∙ sym h.consistent.pool in
     record {
       maximal = maximal-weaker runs (behind 0 before) (behind (behind 0 before) runs) 0
@@ -334,7 +336,7 @@ walk_from-blocks next runs more lba front t =
     let fs : List Run = option_to_list front in
     let parts = ap length (walk_from-parts next runs lba front more t) in
     let a = ap length (expanded-append next fs more)
-        ∙ length-append (expanded next fs) (expanded next more) in
+    ∙ length-append (expanded next fs) (expanded next more) in
     let b = length-expanded next more in
     let d = length-expanded next runs in
     omega arith

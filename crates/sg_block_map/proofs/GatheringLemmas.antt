@@ -1,4 +1,4 @@
--- Gathering runs: what their addresses tell.
+-- Gathering the runs near a range.
 use Rattle.std.proofs.Common.{◌≡◌, ℕ, ◌+◌, ◌-◌, ◌<◌, ◌≤◌, zero, suc, List, [], ◌∷◌, ◌++◌, length}
 use Rattle.std.proofs.Common.{length-drop, take, drop, get_or, arith, refl, sym, ap, ap₂, ◌∙◌, inl}
 use Rattle.std.proofs.Common.{inr, length-append, cond, Bool, true, false, zero-add}
@@ -50,35 +50,35 @@ count-front (x ∷ rs) (suc n) high h within =
     let one = one_if (nat_lt x.start high) (lt_true x.start high (h 0 (omega arith))) in
     omega arith
 
--- the runs from one place to another begin before the address
-pub count-begun : (rs : List Run) (place at high : ℕ)
-    → ((i : ℕ) → place ≤ i → i < at → start_of rs i < high) → place ≤ at → at ≤ length rs
-    → at ≤ place + count_by (λ (run : Run). nat_lt run.start high) (drop place rs)
-count-begun rs place at high h le within =
-    let len = length-drop place rs in
-    let n = count-front (drop place rs) (at - place) high
-        (λ i lt. let e = start_of-drop rs place i in
-        let b = h (place + i) (omega arith) (omega arith) in omega arith) (omega arith) in
+-- the runs from one index to another begin before the address
+pub count-begun : (rs : List Run) (index at high : ℕ)
+    → ((i : ℕ) → index ≤ i → i < at → start_of rs i < high) → index ≤ at → at ≤ length rs
+    → at ≤ index + count_by (λ (run : Run). nat_lt run.start high) (drop index rs)
+count-begun rs index at high h le within =
+    let len = length-drop index rs in
+    let n = count-front (drop index rs) (at - index) high
+    (λ i lt. let e = start_of-drop rs index i in
+    let b = h (index + i) (omega arith) (omega arith) in omega arith) (omega arith) in
     omega arith
 
 -- one run more
-pub near-more : (rs : List Run) (place at high start : ℕ)
-    → ((i : ℕ) → place ≤ i → i < at → start_of rs i < high) → start ≡ start_of rs at → start ≤ high
-    → (i : ℕ) → place ≤ i → i < at + 1 → start_of rs i ≤ high
-near-more rs place at high start h e le i ge lt = elim (cases_lt i at) [
+pub near-more : (rs : List Run) (index at high start : ℕ)
+    → ((i : ℕ) → index ≤ i → i < at → start_of rs i < high) → start ≡ start_of rs at → start ≤ high
+    → (i : ℕ) → index ≤ i → i < at + 1 → start_of rs i ≤ high
+near-more rs index at high start h e le i ge lt = elim (cases_lt i at) [
   | inl below ↦ let b = h i ge below in omega arith
   | inr above ↦ let same : i ≡ at = omega arith in rw same (omega arith)
 ]
 
-pub begun-more : (rs : List Run) (place at high start : ℕ)
-    → ((i : ℕ) → place ≤ i → i < at → start_of rs i < high) → start ≡ start_of rs at → start < high
-    → (i : ℕ) → place ≤ i → i < at + 1 → start_of rs i < high
-begun-more rs place at high start h e le i ge lt = elim (cases_lt i at) [
+pub begun-more : (rs : List Run) (index at high start : ℕ)
+    → ((i : ℕ) → index ≤ i → i < at → start_of rs i < high) → start ≡ start_of rs at → start < high
+    → (i : ℕ) → index ≤ i → i < at + 1 → start_of rs i < high
+begun-more rs index at high start h e le i ge lt = elim (cases_lt i at) [
   | inl below ↦ h i ge below
   | inr above ↦ let same : i ≡ at = omega arith in rw same (omega arith)
 ]
 
--- ends of runs by their places
+-- the ends of runs by their indexes
 pub end_at-read : (rs : List Run) (i : ℕ) (r : Run) → i < length rs → r ≡ get_or rs i r
     → end_of r ≡ end_at rs i
 end_at-read [] i r h e = absurd (omega arith)
@@ -106,7 +106,7 @@ start_of-behind [] ys i = let e : 0 + i ≡ i = omega arith in rw e refl
 start_of-behind (x ∷ xs) ys i = let e : suc (length xs) + i ≡ suc (length xs + i) = omega arith in
     rw e (start_of-behind xs ys i)
 
--- a run ends before the next one starts_in
+-- a run ends before the next one begins
 maximal-step : (rs : List Run) (a b i : ℕ) → AreMaximal a b rs → suc i < length rs
     → end_at rs i < start_of rs (suc i)
 maximal-step [] a b i h lt = absurd (omega arith)
@@ -115,7 +115,7 @@ maximal-step (x ∷ y ∷ rs) a b zero h lt = omega (arith, h.1.0)
 maximal-step (x ∷ y ∷ rs) a b (suc i) h lt = maximal-step (y ∷ rs) (end_of x + 1) b i h.1
     (omega arith)
 
--- the runs before a place, and those from it on
+-- the runs before an index, and those from it on
 pub maximal-take : (rs : List Run) (n a b high : ℕ) → AreMaximal a b rs → n ≤ length rs
     → (n ≡ 0 → a ≤ high) → ((m : ℕ) → n ≡ suc m → end_at rs m < high)
     → AreMaximal a high (take n rs)
@@ -123,9 +123,11 @@ maximal-take rs zero a b high h within none last = none (omega arith)
 maximal-take [] (suc n) a b high h within none last = absurd (omega arith)
 maximal-take (x ∷ rs) (suc zero) a b high h within none last =
     (h.0, let l = last 0 (omega arith) in omega arith)
-maximal-take (x ∷ rs) (suc (suc n)) a b high h within none last =
-    (h.0, maximal-take rs (suc n) (end_of x + 1) b high h.1 (omega arith)
-    (λ e. absurd (omega arith)) (λ m e. last (suc m) (omega arith)))
+maximal-take (x ∷ rs) (suc (suc n)) a b high h within none last = (
+  h.0,
+  maximal-take rs (suc n) (end_of x + 1) b high h.1 (omega arith)
+      (λ e. absurd (omega arith)) (λ m e. last (suc m) (omega arith)),
+)
 
 pub maximal-drop : (rs : List Run) (n low a b : ℕ) → AreMaximal a b rs → low ≤ b
     → (n < length rs → low ≤ start_of rs n) → AreMaximal low b (drop n rs)
@@ -141,33 +143,33 @@ near-by [] low high h = tt
 near-by (x ∷ ms) low high h = let here = h 0 (omega arith) in
     (here.0, here.1, near-by ms low high (λ i lt. h (suc i) (omega arith)))
 
--- the run before the place reaches the address, or not
-pub begun-none : (rs : List Run) (gathered : Drafted) (place low : ℕ) → gathered.from ≡ place
-    → gathered.records ≡ [] → place ≤ length rs → (0 < place → end_at rs (place - 1) < low)
-    → AreBegun rs gathered place low
-begun-none rs gathered place low e none within before =
+-- the run before the index reaches the address, or not
+pub begun-none : (rs : List Run) (gathered : Drafted) (index low : ℕ) → gathered.from ≡ index
+    → gathered.records ≡ [] → index ≤ length rs → (0 < index → end_at rs (index - 1) < low)
+    → AreBegun rs gathered index low
+begun-none rs gathered index low e none within before =
     let len = ap length none in
     record {
       reached = omega arith;
-      same = rw (e, none) (take-append-drop place rs);
+      same = rw (e, none) (take-append-drop index rs);
       one = omega arith;
       reach = λ i ge lt. absurd (omega arith);
       before = λ _ pos. before pos;
     }
 
-pub begun-one : (rs : List Run) (gathered : Drafted) (run : Run) (place low : ℕ) → 0 < place
-    → place ≤ length rs → gathered.from ≡ place - 1 → gathered.records ≡ run ∷ []
-    → run ≡ get_or rs (place - 1) run → low ≤ end_of run → AreBegun rs gathered place low
-begun-one rs gathered run place low pos within e one read reach =
+pub begun-one : (rs : List Run) (gathered : Drafted) (run : Run) (index low : ℕ) → 0 < index
+    → index ≤ length rs → gathered.from ≡ index - 1 → gathered.records ≡ run ∷ []
+    → run ≡ get_or rs (index - 1) run → low ≤ end_of run → AreBegun rs gathered index low
+begun-one rs gathered run index low pos within e one read reach =
     let len = ap length one in
-    let on : place - 1 + 1 ≡ place = omega arith in
-    let ends = end_at-read rs (place - 1) run (omega arith) read in
+    let on : index - 1 + 1 ≡ index = omega arith in
+    let ends = end_at-read rs (index - 1) run (omega arith) read in
     record {
       reached = omega arith;
-      same = rw (e, one) (rw on at (same-splice rs [] (place - 1) (place - 1) run
-          (omega arith) read) ∙ take-append-drop (place - 1) rs);
+      same = rw (e, one) (rw on at (same-splice rs [] (index - 1) (index - 1) run
+          (omega arith) read) ∙ take-append-drop (index - 1) rs);
       one = omega arith;
-      reach = λ i ge lt. let is : i ≡ place - 1 = omega arith in rw is (omega arith);
+      reach = λ i ge lt. let is : i ≡ index - 1 = omega arith in rw is (omega arith);
       before = λ wrong pos. absurd (omega arith);
     }
 
@@ -177,48 +179,48 @@ pub gathered-parts : (rs : List Run) (gathered : Drafted)
     → rs ≡ take gathered.from rs ++ (gathered.records ++ drop (end_index gathered) rs)
 gathered-parts rs gathered same = sym same
 
-pub all-gathered : (rs : List Run) (begun gathered : Drafted) (place low high bound : ℕ)
-    → AreBegun rs begun place low → IsLowerBound rs place low → low ≤ high
-    → gathered.from ≡ begun.from → place ≤ end_index gathered → end_index gathered ≤ length rs
+pub all-gathered : (rs : List Run) (begun gathered : Drafted) (index low high bound : ℕ)
+    → AreBegun rs begun index low → IsLowerBound rs index low → low ≤ high
+    → gathered.from ≡ begun.from → index ≤ end_index gathered → end_index gathered ≤ length rs
     → splice rs gathered.from (end_index gathered) gathered.records ≡ rs
-    → ((i : ℕ) → place ≤ i → i < end_index gathered → start_of rs i ≤ high)
+    → ((i : ℕ) → index ≤ i → i < end_index gathered → start_of rs i ≤ high)
     → (end_index gathered < length rs → high < start_of rs (end_index gathered))
     → AreMaximal 0 bound rs → high + 1 ≤ bound
     → AreGathered rs gathered low high bound
-all-gathered rs begun gathered place low high bound b p order from grows within same near after
+all-gathered rs begun gathered index low high bound b p order from grows within same near after
     maximal le =
     let xs : List Run = take gathered.from rs in
     let reached = b.reached in
     let lx : length xs ≡ gathered.from = front_of rs gathered.from (omega arith) in
     let ends = λ (i : ℕ) (lt : i < length gathered.records). ap
-        (λ zs. end_at zs (gathered.from + i)) (sym same)
-        ∙ ap (λ n. end_at (xs ++ (gathered.records ++ drop (end_index gathered) rs)) (n + i))
-        (sym lx)
+    (λ zs. end_at zs (gathered.from + i)) (sym same)
+    ∙ ap (λ n. end_at (xs ++ (gathered.records ++ drop (end_index gathered) rs)) (n + i))
+    (sym lx)
     ∙ end_at-behind xs (gathered.records ++ drop (end_index gathered) rs) i
     ∙ end_at-left gathered.records (drop (end_index gathered) rs) i lt in
     let starts = λ (i : ℕ) (lt : i < length gathered.records). ap
-        (λ zs. start_of zs (gathered.from + i)) (sym same)
-        ∙ ap (λ n. start_of (xs ++ (gathered.records ++ drop (end_index gathered) rs)) (n + i))
-        (sym lx)
+    (λ zs. start_of zs (gathered.from + i)) (sym same)
+    ∙ ap (λ n. start_of (xs ++ (gathered.records ++ drop (end_index gathered) rs)) (n + i))
+    (sym lx)
     ∙ start_of-behind xs (gathered.records ++ drop (end_index gathered) rs) i
     ∙ start_of-left gathered.records (drop (end_index gathered) rs) i lt in
     record {
       within = within;
       same = same;
       before = maximal-take rs gathered.from 0 bound low maximal (omega arith) (λ _. omega arith)
-          (λ m is. elim (cases_lt gathered.from place) [
-        | inl below ↦
-            let up : end_at rs m < start_of rs gathered.from =
+          (λ m is. elim (cases_lt gathered.from index) [
+            | inl below ↦
+                let up : end_at rs m < start_of rs gathered.from =
                 rw (sym is) at (maximal-step rs 0 bound m maximal (omega arith)) in
-            let low_there = p.before gathered.from below in omega arith
-        | inr above ↦
-            let here : begun.from ≡ place = omega arith in
-            let at : place - 1 ≡ m = omega arith in
-            rw at at (b.before here (omega arith))
-      ]);
+                let low_there = p.before gathered.from below in omega arith
+            | inr above ↦
+                let here : begun.from ≡ index = omega arith in
+                let at : index - 1 ≡ m = omega arith in
+                rw at at (b.before here (omega arith))
+          ]);
       near = near-by gathered.records low high (λ i lt.
           let e = ends i lt in let s = starts i lt in
-          elim (cases_lt (gathered.from + i) place) [
+          elim (cases_lt (gathered.from + i) index) [
             | inl below ↦
                 let r = b.reach (gathered.from + i) (omega arith) below in
                 let l = p.before (gathered.from + i) below in
@@ -237,26 +239,26 @@ all-gathered rs begun gathered place low high bound b p order from grows within 
 true_le : (a b : ℕ) → a ≤ b → nat_le a b ≡ true
 true_le a b h = grind (arith, nat_tests)
 
-pub count-starts : (rs : List Run) (place low high : ℕ)
-    → ((i : ℕ) → place ≤ i → i < length rs → low ≤ start_of rs i)
-    → count_by (λ (run : Run). nat_lt run.start high) (drop place rs) ≤ count_by
+pub count-starts : (rs : List Run) (index low high : ℕ)
+    → ((i : ℕ) → index ≤ i → i < length rs → low ≤ start_of rs i)
+    → count_by (λ (run : Run). nat_lt run.start high) (drop index rs) ≤ count_by
     (starts_in low high) rs
 count-starts [] zero low high after = omega arith
-count-starts [] (suc place) low high after = omega arith
+count-starts [] (suc index) low high after = omega arith
 count-starts (x ∷ rs) zero low high after =
     let rest = count-starts rs zero low high (λ i ge lt. after (suc i) (omega arith) (omega arith))
-        in
+    in
     let l = count-more (λ (run : Run). nat_lt run.start high) x rs in
     let r = count-more (starts_in low high) x rs in
     let first : starts_in low high x ≡ nat_lt x.start high =
-        ap (λ b. b && nat_lt x.start high) (true_le low x.start
-        (after 0 (omega arith) (omega arith))) in
+    ap (λ b. b && nat_lt x.start high) (true_le low x.start
+    (after 0 (omega arith) (omega arith))) in
     let same : cond {A = ℕ} (starts_in low high x) 1 0 ≡ cond (nat_lt x.start high) 1 0 =
-        ap (λ b. cond b 1 0) first in
+    ap (λ b. cond b 1 0) first in
     omega arith
-count-starts (x ∷ rs) (suc place) low high after =
-    let rest = count-starts rs place low high
-        (λ i ge lt. after (suc i) (omega arith) (omega arith)) in
+count-starts (x ∷ rs) (suc index) low high after =
+    let rest = count-starts rs index low high
+    (λ i ge lt. after (suc i) (omega arith) (omega arith)) in
     let r = count-more (starts_in low high) x rs in
     omega arith
 

@@ -73,7 +73,7 @@ pub length-linked : (next : List ℕ) (done : Run) (to : ℕ)
     → length (linked next done to) ≡ length next
 length-linked next done to = length_linked next done to done.count refl
 
--- the last slot of a run stands once in its chain
+-- the last slot of a run occurs once in its chain
 last_once : (next : List ℕ) (done : Run) (n : ℕ) → done.count ≡ suc n
     → IsChain next done.first done.last done.count
     → occurrences done.last (chain next done.first done.count) ≤ 1
@@ -83,14 +83,14 @@ last_once next done n e is once =
     let m : done.count - 1 ≡ n = omega (arith, e) in
     let k : done.count ≡ n + 1 = omega (arith, e) in
     let ends : done.last ≡ slot_after next done.first n = is.ends
-        ∙ ap (slot_after next done.first) m in
+    ∙ ap (slot_after next done.first) m in
     let parts = ap (λ c. occurrences done.last (chain next done.first c)) k
-        ∙ ap (occurrences done.last) (chain-last next done.first n)
-        ∙ occurrences-append done.last (chain next done.first n)
-        (slot_after next done.first n ∷ []) in
+    ∙ ap (occurrences done.last) (chain-last next done.first n)
+    ∙ occurrences-append done.last (chain next done.first n)
+    (slot_after next done.first n ∷ []) in
     let one : occurrences done.last (slot_after next done.first n ∷ []) ≡ 1 =
-        ap (λ s. occurrences done.last (s ∷ [])) (sym ends) ∙ occurrences-one done.last done.last
-        ∙ same_slot done.last in
+    ap (λ s. occurrences done.last (s ∷ [])) (sym ends) ∙ occurrences-one done.last done.last
+    ∙ same_slot done.last in
     (ends, omega arith)
 
 join_singles : (next : List ℕ) (done other : Run) (n : ℕ) → done.count ≡ n
@@ -105,9 +105,9 @@ join_singles next done other zero e ends is low once =
     let all : done.count + other.count ≡ other.count = omega (arith, e) in
     let at : done.start ≡ other.start = omega (arith, e, ends) in
     let none : singles_of next done ≡ [] = ap (singles next done.start done.first) e
-        ∙ singles-none next done.start done.first in
+    ∙ singles-none next done.start done.first in
     ap₂ (λ ns f. singles ns done.start f (done.count + other.count))
-        (no_link next done other.first e) (no_first done other e)
+    (no_link next done other.first e) (no_first done other e)
     ∙ ap₂ (λ a k. singles next a other.first k) at all
     ∙ ap (λ xs. xs ++ singles_of next other) (sym none)
 join_singles next done other (suc n) e ends is low once =
@@ -119,11 +119,11 @@ join_singles next done other (suc n) e ends is low once =
     let now : List ℕ = set next done.last other.first in
     let k : n + 1 ≡ done.count = omega (arith, e) in
     let front : chain now done.first done.count ≡ chain next done.first done.count =
-        rw k at (linked-front next done.last other.first done.first n l.0 (low pos) l.1) in
+    rw k at (linked-front next done.last other.first done.first n l.0 (low pos) l.1) in
     let on : slot_after now done.first done.count ≡ other.first =
-        rw k at (linked-on next done.last other.first done.first n l.0 (low pos) l.1) in
+    rw k at (linked-on next done.last other.first done.first n l.0 (low pos) l.1) in
     ap₂ (λ ns f. singles ns done.start f (done.count + other.count))
-        (a_link next done other.first n e) (a_first done other n e)
+    (a_link next done other.first n e) (a_first done other n e)
     ∙ singles-append now done.start done.first done.count other.count
     ∙ ap₂ (λ xs ys. xs ++ ys)
     (singles-by now next done.start done.first done.first done.count front)
@@ -153,9 +153,9 @@ join_chain next done other (suc n) e so is low once =
     let k : n + 1 ≡ done.count = omega (arith, e) in
     let m : done.count + (other.count - 1) ≡ done.count + other.count - 1 = omega arith in
     let on : slot_after now done.first done.count ≡ other.first =
-        rw k at (linked-on next done.last other.first done.first n l.0 (low pos) l.1) in
+    rw k at (linked-on next done.last other.first done.first n l.0 (low pos) l.1) in
     let kept = is_chain-set next done.last other.first other.first other.last other.count other_none
-        so in
+    so in
     rw (a_link next done other.first n e, a_first done other n e) (record {
       some = omega arith;
       ends = kept.ends ∙ ap (λ f. slot_after now f (other.count - 1)) (sym on)
@@ -190,12 +190,12 @@ module _ (before : List Run) (done other : Run) (rest : List Run) (slots : Slots
   last_there pos =
       let some = last-in slots.next done.first done.last done.count (front pos) in
       let once = once-le (length slots.blocks)
-          (slots_of (expanded slots.next was) ++ slots.free) done.last consistent.once in
+      (slots_of (expanded slots.next was) ++ slots.free) done.last consistent.once in
       let both = occurrences-append done.last (slots_of (expanded slots.next was)) slots.free in
       let w = slots_was done.last in
       let low = below_count (length slots.blocks)
-          (slots_of (expanded slots.next was) ++ slots.free) done.last consistent.once
-          (omega arith) in
+      (slots_of (expanded slots.next was) ++ slots.free) done.last consistent.once
+      (omega arith) in
       (omega (arith, consistent.pool), omega arith)
 
   once_there : 0 < done.count → occurrences done.last

@@ -50,7 +50,7 @@ keys-blocks : (xs : List Run) (bs : List (List ℕ))
 keys-blocks [] bs = refl
 keys-blocks (x ∷ xs) bs = ap (λ ks. x.start ∷ ks) (keys-blocks xs bs)
 
--- runs that begin end_index an address
+-- runs that begin at an address or past it
 abbrev ArePast : ℕ → List (ℕ × ℕ) → Type 0
 ArePast low [] = Unit
 ArePast low (run ∷ rs) = low ≤ run.0
@@ -89,8 +89,8 @@ a_run : (next : List ℕ) (run : Run) (n : ℕ) (more : List ℕ) → run.count 
 a_run next run n more e h =
     let f : end_of run + 1 ≡ run.start + n + 2 = omega (arith, e) in
     ap (λ k. runs_of (map (λ (x : Run). x.start) (singles next run.start run.first k) ++ more)) e
-        ∙ one-run next run.start run.first n more (rw f at h)
-        ∙ ap (λ k. (run.start, k) ∷ runs_of more) (sym e)
+    ∙ one-run next run.start run.first n more (rw f at h)
+    ∙ ap (λ k. (run.start, k) ∷ runs_of more) (sym e)
 
 runs-expanded : (next : List ℕ) (rs : List Run) (a b : ℕ) → AreMaximal a b rs → AreChained next rs
     → runs_of (map (λ (x : Run). x.start) (expanded next rs)) ≡ map extent_of rs
@@ -101,7 +101,7 @@ runs-expanded next (run ∷ rs) a b h k =
     let some = k.0.some in
     let e : run.count ≡ suc (run.count - 1) = omega arith in
     let later : ArePast (end_of run + 1) (runs_of (map (λ (x : Run). x.start) (expanded next rs))) =
-        rw rest (past-extents rs (end_of run + 1) b h.1) in
+    rw rest (past-extents rs (end_of run + 1) b h.1) in
     ap (λ xs. runs_of (map (λ (x : Run). x.start) xs)) (expanded-more next run rs)
     ∙ ap runs_of (map-append (λ (x : Run). x.start) (singles_of next run) (expanded next rs))
     ∙ a_run next run (run.count - 1) (map (λ (x : Run). x.start) (expanded next rs)) e later
@@ -114,10 +114,10 @@ pub runs-extents : (next : List ℕ) (rs : List Run) (bs : List (List ℕ)) (a b
 unfolding runs
 runs-extents next rs bs a b h k =
     ap (λ es. runs_of (map (λ (e : ℕ × List ℕ). e.0) es))
-        (entries-contents_of (expanded next rs) bs a b (between-expanded next rs a b h))
+    (entries-contents_of (expanded next rs) bs a b (between-expanded next rs a b h))
     ∙ ap runs_of (keys-blocks (expanded next rs) bs) ∙ runs-expanded next rs a b h k
 
--- a run that starts_in in the range meets it
+-- a run that begins in the range meets it
 starts_meets : (lba count start n : ℕ) → 0 < n
     → cond {A = ℕ} (nat_le lba start && nat_lt start (lba + count)) 1 0 ≤ cond
     (nat_lt (max start lba) (min (start + n) (lba + count))) 1 0
@@ -127,9 +127,13 @@ starts-le : (next : List ℕ) (rs : List Run) (lba count : ℕ) → AreChained n
     → count_by (starts_in lba (lba + count)) rs ≤ count_by (meets lba count) (map extent_of rs)
 starts-le next [] lba count k = omega arith
 starts-le next (run ∷ rs) lba count k =
-    omega (arith, starts_meets lba count run.start run.count k.0.some,
-        starts-le next rs lba count k.1, count-more (starts_in lba (lba + count)) run rs,
-        count-more (meets lba count) (extent_of run) (map extent_of rs))
+    omega (
+      arith,
+      starts_meets lba count run.start run.count k.0.some,
+      starts-le next rs lba count k.1,
+      count-more (starts_in lba (lba + count)) run rs,
+      count-more (meets lba count) (extent_of run) (map extent_of rs),
+    )
 
 pub starts-meet : (next : List ℕ) (rs : List Run) (bs : List (List ℕ)) (a b lba count : ℕ)
     → AreMaximal a b rs → AreChained next rs → count_by (starts_in lba (lba + count)) rs ≤ meet
@@ -165,15 +169,15 @@ near-gathered next rs bs gathered lba count bound h k g =
     let f = near_blocks lba count in
     let told_runs = runs-extents next rs bs 0 bound h k in
     let parts : map extent_of rs ≡ map extent_of (take gathered.from rs) ++
-        (map extent_of gathered.records ++ map extent_of (drop (end_index gathered) rs))
+    (map extent_of gathered.records ++ map extent_of (drop (end_index gathered) rs))
     = ap (map extent_of) (sym g.same) ∙ map-append extent_of (take gathered.from rs)
-        (gathered.records ++ drop (end_index gathered) rs)
-        ∙ ap (λ xs. map extent_of (take gathered.from rs) ++ xs)
-        (map-append extent_of gathered.records (drop (end_index gathered) rs)) in
+    (gathered.records ++ drop (end_index gathered) rs)
+    ∙ ap (λ xs. map extent_of (take gathered.from rs) ++ xs)
+    (map-append extent_of gathered.records (drop (end_index gathered) rs)) in
     let a = sum_by-append f (map extent_of (take gathered.from rs))
-        (map extent_of gathered.records ++ map extent_of (drop (end_index gathered) rs)) in
+    (map extent_of gathered.records ++ map extent_of (drop (end_index gathered) rs)) in
     let b = sum_by-append f (map extent_of gathered.records)
-        (map extent_of (drop (end_index gathered) rs)) in
+    (map extent_of (drop (end_index gathered) rs)) in
     let own = near-extents gathered.records lba count g.near in
     rw (told_runs, parts) (omega arith)
 
@@ -191,17 +195,23 @@ none-before : (rs : List Run) (a lba count : ℕ) → AreMaximal a lba rs
 none-before [] a lba count h = omega arith
 none-before (run ∷ rs) a lba count h =
     let le = maximal-le rs (end_of run + 1) lba h.1 in
-    omega (arith, ends_before lba count run.start run.count (omega (arith, le)),
-        none-before rs (end_of run + 1) lba count h.1,
-        count-more (meets lba count) (extent_of run) (map extent_of rs))
+    omega (
+      arith,
+      ends_before lba count run.start run.count (omega (arith, le)),
+      none-before rs (end_of run + 1) lba count h.1,
+      count-more (meets lba count) (extent_of run) (map extent_of rs),
+    )
 
 none-after : (rs : List Run) (a b lba count : ℕ) → AreMaximal a b rs → lba + count ≤ a
     → count_by (meets lba count) (map extent_of rs) ≡ 0
 none-after [] a b lba count h le = omega arith
 none-after (run ∷ rs) a b lba count h le =
-    omega (arith, begins_past lba count run.start run.count (omega (arith, h.0)),
-        none-after rs (end_of run + 1) b lba count h.1 (omega (arith, h.0)),
-        count-more (meets lba count) (extent_of run) (map extent_of rs))
+    omega (
+      arith,
+      begins_past lba count run.start run.count (omega (arith, h.0)),
+      none-after rs (end_of run + 1) b lba count h.1 (omega (arith, h.0)),
+      count-more (meets lba count) (extent_of run) (map extent_of rs),
+    )
 
 -- the runs that meet a range are among those that were gathered
 pub meet-gathered : (next : List ℕ) (rs : List Run) (bs : List (List ℕ)) (gathered : Drafted)
@@ -215,14 +225,14 @@ meet-gathered next rs bs gathered lba count bound h k g =
     let back = map extent_of (drop (end_index gathered) rs) in
     let parts : map extent_of rs ≡ front ++ (map extent_of gathered.records ++ back)
     = ap (map extent_of) (sym g.same) ∙ map-append extent_of (take gathered.from rs)
-        (gathered.records ++ drop (end_index gathered) rs)
-        ∙ ap (λ xs. front ++ xs) (map-append extent_of gathered.records
-        (drop (end_index gathered) rs)) in
+    (gathered.records ++ drop (end_index gathered) rs)
+    ∙ ap (λ xs. front ++ xs) (map-append extent_of gathered.records
+    (drop (end_index gathered) rs)) in
     let a = count-append (meets lba count) front (map extent_of gathered.records ++ back) in
     let b = count-append (meets lba count) (map extent_of gathered.records) back in
     let x = none-before (take gathered.from rs) 0 lba count g.before in
     let y = none-after (drop (end_index gathered) rs) (lba + count + 1) bound lba count g.after
-        (omega arith) in
+    (omega arith) in
     let z = count_by-le-length (meets lba count) (map extent_of gathered.records) in
     rw (extents, parts) (omega (arith, length-map gathered.records extent_of))
 
@@ -233,5 +243,9 @@ meets_none lba count start n e = grind (arith, nat_tests)
 -- no run meets a range of no address
 pub none-meet : (rs : List (ℕ × ℕ)) (lba count : ℕ) → count ≡ 0 → count_by (meets lba count) rs ≡ 0
 none-meet [] lba count e = omega arith
-none-meet (run ∷ rs) lba count e = omega (arith, meets_none lba count run.0 run.1 e,
-    none-meet rs lba count e, count-more (meets lba count) run rs)
+none-meet (run ∷ rs) lba count e = omega (
+  arith,
+  meets_none lba count run.0 run.1 e,
+  none-meet rs lba count e,
+  count-more (meets lba count) run rs,
+)

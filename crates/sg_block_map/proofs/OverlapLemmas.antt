@@ -65,31 +65,31 @@ among_insert m x v a (suc k) none =
     rw e (elim (cases_lt x (a + k)) [
       | inl lt ↦
           let c : eq_by_cmp nat_cmp (a + k) x ≡ false =
-              eq_other (a + k) x (λ same. absurd (omega arith)) in
+          eq_other (a + k) x (λ same. absurd (omega arith)) in
           let here : mapped_at (map.insert m x v) (a + k) ≡ mapped_at m (a + k) = at
-              ∙ ap (λ b. cond b 1 (mapped_at m (a + k))) c in
+          ∙ ap (λ b. cond b 1 (mapped_at m (a + k))) c in
           let wide : cond {A = ℕ} (lies_in a (k + 1) x) 1 0 ≡ cond (lies_in a k x) 1 0 =
-              elim (cases_lt x a) [
+          elim (cases_lt x a) [
             | inl low ↦ rw (below a (k + 1) x low, below a k x low) refl
             | inr ge ↦ rw (inside a (k + 1) x ge (omega arith), inside a k x ge lt) refl
           ] in omega arith
       | inr ge ↦ elim (cases_lt (a + k) x) [
         | inl lt ↦
             let c : eq_by_cmp nat_cmp (a + k) x ≡ false =
-                eq_other (a + k) x (λ same. absurd (omega arith)) in
+            eq_other (a + k) x (λ same. absurd (omega arith)) in
             let here : mapped_at (map.insert m x v) (a + k) ≡ mapped_at m (a + k) = at
-                ∙ ap (λ b. cond b 1 (mapped_at m (a + k))) c in
+            ∙ ap (λ b. cond b 1 (mapped_at m (a + k))) c in
             let wide : cond {A = ℕ} (lies_in a (k + 1) x) 1 0 ≡ cond (lies_in a k x) 1 0 =
-                rw (above a (k + 1) x (omega arith), above a k x (omega arith)) refl in omega arith
+            rw (above a (k + 1) x (omega arith), above a k x (omega arith)) refl in omega arith
         | inr le ↦
             let same : a + k ≡ x = omega arith in
             let here : mapped_at (map.insert m x v) (a + k) ≡ 1 = at
-                ∙ ap (λ b. cond b 1 (mapped_at m (a + k))) (eq_same (a + k) x same) in
+            ∙ ap (λ b. cond b 1 (mapped_at m (a + k))) (eq_same (a + k) x same) in
             let not_yet : mapped_at m (a + k) ≡ 0 = ap (mapped_at m) same ∙ none in
             let new : cond {A = ℕ} (lies_in a (k + 1) x) 1 0 ≡ 1 =
-                ap (λ b. cond b 1 0) (inside a (k + 1) x (omega arith) (omega arith)) in
+            ap (λ b. cond b 1 0) (inside a (k + 1) x (omega arith) (omega arith)) in
             let old : cond {A = ℕ} (lies_in a k x) 1 0 ≡ 0 =
-                ap (λ b. cond b 1 0) (above a k x (omega arith)) in omega arith
+            ap (λ b. cond b 1 0) (above a k x (omega arith)) in omega arith
       ]
     ])
 
@@ -99,10 +99,10 @@ among_count : (xs : List Run) (bs : List (List ℕ)) (low high a k : ℕ) → Ar
 among_count [] bs low high a k h = empty_among bs a k
 among_count (x ∷ xs) bs low high a k h =
     let none = none_mapped xs bs x.start (λ j lt same. let up =
-        between-low xs (x.start + 1) high j h.1 lt in absurd (omega arith)) in
+    between-low xs (x.start + 1) high j h.1 lt in absurd (omega arith)) in
     let rest = among_count xs bs (x.start + 1) high a k h.1 in
     let more = among_insert (contents_of xs bs) x.start
-        (slice_index_or bs x.first zero_block) a k none in
+    (slice_index_or bs x.first zero_block) a k none in
     let count = count-more (λ (x : Run). lies_in a k x.start) x xs in
     omega arith
 
@@ -125,7 +125,7 @@ count_run next a k start first zero = omega arith
 count_run next a k start first (suc n) =
     let rest = count_run next a k (start + 1) (slice_index next first) n in
     let count = count-more (λ (x : Run). lies_in a k x.start) (single start first)
-        (singles next (start + 1) (slice_index next first) n) in
+    (singles next (start + 1) (slice_index next first) n) in
     let step = overlap_step a k start n in
     omega arith
 
@@ -137,8 +137,8 @@ count_apart next a k (run ∷ runs) =
     let one = count_run next a k run.start run.first run.count in
     let rest = count_apart next a k runs in
     let both = ap (count_by (λ (x : Run). lies_in a k x.start)) (expanded-more next run runs)
-        ∙ count-append (λ (x : Run). lies_in a k x.start) (singles_of next run)
-        (expanded next runs) in
+    ∙ count-append (λ (x : Run). lies_in a k x.start) (singles_of next run)
+    (expanded next runs) in
     let sum = sum_by-cons (overlap a (a + k)) run runs in
     omega arith
 
@@ -155,10 +155,10 @@ pub get-gathered : (rs : List Run) (gathered : Drafted) (slots : Slots) (lba cou
 get-gathered rs gathered slots lba count bound q g le lt =
     let xs : List Run = take gathered.from rs in let ys : List Run = drop (end_index gathered) rs in
     let parts : expanded slots.next rs ≡ expanded slots.next xs ++
-        (expanded slots.next gathered.records ++ expanded slots.next ys)
+    (expanded slots.next gathered.records ++ expanded slots.next ys)
     = ap (expanded slots.next) (sym g.same) ∙ expanded-append slots.next xs (gathered.records ++ ys)
-        ∙ ap (λ zs. expanded slots.next xs ++ zs)
-        (expanded-append slots.next gathered.records ys) in
+    ∙ ap (λ zs. expanded slots.next xs ++ zs)
+    (expanded-append slots.next gathered.records ys) in
     ap (λ zs. map.get (contents_of zs slots.blocks) q) parts
     ∙ get-middle (expanded slots.next xs) (expanded slots.next gathered.records)
     (expanded slots.next ys) slots.blocks 0 lba (lba + count + 1) bound q

@@ -30,15 +30,15 @@ pub below-part_of_chain : (count : ℕ) (next : List ℕ) (first n m : ℕ) → 
 below-part_of_chain count next first n m le h =
     let e : n + (m - n) ≡ m = omega arith in
     below-left count (chain next first n) (chain next (slot_after next first n) (m - n))
-        (rw (sym (chain-append next first n (m - n)), e) h)
+    (rw (sym (chain-append next first n (m - n)), e) h)
 
 pub slot-below : (count : ℕ) (next : List ℕ) (first n m : ℕ) → n < m
     → AreBelow count (chain next first m) → slot_after next first n < count
 slot-below count next first n m lt h =
     let front = below-part_of_chain count next first (n + 1) m (omega arith) h in
     below-one count (slot_after next first n)
-        (below-right count (chain next first n) (slot_after next first n ∷ [])
-        (rw (chain-last next first n) at front))
+    (below-right count (chain next first n) (slot_after next first n ∷ [])
+    (rw (chain-last next first n) at front))
 
 pub expanded-one : (next : List ℕ) (run : Run) → expanded next (run ∷ []) ≡ singles_of next run
 expanded-one next run = expanded-more next run []
@@ -51,15 +51,18 @@ pub split-parts : (next : List ℕ) (run : Run) (n : ℕ) → n ≤ run.count
 split-parts next run n le =
     let e : n + (run.count - n) ≡ run.count = omega arith in
     sym (ap (singles next run.start run.first) (sym e)
-        ∙ singles-append next run.start run.first n (run.count - n))
+    ∙ singles-append next run.start run.first n (run.count - n))
 
 pub rest-chain : (next : List ℕ) (run : Run) (n : ℕ) → n < run.count
     → IsChain next run.first run.last run.count → let rest = rest_of next run n in
     IsChain next rest.first rest.last rest.count
 rest-chain next run n lt is =
     let e : n + (run.count - n - 1) ≡ run.count - 1 = omega arith in
-    record { some = omega arith; ends = is.ends ∙ ap (slot_after next run.first) (sym e)
-        ∙ slot_after-add next run.first n (run.count - n - 1) }
+    record {
+      some = omega arith;
+      ends = is.ends ∙ ap (slot_after next run.first) (sym e)
+          ∙ slot_after-add next run.first n (run.count - n - 1);
+    }
 
 pub is_split-none : (next : List ℕ) (run : Run) (lba : ℕ) → lba ≤ run.start
     → IsChain next run.first run.last run.count → IsSplit next run lba None (Some run)
@@ -89,8 +92,10 @@ is_split-both next run lba l r is =
       parts = expanded-more next (front_of next run n) (rest_of next run n ∷ [])
           ∙ ap (λ xs. singles_of next (front_of next run n) ++ xs)
           (expanded-one next (rest_of next run n)) ∙ split-parts next run n (omega arith);
-      chained = (record { some = omega arith; ends = refl },
-          (rest-chain next run n (omega arith) is, tt));
+      chained = (
+        record { some = omega arith; ends = refl },
+        (rest-chain next run n (omega arith) is, tt),
+      );
       before = (refl, omega arith, omega arith);
       after = (omega arith, omega arith, omega arith, omega arith);
     }
@@ -114,7 +119,7 @@ pub followed-on : (slots now after : Slots) → now ≡ followed slots (now.link
     → now.links ≤ after.links → after ≡ followed slots (after.links - slots.links)
 followed-on slots now after e le f ge =
     let n : now.links - slots.links + (after.links - now.links) ≡ after.links - slots.links =
-        omega arith in
+    omega arith in
     f ∙ ap (λ s. followed s (after.links - now.links)) e
-        ∙ followed-more slots (now.links - slots.links) (after.links - now.links)
-        ∙ ap (followed slots) n
+    ∙ followed-more slots (now.links - slots.links) (after.links - now.links)
+    ∙ ap (followed slots) n

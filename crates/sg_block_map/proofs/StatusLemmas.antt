@@ -101,12 +101,12 @@ none-outside next [] bs q h = rw (expanded-none next) refl
 none-outside next (x ∷ rs) bs q h =
     let between = between-singles next x.start x.first x.count in
     let none : find nat_cmp q (mapped_blocks (singles_of next x) bs) ≡ None =
-        elim (h 0 (omega arith)) [
+    elim (h 0 (omega arith)) [
       | inl lt ↦ find-below (singles_of next x) bs x.start (end_of x) q between lt
       | inr le ↦ find-above (singles_of next x) bs x.start (end_of x) q between le
     ] in
     rw (expanded-more next x rs) (find-right (singles_of next x) (expanded next rs) bs q none
-        ∙ none-outside next rs bs q (λ i lt. h (suc i) (omega arith)))
+    ∙ none-outside next rs bs q (λ i lt. h (suc i) (omega arith)))
 
 pub contains-outside : (next : List ℕ) (rs : List Run) (bs : List (List ℕ)) (q : ℕ)
     → ((i : ℕ) → i < length rs → (q < start_of rs i) ⊎ (end_at rs i ≤ q))
@@ -151,23 +151,23 @@ met-more (x ∷ rs) (suc from) zero low count filled le within before met some r
 met-more (x ∷ rs) (suc from) (suc to) low count filled le within before met some rest =
     let here = ends_before low count x.start x.count (before 0 (omega arith)) in
     let more = met-more rs from to low count (λ i lt. filled (suc i) (omega arith)) (omega arith)
-        (omega arith) (λ i lt. before (suc i) (omega arith))
+    (omega arith) (λ i lt. before (suc i) (omega arith))
     (λ i ge lt. met (suc i) (omega arith) (omega arith)) some
     (λ i ge lt. rest (suc i) (omega arith) (omega arith)) in
     omega (arith, count-more (meets low count) (extent_of x) (map extent_of rs))
 met-more (x ∷ rs) zero (suc to) low count filled le within before met some rest =
     let m = met 0 (omega arith) (omega arith) in
     let here = meets_one low count x.start x.count m.0 m.1 some
-        (omega (arith, filled 0 (omega arith))) in
+    (omega (arith, filled 0 (omega arith))) in
     let more = met-more rs zero to low count (λ i lt. filled (suc i) (omega arith)) (omega arith)
-        (omega arith) (λ i lt. absurd (omega arith))
+    (omega arith) (λ i lt. absurd (omega arith))
     (λ i ge lt. met (suc i) (omega arith) (omega arith)) some
     (λ i ge lt. rest (suc i) (omega arith) (omega arith)) in
     omega (arith, count-more (meets low count) (extent_of x) (map extent_of rs))
 met-more (x ∷ rs) zero zero low count filled le within before met some rest =
     let here = begins_past low count x.start x.count (rest 0 (omega arith) (omega arith)) in
     let more = met-more rs zero zero low count (λ i lt. filled (suc i) (omega arith)) (omega arith)
-        (omega arith) (λ i lt. absurd (omega arith))
+    (omega arith) (λ i lt. absurd (omega arith))
     (λ i ge lt. absurd (omega arith)) some (λ i ge lt. rest (suc i) (omega arith) (omega arith)) in
     omega (arith, count-more (meets low count) (extent_of x) (map extent_of rs))
 
@@ -204,9 +204,12 @@ over : (rs : List Run) (next : Option Run) (p lba : ℕ) (run : Run) → IsNext 
     × (run.start ≤ lba)
 over rs None p lba run n e = let wrong = e in cc
 over rs (Some r) p lba run n e =
-    let both = picked (nat_le r.start lba) r run e in
-    (n.0, ap (λ y. slice_index_or rs p y) (sym both.1) ∙ n.1
-    ∙ both.1, omega (arith, le_true r.start lba both.0, ap (λ (y : Run). y.start) both.1))
+    let both = picked (nat_le r.start lba) r run e in (
+      n.0,
+      ap (λ y. slice_index_or rs p y) (sym both.1) ∙ n.1
+          ∙ both.1,
+      omega (arith, le_true r.start lba both.0, ap (λ (y : Run). y.start) both.1),
+    )
 
 -- a run of the address
 module _ (rs : List Run) (capacity lba : ℕ) (cursor : Cursor) (t : IsRunTable capacity rs)
@@ -231,16 +234,23 @@ module _ (rs : List Run) (capacity lba : ℕ) (cursor : Cursor) (t : IsRunTable 
   over-high = omega (arith, over-end, at.after cursor.index (omega arith) there.0)
 
   pub over-within : end_of run ≤ capacity
-  over-within = omega (arith, over-end, ends-below rs 0
-      (capacity + 1) cursor.index t.maximal there.0)
+  over-within = omega (
+    arith,
+    over-end,
+    ends-below rs 0
+        (capacity + 1) cursor.index t.maximal there.0,
+  )
 
   pub over-short : end_of run ≤ run.start + 65536
   over-short = omega (arith, over-end, over-start, t.short cursor.index there.0)
 
   outside : (i : ℕ) → i < length rs → (end_of run < start_of rs i) ⊎ (end_at rs i ≤ end_of run)
   outside i lt = elim (cases_lt cursor.index i) [
-    | inl behind ↦ inl (omega (arith, over-end,
-        maximal-order rs 0 (capacity + 1) cursor.index i t.maximal behind lt))
+    | inl behind ↦ inl (omega (
+      arith,
+      over-end,
+      maximal-order rs 0 (capacity + 1) cursor.index i t.maximal behind lt,
+    ))
     | inr up ↦ elim (cases_lt i cursor.index) [
       | inl before ↦ inr (omega (arith, over-high, at.before i before))
       | inr same ↦ let e : i ≡ cursor.index = omega arith in
@@ -255,9 +265,9 @@ module _ (rs : List Run) (capacity lba : ℕ) (cursor : Cursor) (t : IsRunTable 
     over-described next bs =
         let first : lba + 0 ≡ lba = omega arith in
         let all : (i : ℕ) → i < k → contains_key (contents_of (expanded next rs) bs) (lba + i) ≡
-            true
+        true
         = λ i lt. contains-inside next rs bs cursor.index (lba + i) there.0
-            (omega (arith, over-start, over-low)) (omega (arith, over-end)) in
+        (omega (arith, over-start, over-low)) (omega (arith, over-end)) in
         described (contents_of (expanded next rs) bs) capacity lba k true
         (rw first at (all 0 (omega (arith, over-high))))
         (omega (arith, over-within, over-short, over-low))
@@ -269,8 +279,11 @@ module _ (rs : List Run) (capacity lba : ℕ) (cursor : Cursor) (t : IsRunTable 
         rw e (omega (arith, over-end, over-high), omega (arith, over-start, over-low, over-high))
 
     pub over-rest : AreFrom rs (cursor.index + 1) (lba + k)
-    over-rest i ge lt = omega (arith, over-end,
-        maximal-order rs 0 (capacity + 1) cursor.index i t.maximal (omega arith) lt)
+    over-rest i ge lt = omega (
+      arith,
+      over-end,
+      maximal-order rs 0 (capacity + 1) cursor.index i t.maximal (omega arith) lt,
+    )
 
     pub over-on : (end : Cursor) → end.index ≡ cursor.index + 1
         → IsNext rs (cursor.index + 1) end.next → IsOver rs end (lba + k)
@@ -298,8 +311,12 @@ gap-after rs capacity index None t n i ge lt = absurd (omega arith)
 gap-after rs capacity index (Some r) t n i ge lt =
     let start = start_of-read rs index r n.0 (sym n.1) in
     elim (cases_lt index i) [
-      | inl behind ↦ omega (arith, start, t.filled index n.0,
-          maximal-order rs 0 (capacity + 1) index i t.maximal behind lt)
+      | inl behind ↦ omega (
+        arith,
+        start,
+        t.filled index n.0,
+        maximal-order rs 0 (capacity + 1) index i t.maximal behind lt,
+      )
       | inr up ↦ let e : i ≡ index = omega arith in omega (arith, start, ap (start_of rs) e)
     ]
 
@@ -320,7 +337,7 @@ gap-stop next rs bs capacity index lba k (Some r) t n low is lt =
     let start = start_of-read rs index r n.0 (sym n.1) in
     let here : lba + k ≡ start_of rs index = omega arith in
     rw here (contains-inside next rs bs index (start_of rs index) n.0 (omega arith)
-        (t.filled index n.0))
+    (t.filled index n.0))
 
 module _ (rs : List Run) (capacity lba k : ℕ) (cursor : Cursor) (t : IsRunTable capacity rs)
     (at : IsOver rs cursor lba) (none : run_over cursor.next lba ≡ None)
@@ -374,8 +391,12 @@ cursor-before rs capacity index lba run t p some is lt =
     record {
       within = omega arith;
       next = (omega arith, is);
-      before = λ i low. omega (arith, start, maximal-order rs 0 (capacity + 1) i
-          (index - 1) t.maximal low (omega arith));
+      before = λ i low. omega (
+        arith,
+        start,
+        maximal-order rs 0 (capacity + 1) i
+            (index - 1) t.maximal low (omega arith),
+      );
       after = λ i ge low. elim (cases_lt i index) [
         | inl here ↦ let e : i ≡ index - 1 = omega arith in omega (arith, lt, end, ap (end_at rs) e)
         | inr behind ↦ omega (arith, p.after i behind low, t.filled i low)
@@ -393,8 +414,12 @@ cursor-at rs capacity index lba cursor t p before is next = record {
     | inl behind ↦
         let start = p.before (index - 1) (omega arith) in
         let within = p.within in
-        omega (arith, start, maximal-order rs 0 (capacity + 1) i (index - 1) t.maximal (omega arith)
-            (omega arith))
+        omega (
+          arith,
+          start,
+          maximal-order rs 0 (capacity + 1) i (index - 1) t.maximal (omega arith)
+              (omega arith),
+        )
     | inr last ↦ let e : i ≡ index - 1 = omega (arith, is) in
         omega (arith, before (omega (arith, is)), ap (end_at rs) e)
   ];
@@ -447,15 +472,20 @@ chained-filled next (x ∷ rs) (suc i) h lt = chained-filled next rs i h.1 (omeg
 short-by : (rs : List Run) (i : ℕ) → i < length rs → end_at rs i ≤ start_of rs i + blocks_of rs
 short-by [] i lt = absurd (omega arith)
 short-by (x ∷ rs) zero lt = omega (arith, sum_by-cons (λ (r : Run). r.count) x rs)
-short-by (x ∷ rs) (suc i) lt = omega (arith, sum_by-cons (λ (r : Run). r.count) x rs,
-    short-by rs i (omega arith))
+short-by (x ∷ rs) (suc i) lt = omega (
+  arith,
+  sum_by-cons (λ (r : Run). r.count) x rs,
+  short-by rs i (omega arith),
+)
 
 maximal-within : (rs : List Run) (a b capacity : ℕ) → AreMaximal a b rs → a ≤ capacity + 1
     → ((i : ℕ) → i < length rs → end_at rs i ≤ capacity) → AreMaximal a (capacity + 1) rs
 maximal-within [] a b capacity h le ends = le
-maximal-within (x ∷ rs) a b capacity h le ends =
-    (h.0, maximal-within rs (end_of x + 1) b capacity h.1 (omega (arith, ends 0 (omega arith)))
-    (λ i lt. ends (suc i) (omega arith)))
+maximal-within (x ∷ rs) a b capacity h le ends = (
+  h.0,
+  maximal-within rs (end_of x + 1) b capacity h.1 (omega (arith, ends 0 (omega arith)))
+      (λ i lt. ends (suc i) (omega arith)),
+)
 
 pub run_table-of : (capacity : ℕ) (rs : List Run) (slots : Slots) (room : ℕ) → AreRuns rs slots room
     → IsWellFormed capacity (chained_contents rs slots) → room ≤ MAX_POOL → capacity ≤ MAX_CAPACITY
@@ -463,13 +493,13 @@ pub run_table-of : (capacity : ℕ) (rs : List Run) (slots : Slots) (room : ℕ)
 run_table-of capacity rs slots room h whole small fits =
     let m = chained_contents rs slots in
     let filled : (i : ℕ) → i < length rs → start_of rs i < end_at rs i =
-        λ i lt. chained-filled slots.next rs i h.chained lt in
+    λ i lt. chained-filled slots.next rs i h.chained lt in
     let ends : (i : ℕ) → i < length rs → end_at rs i ≤ capacity = λ i lt.
     let some = filled i lt in
     let mapped = contains-inside slots.next rs slots.blocks i (end_at rs i - 1) lt (omega arith)
-        (omega arith) in
+    (omega arith) in
     let below = below-some (get m (end_at rs i - 1)) (end_at rs i - 1) capacity
-        (λ b e. (whole.each (end_at rs i - 1) b e).0) mapped in
+    (λ b e. (whole.each (end_at rs i - 1) b e).0) mapped in
     omega arith in
     record {
       maximal = maximal-within rs 0 (MAX_CAPACITY + 1) capacity h.maximal (omega arith) ends;
@@ -495,5 +525,5 @@ visits-joined s t u e f le le' =
     let all : t.total - s.total + (u.total - t.total) ≡ u.total - s.total = omega arith in
     let p = probed s (t.probes - s.probes) in
     f ∙ ap (λ x. visited x (u.total - t.total)) e
-        ∙ visited-more p (t.total - s.total) (u.total - t.total) ∙ ap (visited p) all
+    ∙ visited-more p (t.total - s.total) (u.total - t.total) ∙ ap (visited p) all
     ∙ ap (λ k. visited (probed s (k - s.probes)) (u.total - s.total)) (sym probes)

@@ -73,33 +73,33 @@ size-replaced rs slots room lba count f h = let all = size rs slots room h in
 -- the runs that were gathered
 module _ (rs : List Run) (slots : Slots) (room : ℕ) (gathered : Drafted) (lba count : ℕ)
     (h : AreRuns rs slots room) (g : AreGathered rs gathered lba (lba + count) (MAX_CAPACITY + 1))
-    where
-  parted : AreRuns (take gathered.from rs ++ (gathered.records ++ drop (end_index gathered) rs))
-      slots room
-  parted = subst (λ zs. AreRuns zs slots room) (sym g.same) h
+  where
+    parted : AreRuns (take gathered.from rs ++ (gathered.records ++ drop (end_index gathered) rs))
+        slots room
+    parted = subst (λ zs. AreRuns zs slots room) (sym g.same) h
 
-  pub runs-ahead : AreAhead slots.next (length slots.next) 0 gathered.records
-  runs-ahead = gathered-ahead (take gathered.from rs) gathered.records
-      (drop (end_index gathered) rs) slots room parted
+    pub runs-ahead : AreAhead slots.next (length slots.next) 0 gathered.records
+    runs-ahead = gathered-ahead (take gathered.from rs) gathered.records
+        (drop (end_index gathered) rs) slots room parted
 
-  pub gathered-length : length (expanded slots.next gathered.records) ≤ room
-  gathered-length = let few = gathered-blocks rs gathered slots room lba (lba + count)
-      (MAX_CAPACITY + 1) h g in omega (arith, length-expanded slots.next gathered.records)
+    pub gathered-length : length (expanded slots.next gathered.records) ≤ room
+    gathered-length = let few = gathered-blocks rs gathered slots room lba (lba + count)
+        (MAX_CAPACITY + 1) h g in omega (arith, length-expanded slots.next gathered.records)
 
-  pub gathered-mapped : mapped_among (chained_contents rs slots) lba count ≡
-      sum_by (overlap lba (lba + count)) gathered.records
-  gathered-mapped = mapped-gathered rs gathered slots lba count (MAX_CAPACITY + 1) g
-      ∙ mapped-overlap slots.next gathered.records slots.blocks 0
-      (MAX_CAPACITY + 1) lba count runs-ahead.maximal
+    pub gathered-mapped : mapped_among (chained_contents rs slots) lba count ≡
+        sum_by (overlap lba (lba + count)) gathered.records
+    gathered-mapped = mapped-gathered rs gathered slots lba count (MAX_CAPACITY + 1) g
+        ∙ mapped-overlap slots.next gathered.records slots.blocks 0
+        (MAX_CAPACITY + 1) lba count runs-ahead.maximal
 
-  -- the runs that meet the range were gathered
-  pub gathered-meet : meet (chained_contents rs slots) lba count ≤ length gathered.records
-  gathered-meet = meet-gathered slots.next rs slots.blocks gathered lba count
-      (MAX_CAPACITY + 1) h.maximal h.chained g
+    -- the runs that meet the range were gathered
+    pub gathered-meet : meet (chained_contents rs slots) lba count ≤ length gathered.records
+    gathered-meet = meet-gathered slots.next rs slots.blocks gathered lba count
+        (MAX_CAPACITY + 1) h.maximal h.chained g
 
-  pub gathered-near : blocks_of gathered.records ≤ blocks_near (chained_contents rs slots) lba count
-  gathered-near = near-gathered slots.next rs slots.blocks gathered lba count
-      (MAX_CAPACITY + 1) h.maximal h.chained g
+    pub gathered-near : blocks_of gathered.records ≤ blocks_near (chained_contents rs slots) lba count
+    gathered-near = near-gathered slots.next rs slots.blocks gathered lba count
+        (MAX_CAPACITY + 1) h.maximal h.chained g
 
 -- a count that has `digits` binary digits is halved at most as often
 halved : (probes count digits : ℕ) → 2 ^ probes ≤ 2 * count + 1 → count < 2 ^ digits
@@ -128,7 +128,7 @@ module _ (rs : List Run) (slots after_slots : Slots) (room lba count : ℕ) (bef
       let fit = runs-fit rs slots room h in
       let len = ap length same in
       let probes = probes-le (after.probes - before.probes) (length before.records) halving
-          (omega arith) in
+      (omega arith) in
       record {
         visits = omega arith;
         visits_rise = least;
@@ -144,7 +144,7 @@ module _ (rs : List Run) (slots after_slots : Slots) (room lba count : ℕ) (bef
       → after.total ≤ before.total + block_price (chained_contents rs slots) lba count
   gathered-price most =
       let meets = starts-meet slots.next rs slots.blocks 0
-          (MAX_CAPACITY + 1) lba count h.maximal h.chained in
+      (MAX_CAPACITY + 1) lba count h.maximal h.chained in
       let begun = ap (λ xs. count_by (starts_in lba (lba + count)) xs) same in
       omega arith
 
@@ -153,8 +153,8 @@ module _ (rs : List Run) (slots after_slots : Slots) (room lba count : ℕ) (bef
       (meter_at before slots) (meter_at after after_slots)
   gathered-runs links =
       let len = ap length (runs-extents slots.next rs slots.blocks 0
-          (MAX_CAPACITY + 1) h.maximal h.chained) ∙ length-map rs extent_of
-          ∙ ap length (sym same) in
+      (MAX_CAPACITY + 1) h.maximal h.chained) ∙ length-map rs extent_of
+      ∙ ap length (sym same) in
       record {
         probes = λ digits lt. let p = halved (after.probes - before.probes)
             (length before.records) digits halving (omega (arith, len, lt)) in
@@ -165,8 +165,11 @@ module _ (rs : List Run) (slots after_slots : Slots) (room lba count : ℕ) (bef
 -- a call over no address
 pub nothing-runs : (contents : Contents) (lba count : ℕ) (meter : Meter)
     → CostsRuns contents lba count meter meter
-nothing-runs contents lba count meter = record { probes = λ digits lt. omega arith; links =
-    omega arith }
+nothing-runs contents lba count meter = record {
+  probes = λ digits lt. omega arith;
+  links =
+      omega arith;
+}
 
 pub nothing-meets : (contents : Contents) (lba count : ℕ) → count ≡ 0 → meet contents lba count ≡ 0
 unfolding meet

@@ -50,17 +50,32 @@ passed-by P next run more some f g = either_way P (run.count == 1) more (rest_of
     (λ e. f (is_number run.count 1 e)) (λ e. let other = not_number run.count 1 e in
     g (omega arith))
 
--- what `pass` gives where the run has more addresses
+-- what `pass` leaves where the run has more addresses
 pub passed-rest : (next : List ℕ) (run : Run) (more : List Run) (first : ℕ) → run.count ≢ 1
     → first ≡ slice_index next run.first
-    → record { start = run.start + 1; count = run.count - 1; first = first; last =
-    run.last } ∷ more ≡ passed next run more
+    → record {
+      start = run.start + 1;
+      count = run.count - 1;
+      first = first;
+      last =
+          run.last;
+    } ∷ more ≡ passed next run more
 passed-rest next run more first other e = either_way
-    (λ xs. record { start = run.start + 1; count = run.count - 1; first = first; last =
-    run.last } ∷ more ≡ xs) (run.count == 1) more (rest_of next run 1 ∷ more)
+    (λ xs. record {
+      start = run.start + 1;
+      count = run.count - 1;
+      first = first;
+      last =
+          run.last;
+    } ∷ more ≡ xs) (run.count == 1) more (rest_of next run 1 ∷ more)
     (λ wrong. absurd (other (is_number run.count 1 wrong)))
-    (λ _. ap (λ s. record { start = run.start + 1; count = run.count - 1; first = s; last =
-    run.last } ∷ more) (e ∙ sym (slot_after-one next run.first)))
+    (λ _. ap (λ s. record {
+      start = run.start + 1;
+      count = run.count - 1;
+      first = s;
+      last =
+          run.last;
+    } ∷ more) (e ∙ sym (slot_after-one next run.first)))
 
 singles-first : (next : List ℕ) (run : Run) → 1 < run.count
     → singles_of next run ≡ single run.start run.first ∷ singles_of next (rest_of next run 1)
@@ -105,8 +120,11 @@ pub there : (run : Option Run) (lba : ℕ) (found : Run) → run_at run lba ≡ 
 there None lba found e = let wrong = e in cc
 there (Some run) lba found e = either_way (λ o. o ≡ Some found → (Some run ≡ Some found)
     × (found.start ≡ lba)) (run.start == lba) (Some run) None
-    (λ at same. (same, ap (λ (r : Run). r.start) (sym (ap (λ o. unwrap_or o run) same))
-    ∙ is_number run.start lba at)) (λ _ wrong. cc) e
+    (λ at same. (
+      same,
+      ap (λ (r : Run). r.start) (sym (ap (λ o. unwrap_or o run) same))
+          ∙ is_number run.start lba at,
+    )) (λ _ wrong. cc) e
 
 -- the run that is ahead first
 pub ahead-first : (next : List ℕ) (count lba : ℕ) (run : Run) (more : List Run)
@@ -116,22 +134,22 @@ pub ahead-first : (next : List ℕ) (count lba : ℕ) (run : Run) (more : List R
 ahead-first next count lba run more h =
     let some = h.chained.0.some in
     let slots : slots_of (expanded next (run ∷ more)) ≡
-        chain next run.first run.count ++ slots_of (expanded next more)
+    chain next run.first run.count ++ slots_of (expanded next more)
     = ap slots_of (expanded-more next run more)
-        ∙ slots-append (singles_of next run) (expanded next more)
-        ∙ ap (λ xs. xs ++ slots_of (expanded next more))
-        (slots-singles next run.start run.first run.count) in
+    ∙ slots-append (singles_of next run) (expanded next more)
+    ∙ ap (λ xs. xs ++ slots_of (expanded next more))
+    (slots-singles next run.start run.first run.count) in
     let below = below-left count (chain next run.first run.count) (slots_of (expanded next more))
-        (rw slots at h.below) in
+    (rw slots at h.below) in
     let rest = maximal-le more (end_of run + 1) (MAX_CAPACITY + 1) h.maximal.1 in
     let len = ap length (expanded-more next run more)
-        ∙ length-append (singles_of next run) (expanded next more) in
+    ∙ length-append (singles_of next run) (expanded next more) in
     let own = length-singles next run.start run.first run.count in
     let first = rw (slot_after-none next run.first) at
-        (slot-below count next run.first 0 run.count some below) in
+    (slot-below count next run.first 0 run.count some below) in
     (below, omega arith, omega arith, first)
 
--- no run starts_in at the address
+-- no run begins at the address
 pub ahead-skip : (next : List ℕ) (count lba at : ℕ) (runs : List Run) (run : Option Run)
     → AreAhead next count lba (ahead_of runs run at) → lba < MAX_CAPACITY → run_at run lba ≡ None
     → AreAhead next count (lba + 1) (ahead_of runs run at)
@@ -139,8 +157,12 @@ ahead-skip next count lba at runs None h low none =
     record { maximal = omega arith; chained = h.chained; below = h.below }
 ahead-skip next count lba at runs (Some run) h low none =
     let off : run.start ≢ lba = λ same. not_there run lba none same in
-    record { maximal = (omega (arith, h.maximal.0), h.maximal.1); chained = h.chained; below =
-        h.below }
+    record {
+      maximal = (omega (arith, h.maximal.0), h.maximal.1);
+      chained = h.chained;
+      below =
+          h.below;
+    }
 
 -- the first address ahead
 pub block-first : (bs : List (List ℕ)) (r : Run) (more : List Run)
@@ -166,7 +188,7 @@ get-none next count lba q runs bs h lt = get-from_entries nat_cmp_total
     ∙ find-below (expanded next runs) bs lba (MAX_CAPACITY + 1) q
     (between-expanded next runs lba (MAX_CAPACITY + 1) h.maximal) lt
 
--- runs that are taken up at an address
+-- the runs from an address on
 pub walk_from-parts : (next : List ℕ) (runs : List Run) (lba : ℕ) (front : Option Run)
     (more : List Run) → IsWalkFrom next runs lba front more
     → expanded next (option_to_list front ++ more) ≡ expanded next runs
@@ -174,8 +196,8 @@ walk_from-parts next [] lba front more h = rw (h.0, h.1) refl
 walk_from-parts next (run ∷ runs) lba front more h =
     let fs : List Run = option_to_list front in let rs : List Run = option_to_list h.0 in
     ap (λ xs. expanded next (fs ++ xs)) h.2 ∙ ap (expanded next) (sym (append_assoc fs rs runs))
-        ∙ expanded-append next (fs ++ rs) runs ∙ ap (λ xs. xs ++ expanded next runs) h.1.parts
-        ∙ sym (expanded-more next run runs)
+    ∙ expanded-append next (fs ++ rs) runs ∙ ap (λ xs. xs ++ expanded next runs) h.1.parts
+    ∙ sym (expanded-more next run runs)
 
 pub walk_from-chained : (next : List ℕ) (runs : List Run) (lba : ℕ) (front : Option Run)
     (more : List Run) → AreChained next runs → IsWalkFrom next runs lba front more
@@ -208,10 +230,10 @@ pub walk_from-ahead : (next : List ℕ) (count : ℕ) (runs : List Run) (lba hig
 walk_from-ahead next count runs lba high front more h near low t =
     let fs : List Run = option_to_list front in
     let parts : expanded next runs ≡ expanded next fs ++ expanded next more =
-        sym (walk_from-parts next runs lba front more t) ∙ expanded-append next fs more in
+    sym (walk_from-parts next runs lba front more t) ∙ expanded-append next fs more in
     let slots : slots_of (expanded next runs) ≡
-        slots_of (expanded next fs) ++ slots_of (expanded next more) = ap slots_of parts
-        ∙ slots-append (expanded next fs) (expanded next more) in
+    slots_of (expanded next fs) ++ slots_of (expanded next more) = ap slots_of parts
+    ∙ slots-append (expanded next fs) (expanded next more) in
     record {
       maximal = rw (append-nil more) at (walk_from-maximal next runs [] lba high
           (MAX_CAPACITY + 1) front more (rw (append-nil runs) h.maximal) (omega arith) near t);
@@ -233,8 +255,8 @@ walk_from-between next (run ∷ runs) lba high None more t = rw (expanded-none n
 walk_from-between next (run ∷ runs) lba high (Some front) more t =
     let f = t.1.before in
     rw (expanded-one next front) (between-weaker (singles_of next front) front.start
-        (end_of front) 0 lba (omega arith) (omega (arith, f.1))
-        (between-singles next front.start front.first front.count))
+    (end_of front) 0 lba (omega arith) (omega (arith, f.1))
+    (between-singles next front.start front.first front.count))
 
 -- from the address on the contents are those of what is ahead
 pub get-walk_from : (next : List ℕ) (runs : List Run) (lba high q : ℕ) (front : Option Run)
@@ -244,7 +266,7 @@ pub get-walk_from : (next : List ℕ) (runs : List Run) (lba high q : ℕ) (fron
 get-walk_from next runs lba high q front more bs t le =
     let fs : List Run = option_to_list front in
     let parts : expanded next runs ≡ expanded next fs ++ expanded next more =
-        sym (walk_from-parts next runs lba front more t) ∙ expanded-append next fs more in
+    sym (walk_from-parts next runs lba front more t) ∙ expanded-append next fs more in
     ap (λ xs. map.get (contents_of xs bs) q) parts
     ∙ get-from_entries nat_cmp_total (mapped_blocks (expanded next fs ++ expanded next more) bs) q
     ∙ find-right (expanded next fs) (expanded next more) bs q

@@ -57,7 +57,7 @@ pub before-between : (next : List ℕ) (before : List Run) (done : Run) (lba : �
     → AreBetween 0 lba (expanded next (before ++ done ∷ []))
 before-between next before done lba h e =
     rw (expanded-append next before (done ∷ []), expanded-one next done, sym e)
-        (between-append (expanded next before) (singles_of next done) 0 done.start (end_of done)
+    (between-append (expanded next before) (singles_of next done) 0 done.start (end_of done)
     (between-expanded next before 0 done.start h)
     (between-singles next done.start done.first done.count))
 
@@ -71,7 +71,7 @@ keep-insert : (xs ys : List Run) (r : Run) (blocks : List (List ℕ)) (q : ℕ) 
 keep-insert xs ys r blocks q block none h =
     let was = sym (get-from_entries nat_cmp_total (mapped_blocks (xs ++ ys) blocks) q) ∙ h in
     let other : q ≢ r.start = λ same. none_there (find-unmapped (xs ++ ys) blocks r.start none)
-        (ap (λ k. find nat_cmp k (mapped_blocks (xs ++ ys) blocks)) (sym same) ∙ was) in
+    (ap (λ k. find nat_cmp k (mapped_blocks (xs ++ ys) blocks)) (sym same) ∙ was) in
     get-from_entries nat_cmp_total (mapped_blocks (xs ++ r ∷ ys) blocks) q
     ∙ ap (λ zs. find nat_cmp q (mapped_blocks zs blocks)) (sym (insert-seam xs ys r))
     ∙ find-added (xs ++ ys) blocks (length xs) r q none
@@ -125,8 +125,12 @@ module _ (before : List Run) (done : Run) (rest : List Run) (slots : Slots) (lba
   after_taken = record slots { blocks = set slots.blocks slot b; free = free }
 
   abbrev after_new : Slots
-  after_new = record slots { blocks = set slots.blocks slot b; free = free; next =
-      linked slots.next done slot }
+  after_new = record slots {
+    blocks = set slots.blocks slot b;
+    free = free;
+    next =
+        linked slots.next done slot;
+  }
 
   pub new-writing : IsWriting before (joined done (single lba slot)) rest after_new (lba + 1)
   new-writing = join-writing before done (single lba slot) rest after_taken taken_together h.front
@@ -142,8 +146,8 @@ module _ (before : List Run) (done : Run) (rest : List Run) (slots : Slots) (lba
       (before ++ joined done (single lba slot) ∷ rest)
   new-keeps blocks q block e =
       ap (λ zs. map.get (contents_of zs blocks) q)
-          (join-expanded before done (single lba slot) rest after_taken taken_together h.front
-          h.ends ∙ is)
+      (join-expanded before done (single lba slot) rest after_taken taken_together h.front
+      h.ends ∙ is)
       ∙ keep-insert xs ys (single lba slot) blocks q block nowhere
       (ap (λ zs. map.get (contents_of zs blocks) q) (sym was) ∙ e)
 
@@ -191,7 +195,7 @@ module _ (before : List Run) (done run : Run) (tail : List Run) (slots : Slots) 
       let consistent = rw was' at h.consistent in
       let len = length-append xs' (single lba run.first ∷ ys') in
       rw was' (contents-over (xs' ++ single lba run.first ∷ ys') slots.blocks slots.free
-          (length slots.next) (length xs') (single lba run.first) b consistent (omega arith)
+      (length slots.next) (length xs') (single lba run.first) b consistent (omega arith)
       (sym (get_or-append_seam xs' (single lba run.first) ys' (single lba run.first))))
 
   passed_maximal : AreMaximal (lba + 1) (MAX_CAPACITY + 1) rest'
@@ -203,15 +207,20 @@ module _ (before : List Run) (done run : Run) (tail : List Run) (slots : Slots) 
 
   passed_chained : AreChained slots.next rest'
   passed_chained = passed-by (AreChained slots.next) slots.next run tail some'
-      (λ one. h.chained_after.1) (λ many. (rest-chain slots.next run 1 many h.chained_after.0,
-      h.chained_after.1))
+      (λ one. h.chained_after.1) (λ many. (
+        rest-chain slots.next run 1 many h.chained_after.0,
+        h.chained_after.1,
+      ))
 
   abbrev after_set : Slots
   after_set = record slots { blocks = set slots.blocks run.first b }
 
   abbrev after_over : Slots
-  after_over = record slots { blocks = set slots.blocks run.first b; next =
-      linked slots.next done run.first }
+  after_over = record slots {
+    blocks = set slots.blocks run.first b;
+    next =
+        linked slots.next done run.first;
+  }
 
   pub over-writing : IsWriting before (joined done (single lba run.first)) rest' after_over
       (lba + 1)
@@ -262,12 +271,12 @@ done-last before done rest slots lba h pos =
     let all : List Run = expanded slots.next (before ++ done ∷ rest) in
     let some = last-in slots.next done.first done.last done.count (h.front pos) in
     let once = once-le (length slots.blocks) (slots_of all ++ slots.free) done.last
-        h.consistent.once in
+    h.consistent.once in
     let both = occurrences-append done.last (slots_of all) slots.free in
     let a = slots-both slots.next done.last before (done ∷ rest) in
     let b = slots-more slots.next done.last done rest in
     let low = below_count (length slots.blocks)
-        (slots_of all ++ slots.free) done.last h.consistent.once (omega arith) in
+    (slots_of all ++ slots.free) done.last h.consistent.once (omega arith) in
     (omega (arith, h.consistent.pool), omega arith)
 
 ap_once : (count : ℕ) (used free free' : List ℕ) → free ≡ free' → IsEachOnce count (used ++ free)
@@ -283,8 +292,8 @@ pub slot-taken : (before : List Run) (done : Run) (rest : List Run) (slots : Slo
     → slot < length slots.blocks
 slot-taken before done rest slots lba slot free h taken =
     taken_below (length slots.blocks) (slots_of (expanded slots.next (before ++ done ∷ rest))) free
-        slot (ap_once (length slots.blocks) (slots_of (expanded slots.next (before ++ done ∷ rest)))
-        slots.free (slot ∷ free) taken h.consistent.once)
+    slot (ap_once (length slots.blocks) (slots_of (expanded slots.next (before ++ done ∷ rest)))
+    slots.free (slot ∷ free) taken h.consistent.once)
 
 pub slot-there : (before : List Run) (done run : Run) (tail : List Run) (slots : Slots) (lba : ℕ)
     → IsWriting before done (run ∷ tail) slots lba → run.first < length slots.blocks
@@ -293,15 +302,15 @@ slot-there before done run tail slots lba h =
     let c = h.chained_after.0 in
     let some = c.some in
     let first = rw (slot_after-none slots.next run.first) at
-        (slot_after-in slots.next run.first 0 run.count some) in
+    (slot_after-in slots.next run.first 0 run.count some) in
     let both = occurrences-append run.first (slots_of all) slots.free in
     let a = slots-both slots.next run.first before (done ∷ (run ∷ tail)) in
     let b = slots-more slots.next run.first done (run ∷ tail) in
     let d = slots-more slots.next run.first run tail in
     below_count (length slots.blocks) (slots_of all ++ slots.free) run.first h.consistent.once
-        (omega arith)
+    (omega arith)
 
--- no run starts_in at the address
+-- no run begins at the address
 pub skip-maximal : (runs after : List Run) (run : Option Run) (at lba : ℕ)
     → AreMaximal lba (MAX_CAPACITY + 1) (ahead_of runs run at ++ after)
     → AreMaximal (lba + 1) (MAX_CAPACITY + 1) after → run_at run lba ≡ None
@@ -338,8 +347,11 @@ module _ (before after runs more : List Run) (done found : Run) (run : Option Ru
       ∙ ap (λ ns. passed ns found tail_of) same_next
 
   abbrev over_slots : Slots
-  over_slots = record now { blocks = set now.blocks found.first b; next =
-      linked now.next done found.first }
+  over_slots = record now {
+    blocks = set now.blocks found.first b;
+    next =
+        linked now.next done found.first;
+  }
 
   pub walked-writing : IsWriting before (joined done (single lba found.first))
       (more ++ after) over_slots (lba + 1)
@@ -351,7 +363,7 @@ module _ (before after runs more : List Run) (done found : Run) (run : Option Ru
       (chained_contents (before ++ done ∷ (ahead_of runs run at ++ after)) p) lba b
   walked-contents =
       ap (λ zs. chained_contents (before ++ joined done (single lba found.first) ∷ zs) over_slots)
-          same_more
+      same_more
       ∙ over-contents before done found tail_of now lba b now_writing (there run lba found is).1
       ∙ ap₂ (λ zs ns. map.insert (contents_of (expanded ns (before ++ done ∷ zs)) now.blocks) lba b)
       (sym here) (sym same_next)
@@ -364,7 +376,7 @@ module _ (before after runs more : List Run) (done found : Run) (run : Option Ru
       (more ++ after))
   walked-keeps blocks q block f =
       ap (λ zs. map.get (contents_of (expanded (linked now.next done found.first)
-          (before ++ joined done (single lba found.first) ∷ zs)) blocks) q) same_more
+      (before ++ joined done (single lba found.first) ∷ zs)) blocks) q) same_more
       ∙ over-keeps before done found tail_of now lba b now_writing
       (there run lba found is).1 blocks q block
       (ap₂ (λ zs ns. map.get (contents_of (expanded ns (before ++ done ∷ zs)) blocks) q) (sym here)

@@ -48,23 +48,37 @@ either_way P false x y f g = g refl
 with_meets : (lba count a : ℕ) (rs : List (ℕ × ℕ))
     → count_by (meets lba count) (with_address a rs) ≤ cond (lies_in lba count a) 1 0 + count_by
     (meets lba count) rs
-with_meets lba count a [] = omega (arith, alone_meets lba count a,
-    count-more (meets lba count) (a, 1) [])
+with_meets lba count a [] = omega (
+  arith,
+  alone_meets lba count a,
+  count-more (meets lba count) (a, 1) [],
+)
 with_meets lba count a ((start, n) ∷ rs) = either_way
     (λ xs. count_by (meets lba count) xs ≤ cond (lies_in lba count a) 1 0 + count_by
     (meets lba count) ((start, n) ∷ rs)) (start == a + 1) ((a, n + 1) ∷ rs)
     ((a, 1) ∷ (start, n) ∷ rs)
-    (λ e. omega (arith, joined_meets lba count a start n (is_number start (a + 1) e),
-    count-more (meets lba count) (a, n + 1) rs, count-more (meets lba count) (start, n) rs))
-    (λ _. omega (arith, alone_meets lba count a,
-    count-more (meets lba count) (a, 1) ((start, n) ∷ rs),
-    count-more (meets lba count) (start, n) rs))
+    (λ e. omega (
+      arith,
+      joined_meets lba count a start n (is_number start (a + 1) e),
+      count-more (meets lba count) (a, n + 1) rs,
+      count-more (meets lba count) (start, n) rs,
+    ))
+    (λ _. omega (
+      arith,
+      alone_meets lba count a,
+      count-more (meets lba count) (a, 1) ((start, n) ∷ rs),
+      count-more (meets lba count) (start, n) rs,
+    ))
 
 runs_meet : (lba count : ℕ) (xs : List ℕ) → count_by (meets lba count) (runs_of xs) ≤ count_by
     (lies_in lba count) xs
 runs_meet lba count [] = omega arith
-runs_meet lba count (x ∷ xs) = omega (arith, with_meets lba count x (runs_of xs),
-    runs_meet lba count xs, count-more (lies_in lba count) x xs)
+runs_meet lba count (x ∷ xs) = omega (
+  arith,
+  with_meets lba count x (runs_of xs),
+  runs_meet lba count xs,
+  count-more (lies_in lba count) x xs,
+)
 
 -- addresses that rise
 abbrev AreRising : ℕ → List ℕ → Type 0
@@ -120,9 +134,11 @@ rising low [] h first = tt
 rising low (e ∷ []) h first = (first e [] refl, tt)
 rising low (e ∷ f ∷ es) h first =
     let sorted = both_true _ _ h in
-    let less = is_less e.0 f.0 (both_true _ _ sorted.0).0 in
-    (first e (f ∷ es) refl, rising (e.0 + 1) (f ∷ es) sorted.1
-    (λ g more same. let is = ap (λ xs. head_or xs e.0) same in omega arith))
+    let less = is_less e.0 f.0 (both_true _ _ sorted.0).0 in (
+      first e (f ∷ es) refl,
+      rising (e.0 + 1) (f ∷ es) sorted.1
+          (λ g more same. let is = ap (λ xs. head_or xs e.0) same in omega arith),
+    )
 
 -- That is at most two more than the range has addresses.
 pub block_price-within : (contents : Contents) (lba count : ℕ)
@@ -131,7 +147,7 @@ unfolding meet runs
 block_price-within contents lba count =
     let a = runs_meet lba count (keys contents) in
     let b = in-range-le lba count 0 (keys contents)
-        (rising 0 (entries contents) (entries_sorted contents) (λ e more same. omega arith)) in
+    (rising 0 (entries contents) (entries_sorted contents) (λ e more same. omega arith)) in
     omega arith
 
 -- a run of a mapped address of the range meets it
@@ -149,13 +165,19 @@ lone_meets lba count a e = grind (arith, nat_tests)
 
 here-meets : (lba count a : ℕ) (rs : List (ℕ × ℕ)) → lies_in lba count a ≡ true
     → 0 < count_by (meets lba count) (with_address a rs)
-here-meets lba count a [] e = omega (arith, lone_meets lba count a e,
-    count-more (meets lba count) (a, 1) [])
+here-meets lba count a [] e = omega (
+  arith,
+  lone_meets lba count a e,
+  count-more (meets lba count) (a, 1) [],
+)
 here-meets lba count a ((start, n) ∷ rs) e = either_way (λ xs. 0 < count_by (meets lba count) xs)
     (start == a + 1) ((a, n + 1) ∷ rs) ((a, 1) ∷ (start, n) ∷ rs)
     (λ _. omega (arith, first_meets lba count a n e, count-more (meets lba count) (a, n + 1) rs))
-    (λ _. omega (arith, lone_meets lba count a e,
-    count-more (meets lba count) (a, 1) ((start, n) ∷ rs)))
+    (λ _. omega (
+      arith,
+      lone_meets lba count a e,
+      count-more (meets lba count) (a, 1) ((start, n) ∷ rs),
+    ))
 
 more-meet : (lba count a : ℕ) (rs : List (ℕ × ℕ))
     → count_by (meets lba count) rs ≤ count_by (meets lba count) (with_address a rs)
@@ -163,8 +185,12 @@ more-meet lba count a [] = omega (arith, count-more (meets lba count) (a, 1) [])
 more-meet lba count a ((start, n) ∷ rs) = either_way
     (λ xs. count_by (meets lba count) ((start, n) ∷ rs) ≤ count_by (meets lba count) xs)
     (start == a + 1) ((a, n + 1) ∷ rs) ((a, 1) ∷ (start, n) ∷ rs)
-    (λ e. omega (arith, wider_meets lba count a start n (is_number start (a + 1) e),
-    count-more (meets lba count) (a, n + 1) rs, count-more (meets lba count) (start, n) rs))
+    (λ e. omega (
+      arith,
+      wider_meets lba count a start n (is_number start (a + 1) e),
+      count-more (meets lba count) (a, n + 1) rs,
+      count-more (meets lba count) (start, n) rs,
+    ))
     (λ _. omega (arith, count-more (meets lba count) (a, 1) ((start, n) ∷ rs)))
 
 -- an address that a map has is among its keys
@@ -179,13 +205,13 @@ key-meets lba count q (entry ∷ es) lies = elim (nat_cmp q entry.0) as (λ r. n
     → is_some (cond (is_eq r) (Some entry.1) (find nat_cmp q es)) ≡ true
     → 0 < count_by (meets lba count) (with_address entry.0
     (runs_of (map (λ (e : ℕ × List ℕ). e.0) es)))) [
-  | Less ↦ λ _ e. let rest = key-meets lba count q es lies e in
-      omega (arith, rest, more-meet lba count entry.0 (runs_of (map (λ (e : ℕ × List ℕ). e.0) es)))
-  | Equal ↦ λ same _. here-meets lba count entry.0 _
-      (ap (lies_in lba count) (sym (nat_cmp-IsAntisymmetric q entry.0 same)) ∙ lies)
-  | Greater ↦ λ _ e. let rest = key-meets lba count q es lies e in
-      omega (arith, rest, more-meet lba count entry.0 (runs_of (map (λ (e : ℕ × List ℕ). e.0) es)))
-] refl
+      | Less ↦ λ _ e. let rest = key-meets lba count q es lies e in
+          omega (arith, rest, more-meet lba count entry.0 (runs_of (map (λ (e : ℕ × List ℕ). e.0) es)))
+      | Equal ↦ λ same _. here-meets lba count entry.0 _
+          (ap (lies_in lba count) (sym (nat_cmp-IsAntisymmetric q entry.0 same)) ∙ lies)
+      | Greater ↦ λ _ e. let rest = key-meets lba count q es lies e in
+          omega (arith, rest, more-meet lba count entry.0 (runs_of (map (λ (e : ℕ × List ℕ). e.0) es)))
+    ] refl
 
 -- a range of which an address is mapped has such an address
 mapped_or_less : (b : Bool) (n : ℕ) → 0 < n + cond b 1 0 → (0 < n) ⊎ (b ≡ true)
@@ -204,7 +230,7 @@ mapped-meets contents lba count (suc n) le some =
     let e : suc n ≡ n + 1 = omega arith in
     let more = mapped_among-more contents lba n in
     elim (mapped_or_less (contains_key contents (lba + n)) (mapped_among contents lba n)
-        (omega (arith, ap (mapped_among contents lba) e))) [
+    (omega (arith, ap (mapped_among contents lba) e))) [
       | inl before ↦ mapped-meets contents lba count n (omega arith) before
       | inr here ↦ key-meets lba count (lba + n) (entries contents)
           (inside_range lba count n (omega arith))

@@ -2,7 +2,8 @@ ghost use Rattle.std.specs.Prelude.{◌≡◌, ◌+◌, ◌*◌, ◌<◌, ◌≤
 ghost use Rattle.std.specs.Prelude.{IsErr, OnOk, OnErr};
 ghost use Rattle.std.proofs.Props.{props};
 ghost use Rattle.sg_blocks.specs.Disk.{IsWellFormed, IsOverfull, blocks};
-ghost use Rattle.sg_blocks.specs.Disk.{disk_replaced, disk_written, disk_filled, disk_unmapped, unmapped};
+ghost use Rattle.sg_blocks.specs.Disk.{disk_replaced, disk_written, disk_filled, disk_unmapped};
+ghost use Rattle.sg_blocks.specs.Disk.{unmapped};
 ghost use Rattle.sg_blocks.specs.LbaStatus.{lba_status, covered, status_data};
 ghost use Rattle.sg_blocks.specs.Meter.{Costs, HasHeadroom};
 ghost use Rattle.sg_wire.specs.Cut.{Puts};
@@ -87,7 +88,8 @@ impl BlockMap {
             ≤ (meter_of self.old).total + block_price (disk_of self.old).contents lba count }
         ensures least { OnOk result ((meter_of self.old).total
             + block_least (disk_of self.old).contents lba count ≤ (meter_of self.new).total) }
-        ensures runs { CostsRuns (disk_of self.old).contents lba count (meter_of self.old) (meter_of self.new) }
+        ensures runs { CostsRuns (disk_of self.old).contents lba count
+            (meter_of self.old) (meter_of self.new) }
     {
         if count == 0 {
             return Ok(());
@@ -148,7 +150,8 @@ impl Store for BlockMap {
             ≤ (meter_of self.old).total + block_price (disk_of self.old).contents lba count }
         ensures least { (meter_of self.old).total
             + block_least (disk_of self.old).contents lba count ≤ (meter_of self.new).total }
-        ensures runs { CostsRuns (disk_of self.old).contents lba count (meter_of self.old) (meter_of self.new) }
+        ensures runs { CostsRuns (disk_of self.old).contents lba count
+            (meter_of self.old) (meter_of self.new) }
     {
         gather(&mut self.table, &mut self.gathered, lba, count);
         read_runs(&mut self.pool, self.gathered.records(), lba, count, bytes);
@@ -162,8 +165,10 @@ impl Store for BlockMap {
 
         // Either the pool has too few blocks and the disk stays as it is, or all blocks are
         // replaced.
-        ensures space { IsErr result ↔ IsOverfull (disk_written (disk_of self.old) lba count bytes.now) }
-        ensures ok { OnOk result (disk_of self.new ≡ disk_written (disk_of self.old) lba count bytes.now) }
+        ensures space { IsErr result
+            ↔ IsOverfull (disk_written (disk_of self.old) lba count bytes.now) }
+        ensures ok { OnOk result
+            (disk_of self.new ≡ disk_written (disk_of self.old) lba count bytes.now) }
         ensures err { OnErr result (disk_of self.new ≡ disk_of self.old) }
 
         // Each address that was mapped keeps its slot.
@@ -175,7 +180,8 @@ impl Store for BlockMap {
             ≤ (meter_of self.old).total + block_price (disk_of self.old).contents lba count }
         ensures least { OnOk result ((meter_of self.old).total
             + block_least (disk_of self.old).contents lba count ≤ (meter_of self.new).total) }
-        ensures runs { CostsRuns (disk_of self.old).contents lba count (meter_of self.old) (meter_of self.new) }
+        ensures runs { CostsRuns (disk_of self.old).contents lba count
+            (meter_of self.old) (meter_of self.new) }
     {
         self.replace(lba, count, &Source::Joined(bytes))
     }
@@ -186,8 +192,10 @@ impl Store for BlockMap {
 
         // Either the pool has too few blocks and the disk stays as it is, or all blocks are
         // replaced.
-        ensures space { IsErr result ↔ IsOverfull (disk_filled (disk_of self.old) lba count block.now) }
-        ensures ok { OnOk result (disk_of self.new ≡ disk_filled (disk_of self.old) lba count block.now) }
+        ensures space { IsErr result
+            ↔ IsOverfull (disk_filled (disk_of self.old) lba count block.now) }
+        ensures ok { OnOk result
+            (disk_of self.new ≡ disk_filled (disk_of self.old) lba count block.now) }
         ensures err { OnErr result (disk_of self.new ≡ disk_of self.old) }
 
         // Each address that was mapped keeps its slot.
@@ -199,7 +207,8 @@ impl Store for BlockMap {
             ≤ (meter_of self.old).total + block_price (disk_of self.old).contents lba count }
         ensures least { OnOk result ((meter_of self.old).total
             + block_least (disk_of self.old).contents lba count ≤ (meter_of self.new).total) }
-        ensures runs { CostsRuns (disk_of self.old).contents lba count (meter_of self.old) (meter_of self.new) }
+        ensures runs { CostsRuns (disk_of self.old).contents lba count
+            (meter_of self.old) (meter_of self.new) }
     {
         self.replace(lba, count, &Source::Repeated(block))
     }
@@ -218,7 +227,8 @@ impl Store for BlockMap {
             ≤ (meter_of self.old).total + block_price (disk_of self.old).contents lba count }
         ensures least { (meter_of self.old).total
             + block_least (disk_of self.old).contents lba count ≤ (meter_of self.new).total }
-        ensures runs { CostsRuns (disk_of self.old).contents lba count (meter_of self.old) (meter_of self.new) }
+        ensures runs { CostsRuns (disk_of self.old).contents lba count
+            (meter_of self.old) (meter_of self.new) }
     {
         if count == 0 {
             return;
@@ -255,7 +265,8 @@ impl Store for BlockMap {
             (meter_of self.old).total + block_least (disk_of self.old).contents lba count
             ≤ (meter_of self.new).total }
         ensures runs { let count = covered (lba_status (disk_of self.old) lba) in
-            CostsRuns (disk_of self.old).contents lba count (meter_of self.old) (meter_of self.new) }
+            CostsRuns (disk_of self.old).contents lba count
+            (meter_of self.old) (meter_of self.new) }
     {
         let at = cut.written();
         cut.put(&header(0));

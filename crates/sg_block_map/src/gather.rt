@@ -3,7 +3,8 @@ ghost use Rattle.std.specs.Prelude.{◌≡◌, ◌+◌, ◌-◌, ◌*◌, ◌^�
 ghost use Rattle.std.specs.List.{count_by, splice, sum_by};
 ghost use Rattle.sg_blocks.specs.Records.{IsSorted, IsLowerBound, start_of};
 ghost use Rattle.sg_blocks.specs.Table.{visited, probed};
-ghost use Rattle.sg_block_map.specs.Gathering.{AreGathered, AreBegun, end_index, overlap, starts_in};
+ghost use Rattle.sg_block_map.specs.Gathering.{AreGathered, AreBegun, end_index, overlap};
+ghost use Rattle.sg_block_map.specs.Gathering.{starts_in};
 ghost use Rattle.sg_block_map.specs.Runs.{AreMaximal, blocks_of};
 
 use sg_blocks::draft::Draft;
@@ -52,13 +53,16 @@ fn gather_from(table: &mut RunTable, gathered: &mut Draft, index: usize, high: u
     requires headroom { table.old.visits ≤ MAX_COUNT + 1 }
 
     // The records are those of the table.
-    ensures from { (gathered.new.from ≡ gathered.old.from) × (gathered.new.room ≡ gathered.old.room) }
-    ensures grows { (index ≤ end_index gathered.new) × (end_index gathered.new ≤ length table.old.records) }
-    ensures same { splice table.old.records gathered.new.from (end_index gathered.new) gathered.new.records
-        ≡ table.old.records }
+    ensures from { (gathered.new.from ≡ gathered.old.from)
+        × (gathered.new.room ≡ gathered.old.room) }
+    ensures grows { (index ≤ end_index gathered.new)
+        × (end_index gathered.new ≤ length table.old.records) }
+    ensures same { splice table.old.records gathered.new.from (end_index gathered.new)
+        gathered.new.records ≡ table.old.records }
 
     // Those that begin past the address are left out.
-    ensures near { (i : ℕ) → index ≤ i → i < end_index gathered.new → start_of table.old.records i ≤ high }
+    ensures near { (i : ℕ) → index ≤ i → i < end_index gathered.new
+        → start_of table.old.records i ≤ high }
     ensures after { end_index gathered.new < length table.old.records
         → high < start_of table.old.records (end_index gathered.new) }
 

@@ -1,13 +1,15 @@
 ghost use Rattle.std.specs.Prelude.{◌≡◌, ◌+◌, ◌-◌, ◌*◌, ◌^◌, ◌<◌, ◌≤◌, ℕ, length};
 ghost use Rattle.std.specs.List.{flat_map};
-ghost use Rattle.sg_blocks.specs.LbaStatus.{covered, descriptor_at, descriptor_bytes, descriptors_from};
+ghost use Rattle.sg_blocks.specs.LbaStatus.{covered, descriptor_at, descriptor_bytes};
+ghost use Rattle.sg_blocks.specs.LbaStatus.{descriptors_from};
 ghost use Rattle.sg_blocks.specs.Records.{ahead};
 ghost use Rattle.sg_blocks.specs.Slots.{Slots};
 ghost use Rattle.sg_blocks.specs.Table.{visited, probed};
 ghost use Rattle.sg_blocks.specs.PlainMap.Editing.{passed};
 ghost use Rattle.sg_wire.specs.Cut.{Puts};
 ghost use Rattle.sg_block_map.specs.Runs.{chained_contents};
-ghost use Rattle.sg_block_map.specs.Status.{AreFrom, AreMet, IsOver, IsRunTable, records_met, run_over};
+ghost use Rattle.sg_block_map.specs.Status.{AreFrom, AreMet, IsOver, IsRunTable};
+ghost use Rattle.sg_block_map.specs.Status.{records_met, run_over};
 
 use sg_blocks::cursor::Cursor;
 use sg_blocks::lba_status::{MAX_DESCRIPTORS, ProvisioningStatus, StatusDescriptor};
@@ -114,7 +116,8 @@ pub fn write_descriptors(
     ensures least { (slots : Slots) →
         let contents = chained_contents table.old.records slots in
         let count = covered (descriptors_from contents capacity lba MAX_DESCRIPTORS) in
-        table.old.total + records_met table.old.records lba count ≤ table.new.total + ahead cursor.next }
+        table.old.total + records_met table.old.records lba count
+        ≤ table.new.total + ahead cursor.next }
     ensures most { (slots : Slots) →
         let contents = chained_contents table.old.records slots in
         let count = covered (descriptors_from contents capacity lba MAX_DESCRIPTORS) in

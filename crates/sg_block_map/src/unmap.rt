@@ -96,10 +96,12 @@ pub fn unmap_runs(
     requires order { low < high }
     requires headroom { pool.old.links ≤ MAX_COUNT }
 
-    // The addresses are unmapped. This holds whatever the blocks are, so the others keep their slots.
+    // The addresses are unmapped. This holds whatever the blocks are, so the others keep their
+    // slots.
     ensures contents { (blocks : List (List ℕ)) →
         contents_of (expanded pool.new.next table.new.records) blocks
-        ≡ unmapped (contents_of (expanded pool.old.next table.old.records) blocks) low (high - low) }
+        ≡ unmapped (contents_of (expanded pool.old.next table.old.records) blocks)
+        low (high - low) }
     ensures runs { AreRuns table.new.records pool.new table.new.room }
     ensures table { table.new ≡ record table.old { records = table.new.records } }
     ensures blocks { pool.new.blocks ≡ pool.old.blocks }

@@ -7,8 +7,10 @@ ghost use Rattle.sg_blocks.specs.Records.{run_at};
 ghost use Rattle.sg_blocks.specs.Slots.{occurrences, followed};
 ghost use Rattle.sg_blocks.specs.Source.{HasBlocks, block_of};
 ghost use Rattle.sg_block_map.specs.Gathering.{AreNear, AreGathered};
-ghost use Rattle.sg_block_map.specs.Joining.{joined, linked, no_run, IsWriting, IsFinished, KeepSlots};
-ghost use Rattle.sg_block_map.specs.Runs.{expanded, AreMaximal, AreRuns, chained_contents, blocks_of};
+ghost use Rattle.sg_block_map.specs.Joining.{joined, linked, no_run, IsWriting, IsFinished};
+ghost use Rattle.sg_block_map.specs.Joining.{KeepSlots};
+ghost use Rattle.sg_block_map.specs.Runs.{expanded, AreMaximal, AreRuns, chained_contents};
+ghost use Rattle.sg_block_map.specs.Runs.{blocks_of};
 ghost use Rattle.sg_block_map.specs.Walking.{ahead_of, AreAhead, IsWalkFrom};
 
 use crate::walk::{Walk, walk_from};
@@ -81,7 +83,8 @@ fn put_address(
         (ahead_of runs.now progress.walk.run progress.walk.at ++ after) pool.old lba
         → AreMaximal (lba + 1) (MAX_CAPACITY + 1) after
         → chained_contents
-        (before ++ result.done ∷ (ahead_of runs.now result.walk.run result.walk.at ++ after)) pool.new
+        (before ++ result.done ∷ (ahead_of runs.now result.walk.run result.walk.at ++ after))
+        pool.new
         ≡ insert (chained_contents
         (before ++ progress.done ∷ (ahead_of runs.now progress.walk.run progress.walk.at ++ after))
         pool.old) lba bytes.now }
@@ -171,7 +174,8 @@ pub fn write_runs(
     source: &Source,
 )
     requires runs { AreRuns table.old.records pool.old table.old.room }
-    requires gathered { AreGathered table.old.records gathered.now lba (lba + count) (MAX_CAPACITY + 1) }
+    requires gathered { AreGathered table.old.records gathered.now lba (lba + count)
+        (MAX_CAPACITY + 1) }
     requires not_empty { 0 < count }
     requires range { lba + count ≤ MAX_CAPACITY }
     requires blocks { HasBlocks source.now count }

@@ -25,7 +25,7 @@ returns-clause-gathered c =
     let begun = rw one at c.gather_before.ensures.gathered in
     let e = c.gather_from.ensures in
     let high : c.args.lba + c.from.result ≡ c.args.lba + c.args.count =
-        ap (λ x. c.args.lba + x) c.from.ensures in
+    ap (λ x. c.args.lba + x) c.from.ensures in
     all-gathered rs c.gather_before.new.gathered c.gather_from.new.gathered
     c.lower_bound-index.result c.args.lba (c.args.lba + c.args.count) (MAX_CAPACITY + 1) begun index
     (omega arith) e.from.0 e.grows.0 (rw two at e.grows.1) (rw two at e.same)
@@ -39,7 +39,7 @@ returns-clause-most c =
     let two : c.gather_before.new.table.records ≡ rs =
     ap (λ (t : Table). t.records) c.gather_before.ensures.table ∙ one in
     let high : c.args.lba + c.from.result ≡ c.args.lba + c.args.count =
-        ap (λ x. c.args.lba + x) c.from.ensures in
+    ap (λ x. c.args.lba + x) c.from.ensures in
     let starts = count-starts rs c.lower_bound-index.result c.args.lba
     (c.args.lba + c.args.count) c.lower_bound-index.ensures.index.after in
     let most = rw (two, high) at c.gather_from.ensures.most in

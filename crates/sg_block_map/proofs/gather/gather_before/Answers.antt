@@ -10,7 +10,7 @@ overflow_sub-low c =
     let at = c.args.index - 1 in
     let within = c.requires.index.within in
     let start = start_of-read rs at c.visit-run.result (omega (arith, c.if-index-eq0.false))
-        (sym c.visit-run.ensures.value) in
+    (sym c.visit-run.ensures.value) in
     let before = c.requires.index.before at (omega (arith, c.if-index-eq0.false)) in
     omega arith
 
@@ -20,12 +20,12 @@ returns-then-low-run-clause-gathered c =
     let at = c.args.index - 1 in
     let within = c.requires.index.within in
     let start = start_of-read rs at c.visit-run.result (omega (arith, c.if-index-eq0.false))
-        (sym c.visit-run.ensures.value) in
+    (sym c.visit-run.ensures.value) in
     let before = c.requires.index.before at (omega (arith, c.if-index-eq0.false)) in
     let from = ap (λ (d : Drafted). d.from) c.begin-then-low-run.ensures in
     let none = ap (λ (d : Drafted). d.records) c.begin-then-low-run.ensures in
     begun-one rs c.push.new.self c.visit-run.result c.args.index c.args.low
-        (omega (arith, c.if-index-eq0.false)) within
+    (omega (arith, c.if-index-eq0.false)) within
     (ap (λ (d : Drafted). d.from) c.push.ensures
     ∙ from) (ap (λ (d : Drafted). d.records) c.push.ensures
     ∙ rw none refl) (sym c.visit-run.ensures.value)
@@ -37,11 +37,11 @@ returns-else-low-run-clause-gathered c =
     let at = c.args.index - 1 in
     let within = c.requires.index.within in
     let start = start_of-read rs at c.visit-run.result (omega (arith, c.if-index-eq0.false))
-        (sym c.visit-run.ensures.value) in
+    (sym c.visit-run.ensures.value) in
     let ends = end_at-read rs at c.visit-run.result (omega (arith, c.if-index-eq0.false))
-        (sym c.visit-run.ensures.value) in
+    (sym c.visit-run.ensures.value) in
     let before = c.requires.index.before at (omega (arith, c.if-index-eq0.false)) in
     begun-none rs c.begin.new.self c.args.index c.args.low
-        (ap (λ (d : Drafted). d.from) c.begin.ensures)
-        (ap (λ (d : Drafted). d.records) c.begin.ensures) within
+    (ap (λ (d : Drafted). d.from) c.begin.ensures)
+    (ap (λ (d : Drafted). d.records) c.begin.ensures) within
     (λ pos. omega (arith, c.if-low-run.false, c.from.ensures))

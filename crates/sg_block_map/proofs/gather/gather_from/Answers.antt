@@ -29,17 +29,21 @@ returns-then-run-high-clause-after c =
     let inv = c.loop-at.invariant in
     let same = ap (λ (t : Table). t.records) inv.table in
     let start = start_here rs c.loop-at.table.records c.loop-at.at c.visit-run.result same
-        (omega (arith, c.loop-at-test.true, c.count-at-end.ensures.value)) c.visit-run.ensures.value
-        in
+    (omega (arith, c.loop-at-test.true, c.count-at-end.ensures.value)) c.visit-run.ensures.value
+    in
     λ low. rw inv.reached (omega (arith, c.if-run-high.true, start))
 
 pub returns-then-run-high-clause-most : goal.returns-then-run-high-clause-most
 returns-then-run-high-clause-most c =
     let inv = c.loop-at.invariant in
     let begun = count-begun c.args.table.now.records c.args.index c.loop-at.at c.args.high inv.near
-        (omega arith) inv.within in
-    omega (arith, begun, ap (λ (t : Table). t.total) inv.table,
-        ap (λ (t : Table). t.total) c.visit-run.ensures.table)
+    (omega arith) inv.within in
+    omega (
+      arith,
+      begun,
+      ap (λ (t : Table). t.total) inv.table,
+      ap (λ (t : Table). t.total) c.visit-run.ensures.table,
+    )
 
 pub returns-then-run-high-2-clause-near : goal.returns-then-run-high-2-clause-near
 returns-then-run-high-2-clause-near c =
@@ -47,12 +51,12 @@ returns-then-run-high-2-clause-near c =
     let inv = c.loop-at.invariant in
     let same = ap (λ (t : Table). t.records) inv.table in
     let start = start_here rs c.loop-at.table.records c.loop-at.at c.visit-run.result same
-        (omega (arith, c.loop-at-test.true, c.count-at-end.ensures.value)) c.visit-run.ensures.value
-        in
+    (omega (arith, c.loop-at-test.true, c.count-at-end.ensures.value)) c.visit-run.ensures.value
+    in
     let on = pushed_past c.loop-at.gathered c.visit-run.result c.push.new.self c.loop-at.at
-        c.push.ensures inv.reached in
+    c.push.ensures inv.reached in
     rw on (near-more rs c.args.index c.loop-at.at c.args.high c.visit-run.result.start inv.near
-        start (omega (arith, c.if-run-high.false)))
+    start (omega (arith, c.if-run-high.false)))
 
 pub returns-then-run-high-2-clause-after : goal.returns-then-run-high-2-clause-after
 returns-then-run-high-2-clause-after c =
@@ -60,20 +64,24 @@ returns-then-run-high-2-clause-after c =
     let inv = c.loop-at.invariant in
     let same = ap (λ (t : Table). t.records) inv.table in
     let start = start_here rs c.loop-at.table.records c.loop-at.at c.visit-run.result same
-        (omega (arith, c.loop-at-test.true, c.count-at-end.ensures.value)) c.visit-run.ensures.value
-        in
+    (omega (arith, c.loop-at-test.true, c.count-at-end.ensures.value)) c.visit-run.ensures.value
+    in
     let on = pushed_past c.loop-at.gathered c.visit-run.result c.push.new.self c.loop-at.at
-        c.push.ensures inv.reached in
+    c.push.ensures inv.reached in
     rw on (λ low. let up = c.requires.sorted c.loop-at.at (c.loop-at.at + 1) (omega arith) low in
-        omega (arith, c.if-run-high-2.true, start, up))
+    omega (arith, c.if-run-high-2.true, start, up))
 
 pub returns-then-run-high-2-clause-most : goal.returns-then-run-high-2-clause-most
 returns-then-run-high-2-clause-most c =
     let inv = c.loop-at.invariant in
     let begun = count-begun c.args.table.now.records c.args.index c.loop-at.at c.args.high inv.near
-        (omega arith) inv.within in
-    omega (arith, begun, ap (λ (t : Table). t.total) inv.table,
-        ap (λ (t : Table). t.total) c.visit-run.ensures.table)
+    (omega arith) inv.within in
+    omega (
+      arith,
+      begun,
+      ap (λ (t : Table). t.total) inv.table,
+      ap (λ (t : Table). t.total) c.visit-run.ensures.table,
+    )
 
 pub loop-at-preserved : goal.loop-at-preserved
 loop-at-preserved c =
@@ -84,7 +92,7 @@ loop-at-preserved c =
     let same = ap (λ (t : Table). t.records) inv.table in
     let low : at < length rs = omega (arith, c.loop-at-test.true, c.count-at-end.ensures.value) in
     let read : run ≡ slice_index_or rs at run = sym c.visit-run.ensures.value
-        ∙ ap (λ xs. slice_index_or xs at run) same in
+    ∙ ap (λ xs. slice_index_or xs at run) same in
     let start = start_here rs c.loop-at.table.records at run same low c.visit-run.ensures.value in
     let expanded : run.start ≢ c.args.high = c.if-run-high-2.false in
     let on : at - c.args.index + 1 ≡ at + 1 - c.args.index = omega arith in
@@ -104,5 +112,5 @@ pub returns-clause-most : goal.returns-clause-most
 returns-clause-most c =
     let inv = c.loop-at.invariant in
     let begun = count-begun c.args.table.now.records c.args.index c.loop-at.at c.args.high inv.near
-        (omega arith) inv.within in
+    (omega arith) inv.within in
     omega (arith, begun, ap (λ (t : Table). t.total) inv.table)

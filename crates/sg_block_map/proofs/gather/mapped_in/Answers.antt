@@ -8,6 +8,6 @@ pub overflow_add-run : goal.overflow_add-run
 overflow_add-run c =
     let none : Run = record { start = 0; count = 0; first = 0; last = 0 } in
     let within = end-within c.args.runs.now 0
-        (MAX_CAPACITY + 1) c.loop-run.run-index none c.requires.runs
+    (MAX_CAPACITY + 1) c.loop-run.run-index none c.requires.runs
     c.loop-run-test.true in
     record { fits = omega (arith, within, c.from-in-loop-run.ensures, c.from.ensures) }

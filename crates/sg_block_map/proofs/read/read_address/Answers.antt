@@ -17,23 +17,23 @@ returns-in_default-clause-bytes c =
     let p = c.args.pool.now in
     let w = c.args.walk in
     let none = skip-block p.next (length p.next) c.args.lba w.at c.args.runs.now w.run p.blocks
-        c.requires.ahead c.requires.range (sym c.run_at.ensures ∙ c.in_default.is) in
+    c.requires.ahead c.requires.range (sym c.run_at.ensures ∙ c.in_default.is) in
     zeros _ _ c.requires.byte_count (c.fill.ensures.after (λ y e. e))
-        ∙ sym (ap (λ (o : Option (List ℕ)). unwrap_or o zero_block) none)
+    ∙ sym (ap (λ (o : Option (List ℕ)). unwrap_or o zero_block) none)
 
 pub bytes-requires : goal.bytes-requires
 bytes-requires c =
     let p = c.args.pool.now in
     let w = c.args.walk in
     rw c.requires.pool (first-slot p.next (length p.next) c.args.lba w.at c.args.runs.now w.run
-        c.in-Some.run' c.requires.ahead (sym c.run_at.ensures ∙ c.in-Some.is))
+    c.in-Some.run' c.requires.ahead (sym c.run_at.ensures ∙ c.in-Some.is))
 
 pub pass-requires-clause-slot : goal.pass-requires-clause-slot
 pass-requires-clause-slot c =
     let p = c.args.pool.now in
     let w = c.args.walk in
     first-slot p.next (length p.next) c.args.lba w.at c.args.runs.now w.run c.in-Some.run'
-        c.requires.ahead (sym c.run_at.ensures ∙ c.in-Some.is)
+    c.requires.ahead (sym c.run_at.ensures ∙ c.in-Some.is)
 
 pub returns-clause-bytes : goal.returns-clause-bytes
 returns-clause-bytes c =
@@ -48,8 +48,8 @@ returns-clause-ahead c =
     let p = c.args.pool.now in
     let w = c.args.walk in
     rw c.pass.ensures.ahead (first-ahead p.next
-        (length p.next) c.args.lba w.at c.args.runs.now w.run c.in-Some.run' c.requires.ahead
-        (sym c.run_at.ensures ∙ c.in-Some.is))
+    (length p.next) c.args.lba w.at c.args.runs.now w.run c.in-Some.run' c.requires.ahead
+    (sym c.run_at.ensures ∙ c.in-Some.is))
 
 pub returns-clause-later : goal.returns-clause-later
 returns-clause-later c =
@@ -64,6 +64,6 @@ returns-clause-links c =
     let p = c.args.pool.now in
     let w = c.args.walk in
     let len = first-length p.next (length p.next) c.args.lba w.at c.args.runs.now w.run
-        c.in-Some.run' c.requires.ahead (sym c.run_at.ensures ∙ c.in-Some.is) in
+    c.in-Some.run' c.requires.ahead (sym c.run_at.ensures ∙ c.in-Some.is) in
     let same = ap (λ xs. length (expanded p.next xs)) c.pass.ensures.ahead in
     omega (arith, len, same, c.pass.ensures.links)

@@ -22,8 +22,8 @@ loop-i-init c =
     let more = ahead_of runs w.run w.at in
     let fs = option_to_list c.walk_from-before.result.0 in
     let len = ap length (sym (walk_from-parts p.next runs c.args.lba c.walk_from-before.result.0
-        more t) ∙ expanded-append p.next fs more)
-        ∙ length-append (expanded p.next fs) (expanded p.next more) in
+    more t) ∙ expanded-append p.next fs more)
+    ∙ length-append (expanded p.next fs) (expanded p.next more) in
     record {
       ahead = rw add-zero (walk_from-ahead p.next (length p.next) runs c.args.lba
           (c.args.lba + c.args.count) c.walk_from-before.result.0 more c.requires.ahead
@@ -48,15 +48,15 @@ loop-i-preserved c =
     let next = ap (λ (s : Slots). s.next) inv.pool in
     let bs = ap (λ (s : Slots). s.blocks) inv.pool in
     let here : c.args.lba + c.from.result ≡ c.args.lba + i =
-        ap (λ x. c.args.lba + x) c.from.ensures in
+    ap (λ x. c.args.lba + x) c.from.ensures in
     let on : c.args.lba + i + 1 ≡ c.args.lba + (i + 1) = omega arith in
     let len : length read ≡ 512 = omega (arith, c.read_address-walk.auto.bytes) in
     let found : map.get (chained_contents (ahead_of runs w.run w.at) p) (c.args.lba + i) ≡
-        map.get (chained_contents runs p) (c.args.lba + i) =
-        inv.later (c.args.lba + i) (omega arith) in
+    map.get (chained_contents runs p) (c.args.lba + i) =
+    inv.later (c.args.lba + i) (omega arith) in
     let block_read : read ≡ block (chained_contents runs p) (c.args.lba + i) =
-        rw (next, bs, here) at e.bytes
-        ∙ ap (λ (o : Option (List ℕ)). unwrap_or o zero_block) found in
+    rw (next, bs, here) at e.bytes
+    ∙ ap (λ (o : Option (List ℕ)). unwrap_or o zero_block) found in
     let ahead = rw (next, here, on) at e.ahead in
     let later = rw (next, bs, here, on) at e.later in
     let links = rw next at e.links in

@@ -3,7 +3,7 @@ use Rattle.sg_blocks.specs.Chains.{slot_after}
 use Rattle.sg_blocks.specs.Slots.{followed}
 use Rattle.sg_block_map.proofs.split.follow.Given as goal
 
--- so many links were followed
+-- `i` links were followed
 abbrev pub invariant-loop-i : goal.invariant-loop-i
 invariant-loop-i l = record {
   slot : l.slot ≡ slot_after l.fn.pool.next l.first l._i;

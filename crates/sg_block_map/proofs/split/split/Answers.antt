@@ -9,14 +9,14 @@ use Rattle.sg_block_map.proofs.split.split.Goals as goal
 pub follow-last-requires-clause-below : goal.follow-last-requires-clause-below
 follow-last-requires-clause-below c =
     below-part_of_chain (length c.args.pool.now.next) c.args.pool.now.next c.args.run.first
-        (c.args.count - 1) c.args.count (omega arith) c.requires.below
+    (c.args.count - 1) c.args.count (omega arith) c.requires.below
 
 pub next-first-requires-clause-slot : goal.next-first-requires-clause-slot
 next-first-requires-clause-slot c =
     let some = c.requires.within.0 in
     rw (c.follow-last.ensures.pool, c.follow-last.ensures.value)
-        (slot-below (length c.args.pool.now.next) c.args.pool.now.next c.args.run.first
-        (c.args.count - 1) c.args.count (omega arith) c.requires.below)
+    (slot-below (length c.args.pool.now.next) c.args.pool.now.next c.args.run.first
+    (c.args.count - 1) c.args.count (omega arith) c.requires.below)
 
 pub returns-clause-rest : goal.returns-clause-rest
 returns-clause-rest c =
@@ -25,8 +25,12 @@ returns-clause-rest c =
     let on : c.args.count - 1 + 1 ≡ c.args.count = omega arith in
     let first : c.next-first.result ≡ slot_after next c.args.run.first c.args.count
     = c.next-first.ensures.value ∙ ap₂ slice_index
-        (ap (λ (s : Slots). s.next) c.follow-last.ensures.pool) c.follow-last.ensures.value
+    (ap (λ (s : Slots). s.next) c.follow-last.ensures.pool) c.follow-last.ensures.value
     ∙ sym (slot_after-more next c.args.run.first (c.args.count - 1))
     ∙ ap (slot_after next c.args.run.first) on in
-    ap₂ (λ s f. record { start = c.args.run.start + s; count = c.args.run.count - c.args.count;
-        first = f; last = c.args.run.last }) c.from.ensures first
+    ap₂ (λ s f. record {
+      start = c.args.run.start + s;
+      count = c.args.run.count - c.args.count;
+      first = f;
+      last = c.args.run.last;
+    }) c.from.ensures first

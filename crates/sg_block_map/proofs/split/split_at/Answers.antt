@@ -16,18 +16,21 @@ returns-then-before-from-clause-split c = is_split-all c.args.pool.now.next c.ar
 pub split-requires-clause-below : goal.split-requires-clause-below
 split-requires-clause-below c =
     below-part_of_chain (length c.args.pool.now.next) c.args.pool.now.next c.args.run.first
-        (c.args.lba - c.args.run.start) c.args.run.count
-        (omega (arith, c.if-before-from.false, c.from.ensures)) c.requires.below
+    (c.args.lba - c.args.run.start) c.args.run.count
+    (omega (arith, c.if-before-from.false, c.from.ensures)) c.requires.below
 
 pub returns-clause-split : goal.returns-clause-split
 returns-clause-split c =
     rw (c.split.ensures.front, c.split.ensures.rest)
-        (is_split-both c.args.pool.now.next c.args.run c.args.lba
-        (omega (arith, c.if-lba-run.false)) (omega (arith, c.if-before-from.false, c.from.ensures))
-        c.requires.chain)
+    (is_split-both c.args.pool.now.next c.args.run c.args.lba
+    (omega (arith, c.if-lba-run.false)) (omega (arith, c.if-before-from.false, c.from.ensures))
+    c.requires.chain)
 
 pub returns-clause-links : goal.returns-clause-links
 returns-clause-links c =
     rw (c.split.ensures.front, c.split.ensures.pool)
-        (omega (arith, length-one c.args.pool.now.next
-        (front_of c.args.pool.now.next c.args.run (c.args.lba - c.args.run.start))))
+    (omega (
+      arith,
+      length-one c.args.pool.now.next
+          (front_of c.args.pool.now.next c.args.run (c.args.lba - c.args.run.start)),
+    ))

@@ -17,7 +17,7 @@ overflow_sub-lba c =
     let index = c.lower_bound-index.result in
     let within = p.within in
     let read = sym (ap (λ (t : Table). slice_index_or t.records (index - 1) c.visit-run.result)
-        c.lower_bound-index.ensures.table) ∙ c.visit-run.ensures.value in
+    c.lower_bound-index.ensures.table) ∙ c.visit-run.ensures.value in
     let start = start_of-read rs (index - 1) c.visit-run.result (omega arith) (sym read) in
     omega (arith, p.before (index - 1) (omega arith))
 
@@ -26,7 +26,7 @@ returns-then-index-eq0-clause-cursor c =
     let rs = c.args.table.now.records in
     let index = c.lower_bound-index.result in
     cursor-at rs c.requires.table.0 index c.args.lba c.new.result c.requires.table.1
-        c.lower_bound-index.ensures.index
+    c.lower_bound-index.ensures.index
     (λ some. absurd (omega arith)) c.new.ensures.index
     (rw c.lower_bound-index.ensures.table at c.new.ensures.next)
 
@@ -37,10 +37,10 @@ returns-then-lba-run-clause-cursor c =
     let p = c.lower_bound-index.ensures.index in
     let within = p.within in
     let read = sym (ap (λ (t : Table). slice_index_or t.records (index - 1) c.visit-run.result)
-        c.lower_bound-index.ensures.table) ∙ c.visit-run.ensures.value in
+    c.lower_bound-index.ensures.table) ∙ c.visit-run.ensures.value in
     let start = start_of-read rs (index - 1) c.visit-run.result (omega arith) (sym read) in
     cursor-before rs c.requires.table.0 index c.args.lba c.visit-run.result c.requires.table.1 p
-        (omega arith) read
+    (omega arith) read
     (omega (arith, start, p.before (index - 1) (omega arith), c.if-lba-run.true, c.from.ensures))
 
 pub returns-clause-cursor : goal.returns-clause-cursor
@@ -50,12 +50,18 @@ returns-clause-cursor c =
     let p = c.lower_bound-index.ensures.index in
     let within = p.within in
     let read = sym (ap (λ (t : Table). slice_index_or t.records (index - 1) c.visit-run.result)
-        c.lower_bound-index.ensures.table) ∙ c.visit-run.ensures.value in
+    c.lower_bound-index.ensures.table) ∙ c.visit-run.ensures.value in
     let start = start_of-read rs (index - 1) c.visit-run.result (omega arith) (sym read) in
     let end = end_at-read rs (index - 1) c.visit-run.result (omega arith) (sym read) in
     let same = ap (λ (t : Table). t.records) c.visit-run.ensures.table
-        ∙ ap (λ (t : Table). t.records) c.lower_bound-index.ensures.table in
+    ∙ ap (λ (t : Table). t.records) c.lower_bound-index.ensures.table in
     cursor-at rs c.requires.table.0 index c.args.lba c.new-2.result c.requires.table.1 p
-    (λ some. omega (arith, start, end, p.before (index - 1) (omega arith), c.if-lba-run.false,
-    c.from.ensures)) c.new-2.ensures.index
+    (λ some. omega (
+      arith,
+      start,
+      end,
+      p.before (index - 1) (omega arith),
+      c.if-lba-run.false,
+      c.from.ensures,
+    )) c.new-2.ensures.index
     (rw same at c.new-2.ensures.next)

@@ -16,28 +16,28 @@ count_unmapped-count-requires c =
 pub returns-in_default-clause-descriptor : goal.returns-in_default-clause-descriptor
 returns-in_default-clause-descriptor c =
     λ slots. gap-described c.args.table.now.records c.args.capacity c.args.lba
-        c.count_unmapped-count.result c.args.cursor
+    c.count_unmapped-count.result c.args.cursor
     c.requires.table c.requires.cursor (sym c.run_over.ensures ∙ c.in_default.is) c.requires.address
     c.count_unmapped-count.ensures slots.next slots.blocks
 
 pub returns-in_default-clause-cursor : goal.returns-in_default-clause-cursor
 returns-in_default-clause-cursor c =
     gap-on c.args.table.now.records c.args.capacity c.args.lba c.count_unmapped-count.result
-        c.args.cursor
+    c.args.cursor
     c.requires.table c.requires.cursor (sym c.run_over.ensures ∙ c.in_default.is) c.requires.address
     c.count_unmapped-count.ensures
 
 pub returns-in_default-clause-rest : goal.returns-in_default-clause-rest
 returns-in_default-clause-rest c =
     gap-rest c.args.table.now.records c.args.capacity c.args.lba c.count_unmapped-count.result
-        c.args.cursor
+    c.args.cursor
     c.requires.table c.requires.cursor (sym c.run_over.ensures ∙ c.in_default.is) c.requires.address
     c.count_unmapped-count.ensures
 
 pub returns-in_default-clause-not_empty : goal.returns-in_default-clause-not_empty
 returns-in_default-clause-not_empty c =
     let low = gap-low c.args.table.now.records c.args.capacity c.args.lba c.args.lba c.args.cursor
-        c.requires.table c.requires.cursor
+    c.requires.table c.requires.cursor
     (sym c.run_over.ensures ∙ c.in_default.is) c.requires.address in
     omega (arith, low, c.count_unmapped-count.ensures)
 
@@ -45,7 +45,7 @@ returns-in_default-clause-not_empty c =
 pub overflow_sub-count : goal.overflow_sub-count
 overflow_sub-count c =
     let high = over-high c.args.table.now.records c.args.capacity c.args.lba c.args.cursor
-        c.requires.table c.requires.cursor
+    c.requires.table c.requires.cursor
     c.in-Some.run' (sym c.run_over.ensures ∙ c.in-Some.is) in
     omega (arith, high, c.from.ensures)
 
@@ -54,9 +54,9 @@ returns-clause-descriptor c =
     let rs = c.args.table.now.records in
     let is = sym c.run_over.ensures ∙ c.in-Some.is in
     let high = over-high rs c.args.capacity c.args.lba c.args.cursor c.requires.table
-        c.requires.cursor c.in-Some.run' is in
+    c.requires.cursor c.in-Some.run' is in
     λ slots. over-described rs c.args.capacity c.args.lba c.args.cursor c.requires.table
-        c.requires.cursor c.in-Some.run' is
+    c.requires.cursor c.in-Some.run' is
     (c.in-Some.run'.start + c.from.result - c.args.lba)
     (omega (arith, high, c.from.ensures)) slots.next slots.blocks
 
@@ -65,9 +65,9 @@ returns-clause-cursor c =
     let rs = c.args.table.now.records in
     let is = sym c.run_over.ensures ∙ c.in-Some.is in
     let high = over-high rs c.args.capacity c.args.lba c.args.cursor c.requires.table
-        c.requires.cursor c.in-Some.run' is in
+    c.requires.cursor c.in-Some.run' is in
     over-on rs c.args.capacity c.args.lba c.args.cursor c.requires.table c.requires.cursor
-        c.in-Some.run' is
+    c.in-Some.run' is
     (c.in-Some.run'.start + c.from.result - c.args.lba) (omega (arith, high, c.from.ensures))
     c.new-end.result c.new-end.ensures.index c.new-end.ensures.next
 
@@ -76,10 +76,10 @@ returns-clause-met c =
     let rs = c.args.table.now.records in
     let is = sym c.run_over.ensures ∙ c.in-Some.is in
     let high = over-high rs c.args.capacity c.args.lba c.args.cursor c.requires.table
-        c.requires.cursor c.in-Some.run' is in
+    c.requires.cursor c.in-Some.run' is in
     rw c.new-end.ensures.index
-        (over-met rs c.args.capacity c.args.lba c.args.cursor c.requires.table c.requires.cursor
-        c.in-Some.run' is
+    (over-met rs c.args.capacity c.args.lba c.args.cursor c.requires.table c.requires.cursor
+    c.in-Some.run' is
     (c.in-Some.run'.start + c.from.result - c.args.lba) (omega (arith, high, c.from.ensures)))
 
 pub returns-clause-rest : goal.returns-clause-rest
@@ -87,15 +87,15 @@ returns-clause-rest c =
     let rs = c.args.table.now.records in
     let is = sym c.run_over.ensures ∙ c.in-Some.is in
     let high = over-high rs c.args.capacity c.args.lba c.args.cursor c.requires.table
-        c.requires.cursor c.in-Some.run' is in
+    c.requires.cursor c.in-Some.run' is in
     rw c.new-end.ensures.index
-        (over-rest rs c.args.capacity c.args.lba c.args.cursor c.requires.table c.requires.cursor
-        c.in-Some.run' is
+    (over-rest rs c.args.capacity c.args.lba c.args.cursor c.requires.table c.requires.cursor
+    c.in-Some.run' is
     (c.in-Some.run'.start + c.from.result - c.args.lba) (omega (arith, high, c.from.ensures)))
 
 pub returns-clause-not_empty : goal.returns-clause-not_empty
 returns-clause-not_empty c =
     let high = over-high c.args.table.now.records c.args.capacity c.args.lba c.args.cursor
-        c.requires.table c.requires.cursor
+    c.requires.table c.requires.cursor
     c.in-Some.run' (sym c.run_over.ensures ∙ c.in-Some.is) in
     omega (arith, high, c.from.ensures)

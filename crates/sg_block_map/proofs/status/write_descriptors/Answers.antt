@@ -60,13 +60,13 @@ loop-next-preserved c =
     let same : c.loop-next.table.records ≡ rs = ap (λ (t : Table). t.records) inv.table in
     let on : next + c.from-next.result ≡ next + d.count = ap (λ k. next + k) c.from-next.ensures in
     let all = λ (slots : Slots). descriptors_from
-        (chained_contents rs slots) c.args.capacity c.args.lba 512 in
+    (chained_contents rs slots) c.args.capacity c.args.lba 512 in
     let first = λ (slots : Slots). next-of (all slots) _ n d d
     (first-of (chained_contents rs slots) c.args.capacity next n d
     (all slots) c.loop-next-test.true c.if-count-lt-MAX_DESCRIPTORS.true
     (rw same at (e.descriptor slots)) (inv.more slots)) in
     let low : c.args.lba ≤ next = elim inv.rest
-        [ inl none ↦ omega (arith, none.0) | inr some ↦ omega (arith, some.0) ] in
+    [ inl none ↦ omega (arith, none.0) | inr some ↦ omega (arith, some.0) ] in
     let met = rw same at e.met in
     let rest = rw same at e.rest in
     record {
@@ -80,8 +80,8 @@ loop-next-preserved c =
       more = λ slots. rw on (first slots).2;
       next = λ slots.
           let more = ap covered (take_more (all slots) n d (first slots).0
-              ∙ ap (λ x. take n (all slots) ++ x ∷ []) (first slots).1)
-              ∙ covered-more (take n (all slots)) d in
+          ∙ ap (λ x. take n (all slots) ++ x ∷ []) (first slots).1)
+          ∙ covered-more (take n (all slots)) d in
           omega (arith, inv.next slots, c.from-next.ensures, more);
       met = rw on (λ i ge lt. elim (cases_lt i c.loop-next.cursor.index) [
         | inl before ↦ let m = inv.met i ge before in (m.0, omega (arith, m.1))
@@ -116,11 +116,11 @@ returns-else-count-lt-MAX_DESCRIPTORS-clause-data c =
     let rs = c.args.table.now.records in
     let inv = c.loop-next.invariant in
     let all = λ (slots : Slots). descriptors_from
-        (chained_contents rs slots) c.args.capacity c.args.lba 512 in
+    (chained_contents rs slots) c.args.capacity c.args.lba 512 in
     λ slots.
     let end = all-of (all slots) c.loop-next.count
-        (full-end (chained_contents rs slots) c.args.capacity c.loop-next.next c.loop-next.count
-        (all slots) c.if-count-lt-MAX_DESCRIPTORS.false (inv.more slots)) (inv.len slots) in
+    (full-end (chained_contents rs slots) c.args.capacity c.loop-next.next c.loop-next.count
+    (all slots) c.if-count-lt-MAX_DESCRIPTORS.false (inv.more slots)) (inv.len slots) in
     inv.put slots ∙ ap (λ ds. put (answer_of c.args.cut.now) (flat_map descriptor_bytes ds)) end.0
 
 pub returns-else-count-lt-MAX_DESCRIPTORS-clause-count : goal.returns-else-count-lt-MAX_DESCRIPTORS-clause-count
@@ -128,27 +128,27 @@ returns-else-count-lt-MAX_DESCRIPTORS-clause-count c =
     let rs = c.args.table.now.records in
     let inv = c.loop-next.invariant in
     let all = λ (slots : Slots). descriptors_from
-        (chained_contents rs slots) c.args.capacity c.args.lba 512 in
+    (chained_contents rs slots) c.args.capacity c.args.lba 512 in
     λ slots. (all-of (all slots) c.loop-next.count
-        (full-end (chained_contents rs slots) c.args.capacity c.loop-next.next c.loop-next.count
-        (all slots) c.if-count-lt-MAX_DESCRIPTORS.false (inv.more slots)) (inv.len slots)).1
+    (full-end (chained_contents rs slots) c.args.capacity c.loop-next.next c.loop-next.count
+    (all slots) c.if-count-lt-MAX_DESCRIPTORS.false (inv.more slots)) (inv.len slots)).1
 
 pub returns-else-count-lt-MAX_DESCRIPTORS-clause-least : goal.returns-else-count-lt-MAX_DESCRIPTORS-clause-least
 returns-else-count-lt-MAX_DESCRIPTORS-clause-least c =
     let rs = c.args.table.now.records in
     let inv = c.loop-next.invariant in
     let all = λ (slots : Slots). descriptors_from
-        (chained_contents rs slots) c.args.capacity c.args.lba 512 in
+    (chained_contents rs slots) c.args.capacity c.args.lba 512 in
     let total = ap (λ (t : Table). t.total) inv.table in
     λ slots.
     let end = all-of (all slots) c.loop-next.count
-        (full-end (chained_contents rs slots) c.args.capacity c.loop-next.next c.loop-next.count
-        (all slots) c.if-count-lt-MAX_DESCRIPTORS.false (inv.more slots)) (inv.len slots) in
+    (full-end (chained_contents rs slots) c.args.capacity c.loop-next.next c.loop-next.count
+    (all slots) c.if-count-lt-MAX_DESCRIPTORS.false (inv.more slots)) (inv.len slots) in
     let n = covered (all slots) in
     let met = met-ending rs c.args.capacity c.args.cursor.index c.loop-next.cursor.index c.args.lba
-        c.loop-next.next n
+    c.loop-next.next n
     c.requires.table inv.order inv.cursor.within c.requires.cursor.before inv.met inv.rest
-        (inv.next slots ∙ ap (λ ds. c.args.lba + covered ds) end.0) in
+    (inv.next slots ∙ ap (λ ds. c.args.lba + covered ds) end.0) in
     omega (arith, met, total, inv.order)
 
 pub returns-else-count-lt-MAX_DESCRIPTORS-clause-most : goal.returns-else-count-lt-MAX_DESCRIPTORS-clause-most
@@ -156,17 +156,17 @@ returns-else-count-lt-MAX_DESCRIPTORS-clause-most c =
     let rs = c.args.table.now.records in
     let inv = c.loop-next.invariant in
     let all = λ (slots : Slots). descriptors_from
-        (chained_contents rs slots) c.args.capacity c.args.lba 512 in
+    (chained_contents rs slots) c.args.capacity c.args.lba 512 in
     let total = ap (λ (t : Table). t.total) inv.table in
     λ slots.
     let end = all-of (all slots) c.loop-next.count
-        (full-end (chained_contents rs slots) c.args.capacity c.loop-next.next c.loop-next.count
-        (all slots) c.if-count-lt-MAX_DESCRIPTORS.false (inv.more slots)) (inv.len slots) in
+    (full-end (chained_contents rs slots) c.args.capacity c.loop-next.next c.loop-next.count
+    (all slots) c.if-count-lt-MAX_DESCRIPTORS.false (inv.more slots)) (inv.len slots) in
     let n = covered (all slots) in
     let met = met-ending rs c.args.capacity c.args.cursor.index c.loop-next.cursor.index c.args.lba
-        c.loop-next.next n
+    c.loop-next.next n
     c.requires.table inv.order inv.cursor.within c.requires.cursor.before inv.met inv.rest
-        (inv.next slots ∙ ap (λ ds. c.args.lba + covered ds) end.0) in
+    (inv.next slots ∙ ap (λ ds. c.args.lba + covered ds) end.0) in
     omega (arith, met, total, inv.order, ahead-le c.loop-next.cursor.next)
 
 pub returns-after-loop-next-clause-data : goal.returns-after-loop-next-clause-data
@@ -174,11 +174,11 @@ returns-after-loop-next-clause-data c =
     let rs = c.args.table.now.records in
     let inv = c.loop-next.invariant in
     let all = λ (slots : Slots). descriptors_from
-        (chained_contents rs slots) c.args.capacity c.args.lba 512 in
+    (chained_contents rs slots) c.args.capacity c.args.lba 512 in
     λ slots.
     let end = all-of (all slots) c.loop-next.count (inv.more slots
-        ∙ descriptors-end (chained_contents rs slots) c.args.capacity c.loop-next.next
-        (512 - c.loop-next.count) c.loop-next-test.false) (inv.len slots) in
+    ∙ descriptors-end (chained_contents rs slots) c.args.capacity c.loop-next.next
+    (512 - c.loop-next.count) c.loop-next-test.false) (inv.len slots) in
     inv.put slots ∙ ap (λ ds. put (answer_of c.args.cut.now) (flat_map descriptor_bytes ds)) end.0
 
 pub returns-after-loop-next-clause-count : goal.returns-after-loop-next-clause-count
@@ -186,27 +186,27 @@ returns-after-loop-next-clause-count c =
     let rs = c.args.table.now.records in
     let inv = c.loop-next.invariant in
     let all = λ (slots : Slots). descriptors_from
-        (chained_contents rs slots) c.args.capacity c.args.lba 512 in
+    (chained_contents rs slots) c.args.capacity c.args.lba 512 in
     λ slots. (all-of (all slots) c.loop-next.count (inv.more slots
-        ∙ descriptors-end (chained_contents rs slots) c.args.capacity c.loop-next.next
-        (512 - c.loop-next.count) c.loop-next-test.false) (inv.len slots)).1
+    ∙ descriptors-end (chained_contents rs slots) c.args.capacity c.loop-next.next
+    (512 - c.loop-next.count) c.loop-next-test.false) (inv.len slots)).1
 
 pub returns-after-loop-next-clause-least : goal.returns-after-loop-next-clause-least
 returns-after-loop-next-clause-least c =
     let rs = c.args.table.now.records in
     let inv = c.loop-next.invariant in
     let all = λ (slots : Slots). descriptors_from
-        (chained_contents rs slots) c.args.capacity c.args.lba 512 in
+    (chained_contents rs slots) c.args.capacity c.args.lba 512 in
     let total = ap (λ (t : Table). t.total) inv.table in
     λ slots.
     let end = all-of (all slots) c.loop-next.count (inv.more slots
-        ∙ descriptors-end (chained_contents rs slots) c.args.capacity c.loop-next.next
-        (512 - c.loop-next.count) c.loop-next-test.false) (inv.len slots) in
+    ∙ descriptors-end (chained_contents rs slots) c.args.capacity c.loop-next.next
+    (512 - c.loop-next.count) c.loop-next-test.false) (inv.len slots) in
     let n = covered (all slots) in
     let met = met-ending rs c.args.capacity c.args.cursor.index c.loop-next.cursor.index c.args.lba
-        c.loop-next.next n
+    c.loop-next.next n
     c.requires.table inv.order inv.cursor.within c.requires.cursor.before inv.met inv.rest
-        (inv.next slots ∙ ap (λ ds. c.args.lba + covered ds) end.0) in
+    (inv.next slots ∙ ap (λ ds. c.args.lba + covered ds) end.0) in
     omega (arith, met, total, inv.order)
 
 pub returns-after-loop-next-clause-most : goal.returns-after-loop-next-clause-most
@@ -214,15 +214,15 @@ returns-after-loop-next-clause-most c =
     let rs = c.args.table.now.records in
     let inv = c.loop-next.invariant in
     let all = λ (slots : Slots). descriptors_from
-        (chained_contents rs slots) c.args.capacity c.args.lba 512 in
+    (chained_contents rs slots) c.args.capacity c.args.lba 512 in
     let total = ap (λ (t : Table). t.total) inv.table in
     λ slots.
     let end = all-of (all slots) c.loop-next.count (inv.more slots
-        ∙ descriptors-end (chained_contents rs slots) c.args.capacity c.loop-next.next
-        (512 - c.loop-next.count) c.loop-next-test.false) (inv.len slots) in
+    ∙ descriptors-end (chained_contents rs slots) c.args.capacity c.loop-next.next
+    (512 - c.loop-next.count) c.loop-next-test.false) (inv.len slots) in
     let n = covered (all slots) in
     let met = met-ending rs c.args.capacity c.args.cursor.index c.loop-next.cursor.index c.args.lba
-        c.loop-next.next n
+    c.loop-next.next n
     c.requires.table inv.order inv.cursor.within c.requires.cursor.before inv.met inv.rest
-        (inv.next slots ∙ ap (λ ds. c.args.lba + covered ds) end.0) in
+    (inv.next slots ∙ ap (λ ds. c.args.lba + covered ds) end.0) in
     omega (arith, met, total, inv.order, ahead-le c.loop-next.cursor.next)

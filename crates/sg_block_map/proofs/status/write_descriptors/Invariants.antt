@@ -15,7 +15,7 @@ invariant-loop-next l =
     let rs = l.fn.table.records in
     let from = l.fn.cursor.index in
     let all = λ (slots : Slots). descriptors_from
-        (chained_contents rs slots) l.capacity l.lba 512 in
+    (chained_contents rs slots) l.capacity l.lba 512 in
     record {
       order : from ≤ l.cursor.index;
       cursor : IsOver rs l.cursor l.next;

@@ -14,7 +14,7 @@ returns-in_default-clause-cut c =
     let one = rw c.in_default.is at c.split_at-front.ensures.split in
     let pool = c.split_at-front.ensures.pool in
     cut-front p c.split_at-front.new.pool c.args.remaining.now.records c.keep.new.remaining.records
-        c.args.run c.args.low c.args.high c.split_at-front.result.0 one
+    c.args.run c.args.low c.args.high c.split_at-front.result.0 one
     (ap (λ (d : Drafted). d.records) c.keep.ensures) (ap (λ (s : Slots). s.next) pool)
     (ap (λ (s : Slots). s.free) pool) (ap (λ (s : Slots). s.blocks) pool)
 
@@ -23,7 +23,7 @@ returns-in_default-clause-links c =
     let p = c.args.pool.now in
     let one = rw c.in_default.is at c.split_at-front.ensures.split in
     let len = part-length p.next c.args.run (option_to_list c.split_at-front.result.0) [] []
-        one.parts in
+    one.parts in
     omega (arith, len, c.split_at-front.ensures.links)
 
 pub split_at-gone-requires-clause-chain : goal.split_at-gone-requires-clause-chain
@@ -40,9 +40,9 @@ split_at-gone-requires-clause-below c =
     let one = rw c.in-Some.is at c.split_at-front.ensures.split in
     let next = ap (λ (s : Slots). s.next) c.split_at-front.ensures.pool in
     let parts : expanded p.next (option_to_list c.split_at-front.result.0 ++ (rest ∷ [] ++ [])) ≡
-        singles_of p.next c.args.run = one.parts in
+    singles_of p.next c.args.run = one.parts in
     rw (next, sym (slots-one p.next rest)) (part-below p.next (length p.next) c.args.run
-        (option_to_list c.split_at-front.result.0) (rest ∷ []) [] parts c.requires.below)
+    (option_to_list c.split_at-front.result.0) (rest ∷ []) [] parts c.requires.below)
 
 pub split_at-gone-requires-clause-headroom : goal.split_at-gone-requires-clause-headroom
 split_at-gone-requires-clause-headroom c =
@@ -50,9 +50,9 @@ split_at-gone-requires-clause-headroom c =
     let rest = c.in-Some.rest in
     let one = rw c.in-Some.is at c.split_at-front.ensures.split in
     let parts : expanded p.next (option_to_list c.split_at-front.result.0 ++ (rest ∷ [] ++ [])) ≡
-        singles_of p.next c.args.run = one.parts in
+    singles_of p.next c.args.run = one.parts in
     let len = part-length p.next c.args.run (option_to_list c.split_at-front.result.0)
-        (rest ∷ []) [] parts in
+    (rest ∷ []) [] parts in
     let own = length-part p.next rest in
     omega (arith, len, own, c.split_at-front.ensures.links, c.requires.headroom)
 
@@ -64,9 +64,9 @@ give-requires-clause-below c =
     let next = ap (λ (s : Slots). s.next) c.split_at-gone.ensures.pool ∙ first in
     let two = rw first at c.split_at-gone.ensures.split in
     let front = c.split_at-front.result.0 in let gone = c.split_at-gone.result.0 in
-        let back = c.split_at-gone.result.1 in
+    let back = c.split_at-gone.result.1 in
     rw next (part-below p.next (length p.next) c.args.run (option_to_list front)
-        (option_to_list gone) (option_to_list back)
+    (option_to_list gone) (option_to_list back)
     (parts-twice p.next c.args.run c.in-Some.rest c.args.low c.args.high front gone back one two)
     c.requires.below)
 
@@ -77,14 +77,14 @@ give-requires-clause-distinct c =
     let first = ap (λ (s : Slots). s.next) c.split_at-front.ensures.pool in
     let next = ap (λ (s : Slots). s.next) c.split_at-gone.ensures.pool ∙ first in
     let free = ap (λ (s : Slots). s.free) c.split_at-gone.ensures.pool
-        ∙ ap (λ (s : Slots). s.free) c.split_at-front.ensures.pool in
+    ∙ ap (λ (s : Slots). s.free) c.split_at-front.ensures.pool in
     let two = rw first at c.split_at-gone.ensures.split in
     let front = c.split_at-front.result.0 in let gone = c.split_at-gone.result.0 in
-        let back = c.split_at-gone.result.1 in
+    let back = c.split_at-gone.result.1 in
     rw (next, free) (λ s.
     let parts = part-slots p.next c.args.run (option_to_list front) (option_to_list gone)
-        (option_to_list back) s (parts-twice p.next c.args.run c.in-Some.rest c.args.low c.args.high
-        front gone back one two) in
+    (option_to_list back) s (parts-twice p.next c.args.run c.in-Some.rest c.args.low c.args.high
+    front gone back one two) in
     let d = c.requires.distinct s in
     omega arith)
 
@@ -95,13 +95,13 @@ give-requires-clause-room c =
     let first = ap (λ (s : Slots). s.next) c.split_at-front.ensures.pool in
     let next = ap (λ (s : Slots). s.next) c.split_at-gone.ensures.pool ∙ first in
     let free = ap (λ (s : Slots). s.free) c.split_at-gone.ensures.pool
-        ∙ ap (λ (s : Slots). s.free) c.split_at-front.ensures.pool in
+    ∙ ap (λ (s : Slots). s.free) c.split_at-front.ensures.pool in
     let two = rw first at c.split_at-gone.ensures.split in
     let front = c.split_at-front.result.0 in let gone = c.split_at-gone.result.0 in
-        let back = c.split_at-gone.result.1 in
+    let back = c.split_at-gone.result.1 in
     let len = part-length p.next c.args.run (option_to_list front) (option_to_list gone)
-        (option_to_list back) (parts-twice p.next c.args.run c.in-Some.rest c.args.low c.args.high
-        front gone back one two) in
+    (option_to_list back) (parts-twice p.next c.args.run c.in-Some.rest c.args.low c.args.high
+    front gone back one two) in
     rw (next, free) (omega (arith, len, c.requires.slots))
 
 pub returns-clause-cut : goal.returns-clause-cut
@@ -111,14 +111,14 @@ returns-clause-cut c =
     let first = ap (λ (s : Slots). s.next) c.split_at-front.ensures.pool in
     let next = ap (λ (s : Slots). s.next) c.split_at-gone.ensures.pool ∙ first in
     let free = ap (λ (s : Slots). s.free) c.split_at-gone.ensures.pool
-        ∙ ap (λ (s : Slots). s.free) c.split_at-front.ensures.pool in
+    ∙ ap (λ (s : Slots). s.free) c.split_at-front.ensures.pool in
     let bs = ap (λ (s : Slots). s.blocks) c.split_at-gone.ensures.pool
-        ∙ ap (λ (s : Slots). s.blocks) c.split_at-front.ensures.pool in
+    ∙ ap (λ (s : Slots). s.blocks) c.split_at-front.ensures.pool in
     let two = rw first at c.split_at-gone.ensures.split in
     let front = c.split_at-front.result.0 in let gone = c.split_at-gone.result.0 in
-        let back = c.split_at-gone.result.1 in
+    let back = c.split_at-gone.result.1 in
     cut-twice p c.give.new.pool c.args.remaining.now.records c.keep-2.new.remaining.records
-        c.args.run c.in-Some.rest c.args.low c.args.high front gone back one two
+    c.args.run c.in-Some.rest c.args.low c.args.high front gone back one two
     (ap (λ (d : Drafted). d.records) c.keep-2.ensures
     ∙ ap (λ (d : Drafted). d.records ++ option_to_list back) c.keep.ensures)
     (rw (next, free) at c.give.ensures.free) (rw next at c.give.ensures.stays)
@@ -131,10 +131,10 @@ returns-clause-links c =
     let first = ap (λ (s : Slots). s.next) c.split_at-front.ensures.pool in
     let two = rw first at c.split_at-gone.ensures.split in
     let front = c.split_at-front.result.0 in let gone = c.split_at-gone.result.0 in
-        let back = c.split_at-gone.result.1 in
+    let back = c.split_at-gone.result.1 in
     let len = part-length p.next c.args.run (option_to_list front) (option_to_list gone)
-        (option_to_list back) (parts-twice p.next c.args.run c.in-Some.rest c.args.low c.args.high
-        front gone back one two) in
+    (option_to_list back) (parts-twice p.next c.args.run c.in-Some.rest c.args.low c.args.high
+    front gone back one two) in
     let links = rw first at c.split_at-gone.ensures.links in
     let same = ap (λ (s : Slots). s.links) c.give.ensures.pool in
     omega (arith, len, links, same, c.split_at-front.ensures.links)

@@ -40,8 +40,8 @@ loop-i-init c =
     let none = ap (λ (d : Drafted). d.records) c.begin.ensures in
     let whole : splice rs c.from-from.result (c.from-from.result + 0) c.begin.new.self.records ≡ rs
     = ap (λ n. splice rs c.from-from.result n c.begin.new.self.records) (omega arith)
-        ∙ ap (splice rs c.from-from.result c.from-from.result) none
-        ∙ take-append-drop c.from-from.result rs in
+    ∙ ap (splice rs c.from-from.result c.from-from.result) none
+    ∙ take-append-drop c.from-from.result rs in
     record {
       runs = rw whole c.requires.runs;
       same = λ blocks. rw whole refl;
@@ -62,8 +62,8 @@ unmap_run-requires-clause-chain c =
     let xs : List Run = take gathered.from rs in
     let tail : List Run = drop (gathered.from + (c.loop-i.i + 1)) rs in
     let now = here rs kept c.records-runs.result.now gathered c.loop-i.pool c.args.table.now.room
-        c.args.low c.args.high (MAX_CAPACITY + 1) c.from-from.result c.loop-i.i c.requires.gathered
-        c.records-runs.ensures c.from-from.ensures c.loop-i-test.true inv.runs in
+    c.args.low c.args.high (MAX_CAPACITY + 1) c.from-from.result c.loop-i.i c.requires.gathered
+    c.records-runs.ensures c.from-from.ensures c.loop-i-test.true inv.runs in
     run-chain xs kept tail run c.loop-i.pool c.args.table.now.room now
 
 pub unmap_run-requires-clause-below : goal.unmap_run-requires-clause-below
@@ -76,8 +76,8 @@ unmap_run-requires-clause-below c =
     let xs : List Run = take gathered.from rs in
     let tail : List Run = drop (gathered.from + (c.loop-i.i + 1)) rs in
     let now = here rs kept c.records-runs.result.now gathered c.loop-i.pool c.args.table.now.room
-        c.args.low c.args.high (MAX_CAPACITY + 1) c.from-from.result c.loop-i.i c.requires.gathered
-        c.records-runs.ensures c.from-from.ensures c.loop-i-test.true inv.runs in
+    c.args.low c.args.high (MAX_CAPACITY + 1) c.from-from.result c.loop-i.i c.requires.gathered
+    c.records-runs.ensures c.from-from.ensures c.loop-i-test.true inv.runs in
     run-below xs kept tail run c.loop-i.pool c.args.table.now.room now
 
 pub unmap_run-requires-clause-distinct : goal.unmap_run-requires-clause-distinct
@@ -90,8 +90,8 @@ unmap_run-requires-clause-distinct c =
     let xs : List Run = take gathered.from rs in
     let tail : List Run = drop (gathered.from + (c.loop-i.i + 1)) rs in
     let now = here rs kept c.records-runs.result.now gathered c.loop-i.pool c.args.table.now.room
-        c.args.low c.args.high (MAX_CAPACITY + 1) c.from-from.result c.loop-i.i c.requires.gathered
-        c.records-runs.ensures c.from-from.ensures c.loop-i-test.true inv.runs in
+    c.args.low c.args.high (MAX_CAPACITY + 1) c.from-from.result c.loop-i.i c.requires.gathered
+    c.records-runs.ensures c.from-from.ensures c.loop-i-test.true inv.runs in
     run-distinct xs kept tail run c.loop-i.pool c.args.table.now.room now
 
 pub unmap_run-requires-clause-slots : goal.unmap_run-requires-clause-slots
@@ -104,8 +104,8 @@ unmap_run-requires-clause-slots c =
     let xs : List Run = take gathered.from rs in
     let tail : List Run = drop (gathered.from + (c.loop-i.i + 1)) rs in
     let now = here rs kept c.records-runs.result.now gathered c.loop-i.pool c.args.table.now.room
-        c.args.low c.args.high (MAX_CAPACITY + 1) c.from-from.result c.loop-i.i c.requires.gathered
-        c.records-runs.ensures c.from-from.ensures c.loop-i-test.true inv.runs in
+    c.args.low c.args.high (MAX_CAPACITY + 1) c.from-from.result c.loop-i.i c.requires.gathered
+    c.records-runs.ensures c.from-from.ensures c.loop-i-test.true inv.runs in
     let l = run-lengths xs kept tail run c.loop-i.pool c.args.table.now.room now in
     omega (arith, l.0, c.requires.room.1)
 
@@ -119,8 +119,8 @@ unmap_run-requires-clause-room c =
     let xs : List Run = take gathered.from rs in
     let tail : List Run = drop (gathered.from + (c.loop-i.i + 1)) rs in
     let now = here rs kept c.records-runs.result.now gathered c.loop-i.pool c.args.table.now.room
-        c.args.low c.args.high (MAX_CAPACITY + 1) c.from-from.result c.loop-i.i c.requires.gathered
-        c.records-runs.ensures c.from-from.ensures c.loop-i-test.true inv.runs in
+    c.args.low c.args.high (MAX_CAPACITY + 1) c.from-from.result c.loop-i.i c.requires.gathered
+    c.records-runs.ensures c.from-from.ensures c.loop-i-test.true inv.runs in
     let l = run-lengths xs kept tail run c.loop-i.pool c.args.table.now.room now in
     omega (arith, l.1, inv.remaining.1)
 
@@ -134,8 +134,8 @@ unmap_run-requires-clause-range c =
     let xs : List Run = take gathered.from rs in
     let tail : List Run = drop (gathered.from + (c.loop-i.i + 1)) rs in
     let now = here rs kept c.records-runs.result.now gathered c.loop-i.pool c.args.table.now.room
-        c.args.low c.args.high (MAX_CAPACITY + 1) c.from-from.result c.loop-i.i c.requires.gathered
-        c.records-runs.ensures c.from-from.ensures c.loop-i-test.true inv.runs in
+    c.args.low c.args.high (MAX_CAPACITY + 1) c.from-from.result c.loop-i.i c.requires.gathered
+    c.records-runs.ensures c.from-from.ensures c.loop-i-test.true inv.runs in
     run-range xs kept tail run c.loop-i.pool c.args.table.now.room now
 
 pub unmap_run-requires-clause-headroom : goal.unmap_run-requires-clause-headroom
@@ -148,11 +148,11 @@ unmap_run-requires-clause-headroom c =
     let xs : List Run = take gathered.from rs in
     let tail : List Run = drop (gathered.from + (c.loop-i.i + 1)) rs in
     let now = here rs kept c.records-runs.result.now gathered c.loop-i.pool c.args.table.now.room
-        c.args.low c.args.high (MAX_CAPACITY + 1) c.from-from.result c.loop-i.i c.requires.gathered
-        c.records-runs.ensures c.from-from.ensures c.loop-i-test.true inv.runs in
+    c.args.low c.args.high (MAX_CAPACITY + 1) c.from-from.result c.loop-i.i c.requires.gathered
+    c.records-runs.ensures c.from-from.ensures c.loop-i-test.true inv.runs in
     let l = run-lengths xs kept tail run c.loop-i.pool c.args.table.now.room now in
     let few = gathered-blocks rs gathered c.args.pool.now c.args.table.now.room c.args.low
-        c.args.high (MAX_CAPACITY + 1) c.requires.runs c.requires.gathered in
+    c.args.high (MAX_CAPACITY + 1) c.requires.runs c.requires.gathered in
     let part = sum_by-take-le (λ (r : Run). r.count) gathered.records c.loop-i.i in
     omega (arith, l.0, inv.links, c.requires.headroom, c.requires.room.1)
 
@@ -166,21 +166,21 @@ loop-i-preserved c =
     let xs : List Run = take gathered.from rs in
     let tail : List Run = drop (gathered.from + (c.loop-i.i + 1)) rs in
     let now = here rs kept c.records-runs.result.now gathered c.loop-i.pool c.args.table.now.room
-        c.args.low c.args.high (MAX_CAPACITY + 1) c.from-from.result c.loop-i.i c.requires.gathered
-        c.records-runs.ensures c.from-from.ensures c.loop-i-test.true inv.runs in
+    c.args.low c.args.high (MAX_CAPACITY + 1) c.from-from.result c.loop-i.i c.requires.gathered
+    c.records-runs.ensures c.from-from.ensures c.loop-i-test.true inv.runs in
     let e = c.unmap_run.ensures in
     let order : c.args.low ≤ c.args.high = omega (arith, c.requires.order) in
     let was : splice rs c.from-from.result (c.from-from.result + c.loop-i.i) kept ≡
-        xs ++ (kept ++ run ∷ tail)
+    xs ++ (kept ++ run ∷ tail)
     = rw (c.from-from.ensures, c.records-runs.ensures)
-        (gathered-here rs kept gathered c.args.low c.args.high
-        (MAX_CAPACITY + 1) c.loop-i.i no_run c.requires.gathered
-        (rw c.records-runs.ensures at c.loop-i-test.true)) in
+    (gathered-here rs kept gathered c.args.low c.args.high
+    (MAX_CAPACITY + 1) c.loop-i.i no_run c.requires.gathered
+    (rw c.records-runs.ensures at c.loop-i-test.true)) in
     let is : splice rs c.from-from.result (c.from-from.result + (c.loop-i.i + 1))
-        c.unmap_run.new.remaining.records ≡ xs ++ (c.unmap_run.new.remaining.records ++ tail) =
-        rw c.from-from.ensures refl in
+    c.unmap_run.new.remaining.records ≡ xs ++ (c.unmap_run.new.remaining.records ++ tail) =
+    rw c.from-from.ensures refl in
     let links = sum_by_more (λ (r : Run). r.count) gathered.records c.loop-i.i no_run
-        (rw c.records-runs.ensures at c.loop-i-test.true) in
+    (rw c.records-runs.ensures at c.loop-i-test.true) in
     let count = ap (λ rs. (slice_index_or rs c.loop-i.i no_run).count) c.records-runs.ensures in
     record {
       runs = rw is (cut-runs e.cut xs tail now c.requires.order);
@@ -200,9 +200,17 @@ loop-i-preserved c =
 pub overflow_add-from : goal.overflow_add-from
 overflow_add-from c =
     let fit = runs-fit c.args.table.now.records c.args.pool.now c.args.table.now.room
-        c.requires.runs in
-    record { fits = omega (arith, fit, c.requires.room.1, c.requires.gathered.within,
-        c.from-from.ensures, ap length c.records-runs.ensures) }
+    c.requires.runs in
+    record {
+      fits = omega (
+        arith,
+        fit,
+        c.requires.room.1,
+        c.requires.gathered.within,
+        c.from-from.ensures,
+        ap length c.records-runs.ensures,
+      );
+    }
 
 pub splice-requires-clause-room : goal.splice-requires-clause-room
 splice-requires-clause-room c =
@@ -211,7 +219,7 @@ splice-requires-clause-room c =
     let from = c.from-from.result in
     let kept = c.loop-i.remaining.records in
     let fit = runs-fit (splice rs from (from + c.loop-i.i) kept) c.loop-i.pool c.args.table.now.room
-        inv.runs in
+    inv.runs in
     let a = length-append (take from rs) (kept ++ drop (from + c.loop-i.i) rs) in
     let b = length-append kept (drop (from + c.loop-i.i) rs) in
     let d = length-drop (from + c.loop-i.i) rs in
@@ -230,14 +238,14 @@ returns-clause-contents c =
     let kept = c.loop-i.remaining.records in
     let g = c.requires.gathered in
     let all : c.loop-i.i ≡ length gathered.records =
-        omega (arith, c.loop-i-test.false, c.loop-i.auto.i-end, ap length c.records-runs.ensures) in
+    omega (arith, c.loop-i-test.false, c.loop-i.auto.i-end, ap length c.records-runs.ensures) in
     let is : c.splice.new.self.records ≡ take gathered.from rs ++
-        (kept ++ drop (gathered.from + length gathered.records) rs)
+    (kept ++ drop (gathered.from + length gathered.records) rs)
     = ap (λ (t : Table). t.records) c.splice.ensures
-        ∙ rw (c.from-from.ensures, c.records.ensures, c.records-runs.ensures) refl in
+    ∙ rw (c.from-from.ensures, c.records.ensures, c.records-runs.ensures) refl in
     let now : splice rs c.from-from.result (c.from-from.result + c.loop-i.i) kept ≡
-        take gathered.from rs ++ (kept ++ drop (gathered.from + length gathered.records) rs) =
-        rw (c.from-from.ensures, all) refl in
+    take gathered.from rs ++ (kept ++ drop (gathered.from + length gathered.records) rs) =
+    rw (c.from-from.ensures, all) refl in
     λ blocks. ap (λ zs. contents_of (expanded c.loop-i.pool.next zs) blocks) is
     ∙ nothing-left c.loop-i.pool.next (take gathered.from rs) kept
     (drop (gathered.from + length gathered.records) rs) blocks c.args.low c.args.high

@@ -19,5 +19,5 @@ split_at-front-requires-clause-headroom c =
     let all = rw c.in-Some.is at c.new-walk.ensures in
     let ahead = rw (sym all) at c.requires.ahead in
     let few = rw all at ((ahead-first _ _ 0 c.in-Some.run'
-        (drop c.new-walk.result.at c.args.runs.now) ahead).2) in
+    (drop c.new-walk.result.at c.args.runs.now) ahead).2) in
     omega (arith, few, c.requires.headroom)

@@ -19,19 +19,19 @@ set-requires-clause-slot c =
     let w = c.requires.writing in
     let p = c.args.pool.now in
     rw (ap (λ (s : Slots). s.blocks) c.take-slot.ensures.pool)
-        (slot-taken w.0 c.args.progress.done
-        (ahead_of c.args.runs.now c.args.progress.walk.run c.args.progress.walk.at ++ w.1) p
-        c.args.lba c.take-slot.result c.take-slot.new.self.free w.2 c.take-slot.ensures.free)
+    (slot-taken w.0 c.args.progress.done
+    (ahead_of c.args.runs.now c.args.progress.walk.run c.args.progress.walk.at ++ w.1) p
+    c.args.lba c.take-slot.result c.take-slot.new.self.free w.2 c.take-slot.ensures.free)
 
 pub join-done-requires-clause-slot : goal.join-done-requires-clause-slot
 join-done-requires-clause-slot c =
     let w = c.requires.writing in
     let p = c.args.pool.now in
     let next : c.set.new.self.next ≡ p.next = ap (λ (s : Slots). s.next) c.set.ensures
-        ∙ ap (λ (s : Slots). s.next) c.take-slot.ensures.pool in
+    ∙ ap (λ (s : Slots). s.next) c.take-slot.ensures.pool in
     λ pos. rw next ((done-last w.0 c.args.progress.done
-        (ahead_of c.args.runs.now c.args.progress.walk.run c.args.progress.walk.at ++ w.1) p
-        c.args.lba w.2 pos).0)
+    (ahead_of c.args.runs.now c.args.progress.walk.run c.args.progress.walk.at ++ w.1) p
+    c.args.lba w.2 pos).0)
 
 pub join-done-requires-clause-used : goal.join-done-requires-clause-used
 join-done-requires-clause-used c =
@@ -39,13 +39,13 @@ join-done-requires-clause-used c =
     let p = c.args.pool.now in
     let done = c.args.progress.done in
     let free : c.set.new.self.free ≡ c.take-slot.new.self.free =
-        ap (λ (s : Slots). s.free) c.set.ensures in
+    ap (λ (s : Slots). s.free) c.set.ensures in
     λ pos.
     let none = (done-last w.0 done
-        (ahead_of c.args.runs.now c.args.progress.walk.run c.args.progress.walk.at ++ w.1) p
-        c.args.lba w.2 pos).1 in
+    (ahead_of c.args.runs.now c.args.progress.walk.run c.args.progress.walk.at ++ w.1) p
+    c.args.lba w.2 pos).1 in
     let e = ap (occurrences done.last) c.take-slot.ensures.free
-        ∙ occurrences-more done.last c.take-slot.result c.take-slot.new.self.free in
+    ∙ occurrences-more done.last c.take-slot.result c.take-slot.new.self.free in
     rw free (omega arith)
 
 pub returns-in_default-clause-step : goal.returns-in_default-clause-step
@@ -56,19 +56,25 @@ returns-in_default-clause-step c =
     let lba = c.args.lba in
     let slot = c.take-slot.result in
     let run_is : c.join-done.result ≡ joined done (single lba slot) = c.join-done.ensures.run
-        ∙ ap (joined done) c.single.ensures in
-    let set_is : c.set.new.self ≡ record p { blocks = set p.blocks slot c.args.bytes.now; free =
-        c.take-slot.new.self.free } = c.set.ensures
-        ∙ ap (λ (s : Slots). record s { blocks = set s.blocks slot c.args.bytes.now })
-        c.take-slot.ensures.pool in
-    let pool_is : c.join-done.new.pool ≡ record p { blocks = set p.blocks slot c.args.bytes.now;
-        free = c.take-slot.new.self.free; next = linked p.next done slot }
+    ∙ ap (joined done) c.single.ensures in
+    let set_is : c.set.new.self ≡ record p {
+      blocks = set p.blocks slot c.args.bytes.now;
+      free =
+          c.take-slot.new.self.free;
+    } = c.set.ensures
+    ∙ ap (λ (s : Slots). record s { blocks = set s.blocks slot c.args.bytes.now })
+    c.take-slot.ensures.pool in
+    let pool_is : c.join-done.new.pool ≡ record p {
+      blocks = set p.blocks slot c.args.bytes.now;
+      free = c.take-slot.new.self.free;
+      next = linked p.next done slot;
+    }
     = c.join-done.ensures.pool
-        ∙ ap₂ (λ (s : Slots) (o : Run). record s { next = linked s.next done o.first }) set_is
-        c.single.ensures in
+    ∙ ap₂ (λ (s : Slots) (o : Run). record s { next = linked s.next done o.first }) set_is
+    c.single.ensures in
     λ before after h k. rw (run_is, pool_is) (new-writing before done
-        (ahead_of c.args.runs.now w.run w.at ++ after) p lba slot c.take-slot.new.self.free
-        c.args.bytes.now h c.take-slot.ensures.free
+    (ahead_of c.args.runs.now w.run w.at ++ after) p lba slot c.take-slot.new.self.free
+    c.args.bytes.now h c.take-slot.ensures.free
     (skip-maximal c.args.runs.now after w.run w.at lba h.after k (sym c.run_at.ensures
     ∙ c.in_default.is)))
 
@@ -80,18 +86,24 @@ returns-in_default-clause-contents c =
     let lba = c.args.lba in
     let slot = c.take-slot.result in
     let run_is : c.join-done.result ≡ joined done (single lba slot) = c.join-done.ensures.run
-        ∙ ap (joined done) c.single.ensures in
-    let set_is : c.set.new.self ≡ record p { blocks = set p.blocks slot c.args.bytes.now; free =
-        c.take-slot.new.self.free } = c.set.ensures
-        ∙ ap (λ (s : Slots). record s { blocks = set s.blocks slot c.args.bytes.now })
-        c.take-slot.ensures.pool in
-    let pool_is : c.join-done.new.pool ≡ record p { blocks = set p.blocks slot c.args.bytes.now;
-        free = c.take-slot.new.self.free; next = linked p.next done slot }
+    ∙ ap (joined done) c.single.ensures in
+    let set_is : c.set.new.self ≡ record p {
+      blocks = set p.blocks slot c.args.bytes.now;
+      free =
+          c.take-slot.new.self.free;
+    } = c.set.ensures
+    ∙ ap (λ (s : Slots). record s { blocks = set s.blocks slot c.args.bytes.now })
+    c.take-slot.ensures.pool in
+    let pool_is : c.join-done.new.pool ≡ record p {
+      blocks = set p.blocks slot c.args.bytes.now;
+      free = c.take-slot.new.self.free;
+      next = linked p.next done slot;
+    }
     = c.join-done.ensures.pool
-        ∙ ap₂ (λ (s : Slots) (o : Run). record s { next = linked s.next done o.first }) set_is
-        c.single.ensures in
+    ∙ ap₂ (λ (s : Slots) (o : Run). record s { next = linked s.next done o.first }) set_is
+    c.single.ensures in
     λ before after h k. ap₂ (λ (r : Run) (s : Slots). chained_contents
-        (before ++ r ∷ (ahead_of c.args.runs.now w.run w.at ++ after)) s) run_is pool_is
+    (before ++ r ∷ (ahead_of c.args.runs.now w.run w.at ++ after)) s) run_is pool_is
     ∙ new-contents before done (ahead_of c.args.runs.now w.run w.at ++ after) p lba slot
     c.take-slot.new.self.free c.args.bytes.now h c.take-slot.ensures.free
     (skip-maximal c.args.runs.now after w.run w.at lba h.after k (sym c.run_at.ensures
@@ -105,20 +117,26 @@ returns-in_default-clause-keeps c =
     let lba = c.args.lba in
     let slot = c.take-slot.result in
     let run_is : c.join-done.result ≡ joined done (single lba slot) = c.join-done.ensures.run
-        ∙ ap (joined done) c.single.ensures in
-    let set_is : c.set.new.self ≡ record p { blocks = set p.blocks slot c.args.bytes.now; free =
-        c.take-slot.new.self.free } = c.set.ensures
-        ∙ ap (λ (s : Slots). record s { blocks = set s.blocks slot c.args.bytes.now })
-        c.take-slot.ensures.pool in
-    let pool_is : c.join-done.new.pool ≡ record p { blocks = set p.blocks slot c.args.bytes.now;
-        free = c.take-slot.new.self.free; next = linked p.next done slot }
+    ∙ ap (joined done) c.single.ensures in
+    let set_is : c.set.new.self ≡ record p {
+      blocks = set p.blocks slot c.args.bytes.now;
+      free =
+          c.take-slot.new.self.free;
+    } = c.set.ensures
+    ∙ ap (λ (s : Slots). record s { blocks = set s.blocks slot c.args.bytes.now })
+    c.take-slot.ensures.pool in
+    let pool_is : c.join-done.new.pool ≡ record p {
+      blocks = set p.blocks slot c.args.bytes.now;
+      free = c.take-slot.new.self.free;
+      next = linked p.next done slot;
+    }
     = c.join-done.ensures.pool
-        ∙ ap₂ (λ (s : Slots) (o : Run). record s { next = linked s.next done o.first }) set_is
-        c.single.ensures in
+    ∙ ap₂ (λ (s : Slots) (o : Run). record s { next = linked s.next done o.first }) set_is
+    c.single.ensures in
     λ before after h k.
     let rest : List Run = ahead_of c.args.runs.now w.run w.at ++ after in
     subst (λ (r : Run). KeepSlots p.next (before ++ done ∷ rest) c.join-done.new.pool.next
-        (before ++ r ∷ rest)) (sym run_is)
+    (before ++ r ∷ rest)) (sym run_is)
     (subst (λ (s : Slots). KeepSlots p.next (before ++ done ∷ rest) s.next
     (before ++ joined done (single lba slot) ∷ rest)) (sym pool_is)
     (new-keeps before done rest p lba slot c.take-slot.new.self.free c.args.bytes.now h
@@ -139,8 +157,8 @@ set-requires-2-clause-slot c =
     let t = there w.run c.args.lba found (sym c.run_at.ensures ∙ c.in-Some.is) in
     let blocks = ap (λ (s : Slots). s.blocks) c.pass-walk.ensures.pool in
     rw blocks (slot-there x.0 c.args.progress.done found
-        (drop w.at c.args.runs.now ++ x.1) p c.args.lba
-        (rw (here c.args.runs.now x.1 w.run found w.at t.0) at x.2))
+    (drop w.at c.args.runs.now ++ x.1) p c.args.lba
+    (rw (here c.args.runs.now x.1 w.run found w.at t.0) at x.2))
 
 pub pass-walk-requires-clause-slot : goal.pass-walk-requires-clause-slot
 pass-walk-requires-clause-slot c =
@@ -150,8 +168,8 @@ pass-walk-requires-clause-slot c =
     let found = c.in-Some.run' in
     let t = there w.run c.args.lba found (sym c.run_at.ensures ∙ c.in-Some.is) in
     rw (sym x.2.consistent.pool) (slot-there x.0 c.args.progress.done found
-        (drop w.at c.args.runs.now ++ x.1) p c.args.lba
-        (rw (here c.args.runs.now x.1 w.run found w.at t.0) at x.2))
+    (drop w.at c.args.runs.now ++ x.1) p c.args.lba
+    (rw (here c.args.runs.now x.1 w.run found w.at t.0) at x.2))
 
 pub join-done-requires-2-clause-slot : goal.join-done-requires-2-clause-slot
 join-done-requires-2-clause-slot c =
@@ -159,9 +177,9 @@ join-done-requires-2-clause-slot c =
     let p = c.args.pool.now in
     let w = c.args.progress.walk in
     let next : c.set-2.new.self.next ≡ p.next = ap (λ (s : Slots). s.next) c.set-2.ensures
-        ∙ ap (λ (s : Slots). s.next) c.pass-walk.ensures.pool in
+    ∙ ap (λ (s : Slots). s.next) c.pass-walk.ensures.pool in
     λ pos. rw next ((done-last x.0 c.args.progress.done
-        (ahead_of c.args.runs.now w.run w.at ++ x.1) p c.args.lba x.2 pos).0)
+    (ahead_of c.args.runs.now w.run w.at ++ x.1) p c.args.lba x.2 pos).0)
 
 pub join-done-requires-2-clause-used : goal.join-done-requires-2-clause-used
 join-done-requires-2-clause-used c =
@@ -169,9 +187,9 @@ join-done-requires-2-clause-used c =
     let p = c.args.pool.now in
     let w = c.args.progress.walk in
     let free : c.set-2.new.self.free ≡ p.free = ap (λ (s : Slots). s.free) c.set-2.ensures
-        ∙ ap (λ (s : Slots). s.free) c.pass-walk.ensures.pool in
+    ∙ ap (λ (s : Slots). s.free) c.pass-walk.ensures.pool in
     λ pos. rw free ((done-last x.0 c.args.progress.done
-        (ahead_of c.args.runs.now w.run w.at ++ x.1) p c.args.lba x.2 pos).1)
+    (ahead_of c.args.runs.now w.run w.at ++ x.1) p c.args.lba x.2 pos).1)
 
 pub returns-clause-step : goal.returns-clause-step
 returns-clause-step c =
@@ -185,16 +203,19 @@ returns-clause-step c =
     let more : List Run = ahead_of runs c.pass-walk.result.run c.pass-walk.result.at in
     let is = sym c.run_at.ensures ∙ c.in-Some.is in
     let run_is : c.join-done-2.result ≡ joined done (single lba found.first) =
-        c.join-done-2.ensures.run ∙ ap (joined done) c.single-2.ensures in
-    let pool_is : c.join-done-2.new.pool ≡ record now { blocks =
-        set now.blocks found.first c.args.bytes.now; next = linked now.next done found.first }
+    c.join-done-2.ensures.run ∙ ap (joined done) c.single-2.ensures in
+    let pool_is : c.join-done-2.new.pool ≡ record now {
+      blocks =
+          set now.blocks found.first c.args.bytes.now;
+      next = linked now.next done found.first;
+    }
     = c.join-done-2.ensures.pool
-        ∙ ap₂ (λ (s : Slots) (o : Run). record s { next = linked s.next done o.first })
-        c.set-2.ensures c.single-2.ensures in
+    ∙ ap₂ (λ (s : Slots) (o : Run). record s { next = linked s.next done o.first })
+    c.set-2.ensures c.single-2.ensures in
     λ before after h k. rw (run_is, pool_is)
-        (walked-writing before after runs more done found w.run w.at p now lba
-        (now.links - p.links) c.args.bytes.now h is c.pass-walk.ensures.pool
-        c.pass-walk.ensures.ahead)
+    (walked-writing before after runs more done found w.run w.at p now lba
+    (now.links - p.links) c.args.bytes.now h is c.pass-walk.ensures.pool
+    c.pass-walk.ensures.ahead)
 
 pub returns-clause-contents : goal.returns-clause-contents
 returns-clause-contents c =
@@ -208,14 +229,17 @@ returns-clause-contents c =
     let more : List Run = ahead_of runs c.pass-walk.result.run c.pass-walk.result.at in
     let is = sym c.run_at.ensures ∙ c.in-Some.is in
     let run_is : c.join-done-2.result ≡ joined done (single lba found.first) =
-        c.join-done-2.ensures.run ∙ ap (joined done) c.single-2.ensures in
-    let pool_is : c.join-done-2.new.pool ≡ record now { blocks =
-        set now.blocks found.first c.args.bytes.now; next = linked now.next done found.first }
+    c.join-done-2.ensures.run ∙ ap (joined done) c.single-2.ensures in
+    let pool_is : c.join-done-2.new.pool ≡ record now {
+      blocks =
+          set now.blocks found.first c.args.bytes.now;
+      next = linked now.next done found.first;
+    }
     = c.join-done-2.ensures.pool
-        ∙ ap₂ (λ (s : Slots) (o : Run). record s { next = linked s.next done o.first })
-        c.set-2.ensures c.single-2.ensures in
+    ∙ ap₂ (λ (s : Slots) (o : Run). record s { next = linked s.next done o.first })
+    c.set-2.ensures c.single-2.ensures in
     λ before after h k. ap₂ (λ (r : Run) (s : Slots). chained_contents
-        (before ++ r ∷ (more ++ after)) s) run_is pool_is
+    (before ++ r ∷ (more ++ after)) s) run_is pool_is
     ∙ walked-contents before after runs more done found w.run w.at p now lba
     (now.links - p.links) c.args.bytes.now h is c.pass-walk.ensures.pool c.pass-walk.ensures.ahead
 
@@ -231,16 +255,19 @@ returns-clause-keeps c =
     let more : List Run = ahead_of runs c.pass-walk.result.run c.pass-walk.result.at in
     let is = sym c.run_at.ensures ∙ c.in-Some.is in
     let run_is : c.join-done-2.result ≡ joined done (single lba found.first) =
-        c.join-done-2.ensures.run ∙ ap (joined done) c.single-2.ensures in
-    let pool_is : c.join-done-2.new.pool ≡ record now { blocks =
-        set now.blocks found.first c.args.bytes.now; next = linked now.next done found.first }
+    c.join-done-2.ensures.run ∙ ap (joined done) c.single-2.ensures in
+    let pool_is : c.join-done-2.new.pool ≡ record now {
+      blocks =
+          set now.blocks found.first c.args.bytes.now;
+      next = linked now.next done found.first;
+    }
     = c.join-done-2.ensures.pool
-        ∙ ap₂ (λ (s : Slots) (o : Run). record s { next = linked s.next done o.first })
-        c.set-2.ensures c.single-2.ensures in
+    ∙ ap₂ (λ (s : Slots) (o : Run). record s { next = linked s.next done o.first })
+    c.set-2.ensures c.single-2.ensures in
     λ before after h k.
     let rest : List Run = ahead_of runs w.run w.at ++ after in
     subst (λ (r : Run). KeepSlots p.next (before ++ done ∷ rest) c.join-done-2.new.pool.next
-        (before ++ r ∷ (more ++ after))) (sym run_is)
+    (before ++ r ∷ (more ++ after))) (sym run_is)
     (subst (λ (s : Slots). KeepSlots p.next (before ++ done ∷ rest) s.next
     (before ++ joined done (single lba found.first) ∷ (more ++ after))) (sym pool_is)
     (walked-keeps before after runs more done found w.run w.at p now lba

@@ -31,17 +31,22 @@ begin-progress-requires-clause-ahead c =
     let p = c.args.pool.now in
     let g = c.requires.gathered in
     rw c.records-runs.ensures (gathered-ahead (take gathered.from rs) gathered.records
-        (drop (end_index gathered) rs) p c.args.table.now.room
-        (subst (λ zs. AreRuns zs p c.args.table.now.room) (sym g.same) c.requires.runs))
+    (drop (end_index gathered) rs) p c.args.table.now.room
+    (subst (λ zs. AreRuns zs p c.args.table.now.room) (sym g.same) c.requires.runs))
 
 pub begin-progress-requires-clause-headroom : goal.begin-progress-requires-clause-headroom
 begin-progress-requires-clause-headroom c =
     let p = c.args.pool.now in
     let few = gathered-blocks c.args.table.now.records c.args.gathered.now p c.args.table.now.room
-        c.args.lba (c.args.lba + c.args.count)
-        (MAX_CAPACITY + 1) c.requires.runs c.requires.gathered in
-    rw c.records-runs.ensures (omega (arith, few,
-        length-expanded p.next c.args.gathered.now.records, c.requires.headroom, c.requires.room))
+    c.args.lba (c.args.lba + c.args.count)
+    (MAX_CAPACITY + 1) c.requires.runs c.requires.gathered in
+    rw c.records-runs.ensures (omega (
+      arith,
+      few,
+      length-expanded p.next c.args.gathered.now.records,
+      c.requires.headroom,
+      c.requires.room,
+    ))
 
 pub loop-i-init : goal.loop-i-init
 loop-i-init c =
@@ -60,16 +65,16 @@ loop-i-init c =
     let more : List Run = ahead_of gathered.records progress.walk.run progress.walk.at in
     let all = subst (λ zs. AreRuns zs p room) (sym g.same) c.requires.runs in
     let up = maximal-weaker after (high + 1) (MAX_CAPACITY + 1) lba (MAX_CAPACITY + 1) (omega arith)
-        (omega arith) g.after in
+    (omega arith) g.after in
     let now = c.begin-progress.new.pool in
     let pool = c.begin-progress.ensures.pool in
     let next = ap (λ (s : Slots). s.next) pool in
     let writing = begin-writing before gathered.records after more p lba high room front all
-        g.before up g.near t.1 in
+    g.before up g.near t.1 in
     let same : expanded now.next (before ++ progress.done ∷ (more ++ after)) ≡ expanded p.next rs
     = ap₂ (λ ns (r : Run). expanded ns (before ++ r ∷ (more ++ after))) next t.2
-        ∙ begin-expanded before gathered.records after more p lba high room front all g.before up
-        g.near t.1 ∙ ap (expanded p.next) g.same in
+    ∙ begin-expanded before gathered.records after more p lba high room front all g.before up
+    g.near t.1 ∙ ap (expanded p.next) g.same in
     record {
       writing = rw (add-zero, t.2) (writing-followed before (unwrap_or front (no_run lba))
           (more ++ after) p now lba (now.links - p.links) pool writing);
@@ -95,16 +100,16 @@ put_address-progress-requires-clause-free c =
     let after : List Run = drop (end_index gathered) rs in
     let w = c.loop-i.progress.walk in
     let here : c.args.lba + c.from.result ≡ c.args.lba + i =
-        ap (λ x. c.args.lba + x) c.from.ensures in
+    ap (λ x. c.args.lba + x) c.from.ensures in
     let up = maximal-weaker after (high + 1) (MAX_CAPACITY + 1) (c.args.lba + i + 1)
-        (MAX_CAPACITY + 1) (omega arith) (omega arith) g.after in
+    (MAX_CAPACITY + 1) (omega arith) (omega arith) g.after in
     let len : c.args.table.now.room ≡ length c.loop-i.pool.next =
-        sym (inv.length ∙ c.requires.runs.links) in
+    sym (inv.length ∙ c.requires.runs.links) in
     let consistent = rw len at c.requires.runs.consistent in
     rw here (λ none. free-there (take gathered.from rs) after gathered.records
-        c.loop-i.progress.done w.run w.at c.args.lba i c.args.count p c.loop-i.pool rs
-        (block_of c.args.source.now) inv.writing up none consistent inv.contents c.loop-i-test.true
-        c.requires.free)
+    c.loop-i.progress.done w.run w.at c.args.lba i c.args.count p c.loop-i.pool rs
+    (block_of c.args.source.now) inv.writing up none consistent inv.contents c.loop-i-test.true
+    c.requires.free)
 
 pub put_address-progress-requires-clause-fits : goal.put_address-progress-requires-clause-fits
 put_address-progress-requires-clause-fits c =
@@ -116,8 +121,8 @@ pub put_address-progress-requires-clause-headroom : goal.put_address-progress-re
 put_address-progress-requires-clause-headroom c =
     let inv = c.loop-i.invariant in
     let few = gathered-blocks c.args.table.now.records c.args.gathered.now c.args.pool.now
-        c.args.table.now.room c.args.lba (c.args.lba + c.args.count)
-        (MAX_CAPACITY + 1) c.requires.runs c.requires.gathered in
+    c.args.table.now.room c.args.lba (c.args.lba + c.args.count)
+    (MAX_CAPACITY + 1) c.requires.runs c.requires.gathered in
     omega (arith, few, inv.links, c.requires.headroom, c.requires.room)
 
 pub loop-i-preserved : goal.loop-i-preserved
@@ -136,7 +141,7 @@ loop-i-preserved c =
     let here : lba + c.from.result ≡ lba + i = ap (λ x. lba + x) c.from.ensures in
     let on : lba + i + 1 ≡ lba + (i + 1) = omega arith in
     let up = maximal-weaker after (high + 1) (MAX_CAPACITY + 1) (lba + i + 1) (MAX_CAPACITY + 1)
-        (omega arith) (omega arith) g.after in
+    (omega arith) (omega arith) g.after in
     let step = rw (c.records-runs.ensures, here) at e.step in
     let contents = rw (c.records-runs.ensures, here) at e.contents in
     let keeps = rw (c.records-runs.ensures, here) at e.keeps in
@@ -169,15 +174,23 @@ finish-run-requires-clause-fits c =
     let inv = c.loop-i.invariant in
     let w = c.loop-i.progress.walk in
     ahead-fits (take gathered.from rs) (drop (end_index gathered) rs) gathered.records
-        c.loop-i.progress.done w.run w.at (c.args.lba + c.loop-i.i) c.loop-i.pool inv.writing
-        (omega (arith, inv.length, c.requires.runs.links, c.requires.room))
+    c.loop-i.progress.done w.run w.at (c.args.lba + c.loop-i.i) c.loop-i.pool inv.writing
+    (omega (arith, inv.length, c.requires.runs.links, c.requires.room))
 
 pub overflow_add-from : goal.overflow_add-from
 overflow_add-from c =
     let fit = runs-fit c.args.table.now.records c.args.pool.now c.args.table.now.room
-        c.requires.runs in
-    record { fits = omega (arith, fit, c.requires.room, c.requires.gathered.within,
-        c.from-from.ensures, ap length c.records-runs.ensures) }
+    c.requires.runs in
+    record {
+      fits = omega (
+        arith,
+        fit,
+        c.requires.room,
+        c.requires.gathered.within,
+        c.from-from.ensures,
+        ap length c.records-runs.ensures,
+      );
+    }
 
 pub splice-requires-clause-room : goal.splice-requires-clause-room
 splice-requires-clause-room c =
@@ -196,8 +209,8 @@ splice-requires-clause-room c =
     let writing = rw all at inv.writing in
     let some : 0 < done.count = omega (arith, writing.ends, inv.start, c.requires.not_empty) in
     let final = finished-runs before after gathered.records done c.finish-run.result w.run w.at high
-        room c.loop-i.pool c.finish-run.new.pool writing inv.near c.finish-run.ensures some g.after
-        (inv.length ∙ c.requires.runs.links) in
+    room c.loop-i.pool c.finish-run.new.pool writing inv.near c.finish-run.ensures some g.after
+    (inv.length ∙ c.requires.runs.links) in
     let fit = runs-fit (before ++ c.finish-run.result ∷ after) c.finish-run.new.pool room final in
     let a = length-append before (c.finish-run.result ∷ after) in
     let within = g.within in
@@ -223,8 +236,8 @@ returns-clause-contents c =
     let writing = rw all at inv.writing in
     let some : 0 < done.count = omega (arith, writing.ends, inv.start, c.requires.not_empty) in
     let is : c.splice.new.self.records ≡ before ++ c.finish-run.result ∷ after =
-        ap (λ (t : Table). t.records) c.splice.ensures
-        ∙ rw (c.from-from.ensures, c.records-runs.ensures) refl in
+    ap (λ (t : Table). t.records) c.splice.ensures
+    ∙ rw (c.from-from.ensures, c.records-runs.ensures) refl in
     let contents = rw all at inv.contents in
     ap (λ zs. chained_contents zs c.finish-run.new.pool) is
     ∙ ap₂ contents_of (finished-expanded before after gathered.records done c.finish-run.result
@@ -250,11 +263,11 @@ returns-clause-runs c =
     let writing = rw all at inv.writing in
     let some : 0 < done.count = omega (arith, writing.ends, inv.start, c.requires.not_empty) in
     let final = finished-runs before after gathered.records done c.finish-run.result w.run w.at high
-        room c.loop-i.pool c.finish-run.new.pool writing inv.near c.finish-run.ensures some g.after
-        (inv.length ∙ c.requires.runs.links) in
+    room c.loop-i.pool c.finish-run.new.pool writing inv.near c.finish-run.ensures some g.after
+    (inv.length ∙ c.requires.runs.links) in
     let is : c.splice.new.self.records ≡ before ++ c.finish-run.result ∷ after =
-        ap (λ (t : Table). t.records) c.splice.ensures
-        ∙ rw (c.from-from.ensures, c.records-runs.ensures) refl in
+    ap (λ (t : Table). t.records) c.splice.ensures
+    ∙ rw (c.from-from.ensures, c.records-runs.ensures) refl in
     let same = ap (λ (t : Table). t.room) c.splice.ensures in
     rw (is, same) final
 
@@ -275,10 +288,10 @@ returns-clause-keeps c =
     let writing = rw all at inv.writing in
     let some : 0 < done.count = omega (arith, writing.ends, inv.start, c.requires.not_empty) in
     let is : c.splice.new.self.records ≡ before ++ c.finish-run.result ∷ after =
-        ap (λ (t : Table). t.records) c.splice.ensures
-        ∙ rw (c.from-from.ensures, c.records-runs.ensures) refl in
+    ap (λ (t : Table). t.records) c.splice.ensures
+    ∙ rw (c.from-from.ensures, c.records-runs.ensures) refl in
     λ blocks q block f. ap (λ zs. map.get (contents_of
-        (expanded c.finish-run.new.pool.next zs) blocks) q) is
+    (expanded c.finish-run.new.pool.next zs) blocks) q) is
     ∙ ap (λ zs. map.get (contents_of zs blocks) q)
     (finished-expanded before after gathered.records done c.finish-run.result w.run w.at high room
     c.loop-i.pool c.finish-run.new.pool writing inv.near c.finish-run.ensures)

@@ -27,7 +27,7 @@ returns-then-count-eq0-clause-space c =
     let was : Contents = chained_contents s.table.records s.pool in
     let f = block_of c.args.source.now in
     let none = ap (λ k. map'.len (replaced was c.args.lba k f)) c.if-count-eq0.true
-        ∙ ap map'.len (replaced-none was c.args.lba f) in
+    ∙ ap map'.len (replaced-none was c.args.lba f) in
     let all = size s.table.records s.pool s.table.room s.runs in
     (λ wrong. cc, λ more. absurd (omega arith))
 
@@ -37,7 +37,7 @@ returns-then-count-eq0-clause-ok c =
     let was : Contents = chained_contents s.table.records s.pool in
     let f = block_of c.args.source.now in
     let none = ap (λ k. replaced was c.args.lba k f) c.if-count-eq0.true
-        ∙ replaced-none was c.args.lba f in
+    ∙ replaced-none was c.args.lba f in
     ap (λ m. record { capacity = s.capacity; pool = s.table.room; contents = m }) (sym none)
 
 pub returns-then-count-eq0-clause-least : goal.returns-then-count-eq0-clause-least
@@ -50,7 +50,7 @@ pub returns-then-count-eq0-clause-runs : goal.returns-then-count-eq0-clause-runs
 returns-then-count-eq0-clause-runs c =
     let s = c.args.self.now in
     nothing-runs (chained_contents s.table.records s.pool) c.args.lba c.args.count
-        (meter_at s.table s.pool)
+    (meter_at s.table s.pool)
 
 pub gather-requires-clause-fits : goal.gather-requires-clause-fits
 gather-requires-clause-fits c = let s = c.args.self.now in
@@ -61,7 +61,7 @@ mapped_in-mapped-requires-clause-fits c =
     let s = c.args.self.now in
     let lba = c.args.lba in
     let blocks = gathered-blocks s.table.records c.gather.new.gathered s.pool s.table.room lba
-        (lba + c.args.count)
+    (lba + c.args.count)
     (MAX_CAPACITY + 1) s.runs c.gather.ensures.gathered in
     rw c.records.ensures (omega (arith, blocks, s.pool_fits))
 
@@ -69,7 +69,7 @@ pub mapped_in-mapped-requires-clause-runs : goal.mapped_in-mapped-requires-claus
 mapped_in-mapped-requires-clause-runs c =
     let s = c.args.self.now in
     rw c.records.ensures (runs-ahead s.table.records s.pool s.table.room c.gather.new.gathered
-        c.args.lba c.args.count
+    c.args.lba c.args.count
     s.runs c.gather.ensures.gathered).maximal
 
 -- there are too few slots
@@ -77,9 +77,9 @@ pub returns-then-from-free_count-clause-space : goal.returns-then-from-free_coun
 returns-then-from-free_count-clause-space c =
     let s = c.args.self.now in
     let grown = size-replaced s.table.records s.pool s.table.room c.args.lba c.args.count
-        (block_of c.args.source.now) s.runs in
+    (block_of c.args.source.now) s.runs in
     let mapped = gathered-mapped s.table.records s.pool s.table.room c.gather.new.gathered
-        c.args.lba c.args.count s.runs c.gather.ensures.gathered in
+    c.args.lba c.args.count s.runs c.gather.ensures.gathered in
     let value = rw c.records.ensures at c.mapped_in-mapped.ensures.value in
     (λ _. omega arith, λ _. cc)
 
@@ -93,7 +93,7 @@ returns-then-from-free_count-clause-cost c =
     let s = c.args.self.now in
     let e = c.gather.ensures in
     gathered-costs s.table.records s.pool s.pool s.table.room c.args.lba c.args.count s.table
-        c.gather.new.table s.runs refl
+    c.gather.new.table s.runs refl
     e.table e.rise e.halving (omega (arith, e.least)) s.pool_fits (omega arith) (omega arith)
 
 pub returns-then-from-free_count-clause-price : goal.returns-then-from-free_count-clause-price
@@ -101,7 +101,7 @@ returns-then-from-free_count-clause-price c =
     let s = c.args.self.now in
     let e = c.gather.ensures in
     gathered-price s.table.records s.pool s.pool s.table.room c.args.lba c.args.count s.table
-        c.gather.new.table s.runs refl
+    c.gather.new.table s.runs refl
     e.table e.rise e.halving (omega (arith, e.least)) e.most
 
 pub returns-then-from-free_count-clause-runs : goal.returns-then-from-free_count-clause-runs
@@ -109,7 +109,7 @@ returns-then-from-free_count-clause-runs c =
     let s = c.args.self.now in
     let e = c.gather.ensures in
     gathered-runs s.table.records s.pool s.pool s.table.room c.args.lba c.args.count s.table
-        c.gather.new.table s.runs refl
+    c.gather.new.table s.runs refl
     e.table e.rise e.halving (omega (arith, e.least)) (omega arith)
 
 -- there are enough
@@ -125,17 +125,17 @@ write_runs-requires-clause-free c =
     let lba = c.args.lba in
     let count = c.args.count in
     let mapped = gathered-mapped s.table.records s.pool s.table.room c.gather.new.gathered lba count
-        s.runs c.gather.ensures.gathered in
+    s.runs c.gather.ensures.gathered in
     let value = rw c.records.ensures at c.mapped_in-mapped.ensures.value in
     let same = ap (λ (t : Table). mapped_among (chained_contents t.records s.pool) lba count)
-        c.gather.ensures.table in
+    c.gather.ensures.table in
     omega arith
 
 pub invariant_of-self-2-clause-well_formed : goal.invariant_of-self-2-clause-well_formed
 invariant_of-self-2-clause-well_formed c =
     let s = c.args.self.now in
     let same : chained_contents c.gather.new.table.records s.pool ≡
-        chained_contents s.table.records s.pool =
+    chained_contents s.table.records s.pool =
     ap (λ (t : Table). chained_contents t.records s.pool) c.gather.ensures.table in
     let before = subst (IsWellFormed s.capacity) (sym same) s.well_formed in
     subst (IsWellFormed s.capacity) (sym c.write_runs.ensures.contents)
@@ -146,9 +146,9 @@ pub returns-clause-space : goal.returns-clause-space
 returns-clause-space c =
     let s = c.args.self.now in
     let grown = size-replaced s.table.records s.pool s.table.room c.args.lba c.args.count
-        (block_of c.args.source.now) s.runs in
+    (block_of c.args.source.now) s.runs in
     let mapped = gathered-mapped s.table.records s.pool s.table.room c.gather.new.gathered
-        c.args.lba c.args.count s.runs c.gather.ensures.gathered in
+    c.args.lba c.args.count s.runs c.gather.ensures.gathered in
     let value = rw c.records.ensures at c.mapped_in-mapped.ensures.value in
     (λ wrong. cc, λ more. absurd (omega arith))
 
@@ -157,7 +157,7 @@ returns-clause-keeps c =
     let s = c.args.self.now in
     let numbers = map (λ slot. slot ∷ []) (range_with_len 0 s.table.room) in
     let room = ap (λ (t : Table). t.room) c.write_runs.ensures.table
-        ∙ ap (λ (t : Table). t.room) c.gather.ensures.table in
+    ∙ ap (λ (t : Table). t.room) c.gather.ensures.table in
     λ q slot e. rw room (c.write_runs.ensures.keeps numbers q slot
     (ap (λ (t : Table). map'.get (contents_of (expanded s.pool.next t.records) numbers) q)
     c.gather.ensures.table ∙ e))
@@ -167,12 +167,12 @@ returns-clause-cost c =
     let s = c.args.self.now in
     let lba = c.args.lba in
     let blocks = gathered-blocks s.table.records c.gather.new.gathered s.pool s.table.room lba
-        (lba + c.args.count)
+    (lba + c.args.count)
     (MAX_CAPACITY + 1) s.runs c.gather.ensures.gathered in
     let e = c.gather.ensures in
     let pool = c.write_runs.new.pool in
     subst (λ (m : Meter). Costs s.table.room (meter_at s.table s.pool) m)
-        (sym (ap (λ t. meter_at t pool) c.write_runs.ensures.table))
+    (sym (ap (λ t. meter_at t pool) c.write_runs.ensures.table))
     (gathered-costs s.table.records s.pool pool s.table.room lba c.args.count s.table
     c.gather.new.table s.runs refl
     e.table e.rise e.halving (omega (arith, e.least)) s.pool_fits c.write_runs.ensures.rise
@@ -209,13 +209,13 @@ returns-clause-runs c =
     let lba = c.args.lba in
     let count = c.args.count in
     let near = gathered-near s.table.records s.pool s.table.room c.gather.new.gathered lba count
-        s.runs c.gather.ensures.gathered in
+    s.runs c.gather.ensures.gathered in
     let e = c.gather.ensures in
     let pool = c.write_runs.new.pool in
     subst (λ (m : Meter). CostsRuns (chained_contents s.table.records s.pool) lba count
-        (meter_at s.table s.pool) m)
+    (meter_at s.table s.pool) m)
     (sym (ap (λ t. meter_at t pool) c.write_runs.ensures.table))
     (gathered-runs s.table.records s.pool pool s.table.room lba count s.table c.gather.new.table
     s.runs refl
     e.table e.rise e.halving (omega (arith, e.least))
-        (omega (arith, near, c.write_runs.ensures.links)))
+    (omega (arith, near, c.write_runs.ensures.links)))

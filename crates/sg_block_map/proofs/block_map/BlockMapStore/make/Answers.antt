@@ -10,12 +10,12 @@ pub invariant_of-result-clause-well_formed : goal.invariant_of-result-clause-wel
 invariant_of-result-clause-well_formed c =
     let pool = c.in_ok-new-2.field-0 in
     subst (IsWellFormed c.args.capacity) (sym
-        (ap (λ (t : Table). chained_contents t.records pool) c.in_ok-new.ensures))
-        (no-contents c.args.capacity pool)
+    (ap (λ (t : Table). chained_contents t.records pool) c.in_ok-new.ensures))
+    (no-contents c.args.capacity pool)
 
 pub invariant_of-result-clause-runs : goal.invariant_of-result-clause-runs
 invariant_of-result-clause-runs c =
     let pool = c.in_ok-new-2.field-0 in
     let e = c.in_ok-new-2.ensures in
     subst (λ (t : Table). AreRuns t.records pool t.room) (sym c.in_ok-new.ensures)
-        (no-runs pool c.args.pool e.blocks e.free_count e.free e.next)
+    (no-runs pool c.args.pool e.blocks e.free_count e.free e.next)

@@ -18,7 +18,7 @@ pub read_runs-requires-clause-ahead : goal.read_runs-requires-clause-ahead
 read_runs-requires-clause-ahead c =
     let s = c.args.self.now in
     rw c.records.ensures (runs-ahead s.table.records s.pool s.table.room c.gather.new.gathered
-        c.args.lba c.args.count
+    c.args.lba c.args.count
     s.runs c.gather.ensures.gathered)
 
 pub read_runs-requires-clause-near : goal.read_runs-requires-clause-near
@@ -28,7 +28,7 @@ pub read_runs-requires-clause-headroom : goal.read_runs-requires-clause-headroom
 read_runs-requires-clause-headroom c =
     let s = c.args.self.now in
     let most = gathered-length s.table.records s.pool s.table.room c.gather.new.gathered c.args.lba
-        c.args.count
+    c.args.count
     s.runs c.gather.ensures.gathered in
     rw c.records.ensures (omega (arith, most, s.pool_fits, c.requires.headroom.links))
 
@@ -48,14 +48,14 @@ pub returns-clause-cost : goal.returns-clause-cost
 returns-clause-cost c =
     let s = c.args.self.now in
     let most = gathered-length s.table.records s.pool s.table.room c.gather.new.gathered c.args.lba
-        c.args.count
+    c.args.count
     s.runs c.gather.ensures.gathered in
     let e = c.gather.ensures in
     let links = ap (λ zs. length (expanded s.pool.next zs)) c.records.ensures in
     gathered-costs s.table.records s.pool c.read_runs.new.pool s.table.room c.args.lba c.args.count
-        s.table c.gather.new.table
+    s.table c.gather.new.table
     s.runs refl e.table e.rise e.halving (omega (arith, e.least)) s.pool_fits
-        c.read_runs.ensures.rise
+    c.read_runs.ensures.rise
     (omega (arith, most, c.read_runs.ensures.links, links))
 
 pub returns-clause-price : goal.returns-clause-price
@@ -63,7 +63,7 @@ returns-clause-price c =
     let s = c.args.self.now in
     let e = c.gather.ensures in
     gathered-price s.table.records s.pool s.pool s.table.room c.args.lba c.args.count s.table
-        c.gather.new.table
+    c.gather.new.table
     s.runs refl e.table e.rise e.halving (omega (arith, e.least)) e.most
 
 pub returns-clause-least : goal.returns-clause-least
@@ -81,11 +81,11 @@ returns-clause-runs c =
     let s = c.args.self.now in
     let gathered = c.gather.new.gathered in
     let near = gathered-near s.table.records s.pool s.table.room gathered c.args.lba c.args.count
-        s.runs c.gather.ensures.gathered in
+    s.runs c.gather.ensures.gathered in
     let e = c.gather.ensures in
     let links = ap (λ zs. length (expanded s.pool.next zs)) c.records.ensures
-        ∙ length-expanded s.pool.next gathered.records in
+    ∙ length-expanded s.pool.next gathered.records in
     gathered-runs s.table.records s.pool c.read_runs.new.pool s.table.room c.args.lba c.args.count
-        s.table c.gather.new.table
+    s.table c.gather.new.table
     s.runs refl e.table e.rise e.halving (omega (arith, e.least))
-        (omega (arith, near, c.read_runs.ensures.links, links))
+    (omega (arith, near, c.read_runs.ensures.links, links))

@@ -13,16 +13,18 @@ use Rattle.sg_block_map.proofs.block_map.BlockMapStore.status.Goals as goal
 
 pub cursor_over-cursor-requires-clause-table : goal.cursor_over-cursor-requires-clause-table
 cursor_over-cursor-requires-clause-table c =
-    let s = c.args.self.now in
-    (s.capacity, run_table-of s.capacity s.table.records s.pool s.table.room s.runs s.well_formed
-    s.pool_fits s.capacity_fits)
+    let s = c.args.self.now in (
+      s.capacity,
+      run_table-of s.capacity s.table.records s.pool s.table.room s.runs s.well_formed
+          s.pool_fits s.capacity_fits,
+    )
 
 pub write_descriptors-count-requires-clause-table : goal.write_descriptors-count-requires-clause-table
 write_descriptors-count-requires-clause-table c =
     let s = c.args.self.now in
     let same = ap (λ (t : Table). t.records) c.cursor_over-cursor.ensures.table in
     rw same (run_table-of s.capacity s.table.records s.pool s.table.room s.runs s.well_formed
-        s.pool_fits s.capacity_fits)
+    s.pool_fits s.capacity_fits)
 
 header-length : (n : ℕ) → length (status_header n) ≡ 8
 header-length n = refl
@@ -51,7 +53,7 @@ returns-clause-data c =
     let both = all ∙ ap (λ a. put a more) c.put.ensures ∙ put-put old c.header.result more in
     let lengths : length c.header.result ≡ length c.header-2.result =
     ap length c.header.ensures ∙ header-length 0
-        ∙ sym (ap length c.header-2.ensures ∙ header-length c.write_descriptors-count.result) in
+    ∙ sym (ap length c.header-2.ensures ∙ header-length c.write_descriptors-count.result) in
     c.replace.ensures ∙ ap (λ a. replace a c.written-at.result c.header-2.result) both
     ∙ ap (λ k. replace (put old (c.header.result ++ more)) k c.header-2.result) c.written-at.ensures
     ∙ put-replaced old c.header.result c.header-2.result more
@@ -66,11 +68,11 @@ returns-clause-cost c =
     let u = c.write_descriptors-count.new.table in
     let probes = ap (λ (x : Table). x.probes) c.write_descriptors-count.ensures.table in
     let joined = visits-joined s.table t u e.table c.write_descriptors-count.ensures.table
-        (omega (arith, e.least)) c.write_descriptors-count.ensures.rise in
+    (omega (arith, e.least)) c.write_descriptors-count.ensures.rise in
     gathered-costs s.table.records s.pool s.pool s.table.room c.args.lba 0 s.table u s.runs refl
     joined (omega (arith, probes, e.rise)) (rw probes e.halving)
-        (omega (arith, e.least, c.write_descriptors-count.ensures.rise)) s.pool_fits (omega arith)
-        (omega arith)
+    (omega (arith, e.least, c.write_descriptors-count.ensures.rise)) s.pool_fits (omega arith)
+    (omega arith)
 
 pub returns-clause-price : goal.returns-clause-price
 returns-clause-price c =
@@ -78,8 +80,13 @@ returns-clause-price c =
     let e = c.cursor_over-cursor.ensures in
     let same = ap (λ (t : Table). t.records) e.table in
     let most = rw same at (c.write_descriptors-count.ensures.most s.pool) in
-    omega (arith, most, e.most, meet-records s.table.records s.pool s.table.room c.args.lba
-        (covered (lba_status (disk_of s) c.args.lba)) s.runs)
+    omega (
+      arith,
+      most,
+      e.most,
+      meet-records s.table.records s.pool s.table.room c.args.lba
+          (covered (lba_status (disk_of s) c.args.lba)) s.runs,
+    )
 
 pub returns-clause-least : goal.returns-clause-least
 returns-clause-least c =
@@ -87,8 +94,13 @@ returns-clause-least c =
     let e = c.cursor_over-cursor.ensures in
     let same = ap (λ (t : Table). t.records) e.table in
     let least = rw same at (c.write_descriptors-count.ensures.least s.pool) in
-    omega (arith, least, e.least, meet-records s.table.records s.pool s.table.room c.args.lba
-        (covered (lba_status (disk_of s) c.args.lba)) s.runs)
+    omega (
+      arith,
+      least,
+      e.least,
+      meet-records s.table.records s.pool s.table.room c.args.lba
+          (covered (lba_status (disk_of s) c.args.lba)) s.runs,
+    )
 
 pub returns-clause-runs : goal.returns-clause-runs
 returns-clause-runs c =
@@ -98,8 +110,8 @@ returns-clause-runs c =
     let u = c.write_descriptors-count.new.table in
     let probes = ap (λ (x : Table). x.probes) c.write_descriptors-count.ensures.table in
     let joined = visits-joined s.table t u e.table c.write_descriptors-count.ensures.table
-        (omega (arith, e.least)) c.write_descriptors-count.ensures.rise in
+    (omega (arith, e.least)) c.write_descriptors-count.ensures.rise in
     gathered-runs s.table.records s.pool s.pool s.table.room c.args.lba
-        (covered (lba_status (disk_of s) c.args.lba)) s.table u s.runs refl
+    (covered (lba_status (disk_of s) c.args.lba)) s.table u s.runs refl
     joined (omega (arith, probes, e.rise)) (rw probes e.halving)
-        (omega (arith, e.least, c.write_descriptors-count.ensures.rise)) (omega arith)
+    (omega (arith, e.least, c.write_descriptors-count.ensures.rise)) (omega arith)

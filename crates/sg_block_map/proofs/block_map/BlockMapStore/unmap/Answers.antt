@@ -41,7 +41,7 @@ pub returns-then-count-eq0-clause-runs : goal.returns-then-count-eq0-clause-runs
 returns-then-count-eq0-clause-runs c =
     let s = c.args.self.now in
     nothing-runs (chained_contents s.table.records s.pool) c.args.lba c.args.count
-        (meter_at s.table s.pool)
+    (meter_at s.table s.pool)
 
 pub gather-requires-clause-fits : goal.gather-requires-clause-fits
 gather-requires-clause-fits c = let s = c.args.self.now in
@@ -52,8 +52,10 @@ pub unmap_runs-requires-clause-runs : goal.unmap_runs-requires-clause-runs
 unmap_runs-requires-clause-runs c = let s = c.args.self.now in rw c.gather.ensures.table s.runs
 
 pub unmap_runs-requires-clause-gathered : goal.unmap_runs-requires-clause-gathered
-unmap_runs-requires-clause-gathered c = rw (c.gather.ensures.table,
-    c.from.ensures) c.gather.ensures.gathered
+unmap_runs-requires-clause-gathered c = rw (
+  c.gather.ensures.table,
+  c.from.ensures,
+) c.gather.ensures.gathered
 
 pub invariant_of-self-clause-well_formed : goal.invariant_of-self-clause-well_formed
 invariant_of-self-clause-well_formed c =
@@ -63,14 +65,14 @@ invariant_of-self-clause-well_formed c =
     let count = c.args.count in
     let after = c.unmap_runs.new in
     let is : chained_contents after.table.records after.pool ≡
-        unmapped (chained_contents rs s.pool) lba count =
+    unmapped (chained_contents rs s.pool) lba count =
     ap (contents_of (expanded after.pool.next after.table.records)) c.unmap_runs.ensures.blocks
     ∙ c.unmap_runs.ensures.contents s.pool.blocks
     ∙ ap (λ (t : Table). unmapped (chained_contents t.records s.pool) lba
     (lba + c.from.result - lba)) c.gather.ensures.table
     ∙ ap (unmapped (chained_contents rs s.pool) lba) (omega (arith, c.from.ensures)) in
     subst (IsWellFormed s.capacity) (sym is) (well_formed-unmapped s.capacity
-        (chained_contents rs s.pool) lba count s.well_formed)
+    (chained_contents rs s.pool) lba count s.well_formed)
 
 pub returns-clause-disk : goal.returns-clause-disk
 returns-clause-disk c =
@@ -80,14 +82,14 @@ returns-clause-disk c =
     let count = c.args.count in
     let after = c.unmap_runs.new in
     let is : chained_contents after.table.records after.pool ≡
-        unmapped (chained_contents rs s.pool) lba count =
+    unmapped (chained_contents rs s.pool) lba count =
     ap (contents_of (expanded after.pool.next after.table.records)) c.unmap_runs.ensures.blocks
     ∙ c.unmap_runs.ensures.contents s.pool.blocks
     ∙ ap (λ (t : Table). unmapped (chained_contents t.records s.pool) lba
     (lba + c.from.result - lba)) c.gather.ensures.table
     ∙ ap (unmapped (chained_contents rs s.pool) lba) (omega (arith, c.from.ensures)) in
     let room = ap (λ (t : Table). t.room) c.unmap_runs.ensures.table
-        ∙ ap (λ (t : Table). t.room) c.gather.ensures.table in
+    ∙ ap (λ (t : Table). t.room) c.gather.ensures.table in
     ap₂ (λ r m. record { capacity = s.capacity; pool = r; contents = m }) room is
 
 pub returns-clause-keeps : goal.returns-clause-keeps
@@ -96,7 +98,7 @@ returns-clause-keeps c =
     let lba = c.args.lba in
     let numbers = map (λ slot. slot ∷ []) (range_with_len 0 s.table.room) in
     let room = ap (λ (t : Table). t.room) c.unmap_runs.ensures.table
-        ∙ ap (λ (t : Table). t.room) c.gather.ensures.table in
+    ∙ ap (λ (t : Table). t.room) c.gather.ensures.table in
     rw room (c.unmap_runs.ensures.contents numbers
     ∙ ap (λ (t : Table). unmapped (contents_of (expanded s.pool.next t.records) numbers) lba
     (lba + c.from.result - lba)) c.gather.ensures.table
@@ -108,12 +110,12 @@ returns-clause-cost c =
     let s = c.args.self.now in
     let lba = c.args.lba in
     let blocks = gathered-blocks s.table.records c.gather.new.gathered s.pool s.table.room lba
-        (lba + c.args.count)
+    (lba + c.args.count)
     (MAX_CAPACITY + 1) s.runs c.gather.ensures.gathered in
     let e = c.gather.ensures in
     let pool = c.unmap_runs.new.pool in
     subst (λ (m : Meter). Costs s.table.room (meter_at s.table s.pool) m)
-        (sym (ap (λ t. meter_at t pool) c.unmap_runs.ensures.table))
+    (sym (ap (λ t. meter_at t pool) c.unmap_runs.ensures.table))
     (gathered-costs s.table.records s.pool pool s.table.room lba c.args.count s.table
     c.gather.new.table s.runs refl
     e.table e.rise e.halving (omega (arith, e.least)) s.pool_fits c.unmap_runs.ensures.rise
@@ -150,13 +152,13 @@ returns-clause-runs c =
     let lba = c.args.lba in
     let count = c.args.count in
     let near = gathered-near s.table.records s.pool s.table.room c.gather.new.gathered lba count
-        s.runs c.gather.ensures.gathered in
+    s.runs c.gather.ensures.gathered in
     let e = c.gather.ensures in
     let pool = c.unmap_runs.new.pool in
     subst (λ (m : Meter). CostsRuns (chained_contents s.table.records s.pool) lba count
-        (meter_at s.table s.pool) m)
+    (meter_at s.table s.pool) m)
     (sym (ap (λ t. meter_at t pool) c.unmap_runs.ensures.table))
     (gathered-runs s.table.records s.pool pool s.table.room lba count s.table c.gather.new.table
     s.runs refl
     e.table e.rise e.halving (omega (arith, e.least))
-        (omega (arith, near, c.unmap_runs.ensures.links)))
+    (omega (arith, near, c.unmap_runs.ensures.links)))

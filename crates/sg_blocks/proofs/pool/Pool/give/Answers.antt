@@ -7,7 +7,13 @@ pub overflow_add-self : goal.overflow_add-self
 overflow_add-self c =
     let p = c.self.inside in
     let free = ap (λ (s : Slots). length s.free) c.self.view_is in
-    record { fits = omega (arith, c.requires.room, length-chain p.next.items p.first_free p.free_count) }
+    record {
+      fits = omega (
+        arith,
+        c.requires.room,
+        length-chain p.next.items p.first_free p.free_count,
+      );
+    }
 
 pub invariant_of-self : goal.invariant_of-self
 invariant_of-self c =
@@ -21,7 +27,8 @@ invariant_of-self c =
         chain-given p.next.items slot p.first_free p.free_count
             (omega (arith, c.self.invariant.0, c.requires.slot)) none,
       )
-          (given-below (length p.next.items) slot _ (omega (arith, c.requires.slot)) c.self.invariant.1),
+          (given-below (length p.next.items) slot _
+          (omega (arith, c.requires.slot)) c.self.invariant.1),
     )
 
 pub returns-clause-free : goal.returns-clause-free

@@ -8,18 +8,28 @@ pub overflow_add-self : goal.overflow_add-self
 overflow_add-self c =
     let p = c.self.inside in
     let free = ap (λ (s : Slots). length s.free) c.self.view_is in
-    record { fits = omega (arith, c.requires.room, length-chain p.next.items p.first_free p.free_count) }
+    record {
+      fits = omega (
+        arith,
+        c.requires.room,
+        length-chain p.next.items p.first_free p.free_count,
+      );
+    }
 
 pub invariant_of-self : goal.invariant_of-self
 invariant_of-self c =
     let p = c.self.inside in (
       length-set p.next.items c.args.last p.first_free ∙ c.self.invariant.0,
-      joined-below p.next.items c.args.self.now.next c.args.self.now.free c.args.first c.args.last c.args.count p.first_free p.free_count (ap (λ (s : Slots). s.next) c.self.view_is) (ap (λ (s : Slots). s.free) c.self.view_is)
+      joined-below p.next.items c.args.self.now.next c.args.self.now.free c.args.first c.args.last
+          c.args.count p.first_free p.free_count (ap (λ (s : Slots). s.next) c.self.view_is)
+          (ap (λ (s : Slots). s.free) c.self.view_is)
           c.requires.chain c.requires.last c.requires.once c.requires.slots c.self.invariant.1,
     )
 
 pub returns-clause-free : goal.returns-clause-free
 returns-clause-free c =
     let p = c.self.inside in
-    joined p.next.items c.args.self.now.next c.args.self.now.free c.args.first c.args.last c.args.count p.first_free p.free_count (ap (λ (s : Slots). s.next) c.self.view_is) (ap (λ (s : Slots). s.free) c.self.view_is)
+    joined p.next.items c.args.self.now.next c.args.self.now.free c.args.first c.args.last
+    c.args.count p.first_free p.free_count (ap (λ (s : Slots). s.next) c.self.view_is)
+    (ap (λ (s : Slots). s.free) c.self.view_is)
     c.requires.chain c.requires.last c.requires.once

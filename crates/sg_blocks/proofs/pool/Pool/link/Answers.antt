@@ -7,7 +7,8 @@ pub invariant_of-self : goal.invariant_of-self
 invariant_of-self c =
     let p = c.self.inside in
     let free = ap (λ (s : Slots). s.free) c.self.view_is in
-    let same = chain-set p.next.items c.args.slot c.args.next p.first_free p.free_count (ap (occurrences c.args.slot) free ∙ c.requires.used) in (
+    let same = chain-set p.next.items c.args.slot c.args.next p.first_free p.free_count
+    (ap (occurrences c.args.slot) free ∙ c.requires.used) in (
       length-set p.next.items c.args.slot c.args.next ∙ c.self.invariant.0,
       rw (same, length-set p.next.items c.args.slot c.args.next) c.self.invariant.1,
     )
@@ -16,6 +17,12 @@ pub returns : goal.returns
 returns c =
     let p = c.self.inside in
     let free = ap (λ (s : Slots). s.free) c.self.view_is in
-    let same = chain-set p.next.items c.args.slot c.args.next p.first_free p.free_count (ap (occurrences c.args.slot) free ∙ c.requires.used) in
-    ap (λ xs. record { blocks = p.blocks.items; next = set p.next.items c.args.slot c.args.next; free = xs; links = p.links }) same
+    let same = chain-set p.next.items c.args.slot c.args.next p.first_free p.free_count
+    (ap (occurrences c.args.slot) free ∙ c.requires.used) in
+    ap (λ xs. record {
+      blocks = p.blocks.items;
+      next = set p.next.items c.args.slot c.args.next;
+      free = xs;
+      links = p.links;
+    }) same
     ∙ ap (λ (s : Slots). record s { next = set s.next c.args.slot c.args.next }) c.self.view_is
