@@ -6,6 +6,8 @@
 //! - `NAME.script` is the script;
 //! - `NAME.expected` is what it prints, and a last line `status N` with its exit status.
 //!
+//! Each row runs over both stores, which have to print the same text.
+//!
 //! A line is printed for each row: `as expected`, or the first line that differs. `wrong-rows`
 //! lists rows in the same form that are wrong on purpose, for each of which a difference has to be
 //! found.
@@ -19,7 +21,8 @@ ghost use Rattle.std.specs.Prelude.{◌≡◌, ◌↔◌, IfOk, IsTrue, if◌the
 
 use crate::difference::{first_difference, line_after, lines_before};
 use crate::row::read_row;
-use sg_blocks::PlainMap;
+use sg_block_map::BlockMap;
+use sg_blocks::{PlainMap, Store};
 use sg_pages::Identity;
 use sg_run::{Session, run_script};
 use sg_target::{Config, Target};
@@ -37,15 +40,15 @@ struct Tally {
     as_expected: u64,
 }
 
-/// What a script prints on a new disk, and a last line with its exit status. No contract says so: a
-/// `Watched` does not return its writer. The wrong rows show it.
-fn run_row(
+/// What a script prints on a new disk over a store, and a last line with its exit status. No contract
+/// says so: a `Watched` does not return its writer. The wrong rows show it.
+fn run_row<S: Store>(
     alloc: Global,
     session: &mut Session,
     config: Config,
     script: &[u8],
 ) -> io::Result<Vec<u8>> {
-    let mut target: Target<PlainMap> = Target::new(alloc, config)?;
+    let mut target: Target<S> = Target::new(alloc, config)?;
     let mut printed = Vec::new(alloc);
     let mut reader = Watched::new(script);
     let mut writer = Watched::new(&mut printed);
@@ -101,7 +104,12 @@ fn check_row(
         println!(rt; "{name}: has no expected text")?;
         return Ok(false);
     };
-    let printed = run_row(rt.alloc(), session, config, &script)?;
+    let printed = run_row::<BlockMap>(rt.alloc(), session, config, &script)?;
+    let plain = run_row::<PlainMap>(rt.alloc(), session, config, &script)?;
+    if printed != plain {
+        println!(rt; "{name}: the two stores print different texts")?;
+        return Ok(false);
+    }
     report(rt, name, &expected, &printed)
 }
 

@@ -5,7 +5,7 @@ ghost use Rattle.sg_run.specs.ScriptRun.{snapshot};
 ghost use Rattle.sgrun.specs.NewDisk.{RunsUnlessOutOfMemory};
 
 use crate::stop::Stop;
-use sg_blocks::PlainMap;
+use sg_block_map::BlockMap;
 use sg_run::{Session, run_script};
 use sg_target::{Config, Target};
 use sg_wire::Watched;
@@ -29,7 +29,7 @@ pub(crate) fn run_on_new_disk<'a, R: Read, W: Write>(
         (snapshot R.remaining W.contents reader.new writer.new)
         result }
 {
-    let mut target: Target<PlainMap> = Target::new(alloc, disk)?;
+    let mut target: Target<BlockMap> = Target::new(alloc, disk)?;
     let mut session = Session::new(alloc)?;
     let status = run_script(alloc, reader, writer, &mut session, &mut target)?;
     Ok(status)
