@@ -1,0 +1,215 @@
+//! `both_stores`: 10,000 commands from a fixed seed over both stores. The replies have to be equal,
+//! but for what the stores count.
+#![tactic(auto)]
+
+mod random;
+
+use random::Random;
+use sg_block_map::BlockMap;
+use sg_blocks::{BLOCK_LENGTH, PlainMap};
+use sg_pages::Identity;
+use sg_target::{BUFFER_LENGTH, Config, Status, Target};
+use sg_wire::{Command, GroupNumber, Initiator, OutAction};
+use std::alloc::Global;
+use std::process::ExitCode;
+use std::rt::Runtime;
+
+const COMMANDS: u64 = 10_000;
+
+/// A small disk with a smaller pool, so that runs of mapped blocks are joined and cut, and the pool
+/// is full at times.
+const BLOCKS: u64 = 256;
+
+const POOL: u32 = 48;
+
+/// The bytes of the longest data-out, eight blocks.
+const LONGEST_LIST: usize = 4_096;
+
+/// The bytes of the parameter list of UNMAP with one descriptor.
+const EXTENT_LIST: usize = 24;
+
+/// The bytes of that of PERSISTENT RESERVE OUT.
+const KEY_LIST: usize = 24;
+
+/// The same disk over each store, with the buffers of their data-in.
+#[derive(Drop)]
+struct Disks {
+    plain: Target<PlainMap>,
+    runs: Target<BlockMap>,
+    of_plain: [u8; BUFFER_LENGTH],
+    of_runs: [u8; BUFFER_LENGTH],
+}
+
+/// How many replies are equal, and how many of these have each status.
+#[derive(Clone, Copy, Default)]
+struct Tally {
+    equal: u64,
+    good: u64,
+    check_condition: u64,
+    conflict: u64,
+}
+
+impl Disks {
+    fn new(alloc: Global) -> Option<Disks> {
+        let config = Config::new(BLOCKS, POOL, Identity::standard()).ok()?;
+        Some(Disks {
+            plain: Target::new(alloc, config).ok()?,
+            runs: Target::new(alloc, config).ok()?,
+            of_plain: [0; BUFFER_LENGTH],
+            of_runs: [0; BUFFER_LENGTH],
+        })
+    }
+
+    /// Executes a command over both, and returns the status where the replies are equal.
+    fn execute(&mut self, initiator: Initiator, cdb: &[u8], data_out: &[u8]) -> Option<Status> {
+        let plain = self
+            .plain
+            .execute(initiator, cdb, data_out, &mut self.of_plain);
+        let runs = self
+            .runs
+            .execute(initiator, cdb, data_out, &mut self.of_runs);
+        let are_equal = plain.status == runs.status
+            && plain.sense.as_slice() == runs.sense.as_slice()
+            && self.of_plain[..plain.data_in] == self.of_runs[..runs.data_in];
+        if are_equal { Some(runs.status) } else { None }
+    }
+}
+
+impl Tally {
+    fn count(&mut self, status: Option<Status>) {
+        let Some(status) = status else {
+            return;
+        };
+        self.equal = self.equal.saturating_add(1);
+        match status {
+            Status::Good => self.good = self.good.saturating_add(1),
+            Status::CheckCondition => {
+                self.check_condition = self.check_condition.saturating_add(1);
+            }
+            Status::ReservationConflict => self.conflict = self.conflict.saturating_add(1),
+        }
+    }
+
+    /// Whether each status occurs.
+    fn has_each_status(&self) -> bool {
+        self.good > 0 && self.check_condition > 0 && self.conflict > 0
+    }
+}
+
+/// A command of the next kind, with the length of its data-out, whose bytes are written.
+fn next_command(
+    random: &mut Random,
+    data_out: &mut [u8; LONGEST_LIST],
+) -> Option<(Command, usize)> {
+    let lba = u32::from(random.byte());
+    let count = random.byte() % 9;
+    data_out.fill(random.byte() % 4);
+    match random.byte() % 16 {
+        0..=4 => Some((write(lba, count), BLOCK_LENGTH * usize::from(count))),
+        5 => Some((write_same(random, lba, count), BLOCK_LENGTH)),
+        6..=8 => {
+            list_extent(random, data_out);
+            Some((unmap()?, EXTENT_LIST))
+        }
+        9 | 10 => Some((status(random, lba), 0)),
+        11 | 12 => {
+            list_keys(random, data_out);
+            Some((reserve_out(random)?, KEY_LIST))
+        }
+        _ => Some((read(lba, count), 0)),
+    }
+}
+
+fn write(lba: u32, count: u8) -> Command {
+    Command::Write10 {
+        lba,
+        transfer_length: u16::from(count),
+    }
+}
+
+fn read(lba: u32, count: u8) -> Command {
+    Command::Read10 {
+        lba,
+        transfer_length: u16::from(count),
+    }
+}
+
+fn write_same(random: &mut Random, lba: u32, count: u8) -> Command {
+    Command::WriteSame16 {
+        anchor: false,
+        unmap: random.byte() < 128,
+        lba: u64::from(lba),
+        count: u32::from(count),
+    }
+}
+
+fn unmap() -> Option<Command> {
+    Some(Command::Unmap {
+        anchor: false,
+        group: GroupNumber::new(0)?,
+        list_length: EXTENT_LIST as u16,
+    })
+}
+
+fn status(random: &mut Random, lba: u32) -> Command {
+    Command::GetLbaStatus {
+        start: u64::from(lba),
+        allocation_length: u32::from(random.byte()),
+    }
+}
+
+fn reserve_out(random: &mut Random) -> Option<Command> {
+    Some(Command::PersistentReserveOut {
+        action: OutAction::with_code(random.byte() % 7)?,
+        scope_type: random.byte() % 9,
+        list_length: KEY_LIST as u32,
+    })
+}
+
+/// The parameter list of UNMAP with one descriptor (SBC-3, 5.28.2).
+fn list_extent(random: &mut Random, list: &mut [u8; LONGEST_LIST]) {
+    list.fill(0);
+    list[1] = 22;
+    list[3] = 16;
+    list[15] = random.byte();
+    list[19] = random.byte() % 32;
+}
+
+/// The parameter list of PERSISTENT RESERVE OUT with two small keys (SPC-4).
+fn list_keys(random: &mut Random, list: &mut [u8; LONGEST_LIST]) {
+    list.fill(0);
+    list[7] = random.byte() % 3;
+    list[15] = random.byte() % 3;
+}
+
+/// Executes the commands.
+fn run(disks: &mut Disks) -> Option<Tally> {
+    let mut tally = Tally::default();
+    let mut random = Random::new();
+    let mut data_out = [0; LONGEST_LIST];
+    for _ in 0..COMMANDS {
+        let initiator = Initiator::new(random.byte() % 3)?;
+        let (command, length) = next_command(&mut random, &mut data_out)?;
+        let cdb = command.write();
+        let list = data_out.get(..length)?;
+        tally.count(disks.execute(initiator, cdb.as_slice(), list));
+    }
+    Some(tally)
+}
+
+fn main(rt: HostRuntime) -> ExitCode {
+    let Some(mut disks) = Disks::new(rt.alloc()) else {
+        return ExitCode::from(99);
+    };
+    let Some(tally) = run(&mut disks) else {
+        return ExitCode::from(99);
+    };
+    let equal = tally.equal;
+    let each = if tally.has_each_status() {
+        "each"
+    } else {
+        "not each"
+    };
+    let _ = println!(rt; "{COMMANDS} commands, {equal} equal replies, {each} status among them");
+    ExitCode::from(u8::from(equal != COMMANDS))
+}
