@@ -7,7 +7,7 @@ use Rattle.sg_blocks.specs.Meter.{Meter}
 use Rattle.sg_blocks.specs.Records.{contents_of}
 use Rattle.sg_blocks.specs.Slots.{Slots}
 use Rattle.sg_blocks.specs.Table.{Table}
-use Rattle.sg_block_map.specs.Runs.{expanded, chained_contents}
+use Rattle.sg_block_map.specs.Runs.{expanded, chained_contents, extent_of}
 use Rattle.sg_block_map.specs.declared.block_map.BlockMap.{BlockMap}
 
 -- The disk that it keeps.
@@ -28,6 +28,10 @@ meter_at table slots = record {
 
 abbrev pub meter_of : BlockMap → Meter
 meter_of map = meter_at map.table map.pool
+
+-- Its records, in their order: the first address of each and its count.
+abbrev pub records_of : BlockMap → List (ℕ × ℕ)
+records_of block_map = map extent_of block_map.table.records
 
 -- The mapped addresses, each with the number of its slot in place of its block.
 abbrev pub slot_map : Table → Slots → Contents

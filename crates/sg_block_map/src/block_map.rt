@@ -1,4 +1,4 @@
-ghost use Rattle.std.specs.Prelude.{◌≡◌, ◌+◌, ◌*◌, ◌<◌, ◌≤◌, ◌↔◌, [], length, map};
+ghost use Rattle.std.specs.Prelude.{◌≡◌, ◌+◌, ◌*◌, ◌<◌, ◌≤◌, ◌↔◌, length};
 ghost use Rattle.std.specs.Prelude.{IsErr, OnOk, OnErr};
 ghost use Rattle.std.proofs.Props.{props};
 ghost use Rattle.sg_blocks.specs.Disk.{IsWellFormed, IsOverfull, blocks};
@@ -10,7 +10,7 @@ ghost use Rattle.sg_wire.specs.Cut.{Puts};
 ghost use Rattle.sg_block_map.specs.MaximalRuns.{runs};
 ghost use Rattle.sg_block_map.specs.RunCost.{block_price, block_least, CostsRuns};
 ghost use Rattle.sg_block_map.specs.RunCostLaws.{block_price-within, block_least-positive};
-ghost use Rattle.sg_block_map.specs.Runs.{AreRuns, chained_contents, extent_of};
+ghost use Rattle.sg_block_map.specs.Runs.{AreRuns, chained_contents};
 ghost use Rattle.sg_block_map.specs.RunsProps.{AreMaximal-IsProp, AreChained-IsProp};
 ghost use Rattle.sg_blocks.specs.Draft.{empty_draft};
 ghost use Rattle.sg_blocks.specs.declared.store.TheConstants.{MAX_CAPACITY, MAX_POOL};
@@ -51,12 +51,13 @@ pub struct BlockMap {
 
 impl BlockMap {
     ghost use Rattle.sg_blocks.specs.Source.{HasBlocks, block_of};
-    ghost use Rattle.sg_block_map.specs.State.{disk_of, meter_of, slots_by_address, Keeps};
+    ghost use Rattle.sg_block_map.specs.State.{disk_of, meter_of, records_of, slots_by_address};
+    ghost use Rattle.sg_block_map.specs.State.{Keeps};
 
     /// How many maximal runs of mapped addresses there are. Each has one record, and the table has
     /// no others.
     pub fn run_count(&self) -> usize
-        ensures records { map extent_of self.now.table.records ≡ runs (disk_of self.now).contents }
+        ensures records { records_of self.now ≡ runs (disk_of self.now).contents }
         ensures count { result ≡ length (runs (disk_of self.now).contents) }
     {
         self.table.count()

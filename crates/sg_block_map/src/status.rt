@@ -5,7 +5,7 @@ ghost use Rattle.sg_blocks.specs.LbaStatus.{descriptors_from};
 ghost use Rattle.sg_blocks.specs.Records.{ahead};
 ghost use Rattle.sg_blocks.specs.Slots.{Slots};
 ghost use Rattle.sg_blocks.specs.Table.{visited, probed};
-ghost use Rattle.sg_blocks.specs.PlainMap.Editing.{passed};
+ghost use Rattle.sg_blocks.specs.Records.{passed};
 ghost use Rattle.sg_wire.specs.Cut.{Puts};
 ghost use Rattle.sg_block_map.specs.Runs.{chained_contents};
 ghost use Rattle.sg_block_map.specs.Status.{AreFrom, AreMet, IsOver, IsRunTable};

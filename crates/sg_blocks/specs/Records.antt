@@ -1,8 +1,9 @@
 -- The table of records. Where each maps one address to a slot, it stands for the contents of a disk.
-use Rattle.std.specs.Prelude.{◌≡◌, ℕ, ◌<◌, ◌≤◌, zero, suc, List, [], ◌∷◌, length, slice_index_or}
+use Rattle.std.specs.Prelude.{◌≡◌, ℕ, ◌+◌, ◌<◌, ◌≤◌, zero, suc, List, [], ◌∷◌, length, slice_index_or}
 use Rattle.std.specs.Prelude.{Option, Some, None, if◌then◌else◌, ◌==◌}
 use Rattle.std.specs.FinMap.{from_entries, contains_key}
 use Rattle.sg_blocks.specs.Disk.{Contents, zero_block}
+use Rattle.sg_blocks.specs.declared.cursor.Cursor.{Cursor}
 use Rattle.sg_blocks.specs.declared.run.Run.{Run}
 
 -- A record of one address.
@@ -63,3 +64,7 @@ ahead (Some run) = 1
 -- One where the address is mapped.
 abbrev pub mapped_at : Contents → ℕ → ℕ
 mapped_at contents lba = if contains_key contents lba then 1 else 0
+
+-- How many records of the table were visited up to the cursor.
+abbrev pub passed : Cursor → ℕ
+passed cursor = cursor.index + ahead cursor.next

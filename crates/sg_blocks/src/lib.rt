@@ -1,10 +1,11 @@
 //! The blocks of a disk: a store behind a trait, whose meaning is a finite map from addresses to
-//! blocks.
+//! blocks. The table, the pool and the other parts that a store is built from are public, for stores
+//! of other crates.
 #![tactic(auto)]
 
 pub mod cursor;
 pub mod draft;
-pub mod ghost_number;
+mod ghost_number;
 pub mod laws;
 pub mod lba_status;
 mod plain_map;

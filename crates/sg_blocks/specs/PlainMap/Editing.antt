@@ -21,10 +21,6 @@ pub record IsAt (records : List Run) (cursor : Cursor) (lba : ℕ) : Type 0 wher
   pub index : IsLowerBound records cursor.index lba
   pub next : IsNext records cursor.index cursor.next
 
--- How many records of the table were visited up to the cursor.
-abbrev pub passed : Cursor → ℕ
-passed cursor = cursor.index + ahead cursor.next
-
 -- A range can be gone over: it begins at the index `from` of the table, it lies on the largest
 -- disk, table and pool are consistent and no larger than allowed, and the visits can be counted.
 pub record IsReady (table : Table) (slots : Slots) (from lba count : ℕ) : Type 0 where

@@ -2,7 +2,8 @@ ghost use Rattle.std.specs.Prelude.{◌≡◌, ◌+◌, ◌-◌, ◌*◌, ◌<�
 ghost use Rattle.sg_blocks.specs.Disk.{block, blocks};
 ghost use Rattle.sg_blocks.specs.Records.{IsSorted, HaveSlots, mapped_at};
 ghost use Rattle.sg_blocks.specs.Table.{visited};
-ghost use Rattle.sg_blocks.specs.PlainMap.Editing.{IsAt, IsReady, VisitsRange, passed, stored};
+ghost use Rattle.sg_blocks.specs.PlainMap.Editing.{IsAt, IsReady, VisitsRange, stored};
+ghost use Rattle.sg_blocks.specs.Records.{passed};
 
 use crate::cursor::Cursor;
 use crate::pool::Pool;

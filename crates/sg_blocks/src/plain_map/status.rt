@@ -2,7 +2,8 @@ ghost use Rattle.std.specs.Prelude.{◌≡◌, ℕ, ◌+◌, ◌-◌, ◌<◌, �
 ghost use Rattle.sg_blocks.specs.LbaStatus.{covered, descriptor_at, descriptors_from};
 ghost use Rattle.sg_blocks.specs.Records.{IsLowerBound, contents_of};
 ghost use Rattle.sg_blocks.specs.Table.{visited};
-ghost use Rattle.sg_blocks.specs.PlainMap.Editing.{IsAt, VisitsRange, passed};
+ghost use Rattle.sg_blocks.specs.PlainMap.Editing.{IsAt, VisitsRange};
+ghost use Rattle.sg_blocks.specs.Records.{passed};
 ghost use Rattle.sg_blocks.specs.Records.{run_at};
 ghost use Rattle.sg_blocks.specs.PlainMap.Status.{AreInRow, IsTableOf};
 

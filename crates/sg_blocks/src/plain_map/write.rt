@@ -6,7 +6,8 @@ ghost use Rattle.sg_blocks.specs.Records.{mapped_at};
 ghost use Rattle.sg_blocks.specs.Slots.{IsConsistent};
 ghost use Rattle.sg_blocks.specs.Source.{HasBlocks, block_of};
 ghost use Rattle.sg_blocks.specs.Table.{visited};
-ghost use Rattle.sg_blocks.specs.PlainMap.Editing.{IsEditing, IsReady, VisitsRange, passed, stored};
+ghost use Rattle.sg_blocks.specs.PlainMap.Editing.{IsEditing, IsReady, VisitsRange, stored};
+ghost use Rattle.sg_blocks.specs.Records.{passed};
 ghost use Rattle.sg_blocks.specs.PlainMap.Editing.{edited_contents};
 
 use crate::cursor::Cursor;

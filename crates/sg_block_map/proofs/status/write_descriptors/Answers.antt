@@ -7,7 +7,7 @@ use Rattle.sg_wire.specs.Cut.{answer_of}
 use Rattle.sg_wire.specs.CutAnswer.{put}
 use Rattle.sg_blocks.specs.Disk.{Contents}
 use Rattle.sg_blocks.specs.LbaStatus.{covered, descriptor_at, descriptor_bytes, descriptors_from}
-use Rattle.sg_blocks.specs.PlainMap.Editing.{passed}
+use Rattle.sg_blocks.specs.Records.{passed}
 use Rattle.sg_blocks.specs.Slots.{Slots}
 use Rattle.sg_blocks.specs.Table.{Table}
 use Rattle.sg_blocks.specs.declared.lba_status.StatusDescriptor.{StatusDescriptor}

@@ -2,7 +2,7 @@ use Rattle.std.proofs.Common.{◌≡◌, ◌+◌, ◌-◌, ◌≤◌, ◌<◌, �
 use Rattle.std.specs.List.{flat_map}
 use Rattle.sg_wire.specs.Cut.{Puts}
 use Rattle.sg_blocks.specs.LbaStatus.{covered, descriptor_bytes, descriptors_from}
-use Rattle.sg_blocks.specs.PlainMap.Editing.{passed}
+use Rattle.sg_blocks.specs.Records.{passed}
 use Rattle.sg_blocks.specs.Slots.{Slots}
 use Rattle.sg_blocks.specs.Table.{visited}
 use Rattle.sg_block_map.specs.Runs.{chained_contents}

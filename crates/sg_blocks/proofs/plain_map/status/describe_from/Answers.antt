@@ -2,7 +2,7 @@ use Rattle.std.proofs.Common.{◌≡◌, ◌+◌, ◌-◌, [], length, ap, ◌�
 use Rattle.sg_blocks.specs.LbaStatus.{covered}
 use Rattle.sg_blocks.specs.Records.{contents_of, ahead}
 use Rattle.sg_blocks.specs.Table.{visited}
-use Rattle.sg_blocks.specs.PlainMap.Editing.{passed}
+use Rattle.sg_blocks.specs.Records.{passed}
 use Rattle.sg_blocks.proofs.TableLemmas.{visited-more, visited-less}
 use Rattle.sg_blocks.proofs.IndexLemmas.{mapped_among-indices}
 use Rattle.sg_blocks.proofs.DescriptorLemmas.{one-described, all-described, covered-more, is-full}

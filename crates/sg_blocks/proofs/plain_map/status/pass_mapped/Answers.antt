@@ -2,7 +2,7 @@ use Rattle.std.proofs.Common.{◌≡◌, ◌+◌, ap, sym, ◌∙◌, arith, inl
 use Rattle.std.proofs.lemmas.Bool.{cases_lt}
 use Rattle.sg_blocks.specs.Records.{ahead}
 use Rattle.sg_blocks.specs.Table.{Table, visited}
-use Rattle.sg_blocks.specs.PlainMap.Editing.{passed}
+use Rattle.sg_blocks.specs.Records.{passed}
 use Rattle.sg_blocks.proofs.TableLemmas.{visited-on}
 use Rattle.sg_blocks.proofs.RecordLemmas.{start_of-read, index-mapped}
 use Rattle.sg_blocks.proofs.CursorLemmas.{found, ahead-found}

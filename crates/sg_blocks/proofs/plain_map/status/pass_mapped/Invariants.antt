@@ -1,6 +1,7 @@
 use Rattle.std.proofs.Common.{◌≡◌, ◌+◌, ◌-◌, ◌≤◌, length}
 use Rattle.sg_blocks.specs.Table.{visited}
-use Rattle.sg_blocks.specs.PlainMap.Editing.{IsAt, passed}
+use Rattle.sg_blocks.specs.PlainMap.Editing.{IsAt}
+use Rattle.sg_blocks.specs.Records.{passed}
 use Rattle.sg_blocks.specs.PlainMap.Status.{AreInRow}
 use Rattle.sg_blocks.proofs.plain_map.status.pass_mapped.Given as goal
 
