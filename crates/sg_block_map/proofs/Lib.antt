@@ -11,5 +11,7 @@ pub mod WriteLemmas
 pub mod FinishLemmas
 pub mod MaximalLemmas
 pub mod OverlapLemmas
+pub mod AddressLemmas
+pub mod MeetingLemmas
 pub mod StatusLemmas
 pub mod StoreLemmas

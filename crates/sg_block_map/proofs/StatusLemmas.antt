@@ -1,20 +1,18 @@
--- Which addresses runs have, and the descriptors of them.
-use Rattle.std.proofs.Common.{◌≡◌, ℕ, ◌+◌, ◌-◌, ◌<◌, ◌≤◌, zero, suc, List, [], ◌∷◌, ◌++◌, length}
+-- The descriptors of runs, and the visits that they take.
+use Rattle.std.proofs.Common.{◌≡◌, ℕ, ◌+◌, ◌-◌, ◌<◌, ◌≤◌, zero, suc, List, [], ◌∷◌, length}
 use Rattle.std.proofs.Common.{get_or, take, drop, length-drop, arith, refl, sym, ap, ◌∙◌, ◌⊎◌, inl}
 use Rattle.std.proofs.Common.{inr, cond, Bool, true, false, Option, Some, None}
 use Rattle.std.proofs.lemmas.Bool.{cases_lt}
 use Rattle.std.proofs.lemmas.Bool.Decides.{nat_tests}
 use Rattle.std.proofs.lemmas.List.{take_all}
 use Rattle.std.proofs.lemmas.List.Sums.{sum_by-cons}
-use Rattle.std.specs.Cmp.{nat_cmp_total}
-use Rattle.std.specs.FinMap.{find, get, get-from_entries, contains_key}
-use Rattle.std.specs.Ordering.{nat_cmp, eq_by_cmp}
-use Rattle.std.specs.Prelude.{slice_index, slice_index_or, is_some, unwrap_or, min, max, map}
-use Rattle.std.specs.Prelude.{nat_lt, nat_le}
+use Rattle.std.specs.FinMap.{get, contains_key}
+use Rattle.std.specs.Prelude.{slice_index_or, unwrap_or, min}
+use Rattle.std.specs.Prelude.{nat_le}
 use Rattle.sg_blocks.specs.Disk.{IsWellFormed}
 use Rattle.sg_blocks.specs.LbaStatus.{descriptor_at}
 use Rattle.sg_blocks.specs.Records.{start_of, IsSorted, IsLowerBound, IsNext, ahead, end_of_gap}
-use Rattle.sg_blocks.specs.Records.{mapped_blocks, contents_of}
+use Rattle.sg_blocks.specs.Records.{contents_of}
 use Rattle.sg_blocks.specs.Slots.{Slots}
 use Rattle.sg_blocks.specs.Table.{Table, visited, probed}
 use Rattle.sg_blocks.specs.declared.cursor.Cursor.{Cursor}
@@ -24,165 +22,17 @@ use Rattle.sg_blocks.specs.declared.lba_status.TheConstants.{MAX_ADDRESSES}
 use Rattle.sg_blocks.specs.declared.run.Run.{Run}
 use Rattle.sg_blocks.specs.declared.store.TheConstants.{MAX_CAPACITY, MAX_POOL}
 use Rattle.sg_block_map.specs.Gathering.{end_at}
-use Rattle.sg_block_map.specs.MaximalRuns.{meets, meet}
-use Rattle.sg_block_map.specs.Runs.{end_of, singles, singles_of, expanded, AreMaximal, AreChained}
-use Rattle.sg_block_map.specs.Runs.{AreRuns, chained_contents, blocks_of, extent_of}
-use Rattle.sg_block_map.specs.Status.{IsRunTable, IsOver, run_over, AreMet, AreFrom, records_met}
+use Rattle.sg_block_map.specs.Runs.{end_of, expanded, AreMaximal, AreChained}
+use Rattle.sg_block_map.specs.Runs.{AreRuns, chained_contents, blocks_of}
+use Rattle.sg_block_map.specs.Status.{IsRunTable, IsOver, run_over, AreMet, AreFrom}
 use Rattle.sg_blocks.proofs.DescriptorLemmas.{described, below-some}
-use Rattle.sg_blocks.proofs.RecordLemmas.{eq_same, start_of-read}
+use Rattle.sg_blocks.proofs.RecordLemmas.{start_of-read}
 use Rattle.sg_blocks.proofs.TableLemmas.{visited-more, visited-less}
-use Rattle.sg_block_map.proofs.BetweenLemmas.{between-singles, maximal-le, maximal-sorted}
-use Rattle.sg_block_map.proofs.ContentsLemmas.{find-below, find-above, find-right}
+use Rattle.sg_block_map.proofs.BetweenLemmas.{maximal-sorted}
 use Rattle.sg_block_map.proofs.CutRunsLemmas.{runs-fit, blocks-fit}
-use Rattle.sg_block_map.proofs.ExpandedLemmas.{expanded-more, expanded-none}
-use Rattle.sg_block_map.proofs.GatheringLemmas.{end_at-read, count-more}
-use Rattle.sg_block_map.proofs.MaximalLemmas.{ends_before, begins_past, none-meet, runs-extents}
-
--- a record of the address is found among more records
-either-some : (b : Bool) (v : List ℕ) (o : Option (List ℕ)) → is_some o ≡ true
-    → is_some (cond b (Some v) o) ≡ true
-either-some true v o e = refl
-either-some false v o e = e
-
-left-some : (b : Bool) (v : List ℕ) (o p : Option (List ℕ)) → (is_some o ≡ true → is_some p ≡ true)
-    → is_some (cond b (Some v) o) ≡ true → is_some (cond b (Some v) p) ≡ true
-left-some true v o p f e = refl
-left-some false v o p f e = f e
-
-found-left : (xs ys : List Run) (bs : List (List ℕ)) (q : ℕ)
-    → is_some (find nat_cmp q (mapped_blocks xs bs)) ≡ true
-    → is_some (find nat_cmp q (mapped_blocks (xs ++ ys) bs)) ≡ true
-found-left [] ys bs q e = let wrong = e in cc
-found-left (x ∷ xs) ys bs q e = left-some (eq_by_cmp nat_cmp q x.start) _ _ _
-    (found-left xs ys bs q) e
-
-found-right : (xs ys : List Run) (bs : List (List ℕ)) (q : ℕ)
-    → is_some (find nat_cmp q (mapped_blocks ys bs)) ≡ true
-    → is_some (find nat_cmp q (mapped_blocks (xs ++ ys) bs)) ≡ true
-found-right [] ys bs q e = e
-found-right (x ∷ xs) ys bs q e = either-some (eq_by_cmp nat_cmp q x.start) _ _
-    (found-right xs ys bs q e)
-
-found-single : (next : List ℕ) (bs : List (List ℕ)) (start first n q : ℕ) → start ≤ q
-    → q < start + n → is_some (find nat_cmp q (mapped_blocks (singles next start first n) bs)) ≡
-    true
-unfolding singles
-found-single next bs start first zero q le lt = absurd (omega arith)
-found-single next bs start first (suc n) q le lt = elim (cases_lt start q) [
-  | inl below ↦ either-some (eq_by_cmp nat_cmp q start) _ _
-      (found-single next bs (start + 1) (slice_index next first) n q (omega arith) (omega arith))
-  | inr here ↦ let same : eq_by_cmp nat_cmp q start ≡ true = eq_same q start (omega arith) in
-      rw same refl
-]
-
-found-inside : (next : List ℕ) (rs : List Run) (bs : List (List ℕ)) (i q : ℕ) → i < length rs
-    → start_of rs i ≤ q → q < end_at rs i → is_some
-    (find nat_cmp q (mapped_blocks (expanded next rs) bs)) ≡ true
-found-inside next [] bs i q h le lt = absurd (omega arith)
-found-inside next (x ∷ rs) bs zero q h le lt =
-    rw (expanded-more next x rs) (found-left (singles_of next x) (expanded next rs) bs q
-    (found-single next bs x.start x.first x.count q le lt))
-found-inside next (x ∷ rs) bs (suc i) q h le lt =
-    rw (expanded-more next x rs) (found-right (singles_of next x) (expanded next rs) bs q
-    (found-inside next rs bs i q (omega arith) le lt))
-
-pub contains-inside : (next : List ℕ) (rs : List Run) (bs : List (List ℕ)) (i q : ℕ) → i < length rs
-    → start_of rs i ≤ q → q < end_at rs i → contains_key (contents_of (expanded next rs) bs) q ≡
-    true
-contains-inside next rs bs i q h le lt = ap is_some
-    (get-from_entries nat_cmp_total (mapped_blocks (expanded next rs) bs) q)
-    ∙ found-inside next rs bs i q h le lt
-
--- no run has the address
-none-outside : (next : List ℕ) (rs : List Run) (bs : List (List ℕ)) (q : ℕ)
-    → ((i : ℕ) → i < length rs → (q < start_of rs i) ⊎ (end_at rs i ≤ q))
-    → find nat_cmp q (mapped_blocks (expanded next rs) bs) ≡ None
-none-outside next [] bs q h = rw (expanded-none next) refl
-none-outside next (x ∷ rs) bs q h =
-    let between = between-singles next x.start x.first x.count in
-    let none : find nat_cmp q (mapped_blocks (singles_of next x) bs) ≡ None =
-    elim (h 0 (omega arith)) [
-      | inl lt ↦ find-below (singles_of next x) bs x.start (end_of x) q between lt
-      | inr le ↦ find-above (singles_of next x) bs x.start (end_of x) q between le
-    ] in
-    rw (expanded-more next x rs) (find-right (singles_of next x) (expanded next rs) bs q none
-    ∙ none-outside next rs bs q (λ i lt. h (suc i) (omega arith)))
-
-pub contains-outside : (next : List ℕ) (rs : List Run) (bs : List (List ℕ)) (q : ℕ)
-    → ((i : ℕ) → i < length rs → (q < start_of rs i) ⊎ (end_at rs i ≤ q))
-    → contains_key (contents_of (expanded next rs) bs) q ≡ false
-contains-outside next rs bs q h =
-    ap is_some (get-from_entries nat_cmp_total (mapped_blocks (expanded next rs) bs) q
-    ∙ none-outside next rs bs q h)
-
--- the order of maximal runs
-maximal-past : (rs : List Run) (a b j : ℕ) → AreMaximal a b rs → j < length rs → a ≤ start_of rs j
-maximal-past [] a b j h lt = absurd (omega arith)
-maximal-past (x ∷ rs) a b zero h lt = h.0
-maximal-past (x ∷ rs) a b (suc j) h lt = omega
-    (arith, h.0, maximal-past rs (end_of x + 1) b j h.1 (omega arith))
-
-pub maximal-order : (rs : List Run) (a b i j : ℕ) → AreMaximal a b rs → i < j → j < length rs
-    → end_at rs i < start_of rs j
-maximal-order [] a b i j h lt low = absurd (omega arith)
-maximal-order (x ∷ rs) a b i zero h lt low = absurd (omega arith)
-maximal-order (x ∷ rs) a b zero (suc j) h lt low =
-    omega (arith, maximal-past rs (end_of x + 1) b j h.1 (omega arith))
-maximal-order (x ∷ rs) a b (suc i) (suc j) h lt low =
-    maximal-order rs (end_of x + 1) b i j h.1 (omega arith) (omega arith)
-
-pub ends-below : (rs : List Run) (a b i : ℕ) → AreMaximal a b rs → i < length rs → end_at rs i < b
-ends-below [] a b i h lt = absurd (omega arith)
-ends-below (x ∷ rs) a b zero h lt = omega (arith, maximal-le rs (end_of x + 1) b h.1)
-ends-below (x ∷ rs) a b (suc i) h lt = ends-below rs (end_of x + 1) b i h.1 (omega arith)
-
--- how many runs a range meets
-meets_one : (lba count start n : ℕ) → lba < start + n → start < lba + count → 0 < count → 0 < n
-    → cond {A = ℕ} (nat_lt (max start lba) (min (start + n) (lba + count))) 1 0 ≡ 1
-meets_one lba count start n h k some any = grind (arith, nat_tests)
-
-met-more : (rs : List Run) (from to low count : ℕ)
-    → ((i : ℕ) → i < length rs → start_of rs i < end_at rs i) → from ≤ to → to ≤ length rs
-    → ((i : ℕ) → i < from → end_at rs i ≤ low) → AreMet rs from to low (low + count) → 0 < count
-    → AreFrom rs to (low + count) → records_met rs low count ≡ to - from
-met-more [] from to low count filled le within before met some rest = omega arith
-met-more (x ∷ rs) (suc from) zero low count filled le within before met some rest =
-    absurd (omega arith)
-met-more (x ∷ rs) (suc from) (suc to) low count filled le within before met some rest =
-    let here = ends_before low count x.start x.count (before 0 (omega arith)) in
-    let more = met-more rs from to low count (λ i lt. filled (suc i) (omega arith)) (omega arith)
-    (omega arith) (λ i lt. before (suc i) (omega arith))
-    (λ i ge lt. met (suc i) (omega arith) (omega arith)) some
-    (λ i ge lt. rest (suc i) (omega arith) (omega arith)) in
-    omega (arith, count-more (meets low count) (extent_of x) (map extent_of rs))
-met-more (x ∷ rs) zero (suc to) low count filled le within before met some rest =
-    let m = met 0 (omega arith) (omega arith) in
-    let here = meets_one low count x.start x.count m.0 m.1 some
-    (omega (arith, filled 0 (omega arith))) in
-    let more = met-more rs zero to low count (λ i lt. filled (suc i) (omega arith)) (omega arith)
-    (omega arith) (λ i lt. absurd (omega arith))
-    (λ i ge lt. met (suc i) (omega arith) (omega arith)) some
-    (λ i ge lt. rest (suc i) (omega arith) (omega arith)) in
-    omega (arith, count-more (meets low count) (extent_of x) (map extent_of rs))
-met-more (x ∷ rs) zero zero low count filled le within before met some rest =
-    let here = begins_past low count x.start x.count (rest 0 (omega arith) (omega arith)) in
-    let more = met-more rs zero zero low count (λ i lt. filled (suc i) (omega arith)) (omega arith)
-    (omega arith) (λ i lt. absurd (omega arith))
-    (λ i ge lt. absurd (omega arith)) some (λ i ge lt. rest (suc i) (omega arith) (omega arith)) in
-    omega (arith, count-more (meets low count) (extent_of x) (map extent_of rs))
-
-pub met-none : (rs : List Run) (low count : ℕ) → count ≡ 0 → records_met rs low count ≡ 0
-met-none rs low count e = none-meet (map extent_of rs) low count e
-
-pub met-count : (rs : List Run) (capacity from to low count : ℕ) → IsRunTable capacity rs
-    → from ≤ to → to ≤ length rs
-    → ((i : ℕ) → i < from → end_at rs i ≤ low) → AreMet rs from to low (low + count)
-    → ((count ≡ 0) × (from ≡ to)) ⊎ ((0 < count) × AreFrom rs to (low + count))
-    → records_met rs low count ≡ to - from
-met-count rs capacity from to low count t le within before met (inl none) =
-    omega (arith, met-none rs low count none.0, none.1)
-met-count rs capacity from to low count t le within before met (inr some) =
-    met-more rs from to low count t.filled le within before met some.0 some.1
+use Rattle.sg_block_map.proofs.GatheringLemmas.{end_at-read}
+use Rattle.sg_block_map.proofs.AddressLemmas.{contains-inside, contains-outside, maximal-order}
+use Rattle.sg_block_map.proofs.AddressLemmas.{ends-below}
 
 -- the run of an address, from the cursor
 picked : (b : Bool) (r run : Run) → cond b (Some r) None ≡ Some run → (b ≡ true) × (r ≡ run)
@@ -508,13 +358,6 @@ run_table-of capacity rs slots room h whole small fits =
       table_size = omega (arith, runs-fit rs slots room h);
       capacity_fits = fits;
     }
-
--- how many maximal runs a range meets, by the records
-pub meet-records : (rs : List Run) (slots : Slots) (room lba count : ℕ) → AreRuns rs slots room
-    → meet (chained_contents rs slots) lba count ≡ records_met rs lba count
-unfolding meet
-meet-records rs slots room lba count h =
-    rw (runs-extents slots.next rs slots.blocks 0 (MAX_CAPACITY + 1) h.maximal h.chained) refl
 
 -- visits after probes and visits
 pub visits-joined : (s t u : Table) → t ≡ visited (probed s (t.probes - s.probes))

@@ -20,7 +20,8 @@ use Rattle.sg_blocks.proofs.DescriptorLemmas.{descriptors-more, descriptors-end,
 use Rattle.sg_blocks.proofs.DescriptorLemmas.{covered-more}
 use Rattle.sg_blocks.proofs.StatusLemmas.{descriptor-put}
 use Rattle.sg_blocks.proofs.TableLemmas.{ahead-le}
-use Rattle.sg_block_map.proofs.StatusLemmas.{next-of, all-of, visited-trade, met-count}
+use Rattle.sg_block_map.proofs.StatusLemmas.{next-of, all-of, visited-trade}
+use Rattle.sg_block_map.proofs.MeetingLemmas.{met-count}
 use Rattle.sg_block_map.proofs.status.write_descriptors.Goals as goal
 
 pub loop-next-init : goal.loop-next-init

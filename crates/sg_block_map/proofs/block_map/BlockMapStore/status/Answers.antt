@@ -7,7 +7,8 @@ use Rattle.sg_blocks.specs.LbaStatus.{status_data}
 use Rattle.sg_blocks.specs.Table.{Table}
 use Rattle.sg_block_map.specs.State.{disk_of}
 use Rattle.sg_wire.proofs.CutLemmas.{put-put, put-longer, put-replaced, written-within}
-use Rattle.sg_block_map.proofs.StatusLemmas.{run_table-of, meet-records, visits-joined}
+use Rattle.sg_block_map.proofs.StatusLemmas.{run_table-of, visits-joined}
+use Rattle.sg_block_map.proofs.MeetingLemmas.{meet-records}
 use Rattle.sg_block_map.proofs.StoreLemmas.{gathered-costs, gathered-runs}
 use Rattle.sg_block_map.proofs.block_map.BlockMapStore.status.Goals as goal
 
