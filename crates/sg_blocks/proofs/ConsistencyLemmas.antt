@@ -1,6 +1,6 @@
 -- A table and a pool that are consistent, after a step.
 use Rattle.std.proofs.Common.{◌≡◌, ◌≢◌, ℕ, ◌+◌, ◌-◌, ◌<◌, ◌≤◌, List, ◌∷◌, ◌++◌, length, get_or, set}
-use Rattle.std.proofs.Common.{arith, sym, ap, ◌∙◌, cond, Bool, eq-eqb, refl, length-set}
+use Rattle.std.proofs.Common.{arith, sym, ap, ◌∙◌, length-set}
 use Rattle.std.proofs.lemmas.List.Edits.{length-insert}
 use Rattle.std.specs.Prelude.{insert}
 use Rattle.std.specs.FinMap as map

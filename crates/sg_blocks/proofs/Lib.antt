@@ -2,6 +2,7 @@ pub mod GhostNumberSteps
 pub mod DiskLemmas
 pub mod WriteLemmas
 pub mod OccurrenceLemmas
+pub mod PoolLemmas
 pub mod ChainLemmas
 pub mod LinkLemmas
 pub mod HalvingLemmas

@@ -1,5 +1,7 @@
 -- The slots of the pool: each is free or has one record.
-use Rattle.std.specs.Prelude.{◌≡◌, ℕ, ◌+◌, List, [], ◌∷◌, ◌++◌, if◌then◌else◌, ◌==◌, nat_lt, length}
+use Rattle.std.specs.Prelude.{◌≡◌, ℕ, ◌+◌, ◌-◌, List, [], ◌∷◌, ◌++◌, if◌then◌else◌, ◌==◌, nat_lt}
+use Rattle.std.specs.Prelude.{length, replicate}
+use Rattle.sg_blocks.specs.Disk.{zero_block}
 use Rattle.sg_blocks.specs.declared.run.Run.{Run}
 use Rattle.sg_blocks.specs.Records.{IsSorted}
 
@@ -10,6 +12,10 @@ pub record Slots : Type 0 where
   pub next : List ℕ
   pub free : List ℕ
   pub links : ℕ
+
+-- The blocks of `count` slots, of which the first ones are given. The others are zeros.
+abbrev pub zero_padded : List (List ℕ) → (count : ℕ) → List (List ℕ)
+zero_padded blocks count = blocks ++ replicate (count - length blocks) zero_block
 
 -- `count` links were followed.
 abbrev pub followed : Slots → (count : ℕ) → Slots

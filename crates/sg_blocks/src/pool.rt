@@ -1,6 +1,6 @@
 // The blocks of the mapped addresses.
-ghost use Rattle.std.specs.Prelude.{◌≡◌, ◌<◌, ◌+◌, ◌∷◌, ◌++◌, ◌≤◌, length, IfOk};
-ghost use Rattle.std.specs.Prelude.{slice_index, slice_index_or, slice_set};
+ghost use Rattle.std.specs.Prelude.{◌≡◌, ◌<◌, ◌+◌, ◌-◌, ◌∷◌, ◌++◌, ◌≤◌, length, replicate, IfOk};
+ghost use Rattle.std.specs.Prelude.{slice_index, slice_index_or, slice_set, vec_capacity};
 ghost use Rattle.std.specs.List.{range_with_len};
 ghost use Rattle.sg_blocks.specs.Chains.{chain, AreBelow, IsChain};
 ghost use Rattle.sg_blocks.specs.Disk.{zero_block};
@@ -10,10 +10,13 @@ use crate::store::{BLOCK_LENGTH, MAX_POOL};
 use std::alloc::{AllocError, Global};
 use std::marker::Model;
 
+const ZERO_BLOCK: [u8; BLOCK_LENGTH] = [0; BLOCK_LENGTH];
+
 /// Slots of one block each, with a link from each slot to the next one of its chain. The free slots
 /// are a chain.
 #[derive(Drop)]
 pub struct Pool {
+    /// The blocks of the first slots, as far as one was set. The others are zeros.
     blocks: Vec<[u8; BLOCK_LENGTH]>,
     next: Vec<u32>,
     first_free: u32,
@@ -22,21 +25,22 @@ pub struct Pool {
 }
 
 impl Model for Pool {
-    ghost use Rattle.std.specs.Prelude.{◌≡◌, length};
+    ghost use Rattle.std.specs.Prelude.{◌≤◌, length, vec_capacity};
     ghost use Rattle.sg_blocks.specs.Chains.{chain, AreBelow};
-    ghost use Rattle.sg_blocks.specs.Slots.{Slots};
+    ghost use Rattle.sg_blocks.specs.Slots.{Slots, zero_padded};
 
     ghost Value = { Slots };
 
     ghost view = { λ p. record {
-      blocks = p.blocks.items;
+      blocks = zero_padded p.blocks.items (length p.next.items);
       next = p.next.items;
       free = chain p.next.items p.first_free p.free_count;
       links = p.links;
     } };
 
-    ghost invariant = { λ p. (length p.next.items ≡ length p.blocks.items)
-        × AreBelow (length p.next.items) (chain p.next.items p.first_free p.free_count) };
+    ghost invariant = { λ p. (length p.blocks.items ≤ length p.next.items)
+        × AreBelow (length p.next.items) (chain p.next.items p.first_free p.free_count)
+        × (length p.next.items ≤ vec_capacity p.blocks) };
 }
 
 /// The links of `count` slots, from each to the one after it.
@@ -49,6 +53,22 @@ fn links(alloc: Global, count: u32) -> Result<Vec<u32>, AllocError>
         next.push(slot + 1)?;
     }
     Ok(next)
+}
+
+/// Appends blocks of zeros as far as that of a slot, unless it is there.
+fn extend_to(blocks: &mut Vec<[u8; BLOCK_LENGTH]>, slot: u32)
+    requires { slot < vec_capacity blocks.old }
+    ensures blocks { blocks.new.items
+        ≡ blocks.old.items ++ replicate (slot + 1 - length blocks.old.items) zero_block }
+    ensures capacity { vec_capacity blocks.old ≤ vec_capacity blocks.new }
+{
+    let index = slot as usize;
+    if index < blocks.len() {
+        return;
+    }
+    let extended = blocks.resize(index + 1, ZERO_BLOCK);
+    prove!(extended.is_ok());
+    let _ = extended;
 }
 
 impl Pool {
@@ -65,7 +85,7 @@ impl Pool {
         ensures links { IfOk result (λ pool. pool.links ≡ 0) }
     {
         Ok(Pool {
-            blocks: vec![in alloc; [0; BLOCK_LENGTH]; count as usize]?,
+            blocks: Vec::with_capacity(alloc, count as usize)?,
             next: links(alloc, count)?,
             first_free: 0,
             free_count: count,
@@ -78,7 +98,7 @@ impl Pool {
         requires { slot < length self.now.blocks }
         ensures { result.now ≡ slice_index_or self.now.blocks slot zero_block }
     {
-        &self.blocks[slot as usize]
+        self.blocks.get(slot as usize).unwrap_or(&ZERO_BLOCK)
     }
 
     /// How many slots are free.
@@ -94,6 +114,7 @@ impl Pool {
         requires byte_count { length bytes.now ≡ BLOCK_LENGTH }
         ensures { self.new ≡ record self.old { blocks = slice_set self.old.blocks slot bytes.now } }
     {
+        extend_to(&mut self.blocks, slot);
         self.blocks[slot as usize].copy_from_slice(bytes);
     }
 
@@ -164,7 +185,7 @@ impl Pool {
     pub fn count(&self) -> usize
         ensures { result ≡ length self.now.blocks }
     {
-        self.blocks.len()
+        self.next.len()
     }
 
     /// How many links were followed since the last restart.

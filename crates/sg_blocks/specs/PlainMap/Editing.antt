@@ -3,7 +3,7 @@ use Rattle.std.specs.Prelude.{◌≡◌, ℕ, ◌+◌, ◌≤◌, List, length}
 use Rattle.std.specs.List.{splice}
 use Rattle.sg_blocks.specs.Disk.{Contents}
 use Rattle.sg_blocks.specs.PlainCost.{plain_least, plain_price}
-use Rattle.sg_blocks.specs.Records.{IsLowerBound, IsNext, ahead, contents_of}
+use Rattle.sg_blocks.specs.Records.{IsLowerBound, IsNext, contents_of}
 use Rattle.sg_blocks.specs.Slots.{Slots, IsConsistent}
 use Rattle.sg_blocks.specs.Table.{Table}
 use Rattle.sg_blocks.specs.Draft.{Drafted}

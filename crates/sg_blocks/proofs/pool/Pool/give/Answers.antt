@@ -1,6 +1,7 @@
 use Rattle.std.proofs.Common.{◌∷◌, length, length-set, ap, ◌∙◌, arith}
-use Rattle.sg_blocks.specs.Slots.{Slots, occurrences}
+use Rattle.sg_blocks.specs.Slots.{Slots, occurrences, zero_padded}
 use Rattle.sg_blocks.proofs.ChainLemmas.{length-chain, chain-given, given-below}
+use Rattle.sg_blocks.proofs.PoolLemmas.{length-padded}
 use Rattle.sg_blocks.proofs.pool.Pool.give.Goals as goal
 
 pub overflow_add-self : goal.overflow_add-self
@@ -20,15 +21,17 @@ invariant_of-self c =
     let p = c.self.inside in
     let slot = c.args.slot in
     let low = ap (λ (s : Slots). length s.blocks) c.self.view_is in
+    let len = length-padded p.blocks.items (length p.next.items) c.self.invariant.0 in
     let none = ap (λ (s : Slots). occurrences slot s.free) c.self.view_is ∙ c.requires.used in (
-      length-set p.next.items slot p.first_free ∙ c.self.invariant.0,
+      omega (arith, length-set p.next.items slot p.first_free, c.self.invariant.0),
       rw (
         length-set p.next.items slot p.first_free,
         chain-given p.next.items slot p.first_free p.free_count
-            (omega (arith, c.self.invariant.0, c.requires.slot)) none,
+            (omega (arith, low, len, c.requires.slot)) none,
       )
           (given-below (length p.next.items) slot _
-          (omega (arith, c.requires.slot)) c.self.invariant.1),
+          (omega (arith, low, len, c.requires.slot)) c.self.invariant.1),
+      omega (arith, length-set p.next.items slot p.first_free, c.self.invariant.2),
     )
 
 pub returns-clause-free : goal.returns-clause-free
@@ -36,7 +39,14 @@ returns-clause-free c =
     let p = c.self.inside in
     let slot = c.args.slot in
     let low = ap (λ (s : Slots). length s.blocks) c.self.view_is in
+    let len = length-padded p.blocks.items (length p.next.items) c.self.invariant.0 in
     let none = ap (λ (s : Slots). occurrences slot s.free) c.self.view_is ∙ c.requires.used in
     chain-given p.next.items slot p.first_free p.free_count
-    (omega (arith, c.self.invariant.0, c.requires.slot)) none
+    (omega (arith, low, len, c.requires.slot)) none
     ∙ ap (λ (s : Slots). slot ∷ s.free) c.self.view_is
+
+pub returns-clause-blocks : goal.returns-clause-blocks
+returns-clause-blocks c =
+    let p = c.self.inside in
+    ap (zero_padded p.blocks.items) (length-set p.next.items c.args.slot p.first_free)
+    ∙ ap (λ (s : Slots). s.blocks) c.self.view_is

@@ -1,4 +1,4 @@
-use Rattle.std.proofs.Common.{length, length-set, ap, ◌∙◌, arith}
+use Rattle.std.proofs.Common.{length, length-set, ap, arith}
 use Rattle.sg_blocks.specs.Slots.{Slots}
 use Rattle.sg_blocks.proofs.ChainLemmas.{length-chain}
 use Rattle.sg_blocks.proofs.LinkLemmas.{joined, joined-below}
@@ -19,11 +19,12 @@ overflow_add-self c =
 pub invariant_of-self : goal.invariant_of-self
 invariant_of-self c =
     let p = c.self.inside in (
-      length-set p.next.items c.args.last p.first_free ∙ c.self.invariant.0,
+      omega (arith, length-set p.next.items c.args.last p.first_free, c.self.invariant.0),
       joined-below p.next.items c.args.self.now.next c.args.self.now.free c.args.first c.args.last
           c.args.count p.first_free p.free_count (ap (λ (s : Slots). s.next) c.self.view_is)
           (ap (λ (s : Slots). s.free) c.self.view_is)
           c.requires.chain c.requires.last c.requires.once c.requires.slots c.self.invariant.1,
+      omega (arith, length-set p.next.items c.args.last p.first_free, c.self.invariant.2),
     )
 
 pub returns-clause-free : goal.returns-clause-free

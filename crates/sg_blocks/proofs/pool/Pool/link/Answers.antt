@@ -1,5 +1,5 @@
-use Rattle.std.proofs.Common.{length-set, set, ap, ◌∙◌}
-use Rattle.sg_blocks.specs.Slots.{Slots, occurrences}
+use Rattle.std.proofs.Common.{length-set, set, ap, ap₂, ◌∙◌, arith}
+use Rattle.sg_blocks.specs.Slots.{Slots, occurrences, zero_padded}
 use Rattle.sg_blocks.proofs.ChainLemmas.{chain-set}
 use Rattle.sg_blocks.proofs.pool.Pool.link.Goals as goal
 
@@ -9,8 +9,9 @@ invariant_of-self c =
     let free = ap (λ (s : Slots). s.free) c.self.view_is in
     let same = chain-set p.next.items c.args.slot c.args.next p.first_free p.free_count
     (ap (occurrences c.args.slot) free ∙ c.requires.used) in (
-      length-set p.next.items c.args.slot c.args.next ∙ c.self.invariant.0,
+      omega (arith, length-set p.next.items c.args.slot c.args.next, c.self.invariant.0),
       rw (same, length-set p.next.items c.args.slot c.args.next) c.self.invariant.1,
+      omega (arith, length-set p.next.items c.args.slot c.args.next, c.self.invariant.2),
     )
 
 pub returns : goal.returns
@@ -19,10 +20,11 @@ returns c =
     let free = ap (λ (s : Slots). s.free) c.self.view_is in
     let same = chain-set p.next.items c.args.slot c.args.next p.first_free p.free_count
     (ap (occurrences c.args.slot) free ∙ c.requires.used) in
-    ap (λ xs. record {
-      blocks = p.blocks.items;
+    let len = length-set p.next.items c.args.slot c.args.next in
+    ap₂ (λ n xs. record {
+      blocks = zero_padded p.blocks.items n;
       next = set p.next.items c.args.slot c.args.next;
       free = xs;
       links = p.links;
-    }) same
+    }) len same
     ∙ ap (λ (s : Slots). record s { next = set s.next c.args.slot c.args.next }) c.self.view_is

@@ -1,17 +1,19 @@
-use Rattle.std.proofs.Common.{◌≡◌, length, refl, sym, arith}
+use Rattle.std.proofs.Common.{length, ap, ◌∙◌, arith}
 use Rattle.std.proofs.lemmas.List.FromFn.{length-range_with_len}
 use Rattle.sg_blocks.proofs.ChainLemmas.{length-chain, chain-range, range-below}
 use Rattle.sg_blocks.proofs.OccurrenceLemmas.{once-range}
+use Rattle.sg_blocks.proofs.PoolLemmas.{length-padded}
 use Rattle.sg_blocks.proofs.pool.Pool.new.Goals as goal
 
 pub invariant_of-result : goal.invariant_of-result
 invariant_of-result c =
     let count = c.args.count in
     let len = length-range_with_len 1 count in
-    let blocks : count ≡ length c.in_ok-vec.field-0.items =
-    omega (arith, c.in_ok-vec.ensures.len, c.in_ok-vec.field-0.ok.0) in
-    rw (c.in_ok-links.ensures, len, chain-range count 0 count (omega arith), sym blocks)
-    (refl, range-below count 0 count (omega arith))
+    rw (c.in_ok-links.ensures, len, chain-range count 0 count (omega arith)) (
+      omega (arith, c.in_ok-with_capacity.ensures.len, c.in_ok-with_capacity.field-0.ok.0),
+      range-below count 0 count (omega arith),
+      c.in_ok-with_capacity.ensures.capacity,
+    )
 
 pub returns-clause-free_count : goal.returns-clause-free_count
 returns-clause-free_count c = length-chain c.in_ok-links.field-0.items 0 c.args.count
@@ -23,3 +25,11 @@ returns-clause-free c =
 
 pub returns-clause-next : goal.returns-clause-next
 returns-clause-next c = rw c.in_ok-links.ensures (length-range_with_len 1 c.args.count)
+
+pub returns-clause-blocks : goal.returns-clause-blocks
+returns-clause-blocks c =
+    let len = length-range_with_len 1 c.args.count in
+    let listed = c.in_ok-links.ensures in
+    length-padded c.in_ok-with_capacity.field-0.items (length c.in_ok-links.field-0.items)
+    (omega (arith, c.in_ok-with_capacity.ensures.len, c.in_ok-with_capacity.field-0.ok.0))
+    ∙ ap length listed ∙ len
