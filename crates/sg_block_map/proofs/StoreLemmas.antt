@@ -1,13 +1,13 @@
 -- A disk of maximal runs: what its calls rest on.
 use Rattle.std.proofs.Common.{◌≡◌, ℕ, ◌+◌, ◌-◌, ◌*◌, ◌<◌, ◌≤◌, ◌^◌, List, [], ◌++◌, length, take}
-use Rattle.std.proofs.Common.{drop, arith, sym, ap, ◌∙◌, subst, add-one, inl, inr}
+use Rattle.std.proofs.Common.{drop, arith, refl, sym, ap, ◌∙◌, subst, add-one, inl, inr}
 use Rattle.std.proofs.Math.Nat.{pow-succ'}
 use Rattle.std.proofs.Math.Pow.{pow_mono}
 use Rattle.std.proofs.lemmas.Bool.{cases_lt}
 use Rattle.std.proofs.lemmas.List.{length-map}
 use Rattle.std.specs.FinMap as map
 use Rattle.std.specs.List.{count_by, sum_by}
-use Rattle.sg_blocks.specs.Disk.{Contents, IsWellFormed, mapped_among, replaced}
+use Rattle.sg_blocks.specs.Disk.{Contents, Disk, IsWellFormed, mapped_among, replaced}
 use Rattle.sg_blocks.specs.Draft.{Drafted}
 use Rattle.sg_blocks.specs.Meter.{Meter, Costs}
 use Rattle.sg_blocks.specs.Records.{contents_of, IsSorted}
@@ -17,9 +17,9 @@ use Rattle.sg_blocks.specs.declared.run.Run.{Run}
 use Rattle.sg_blocks.specs.declared.store.TheConstants.{MAX_POOL, MAX_CAPACITY}
 use Rattle.sg_block_map.specs.Gathering.{starts_in, overlap, AreGathered, end_index}
 use Rattle.sg_block_map.specs.MaximalRuns.{runs, meet, blocks_near}
-use Rattle.sg_block_map.specs.RunCost.{block_price, CostsRuns}
+use Rattle.sg_block_map.specs.RunCost.{block_price, CostsRuns, CostsRange}
 use Rattle.sg_block_map.specs.Runs.{extent_of, expanded, AreRuns, chained_contents, blocks_of}
-use Rattle.sg_block_map.specs.State.{meter_at}
+use Rattle.sg_block_map.specs.State.{disk_at, meter_at}
 use Rattle.sg_block_map.specs.Walking.{AreAhead}
 use Rattle.sg_blocks.proofs.DiskLemmas.{len-replaced}
 use Rattle.sg_blocks.proofs.HalvingLemmas.{probes-le}
@@ -174,3 +174,53 @@ nothing-runs contents lba count meter = record {
 pub nothing-meets : (contents : Contents) (lba count : ℕ) → count ≡ 0 → meet contents lba count ≡ 0
 unfolding meet
 nothing-meets contents lba count e = none-meet (runs contents) lba count e
+
+-- all that a call costs which gathers the runs near its range, and follows their links
+pub gathered-range : (before after : Table) (slots after_slots : Slots) (capacity lba count : ℕ)
+    (gathered : Drafted) → AreRuns before.records slots before.room
+    → AreGathered before.records gathered lba (lba + count) (MAX_CAPACITY + 1)
+    → before.room ≤ MAX_POOL
+    → after ≡ visited (probed before (after.probes - before.probes)) (after.total - before.total)
+    → before.probes ≤ after.probes
+    → 2 ^ (after.probes - before.probes) ≤ 2 * length before.records + 1
+    → before.total + length gathered.records ≤ after.total
+    → after.total ≤ before.total + count_by (starts_in lba (lba + count)) before.records + 2
+    → slots.links ≤ after_slots.links
+    → after_slots.links ≤ slots.links + blocks_of gathered.records
+    → CostsRange (disk_at capacity before slots) lba count
+    (meter_at before slots) (meter_at after after_slots)
+gathered-range before after slots after_slots capacity lba count gathered h g small is rise halving
+    least most links_rise links =
+    let rs = before.records in
+    let room = before.room in
+    let total : before.total ≤ after.total = omega (arith, least) in
+    let blocks = gathered-blocks rs gathered slots room lba (lba + count) (MAX_CAPACITY + 1) h g in
+    let near = gathered-near rs slots room gathered lba count h g in
+    let met = gathered-meet rs slots room gathered lba count h g in
+    record {
+      cost = gathered-costs rs slots after_slots room lba count before after h refl is rise halving
+          total small links_rise (omega (arith, blocks, links));
+      price = gathered-price rs slots after_slots room lba count before after h refl is rise halving
+          total most;
+      least = omega (arith, least, met);
+      runs = gathered-runs rs slots after_slots room lba count before after h refl is rise halving
+          total (omega (arith, near, links));
+    }
+
+-- what a call over no address costs
+pub nothing-costs : (disk : Disk) (lba count : ℕ) (meter : Meter) → count ≡ 0
+    → CostsRange disk lba count meter meter
+nothing-costs disk lba count meter e = record {
+  cost = record {
+    visits = refl;
+    visits_rise = omega arith;
+    probes_rise = omega arith;
+    probes = omega arith;
+    links_rise = omega arith;
+    links = omega arith;
+    restarts = refl;
+  };
+  price = omega arith;
+  least = omega (arith, nothing-meets disk.contents lba count e);
+  runs = nothing-runs disk.contents lba count meter;
+}

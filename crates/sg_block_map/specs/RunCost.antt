@@ -1,7 +1,7 @@
 -- What a call over a range costs in a store that has a record for each maximal run.
 use Rattle.std.specs.Prelude.{ℕ, ◌+◌, ◌^◌, ◌<◌, ◌≤◌, length}
-use Rattle.sg_blocks.specs.Disk.{Contents}
-use Rattle.sg_blocks.specs.Meter.{Meter}
+use Rattle.sg_blocks.specs.Disk.{Contents, Disk}
+use Rattle.sg_blocks.specs.Meter.{Meter, Costs}
 use Rattle.sg_block_map.specs.MaximalRuns.{runs, meet, blocks_near}
 
 -- At least the record of each maximal run that the range meets is visited,
@@ -19,3 +19,10 @@ pub record CostsRuns (contents : Contents) (lba count : ℕ) (before after : Met
   pub probes : (digits : ℕ) → length (runs contents) < 2 ^ digits
       → after.counts.probes ≤ before.counts.probes + digits
   pub links : after.counts.links ≤ before.counts.links + blocks_near contents lba count
+
+-- All that a call over a range costs, by the disk before it.
+pub record CostsRange (disk : Disk) (lba count : ℕ) (before after : Meter) : Type 0 where
+  pub cost : Costs disk.pool before after
+  pub price : after.total ≤ before.total + block_price disk.contents lba count
+  pub least : before.total + block_least disk.contents lba count ≤ after.total
+  pub runs : CostsRuns disk.contents lba count before after

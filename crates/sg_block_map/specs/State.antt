@@ -11,12 +11,15 @@ use Rattle.sg_block_map.specs.Runs.{expanded, chained_contents, extent_of}
 use Rattle.sg_block_map.specs.declared.block_map.BlockMap.{BlockMap}
 
 -- The disk that it keeps.
-abbrev pub disk_of : BlockMap → Disk
-disk_of map = record {
-  capacity = map.capacity;
-  pool = map.table.room;
-  contents = chained_contents map.table.records map.pool;
+abbrev pub disk_at : (capacity : ℕ) → Table → Slots → Disk
+disk_at capacity table slots = record {
+  capacity = capacity;
+  pool = table.room;
+  contents = chained_contents table.records slots;
 }
+
+abbrev pub disk_of : BlockMap → Disk
+disk_of map = disk_at map.capacity map.table map.pool
 
 -- What its calls cost so far.
 abbrev pub meter_at : Table → Slots → Meter

@@ -5,10 +5,10 @@ ghost use Rattle.sg_blocks.specs.Disk.{IsWellFormed, IsOverfull, blocks};
 ghost use Rattle.sg_blocks.specs.Disk.{disk_replaced, disk_written, disk_filled, disk_unmapped};
 ghost use Rattle.sg_blocks.specs.Disk.{unmapped};
 ghost use Rattle.sg_blocks.specs.LbaStatus.{lba_status, covered, status_data};
-ghost use Rattle.sg_blocks.specs.Meter.{Costs, HasHeadroom};
+ghost use Rattle.sg_blocks.specs.Meter.{HasHeadroom};
 ghost use Rattle.sg_wire.specs.Cut.{Puts};
 ghost use Rattle.sg_block_map.specs.MaximalRuns.{runs};
-ghost use Rattle.sg_block_map.specs.RunCost.{block_price, block_least, CostsRuns};
+ghost use Rattle.sg_block_map.specs.RunCost.{block_price, block_least, CostsRange};
 ghost use Rattle.sg_block_map.specs.RunCostLaws.{block_price-within, block_least-positive};
 ghost use Rattle.sg_block_map.specs.Runs.{AreRuns, chained_contents};
 ghost use Rattle.sg_block_map.specs.RunsProps.{AreMaximal-IsProp, AreChained-IsProp};
@@ -83,13 +83,8 @@ impl BlockMap {
         // Each address that was mapped keeps its slot.
         ensures keeps { Keeps (slots_by_address self.old) (slots_by_address self.new) }
 
-        // What the call costs, and between which bounds its visits lie.
-        ensures cost { Costs (disk_of self.old).pool (meter_of self.old) (meter_of self.new) }
-        ensures price { (meter_of self.new).total
-            ≤ (meter_of self.old).total + block_price (disk_of self.old).contents lba count }
-        ensures least { OnOk result ((meter_of self.old).total
-            + block_least (disk_of self.old).contents lba count ≤ (meter_of self.new).total) }
-        ensures runs { CostsRuns (disk_of self.old).contents lba count
+        // What the call costs.
+        ensures costs { CostsRange (disk_of self.old) lba count
             (meter_of self.old) (meter_of self.new) }
     {
         if count == 0 {
@@ -145,13 +140,8 @@ impl Store for BlockMap {
         ensures disk { disk_of self.new ≡ disk_of self.old }
         ensures keeps { slots_by_address self.new ≡ slots_by_address self.old }
 
-        // What the call costs, and between which bounds its visits lie.
-        ensures cost { Costs (disk_of self.old).pool (meter_of self.old) (meter_of self.new) }
-        ensures price { (meter_of self.new).total
-            ≤ (meter_of self.old).total + block_price (disk_of self.old).contents lba count }
-        ensures least { (meter_of self.old).total
-            + block_least (disk_of self.old).contents lba count ≤ (meter_of self.new).total }
-        ensures runs { CostsRuns (disk_of self.old).contents lba count
+        // What the call costs.
+        ensures costs { CostsRange (disk_of self.old) lba count
             (meter_of self.old) (meter_of self.new) }
     {
         gather(&mut self.table, &mut self.gathered, lba, count);
@@ -175,13 +165,8 @@ impl Store for BlockMap {
         // Each address that was mapped keeps its slot.
         ensures keeps { Keeps (slots_by_address self.old) (slots_by_address self.new) }
 
-        // What the call costs, and between which bounds its visits lie.
-        ensures cost { Costs (disk_of self.old).pool (meter_of self.old) (meter_of self.new) }
-        ensures price { (meter_of self.new).total
-            ≤ (meter_of self.old).total + block_price (disk_of self.old).contents lba count }
-        ensures least { OnOk result ((meter_of self.old).total
-            + block_least (disk_of self.old).contents lba count ≤ (meter_of self.new).total) }
-        ensures runs { CostsRuns (disk_of self.old).contents lba count
+        // What the call costs.
+        ensures costs { CostsRange (disk_of self.old) lba count
             (meter_of self.old) (meter_of self.new) }
     {
         self.replace(lba, count, &Source::Joined(bytes))
@@ -202,13 +187,8 @@ impl Store for BlockMap {
         // Each address that was mapped keeps its slot.
         ensures keeps { Keeps (slots_by_address self.old) (slots_by_address self.new) }
 
-        // What the call costs, and between which bounds its visits lie.
-        ensures cost { Costs (disk_of self.old).pool (meter_of self.old) (meter_of self.new) }
-        ensures price { (meter_of self.new).total
-            ≤ (meter_of self.old).total + block_price (disk_of self.old).contents lba count }
-        ensures least { OnOk result ((meter_of self.old).total
-            + block_least (disk_of self.old).contents lba count ≤ (meter_of self.new).total) }
-        ensures runs { CostsRuns (disk_of self.old).contents lba count
+        // What the call costs.
+        ensures costs { CostsRange (disk_of self.old) lba count
             (meter_of self.old) (meter_of self.new) }
     {
         self.replace(lba, count, &Source::Repeated(block))
@@ -222,13 +202,8 @@ impl Store for BlockMap {
         ensures disk { disk_of self.new ≡ disk_unmapped (disk_of self.old) lba count }
         ensures keeps { slots_by_address self.new ≡ unmapped (slots_by_address self.old) lba count }
 
-        // What the call costs, and between which bounds its visits lie.
-        ensures cost { Costs (disk_of self.old).pool (meter_of self.old) (meter_of self.new) }
-        ensures price { (meter_of self.new).total
-            ≤ (meter_of self.old).total + block_price (disk_of self.old).contents lba count }
-        ensures least { (meter_of self.old).total
-            + block_least (disk_of self.old).contents lba count ≤ (meter_of self.new).total }
-        ensures runs { CostsRuns (disk_of self.old).contents lba count
+        // What the call costs.
+        ensures costs { CostsRange (disk_of self.old) lba count
             (meter_of self.old) (meter_of self.new) }
     {
         if count == 0 {
@@ -256,18 +231,9 @@ impl Store for BlockMap {
         ensures disk { disk_of self.new ≡ disk_of self.old }
         ensures keeps { slots_by_address self.new ≡ slots_by_address self.old }
 
-        // What the call costs, and between which bounds its visits lie, over the addresses that
-        // the descriptors cover.
-        ensures cost { Costs (disk_of self.old).pool (meter_of self.old) (meter_of self.new) }
-        ensures price { let count = covered (lba_status (disk_of self.old) lba) in
-            (meter_of self.new).total
-            ≤ (meter_of self.old).total + block_price (disk_of self.old).contents lba count }
-        ensures least { let count = covered (lba_status (disk_of self.old) lba) in
-            (meter_of self.old).total + block_least (disk_of self.old).contents lba count
-            ≤ (meter_of self.new).total }
-        ensures runs { let count = covered (lba_status (disk_of self.old) lba) in
-            CostsRuns (disk_of self.old).contents lba count
-            (meter_of self.old) (meter_of self.new) }
+        // What the call costs, over the addresses that the descriptors cover.
+        ensures costs { let count = covered (lba_status (disk_of self.old) lba) in
+            CostsRange (disk_of self.old) lba count (meter_of self.old) (meter_of self.new) }
     {
         let at = cut.written();
         cut.put(&header(0));

@@ -1,13 +1,12 @@
-use Rattle.std.proofs.Common.{◌+◌, length, ap, ap₂, sym, ◌∙◌, arith, refl}
+use Rattle.std.proofs.Common.{◌+◌, length, ap, ap₂, sym, ◌∙◌, arith}
 use Rattle.sg_blocks.specs.Disk.{blocks}
 use Rattle.sg_blocks.specs.declared.store.TheConstants.{MAX_CAPACITY}
 use Rattle.sg_block_map.specs.Runs.{expanded, chained_contents}
 use Rattle.sg_block_map.specs.State.{slot_map}
 use Rattle.sg_block_map.proofs.CutRunsLemmas.{runs-fit, length-expanded}
 use Rattle.sg_block_map.proofs.OverlapLemmas.{blocks-gathered}
-use Rattle.sg_block_map.proofs.StoreLemmas.{runs-ahead, gathered-length, gathered-meet}
-use Rattle.sg_block_map.proofs.StoreLemmas.{gathered-near, gathered-costs, gathered-price}
-use Rattle.sg_block_map.proofs.StoreLemmas.{gathered-runs}
+use Rattle.sg_block_map.proofs.StoreLemmas.{runs-ahead, gathered-length}
+use Rattle.sg_block_map.proofs.StoreLemmas.{gathered-range}
 use Rattle.sg_block_map.proofs.block_map.BlockMapStore.read.Goals as goal
 
 pub gather-requires-clause-fits : goal.gather-requires-clause-fits
@@ -44,48 +43,13 @@ returns-clause-bytes c =
 pub returns-clause-keeps : goal.returns-clause-keeps
 returns-clause-keeps c = ap₂ slot_map c.gather.ensures.table c.read_runs.ensures.pool
 
-pub returns-clause-cost : goal.returns-clause-cost
-returns-clause-cost c =
-    let s = c.args.self.now in
-    let most = gathered-length s.table.records s.pool s.table.room c.gather.new.gathered c.args.lba
-    c.args.count
-    s.runs c.gather.ensures.gathered in
-    let e = c.gather.ensures in
-    let links = ap (λ zs. length (expanded s.pool.next zs)) c.records.ensures in
-    gathered-costs s.table.records s.pool c.read_runs.new.pool s.table.room c.args.lba c.args.count
-    s.table c.gather.new.table
-    s.runs refl e.table e.rise e.halving (omega (arith, e.least)) s.pool_fits
-    c.read_runs.ensures.rise
-    (omega (arith, most, c.read_runs.ensures.links, links))
-
-pub returns-clause-price : goal.returns-clause-price
-returns-clause-price c =
+pub returns-clause-costs : goal.returns-clause-costs
+returns-clause-costs c =
     let s = c.args.self.now in
     let e = c.gather.ensures in
-    gathered-price s.table.records s.pool s.pool s.table.room c.args.lba c.args.count s.table
-    c.gather.new.table
-    s.runs refl e.table e.rise e.halving (omega (arith, e.least)) e.most
-
-pub returns-clause-least : goal.returns-clause-least
-returns-clause-least c =
-    let s = c.args.self.now in
-    omega (
-      arith,
-      c.gather.ensures.least,
-      gathered-meet s.table.records s.pool s.table.room c.gather.new.gathered
-          c.args.lba c.args.count s.runs c.gather.ensures.gathered,
-    )
-
-pub returns-clause-runs : goal.returns-clause-runs
-returns-clause-runs c =
-    let s = c.args.self.now in
     let gathered = c.gather.new.gathered in
-    let near = gathered-near s.table.records s.pool s.table.room gathered c.args.lba c.args.count
-    s.runs c.gather.ensures.gathered in
-    let e = c.gather.ensures in
     let links = ap (λ zs. length (expanded s.pool.next zs)) c.records.ensures
     ∙ length-expanded s.pool.next gathered.records in
-    gathered-runs s.table.records s.pool c.read_runs.new.pool s.table.room c.args.lba c.args.count
-    s.table c.gather.new.table
-    s.runs refl e.table e.rise e.halving (omega (arith, e.least))
-    (omega (arith, near, c.read_runs.ensures.links, links))
+    gathered-range s.table c.gather.new.table s.pool c.read_runs.new.pool s.capacity c.args.lba
+    c.args.count gathered s.runs e.gathered s.pool_fits e.table e.rise e.halving e.least e.most
+    c.read_runs.ensures.rise (omega (arith, c.read_runs.ensures.links, links))

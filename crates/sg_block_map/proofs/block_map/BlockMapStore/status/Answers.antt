@@ -1,4 +1,4 @@
-use Rattle.std.proofs.Common.{◌≡◌, ◌++◌, ℕ, length, ap, sym, refl, ◌∙◌, arith}
+use Rattle.std.proofs.Common.{◌≡◌, ◌≤◌, ◌++◌, ℕ, length, ap, sym, refl, ◌∙◌, arith}
 use Rattle.std.specs.List.{flat_map}
 use Rattle.sg_wire.specs.Cut.{answer_of}
 use Rattle.sg_wire.specs.CutAnswer.{put, replace}
@@ -61,58 +61,28 @@ returns-clause-data c =
     (written-within c.args.cut.now) lengths
     ∙ ap (λ h. put old (h ++ more)) (c.header-2.ensures ∙ ap status_header count)
 
-pub returns-clause-cost : goal.returns-clause-cost
-returns-clause-cost c =
+pub returns-clause-costs : goal.returns-clause-costs
+returns-clause-costs c =
     let s = c.args.self.now in
+    let lba = c.args.lba in
+    let count = covered (lba_status (disk_of s) lba) in
     let e = c.cursor_over-cursor.ensures in
+    let f = c.write_descriptors-count.ensures in
     let t = c.cursor_over-cursor.new.table in
     let u = c.write_descriptors-count.new.table in
-    let probes = ap (λ (x : Table). x.probes) c.write_descriptors-count.ensures.table in
-    let joined = visits-joined s.table t u e.table c.write_descriptors-count.ensures.table
-    (omega (arith, e.least)) c.write_descriptors-count.ensures.rise in
-    gathered-costs s.table.records s.pool s.pool s.table.room c.args.lba 0 s.table u s.runs refl
-    joined (omega (arith, probes, e.rise)) (rw probes e.halving)
-    (omega (arith, e.least, c.write_descriptors-count.ensures.rise)) s.pool_fits (omega arith)
-    (omega arith)
-
-pub returns-clause-price : goal.returns-clause-price
-returns-clause-price c =
-    let s = c.args.self.now in
-    let e = c.cursor_over-cursor.ensures in
-    let same = ap (λ (t : Table). t.records) e.table in
-    let most = rw same at (c.write_descriptors-count.ensures.most s.pool) in
-    omega (
-      arith,
-      most,
-      e.most,
-      meet-records s.table.records s.pool s.table.room c.args.lba
-          (covered (lba_status (disk_of s) c.args.lba)) s.runs,
-    )
-
-pub returns-clause-least : goal.returns-clause-least
-returns-clause-least c =
-    let s = c.args.self.now in
-    let e = c.cursor_over-cursor.ensures in
-    let same = ap (λ (t : Table). t.records) e.table in
-    let least = rw same at (c.write_descriptors-count.ensures.least s.pool) in
-    omega (
-      arith,
-      least,
-      e.least,
-      meet-records s.table.records s.pool s.table.room c.args.lba
-          (covered (lba_status (disk_of s) c.args.lba)) s.runs,
-    )
-
-pub returns-clause-runs : goal.returns-clause-runs
-returns-clause-runs c =
-    let s = c.args.self.now in
-    let e = c.cursor_over-cursor.ensures in
-    let t = c.cursor_over-cursor.new.table in
-    let u = c.write_descriptors-count.new.table in
-    let probes = ap (λ (x : Table). x.probes) c.write_descriptors-count.ensures.table in
-    let joined = visits-joined s.table t u e.table c.write_descriptors-count.ensures.table
-    (omega (arith, e.least)) c.write_descriptors-count.ensures.rise in
-    gathered-runs s.table.records s.pool s.pool s.table.room c.args.lba
-    (covered (lba_status (disk_of s) c.args.lba)) s.table u s.runs refl
-    joined (omega (arith, probes, e.rise)) (rw probes e.halving)
-    (omega (arith, e.least, c.write_descriptors-count.ensures.rise)) (omega arith)
+    let same = ap (λ (x : Table). x.records) e.table in
+    let probes = ap (λ (x : Table). x.probes) f.table in
+    let total : s.table.total ≤ u.total = omega (arith, e.least, f.rise) in
+    let rise : s.table.probes ≤ u.probes = omega (arith, probes, e.rise) in
+    let joined = visits-joined s.table t u e.table f.table (omega (arith, e.least)) f.rise in
+    let met = meet-records s.table.records s.pool s.table.room lba count s.runs in
+    let most = rw same at (f.most s.pool) in
+    let least = rw same at (f.least s.pool) in
+    record {
+      cost = gathered-costs s.table.records s.pool s.pool s.table.room lba count s.table u s.runs
+          refl joined rise (rw probes e.halving) total s.pool_fits (omega arith) (omega arith);
+      price = omega (arith, most, e.most, met);
+      least = omega (arith, least, e.least, met);
+      runs = gathered-runs s.table.records s.pool s.pool s.table.room lba count s.table u s.runs
+          refl joined rise (rw probes e.halving) total (omega arith);
+    }

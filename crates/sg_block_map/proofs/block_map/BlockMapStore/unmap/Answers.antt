@@ -1,20 +1,17 @@
-use Rattle.std.proofs.Common.{◌≡◌, ◌+◌, ◌-◌, [], ◌∷◌, ap, ap₂, sym, subst, ◌∙◌, arith, refl}
+use Rattle.std.proofs.Common.{◌≡◌, ◌+◌, ◌-◌, [], ◌∷◌, ap, ap₂, sym, subst, ◌∙◌, arith}
 use Rattle.std.specs.List.{range_with_len}
 use Rattle.std.specs.Prelude.{map}
 use Rattle.sg_blocks.specs.Disk.{Contents, IsWellFormed, unmapped}
-use Rattle.sg_blocks.specs.Meter.{Meter, Costs}
+use Rattle.sg_blocks.specs.Meter.{Meter}
 use Rattle.sg_blocks.specs.Records.{contents_of}
 use Rattle.sg_blocks.specs.Table.{Table}
-use Rattle.sg_blocks.specs.declared.store.TheConstants.{MAX_CAPACITY}
-use Rattle.sg_block_map.specs.RunCost.{CostsRuns}
+use Rattle.sg_block_map.specs.RunCost.{CostsRange}
 use Rattle.sg_block_map.specs.Runs.{expanded, chained_contents}
-use Rattle.sg_block_map.specs.State.{meter_at, slot_map}
+use Rattle.sg_block_map.specs.State.{disk_of, meter_at, slot_map}
 use Rattle.sg_blocks.proofs.UnmapLemmas.{well_formed-unmapped}
 use Rattle.sg_block_map.proofs.ContentsLemmas.{unmapped-none}
-use Rattle.sg_block_map.proofs.CutRunsLemmas.{runs-fit, gathered-blocks}
-use Rattle.sg_block_map.proofs.StoreLemmas.{gathered-meet, gathered-near, nothing-runs}
-use Rattle.sg_block_map.proofs.StoreLemmas.{nothing-meets, gathered-costs, gathered-price}
-use Rattle.sg_block_map.proofs.StoreLemmas.{gathered-runs}
+use Rattle.sg_block_map.proofs.CutRunsLemmas.{runs-fit}
+use Rattle.sg_block_map.proofs.StoreLemmas.{gathered-range, nothing-costs}
 use Rattle.sg_block_map.proofs.block_map.BlockMapStore.unmap.Goals as goal
 
 -- no address is unmapped
@@ -31,17 +28,10 @@ returns-then-count-eq0-clause-keeps c =
     let was : Contents = slot_map s.table s.pool in
     sym (ap (unmapped was c.args.lba) c.if-count-eq0.true ∙ unmapped-none was c.args.lba)
 
-pub returns-then-count-eq0-clause-least : goal.returns-then-count-eq0-clause-least
-returns-then-count-eq0-clause-least c =
+pub returns-then-count-eq0-clause-costs : goal.returns-then-count-eq0-clause-costs
+returns-then-count-eq0-clause-costs c =
     let s = c.args.self.now in
-    let was : Contents = chained_contents s.table.records s.pool in
-    omega (arith, nothing-meets was c.args.lba c.args.count c.if-count-eq0.true)
-
-pub returns-then-count-eq0-clause-runs : goal.returns-then-count-eq0-clause-runs
-returns-then-count-eq0-clause-runs c =
-    let s = c.args.self.now in
-    nothing-runs (chained_contents s.table.records s.pool) c.args.lba c.args.count
-    (meter_at s.table s.pool)
+    nothing-costs (disk_of s) c.args.lba c.args.count (meter_at s.table s.pool) c.if-count-eq0.true
 
 pub gather-requires-clause-fits : goal.gather-requires-clause-fits
 gather-requires-clause-fits c = let s = c.args.self.now in
@@ -105,60 +95,13 @@ returns-clause-keeps c =
     ∙ ap (unmapped (contents_of (expanded s.pool.next s.table.records) numbers) lba)
     (omega (arith, c.from.ensures)))
 
-pub returns-clause-cost : goal.returns-clause-cost
-returns-clause-cost c =
+pub returns-clause-costs : goal.returns-clause-costs
+returns-clause-costs c =
     let s = c.args.self.now in
-    let lba = c.args.lba in
-    let blocks = gathered-blocks s.table.records c.gather.new.gathered s.pool s.table.room lba
-    (lba + c.args.count)
-    (MAX_CAPACITY + 1) s.runs c.gather.ensures.gathered in
     let e = c.gather.ensures in
     let pool = c.unmap_runs.new.pool in
-    subst (λ (m : Meter). Costs s.table.room (meter_at s.table s.pool) m)
+    subst (λ (m : Meter). CostsRange (disk_of s) c.args.lba c.args.count (meter_at s.table s.pool) m)
     (sym (ap (λ t. meter_at t pool) c.unmap_runs.ensures.table))
-    (gathered-costs s.table.records s.pool pool s.table.room lba c.args.count s.table
-    c.gather.new.table s.runs refl
-    e.table e.rise e.halving (omega (arith, e.least)) s.pool_fits c.unmap_runs.ensures.rise
-    (omega (arith, blocks, c.unmap_runs.ensures.links)))
-
-pub returns-clause-price : goal.returns-clause-price
-returns-clause-price c =
-    let s = c.args.self.now in
-    let e = c.gather.ensures in
-    let total = ap (λ (t : Table). t.total) c.unmap_runs.ensures.table in
-    omega (
-      arith,
-      total,
-      gathered-price s.table.records s.pool s.pool s.table.room c.args.lba c.args.count s.table
-          c.gather.new.table
-          s.runs refl e.table e.rise e.halving (omega (arith, e.least)) e.most,
-    )
-
-pub returns-clause-least : goal.returns-clause-least
-returns-clause-least c =
-    let s = c.args.self.now in
-    let total = ap (λ (t : Table). t.total) c.unmap_runs.ensures.table in
-    omega (
-      arith,
-      total,
-      c.gather.ensures.least,
-      gathered-meet s.table.records s.pool s.table.room c.gather.new.gathered
-          c.args.lba c.args.count s.runs c.gather.ensures.gathered,
-    )
-
-pub returns-clause-runs : goal.returns-clause-runs
-returns-clause-runs c =
-    let s = c.args.self.now in
-    let lba = c.args.lba in
-    let count = c.args.count in
-    let near = gathered-near s.table.records s.pool s.table.room c.gather.new.gathered lba count
-    s.runs c.gather.ensures.gathered in
-    let e = c.gather.ensures in
-    let pool = c.unmap_runs.new.pool in
-    subst (λ (m : Meter). CostsRuns (chained_contents s.table.records s.pool) lba count
-    (meter_at s.table s.pool) m)
-    (sym (ap (λ t. meter_at t pool) c.unmap_runs.ensures.table))
-    (gathered-runs s.table.records s.pool pool s.table.room lba count s.table c.gather.new.table
-    s.runs refl
-    e.table e.rise e.halving (omega (arith, e.least))
-    (omega (arith, near, c.unmap_runs.ensures.links)))
+    (gathered-range s.table c.gather.new.table s.pool pool s.capacity c.args.lba c.args.count
+    c.gather.new.gathered s.runs e.gathered s.pool_fits e.table e.rise e.halving e.least e.most
+    c.unmap_runs.ensures.rise c.unmap_runs.ensures.links)
