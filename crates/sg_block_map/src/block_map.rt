@@ -5,7 +5,7 @@ ghost use Rattle.sg_blocks.specs.Disk.{IsWellFormed, IsOverfull, blocks};
 ghost use Rattle.sg_blocks.specs.Disk.{disk_replaced, disk_written, disk_filled, disk_unmapped};
 ghost use Rattle.sg_blocks.specs.Disk.{unmapped};
 ghost use Rattle.sg_blocks.specs.LbaStatus.{lba_status, covered, status_data};
-ghost use Rattle.sg_blocks.specs.Meter.{HasHeadroom};
+ghost use Rattle.sg_blocks.specs.Meter.{HasHeadroom, restarted};
 ghost use Rattle.sg_wire.specs.Cut.{Puts};
 ghost use Rattle.sg_block_map.specs.MaximalRuns.{runs};
 ghost use Rattle.sg_block_map.specs.RunCost.{block_price, block_least, CostsRange};
@@ -255,7 +255,11 @@ impl Store for BlockMap {
         }
     }
 
-    fn restart_counts(&mut self) {
+    fn restart_counts(&mut self)
+        ensures disk { disk_of self.new ≡ disk_of self.old }
+        ensures meter { meter_of self.new ≡ restarted (meter_of self.old) }
+        ensures keeps { slots_by_address self.new ≡ slots_by_address self.old }
+    {
         self.table.restart_counts();
         self.pool.restart_links();
     }

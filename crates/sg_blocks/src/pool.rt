@@ -79,6 +79,7 @@ impl Pool {
     pub fn new(alloc: Global, count: u32) -> Result<Pool, AllocError>
         requires { count ≤ MAX_POOL }
         ensures blocks { IfOk result (λ pool. length pool.blocks ≡ count) }
+        ensures zeros { IfOk result (λ pool. pool.blocks ≡ replicate count zero_block) }
         ensures free_count { IfOk result (λ pool. length pool.free ≡ count) }
         ensures free { IfOk result (λ pool. IsEachOnce count pool.free) }
         ensures next { IfOk result (λ pool. length pool.next ≡ count) }
@@ -135,8 +136,11 @@ impl Pool {
         requires slot { slot < length self.old.blocks }
         requires used { occurrences slot self.old.free ≡ 0 }
         requires room { length self.old.free < MAX_POOL }
+
+        // Only the link of the slot changes.
         ensures free { self.new.free ≡ slot ∷ self.old.free }
-        ensures blocks { self.new.blocks ≡ self.old.blocks }
+        ensures next { self.new.next ≡ slice_set self.old.next slot (slice_index self.new.next slot) }
+        ensures pool { self.new ≡ record self.old { next = self.new.next; free = self.new.free } }
     {
         self.next[slot as usize] = self.first_free;
         self.first_free = slot;

@@ -5,4 +5,4 @@ use Rattle.sg_decode.proofs.print.print_reservation.Goals as goal
 pub returns : goal.returns
 returns g c =
     Sends-printed g.W.Write.contents _ _ _ _ _ _ _ _ c.requires c.new-out.ensures
-    c.put_reservation.ensures c.finish.ensures (λ e. search rules)
+    c.put_reservation.ensures c.finish.ensures.finishes (λ e. search rules)

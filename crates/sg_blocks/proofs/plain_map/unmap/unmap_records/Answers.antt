@@ -2,6 +2,7 @@ use Rattle.std.proofs.Common.{◌≡◌, ◌+◌, ◌-◌, ℕ, [], get_or, ap, 
 use Rattle.std.specs.List.{splice}
 use Rattle.std.specs.Prelude.{slice_index_or}
 use Rattle.sg_blocks.specs.Records.{contents_of}
+use Rattle.sg_blocks.specs.Slots.{Slots}
 use Rattle.sg_blocks.specs.Table.{Table, visited}
 use Rattle.sg_blocks.specs.declared.run.Run.{Run}
 use Rattle.sg_blocks.proofs.TableLemmas.{visited-more}
@@ -41,15 +42,16 @@ loop-index-preserved c =
     let index = c.loop-index.index in
     let run = c.visit-run.result in
     let at = read_of c.loop-index.table t _ index run inv.table c.visit-run.ensures.value in
+    let given = ap (λ (slots : Slots). slots.blocks) c.give.ensures.pool in
     let on : index - c.args.from + 1 ≡ index + 1 - c.args.from = omega arith in
     record {
       table = c.visit-run.ensures.table ∙ ap (λ t. visited t 1) inv.table
           ∙ visited-more t (index - c.args.from) 1 ∙ ap (visited t) on;
-      consistent = rw (c.give.ensures.blocks, c.give.ensures.free)
+      consistent = rw (given, c.give.ensures.free)
           (unmapped-consistent t.records c.args.from index run (omega arith)
           (omega (arith, c.requires.end.within)) at c.loop-index.pool.blocks
           c.loop-index.pool.free t.room inv.consistent);
-      blocks = c.give.ensures.blocks ∙ inv.blocks;
+      blocks = given ∙ inv.blocks;
     }
 
 pub returns-clause-contents : goal.returns-clause-contents

@@ -1,5 +1,5 @@
 use Rattle.std.proofs.Common.{◌∷◌, length, length-set, ap, ◌∙◌, arith}
-use Rattle.sg_blocks.specs.Slots.{Slots, occurrences, zero_padded}
+use Rattle.sg_blocks.specs.Slots.{Slots, occurrences}
 use Rattle.sg_blocks.proofs.ChainLemmas.{length-chain, chain-given, given-below}
 use Rattle.sg_blocks.proofs.PoolLemmas.{length-padded}
 use Rattle.sg_blocks.proofs.pool.Pool.give.Goals as goal
@@ -44,9 +44,3 @@ returns-clause-free c =
     chain-given p.next.items slot p.first_free p.free_count
     (omega (arith, low, len, c.requires.slot)) none
     ∙ ap (λ (s : Slots). slot ∷ s.free) c.self.view_is
-
-pub returns-clause-blocks : goal.returns-clause-blocks
-returns-clause-blocks c =
-    let p = c.self.inside in
-    ap (zero_padded p.blocks.items) (length-set p.next.items c.args.slot p.first_free)
-    ∙ ap (λ (s : Slots). s.blocks) c.self.view_is

@@ -1,7 +1,10 @@
-use Rattle.std.proofs.Common.{length, ap, ◌∙◌, arith}
+use Rattle.std.proofs.Common.{◌≡◌, ◌-◌, length, replicate, ap, ◌∙◌, arith}
+use Rattle.std.proofs.lemmas.List.{nil_from_length}
 use Rattle.std.proofs.lemmas.List.FromFn.{length-range_with_len}
 use Rattle.sg_blocks.proofs.ChainLemmas.{length-chain, chain-range, range-below}
 use Rattle.sg_blocks.proofs.OccurrenceLemmas.{once-range}
+use Rattle.sg_blocks.specs.Disk.{zero_block}
+use Rattle.sg_blocks.specs.Slots.{zero_padded}
 use Rattle.sg_blocks.proofs.PoolLemmas.{length-padded}
 use Rattle.sg_blocks.proofs.pool.Pool.new.Goals as goal
 
@@ -29,7 +32,24 @@ returns-clause-next c = rw c.in_ok-links.ensures (length-range_with_len 1 c.args
 pub returns-clause-blocks : goal.returns-clause-blocks
 returns-clause-blocks c =
     let len = length-range_with_len 1 c.args.count in
+    let listed = ap length c.in_ok-links.ensures in
+    length-padded c.in_ok-with_capacity.field-0.items (length c.in_ok-links.field-0.items) (omega (
+      arith,
+      c.in_ok-with_capacity.ensures.len,
+      c.in_ok-with_capacity.field-0.ok.0,
+      listed,
+      len,
+    ))
+    ∙ listed ∙ len
+
+-- no block was set
+pub returns-clause-zeros : goal.returns-clause-zeros
+returns-clause-zeros c =
+    let none = nil_from_length c.in_ok-with_capacity.field-0.items
+    (omega (arith, c.in_ok-with_capacity.ensures.len, c.in_ok-with_capacity.field-0.ok.0)) in
+    let len = length-range_with_len 1 c.args.count in
     let listed = c.in_ok-links.ensures in
-    length-padded c.in_ok-with_capacity.field-0.items (length c.in_ok-links.field-0.items)
-    (omega (arith, c.in_ok-with_capacity.ensures.len, c.in_ok-with_capacity.field-0.ok.0))
-    ∙ ap length listed ∙ len
+    let all : length c.in_ok-links.field-0.items - 0 ≡ c.args.count =
+    omega (arith, ap length listed, len) in
+    ap (λ xs. zero_padded xs (length c.in_ok-links.field-0.items)) none
+    ∙ ap (λ n. replicate n zero_block) all
