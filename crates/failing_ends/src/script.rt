@@ -1,0 +1,111 @@
+// The scripts, with what they print.
+use std::alloc::{AllocError, Global};
+use std::fmt::Write;
+
+/// A line of a script, and what it prints after its number: nothing where that is empty.
+type Exchange = (&'static [u8], &'static str);
+
+const POWER_ON: &str = "CHECK CONDITION\n  sense: UNIT ATTENTION, 29h/00h\n";
+
+/// TEST UNIT READY comes from one initiator after the other.
+const LINES: [Exchange; 7] = [
+    (b"raw 0 000000000000", POWER_ON),
+    (b"# prints nothing", ""),
+    (b"raw 1 000000000000\r", POWER_ON),
+    (b"", ""),
+    (b"raw 2 000000000000 zz", "hex\n"),
+    (b"raw 3 120000000500", "GOOD\n  00000000  00 00 06 02 1f\n"),
+    (b"raw 2 000000000000", POWER_ON),
+];
+
+const STATUS: u8 = 6;
+
+/// The lines' script and its text.
+#[derive(Drop)]
+pub(crate) struct Script {
+    pub(crate) bytes: Vec<u8>,
+    pub(crate) text: String,
+    /// The length of what the first lines print, for each count of lines from 0 on.
+    ends: Vec<usize>,
+}
+
+impl Script {
+    pub(crate) fn new(alloc: Global) -> Result<Script, AllocError> {
+        let mut bytes = Vec::new(alloc);
+        let mut text = String::new(alloc);
+        let mut ends = Vec::new(alloc);
+        ends.push(0)?;
+        for (index, (line, printed)) in LINES.iter().enumerate() {
+            bytes.extend_from_slice(line)?;
+            bytes.push(b'\n')?;
+            let number = index.saturating_add(1);
+            if !printed.is_empty() {
+                write!(text, "line {number}: {printed}")?;
+            }
+            ends.push(text.len())?;
+        }
+        Ok(Script { bytes, text, ends })
+    }
+
+    pub(crate) fn whole(&self) -> WholeScript<'_> {
+        let text = self.text.as_str();
+        (&self.bytes, text, STATUS, sent_by(LINES.len()))
+    }
+
+    /// How many lines are whole in the first bytes.
+    pub(crate) fn lines_in(&self, bytes: usize) -> usize {
+        let bytes = &self.bytes[..bytes.min(self.bytes.len())];
+        bytes.iter().filter(|byte| **byte == b'\n').count()
+    }
+
+    /// How many lines are executed where the first bytes of the text, and no more, are written: the
+    /// last one is that of the byte after them.
+    pub(crate) fn lines_written_in(&self, bytes: usize) -> usize {
+        self.ends.iter().filter(|end| **end <= bytes).count()
+    }
+
+    /// What the first lines print.
+    pub(crate) fn text_of(&self, lines: usize) -> &[u8] {
+        let text = self.text.as_bytes();
+        let end = self.ends.get(lines).copied().unwrap_or(text.len());
+        &text[..end.min(text.len())]
+    }
+}
+
+/// How many of the first lines report a unit attention.
+pub(crate) fn sent_by(lines: usize) -> usize {
+    let lines = &LINES[..lines.min(LINES.len())];
+    let reports = lines.iter().filter(|(_, printed)| *printed == POWER_ON);
+    reports.count()
+}
+
+const POWER_ON_1: &str = "line 1: CHECK CONDITION\n  sense: UNIT ATTENTION, 29h/00h\n";
+
+/// A script, what it prints, its status, and from how many initiators it sends commands.
+pub(crate) type WholeScript<'a> = (&'a [u8], &'a str, u8, usize);
+
+/// Scripts that end in each way.
+pub(crate) const SCRIPTS: [WholeScript<'static>; 9] = [
+    (b"", "", 0, 0),
+    (b"\n", "", 0, 0),
+    (b"\n\n\n", "", 0, 0),
+    (b"\r", "", 0, 0),
+    (b"\nx", "line 2: unknown verb\n", 1, 0),
+    (b"raw 0 000000000000", POWER_ON_1, 6, 1),
+    (b"raw 0 000000000000\r", POWER_ON_1, 6, 1),
+    (
+        b"raw 0 120000000500\nraw 0 000000000000",
+        "line 1: GOOD\n  00000000  00 00 06 02 1f\n\
+         line 2: CHECK CONDITION\n  sense: UNIT ATTENTION, 29h/00h\n",
+        6,
+        1,
+    ),
+    (
+        b"raw 0 120000000500\r\nraw 0 000000000000\nraw 0 000000000000\r",
+        "line 1: GOOD\n  00000000  00 00 06 02 1f\n\
+         line 2: CHECK CONDITION\n  sense: UNIT ATTENTION, 29h/00h\n\
+         line 3: GOOD\n",
+        6,
+        1,
+    ),
+];
