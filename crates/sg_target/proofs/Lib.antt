@@ -13,3 +13,4 @@ pub mod SenseLemmas
 pub mod StatusLemmas
 pub mod StepLemmas
 pub mod UnmapLemmas
+pub mod UnseenLemmas

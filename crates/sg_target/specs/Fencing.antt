@@ -1,7 +1,8 @@
 -- Fencing: what others can do to the initiator that holds a reservation of a type that nobody
 -- shares.
-use Rattle.std.specs.Prelude.{◌≡◌, ℕ, ◌==◌, Bool, true, false, ◌&&◌, ◌||◌, not, List, filter, map}
-use Rattle.std.specs.Prelude.{slice_get, take, Option, Some, Result, Ok}
+use Rattle.std.specs.Prelude.{◌≡◌, ◌≤◌, ℕ, ◌==◌, Bool, true, false, ◌&&◌, ◌||◌, not, List, filter}
+use Rattle.std.specs.Prelude.{map, slice_get, take, Option, Some, Result, Ok}
+use Rattle.std.specs.FinMap.{len}
 use Rattle.std.specs.List.{zip}
 use Rattle.sg_wire.specs.Layout.{class_of, command_of}
 use Rattle.sg_wire.specs.declared.command.CdbFault.{CdbFault}
@@ -9,7 +10,7 @@ use Rattle.sg_wire.specs.declared.command.Class.TheVariants.{Reads, Writes}
 use Rattle.sg_wire.specs.declared.command.Command.{Command}
 use Rattle.sg_wire.specs.declared.command.Command.TheVariants.{PersistentReserveIn}
 use Rattle.sg_wire.specs.declared.command.Command.TheVariants.{PersistentReserveOut}
-use Rattle.sg_blocks.specs.Disk.{Disk}
+use Rattle.sg_blocks.specs.Disk.{Contents, Disk}
 use Rattle.sg_pages.specs.ModePage.{ModeState}
 use Rattle.sg_units.specs.Attentions.{pending_for}
 use Rattle.sg_units.specs.Registrations.{key_of}
@@ -19,6 +20,7 @@ use Rattle.sg_units.specs.declared.types.ReservationType.{ReservationType}
 use Rattle.sg_units.specs.declared.types.ReservationType.TheVariants.{WriteExclusive}
 use Rattle.sg_units.specs.declared.types.ReservationType.TheVariants.{ExclusiveAccess}
 use Rattle.sg_units.specs.declared.unit_attention.UnitAttention.{UnitAttention}
+use Rattle.sg_target.specs.Effect.{with_contents}
 use Rattle.sg_target.specs.Runs.{answers, state_after_all}
 use Rattle.sg_target.specs.State.{IsWithinLimits, State}
 use Rattle.sg_target.specs.Step.{Answer, Step, step}
@@ -98,6 +100,16 @@ OthersAreShutOut =
     (state : State) (holder other : ℕ) (cdb data_out : List ℕ) → IsWithinLimits state
     → (other ≡ holder → ⊥) → holds_alone state holder ≡ true
     → IsShutOut state holder other cdb data_out
+
+-- Under exclusive access the answer to a command of another initiator is the same whatever the
+-- blocks are, and whichever are mapped. So it is for each command, of whichever class.
+abbrev pub OthersSeeNoBlock : Type 0
+OthersSeeNoBlock =
+    (state : State) (contents : Contents) (holder other : ℕ) (cdb data_out : List ℕ)
+    → IsWithinLimits state → len contents ≤ state.disk.pool
+    → (other ≡ holder → ⊥) → holds_type state holder ExclusiveAccess ≡ true
+    → (step (with_contents state contents) other cdb data_out).answer
+    ≡ (step state other cdb data_out).answer
 
 -- ---- Lists of commands
 

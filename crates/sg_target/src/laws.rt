@@ -1,6 +1,7 @@
 //! Laws of the definitions: each is the contract of a function that does nothing.
 ghost use Rattle.sg_target.specs.Fencing.{EqualViewsEndAlike, HolderIsAsIfAlone};
 ghost use Rattle.sg_target.specs.Fencing.{OthersAreShutOut, OthersLeaveTheView, OthersReadNothing};
+ghost use Rattle.sg_target.specs.Fencing.{OthersSeeNoBlock};
 ghost use Rattle.sg_target.specs.Laws.{ConflictChangesNothing, OnlyWritesChangeBlocks};
 ghost use Rattle.sg_target.specs.Laws.{RefusedByReservation, RefusedChangesNothing};
 ghost use Rattle.sg_target.specs.Laws.{RefusedReturnsNothing};
@@ -51,6 +52,12 @@ pub fn equal_views_of_a_holder_end_alike()
 /// under exclusive access none that reads.
 pub fn others_are_shut_out()
     ensures { OthersAreShutOut }
+{}
+
+/// Where an initiator holds an exclusive access reservation, the answer to a command of another is
+/// the same whatever the blocks are, and whichever are mapped.
+pub fn others_see_no_block()
+    ensures { OthersSeeNoBlock }
 {}
 
 /// Over a list of commands, where an initiator holds such a reservation before and after each: its
