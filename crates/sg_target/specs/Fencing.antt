@@ -13,6 +13,7 @@ use Rattle.sg_wire.specs.declared.command.Command.TheVariants.{PersistentReserve
 use Rattle.sg_blocks.specs.Disk.{Contents, Disk}
 use Rattle.sg_pages.specs.ModePage.{ModeState}
 use Rattle.sg_units.specs.Attentions.{pending_for}
+use Rattle.sg_units.specs.Laws.{ends_for_others}
 use Rattle.sg_units.specs.Registrations.{key_of}
 use Rattle.sg_units.specs.Reservations.{has_type, is_holder}
 use Rattle.sg_units.specs.declared.reservation.Reservation.{Reservation}
@@ -100,6 +101,19 @@ OthersAreShutOut =
     (state : State) (holder other : ℕ) (cdb data_out : List ℕ) → IsWithinLimits state
     → (other ≡ holder → ⊥) → holds_alone state holder ≡ true
     → IsShutOut state holder other cdb data_out
+
+-- PERSISTENT RESERVE OUT with CLEAR, PREEMPT or PREEMPT AND ABORT.
+abbrev pub can_end_for_others : Result Command CdbFault → Bool
+can_end_for_others (Ok (PersistentReserveOut action scope_type n)) = ends_for_others action
+can_end_for_others _ = false
+
+-- No other command of another initiator ends the reservation.
+abbrev pub OnlyPreemptionEnds : Type 0
+OnlyPreemptionEnds =
+    (state : State) (holder other : ℕ) (cdb data_out : List ℕ) → IsWithinLimits state
+    → (other ≡ holder → ⊥) → holds_alone state holder ≡ true
+    → can_end_for_others (command_of cdb) ≡ false
+    → holds_alone (step state other cdb data_out).state holder ≡ true
 
 -- Under exclusive access the answer to a command of another initiator is the same whatever the
 -- blocks are, and whichever are mapped. So it is for each command, of whichever class.

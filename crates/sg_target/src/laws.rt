@@ -1,7 +1,7 @@
 //! Laws of the definitions: each is the contract of a function that does nothing.
 ghost use Rattle.sg_target.specs.Fencing.{EqualViewsEndAlike, HolderIsAsIfAlone};
 ghost use Rattle.sg_target.specs.Fencing.{OthersAreShutOut, OthersLeaveTheView, OthersReadNothing};
-ghost use Rattle.sg_target.specs.Fencing.{OthersSeeNoBlock};
+ghost use Rattle.sg_target.specs.Fencing.{OnlyPreemptionEnds, OthersSeeNoBlock};
 ghost use Rattle.sg_target.specs.Laws.{ConflictChangesNothing, OnlyWritesChangeBlocks};
 ghost use Rattle.sg_target.specs.Laws.{RefusedByReservation, RefusedChangesNothing};
 ghost use Rattle.sg_target.specs.Laws.{RefusedReturnsNothing};
@@ -39,6 +39,12 @@ pub fn refused_by_reservation()
 /// its unit attentions, its reservation key and the reservation.
 pub fn others_leave_the_view_of_a_holder()
     ensures { OthersLeaveTheView }
+{}
+
+/// Of the commands of other initiators only PERSISTENT RESERVE OUT with CLEAR, PREEMPT or PREEMPT
+/// AND ABORT ends such a reservation.
+pub fn only_preemption_ends_a_reservation()
+    ensures { OnlyPreemptionEnds }
 {}
 
 /// Where an initiator that holds such a reservation has equal views in two states of one disk, a
