@@ -86,13 +86,13 @@ ResultsAlike shows i (Ok first) (Err second) = ⊥
 ResultsAlike shows i (Err first) (Ok second) = ⊥
 
 -- The columns of a command but for its effect.
-record SameColumns (first second : Semantics) : Type 0 where
-  unsupported : first.unsupported ≡ second.unsupported
-  data_out_length : first.data_out_length ≡ second.data_out_length
-  extents : first.extents ≡ second.extents
-  writes_medium : first.writes_medium ≡ second.writes_medium
+pub record SameColumns (first second : Semantics) : Type 0 where
+  pub unsupported : first.unsupported ≡ second.unsupported
+  pub data_out_length : first.data_out_length ≡ second.data_out_length
+  pub extents : first.extents ≡ second.extents
+  pub writes_medium : first.writes_medium ≡ second.writes_medium
 
-all-same : (first second : Semantics) → first.unsupported ≡ second.unsupported
+pub all-same : (first second : Semantics) → first.unsupported ≡ second.unsupported
     → first.data_out_length ≡ second.data_out_length → first.extents ≡ second.extents
     → first.writes_medium ≡ second.writes_medium → SameColumns first second
 all-same first second a b c d =

@@ -113,6 +113,10 @@ held-in (Some reservation) rs i n h =
       unshared = parts.unshared;
     }
 
+pub or_right : (a b : Bool) → b ≡ true → (a || b) ≡ true
+or_right true b h = refl
+or_right false b h = h
+
 pub alone : (state : State) (i : ℕ) → IsWithinLimits state → holds_alone state i ≡ true
     → HoldsAlone state.reservations i
 alone state i w h =

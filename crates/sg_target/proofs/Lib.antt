@@ -10,6 +10,8 @@ pub mod OwnLemmas
 pub mod RangeLemmas
 pub mod RunLemmas
 pub mod SenseLemmas
+pub mod StandingLemmas
 pub mod StatusLemmas
 pub mod StepLemmas
 pub mod UnmapLemmas
+pub mod UnseenLemmas

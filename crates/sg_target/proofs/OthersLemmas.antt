@@ -221,7 +221,7 @@ module _ (state : State) (i j : ℕ) (other : j ≡ i → ⊥) (h : HoldsAlone s
   no_conflict None None (Some x) d e f h k = cc
 
   -- a command that has passed the checks of its CDB is of a class that is allowed
-  passed-is-allowed : (cdb : List ℕ) (class : Class) → first_some (cdb_checks state j cdb) ≡ None
+  pub passed-is-allowed : (cdb : List ℕ) (class : Class) → first_some (cdb_checks state j cdb) ≡ None
       → class_of cdb ≡ Some class → allows state.reservations j class ≡ false → ⊥
   passed-is-allowed cdb class passed is refused =
       no_conflict (empty_cdb (command_of cdb)) (pending_attention state j cdb)

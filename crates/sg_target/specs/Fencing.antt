@@ -1,7 +1,8 @@
 -- Fencing: what others can do to the initiator that holds a reservation of a type that nobody
 -- shares.
-use Rattle.std.specs.Prelude.{◌≡◌, ℕ, ◌==◌, Bool, true, false, ◌&&◌, ◌||◌, not, List, filter, map}
-use Rattle.std.specs.Prelude.{slice_get, take, Option, Some, Result, Ok}
+use Rattle.std.specs.Prelude.{◌≡◌, ◌≤◌, ℕ, ◌==◌, Bool, true, false, ◌&&◌, ◌||◌, not, List, filter}
+use Rattle.std.specs.Prelude.{map, slice_get, take, Option, Some, Result, Ok}
+use Rattle.std.specs.FinMap.{len}
 use Rattle.std.specs.List.{zip}
 use Rattle.sg_wire.specs.Layout.{class_of, command_of}
 use Rattle.sg_wire.specs.declared.command.CdbFault.{CdbFault}
@@ -9,9 +10,10 @@ use Rattle.sg_wire.specs.declared.command.Class.TheVariants.{Reads, Writes}
 use Rattle.sg_wire.specs.declared.command.Command.{Command}
 use Rattle.sg_wire.specs.declared.command.Command.TheVariants.{PersistentReserveIn}
 use Rattle.sg_wire.specs.declared.command.Command.TheVariants.{PersistentReserveOut}
-use Rattle.sg_blocks.specs.Disk.{Disk}
+use Rattle.sg_blocks.specs.Disk.{Contents, Disk}
 use Rattle.sg_pages.specs.ModePage.{ModeState}
 use Rattle.sg_units.specs.Attentions.{pending_for}
+use Rattle.sg_units.specs.Laws.{ends_for_others}
 use Rattle.sg_units.specs.Registrations.{key_of}
 use Rattle.sg_units.specs.Reservations.{has_type, is_holder}
 use Rattle.sg_units.specs.declared.reservation.Reservation.{Reservation}
@@ -19,6 +21,7 @@ use Rattle.sg_units.specs.declared.types.ReservationType.{ReservationType}
 use Rattle.sg_units.specs.declared.types.ReservationType.TheVariants.{WriteExclusive}
 use Rattle.sg_units.specs.declared.types.ReservationType.TheVariants.{ExclusiveAccess}
 use Rattle.sg_units.specs.declared.unit_attention.UnitAttention.{UnitAttention}
+use Rattle.sg_target.specs.Effect.{with_contents}
 use Rattle.sg_target.specs.Runs.{answers, state_after_all}
 use Rattle.sg_target.specs.State.{IsWithinLimits, State}
 use Rattle.sg_target.specs.Step.{Answer, Step, step}
@@ -98,6 +101,29 @@ OthersAreShutOut =
     (state : State) (holder other : ℕ) (cdb data_out : List ℕ) → IsWithinLimits state
     → (other ≡ holder → ⊥) → holds_alone state holder ≡ true
     → IsShutOut state holder other cdb data_out
+
+-- PERSISTENT RESERVE OUT with CLEAR, PREEMPT or PREEMPT AND ABORT.
+abbrev pub can_end_for_others : Result Command CdbFault → Bool
+can_end_for_others (Ok (PersistentReserveOut action scope_type n)) = ends_for_others action
+can_end_for_others _ = false
+
+-- No other command of another initiator ends the reservation.
+abbrev pub OnlyPreemptionEnds : Type 0
+OnlyPreemptionEnds =
+    (state : State) (holder other : ℕ) (cdb data_out : List ℕ) → IsWithinLimits state
+    → (other ≡ holder → ⊥) → holds_alone state holder ≡ true
+    → can_end_for_others (command_of cdb) ≡ false
+    → holds_alone (step state other cdb data_out).state holder ≡ true
+
+-- Under exclusive access the answer to a command of another initiator is the same whatever the
+-- blocks are, and whichever are mapped. So it is for each command, of whichever class.
+abbrev pub OthersSeeNoBlock : Type 0
+OthersSeeNoBlock =
+    (state : State) (contents : Contents) (holder other : ℕ) (cdb data_out : List ℕ)
+    → IsWithinLimits state → len contents ≤ state.disk.pool
+    → (other ≡ holder → ⊥) → holds_type state holder ExclusiveAccess ≡ true
+    → (step (with_contents state contents) other cdb data_out).answer
+    ≡ (step state other cdb data_out).answer
 
 -- ---- Lists of commands
 

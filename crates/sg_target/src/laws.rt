@@ -1,6 +1,7 @@
 //! Laws of the definitions: each is the contract of a function that does nothing.
 ghost use Rattle.sg_target.specs.Fencing.{EqualViewsEndAlike, HolderIsAsIfAlone};
 ghost use Rattle.sg_target.specs.Fencing.{OthersAreShutOut, OthersLeaveTheView, OthersReadNothing};
+ghost use Rattle.sg_target.specs.Fencing.{OnlyPreemptionEnds, OthersSeeNoBlock};
 ghost use Rattle.sg_target.specs.Laws.{ConflictChangesNothing, OnlyWritesChangeBlocks};
 ghost use Rattle.sg_target.specs.Laws.{RefusedByReservation, RefusedChangesNothing};
 ghost use Rattle.sg_target.specs.Laws.{RefusedReturnsNothing};
@@ -40,6 +41,12 @@ pub fn others_leave_the_view_of_a_holder()
     ensures { OthersLeaveTheView }
 {}
 
+/// Of the commands of other initiators only PERSISTENT RESERVE OUT with CLEAR, PREEMPT or PREEMPT
+/// AND ABORT ends such a reservation.
+pub fn only_preemption_ends_a_reservation()
+    ensures { OnlyPreemptionEnds }
+{}
+
 /// Where an initiator that holds such a reservation has equal views in two states of one disk, a
 /// command of it ends with equal views in both, and with equal answers, but to PERSISTENT RESERVE IN
 /// and PERSISTENT RESERVE OUT.
@@ -51,6 +58,12 @@ pub fn equal_views_of_a_holder_end_alike()
 /// under exclusive access none that reads.
 pub fn others_are_shut_out()
     ensures { OthersAreShutOut }
+{}
+
+/// Where an initiator holds an exclusive access reservation, the answer to a command of another is
+/// the same whatever the blocks are, and whichever are mapped.
+pub fn others_see_no_block()
+    ensures { OthersSeeNoBlock }
 {}
 
 /// Over a list of commands, where an initiator holds such a reservation before and after each: its

@@ -12,6 +12,7 @@ use Rattle.sg_wire.specs.declared.command.out_action.OutAction.TheVariants.{Rele
 use Rattle.sg_wire.specs.declared.command.out_action.OutAction.TheVariants.{PreemptAndAbort}
 use Rattle.sg_wire.specs.declared.command.out_action.OutAction.TheVariants.{}
 use Rattle.sg_wire.specs.declared.command.out_action.OutAction.TheVariants.{RegisterAndIgnoreExistingKey}
+use Rattle.sg_units.specs.Laws.{ends_for_others}
 use Rattle.sg_units.specs.OutList.{has_unsupported_flag}
 use Rattle.sg_units.specs.Registrations.{is_of, is_registered, is_registered_under, is_under}
 use Rattle.sg_units.specs.Registrations.{key_of}
@@ -286,3 +287,80 @@ module _ (all : List Registration) (kind : ReservationType) (generation i j : �
       choice P (has_unsupported_flag action list) _ _ (λ _. refused P (ListField 20))
       (λ _. choice P (not accepts) _ _ (λ _. refused P Conflict)
       (λ _. action_leaves action (type_of scope_type) list.service_action_key here other))
+
+-- ---- The command of another initiator that can't end the reservation
+
+-- i is registered, and the reservation is as it was
+pub record IsHeld (held : Option Reservation) (i : ℕ) (change : ReservationChange) : Type 0 where
+  pub here : is_registered change.registrations i ≡ true
+  pub reservation : change.reservation ≡ held
+
+stands : (held : Option Reservation) (i : ℕ) (change : ReservationChange)
+    → is_registered change.registrations i ≡ true → change.reservation ≡ held
+    → EffectIs (IsHeld held i) (Ok change)
+stands held i change here same =
+    effective (IsHeld held i) change (record { here = here; reservation = same })
+
+no_holder : (known b : Bool) → b ≡ false → not (known && b) ≡ false → ⊥
+no_holder true b h e = false≢true (sym e ∙ ap not h)
+no_holder false b h e = false≢true (sym e)
+
+module _ (all : List Registration) (kind : ReservationType) (generation i j : ℕ) where
+  abbrev H : ReservationChange → Type 0
+  H = IsHeld (held_alone kind i) i
+
+  register_holds : (sark : ℕ) → is_registered all i ≡ true → (j == i) ≡ false
+      → FirstIs H (register_cases (alone_in all kind i generation) j sark)
+  unfolding register_cases
+  register_holds sark here other =
+      let held = held_alone kind i in
+      let gone = key_of-without all i j other in
+      let left = stays_registered all (without_initiator all j) i gone here in
+      let pushed = stays_registered all (with_registration all j sark) i
+      (key_of-push all i j sark other) here in
+      let replaced = stays_registered all (with_key_replaced all j sark) i
+      (key_of-replaced all i j sark other) here in
+      case_or H _ _ (λ _. stands held i _ here refl)
+      (λ _. case_or H _ _ (λ _. refused H _)
+      (λ _. case_or H _ _ (λ _. stands held i _ pushed refl)
+      (λ _. case_or H _ _ (λ _. stands held i _ replaced refl)
+      (λ _. last_case H _ _ refl (stands held i _ left (while_held-alone kind i _ left))))))
+
+  reserve_holds : (new : ReservationType) → is_registered all i ≡ true
+      → FirstIs H (reserve_cases (alone_in all kind i generation) j new)
+  unfolding reserve_cases
+  reserve_holds new here =
+      case_or H _ _ (λ no. absurd (false≢true no))
+      (λ _. case_or H _ _ (λ _. stands (held_alone kind i) i _ here refl)
+      (λ _. last_case H _ _ refl (refused H _)))
+
+  release_holds : (new : ReservationType) → is_registered all i ≡ true → (j == i) ≡ false
+      → FirstIs H (release_cases (alone_in all kind i generation) j new)
+  unfolding release_cases
+  release_holds new here other =
+      case_or H _ _ (λ _. stands (held_alone kind i) i _ here refl)
+      (λ is. absurd (no_holder (is_registered all j) (j == i) other is))
+
+  action_holds : (action : OutAction) (type : Option ReservationType) (sark : ℕ)
+      → ends_for_others action ≡ false → is_registered all i ≡ true → (j == i) ≡ false
+      → EffectIs H (action_outcome (alone_in all kind i generation) j action type sark)
+  action_holds Register type sark mild here other = (register_holds sark here other).first
+  action_holds Reserve type sark mild here other =
+      typed H type _ (λ new. (reserve_holds new here).first)
+  action_holds Release type sark mild here other =
+      typed H type _ (λ new. (release_holds new here other).first)
+  action_holds RegisterAndIgnoreExistingKey type sark mild here other =
+      (register_holds sark here other).first
+  action_holds Clear type sark mild here other = absurd (false≢true (sym mild))
+  action_holds Preempt type sark mild here other = absurd (false≢true (sym mild))
+  action_holds PreemptAndAbort type sark mild here other = absurd (false≢true (sym mild))
+
+  pub outcome_holds : (action : OutAction) (scope_type : ℕ) (list : OutList)
+      → ends_for_others action ≡ false → is_registered all i ≡ true → (j == i) ≡ false
+      → EffectIs H (outcome (alone_in all kind i generation) j action scope_type list)
+  unfolding outcome
+  outcome_holds action scope_type list mild here other =
+      let accepts = accepts_key all j action list.reservation_key in
+      choice H (has_unsupported_flag action list) _ _ (λ _. refused H (ListField 20))
+      (λ _. choice H (not accepts) _ _ (λ _. refused H Conflict)
+      (λ _. action_holds action (type_of scope_type) list.service_action_key mild here other))

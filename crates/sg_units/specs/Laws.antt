@@ -1,8 +1,11 @@
 -- Laws of the definitions, in the words of the standard.
-use Rattle.std.specs.Prelude.{◌≡◌, ◌⊎◌, ◌<◌, ◌+◌, ◌%◌, ◌^◌, ℕ, ◌==◌, true, false}
+use Rattle.std.specs.Prelude.{◌≡◌, ◌⊎◌, ◌<◌, ◌+◌, ◌%◌, ◌^◌, ℕ, ◌==◌, Bool, true, false}
 use Rattle.std.specs.Prelude.{◌&&◌, ◌||◌, List, length, is_some}
 use Rattle.std.specs.Prelude.{Option, Some, None}
 use Rattle.sg_wire.specs.declared.command.Class.{Class}
+use Rattle.sg_wire.specs.declared.command.out_action.OutAction.{OutAction}
+use Rattle.sg_wire.specs.declared.command.out_action.OutAction.TheVariants.{Clear, Preempt}
+use Rattle.sg_wire.specs.declared.command.out_action.OutAction.TheVariants.{PreemptAndAbort}
 use Rattle.sg_wire.specs.declared.command.Class.TheVariants.{Reads, Writes}
 use Rattle.sg_units.specs.Access.{allows}
 use Rattle.sg_units.specs.Attentions.{Pending, pending_for, raised}
@@ -109,3 +112,12 @@ GenerationCountsChanges =
     (state : ReservationState) (caller : ℕ) (action : OutAction) (scope_type : ℕ) (list : OutList)
     → state.generation < 2 ^ 32
     → CountsChanges state (state_after state (outcome state caller action scope_type list))
+
+-- ---- The end of a reservation
+
+-- The service actions that can end the reservation of another initiator.
+abbrev pub ends_for_others : OutAction → Bool
+ends_for_others Clear = true
+ends_for_others Preempt = true
+ends_for_others PreemptAndAbort = true
+ends_for_others _ = false

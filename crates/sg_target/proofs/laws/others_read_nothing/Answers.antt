@@ -1,5 +1,5 @@
-use Rattle.std.proofs.Common.{◌≡◌, ℕ, zero, suc, Bool, true, false, ◌||◌, List, [], ◌∷◌, take, Some}
-use Rattle.std.proofs.Common.{refl, sym, ap, ◌∙◌}
+use Rattle.std.proofs.Common.{◌≡◌, ℕ, zero, suc, true, List, [], ◌∷◌, take, Some}
+use Rattle.std.proofs.Common.{sym, ap, ◌∙◌}
 use Rattle.std.specs.Prelude.{slice_get}
 use Rattle.sg_wire.specs.Layout.{class_of}
 use Rattle.sg_wire.specs.declared.command.Class.TheVariants.{Reads}
@@ -10,14 +10,10 @@ use Rattle.sg_target.specs.State.{IsWithinLimits, State}
 use Rattle.sg_target.specs.Step.{Answer}
 use Rattle.sg_target.specs.declared.call.Call.{Call}
 use Rattle.sg_target.specs.declared.reply.Status.TheVariants.{Good}
-use Rattle.sg_target.proofs.HolderLemmas.{alone, is-exclusive, refuses-others}
+use Rattle.sg_target.proofs.HolderLemmas.{alone, is-exclusive, or_right, refuses-others}
 use Rattle.sg_target.proofs.LimitLemmas.{step-within}
 use Rattle.sg_target.proofs.OthersLemmas.{shut-out}
 use Rattle.sg_target.proofs.laws.others_read_nothing.Goals as goal
-
-or_right : (a b : Bool) → b ≡ true → (a || b) ≡ true
-or_right true b h = refl
-or_right false b h = h
 
 not-first : (state : State) (holder : ℕ) (call : Call) → IsWithinLimits state
     → (call.initiator ≡ holder → ⊥) → class_of call.cdb.now ≡ Some Reads
