@@ -103,7 +103,8 @@ pub fn unmap_runs(
         ≡ unmapped (contents_of (expanded pool.old.next table.old.records) blocks)
         low (high - low) }
     ensures runs { AreRuns table.new.records pool.new table.new.room }
-    ensures table { table.new ≡ record table.old { records = table.new.records } }
+    ensures table { table.new
+        ≡ record table.old { records = table.new.records; moved = table.new.moved } }
     ensures blocks { pool.new.blocks ≡ pool.old.blocks }
     ensures draft { remaining.new.room ≡ remaining.old.room }
 

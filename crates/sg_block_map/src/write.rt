@@ -189,7 +189,8 @@ pub fn write_runs(
         ≡ replaced (chained_contents table.old.records pool.old) lba count (block_of source.now) }
     ensures runs { AreRuns table.new.records pool.new table.new.room }
     ensures keeps { KeepSlots pool.old.next table.old.records pool.new.next table.new.records }
-    ensures table { table.new ≡ record table.old { records = table.new.records } }
+    ensures table { table.new
+        ≡ record table.old { records = table.new.records; moved = table.new.moved } }
 
     // At most as many links are followed as the gathered runs have blocks.
     ensures rise { pool.old.links ≤ pool.new.links }

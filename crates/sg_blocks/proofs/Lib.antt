@@ -8,6 +8,11 @@ pub mod LinkLemmas
 pub mod HalvingLemmas
 pub mod RecordLemmas
 pub mod SpliceLemmas
+pub mod LeavesLemmas
+pub mod BalanceLemmas
+pub mod AppendLemmas
+pub mod CutLeavesLemmas
+pub mod PlaceLemmas
 pub mod TableLemmas
 pub mod CursorLemmas
 pub mod BlockLemmas

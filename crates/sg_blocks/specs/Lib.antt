@@ -11,6 +11,7 @@ pub mod Source
 pub mod Records
 pub mod Slots
 pub mod Chains
+pub mod Leaves
 pub mod Table
 pub mod Draft
 pub mod PlainMap

@@ -28,6 +28,13 @@ impl GhostNumber {
         GhostNumber {}
     }
 
+    pub fn increased(&self, count: usize) -> GhostNumber
+        ensures { result.value ≡ self.now.value + count }
+    {
+        let _ = count;
+        GhostNumber {}
+    }
+
     pub fn incremented(&self) -> GhostNumber
         ensures { result.value ≡ self.now.value + 1 }
     {

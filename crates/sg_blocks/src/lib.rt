@@ -8,6 +8,8 @@ pub mod draft;
 mod ghost_number;
 pub mod laws;
 pub mod lba_status;
+mod leaf;
+mod leaves;
 mod plain_map;
 pub mod pool;
 pub mod run;

@@ -2,9 +2,11 @@ ghost use Rattle.std.specs.Prelude.{◌≡◌, ◌+◌, ◌-◌, ◌*◌, ◌^�
 ghost use Rattle.sg_blocks.specs.Records.{start_of, IsSorted, IsLowerBound};
 ghost use Rattle.sg_blocks.specs.Meter.{probe_bound};
 ghost use Rattle.sg_blocks.specs.Table.{new_table, visited, probed, search_bound, restarted_table};
-ghost use Rattle.sg_blocks.specs.Table.{spliced, rotated_left, rotated_right};
+ghost use Rattle.sg_blocks.specs.Leaves.{move_bound};
+ghost use Rattle.sg_blocks.specs.Table.{spliced};
 
 use crate::ghost_number::GhostNumber;
+use crate::leaves::{Leaves, MIN_LEAF, splice};
 use crate::run::Run;
 use crate::store::MAX_POOL;
 use std::alloc::{AllocError, Global};
@@ -13,7 +15,7 @@ use std::marker::Model;
 /// The records of the map, sorted by their addresses. No record is read but by calls that count it.
 #[derive(Drop)]
 pub struct RunTable {
-    records: Vec<Run>,
+    leaves: Leaves,
     room: GhostNumber,
     visits: u64,
     probes: u64,
@@ -22,24 +24,28 @@ pub struct RunTable {
 }
 
 impl Model for RunTable {
-    ghost use Rattle.std.specs.Prelude.{◌≤◌, vec_len, vec_capacity};
+    ghost use Rattle.std.specs.Prelude.{◌+◌, ◌*◌, ◌≤◌, ◌<◌, length};
+    ghost use Rattle.sg_blocks.specs.Leaves.{AreBalanced, joined};
     ghost use Rattle.sg_blocks.specs.Table.{Table};
+    ghost use Rattle.sg_blocks.specs.declared.leaves.TheConstants.{MIN_LEAF};
     ghost use Rattle.sg_blocks.specs.declared.store.TheConstants.{MAX_POOL};
 
     ghost Value = { Table };
 
     ghost view = { λ t. record {
-      records = t.records.items;
+      records = joined t.leaves.leaves;
       room = t.room.value;
       visits = t.visits;
       probes = t.probes;
       total = t.total.value;
       restarts = t.restarts.value;
+      moved = t.leaves.moved;
     } };
 
     ghost invariant = { λ t.
-        (vec_len t.records ≤ t.room.value)
-        × (t.room.value ≤ vec_capacity t.records)
+        AreBalanced t.leaves.leaves
+        × (length (joined t.leaves.leaves) ≤ t.room.value)
+        × (t.room.value < MIN_LEAF * t.leaves.capacity)
         × (t.room.value ≤ MAX_POOL) };
 }
 
@@ -53,7 +59,7 @@ impl RunTable {
         ensures { IfOk result (λ table. table ≡ new_table room) }
     {
         Ok(RunTable {
-            records: Vec::with_capacity(alloc, room as usize)?,
+            leaves: Leaves::new(alloc, room as usize / MIN_LEAF + 1)?,
             room: GhostNumber::of(u64::from(room)),
             visits: 0,
             probes: 0,
@@ -68,7 +74,7 @@ impl RunTable {
         ensures room { result ≤ self.now.room }
         ensures table_size { result ≤ MAX_POOL }
     {
-        self.records.len()
+        self.leaves.count()
     }
 
     /// How many visits were counted since the last restart.
@@ -103,7 +109,7 @@ impl RunTable {
     {
         self.visits += 1;
         self.total = self.total.incremented();
-        self.records[index]
+        self.record(index)
     }
 
     /// The address of the record at an index, which counts as a probe.
@@ -114,7 +120,17 @@ impl RunTable {
         ensures table { self.new ≡ probed self.old 1 }
     {
         self.probes += 1;
-        self.records[index].start
+        self.record(index).start
+    }
+
+    /// The record at an index. The callers count it.
+    fn record(&mut self, index: usize) -> Run
+        requires { index < length self.old.records }
+        ensures value { slice_index_or self.old.records index result ≡ result }
+        ensures table { self.new ≡ self.old }
+    {
+        let place = self.leaves.locate(index);
+        self.leaves.record(place)
     }
 
     /// The index of the first record that is not before an address, found by binary search.
@@ -146,30 +162,12 @@ impl RunTable {
     pub fn splice(&mut self, from: usize, to: usize, runs: &[Run])
         requires range { (from ≤ to) × (to ≤ length self.old.records) }
         requires room { length self.old.records + length runs.now ≤ self.old.room + (to - from) }
-        ensures { self.new ≡ spliced self.old from to runs.now }
+        ensures table { self.new ≡ record (spliced self.old from to runs.now) { moved = self.new.moved } }
+
+        // How many records move does not depend on the size of the table.
+        ensures moves_rise { self.old.moved ≤ self.new.moved }
+        ensures moves { self.new.moved ≤ self.old.moved + move_bound + length runs.now }
     {
-        let left = self.count() - (to - from);
-        rotate_left(&mut self.records, from, to - from);
-        self.records.truncate(left);
-        let extended = self.records.extend_from_slice(runs);
-        prove!(extended.is_ok());
-        let _ = extended;
-        rotate_right(&mut self.records, from, runs.len());
+        splice(&mut self.leaves, from, to, runs);
     }
-}
-
-/// Moves the first `count` of the records from an index on to the end.
-fn rotate_left(records: &mut [Run], from: usize, count: usize)
-    requires { from + count ≤ length records.old }
-    ensures { records.new ≡ rotated_left records.old from count }
-{
-    records[from..].rotate_left(count);
-}
-
-/// Moves the last `count` records to an index.
-fn rotate_right(records: &mut [Run], from: usize, count: usize)
-    requires { from + count ≤ length records.old }
-    ensures { records.new ≡ rotated_right records.old from count }
-{
-    records[from..].rotate_right(count);
 }

@@ -20,11 +20,11 @@ pub fn unmap_records(
     requires ready { IsReady table.old pool.old from lba count }
     requires end { IsLowerBound table.old.records to (lba + count) }
 
-    // The addresses are unmapped, and the table changes by its records and its visits alone.
+    // The addresses are unmapped, and the table changes by its records, their moves and its visits alone.
     ensures contents { stored table.new pool.new ≡ unmapped (stored table.old pool.old) lba count }
     ensures consistent { IsConsistent table.new.records pool.new.blocks pool.new.free table.new.room }
-    ensures table { table.new
-        ≡ record (visited table.old (table.new.total - table.old.total)) { records = table.new.records } }
+    ensures table { let count = table.new.total - table.old.total in table.new
+        ≡ record (visited table.old count) { records = table.new.records; moved = table.new.moved } }
     ensures visits { VisitsRange (stored table.old pool.old) lba count table.old table.new }
 {
     for index in from..to {

@@ -81,12 +81,12 @@ pub fn write_blocks(
     requires free { count ≤ length pool.old.free + mapped_among (stored table.old pool.old) lba count }
     requires room { (count ≤ draft.old.room) × (draft.old.room ≡ table.old.room) }
 
-    // The blocks are written, and the table changes by its records and its visits alone.
+    // The blocks are written, and the table changes by its records, their moves and its visits alone.
     ensures contents { stored table.new pool.new
         ≡ replaced (stored table.old pool.old) lba count (block_of source.now) }
     ensures consistent { IsConsistent table.new.records pool.new.blocks pool.new.free table.new.room }
-    ensures table { table.new
-        ≡ record (visited table.old (table.new.total - table.old.total)) { records = table.new.records } }
+    ensures table { let count = table.new.total - table.old.total in table.new
+        ≡ record (visited table.old count) { records = table.new.records; moved = table.new.moved } }
     ensures room { draft.new.room ≡ draft.old.room }
     ensures visits { VisitsRange (stored table.old pool.old) lba count table.old table.new }
 {

@@ -241,7 +241,7 @@ returns-clause-contents c =
     omega (arith, c.loop-i-test.false, c.loop-i.auto.i-end, ap length c.records-runs.ensures) in
     let is : c.splice.new.self.records ≡ take gathered.from rs ++
     (kept ++ drop (gathered.from + length gathered.records) rs)
-    = ap (λ (t : Table). t.records) c.splice.ensures
+    = ap (λ (t : Table). t.records) c.splice.ensures.table
     ∙ rw (c.from-from.ensures, c.records.ensures, c.records-runs.ensures) refl in
     let now : splice rs c.from-from.result (c.from-from.result + c.loop-i.i) kept ≡
     take gathered.from rs ++ (kept ++ drop (gathered.from + length gathered.records) rs) =

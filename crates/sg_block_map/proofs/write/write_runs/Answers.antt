@@ -236,7 +236,7 @@ returns-clause-contents c =
     let writing = rw all at inv.writing in
     let some : 0 < done.count = omega (arith, writing.ends, inv.start, c.requires.not_empty) in
     let is : c.splice.new.self.records ≡ before ++ c.finish-run.result ∷ after =
-    ap (λ (t : Table). t.records) c.splice.ensures
+    ap (λ (t : Table). t.records) c.splice.ensures.table
     ∙ rw (c.from-from.ensures, c.records-runs.ensures) refl in
     let contents = rw all at inv.contents in
     ap (λ zs. chained_contents zs c.finish-run.new.pool) is
@@ -266,9 +266,9 @@ returns-clause-runs c =
     room c.loop-i.pool c.finish-run.new.pool writing inv.near c.finish-run.ensures some g.after
     (inv.length ∙ c.requires.runs.links) in
     let is : c.splice.new.self.records ≡ before ++ c.finish-run.result ∷ after =
-    ap (λ (t : Table). t.records) c.splice.ensures
+    ap (λ (t : Table). t.records) c.splice.ensures.table
     ∙ rw (c.from-from.ensures, c.records-runs.ensures) refl in
-    let same = ap (λ (t : Table). t.room) c.splice.ensures in
+    let same = ap (λ (t : Table). t.room) c.splice.ensures.table in
     rw (is, same) final
 
 pub returns-clause-keeps : goal.returns-clause-keeps
@@ -288,7 +288,7 @@ returns-clause-keeps c =
     let writing = rw all at inv.writing in
     let some : 0 < done.count = omega (arith, writing.ends, inv.start, c.requires.not_empty) in
     let is : c.splice.new.self.records ≡ before ++ c.finish-run.result ∷ after =
-    ap (λ (t : Table). t.records) c.splice.ensures
+    ap (λ (t : Table). t.records) c.splice.ensures.table
     ∙ rw (c.from-from.ensures, c.records-runs.ensures) refl in
     λ blocks q block f. ap (λ zs. map.get (contents_of
     (expanded c.finish-run.new.pool.next zs) blocks) q) is

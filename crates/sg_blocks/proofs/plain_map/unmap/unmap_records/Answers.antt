@@ -61,7 +61,7 @@ returns-clause-contents c =
     let ready = c.requires.ready in
     let mapped = mapped_among-indices t.records c.args.pool.now.blocks c.args.from c.args.lba
     c.args.count c.args.to ready.consistent.sorted ready.index c.requires.end in
-    let records = ap (λ (x : Table). x.records) c.splice.ensures
+    let records = ap (λ (x : Table). x.records) c.splice.ensures.table
     ∙ ap (λ (x : Table). splice x.records c.args.from c.args.to []) inv.table in
     ap₂ contents_of records inv.blocks
     ∙ contents-unmapped t.records c.args.pool.now.blocks c.args.from c.args.to c.args.lba
@@ -73,6 +73,6 @@ returns-clause-visits c =
     let ready = c.requires.ready in
     let mapped = mapped_among-indices t.records c.args.pool.now.blocks c.args.from c.args.lba
     c.args.count c.args.to ready.consistent.sorted ready.index c.requires.end in
-    let spliced = ap (λ (x : Table). x.total) c.splice.ensures in
+    let spliced = ap (λ (x : Table). x.total) c.splice.ensures.table in
     let visits = ap (λ (x : Table). x.total) c.loop-index.invariant.table in
     record { least = omega arith; price = omega arith }

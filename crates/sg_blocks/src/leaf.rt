@@ -1,0 +1,104 @@
+ghost use Rattle.std.specs.Prelude.{◌≡◌, ◌+◌, ◌-◌, ◌<◌, ◌≤◌, [], length, slice_index_or, IfOk};
+ghost use Rattle.std.specs.List.{splice};
+ghost use Rattle.sg_blocks.specs.Leaves.{rotated_left, rotated_right};
+
+use crate::run::Run;
+use std::alloc::{AllocError, Global};
+use std::marker::Model;
+
+/// The most records of a leaf.
+pub const MAX_LEAF: usize = 255;
+
+/// Some of the records of a table, in a row, in memory of their own.
+#[derive(Drop)]
+pub struct Leaf {
+    records: Vec<Run>,
+}
+
+impl Model for Leaf {
+    ghost use Rattle.std.specs.Prelude.{List, ◌≤◌, vec_len, vec_capacity};
+    ghost use Rattle.sg_blocks.specs.declared.leaf.TheConstants.{MAX_LEAF};
+    ghost use Rattle.sg_blocks.specs.declared.run.Run.{Run};
+
+    ghost Value = { List Run };
+
+    ghost view = { λ leaf. leaf.records.items };
+
+    ghost invariant = { λ leaf. (vec_len leaf.records ≤ MAX_LEAF) × (MAX_LEAF ≤ vec_capacity leaf.records) };
+}
+
+impl Leaf {
+    /// A leaf without records.
+    ///
+    /// # Errors
+    /// Memory was refused.
+    pub fn new(alloc: Global) -> Result<Leaf, AllocError>
+        ensures { IfOk result (λ leaf. leaf ≡ []) }
+    {
+        Ok(Leaf {
+            records: Vec::with_capacity(alloc, MAX_LEAF)?,
+        })
+    }
+
+    /// How many records there are.
+    pub fn len(&self) -> usize
+        ensures value { result ≡ length self.now }
+        ensures fits { result ≤ MAX_LEAF }
+    {
+        self.records.len()
+    }
+
+    /// The records.
+    pub fn records(&self) -> &[Run]
+        ensures value { result.now ≡ self.now }
+        ensures fits { length result.now ≤ MAX_LEAF }
+    {
+        &self.records
+    }
+
+    /// The record at an offset.
+    pub fn record(&self, offset: usize) -> Run
+        requires { offset < length self.now }
+        ensures { slice_index_or self.now offset result ≡ result }
+    {
+        self.records[offset]
+    }
+
+    /// Removes all records.
+    pub fn clear(&mut self)
+        ensures { self.new ≡ [] }
+    {
+        self.records.clear();
+    }
+
+    /// Replaces the records from one offset to another.
+    pub fn splice(&mut self, from: usize, to: usize, runs: &[Run])
+        requires range { (from ≤ to) × (to ≤ length self.old) }
+        requires room { length self.old + length runs.now ≤ MAX_LEAF + (to - from) }
+        ensures { self.new ≡ splice self.old from to runs.now }
+    {
+        let left = self.records.len() - (to - from);
+        rotate_left(&mut self.records, from, to - from);
+        self.records.truncate(left);
+        let extended = self.records.extend_from_slice(runs);
+        prove!(extended.is_ok());
+        let _ = extended;
+        rotate_right(&mut self.records, from, runs.len());
+    }
+}
+
+/// Moves the first `count` of the records from an index on to the end.
+fn rotate_left(records: &mut [Run], from: usize, count: usize)
+    requires { from + count ≤ length records.old }
+    ensures { records.new ≡ rotated_left records.old from count }
+{
+    records[from..].rotate_left(count);
+}
+
+/// Moves the last `count` records to an index.
+fn rotate_right(records: &mut [Run], from: usize, count: usize)
+    requires { from + count ≤ length records.old }
+    ensures { records.new ≡ rotated_right records.old from count }
+{
+    records[from..].rotate_right(count);
+}

@@ -1,0 +1,338 @@
+mod splicing;
+
+ghost use Rattle.std.specs.Prelude.{◌≡◌, ◌+◌, ◌-◌, ◌^◌, ◌<◌, ◌≤◌, [], ◌∷◌, ◌++◌, length, map};
+ghost use Rattle.std.specs.Prelude.{take, drop, insert, remove, slice_index_or, slice_set};
+ghost use Rattle.std.specs.Prelude.{vec_capacity, IfOk, IsTrue};
+ghost use Rattle.std.specs.List.{All};
+ghost use Rattle.std.specs.List.{splice as splice_list};
+ghost use Rattle.sg_blocks.specs.Leaves.{IsLeafOf, IsPlace, count_before, joined, leaf_at};
+
+use crate::ghost_number::GhostNumber;
+use crate::leaf::{Leaf, MAX_LEAF};
+use crate::run::Run;
+use arrayvec::ArrayVec;
+pub use splicing::splice;
+use std::alloc::{AllocError, Global};
+use std::marker::Model;
+
+/// The fewest records of a leaf, unless it is the only one.
+pub const MIN_LEAF: usize = 128;
+
+/// The most leaves of a table.
+pub const MAX_LEAVES: usize = 513;
+
+/// The most records of two leaves.
+pub const TWO_LEAVES: usize = 2 * MAX_LEAF;
+
+// How many indexes share a hint on where they are, and how many hints there are.
+const HINT_RECORDS: usize = 64;
+
+const HINTS: usize = 1024;
+
+/// A leaf, by its index among those in use, and an offset in it.
+#[derive(Clone, Copy)]
+pub struct Place {
+    pub leaf: usize,
+    pub offset: usize,
+}
+
+/// The records of a table in leaves, with a directory of where each leaf begins.
+#[derive(Drop)]
+pub struct Leaves {
+    /// The leaves in use, in order, and then the others.
+    leaves: Vec<Leaf>,
+    /// The index of the first record of each leaf in use, and the number of records.
+    starts: Vec<u32>,
+    /// The leaf that was found last, and those that were found last near other indexes.
+    recent: usize,
+    hints: Vec<u16>,
+    moved: GhostNumber,
+}
+
+impl Model for Leaves {
+    ghost use Rattle.std.specs.Prelude.{◌≡◌, ◌<◌, ◌≤◌, length, vec_capacity};
+    ghost use Rattle.sg_blocks.specs.Leaves.{LeafTable, IsDirectory, in_use};
+    ghost use Rattle.sg_blocks.specs.declared.leaves.TheConstants.{HINTS, MAX_LEAVES};
+
+    ghost Value = { LeafTable };
+
+    ghost view = { λ l. record {
+      leaves = in_use l.leaves.items l.starts.items;
+      capacity = length l.leaves.items;
+      moved = l.moved.value;
+    } };
+
+    ghost invariant = { λ l. IsDirectory l.leaves.items l.starts.items
+        × (length l.leaves.items < vec_capacity l.starts)
+        × (length l.leaves.items ≤ MAX_LEAVES)
+        × (length l.hints.items ≡ HINTS) };
+}
+
+/// `count` leaves without records.
+fn empty_leaves(alloc: Global, count: usize) -> Result<Vec<Leaf>, AllocError>
+    requires { count ≤ MAX_LEAVES }
+    ensures count { IfOk result (λ leaves. length leaves.items ≡ count) }
+    ensures empty { IfOk result (λ leaves. All (λ leaf. leaf ≡ []) leaves.items) }
+{
+    let mut leaves = Vec::with_capacity(alloc, count)?;
+    for _ in 0..count {
+        leaves.push(Leaf::new(alloc)?)?;
+    }
+    Ok(leaves)
+}
+
+/// The directory of one leaf without records, with room for `count` leaves.
+fn empty_directory(alloc: Global, count: usize) -> Result<Vec<u32>, AllocError>
+    requires { count ≤ MAX_LEAVES }
+    ensures starts { IfOk result (λ starts. starts.items ≡ 0 ∷ 0 ∷ []) }
+    ensures room { IfOk result (λ starts. count < vec_capacity starts) }
+{
+    let mut starts = Vec::with_capacity(alloc, count + 1)?;
+    starts.push(0)?;
+    starts.push(0)?;
+    Ok(starts)
+}
+
+/// Adds `more` to the numbers from an index on, and takes `less` off.
+fn shift(starts: &mut [u32], from: usize, less: u32, more: u32)
+    requires from { from ≤ length starts.old }
+    requires less { All (λ start. less ≤ start) (drop from starts.old) }
+    requires more { All (λ start. start - less + more < 2 ^ 32) (drop from starts.old) }
+    ensures { starts.new
+        ≡ take from starts.old ++ map (λ start. start - less + more) (drop from starts.old) }
+{
+    if less == more {
+        return;
+    }
+    for start in &mut starts[from..] {
+        *start = *start - less + more;
+    }
+}
+
+impl Leaves {
+    /// `count` leaves, of which one is in use, without records.
+    ///
+    /// # Errors
+    /// Memory was refused.
+    pub fn new(alloc: Global, count: usize) -> Result<Leaves, AllocError>
+        requires { (1 ≤ count) × (count ≤ MAX_LEAVES) }
+        ensures { IfOk result (λ l. l ≡ record { leaves = [] ∷ []; capacity = count; moved = 0 }) }
+    {
+        Ok(Leaves {
+            leaves: empty_leaves(alloc, count)?,
+            starts: empty_directory(alloc, count)?,
+            recent: 0,
+            hints: vec![in alloc; 0; HINTS]?,
+            moved: GhostNumber::zero(),
+        })
+    }
+
+    /// How many records there are.
+    pub fn count(&self) -> usize
+        ensures { result ≡ length (joined self.now.leaves) }
+    {
+        self.starts[self.starts.len() - 1] as usize
+    }
+
+    /// How many leaves are in use.
+    pub fn used(&self) -> usize
+        ensures value { result ≡ length self.now.leaves }
+        ensures not_empty { 0 < result }
+        ensures capacity { result ≤ self.now.capacity }
+    {
+        self.starts.len() - 1
+    }
+
+    /// How many records a leaf has.
+    pub fn len(&self, leaf: usize) -> usize
+        requires { leaf < length self.now.leaves }
+        ensures value { result ≡ length (leaf_at self.now.leaves leaf) }
+        ensures fits { result ≤ MAX_LEAF }
+        ensures used { length self.now.leaves ≤ MAX_LEAVES }
+    {
+        self.leaves[leaf].len()
+    }
+
+    /// The record at a place.
+    pub fn record(&self, place: Place) -> Run
+        requires leaf { place.leaf < length self.now.leaves }
+        requires offset { place.offset < length (leaf_at self.now.leaves place.leaf) }
+        ensures { slice_index_or (leaf_at self.now.leaves place.leaf) place.offset result ≡ result }
+    {
+        self.leaves[place.leaf].record(place.offset)
+    }
+
+    /// Whether the record at an index is in a leaf.
+    fn has(&self, leaf: usize, index: usize) -> bool
+        ensures { IsTrue result → (leaf < length self.now.leaves)
+            × (count_before self.now.leaves leaf ≤ index)
+            × (index < count_before self.now.leaves (leaf + 1)) }
+    {
+        if leaf >= self.used() {
+            return false;
+        }
+        let start = self.starts[leaf] as usize;
+        let end = self.starts[leaf + 1] as usize;
+        start <= index && index < end
+    }
+
+    /// The last leaf that begins at an index or before it, found by binary search.
+    #[inline(never)]
+    fn search(&self, index: usize) -> usize
+        requires { index ≤ length (joined self.now.leaves) }
+        ensures { IsLeafOf self.now.leaves index result }
+    {
+        let mut low = 0;
+        let mut count = self.used();
+        while 1 < count {
+            let half = count / 2;
+            count -= half;
+            if self.starts[low + half] as usize <= index {
+                low += half;
+            }
+        }
+        low
+    }
+
+    /// The leaf of the record at an index, or the last leaf. An earlier search has mostly found it.
+    fn find(&self, index: usize) -> usize
+        requires { index ≤ length (joined self.now.leaves) }
+        ensures { IsLeafOf self.now.leaves index result }
+    {
+        let hint = self.hints[index / HINT_RECORDS % HINTS] as usize;
+        if self.has(hint, index) {
+            return hint;
+        }
+        self.search(index)
+    }
+
+    /// The place of an index in its leaf.
+    fn place(&self, leaf: usize, index: usize) -> Place
+        requires { IsLeafOf self.now.leaves index leaf }
+        ensures place { IsPlace self.now.leaves index result }
+        ensures within { index < length (joined self.now.leaves)
+            → result.offset < length (leaf_at self.now.leaves result.leaf) }
+    {
+        let offset = index - self.starts[leaf] as usize;
+        Place { leaf, offset }
+    }
+
+    /// The place of the record at an index, or the end of the last leaf.
+    pub fn locate(&mut self, index: usize) -> Place
+        requires { index ≤ length (joined self.old.leaves) }
+        ensures place { IsPlace self.old.leaves index result }
+        ensures within { index < length (joined self.old.leaves)
+            → result.offset < length (leaf_at self.old.leaves result.leaf) }
+        ensures leaves { self.new ≡ self.old }
+    {
+        if self.has(self.recent, index) {
+            return self.place(self.recent, index);
+        }
+        let leaf = self.find(index);
+        self.recent = leaf;
+        self.hints[index / HINT_RECORDS % HINTS] = leaf as u16;
+        self.place(leaf, index)
+    }
+
+    /// The place of an index, where a record may end, in the first leaf from one on where it can be.
+    pub fn locate_end(&self, leaf: usize, index: usize) -> Place
+        requires leaf { leaf < length self.now.leaves }
+        requires start { count_before self.now.leaves leaf ≤ index }
+        requires end { index ≤ length (joined self.now.leaves) }
+        ensures place { IsPlace self.now.leaves index result }
+        ensures order { leaf ≤ result.leaf }
+    {
+        let mut last = leaf;
+        while (self.starts[last + 1] as usize) < index {
+            last += 1;
+        }
+        Place {
+            leaf: last,
+            offset: index - self.starts[last] as usize,
+        }
+    }
+
+    /// Replaces the records of a leaf from one offset to another.
+    pub fn edit(&mut self, leaf: usize, from: usize, to: usize, runs: &[Run])
+        requires leaf { leaf < length self.old.leaves }
+        requires range { (from ≤ to) × (to ≤ length (leaf_at self.old.leaves leaf)) }
+        requires room { length (leaf_at self.old.leaves leaf) + length runs.now ≤ MAX_LEAF + (to - from) }
+        requires count { length (joined self.old.leaves) + length runs.now < 2 ^ 32 }
+        ensures { self.new ≡ record self.old {
+          leaves = slice_set self.old.leaves leaf
+              (splice_list (leaf_at self.old.leaves leaf) from to runs.now);
+          moved = self.old.moved + (length (leaf_at self.old.leaves leaf) - from)
+              + (length (leaf_at self.old.leaves leaf) - to + length runs.now);
+        } }
+    {
+        let before = self.leaves[leaf].len();
+        self.leaves[leaf].splice(from, to, runs);
+        let after = self.leaves[leaf].len();
+        self.moved = self.moved.increased(before - from).increased(after - from);
+        shift(&mut self.starts, leaf + 1, before as u32, after as u32);
+    }
+
+    /// Adds a leaf without records at an index.
+    pub fn open(&mut self, leaf: usize)
+        requires leaf { leaf ≤ length self.old.leaves }
+        requires room { length self.old.leaves < self.old.capacity }
+        ensures { self.new ≡ record self.old { leaves = insert self.old.leaves leaf [] } }
+    {
+        let used = self.used();
+        self.leaves[used].clear();
+        move_back(&mut self.leaves, leaf, used + 1);
+        let start = self.starts[leaf];
+        let inserted = self.starts.insert(leaf, start);
+        prove!(inserted.is_ok());
+        let _ = inserted;
+    }
+
+    /// Removes a leaf with its records.
+    pub fn close(&mut self, leaf: usize)
+        requires leaf { leaf < length self.old.leaves }
+        requires others { 1 < length self.old.leaves }
+        requires count { length (joined self.old.leaves) < 2 ^ 32 }
+        ensures { self.new ≡ record self.old { leaves = remove self.old.leaves leaf } }
+    {
+        let used = self.used();
+        let count = self.leaves[leaf].len();
+        shift(&mut self.starts, leaf + 1, count as u32, 0);
+        self.starts.remove(leaf);
+        move_front(&mut self.leaves, leaf, used);
+    }
+
+    /// Appends the records of a leaf from an offset on to a list.
+    pub fn copy(&mut self, leaf: usize, from: usize, copied: &mut ArrayVec<Run, TWO_LEAVES>)
+        requires leaf { leaf < length self.old.leaves }
+        requires offset { from ≤ length (leaf_at self.old.leaves leaf) }
+        requires room { length copied.old.items + MAX_LEAF ≤ TWO_LEAVES }
+        ensures copied { copied.new.items ≡ copied.old.items ++ drop from (leaf_at self.old.leaves leaf) }
+        ensures fits { length copied.new.items ≤ length copied.old.items + MAX_LEAF }
+        ensures leaves { self.new ≡ record self.old {
+          moved = self.old.moved + (length (leaf_at self.old.leaves leaf) - from);
+        } }
+    {
+        let records = self.leaves[leaf].records();
+        let extended = copied.try_extend_from_slice(&records[from..]);
+        prove!(extended.is_ok());
+        let _ = extended;
+        self.moved = self.moved.increased(records.len() - from);
+    }
+}
+
+/// Moves the last of the leaves before an index to another index.
+fn move_back(leaves: &mut [Leaf], from: usize, to: usize)
+    requires { (from < to) × (to ≤ length leaves.old) }
+    ensures { take to leaves.new
+        ≡ insert (take (to - 1) leaves.old) from (slice_index_or leaves.old (to - 1) []) }
+{
+    leaves[from..to].rotate_right(1);
+}
+
+/// Moves a leaf behind the others that are before an index.
+fn move_front(leaves: &mut [Leaf], from: usize, to: usize)
+    requires { (from < to) × (to ≤ length leaves.old) }
+    ensures { take (to - 1) leaves.new ≡ remove (take to leaves.old) from }
+{
+    leaves[from..to].rotate_left(1);
+}
