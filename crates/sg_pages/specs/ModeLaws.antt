@@ -1,5 +1,5 @@
 -- Laws of the mode pages, in the subject's words.
-use Rattle.std.specs.Prelude.{◌≡◌, ℕ, List, [], Bool, false, Ok}
+use Rattle.std.specs.Prelude.{◌≡◌, ℕ, List, [], Bool, true, false, Ok}
 use Rattle.sg_pages.specs.declared.mode_pages.mode_page.ModePage.{ModePage}
 use Rattle.sg_pages.specs.ModePage.{ModeState, row_of, values_of}
 use Rattle.sg_pages.specs.ModeSelect.{differences, mode_select}
@@ -20,3 +20,10 @@ OnlySpSaves =
     (before after : ModeState) (list : List ℕ) (ten : Bool) (blocks : ℕ)
     → mode_select before list ten false blocks ≡ Ok after
     → after.saved ≡ before.saved
+
+-- A MODE SELECT with SP saves the current values of all pages, as they are after it.
+abbrev pub SpSavesAll : Type 0
+SpSavesAll =
+    (before after : ModeState) (list : List ℕ) (ten : Bool) (blocks : ℕ)
+    → mode_select before list ten true blocks ≡ Ok after
+    → after.saved ≡ after.current

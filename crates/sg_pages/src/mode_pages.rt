@@ -9,7 +9,7 @@ mod mode_select;
 mod mode_sense;
 mod request;
 
-pub use laws::{only_changeable_bits_change, only_sp_saves};
+pub use laws::{only_changeable_bits_change, only_sp_saves, sp_saves_all};
 use mode_page::DEFAULT;
 pub use mode_page::{ModePage, PageValues};
 pub use mode_select::{Changed, ModeSelectFault};

@@ -1,7 +1,7 @@
 // Laws of the mode pages: each is the contract of a function that changes nothing.
 ghost use Rattle.std.specs.Prelude.{◌≡◌, length};
 ghost use Rattle.sg_pages.specs.ModePage.{changeable_bits, default_values, page_length, values_of};
-ghost use Rattle.sg_pages.specs.ModeLaws.{OnlyChangeableBitsChange, OnlySpSaves};
+ghost use Rattle.sg_pages.specs.ModeLaws.{OnlyChangeableBitsChange, OnlySpSaves, SpSavesAll};
 
 use super::{ModePage, ModePages};
 
@@ -13,6 +13,11 @@ pub fn only_changeable_bits_change()
 /// A MODE SELECT without SP leaves the saved values as they are.
 pub fn only_sp_saves()
     ensures { OnlySpSaves }
+{}
+
+/// A MODE SELECT with SP saves the current values of all pages, as they are after it.
+pub fn sp_saves_all()
+    ensures { SpSavesAll }
 {}
 
 impl ModePages {
