@@ -2,6 +2,7 @@ ghost use Rattle.std.specs.Prelude.{◌≡◌, ◌+◌, ◌-◌, ◌<◌, ◌≤
 ghost use Rattle.std.specs.Prelude.{option_to_list, IfSome};
 ghost use Rattle.sg_blocks.specs.Chains.{chain, AreBelow, IsChain};
 ghost use Rattle.sg_blocks.specs.Disk.{unmapped};
+ghost use Rattle.sg_blocks.specs.Leaves.{move_bound};
 ghost use Rattle.sg_blocks.specs.Records.{contents_of};
 ghost use Rattle.sg_blocks.specs.Slots.{slots_of};
 ghost use Rattle.sg_block_map.specs.Cutting.{AreDistinct, StaysBut, IsCut};
@@ -105,6 +106,8 @@ pub fn unmap_runs(
     ensures runs { AreRuns table.new.records pool.new table.new.room }
     ensures table { table.new
         ≡ record table.old { records = table.new.records; moved = table.new.moved } }
+    ensures moves { table.new.moved
+        ≤ table.old.moved + move_bound + length remaining.new.records }
     ensures blocks { pool.new.blocks ≡ pool.old.blocks }
     ensures draft { remaining.new.room ≡ remaining.old.room }
 

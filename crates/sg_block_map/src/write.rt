@@ -3,6 +3,7 @@ ghost use Rattle.std.specs.Prelude.{◌≡◌, ◌+◌, ◌-◌, ◌^◌, ◌<�
 ghost use Rattle.std.specs.Prelude.{None, Option, option_to_list, unwrap_or, IfSome};
 ghost use Rattle.std.specs.FinMap.{insert};
 ghost use Rattle.sg_blocks.specs.Disk.{replaced, mapped_among};
+ghost use Rattle.sg_blocks.specs.Leaves.{move_bound};
 ghost use Rattle.sg_blocks.specs.Records.{run_at};
 ghost use Rattle.sg_blocks.specs.Slots.{occurrences, followed};
 ghost use Rattle.sg_blocks.specs.Source.{HasBlocks, block_of};
@@ -191,6 +192,7 @@ pub fn write_runs(
     ensures keeps { KeepSlots pool.old.next table.old.records pool.new.next table.new.records }
     ensures table { table.new
         ≡ record table.old { records = table.new.records; moved = table.new.moved } }
+    ensures moves { table.new.moved ≤ table.old.moved + move_bound + 1 }
 
     // At most as many links are followed as the gathered runs have blocks.
     ensures rise { pool.old.links ≤ pool.new.links }

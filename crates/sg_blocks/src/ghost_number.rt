@@ -34,10 +34,4 @@ impl GhostNumber {
         let _ = count;
         GhostNumber {}
     }
-
-    pub fn incremented(&self) -> GhostNumber
-        ensures { result.value ≡ self.now.value + 1 }
-    {
-        GhostNumber {}
-    }
 }

@@ -177,6 +177,7 @@ impl Leaves {
     }
 
     /// The last leaf that begins at an index or before it, found by binary search.
+    // Inlined into the search of the table it would make each probe there wait for the one before.
     #[inline(never)]
     fn search(&self, index: usize) -> usize
         requires { index ≤ length (joined self.now.leaves) }
@@ -308,6 +309,7 @@ impl Leaves {
         requires room { length copied.old.items + MAX_LEAF ≤ TWO_LEAVES }
         ensures copied { copied.new.items ≡ copied.old.items ++ drop from (leaf_at self.old.leaves leaf) }
         ensures fits { length copied.new.items ≤ length copied.old.items + MAX_LEAF }
+        ensures used { length self.old.leaves ≤ MAX_LEAVES }
         ensures leaves { self.new ≡ record self.old {
           moved = self.old.moved + (length (leaf_at self.old.leaves leaf) - from);
         } }

@@ -97,7 +97,7 @@ impl RunTable {
     {
         self.visits = 0;
         self.probes = 0;
-        self.restarts = self.restarts.incremented();
+        self.restarts = self.restarts.increased(1);
     }
 
     /// The whole record at an index, which counts as a visit.
@@ -108,7 +108,7 @@ impl RunTable {
         ensures table { self.new ≡ visited self.old 1 }
     {
         self.visits += 1;
-        self.total = self.total.incremented();
+        self.total = self.total.increased(1);
         self.record(index)
     }
 

@@ -100,6 +100,34 @@ all-same first second a b c d =
 
 -- ---- The commands of i, in a state and in one with the same view of i
 
+-- They depend on neither the state nor the initiator.
+pub columns-same : (s t : State) (i j : ℕ) (command : Command) (data_out : List ℕ)
+    → SameColumns (semantics s i command data_out) (semantics t j command data_out)
+columns-same s t i j TestUnitReady data_out = all-same _ _ refl refl refl refl
+columns-same s t i j (RequestSense desc n) data_out = all-same _ _ refl refl refl refl
+columns-same s t i j (Inquiry evpd code n) data_out = all-same _ _ refl refl refl refl
+columns-same s t i j (ModeSelect6 pf sp n) data_out = all-same _ _ refl refl refl refl
+columns-same s t i j (ModeSelect10 pf sp n) data_out = all-same _ _ refl refl refl refl
+columns-same s t i j (ModeSense6 dbd pc page subpage n) data_out = all-same _ _ refl refl refl refl
+columns-same s t i j (ModeSense10 llbaa dbd pc page subpage n) data_out =
+    all-same _ _ refl refl refl refl
+columns-same s t i j (Read6 extent) data_out = all-same _ _ refl refl refl refl
+columns-same s t i j (Read10 lba n) data_out = all-same _ _ refl refl refl refl
+columns-same s t i j (Read16 lba n) data_out = all-same _ _ refl refl refl refl
+columns-same s t i j (Write6 extent) data_out = all-same _ _ refl refl refl refl
+columns-same s t i j (Write10 lba n) data_out = all-same _ _ refl refl refl refl
+columns-same s t i j (Write16 lba n) data_out = all-same _ _ refl refl refl refl
+columns-same s t i j ReadCapacity10 data_out = all-same _ _ refl refl refl refl
+columns-same s t i j (ReadCapacity16 n) data_out = all-same _ _ refl refl refl refl
+columns-same s t i j (SynchronizeCache10 lba n) data_out = all-same _ _ refl refl refl refl
+columns-same s t i j (WriteSame10 anchor unmap lba n) data_out = all-same _ _ refl refl refl refl
+columns-same s t i j (WriteSame16 anchor unmap lba n) data_out = all-same _ _ refl refl refl refl
+columns-same s t i j (Unmap anchor group n) data_out = all-same _ _ refl refl refl refl
+columns-same s t i j (GetLbaStatus start n) data_out = all-same _ _ refl refl refl refl
+columns-same s t i j (PersistentReserveIn action n) data_out = all-same _ _ refl refl refl refl
+columns-same s t i j (PersistentReserveOut action scope_type n) data_out =
+    all-same _ _ refl refl refl refl
+
 module _ (s : State) (a : Pending) (r : ReservationState) (i : ℕ)
     (attentions : pending_for s.attentions i ≡ pending_for a i)
     (key : key_of s.reservations.registrations i ≡ key_of r.registrations i)
@@ -261,31 +289,6 @@ module _ (s : State) (a : Pending) (r : ReservationState) (i : ℕ)
   command-alike (PersistentReserveOut action scope_type n) data_out c = cc
   command-alike _ data_out c = same false _ _ refl refl (λ _. refl)
 
-  columns : (command : Command) (data_out : List ℕ)
-      → SameColumns (semantics s i command data_out) (semantics t i command data_out)
-  columns TestUnitReady data_out = all-same _ _ refl refl refl refl
-  columns (RequestSense desc n) data_out = all-same _ _ refl refl refl refl
-  columns (Inquiry evpd code n) data_out = all-same _ _ refl refl refl refl
-  columns (ModeSelect6 pf sp n) data_out = all-same _ _ refl refl refl refl
-  columns (ModeSelect10 pf sp n) data_out = all-same _ _ refl refl refl refl
-  columns (ModeSense6 dbd pc page subpage n) data_out = all-same _ _ refl refl refl refl
-  columns (ModeSense10 llbaa dbd pc page subpage n) data_out = all-same _ _ refl refl refl refl
-  columns (Read6 extent) data_out = all-same _ _ refl refl refl refl
-  columns (Read10 lba n) data_out = all-same _ _ refl refl refl refl
-  columns (Read16 lba n) data_out = all-same _ _ refl refl refl refl
-  columns (Write6 extent) data_out = all-same _ _ refl refl refl refl
-  columns (Write10 lba n) data_out = all-same _ _ refl refl refl refl
-  columns (Write16 lba n) data_out = all-same _ _ refl refl refl refl
-  columns ReadCapacity10 data_out = all-same _ _ refl refl refl refl
-  columns (ReadCapacity16 n) data_out = all-same _ _ refl refl refl refl
-  columns (SynchronizeCache10 lba n) data_out = all-same _ _ refl refl refl refl
-  columns (WriteSame10 anchor unmap lba n) data_out = all-same _ _ refl refl refl refl
-  columns (WriteSame16 anchor unmap lba n) data_out = all-same _ _ refl refl refl refl
-  columns (Unmap anchor group n) data_out = all-same _ _ refl refl refl refl
-  columns (GetLbaStatus start n) data_out = all-same _ _ refl refl refl refl
-  columns (PersistentReserveIn action n) data_out = all-same _ _ refl refl refl refl
-  columns (PersistentReserveOut action scope_type n) data_out = all-same _ _ refl refl refl refl
-
   -- ---- The checks of a command
 
   fault-same : (shows : Bool) (first second : Result Effect Refusal)
@@ -357,7 +360,7 @@ module _ (s : State) (a : Pending) (r : ReservationState) (i : ℕ)
       let first = semantics s i command data_out in
       let second = semantics t i command data_out in
       outcome-alike shows (checked_command s first data_out) (checked_command t second data_out)
-      (checked-alike shows first second data_out (columns command data_out)
+      (checked-alike shows first second data_out (columns-same s t i i command data_out)
       (command-alike command data_out c))
 
   -- ---- The checks of a CDB

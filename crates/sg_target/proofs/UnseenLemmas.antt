@@ -39,7 +39,7 @@ use Rattle.sg_target.specs.declared.refusal.Reason.TheVariants.{SpaceAllocationF
 use Rattle.sg_target.specs.declared.refusal.Refusal.{Refusal}
 use Rattle.sg_target.specs.declared.refusal.Refusal.TheVariants.{Check}
 use Rattle.sg_target.specs.declared.reservation.ReserveInData.{ReserveInData}
-use Rattle.sg_target.proofs.AlikeLemmas.{SameColumns, all-same}
+use Rattle.sg_target.proofs.AlikeLemmas.{SameColumns, columns-same}
 use Rattle.sg_target.proofs.HolderLemmas.{HoldsAlone, refuses-others}
 use Rattle.sg_target.proofs.OthersLemmas.{passed-is-allowed}
 
@@ -126,31 +126,6 @@ module _ (s : State) (x : Contents) (j : ℕ) (fit : len s.disk.contents ≤ s.d
   command-alike (PersistentReserveOut action scope_type n) data_out r w =
       changing-alike (reservation_change s j action scope_type (first_bytes n data_out))
 
-  columns : (command : Command) (data_out : List ℕ)
-      → SameColumns (semantics s j command data_out) (semantics t j command data_out)
-  columns TestUnitReady data_out = all-same _ _ refl refl refl refl
-  columns (RequestSense desc n) data_out = all-same _ _ refl refl refl refl
-  columns (Inquiry evpd code n) data_out = all-same _ _ refl refl refl refl
-  columns (ModeSelect6 pf sp n) data_out = all-same _ _ refl refl refl refl
-  columns (ModeSelect10 pf sp n) data_out = all-same _ _ refl refl refl refl
-  columns (ModeSense6 dbd pc page subpage n) data_out = all-same _ _ refl refl refl refl
-  columns (ModeSense10 llbaa dbd pc page subpage n) data_out = all-same _ _ refl refl refl refl
-  columns (Read6 extent) data_out = all-same _ _ refl refl refl refl
-  columns (Read10 lba n) data_out = all-same _ _ refl refl refl refl
-  columns (Read16 lba n) data_out = all-same _ _ refl refl refl refl
-  columns (Write6 extent) data_out = all-same _ _ refl refl refl refl
-  columns (Write10 lba n) data_out = all-same _ _ refl refl refl refl
-  columns (Write16 lba n) data_out = all-same _ _ refl refl refl refl
-  columns ReadCapacity10 data_out = all-same _ _ refl refl refl refl
-  columns (ReadCapacity16 n) data_out = all-same _ _ refl refl refl refl
-  columns (SynchronizeCache10 lba n) data_out = all-same _ _ refl refl refl refl
-  columns (WriteSame10 anchor unmapping lba n) data_out = all-same _ _ refl refl refl refl
-  columns (WriteSame16 anchor unmapping lba n) data_out = all-same _ _ refl refl refl refl
-  columns (Unmap anchor group n) data_out = all-same _ _ refl refl refl refl
-  columns (GetLbaStatus start n) data_out = all-same _ _ refl refl refl refl
-  columns (PersistentReserveIn action n) data_out = all-same _ _ refl refl refl refl
-  columns (PersistentReserveOut action scope_type n) data_out = all-same _ _ refl refl refl refl
-
   -- ---- The checks of a command
 
   fault-same : (first second : Result Effect Refusal) → ResultsAlike first second
@@ -196,7 +171,7 @@ module _ (s : State) (x : Contents) (j : ℕ) (fit : len s.disk.contents ≤ s.d
   parse-alike (Err fault) data_out r w = refl
   parse-alike (Ok command) data_out r w =
       checked-alike (semantics s j command data_out) (semantics t j command data_out) data_out
-      (columns command data_out) (command-alike command data_out (r command refl) (w command refl))
+      (columns-same s t j j command data_out) (command-alike command data_out (r command refl) (w command refl))
 
   -- ---- The step
 

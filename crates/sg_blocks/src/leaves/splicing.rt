@@ -178,7 +178,6 @@ fn gather(leaves: &mut Leaves, leaf: usize, records: &mut ArrayVec<Run, TWO_LEAV
       moved = leaves.old.moved + length (pair_at leaves.old.leaves leaf);
     } }
 {
-    let _left = leaves.len(leaf);
     leaves.copy(leaf, 0, records);
     leaves.copy(leaf + 1, 0, records);
 }

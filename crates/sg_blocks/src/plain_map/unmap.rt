@@ -1,5 +1,6 @@
-ghost use Rattle.std.specs.Prelude.{◌≡◌, ◌+◌, ◌-◌};
+ghost use Rattle.std.specs.Prelude.{◌≡◌, ◌+◌, ◌-◌, ◌≤◌};
 ghost use Rattle.sg_blocks.specs.Disk.{unmapped};
+ghost use Rattle.sg_blocks.specs.Leaves.{move_bound};
 ghost use Rattle.sg_blocks.specs.Records.{IsLowerBound};
 ghost use Rattle.sg_blocks.specs.Slots.{IsConsistent};
 ghost use Rattle.sg_blocks.specs.Table.{visited};
@@ -25,6 +26,7 @@ pub fn unmap_records(
     ensures consistent { IsConsistent table.new.records pool.new.blocks pool.new.free table.new.room }
     ensures table { let count = table.new.total - table.old.total in table.new
         ≡ record (visited table.old count) { records = table.new.records; moved = table.new.moved } }
+    ensures moves { table.new.moved ≤ table.old.moved + move_bound }
     ensures visits { VisitsRange (stored table.old pool.old) lba count table.old table.new }
 {
     for index in from..to {

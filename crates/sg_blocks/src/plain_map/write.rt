@@ -2,6 +2,7 @@
 ghost use Rattle.std.specs.Prelude.{◌≡◌, ◌+◌, ◌-◌, ◌<◌, ◌≤◌, length};
 ghost use Rattle.std.specs.FinMap.{insert};
 ghost use Rattle.sg_blocks.specs.Disk.{replaced, mapped_among};
+ghost use Rattle.sg_blocks.specs.Leaves.{move_bound};
 ghost use Rattle.sg_blocks.specs.Records.{mapped_at};
 ghost use Rattle.sg_blocks.specs.Slots.{IsConsistent};
 ghost use Rattle.sg_blocks.specs.Source.{HasBlocks, block_of};
@@ -87,6 +88,7 @@ pub fn write_blocks(
     ensures consistent { IsConsistent table.new.records pool.new.blocks pool.new.free table.new.room }
     ensures table { let count = table.new.total - table.old.total in table.new
         ≡ record (visited table.old count) { records = table.new.records; moved = table.new.moved } }
+    ensures moves { table.new.moved ≤ table.old.moved + move_bound + count }
     ensures room { draft.new.room ≡ draft.old.room }
     ensures visits { VisitsRange (stored table.old pool.old) lba count table.old table.new }
 {
