@@ -1,14 +1,14 @@
 -- Places in leaves, and records that are replaced between two of them.
-use Rattle.std.proofs.Common.{◌≡◌, ℕ, suc, ◌+◌, ◌<◌, List, ◌∷◌, ◌++◌, length, get_or, set}
+use Rattle.std.proofs.Common.{◌≡◌, ℕ, suc, ◌+◌, ◌-◌, ◌<◌, ◌≤◌, List, ◌∷◌, ◌++◌, length, get_or, set}
 use Rattle.std.proofs.Common.{take, drop, sym, ap, ap₂, ◌∙◌, arith, add-one, append_assoc}
 use Rattle.std.proofs.lemmas.List.{drop-append-le, drop-drop, drop_at, get_or_append_left, get_or-append-add}
 use Rattle.std.proofs.lemmas.List.{set_split, take-append-le}
 use Rattle.std.proofs.Math.Seq.{take-append-add}
 use Rattle.std.specs.List.{splice}
-use Rattle.sg_blocks.specs.Leaves.{IsPlace, joined, leaf_at, replaced}
+use Rattle.sg_blocks.specs.Leaves.{IsPlace, IsSpan, joined, leaf_at, replaced}
 use Rattle.sg_blocks.specs.declared.leaves.Place.{Place}
 use Rattle.sg_blocks.specs.declared.run.Run.{Run}
-use Rattle.sg_blocks.proofs.LeavesLemmas.{joined-append, joined-split}
+use Rattle.sg_blocks.proofs.LeavesLemmas.{joined-append, joined-split, count_before-more, placed}
 
 -- the records before a place
 pub take-place : (ls : List (List Run)) (index : ℕ) (p : Place) → IsPlace ls index p
@@ -78,3 +78,14 @@ pub replaced-located : (ls later : List (List Run)) (from to : ℕ) (p q : Place
 replaced-located ls later from to p q runs same f t =
     let first : IsPlace later from p = rw same f in
     sym (splice-places later from to p q runs first t) ∙ ap (λ l. splice (joined l) from to runs) same
+
+-- the place of an index of a leaf
+pub place-span : (ls : List (List Run)) (leaf start end index : ℕ) → IsSpan ls leaf start end
+    → start ≤ index → index < end
+    → let place : Place = record { leaf = leaf; offset = index - start } in
+    IsPlace ls index place × (index - start < length (leaf_at ls leaf))
+place-span ls leaf start end index span le lt =
+    let is = span (omega arith) in
+    let next = count_before-more ls leaf is.0 in
+    let end_is = rw add-one at is.2 in
+    (placed ls index leaf start is.0 is.1 le (omega arith), omega arith)

@@ -51,6 +51,11 @@ pub record IsLeafOf (leaves : List (List Run)) (index leaf : ℕ) : Type 0 where
   pub end : index ≤ count_before leaves (leaf + 1)
   pub record_end : index < length (joined leaves) → index < count_before leaves (leaf + 1)
 
+-- The indexes from `start` to `end` are those of the leaf's records, or there are none.
+abbrev pub IsSpan : List (List Run) → (leaf start end : ℕ) → Type 0
+IsSpan leaves leaf start end = start < end → (leaf < length leaves)
+    × (start ≡ count_before leaves leaf) × (end ≡ count_before leaves (leaf + 1))
+
 -- The place of an index among the records of all leaves: a leaf, and an offset in it.
 pub record IsPlace (leaves : List (List Run)) (index : ℕ) (place : Place) : Type 0 where
   pub leaf : place.leaf < length leaves

@@ -5,7 +5,7 @@ ghost use Rattle.std.specs.Prelude.{take, drop, insert, remove, slice_index_or, 
 ghost use Rattle.std.specs.Prelude.{vec_capacity, IfOk, IsTrue};
 ghost use Rattle.std.specs.List.{All};
 ghost use Rattle.std.specs.List.{splice as splice_list};
-ghost use Rattle.sg_blocks.specs.Leaves.{IsLeafOf, IsPlace, count_before, joined, leaf_at};
+ghost use Rattle.sg_blocks.specs.Leaves.{IsLeafOf, IsPlace, IsSpan, count_before, joined, leaf_at};
 
 use crate::ghost_number::GhostNumber;
 use crate::leaf::{Leaf, MAX_LEAF};
@@ -36,6 +36,21 @@ pub struct Place {
     pub offset: usize,
 }
 
+/// A leaf, with the indexes from that of its first record to the one behind its last. Where these
+/// are none, it may be any leaf.
+#[derive(Clone, Copy)]
+struct Span {
+    leaf: usize,
+    start: usize,
+    end: usize,
+}
+
+const NO_SPAN: Span = Span {
+    leaf: 0,
+    start: 0,
+    end: 0,
+};
+
 /// The records of a table in leaves, with a directory of where each leaf begins.
 #[derive(Drop)]
 pub struct Leaves {
@@ -44,14 +59,14 @@ pub struct Leaves {
     /// The index of the first record of each leaf in use, and the number of records.
     starts: Vec<u32>,
     /// The leaf that was found last, and those that were found last near other indexes.
-    recent: usize,
+    recent: Span,
     hints: Vec<u16>,
     moved: GhostNumber,
 }
 
 impl Model for Leaves {
     ghost use Rattle.std.specs.Prelude.{◌≡◌, ◌<◌, ◌≤◌, length, vec_capacity};
-    ghost use Rattle.sg_blocks.specs.Leaves.{LeafTable, IsDirectory, in_use};
+    ghost use Rattle.sg_blocks.specs.Leaves.{LeafTable, IsDirectory, IsSpan, in_use};
     ghost use Rattle.sg_blocks.specs.declared.leaves.TheConstants.{HINTS, MAX_LEAVES};
 
     ghost Value = { LeafTable };
@@ -65,7 +80,8 @@ impl Model for Leaves {
     ghost invariant = { λ l. IsDirectory l.leaves.items l.starts.items
         × (length l.leaves.items < vec_capacity l.starts)
         × (length l.leaves.items ≤ MAX_LEAVES)
-        × (length l.hints.items ≡ HINTS) };
+        × (length l.hints.items ≡ HINTS)
+        × IsSpan (in_use l.leaves.items l.starts.items) l.recent.leaf l.recent.start l.recent.end };
 }
 
 /// `count` leaves without records.
@@ -121,7 +137,7 @@ impl Leaves {
         Ok(Leaves {
             leaves: empty_leaves(alloc, count)?,
             starts: empty_directory(alloc, count)?,
-            recent: 0,
+            recent: NO_SPAN,
             hints: vec![in alloc; 0; HINTS]?,
             moved: GhostNumber::zero(),
         })
@@ -207,6 +223,18 @@ impl Leaves {
         self.search(index)
     }
 
+    /// A leaf with its indexes.
+    fn span(&self, leaf: usize) -> Span
+        requires { leaf < length self.now.leaves }
+        ensures { IsSpan self.now.leaves result.leaf result.start result.end }
+    {
+        Span {
+            leaf,
+            start: self.starts[leaf] as usize,
+            end: self.starts[leaf + 1] as usize,
+        }
+    }
+
     /// The place of an index in its leaf.
     fn place(&self, leaf: usize, index: usize) -> Place
         requires { IsLeafOf self.now.leaves index leaf }
@@ -226,11 +254,13 @@ impl Leaves {
             → result.offset < length (leaf_at self.old.leaves result.leaf) }
         ensures leaves { self.new ≡ self.old }
     {
-        if self.has(self.recent, index) {
-            return self.place(self.recent, index);
+        let Span { leaf, start, end } = self.recent;
+        if start <= index && index < end {
+            let offset = index - start;
+            return Place { leaf, offset };
         }
         let leaf = self.find(index);
-        self.recent = leaf;
+        self.recent = self.span(leaf);
         self.hints[index / HINT_RECORDS % HINTS] = leaf as u16;
         self.place(leaf, index)
     }
@@ -271,6 +301,7 @@ impl Leaves {
         let after = self.leaves[leaf].len();
         self.moved = self.moved.increased(before - from).increased(after - from);
         shift(&mut self.starts, leaf + 1, before as u32, after as u32);
+        self.recent = NO_SPAN;
     }
 
     /// Adds a leaf without records at an index.
@@ -286,6 +317,7 @@ impl Leaves {
         let inserted = self.starts.insert(leaf, start);
         prove!(inserted.is_ok());
         let _ = inserted;
+        self.recent = NO_SPAN;
     }
 
     /// Removes a leaf with its records.
@@ -300,6 +332,7 @@ impl Leaves {
         shift(&mut self.starts, leaf + 1, count as u32, 0);
         self.starts.remove(leaf);
         move_front(&mut self.leaves, leaf, used);
+        self.recent = NO_SPAN;
     }
 
     /// Appends the records of a leaf from an offset on to a list.

@@ -139,11 +139,12 @@ impl RunTable {
         requires headroom { self.old.probes + probe_bound ≤ u64.MAX }
         ensures index { IsLowerBound self.old.records result lba }
 
-        // Only probes are counted, and no more than a binary search takes.
+        // Only probes are counted, as many as a binary search takes.
         ensures table { self.new ≡ probed self.old (self.new.probes - self.old.probes) }
         ensures probes_rise { self.old.probes ≤ self.new.probes }
         ensures probe_count { self.new.probes ≤ self.old.probes + search_bound }
         ensures halving { 2 ^ (self.new.probes - self.old.probes) ≤ 2 * length self.old.records + 1 }
+        ensures all_counted { length self.old.records + 2 ≤ 2 ^ (self.new.probes - self.old.probes + 1) }
     {
         let mut low = 0;
         let mut high = self.count();

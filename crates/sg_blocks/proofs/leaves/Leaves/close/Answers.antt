@@ -30,7 +30,7 @@ shift-requires-clause-more c = λ j d lt.
     rw c.deref_mut.ensures.value (omega (arith, bounds.1, c.requires.count))
 
 -- the leaves and the directory without the leaf
-abbrev closed : (c : goal.After-self-2-1)
+abbrev closed : (c : goal.After-self-3-1)
     → let leaves = take c.self.inside.leaves.len (c.move_front.new.leaves
     ++ drop (length c.move_front.new.leaves) c.self.inside.leaves.items) in
     let starts = c.remove.new.self.items in
@@ -74,6 +74,7 @@ invariant_of-self c =
       omega (arith, is.0, c.self.invariant.1, c.remove.ensures.capacity),
       omega (arith, is.0, c.self.invariant.2),
       c.self.invariant.3,
+      λ lt. absurd (omega arith),
     )
 
 pub returns : goal.returns

@@ -46,7 +46,7 @@ shift-requires-clause-more c = λ j d lt.
     rw c.deref_mut.ensures.value (omega (arith, bounds.0, bounds.1, before, after, c.requires.count))
 
 -- the leaves and the directory after the edit
-abbrev edited : (c : goal.After-self-3-1)
+abbrev edited : (c : goal.After-self-4-1)
     → let leaves = set c.self.inside.leaves.items c.args.leaf c.splice.new.self in
     let starts = take c.self.inside.starts.len (c.shift.new.starts
     ++ drop (length c.shift.new.starts) c.self.inside.starts.items) in
@@ -82,6 +82,7 @@ invariant_of-self c =
       omega (arith, count, c.self.invariant.1),
       omega (arith, count, c.self.invariant.2),
       c.self.invariant.3,
+      λ lt. absurd (omega arith),
     )
 
 pub returns : goal.returns

@@ -10,6 +10,7 @@ invariant_of-result c =
       omega (arith, leaves.count, starts.room),
       omega (arith, leaves.count, c.requires.1),
       omega (arith, c.in_ok-vec.ensures.len),
+      λ lt. absurd (omega arith),
     )
 
 pub returns : goal.returns

@@ -7,7 +7,7 @@ use Rattle.sg_blocks.specs.declared.run.Run.{Run}
 use Rattle.sg_blocks.proofs.LeavesLemmas.{directory-insert, directory-length, same-table}
 use Rattle.sg_blocks.proofs.leaves.Leaves.open.Goals as goal
 
-abbrev used-count : (c : goal.Else-prove) → c.used-used.result ≡ length c.self.inside.starts.items - 1
+abbrev used-count : (c : goal.After-self-3-1) → c.used-used.result ≡ length c.self.inside.starts.items - 1
 used-count c =
     let same = ap (λ (l : LeafTable). l.leaves) c.self.view_is in
     omega (
@@ -18,7 +18,7 @@ used-count c =
     )
 
 -- the leaves and the directory with the new leaf
-abbrev opened : (c : goal.Else-prove)
+abbrev opened : (c : goal.After-self-3-1)
     → let cleared = set c.self.inside.leaves.items c.used-used.result c.clear.new.self in
     let leaves = take c.self.inside.leaves.len (c.move_back.new.leaves ++ drop (length
     c.move_back.new.leaves) cleared) in
@@ -65,6 +65,7 @@ invariant_of-self c =
       omega (arith, is.0, c.self.invariant.1, c.insert-inserted.ensures.capacity),
       omega (arith, is.0, c.self.invariant.2),
       c.self.invariant.3,
+      λ lt. absurd (omega arith),
     )
 
 pub returns : goal.returns

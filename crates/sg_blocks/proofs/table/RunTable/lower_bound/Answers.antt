@@ -2,7 +2,7 @@ use Rattle.std.proofs.Common.{◌≡◌, ◌+◌, ◌-◌, ◌/◌, length, arit
 use Rattle.sg_blocks.specs.Records.{start_of}
 use Rattle.sg_blocks.specs.Table.{Table}
 use Rattle.sg_blocks.proofs.RecordLemmas.{at_or_before, at_or_past}
-use Rattle.sg_blocks.proofs.HalvingLemmas.{halved-more, cost-more, probes-le}
+use Rattle.sg_blocks.proofs.HalvingLemmas.{halved-more, halved-less, cost-more, probes-le}
 use Rattle.sg_blocks.proofs.TableLemmas.{probed-more}
 use Rattle.sg_blocks.proofs.table.RunTable.lower_bound.Goals as goal
 
@@ -37,6 +37,7 @@ loop-low-preserved-then-start-lba c =
       rise = probed.0;
       halved = rw probed.1 (halved-more s n _ (length rs) inv.halved (omega arith) (omega arith));
       cost = rw probed.1 (cost-more s n (length rs) inv.halved (omega arith));
+      least = rw probed.1 (halved-less s n _ (length rs) inv.least (omega arith));
     }
 
 pub loop-low-preserved : goal.loop-low-preserved
@@ -59,6 +60,7 @@ loop-low-preserved c =
       rise = probed.0;
       halved = rw probed.1 (halved-more s n _ (length rs) inv.halved (omega arith) (omega arith));
       cost = rw probed.1 (cost-more s n (length rs) inv.halved (omega arith));
+      least = rw probed.1 (halved-less s n _ (length rs) inv.least (omega arith));
     }
 
 pub returns-clause-probe_count : goal.returns-clause-probe_count

@@ -17,6 +17,7 @@ invariant-loop-low l =
       rise : l.fn.self.probes ≤ l.self.probes;
       halved : 2 ^ probes * (l.high - l.low) ≤ length rs;
       cost : 2 ^ probes ≤ 2 * length rs + 1;
+      least : length rs + 2 ≤ 2 ^ probes * (l.high - l.low + 2);
     }
 
 abbrev pub decreases-loop-low : goal.decreases-loop-low
