@@ -8,9 +8,9 @@ use Rattle.std.specs.List.{All, splice}
 use Rattle.std.proofs.lemmas.Bool.{cases_lt}
 use Rattle.std.proofs.lemmas.List.Edits.{length-insert, length-remove}
 use Rattle.std.proofs.lemmas.List.Elements.{All-tail}
-use Rattle.std.proofs.lemmas.List.{get_or_default, length-take-le, get_or-take, length-set, take-append-drop}
-use Rattle.std.proofs.lemmas.List.{take-take, drop-take, drop-drop, drop_more, take_more, take_all, take_at}
-use Rattle.sg_blocks.specs.Leaves.{LeafTable, joined, leaf_at, count_before, starts_of, in_use}
+use Rattle.std.proofs.lemmas.List.{get_or_default, length-take-le, length-set, take-append-drop}
+use Rattle.std.proofs.lemmas.List.{take_all}
+use Rattle.sg_blocks.specs.Leaves.{LeafTable, joined, leaf_at, count_before, starts_of}
 use Rattle.sg_blocks.specs.Leaves.{IsDirectory, IsPlace}
 use Rattle.sg_blocks.specs.declared.run.Run.{Run}
 
@@ -137,70 +137,33 @@ starts_of-behind (leaf ∷ ls) n (suc k) lt = λ j d in'.
     let whole = length-append leaf (joined ls) in
     (rest.0, omega (arith, rest.1))
 
--- the last element of a part is moved to its front
-pub rotated_back : {X : Type 0} (xs : List X) (from to n : ℕ) (d : X) → from < to → to ≤ length xs
-    → n ≡ to - from - 1
-    → take from xs ++ (drop n (take (to - from) (drop from xs)) ++ take n (take (to - from) (drop from xs)))
-    ≡ insert (take (to - 1) xs) from (get_or xs (to - 1) d)
-rotated_back xs from to n d lt le e =
-    let one : to - from ≡ n + 1 = omega arith in
-    let before : to - 1 ≡ from + n = omega arith in
-    let last : drop n (take (n + 1) (drop from xs)) ≡ get_or xs (from + n) d ∷ [] =
-    drop-take n 1 (drop from xs) ∙ ap (take 1) (drop-drop n from xs
-    ∙ drop_more xs (from + n) d (omega arith)) in
-    let rest : take n (take (n + 1) (drop from xs)) ≡ drop from (take (from + n) xs) =
-    take-take n (n + 1) (drop from xs) (omega arith) ∙ sym (drop-take from n xs) in
-    let front : take from (take (from + n) xs) ≡ take from xs = take-take from (from + n) xs (omega arith) in
-    rw (one, before, last, rest, front) refl
+pub directory-of : (leaves : List (List Run)) (starts : List ℕ) → 1 ≤ length leaves
+    → starts ≡ starts_of 0 leaves → IsDirectory leaves starts
+directory-of leaves starts some e =
+    record { not_empty = some; count = ap length e ∙ length-starts_of 0 leaves; each = e }
 
--- the first element of a part is moved to its end, of which the elements before it are left
-pub rotated_front : {X : Type 0} (xs : List X) (from to : ℕ) → from < to → to ≤ length xs
-    → take from xs ++ drop 1 (take (to - from) (drop from xs)) ≡ remove (take to xs) from
-rotated_front xs from to lt le =
-    let whole : to ≡ from + (to - from) = omega arith in
-    let front : take from (take to xs) ≡ take from xs = take-take from to xs (omega arith) in
-    let part : take (to - from) (drop from xs) ≡ drop from (take to xs) =
-    sym (drop-take from (to - from) xs) ∙ ap (λ k. drop from (take k xs)) (sym whole) in
-    ap₂ (λ x y. x ++ y) (sym front) (ap (drop 1) part ∙ drop-drop 1 from (take to xs)
-    ∙ ap (λ k. drop k (take to xs)) (add-one from))
-
--- what is left in front of a list whose end was replaced
-pub take_two : {X : Type 0} (a b c d : List X) (n : ℕ) → length a + length b ≡ n
-    → take n (a ++ ((b ++ c) ++ d)) ≡ a ++ b
-take_two a b c d n e =
-    let order : a ++ ((b ++ c) ++ d) ≡ (a ++ b) ++ (c ++ d) =
-    ap (λ x. a ++ x) (append_assoc b c d) ∙ sym (append_assoc a b (c ++ d)) in
-    rw order (take_at (a ++ b) (c ++ d) n (length-append a b ∙ e))
-
--- the directory counts the leaves in use,
-pub directory-length : (leaves : List (List Run)) (starts : List ℕ) → IsDirectory leaves starts
-    → length starts ≡ length (in_use leaves starts) + 1
-directory-length leaves starts dir =
-    ap length dir.each ∙ length-starts_of 0 (in_use leaves starts)
-
--- and has the number of records before each of them
+-- the directory has the number of records before each leaf
 pub directory-at : (leaves : List (List Run)) (starts : List ℕ) (k d : ℕ) → IsDirectory leaves starts
-    → k < length starts → get_or starts k d ≡ count_before (in_use leaves starts) k
+    → k < length starts → get_or starts k d ≡ count_before leaves k
 directory-at leaves starts k d dir lt =
     ap (λ x. get_or x k d) dir.each
-    ∙ starts_of-at 0 (in_use leaves starts) k d (omega (arith, directory-length leaves starts dir))
-    ∙ zero-add (count_before (in_use leaves starts) k)
+    ∙ starts_of-at 0 leaves k d (omega (arith, dir.count))
+    ∙ zero-add (count_before leaves k)
 
 pub directory-last : (leaves : List (List Run)) (starts : List ℕ) (k d : ℕ) → IsDirectory leaves starts
-    → k ≡ length starts - 1 → get_or starts k d ≡ length (joined (in_use leaves starts))
+    → k ≡ length starts - 1 → get_or starts k d ≡ length (joined leaves)
 directory-last leaves starts k d dir e =
-    let all = directory-length leaves starts dir in
-    let last : k ≡ length (in_use leaves starts) = omega arith in
-    directory-at leaves starts k d dir (omega (arith, dir.not_empty))
-    ∙ ap (count_before (in_use leaves starts)) last ∙ count_before-all (in_use leaves starts)
+    let last : k ≡ length leaves = omega (arith, dir.count) in
+    directory-at leaves starts k d dir (omega (arith, dir.count))
+    ∙ ap (count_before leaves) last ∙ count_before-all leaves
 
 -- what a read of the directory gives
 pub start-read : (leaves : List (List Run)) (starts : List ℕ) (ls : List (List Run)) (k x : ℕ)
-    → IsDirectory leaves starts → in_use leaves starts ≡ ls → k ≤ length ls
+    → IsDirectory leaves starts → leaves ≡ ls → k ≤ length ls
     → x ≡ get_or starts k x → x ≡ count_before ls k
 start-read leaves starts ls k x dir same le read =
     read ∙ directory-at leaves starts k x dir
-    (omega (arith, directory-length leaves starts dir, ap length same))
+    (omega (arith, dir.count, ap length same))
     ∙ ap (λ l. count_before l k) same
 
 -- a leaf with records behind it is not the last one
@@ -236,27 +199,9 @@ shift-none xs from n m e all =
     sym (take-append-drop from xs) ∙ ap (λ x. take from xs ++ x) (shift-same (drop from xs) n all
     ∙ ap (λ k. map (λ s. s - n + k) (drop from xs)) e)
 
-pub take-set-within : {X : Type 0} (n : ℕ) (xs : List X) (i : ℕ) (y : X)
-    → take n (set xs i y) ≡ set (take n xs) i y
-take-set-within zero xs i y = refl
-take-set-within (suc n) [] i y = refl
-take-set-within (suc n) (x ∷ xs) zero y = refl
-take-set-within (suc n) (x ∷ xs) (suc i) y = ap (λ z. x ∷ z) (take-set-within n xs i y)
-
--- what a read of a leaf gives
-pub leaf-read : (leaves : List (List Run)) (starts : List ℕ) (ls : List (List Run)) (k : ℕ) (x : List Run)
-    → IsDirectory leaves starts → in_use leaves starts ≡ ls → k < length ls
-    → x ≡ get_or leaves k x → x ≡ leaf_at ls k
-leaf-read leaves starts ls k x dir same lt read =
-    let n = length starts - 1 in
-    let within : k < n = omega (arith, directory-length leaves starts dir, ap length same) in
-    let more : k < length leaves = omega (arith, dir.within) in
-    read ∙ get_or_default leaves k x [] more ∙ sym (get_or-take n leaves k [] within)
-    ∙ ap (λ l. leaf_at l k) same
-
 -- the directory's numbers behind a leaf
 pub directory-behind : (leaves : List (List Run)) (starts : List ℕ) (ls : List (List Run)) (k : ℕ)
-    → IsDirectory leaves starts → in_use leaves starts ≡ ls → k < length ls
+    → IsDirectory leaves starts → leaves ≡ ls → k < length ls
     → All (λ s. (length (leaf_at ls k) ≤ s) × (s ≤ length (joined ls))) (drop (k + 1) starts)
 directory-behind leaves starts ls k dir same lt = λ j d in'.
     let whole : starts ≡ starts_of 0 ls = dir.each ∙ ap (starts_of 0) same in
@@ -268,34 +213,15 @@ directory-behind leaves starts ls k dir same lt = λ j d in'.
     ap (λ x. get_or x j d) part in
     (omega (arith, bounds.0, value), omega (arith, bounds.1, value))
 
--- a directory of leaves in use
-pub directory-of : (leaves : List (List Run)) (starts : List ℕ) (ls : List (List Run)) (n : ℕ)
-    → starts ≡ starts_of 0 ls → take n leaves ≡ ls → n ≡ length ls → 1 ≤ n → n ≤ length leaves
-    → IsDirectory leaves starts × (in_use leaves starts ≡ ls)
-directory-of leaves starts ls n e same count some within =
-    let all : length starts ≡ length ls + 1 = ap length e ∙ length-starts_of 0 ls in
-    let used : length starts - 1 ≡ n = omega arith in
-    let is : in_use leaves starts ≡ ls = ap (λ k. take k leaves) used ∙ same in
-    (record { not_empty = omega arith; within = omega arith; each = e ∙ ap (starts_of 0) (sym is) }, is)
-
--- a leaf in use gets other records
-pub directory-set : (leaves : List (List Run)) (starts : List ℕ) (ls : List (List Run)) (k : ℕ)
-    (new : List Run) (less more : ℕ) (after : List ℕ)
-    → IsDirectory leaves starts → in_use leaves starts ≡ ls → k < length ls
-    → less ≡ length (leaf_at ls k) → more ≡ length new
+-- a leaf gets other records
+pub directory-set : (leaves : List (List Run)) (starts : List ℕ) (k : ℕ) (new : List Run)
+    (less more : ℕ) (after : List ℕ) → IsDirectory leaves starts → k < length leaves
+    → less ≡ length (leaf_at leaves k) → more ≡ length new
     → after ≡ take (k + 1) starts ++ map (λ s. s - less + more) (drop (k + 1) starts)
-    → IsDirectory (set leaves k new) after × (in_use (set leaves k new) after ≡ set ls k new)
-directory-set leaves starts ls k new less more after dir same lt le me e =
-    let n = length starts - 1 in
-    let count : n ≡ length ls = omega (arith, directory-length leaves starts dir, ap length same) in
-    let whole : starts ≡ starts_of 0 ls = dir.each ∙ ap (starts_of 0) same in
-    let used : take n (set leaves k new) ≡ set ls k new =
-    take-set-within n leaves k new ∙ ap (λ l. set l k new) same in
-    let shifted : after ≡ starts_of 0 (set ls k new) =
-    e ∙ rw (le, me, add-one k, whole) (sym (starts_of-set ls 0 k new lt)) in
-    directory-of (set leaves k new) after (set ls k new) n shifted used
-    (omega (arith, length-set ls k new)) (omega (arith, dir.not_empty))
-    (omega (arith, length-set leaves k new, dir.within))
+    → IsDirectory (set leaves k new) after
+directory-set leaves starts k new less more after dir lt le me e =
+    directory-of (set leaves k new) after (omega (arith, length-set leaves k new))
+    (e ∙ rw (le, me, add-one k, dir.each) (sym (starts_of-set leaves 0 k new lt)))
 
 pub same-table : (a b : List (List Run)) (n m i j : ℕ) → a ≡ b → n ≡ m → i ≡ j
     → let t : LeafTable = record { leaves = a; capacity = n; moved = i } in
@@ -316,38 +242,26 @@ length-splice old from to runs le within =
       length-drop to old,
     )
 
--- a leaf without records comes into use
-pub directory-insert : (leaves : List (List Run)) (starts : List ℕ) (ls : List (List Run)) (k start : ℕ)
-    (leaves' : List (List Run)) (starts' : List ℕ)
-    → IsDirectory leaves starts → in_use leaves starts ≡ ls → k ≤ length ls → length ls < length leaves
+-- a leaf without records is added
+pub directory-insert : (leaves : List (List Run)) (starts : List ℕ) (k start : ℕ) (starts' : List ℕ)
+    → IsDirectory leaves starts → k ≤ length leaves
     → start ≡ get_or starts k start → starts' ≡ insert starts k start
-    → take (length ls + 1) leaves' ≡ insert ls k [] → length leaves' ≡ length leaves
-    → IsDirectory leaves' starts' × (in_use leaves' starts' ≡ insert ls k [])
-directory-insert leaves starts ls k start leaves' starts' dir same le more read e used count =
-    let whole : starts ≡ starts_of 0 ls = dir.each ∙ ap (starts_of 0) same in
-    let within : k < length starts = omega (arith, directory-length leaves starts dir, ap length same) in
+    → IsDirectory (insert leaves k []) starts'
+directory-insert leaves starts k start starts' dir le read e =
+    let within : k < length starts = omega (arith, dir.count) in
     let value : start ≡ get_or starts k 0 = read ∙ get_or_default starts k start 0 within in
-    let inserted : starts' ≡ starts_of 0 (insert ls k []) =
-    e ∙ ap (insert starts k) value ∙ ap (λ s. insert s k (get_or s k 0)) whole
-    ∙ sym (starts_of-insert ls 0 k le) in
-    directory-of leaves' starts' (insert ls k []) (length ls + 1) inserted used
-    (sym (length-insert ls k [] le)) (omega arith) (omega arith)
+    directory-of (insert leaves k []) starts' (omega (arith, length-insert leaves k [] le))
+    (e ∙ ap (insert starts k) value ∙ ap (λ s. insert s k (get_or s k 0)) dir.each
+    ∙ sym (starts_of-insert leaves 0 k le))
 
--- a leaf in use is removed
-pub directory-remove : (leaves : List (List Run)) (starts : List ℕ) (ls : List (List Run)) (k less : ℕ)
-    (leaves' : List (List Run)) (starts' : List ℕ)
-    → IsDirectory leaves starts → in_use leaves starts ≡ ls → k < length ls → 1 < length ls
-    → less ≡ length (leaf_at ls k)
+-- a leaf is removed
+pub directory-remove : (leaves : List (List Run)) (starts : List ℕ) (k less : ℕ) (starts' : List ℕ)
+    → IsDirectory leaves starts → k < length leaves → 1 < length leaves → less ≡ length (leaf_at leaves k)
     → starts' ≡ remove (take (k + 1) starts ++ map (λ s. s - less + 0) (drop (k + 1) starts)) k
-    → take (length ls - 1) leaves' ≡ remove ls k → length leaves' ≡ length leaves
-    → IsDirectory leaves' starts' × (in_use leaves' starts' ≡ remove ls k)
-directory-remove leaves starts ls k less leaves' starts' dir same lt others le e used count =
-    let whole : starts ≡ starts_of 0 ls = dir.each ∙ ap (starts_of 0) same in
-    let all = directory-length leaves starts dir in
-    let removed : starts' ≡ starts_of 0 (remove ls k) =
-    e ∙ rw (le, add-one k, whole) (sym (starts_of-remove ls 0 k lt)) in
-    directory-of leaves' starts' (remove ls k) (length ls - 1) removed used
-    (omega (arith, length-remove ls k lt)) (omega arith) (omega (arith, dir.within, ap length same))
+    → IsDirectory (remove leaves k) starts'
+directory-remove leaves starts k less starts' dir lt others le e =
+    directory-of (remove leaves k) starts' (omega (arith, length-remove leaves k lt))
+    (e ∙ rw (le, add-one k, dir.each) (sym (starts_of-remove leaves 0 k lt)))
 
 -- how many records there are when a leaf gets others
 pub count-set : (ls : List (List Run)) (k : ℕ) (new : List Run) → k < length ls
@@ -364,9 +278,7 @@ count-set (leaf ∷ ls) (suc k) new lt =
     )
 
 -- the directory of one leaf without records
-pub directory-new : (leaves : List (List Run)) (starts : List ℕ) → starts ≡ 0 ∷ 0 ∷ [] → 1 ≤ length leaves
-    → All (λ leaf. leaf ≡ []) leaves → IsDirectory leaves starts × (in_use leaves starts ≡ [] ∷ [])
-directory-new leaves starts e some empty =
-    let first : take 1 leaves ≡ [] ∷ [] =
-    take_more leaves 0 [] (omega arith) ∙ ap (λ x. x ∷ []) (empty 0 [] (omega arith)) in
-    directory-of leaves starts ([] ∷ []) 1 e first refl (omega arith) some
+pub directory-new : (leaves : List (List Run)) (starts : List ℕ) → leaves ≡ [] ∷ [] → starts ≡ 0 ∷ 0 ∷ []
+    → IsDirectory leaves starts
+directory-new leaves starts one e =
+    directory-of leaves starts (omega (arith, ap length one)) (e ∙ ap (starts_of 0) (sym one))

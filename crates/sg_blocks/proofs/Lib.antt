@@ -8,6 +8,7 @@ pub mod LinkLemmas
 pub mod HalvingLemmas
 pub mod RecordLemmas
 pub mod SpliceLemmas
+pub mod LeafListLemmas
 pub mod LeavesLemmas
 pub mod BalanceLemmas
 pub mod AppendLemmas

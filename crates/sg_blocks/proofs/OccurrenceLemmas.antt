@@ -43,11 +43,11 @@ below_count count xs t once h = let e = once.each t in grind (arith, nat_tests)
 none_below : (t : ℕ) → cond {A = ℕ} (nat_lt t 0) 1 0 ≡ 0
 none_below t = grind (arith, nat_tests)
 
-once-none : IsEachOnce 0 []
+pub once-none : IsEachOnce 0 []
 unfolding occurrences
 once-none = record { each = λ t. sym (none_below t) }
 
-once_step : (t n m : ℕ) → m ≡ (cond (nat_lt t n) 1 0) → m + one_if_equal t n ≡ cond (nat_lt t (n + 1)) 1 0
+pub once_step : (t n m : ℕ) → m ≡ (cond (nat_lt t n) 1 0) → m + one_if_equal t n ≡ cond (nat_lt t (n + 1)) 1 0
 once_step t n m e = grind (arith, nat_tests)
 
 once-more : (n : ℕ) (xs : List ℕ) → IsEachOnce n xs → IsEachOnce (n + 1) (xs ++ n ∷ [])

@@ -7,8 +7,8 @@ use Rattle.sg_blocks.specs.declared.leaves.TheConstants.{MIN_LEAF}
 use Rattle.sg_blocks.specs.declared.leaves.Place.{Place}
 use Rattle.sg_blocks.specs.declared.run.Run.{Run}
 
--- The records of each leaf that is in use, in order; how many leaves there are, with those that are
--- not in use; and how many records were moved.
+-- The records of each leaf, in order; for how many leaves there is room; and how many records were
+-- moved.
 pub record LeafTable : Type 0 where
   pub leaves : List (List Run)
   pub capacity : ℕ
@@ -109,15 +109,12 @@ abbrev pub starts_of : (count : ℕ) → List (List Run) → List ℕ
 starts_of count [] = count ∷ []
 starts_of count (leaf ∷ leaves) = count ∷ starts_of (count + length leaf) leaves
 
--- The leaves that are in use: those of which the directory has the first index.
-abbrev pub in_use : (leaves : List (List Run)) → (starts : List ℕ) → List (List Run)
-in_use leaves starts = take (length starts - 1) leaves
-
--- The directory has the first index of each leaf in use, of which there is at least one.
+-- The directory has the index of the first record of each leaf, of which there is at least one, and
+-- the number of records.
 pub record IsDirectory (leaves : List (List Run)) (starts : List ℕ) : Type 0 where
-  pub not_empty : 2 ≤ length starts
-  pub within : length starts ≤ length leaves + 1
-  pub each : starts ≡ starts_of 0 (in_use leaves starts)
+  pub not_empty : 1 ≤ length leaves
+  pub count : length starts ≡ length leaves + 1
+  pub each : starts ≡ starts_of 0 leaves
 
 -- The first `count` of the records from an index on are moved to the end.
 abbrev pub rotated_left : List Run → (from count : ℕ) → List Run

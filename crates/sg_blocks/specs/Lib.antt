@@ -12,6 +12,7 @@ pub mod Records
 pub mod Slots
 pub mod Chains
 pub mod Leaves
+pub mod LeafList
 pub mod Table
 pub mod Draft
 pub mod PlainMap

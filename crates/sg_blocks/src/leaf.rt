@@ -1,43 +1,37 @@
-ghost use Rattle.std.specs.Prelude.{◌≡◌, ◌+◌, ◌-◌, ◌<◌, ◌≤◌, [], length, slice_index_or, IfOk};
+ghost use Rattle.std.specs.Prelude.{◌≡◌, ◌+◌, ◌-◌, ◌<◌, ◌≤◌, [], length, slice_index_or};
 ghost use Rattle.std.specs.List.{splice};
 ghost use Rattle.sg_blocks.specs.Leaves.{rotated_left, rotated_right};
 
 use crate::run::Run;
-use std::alloc::{AllocError, Global};
+use arrayvec::ArrayVec;
 use std::marker::Model;
 
 /// The most records of a leaf.
 pub const MAX_LEAF: usize = 255;
 
-/// Some of the records of a table, in a row, in memory of their own.
+/// Some of the records of a table, in a row.
 #[derive(Drop)]
 pub struct Leaf {
-    records: Vec<Run>,
+    records: ArrayVec<Run, MAX_LEAF>,
 }
 
 impl Model for Leaf {
-    ghost use Rattle.std.specs.Prelude.{List, ◌≤◌, vec_len, vec_capacity};
-    ghost use Rattle.sg_blocks.specs.declared.leaf.TheConstants.{MAX_LEAF};
+    ghost use Rattle.std.specs.Prelude.{List};
     ghost use Rattle.sg_blocks.specs.declared.run.Run.{Run};
 
     ghost Value = { List Run };
 
     ghost view = { λ leaf. leaf.records.items };
-
-    ghost invariant = { λ leaf. (vec_len leaf.records ≤ MAX_LEAF) × (MAX_LEAF ≤ vec_capacity leaf.records) };
 }
 
 impl Leaf {
     /// A leaf without records.
-    ///
-    /// # Errors
-    /// Memory was refused.
-    pub fn new(alloc: Global) -> Result<Leaf, AllocError>
-        ensures { IfOk result (λ leaf. leaf ≡ []) }
+    pub fn new() -> Leaf
+        ensures { result ≡ [] }
     {
-        Ok(Leaf {
-            records: Vec::with_capacity(alloc, MAX_LEAF)?,
-        })
+        Leaf {
+            records: ArrayVec::new(),
+        }
     }
 
     /// How many records there are.
@@ -53,7 +47,7 @@ impl Leaf {
         ensures value { result.now ≡ self.now }
         ensures fits { length result.now ≤ MAX_LEAF }
     {
-        &self.records
+        self.records.as_slice()
     }
 
     /// The record at an offset.
@@ -61,7 +55,7 @@ impl Leaf {
         requires { offset < length self.now }
         ensures { slice_index_or self.now offset result ≡ result }
     {
-        self.records[offset]
+        self.records.as_slice()[offset]
     }
 
     /// Removes all records.
@@ -78,12 +72,12 @@ impl Leaf {
         ensures { self.new ≡ splice self.old from to runs.now }
     {
         let left = self.records.len() - (to - from);
-        rotate_left(&mut self.records, from, to - from);
+        rotate_left(self.records.as_mut_slice(), from, to - from);
         self.records.truncate(left);
-        let extended = self.records.extend_from_slice(runs);
+        let extended = self.records.try_extend_from_slice(runs);
         prove!(extended.is_ok());
         let _ = extended;
-        rotate_right(&mut self.records, from, runs.len());
+        rotate_right(self.records.as_mut_slice(), from, runs.len());
     }
 }
 

@@ -8,7 +8,8 @@ ghost use Rattle.std.specs.List.{splice as splice_list};
 ghost use Rattle.sg_blocks.specs.Leaves.{IsLeafOf, IsPlace, IsSpan, count_before, joined, leaf_at};
 
 use crate::ghost_number::GhostNumber;
-use crate::leaf::{Leaf, MAX_LEAF};
+use crate::leaf::MAX_LEAF;
+use crate::leaf_list::LeafList;
 use crate::run::Run;
 use arrayvec::ArrayVec;
 pub use splicing::splice;
@@ -29,7 +30,7 @@ const HINT_RECORDS: usize = 64;
 
 const HINTS: usize = 1024;
 
-/// A leaf, by its index among those in use, and an offset in it.
+/// A leaf, by its index, and an offset in it.
 #[derive(Clone, Copy)]
 pub struct Place {
     pub leaf: usize,
@@ -54,9 +55,8 @@ const NO_SPAN: Span = Span {
 /// The records of a table in leaves, with a directory of where each leaf begins.
 #[derive(Drop)]
 pub struct Leaves {
-    /// The leaves in use, in order, and then the others.
-    leaves: Vec<Leaf>,
-    /// The index of the first record of each leaf in use, and the number of records.
+    leaves: LeafList,
+    /// The index of the first record of each leaf, and the number of records.
     starts: Vec<u32>,
     /// The leaf that was found last, and those that were found last near other indexes.
     recent: Span,
@@ -66,35 +66,23 @@ pub struct Leaves {
 
 impl Model for Leaves {
     ghost use Rattle.std.specs.Prelude.{◌≡◌, ◌<◌, ◌≤◌, length, vec_capacity};
-    ghost use Rattle.sg_blocks.specs.Leaves.{LeafTable, IsDirectory, IsSpan, in_use};
+    ghost use Rattle.sg_blocks.specs.Leaves.{LeafTable, IsDirectory, IsSpan};
     ghost use Rattle.sg_blocks.specs.declared.leaves.TheConstants.{HINTS, MAX_LEAVES};
 
     ghost Value = { LeafTable };
 
     ghost view = { λ l. record {
-      leaves = in_use l.leaves.items l.starts.items;
-      capacity = length l.leaves.items;
+      leaves = l.leaves.leaves;
+      capacity = l.leaves.capacity;
       moved = l.moved.value;
     } };
 
-    ghost invariant = { λ l. IsDirectory l.leaves.items l.starts.items
-        × (length l.leaves.items < vec_capacity l.starts)
-        × (length l.leaves.items ≤ MAX_LEAVES)
+    ghost invariant = { λ l. IsDirectory l.leaves.leaves l.starts.items
+        × (length l.leaves.leaves ≤ l.leaves.capacity)
+        × (l.leaves.capacity < vec_capacity l.starts)
+        × (l.leaves.capacity ≤ MAX_LEAVES)
         × (length l.hints.items ≡ HINTS)
-        × IsSpan (in_use l.leaves.items l.starts.items) l.recent.leaf l.recent.start l.recent.end };
-}
-
-/// `count` leaves without records.
-fn empty_leaves(alloc: Global, count: usize) -> Result<Vec<Leaf>, AllocError>
-    requires { count ≤ MAX_LEAVES }
-    ensures count { IfOk result (λ leaves. length leaves.items ≡ count) }
-    ensures empty { IfOk result (λ leaves. All (λ leaf. leaf ≡ []) leaves.items) }
-{
-    let mut leaves = Vec::with_capacity(alloc, count)?;
-    for _ in 0..count {
-        leaves.push(Leaf::new(alloc)?)?;
-    }
-    Ok(leaves)
+        × IsSpan l.leaves.leaves l.recent.leaf l.recent.start l.recent.end };
 }
 
 /// The directory of one leaf without records, with room for `count` leaves.
@@ -126,7 +114,7 @@ fn shift(starts: &mut [u32], from: usize, less: u32, more: u32)
 }
 
 impl Leaves {
-    /// `count` leaves, of which one is in use, without records.
+    /// One leaf without records, with room for `count` leaves.
     ///
     /// # Errors
     /// Memory was refused.
@@ -134,8 +122,10 @@ impl Leaves {
         requires { (1 ≤ count) × (count ≤ MAX_LEAVES) }
         ensures { IfOk result (λ l. l ≡ record { leaves = [] ∷ []; capacity = count; moved = 0 }) }
     {
+        let mut leaves = LeafList::new(alloc, count)?;
+        leaves.open(0);
         Ok(Leaves {
-            leaves: empty_leaves(alloc, count)?,
+            leaves,
             starts: empty_directory(alloc, count)?,
             recent: NO_SPAN,
             hints: vec![in alloc; 0; HINTS]?,
@@ -150,7 +140,7 @@ impl Leaves {
         self.starts[self.starts.len() - 1] as usize
     }
 
-    /// How many leaves are in use.
+    /// How many leaves there are.
     pub fn used(&self) -> usize
         ensures value { result ≡ length self.now.leaves }
         ensures not_empty { 0 < result }
@@ -166,7 +156,7 @@ impl Leaves {
         ensures fits { result ≤ MAX_LEAF }
         ensures used { length self.now.leaves ≤ MAX_LEAVES }
     {
-        self.leaves[leaf].len()
+        self.leaves.leaf(leaf).len()
     }
 
     /// The record at a place.
@@ -175,7 +165,7 @@ impl Leaves {
         requires offset { place.offset < length (leaf_at self.now.leaves place.leaf) }
         ensures { slice_index_or (leaf_at self.now.leaves place.leaf) place.offset result ≡ result }
     {
-        self.leaves[place.leaf].record(place.offset)
+        self.leaves.leaf(place.leaf).record(place.offset)
     }
 
     /// Whether the record at an index is in a leaf.
@@ -296,9 +286,9 @@ impl Leaves {
               + (length (leaf_at self.old.leaves leaf) - to + length runs.now);
         } }
     {
-        let before = self.leaves[leaf].len();
-        self.leaves[leaf].splice(from, to, runs);
-        let after = self.leaves[leaf].len();
+        let before = self.leaves.leaf(leaf).len();
+        self.leaves.splice(leaf, from, to, runs);
+        let after = self.leaves.leaf(leaf).len();
         self.moved = self.moved.increased(before - from).increased(after - from);
         shift(&mut self.starts, leaf + 1, before as u32, after as u32);
         self.recent = NO_SPAN;
@@ -310,9 +300,7 @@ impl Leaves {
         requires room { length self.old.leaves < self.old.capacity }
         ensures { self.new ≡ record self.old { leaves = insert self.old.leaves leaf [] } }
     {
-        let used = self.used();
-        self.leaves[used].clear();
-        move_back(&mut self.leaves, leaf, used + 1);
+        self.leaves.open(leaf);
         let start = self.starts[leaf];
         let inserted = self.starts.insert(leaf, start);
         prove!(inserted.is_ok());
@@ -327,11 +315,10 @@ impl Leaves {
         requires count { length (joined self.old.leaves) < 2 ^ 32 }
         ensures { self.new ≡ record self.old { leaves = remove self.old.leaves leaf } }
     {
-        let used = self.used();
-        let count = self.leaves[leaf].len();
+        let count = self.leaves.leaf(leaf).len();
         shift(&mut self.starts, leaf + 1, count as u32, 0);
         self.starts.remove(leaf);
-        move_front(&mut self.leaves, leaf, used);
+        self.leaves.close(leaf);
         self.recent = NO_SPAN;
     }
 
@@ -347,27 +334,10 @@ impl Leaves {
           moved = self.old.moved + (length (leaf_at self.old.leaves leaf) - from);
         } }
     {
-        let records = self.leaves[leaf].records();
+        let records = self.leaves.leaf(leaf).records();
         let extended = copied.try_extend_from_slice(&records[from..]);
         prove!(extended.is_ok());
         let _ = extended;
         self.moved = self.moved.increased(records.len() - from);
     }
-}
-
-/// Moves the last of the leaves before an index to another index.
-fn move_back(leaves: &mut [Leaf], from: usize, to: usize)
-    requires { (from < to) × (to ≤ length leaves.old) }
-    ensures { take to leaves.new
-        ≡ insert (take (to - 1) leaves.old) from (slice_index_or leaves.old (to - 1) []) }
-{
-    leaves[from..to].rotate_right(1);
-}
-
-/// Moves a leaf behind the others that are before an index.
-fn move_front(leaves: &mut [Leaf], from: usize, to: usize)
-    requires { (from < to) × (to ≤ length leaves.old) }
-    ensures { take (to - 1) leaves.new ≡ remove (take to leaves.old) from }
-{
-    leaves[from..to].rotate_left(1);
 }

@@ -9,6 +9,7 @@ mod ghost_number;
 pub mod laws;
 pub mod lba_status;
 mod leaf;
+mod leaf_list;
 mod leaves;
 mod plain_map;
 pub mod pool;

@@ -5,7 +5,7 @@ use Rattle.sg_blocks.proofs.leaves.Leaves.count.Goals as goal
 
 pub returns : goal.returns
 returns c =
-    let leaves = c.self.inside.leaves.items in
+    let leaves = c.self.inside.leaves.leaves in
     let starts = c.self.inside.starts.items in
     let same = ap (λ (t : LeafTable). t.leaves) c.self.view_is in
     c.index.ensures ∙ directory-last leaves starts _ _ c.self.invariant.0 (omega arith)

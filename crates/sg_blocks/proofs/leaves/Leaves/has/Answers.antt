@@ -6,7 +6,7 @@ use Rattle.sg_blocks.proofs.leaves.Leaves.has.Goals as goal
 
 pub returns-then-start-index : goal.returns-then-start-index
 returns-then-start-index c = λ t.
-    let leaves = c.self.inside.leaves.items in
+    let leaves = c.self.inside.leaves.leaves in
     let starts = c.self.inside.starts.items in
     let ls = c.args.self.now.leaves in
     let dir = c.self.invariant.0 in

@@ -8,7 +8,7 @@ returns-then-index-end-clause-place c =
     let ls = c.args.self.now.leaves in
     let recent = c.self.inside.recent in
     let same = ap (λ (l : LeafTable). l.leaves) c.self.view_is in
-    let span : IsSpan ls recent.leaf recent.start recent.end = rw same at c.self.invariant.4 in
+    let span : IsSpan ls recent.leaf recent.start recent.end = rw same at c.self.invariant.5 in
     (place-span ls recent.leaf recent.start recent.end c.args.index span (omega arith) (omega arith)).0
 
 pub returns-then-index-end-clause-within : goal.returns-then-index-end-clause-within
@@ -16,5 +16,5 @@ returns-then-index-end-clause-within c = λ lt.
     let ls = c.args.self.now.leaves in
     let recent = c.self.inside.recent in
     let same = ap (λ (l : LeafTable). l.leaves) c.self.view_is in
-    let span : IsSpan ls recent.leaf recent.start recent.end = rw same at c.self.invariant.4 in
+    let span : IsSpan ls recent.leaf recent.start recent.end = rw same at c.self.invariant.5 in
     (place-span ls recent.leaf recent.start recent.end c.args.index span (omega arith) (omega arith)).1

@@ -9,7 +9,7 @@ loop-last-preserved c =
     let last = c.loop-last.last in
     let inv = c.loop-last.invariant in
     let same = ap (λ (l : LeafTable). l.leaves) c.self.view_is in
-    let start = start-read c.self.inside.leaves.items c.self.inside.starts.items ls (last + 1) _
+    let start = start-read c.self.inside.leaves.leaves c.self.inside.starts.items ls (last + 1) _
     c.self.invariant.0 same (omega arith) c.index.ensures in
     record {
       order = omega arith;
@@ -21,7 +21,7 @@ pub overflow_sub-result : goal.overflow_sub-result
 overflow_sub-result c =
     let same = ap (λ (l : LeafTable). l.leaves) c.self.view_is in
     let inv = c.loop-last.invariant in
-    let start = start-read c.self.inside.leaves.items c.self.inside.starts.items c.args.self.now.leaves
+    let start = start-read c.self.inside.leaves.leaves c.self.inside.starts.items c.args.self.now.leaves
     c.loop-last.last _ c.self.invariant.0 same (omega arith) c.index-2.ensures in
     omega arith
 
@@ -31,7 +31,7 @@ returns-clause-place c =
     let last = c.loop-last.last in
     let inv = c.loop-last.invariant in
     let same = ap (λ (l : LeafTable). l.leaves) c.self.view_is in
-    let leaves = c.self.inside.leaves.items in
+    let leaves = c.self.inside.leaves.leaves in
     let starts = c.self.inside.starts.items in
     let start = start-read leaves starts ls last _ c.self.invariant.0 same (omega arith) c.index-2.ensures in
     let next = start-read leaves starts ls (last + 1) _ c.self.invariant.0 same (omega arith)

@@ -1,22 +1,27 @@
-use Rattle.std.proofs.Common.{arith}
+use Rattle.std.proofs.Common.{ap, ◌∙◌, arith, length}
+use Rattle.std.specs.Prelude.{insert, []}
+use Rattle.sg_blocks.specs.LeafList.{LeafRow}
 use Rattle.sg_blocks.proofs.LeavesLemmas.{directory-new, same-table}
 use Rattle.sg_blocks.proofs.leaves.Leaves.new.Goals as goal
 
 pub invariant_of-result : goal.invariant_of-result
 invariant_of-result c =
-    let leaves = c.in_ok-empty_leaves.ensures in
+    let opened = c.open.ensures ∙ ap (λ (l : LeafRow). record l { leaves = insert l.leaves 0 [] })
+    c.in_ok-leaves.ensures in
+    let one = ap (λ (l : LeafRow). l.leaves) opened in
+    let capacity = ap (λ (l : LeafRow). l.capacity) opened in
     let starts = c.in_ok-empty_directory.ensures in (
-      (directory-new _ _ starts.starts (omega (arith, leaves.count, c.requires.0)) leaves.empty).0,
-      omega (arith, leaves.count, starts.room),
-      omega (arith, leaves.count, c.requires.1),
+      directory-new _ _ one starts.starts,
+      omega (arith, ap length one, capacity, c.requires.0),
+      omega (arith, capacity, starts.room),
+      omega (arith, capacity, c.requires.1),
       omega (arith, c.in_ok-vec.ensures.len),
       λ lt. absurd (omega arith),
     )
 
 pub returns : goal.returns
 returns c =
-    let leaves = c.in_ok-empty_leaves.ensures in
-    let starts = c.in_ok-empty_directory.ensures in
-    let is = directory-new c.in_ok-empty_leaves.field-0.items c.in_ok-empty_directory.field-0.items
-    starts.starts (omega (arith, leaves.count, c.requires.0)) leaves.empty in
-    same-table _ _ _ _ _ _ is.1 leaves.count c.zero.ensures
+    let opened = c.open.ensures ∙ ap (λ (l : LeafRow). record l { leaves = insert l.leaves 0 [] })
+    c.in_ok-leaves.ensures in
+    same-table _ _ _ _ _ _ (ap (λ (l : LeafRow). l.leaves) opened)
+    (ap (λ (l : LeafRow). l.capacity) opened) c.zero.ensures

@@ -7,7 +7,7 @@ pub overflow_sub-offset : goal.overflow_sub-offset
 overflow_sub-offset c =
     let same = ap (λ (l : LeafTable). l.leaves) c.self.view_is in
     let found = c.requires in
-    let start = start-read c.self.inside.leaves.items c.self.inside.starts.items c.args.self.now.leaves
+    let start = start-read c.self.inside.leaves.leaves c.self.inside.starts.items c.args.self.now.leaves
     c.args.leaf _ c.self.invariant.0 same (omega arith) c.index.ensures in
     omega arith
 
@@ -15,7 +15,7 @@ pub returns-clause-place : goal.returns-clause-place
 returns-clause-place c =
     let same = ap (λ (l : LeafTable). l.leaves) c.self.view_is in
     let found = c.requires in
-    let start = start-read c.self.inside.leaves.items c.self.inside.starts.items c.args.self.now.leaves
+    let start = start-read c.self.inside.leaves.leaves c.self.inside.starts.items c.args.self.now.leaves
     c.args.leaf _ c.self.invariant.0 same (omega arith) c.index.ensures in
     placed c.args.self.now.leaves c.args.index c.args.leaf _ found.within start (omega arith)
     found.end
@@ -26,7 +26,7 @@ returns-clause-within c = λ lt.
     let leaf = c.args.leaf in
     let same = ap (λ (l : LeafTable). l.leaves) c.self.view_is in
     let found = c.requires in
-    let start = start-read c.self.inside.leaves.items c.self.inside.starts.items ls
+    let start = start-read c.self.inside.leaves.leaves c.self.inside.starts.items ls
     leaf _ c.self.invariant.0 same (omega arith) c.index.ensures in
     let end = found.record_end lt in
     let next : count_before ls (leaf + 1) ≡ count_before ls leaf + length (leaf_at ls leaf) =

@@ -9,7 +9,7 @@ loop-count-preserved-then-index c =
     let low = c.loop-count.low in
     let half = c.loop-count.count / 2 in
     let same = ap (λ (l : LeafTable). l.leaves) c.self.view_is in
-    let start = start-read c.self.inside.leaves.items c.self.inside.starts.items c.args.self.now.leaves
+    let start = start-read c.self.inside.leaves.leaves c.self.inside.starts.items c.args.self.now.leaves
     (low + half) _ c.self.invariant.0 same (omega arith) c.index.ensures in
     let order : low + half + (c.loop-count.count - half) ≡ low + c.loop-count.count = omega arith in
     record {
@@ -27,7 +27,7 @@ loop-count-preserved c =
     let half = c.loop-count.count / 2 in
     let ls = c.args.self.now.leaves in
     let same = ap (λ (l : LeafTable). l.leaves) c.self.view_is in
-    let start = start-read c.self.inside.leaves.items c.self.inside.starts.items ls (low + half) _
+    let start = start-read c.self.inside.leaves.leaves c.self.inside.starts.items ls (low + half) _
     c.self.invariant.0 same (omega arith) c.index.ensures in
     let rise = count_before-rise ls (low + half) (low + (c.loop-count.count - half)) (omega arith)
     (omega arith) in

@@ -7,7 +7,7 @@ pub returns : goal.returns
 returns c = λ lt.
     let ls = c.args.self.now.leaves in
     let leaf = c.args.leaf in
-    let leaves = c.self.inside.leaves.items in
+    let leaves = c.self.inside.leaves.leaves in
     let starts = c.self.inside.starts.items in
     let same = ap (λ (l : LeafTable). l.leaves) c.self.view_is in
     let start = start-read leaves starts ls leaf _ c.self.invariant.0 same (omega arith) c.index.ensures in
