@@ -9,6 +9,7 @@ ghost use Rattle.sg_block_map.specs.Cutting.{AreDistinct, StaysBut, IsCut};
 ghost use Rattle.sg_block_map.specs.Gathering.{AreGathered};
 ghost use Rattle.sg_block_map.specs.Runs.{expanded, AreRuns, blocks_of};
 
+use crate::put::put_runs;
 use crate::split::split_at;
 use sg_blocks::draft::Draft;
 use sg_blocks::pool::Pool;
@@ -121,5 +122,5 @@ pub fn unmap_runs(
     for i in 0..runs.len() {
         unmap_run(pool, remaining, runs[i], low, high);
     }
-    table.splice(from, from + runs.len(), remaining.records());
+    put_runs(table, gathered, remaining.records());
 }

@@ -14,6 +14,7 @@ ghost use Rattle.sg_block_map.specs.Runs.{expanded, AreMaximal, AreRuns, chained
 ghost use Rattle.sg_block_map.specs.Runs.{blocks_of};
 ghost use Rattle.sg_block_map.specs.Walking.{ahead_of, AreAhead, IsWalkFrom};
 
+use crate::put::put_runs;
 use crate::walk::{Walk, walk_from};
 use sg_blocks::draft::Draft;
 use sg_blocks::pool::Pool;
@@ -199,12 +200,11 @@ pub fn write_runs(
     ensures links { pool.new.links ≤ pool.old.links + blocks_of gathered.now.records }
 {
     let runs = gathered.records();
-    let from = gathered.from();
     let mut progress = begin(pool, runs, lba);
     for i in 0..count {
         let block = source.block(i as usize);
         progress = put_address(pool, runs, progress, lba + u64::from(i), block);
     }
     let run = finish(pool, progress);
-    table.splice(from, from + runs.len(), &[run]);
+    put_runs(table, gathered, &[run]);
 }

@@ -197,23 +197,14 @@ loop-i-preserved c =
       links = omega (arith, inv.links, e.links, links, count);
     }
 
-pub overflow_add-from : goal.overflow_add-from
-overflow_add-from c =
+pub put_runs-requires-clause-table_size : goal.put_runs-requires-clause-table_size
+put_runs-requires-clause-table_size c =
     let fit = runs-fit c.args.table.now.records c.args.pool.now c.args.table.now.room
     c.requires.runs in
-    record {
-      fits = omega (
-        arith,
-        fit,
-        c.requires.room.1,
-        c.requires.gathered.within,
-        c.from-from.ensures,
-        ap length c.records-runs.ensures,
-      );
-    }
+    omega (arith, fit, c.requires.room.1)
 
-pub splice-requires-clause-room : goal.splice-requires-clause-room
-splice-requires-clause-room c =
+pub put_runs-requires-clause-room : goal.put_runs-requires-clause-room
+put_runs-requires-clause-room c =
     let rs = c.args.table.now.records in
     let inv = c.loop-i.invariant in
     let from = c.from-from.result in
@@ -239,10 +230,10 @@ returns-clause-contents c =
     let g = c.requires.gathered in
     let all : c.loop-i.i ≡ length gathered.records =
     omega (arith, c.loop-i-test.false, c.loop-i.auto.i-end, ap length c.records-runs.ensures) in
-    let is : c.splice.new.self.records ≡ take gathered.from rs ++
+    let is : c.put_runs.new.table.records ≡ take gathered.from rs ++
     (kept ++ drop (gathered.from + length gathered.records) rs)
-    = ap (λ (t : Table). t.records) c.splice.ensures.table
-    ∙ rw (c.from-from.ensures, c.records.ensures, c.records-runs.ensures) refl in
+    = ap (λ (t : Table). t.records) c.put_runs.ensures.table
+    ∙ rw c.records.ensures refl in
     let now : splice rs c.from-from.result (c.from-from.result + c.loop-i.i) kept ≡
     take gathered.from rs ++ (kept ++ drop (gathered.from + length gathered.records) rs) =
     rw (c.from-from.ensures, all) refl in

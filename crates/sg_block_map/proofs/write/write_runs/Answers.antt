@@ -1,5 +1,5 @@
 use Rattle.std.proofs.Common.{◌≡◌, ◌+◌, ◌-◌, ◌<◌, List, ◌∷◌, ◌++◌, length, length-append}
-use Rattle.std.proofs.Common.{length-drop, take, drop, ap, ap₂, sym, subst, ◌∙◌, arith, refl}
+use Rattle.std.proofs.Common.{length-drop, take, drop, ap, ap₂, sym, subst, ◌∙◌, arith}
 use Rattle.std.proofs.Common.{add-zero}
 use Rattle.std.proofs.lemmas.List.{length-take-le}
 use Rattle.std.specs.FinMap as map
@@ -177,23 +177,14 @@ finish-run-requires-clause-fits c =
     c.loop-i.progress.done w.run w.at (c.args.lba + c.loop-i.i) c.loop-i.pool inv.writing
     (omega (arith, inv.length, c.requires.runs.links, c.requires.room))
 
-pub overflow_add-from : goal.overflow_add-from
-overflow_add-from c =
+pub put_runs-requires-clause-table_size : goal.put_runs-requires-clause-table_size
+put_runs-requires-clause-table_size c =
     let fit = runs-fit c.args.table.now.records c.args.pool.now c.args.table.now.room
     c.requires.runs in
-    record {
-      fits = omega (
-        arith,
-        fit,
-        c.requires.room,
-        c.requires.gathered.within,
-        c.from-from.ensures,
-        ap length c.records-runs.ensures,
-      );
-    }
+    omega (arith, fit, c.requires.room)
 
-pub splice-requires-clause-room : goal.splice-requires-clause-room
-splice-requires-clause-room c =
+pub put_runs-requires-clause-room : goal.put_runs-requires-clause-room
+put_runs-requires-clause-room c =
     let rs = c.args.table.now.records in
     let gathered = c.args.gathered.now in
     let p = c.args.pool.now in
@@ -235,9 +226,8 @@ returns-clause-contents c =
     let all : c.loop-i.i ≡ c.args.count = omega (arith, c.loop-i-test.false, c.loop-i.auto.i-end) in
     let writing = rw all at inv.writing in
     let some : 0 < done.count = omega (arith, writing.ends, inv.start, c.requires.not_empty) in
-    let is : c.splice.new.self.records ≡ before ++ c.finish-run.result ∷ after =
-    ap (λ (t : Table). t.records) c.splice.ensures.table
-    ∙ rw (c.from-from.ensures, c.records-runs.ensures) refl in
+    let is : c.put_runs.new.table.records ≡ before ++ c.finish-run.result ∷ after =
+    ap (λ (t : Table). t.records) c.put_runs.ensures.table in
     let contents = rw all at inv.contents in
     ap (λ zs. chained_contents zs c.finish-run.new.pool) is
     ∙ ap₂ contents_of (finished-expanded before after gathered.records done c.finish-run.result
@@ -265,10 +255,9 @@ returns-clause-runs c =
     let final = finished-runs before after gathered.records done c.finish-run.result w.run w.at high
     room c.loop-i.pool c.finish-run.new.pool writing inv.near c.finish-run.ensures some g.after
     (inv.length ∙ c.requires.runs.links) in
-    let is : c.splice.new.self.records ≡ before ++ c.finish-run.result ∷ after =
-    ap (λ (t : Table). t.records) c.splice.ensures.table
-    ∙ rw (c.from-from.ensures, c.records-runs.ensures) refl in
-    let same = ap (λ (t : Table). t.room) c.splice.ensures.table in
+    let is : c.put_runs.new.table.records ≡ before ++ c.finish-run.result ∷ after =
+    ap (λ (t : Table). t.records) c.put_runs.ensures.table in
+    let same = ap (λ (t : Table). t.room) c.put_runs.ensures.table in
     rw (is, same) final
 
 pub returns-clause-keeps : goal.returns-clause-keeps
@@ -287,9 +276,8 @@ returns-clause-keeps c =
     let all : c.loop-i.i ≡ c.args.count = omega (arith, c.loop-i-test.false, c.loop-i.auto.i-end) in
     let writing = rw all at inv.writing in
     let some : 0 < done.count = omega (arith, writing.ends, inv.start, c.requires.not_empty) in
-    let is : c.splice.new.self.records ≡ before ++ c.finish-run.result ∷ after =
-    ap (λ (t : Table). t.records) c.splice.ensures.table
-    ∙ rw (c.from-from.ensures, c.records-runs.ensures) refl in
+    let is : c.put_runs.new.table.records ≡ before ++ c.finish-run.result ∷ after =
+    ap (λ (t : Table). t.records) c.put_runs.ensures.table in
     λ blocks q block f. ap (λ zs. map.get (contents_of
     (expanded c.finish-run.new.pool.next zs) blocks) q) is
     ∙ ap (λ zs. map.get (contents_of zs blocks) q)
