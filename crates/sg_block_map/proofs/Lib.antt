@@ -7,6 +7,7 @@ pub mod WalkLemmas
 pub mod CutLemmas
 pub mod CutRunsLemmas
 pub mod JoinLemmas
+pub mod OverwriteLemmas
 pub mod WriteLemmas
 pub mod FinishLemmas
 pub mod MaximalLemmas

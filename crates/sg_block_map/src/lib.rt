@@ -5,6 +5,7 @@
 mod block_map;
 mod gather;
 pub mod laws;
+mod overwrite;
 mod put;
 mod read;
 mod split;

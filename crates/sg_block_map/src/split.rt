@@ -10,7 +10,7 @@ use sg_blocks::pool::Pool;
 use sg_blocks::run::Run;
 
 /// The slot that is `count` links after one.
-fn follow(pool: &mut Pool, first: u32, count: u32) -> u32
+pub fn follow(pool: &mut Pool, first: u32, count: u32) -> u32
     requires below { AreBelow (length pool.old.next) (chain pool.old.next first count) }
     requires headroom { pool.old.links + count ≤ u64.MAX }
     ensures value { result ≡ slot_after pool.old.next first count }

@@ -14,6 +14,7 @@ ghost use Rattle.sg_block_map.specs.Runs.{expanded, AreMaximal, AreRuns, chained
 ghost use Rattle.sg_block_map.specs.Runs.{blocks_of};
 ghost use Rattle.sg_block_map.specs.Walking.{ahead_of, AreAhead, IsWalkFrom};
 
+use crate::overwrite::{covering, overwrite};
 use crate::put::put_runs;
 use crate::walk::{Walk, walk_from};
 use sg_blocks::draft::Draft;
@@ -200,6 +201,10 @@ pub fn write_runs(
     ensures links { pool.new.links ≤ pool.old.links + blocks_of gathered.now.records }
 {
     let runs = gathered.records();
+    if let Some(run) = covering(runs, lba, count) {
+        overwrite(pool, run, lba, count, source);
+        return;
+    }
     let mut progress = begin(pool, runs, lba);
     for i in 0..count {
         let block = source.block(i as usize);

@@ -22,7 +22,18 @@ use Rattle.sg_block_map.proofs.FinishLemmas.{walk_from-near, walk_from-start, wa
 use Rattle.sg_block_map.proofs.FinishLemmas.{free-there, done-fits, ahead-fits, finished-runs}
 use Rattle.sg_block_map.proofs.FinishLemmas.{finished-expanded, finished-blocks}
 use Rattle.sg_block_map.proofs.WriteLemmas.{writing-followed, done-last}
+use Rattle.sg_block_map.proofs.OverwriteLemmas.{first-below}
 use Rattle.sg_block_map.proofs.write.write_runs.Goals as goal
+
+-- the range lies inside one run
+pub overwrite-requires-clause-below : goal.overwrite-requires-clause-below
+overwrite-requires-clause-below c =
+    let gathered = c.args.gathered.now in
+    let run = c.in-Some.run' in
+    let first = rw c.records-runs.ensures at c.in-Some.ensures.first in
+    first-below c.args.table.now.records gathered c.args.pool.now c.args.table.now.room c.args.lba
+    (c.args.lba + c.args.count) run (drop 1 gathered.records) c.requires.runs c.requires.gathered
+    first
 
 pub begin-progress-requires-clause-ahead : goal.begin-progress-requires-clause-ahead
 begin-progress-requires-clause-ahead c =

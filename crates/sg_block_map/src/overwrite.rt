@@ -1,0 +1,55 @@
+// Writing a range that lies inside one run: each block goes to the slot that its address has.
+ghost use Rattle.std.specs.Prelude.{◌≡◌, ◌+◌, ◌<◌, ◌≤◌, ◌++◌, ◌∷◌, List, length, drop, IfSome};
+ghost use Rattle.sg_blocks.specs.Chains.{chain, AreBelow};
+ghost use Rattle.sg_blocks.specs.Disk.{replaced};
+ghost use Rattle.sg_blocks.specs.Slots.{IsConsistent};
+ghost use Rattle.sg_blocks.specs.Source.{HasBlocks, block_of};
+ghost use Rattle.sg_block_map.specs.Runs.{end_of, expanded, chained_contents};
+
+use crate::split::follow;
+use sg_blocks::MAX_CAPACITY;
+use sg_blocks::pool::Pool;
+use sg_blocks::run::Run;
+use sg_blocks::source::Source;
+
+/// The first of some runs, if it has all addresses of a range.
+pub fn covering(runs: &[Run], lba: u64, count: u32) -> Option<Run>
+    requires range { lba + count ≤ MAX_CAPACITY }
+    ensures first { IfSome result (λ run. runs.now ≡ run ∷ drop 1 runs.now) }
+    ensures covers { IfSome result (λ run. (run.start ≤ lba) × (lba + count ≤ end_of run)) }
+{
+    let run = *runs.first()?;
+    let covers = run.start <= lba && lba - run.start + u64::from(count) <= u64::from(run.count);
+    if covers { Some(run) } else { None }
+}
+
+/// Replaces the blocks of addresses that a run has. No slot is taken, and no link is changed.
+pub fn overwrite(pool: &mut Pool, run: Run, lba: u64, count: u32, source: &Source)
+    requires covers { (run.start ≤ lba) × (lba + count ≤ end_of run) }
+    requires not_empty { 0 < count }
+    requires below { AreBelow (length pool.old.next) (chain pool.old.next run.first run.count) }
+    requires slots { length pool.old.blocks ≡ length pool.old.next }
+    requires blocks { HasBlocks source.now count }
+    requires headroom { pool.old.links + run.count ≤ u64.MAX }
+
+    // Whatever runs are before and after.
+    ensures contents { (before after : List Run)
+        → IsConsistent (expanded pool.old.next (before ++ run ∷ after)) pool.old.blocks
+        pool.old.free (length pool.old.next)
+        → chained_contents (before ++ run ∷ after) pool.new
+        ≡ replaced (chained_contents (before ++ run ∷ after) pool.old) lba count
+        (block_of source.now) }
+    ensures pool { pool.new
+        ≡ record pool.old { blocks = pool.new.blocks; links = pool.new.links } }
+    ensures length { length pool.new.blocks ≡ length pool.old.blocks }
+
+    // At most as many links are followed as the run has blocks.
+    ensures rise { pool.old.links ≤ pool.new.links }
+    ensures links { pool.new.links ≤ pool.old.links + run.count }
+{
+    let mut slot = follow(pool, run.first, (lba - run.start) as u32);
+    for i in 0..count {
+        pool.set(slot, source.block(i as usize));
+        slot = pool.next(slot);
+    }
+}
