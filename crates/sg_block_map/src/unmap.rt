@@ -117,6 +117,9 @@ pub fn unmap_runs(
     ensures links { pool.new.links ≤ pool.old.links + blocks_of gathered.now.records }
 {
     let runs = gathered.records();
+    if runs.is_empty() {
+        return;
+    }
     let from = gathered.from();
     remaining.begin(from);
     for i in 0..runs.len() {

@@ -1,17 +1,20 @@
 use Rattle.std.proofs.Common.{◌≡◌, ℕ, ◌+◌, ◌-◌, ◌<◌, ◌≤◌, List, ◌∷◌, ◌++◌, length, take, drop, ap}
-use Rattle.std.proofs.Common.{sym, ◌∙◌, arith, refl, length-append, length-drop}
-use Rattle.std.proofs.lemmas.List.{take-append-drop, length-take-le}
+use Rattle.std.proofs.Common.{[], subst, sym, ◌∙◌, arith, refl, length-append, length-drop}
+use Rattle.std.proofs.lemmas.Bool.Decides.{nat_tests}
+use Rattle.std.proofs.lemmas.List.{nil_from_length, take-append-drop, length-take-le}
 use Rattle.std.proofs.lemmas.List.Sums.{sum_by_more, sum_by-take-le}
+use Rattle.std.specs.FinMap.{find}
 use Rattle.std.specs.List.{splice}
+use Rattle.std.specs.Ordering.{nat_cmp}
 use Rattle.std.specs.Prelude.{slice_index_or}
 use Rattle.sg_blocks.specs.Disk.{unmapped}
 use Rattle.sg_blocks.specs.Draft.{Drafted}
-use Rattle.sg_blocks.specs.Records.{contents_of}
+use Rattle.sg_blocks.specs.Records.{mapped_blocks, contents_of}
 use Rattle.sg_blocks.specs.Slots.{Slots}
 use Rattle.sg_blocks.specs.Table.{Table}
 use Rattle.sg_blocks.specs.declared.run.Run.{Run}
 use Rattle.sg_blocks.specs.declared.store.TheConstants.{MAX_CAPACITY}
-use Rattle.sg_block_map.specs.Gathering.{AreGathered}
+use Rattle.sg_block_map.specs.Gathering.{end_index, AreGathered}
 use Rattle.sg_block_map.specs.Runs.{expanded, AreRuns}
 use Rattle.sg_block_map.proofs.CutRunsLemmas.{cut-runs, cut-contents, cut-outside, run-chain}
 use Rattle.sg_block_map.proofs.CutRunsLemmas.{run-distinct, run-below, run-lengths, run-range}
@@ -33,6 +36,25 @@ here : (rs kept runs : List Run) (gathered : Drafted) (slots : Slots)
 here rs kept runs gathered slots room low high bound from i g same starts_in lt h =
     let lt' : i < length gathered.records = rw (sym same) lt in
     rw same (rw (starts_in, gathered-here rs kept gathered low high bound i no_run g lt') at h)
+
+-- no run is near the range
+pub returns-then-is_empty-clause-contents : goal.returns-then-is_empty-clause-contents
+returns-then-is_empty-clause-contents c =
+    let rs = c.args.table.now.records in
+    let next = c.args.pool.now.next in
+    let gathered = c.args.gathered.now in
+    let g = c.requires.gathered in
+    let before : List Run = take gathered.from rs in
+    let after : List Run = drop (end_index gathered) rs in
+    let none : gathered.records ≡ [] = nil_from_length gathered.records
+    (let empty = sym c.if-is_empty.true ∙ c.is_empty.ensures in
+    let same = ap length c.records-runs.ensures in grind (arith, nat_tests)) in
+    let parts : rs ≡ before ++ after = sym g.same ∙ ap (λ zs. before ++ (zs ++ after)) none in
+    λ blocks. subst (λ zs. contents_of (expanded next zs) blocks ≡ unmapped
+    (contents_of (expanded next zs) blocks) c.args.low (c.args.high - c.args.low)) (sym parts)
+    (nothing-left next before [] after blocks c.args.low c.args.high (MAX_CAPACITY + 1)
+    (omega (arith, c.requires.order)) g.before g.after
+    (λ q low high. ap (λ zs. find nat_cmp q (mapped_blocks zs blocks)) (expanded-none next)))
 
 pub loop-i-init : goal.loop-i-init
 loop-i-init c =
