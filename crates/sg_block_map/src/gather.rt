@@ -1,7 +1,7 @@
 // Gathering the runs near a range from the table.
 ghost use Rattle.std.specs.Prelude.{◌≡◌, ◌+◌, ◌-◌, ◌*◌, ◌^◌, ◌<◌, ◌≤◌, ℕ, length, drop, nat_lt};
 ghost use Rattle.std.specs.List.{count_by, splice, sum_by};
-ghost use Rattle.sg_blocks.specs.Records.{IsSorted, IsLowerBound, start_of};
+ghost use Rattle.sg_blocks.specs.Records.{IsLowerBound, start_of};
 ghost use Rattle.sg_blocks.specs.Table.{visited, probed};
 ghost use Rattle.sg_block_map.specs.Gathering.{AreGathered, AreBegun, end_index, overlap};
 ghost use Rattle.sg_block_map.specs.Gathering.{starts_in};
@@ -42,7 +42,7 @@ fn gather_before(table: &mut RunTable, gathered: &mut Draft, index: usize, low: 
 
 /// Goes on from an index, up to the first run that begins past an address.
 fn gather_from(table: &mut RunTable, gathered: &mut Draft, index: usize, high: u64)
-    requires sorted { IsSorted table.old.records }
+    requires runs { AreMaximal 0 (MAX_CAPACITY + 1) table.old.records }
     requires reached { end_index gathered.old ≡ index }
     requires within { index ≤ length table.old.records }
     requires same { splice table.old.records gathered.old.from index gathered.old.records
@@ -78,7 +78,8 @@ fn gather_from(table: &mut RunTable, gathered: &mut Draft, index: usize, high: u
             return;
         }
         gathered.push(run);
-        if run.start == high {
+        // The next run begins past the end of this one.
+        if run.start + u64::from(run.count) >= high {
             return;
         }
     }

@@ -9,11 +9,11 @@ pub lower_bound-index-requires-clause-sorted : goal.lower_bound-index-requires-c
 lower_bound-index-requires-clause-sorted c = maximal-sorted c.args.table.now.records 0
     (MAX_CAPACITY + 1) c.requires.runs
 
-pub gather_from-requires-clause-sorted : goal.gather_from-requires-clause-sorted
-gather_from-requires-clause-sorted c =
+pub gather_from-requires-clause-runs : goal.gather_from-requires-clause-runs
+gather_from-requires-clause-runs c =
     let same = ap (λ (t : Table). t.records) c.gather_before.ensures.table
     ∙ ap (λ (t : Table). t.records) c.lower_bound-index.ensures.table in
-    rw same (maximal-sorted c.args.table.now.records 0 (MAX_CAPACITY + 1) c.requires.runs)
+    rw same c.requires.runs
 
 pub returns-clause-gathered : goal.returns-clause-gathered
 returns-clause-gathered c =

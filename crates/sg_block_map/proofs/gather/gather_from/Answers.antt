@@ -1,15 +1,18 @@
-use Rattle.std.proofs.Common.{◌≡◌, ◌≢◌, ℕ, ◌+◌, ◌-◌, ◌<◌, List, length, ap, sym, ◌∙◌, arith}
+use Rattle.std.proofs.Common.{◌≡◌, ℕ, ◌+◌, ◌-◌, ◌<◌, List, length, ap, sym, ◌∙◌, arith}
 use Rattle.std.proofs.lemmas.List.{length_push}
 use Rattle.std.specs.Prelude.{slice_index_or}
 use Rattle.sg_blocks.specs.Draft.{Drafted, pushed}
 use Rattle.sg_blocks.specs.Records.{start_of}
 use Rattle.sg_blocks.specs.Table.{Table, visited}
 use Rattle.sg_blocks.specs.declared.run.Run.{Run}
-use Rattle.sg_block_map.specs.Gathering.{end_index}
+use Rattle.sg_blocks.specs.declared.store.TheConstants.{MAX_CAPACITY}
+use Rattle.sg_block_map.specs.Gathering.{end_at, end_index}
+use Rattle.sg_block_map.specs.Runs.{end_of}
 use Rattle.sg_blocks.proofs.RecordLemmas.{start_of-read}
 use Rattle.sg_blocks.proofs.SpliceLemmas.{same-splice}
 use Rattle.sg_blocks.proofs.TableLemmas.{visited-more}
-use Rattle.sg_block_map.proofs.GatheringLemmas.{count-begun, near-more, begun-more}
+use Rattle.sg_block_map.proofs.AddressLemmas.{maximal-order, ends-below}
+use Rattle.sg_block_map.proofs.GatheringLemmas.{count-begun, near-more, begun-more, end_at-read}
 use Rattle.sg_block_map.proofs.gather.gather_from.Goals as goal
 
 -- the run that is visited is the one at the index
@@ -45,8 +48,32 @@ returns-then-run-high-clause-most c =
       ap (λ (t : Table). t.total) c.visit-run.ensures.table,
     )
 
-pub returns-then-run-high-2-clause-near : goal.returns-then-run-high-2-clause-near
-returns-then-run-high-2-clause-near c =
+-- the end of a run
+end_here : (rs now : List Run) (at : ℕ) (run : Run) → now ≡ rs → at < length rs
+    → slice_index_or now at run ≡ run → end_of run ≡ end_at rs at
+end_here rs now at run same low e = end_at-read rs at run low (sym e
+    ∙ ap (λ xs. slice_index_or xs at run) same)
+
+pub overflow_add-run : goal.overflow_add-run
+overflow_add-run c =
+    let rs = c.args.table.now.records in
+    let inv = c.loop-at.invariant in
+    let at = c.loop-at.at in
+    let same = ap (λ (t : Table). t.records) inv.table in
+    let low : at < length rs = omega (arith, c.loop-at-test.true, c.count-at-end.ensures.value) in
+    let end = end_here rs c.loop-at.table.records at c.visit-run.result same low
+    c.visit-run.ensures.value in
+    record {
+      fits = omega (
+        arith,
+        ends-below rs 0 (MAX_CAPACITY + 1) at c.requires.runs low,
+        end,
+        c.from.ensures,
+      );
+    }
+
+pub returns-then-run-from-clause-near : goal.returns-then-run-from-clause-near
+returns-then-run-from-clause-near c =
     let rs = c.args.table.now.records in
     let inv = c.loop-at.invariant in
     let same = ap (λ (t : Table). t.records) inv.table in
@@ -58,21 +85,27 @@ returns-then-run-high-2-clause-near c =
     rw on (near-more rs c.args.index c.loop-at.at c.args.high c.visit-run.result.start inv.near
     start (omega (arith, c.if-run-high.false)))
 
-pub returns-then-run-high-2-clause-after : goal.returns-then-run-high-2-clause-after
-returns-then-run-high-2-clause-after c =
+pub returns-then-run-from-clause-after : goal.returns-then-run-from-clause-after
+returns-then-run-from-clause-after c =
     let rs = c.args.table.now.records in
     let inv = c.loop-at.invariant in
+    let at = c.loop-at.at in
     let same = ap (λ (t : Table). t.records) inv.table in
-    let start = start_here rs c.loop-at.table.records c.loop-at.at c.visit-run.result same
-    (omega (arith, c.loop-at-test.true, c.count-at-end.ensures.value)) c.visit-run.ensures.value
-    in
-    let on = pushed_past c.loop-at.gathered c.visit-run.result c.push.new.self c.loop-at.at
+    let low : at < length rs = omega (arith, c.loop-at-test.true, c.count-at-end.ensures.value) in
+    let end = end_here rs c.loop-at.table.records at c.visit-run.result same low
+    c.visit-run.ensures.value in
+    let on = pushed_past c.loop-at.gathered c.visit-run.result c.push.new.self at
     c.push.ensures inv.reached in
-    rw on (λ low. let up = c.requires.sorted c.loop-at.at (c.loop-at.at + 1) (omega arith) low in
-    omega (arith, c.if-run-high-2.true, start, up))
+    rw on (λ next. omega (
+      arith,
+      c.if-run-from.true,
+      c.from.ensures,
+      end,
+      maximal-order rs 0 (MAX_CAPACITY + 1) at (at + 1) c.requires.runs (omega arith) next,
+    ))
 
-pub returns-then-run-high-2-clause-most : goal.returns-then-run-high-2-clause-most
-returns-then-run-high-2-clause-most c =
+pub returns-then-run-from-clause-most : goal.returns-then-run-from-clause-most
+returns-then-run-from-clause-most c =
     let inv = c.loop-at.invariant in
     let begun = count-begun c.args.table.now.records c.args.index c.loop-at.at c.args.high inv.near
     (omega arith) inv.within in
@@ -94,7 +127,6 @@ loop-at-preserved c =
     let read : run ≡ slice_index_or rs at run = sym c.visit-run.ensures.value
     ∙ ap (λ xs. slice_index_or xs at run) same in
     let start = start_here rs c.loop-at.table.records at run same low c.visit-run.ensures.value in
-    let expanded : run.start ≢ c.args.high = c.if-run-high-2.false in
     let on : at - c.args.index + 1 ≡ at + 1 - c.args.index = omega arith in
     record {
       from = rw c.push.ensures inv.from;
@@ -103,7 +135,7 @@ loop-at-preserved c =
       same = rw c.push.ensures (same-splice rs c.loop-at.gathered.records c.loop-at.gathered.from at
           run low read ∙ inv.same);
       near = begun-more rs c.args.index at c.args.high run.start inv.near start
-          (omega (arith, c.if-run-high.false, expanded));
+          (omega (arith, c.if-run-from.false, c.from.ensures));
       table = c.visit-run.ensures.table ∙ ap (λ t. visited t 1) inv.table
           ∙ visited-more c.args.table.now (at - c.args.index) 1 ∙ ap (visited c.args.table.now) on;
     }
