@@ -113,3 +113,9 @@ mode_parameter_bytes modes request = result_unwrap_or (mode_parameters modes req
 abbrev pub returning_modes : State → RequestFields → (allocation_length : ℕ) → Effect
 returning_modes state request n =
     returning_up_to state n (mode_parameter_bytes state.modes request)
+
+-- What a MODE SELECT does with its parameter list.
+abbrev pub selecting : State → (initiator : ℕ) → (ten sp : Bool) → (list : List ℕ)
+    → Result Effect Refusal
+selecting state initiator ten sp list =
+    setting_if_sound state initiator (selected_modes state ten sp list)

@@ -1,6 +1,6 @@
 -- The words of the code for what is left to do of a command, in those of the definitions.
-use Rattle.std.specs.Prelude.{◌≡◌, ℕ, ◌+◌, ◌≤◌, List, [], ◌∷◌, length, Bool, Option, Some, None, Ok}
-use Rattle.std.specs.Prelude.{if◌then◌else◌}
+use Rattle.std.specs.Prelude.{◌≡◌, ℕ, ◌+◌, ◌^◌, ◌≤◌, ◌<◌, List, [], ◌∷◌, length, Bool}
+use Rattle.std.specs.Prelude.{Option, Some, None, Result, Ok}
 use Rattle.std.specs.Prelude.{true, false}
 use Rattle.sg_wire.specs.CutAnswer.{first_bytes, overwritten}
 use Rattle.sg_wire.specs.SenseData.{sense_data}
@@ -13,58 +13,60 @@ use Rattle.sg_pages.specs.Identity.{IdentityFields}
 use Rattle.sg_pages.specs.ModePage.{ModeState}
 use Rattle.sg_pages.specs.ModeSense.{fields_of}
 use Rattle.sg_pages.specs.ProvisioningPages.{maximum_transfer_length}
-use Rattle.sg_units.specs.ReserveOut.{IsConsistentChange}
 use Rattle.sg_units.specs.declared.reservation_state.ReservationState.{ReservationState}
 use Rattle.sg_target.specs.BlockCommands.{bytes_of, read_capacity_10, read_capacity_16, reading, writing}
 use Rattle.sg_target.specs.CapacityData.{block_length, capacity_10, capacity_16}
 use Rattle.sg_target.specs.Checks.{checked_effect, first_fault, list_fault, request_fault}
 use Rattle.sg_target.specs.Checks.{short_data_out, unsupported_value}
 use Rattle.sg_target.specs.Effect.{Effect, no_effect}
-use Rattle.sg_target.specs.ModeCommands.{mode_parameter_bytes, returning_modes, selected_modes}
-use Rattle.sg_target.specs.ModeCommands.{setting_modes, unless_page_format}
+use Rattle.sg_target.specs.ModeCommands.{mode_parameter_bytes, returning_modes, selecting}
+use Rattle.sg_target.specs.ModeCommands.{unless_page_format}
 use Rattle.sg_target.specs.PrimaryCommands.{inquiry_data, returning_page, returning_sense}
 use Rattle.sg_target.specs.Refusal.{pending_sense}
 use Rattle.sg_target.specs.ProvisioningCommands.{block_out, filling, reporting_status, unmap_list}
-use Rattle.sg_target.specs.ProvisioningCommands.{unmapping, unmaps}
-use Rattle.sg_target.specs.ReservationCommands.{changing_reservations, reporting, reserve_in_data}
-use Rattle.sg_target.specs.ReservationCommands.{reservation_change, unless_type}
+use Rattle.sg_target.specs.ProvisioningCommands.{unmapping}
+use Rattle.sg_target.specs.ReservationCommands.{reporting, reserve_in_data, reserving_out}
+use Rattle.sg_target.specs.ReservationCommands.{unless_type}
 use Rattle.sg_target.specs.Semantics.{bad_count, extent, semantics, unless_anchor}
 use Rattle.sg_target.specs.State.{State}
-use Rattle.sg_target.specs.Step.{Step, executed_or_refused, refusal_answer}
+use Rattle.sg_target.specs.Step.{Step, outcome, refusal_answer}
 use Rattle.sg_target.specs.declared.data_in.DataIn.{DataIn}
 use Rattle.sg_target.specs.declared.data_in.DataIn.TheVariants.{ModeParameters, Sense, Inquiry}
 use Rattle.sg_target.specs.declared.data_in.DataIn.TheVariants.{Capacity10, Capacity16, Reservations}
 use Rattle.sg_target.specs.declared.extent.Extent.{Extent}
 use Rattle.sg_target.specs.declared.operation.Operation.{Operation}
-use Rattle.sg_target.specs.declared.operation.Operation.TheVariants.{ModeSense, SetModes}
+use Rattle.sg_target.specs.declared.operation.Operation.TheVariants.{ModeSense, SelectModes}
 use Rattle.sg_target.specs.declared.operation.Operation.TheVariants.{Nothing, RequestSense}
 use Rattle.sg_target.specs.declared.operation.Operation.TheVariants.{ReturnInquiry, ReadCapacity10}
 use Rattle.sg_target.specs.declared.operation.Operation.TheVariants.{ReadCapacity16, Read, Write}
 use Rattle.sg_target.specs.declared.operation.Operation.TheVariants.{Synchronize, Fill, Unmap}
 use Rattle.sg_target.specs.declared.operation.Operation.TheVariants.{UnmapExtent, GetLbaStatus}
 use Rattle.sg_target.specs.declared.operation.Operation.TheVariants.{PersistentReserveIn}
-use Rattle.sg_target.specs.declared.operation.Operation.TheVariants.{ChangeReservations}
+use Rattle.sg_target.specs.declared.operation.Operation.TheVariants.{ReserveOut}
 use Rattle.sg_target.specs.declared.refusal.Refusal.{Refusal}
 use Rattle.sg_target.specs.declared.reply.Reply.{Reply}
 use Rattle.sg_target.specs.declared.reply.Status.TheVariants.{Good}
 
-abbrev pub effect_of : State → (initiator : ℕ) → Operation → (data_out : List ℕ) → Effect
-effect_of state i Nothing data_out = no_effect state
-effect_of state i (RequestSense format n) data_out = returning_sense state i format n
-effect_of state i (ReturnInquiry page n) data_out = returning_page state page n
-effect_of state i (ModeSense request n) data_out = returning_modes state (fields_of request) n
-effect_of state i (SetModes modes changed) data_out = setting_modes state i modes changed
-effect_of state i ReadCapacity10 data_out = read_capacity_10 state
-effect_of state i (ReadCapacity16 n) data_out = read_capacity_16 state n
-effect_of state i (Read extent) data_out = reading state extent
-effect_of state i (Write extent) data_out = writing state extent data_out
-effect_of state i (Synchronize extent) data_out = no_effect state
-effect_of state i (Fill extent) data_out = filling state extent (block_out data_out)
-effect_of state i (Unmap extents) data_out = unmapping state extents
-effect_of state i (UnmapExtent extent) data_out = unmapping state (extent ∷ [])
-effect_of state i (GetLbaStatus start n) data_out = reporting_status state start n
-effect_of state i (PersistentReserveIn kind n) data_out = reporting state kind n
-effect_of state i (ChangeReservations change) data_out = changing_reservations state i change
+-- What it does, or what is wrong with a parameter list that is checked as it is executed.
+abbrev pub effect_of : State → (initiator : ℕ) → Operation → (data_out : List ℕ)
+    → Result Effect Refusal
+effect_of state i Nothing data_out = Ok (no_effect state)
+effect_of state i (RequestSense format n) data_out = Ok (returning_sense state i format n)
+effect_of state i (ReturnInquiry page n) data_out = Ok (returning_page state page n)
+effect_of state i (ModeSense request n) data_out = Ok (returning_modes state (fields_of request) n)
+effect_of state i (SelectModes ten sp list) data_out = selecting state i ten sp list
+effect_of state i ReadCapacity10 data_out = Ok (read_capacity_10 state)
+effect_of state i (ReadCapacity16 n) data_out = Ok (read_capacity_16 state n)
+effect_of state i (Read extent) data_out = Ok (reading state extent)
+effect_of state i (Write extent) data_out = Ok (writing state extent data_out)
+effect_of state i (Synchronize extent) data_out = Ok (no_effect state)
+effect_of state i (Fill extent) data_out = Ok (filling state extent (block_out data_out))
+effect_of state i (Unmap extents) data_out = Ok (unmapping state extents)
+effect_of state i (UnmapExtent extent) data_out = Ok (unmapping state (extent ∷ []))
+effect_of state i (GetLbaStatus start n) data_out = Ok (reporting_status state start n)
+effect_of state i (PersistentReserveIn kind n) data_out = Ok (reporting state kind n)
+effect_of state i (ReserveOut action scope_type list) data_out =
+    reserving_out state i action scope_type list
 
 -- The extents that have to be on the disk.
 abbrev pub extents_of : Operation → List Extent
@@ -85,14 +87,14 @@ writes_medium (Unmap extents) = true
 writes_medium (UnmapExtent extent) = true
 writes_medium _ = false
 
--- No more blocks are moved than the disk takes, data-out has the blocks that are written, and
--- registrations and reservation belong together.
+-- No more blocks are moved than the disk takes, data-out has the blocks that are written, and an
+-- offset in a mode parameter list has 16 bits.
 abbrev pub IsExecutable : Operation → (data_out : List ℕ) → Type 0
 IsExecutable (Read extent) data_out = extent.count ≤ maximum_transfer_length
 IsExecutable (Write extent) data_out =
     (extent.count ≤ maximum_transfer_length) × (bytes_of extent ≤ length data_out)
 IsExecutable (Fill extent) data_out = block_length ≤ length data_out
-IsExecutable (ChangeReservations change) data_out = IsConsistentChange change
+IsExecutable (SelectModes ten sp list) data_out = length list < 2 ^ 16
 IsExecutable _ data_out = Unit {0}
 
 abbrev pub AreOnDisk : (capacity : ℕ) → List Extent → Type 0
@@ -115,11 +117,6 @@ write_same_fault anchor count byte data_out =
     (short_data_out (Some block_length) data_out)
     None
 
--- What is left to do of it.
-abbrev pub write_same_operation : (unmap : Bool) → Extent → (data_out : List ℕ) → Operation
-write_same_operation unmap extent data_out =
-    if unmaps unmap (block_out data_out) then UnmapExtent extent else Fill extent
-
 -- What is wrong with an UNMAP.
 abbrev pub unmap_fault : (anchor : Bool) (list_length : ℕ) (data_out : List ℕ) → Option Refusal
 unmap_fault anchor n data_out =
@@ -128,47 +125,46 @@ unmap_fault anchor n data_out =
     (short_data_out (Some n) data_out)
     (list_fault (unmap_list (first_bytes n data_out)))
 
--- What is wrong with a MODE SELECT.
-abbrev pub mode_select_fault : State → (ten pf sp : Bool) (list_length : ℕ) (data_out : List ℕ)
-    → Option Refusal
-mode_select_fault state ten pf sp n data_out =
-    first_fault
-    (unsupported_value (unless_page_format pf))
-    (short_data_out (Some n) data_out)
-    (list_fault (selected_modes state ten sp (first_bytes n data_out)))
+-- What is wrong with a MODE SELECT, by what is wrong with its parameter list.
+abbrev pub mode_select_fault : (pf : Bool) (list_length : ℕ) (data_out : List ℕ)
+    → (list : Option Refusal) → Option Refusal
+mode_select_fault pf n data_out list =
+    first_fault (unsupported_value (unless_page_format pf)) (short_data_out (Some n) data_out) list
 
--- What is wrong with a PERSISTENT RESERVE OUT.
-abbrev pub reserve_out_fault : State → (initiator : ℕ) → OutAction → (scope_type list_length : ℕ)
-    → (data_out : List ℕ) → Option Refusal
-reserve_out_fault state initiator action scope_type n data_out =
+-- What is wrong with a PERSISTENT RESERVE OUT, by what is wrong with its parameter list.
+abbrev pub reserve_out_fault : OutAction → (scope_type list_length : ℕ) (data_out : List ℕ)
+    → (list : Option Refusal) → Option Refusal
+reserve_out_fault action scope_type n data_out list =
     first_fault
     (unsupported_value (unless_type action scope_type))
     (short_data_out (Some n) data_out)
-    (list_fault (reservation_change state initiator action scope_type (first_bytes n data_out)))
+    list
 
--- The request checks have passed a command: what is left to do of it has its effect and its
--- extents, and writes to the medium where the command does.
+-- The request checks have passed a command, but for its parameter list where that is checked as it
+-- is executed: what is left to do of it has its effect and its extents, and writes to the medium
+-- where the command does.
 pub record IsRequested (state : State) (initiator : ℕ) (command : Command) (data_out : List ℕ)
     (operation : Operation) : Type 0 where
-  pub passed : request_fault (semantics state initiator command data_out) data_out ≡ None
+  pub passed : request_fault (semantics state initiator command data_out) data_out
+      ≡ list_fault (effect_of state initiator operation data_out)
   pub effect : (semantics state initiator command data_out).effect
-      ≡ Ok (effect_of state initiator operation data_out)
+      ≡ effect_of state initiator operation data_out
   pub extents : (semantics state initiator command data_out).extents ≡ extents_of operation
   pub writes : (semantics state initiator command data_out).writes_medium ≡ writes_medium operation
   pub executable : IsExecutable operation data_out
 
--- All checks but that for space have passed a CDB.
+-- All checks have passed a CDB, but that for space and that of a parameter list.
 pub record IsChecked (state : State) (initiator : ℕ) (cdb data_out : List ℕ)
     (operation : Operation) : Type 0 where
   pub effect : checked_effect state initiator cdb data_out
-      ≡ Ok (effect_of state initiator operation data_out)
+      ≡ effect_of state initiator operation data_out
   pub on_disk : AreOnDisk state.disk.capacity (extents_of operation)
   pub executable : IsExecutable operation data_out
 
 -- What an operation that has passed them does.
 abbrev pub step_by : State → (initiator : ℕ) → Operation → (data_out : List ℕ) → Step
 step_by state initiator operation data_out =
-    executed_or_refused state initiator (effect_of state initiator operation data_out)
+    outcome state initiator (effect_of state initiator operation data_out)
 
 -- The full data-in of a kind, of a disk with an identity, a number of blocks, mode pages and
 -- reservations.

@@ -100,3 +100,11 @@ abbrev pub changing_if_sound : State → (initiator : ℕ) → Result Reservatio
     → Result Effect Refusal
 changing_if_sound state initiator (Ok change) = Ok (changing_reservations state initiator change)
 changing_if_sound state initiator (Err refusal) = Err refusal
+
+-- ---- Cited by private contracts alone
+
+-- What a PERSISTENT RESERVE OUT does with its parameter list.
+abbrev pub reserving_out : State → (initiator : ℕ) → OutAction → (scope_type : ℕ) → (list : List ℕ)
+    → Result Effect Refusal
+reserving_out state initiator action scope_type list =
+    changing_if_sound state initiator (reservation_change state initiator action scope_type list)

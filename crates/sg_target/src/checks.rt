@@ -25,7 +25,7 @@ use sg_wire::{CdbFault, Command, Initiator};
 impl<S: Store> Target<S> {
     // Checks a CDB and its command, all but that for space, which is made as the command is
     // executed. Returns what is left to do.
-    #[tactic(auto, unfolding(crate::specs::Checks::checked_effect))]
+    #[tactic(auto, using(crate::proofs::StepLemmas::list_checked_last), unfolding(crate::specs::Checks::checked_effect))]
     pub(crate) fn check_command<'a>(
         &self,
         initiator: Initiator,

@@ -13,6 +13,7 @@ mod inquiry_page;
 pub mod laws;
 mod mode;
 mod operation;
+mod parameter_list;
 mod refusal;
 mod reply;
 mod reservation;

@@ -1,22 +1,26 @@
 // MODE SENSE and MODE SELECT: what they ask for, and the change of the mode pages.
-ghost use Rattle.std.specs.Prelude.{◌≡◌, ◌<◌, ◌^◌, length, Some, None, Ok, Err};
-ghost use Rattle.std.specs.Prelude.{IfOk, IfErr, IsOk, IsTrue};
+ghost use Rattle.std.specs.Prelude.{◌≡◌, ◌<◌, ◌^◌, length, Option, Some, Ok, Err};
+ghost use Rattle.std.specs.Prelude.{IfOk, IfErr, IsTrue};
 ghost use Rattle.sg_wire.specs.Cut.{Puts};
 ghost use Rattle.sg_wire.specs.CutAnswer.{first_bytes};
-ghost use Rattle.sg_pages.specs.ModeSelect.{changed_by};
 ghost use Rattle.sg_pages.specs.ModeSense.{fields_of};
 ghost use Rattle.sg_target.specs.ModeCommands.{mode_parameter_bytes, page_control_of};
-ghost use Rattle.sg_target.specs.ModeCommands.{returning_modes, selected_modes, sense_request};
-ghost use Rattle.sg_target.specs.ModeCommands.{sensing, setting_modes};
-ghost use Rattle.sg_target.specs.Operation.{executed_reply, mode_select_fault};
-ghost use Rattle.sg_blocks.specs.Meter.{no_counts};
+ghost use Rattle.sg_target.specs.ModeCommands.{attentions_after, returning_modes, selecting};
+ghost use Rattle.sg_target.specs.ModeCommands.{sense_request, sensing};
+ghost use Rattle.sg_target.specs.Operation.{mode_select_fault};
+ghost use Rattle.sg_target.specs.Ranges.{IsCharged, cost_bounds, ranges_in};
+ghost use Rattle.sg_target.specs.Reply.{Carries};
+ghost use Rattle.sg_target.specs.State.{IsWithinLimits};
+ghost use Rattle.sg_target.specs.Step.{outcome};
+ghost use Rattle.sg_target.specs.declared.refusal.Refusal.{Refusal};
 
 use crate::checks::needed_data_out;
 use crate::operation::Operation;
+use crate::parameter_list::ParameterList;
 use crate::refusal::{Reason, Refusal};
 use crate::reply::Reply;
 use crate::target::Target;
-use sg_blocks::Store;
+use sg_blocks::{Counts, Store};
 use sg_pages::{
     Changed, ModePages, ModeSelectFault, ModeSenseFault, ModeSenseRequest, PageControl,
 };
@@ -105,73 +109,81 @@ pub(crate) fn write_mode_parameters(modes: &ModePages, request: &ModeSenseReques
 
 // ---- MODE SELECT
 
+// What a MODE SELECT asks for. PF is in byte 1.
+#[tactic(auto, unfolding(crate::specs::Checks::first_fault))]
+pub(crate) fn mode_select(
+    ten: bool,
+    pf: bool,
+    sp: bool,
+    list_length: u16,
+    data_out: &[u8],
+) -> Result<Operation<'_>, Refusal>
+    ensures refused { IfErr result (λ refusal. (list : Option Refusal) →
+        mode_select_fault pf list_length data_out.now list ≡ Some refusal) }
+    ensures passed { IfOk result (λ _. (list : Option Refusal) →
+        mode_select_fault pf list_length data_out.now list ≡ list) }
+    ensures operation { IfOk result (λ operation. operation
+        ≡ Operation.SelectModes ten sp (first_bytes list_length data_out.now)) }
+    ensures length { IfOk result (λ _. length (first_bytes list_length data_out.now) < 2 ^ 16) }
+{
+    if !pf {
+        return Err(Refusal::Check(Reason::InvalidFieldInCdb { byte: 1 }));
+    }
+    let bytes = needed_data_out(data_out, usize::from(list_length))?;
+    Ok(Operation::SelectModes {
+        ten,
+        sp,
+        list: ParameterList { bytes },
+    })
+}
+
 impl<S: Store> Target<S> {
-    // What a MODE SELECT asks for. PF is in byte 1.
-    #[tactic(auto, unfolding(crate::specs::Checks::first_fault))]
-    pub(crate) fn mode_select(
-        &self,
-        ten: bool,
-        pf: bool,
-        sp: bool,
-        list_length: u16,
-        data_out: &[u8],
-    ) -> Result<Operation<'static>, Refusal>
-        ensures refused { IfErr result (λ refusal.
-            mode_select_fault self.now.state ten pf sp list_length data_out.now ≡ Some refusal) }
-        ensures passed { IfOk result (λ _.
-            mode_select_fault self.now.state ten pf sp list_length data_out.now ≡ None) }
-        ensures operation { IfOk result (λ operation.
-            IfOk (selected_modes self.now.state ten sp (first_bytes list_length data_out.now))
-            (λ modes. operation
-            ≡ Operation.SetModes modes (changed_by self.now.state.modes modes).0)) }
-    {
-        if !pf {
-            return Err(Refusal::Check(Reason::InvalidFieldInCdb { byte: 1 }));
-        }
-        let list = needed_data_out(data_out, usize::from(list_length))?;
-        self.select_modes(ten, sp, list)
-    }
-
-    // The mode pages after a parameter list.
-    #[tactic(auto, unfolding(crate::specs::ModeCommands::selected_modes))]
-    fn select_modes(&self, ten: bool, sp: bool, list: &[u8]) -> Result<Operation<'static>, Refusal>
-        requires { length list.now < 2 ^ 16 }
-        ensures refused { IfErr result (λ refusal.
-            selected_modes self.now.state ten sp list.now ≡ Err refusal) }
-        ensures passed { IfOk result (λ operation.
-            IfOk (selected_modes self.now.state ten sp list.now) (λ modes. operation
-            ≡ Operation.SetModes modes (changed_by self.now.state.modes modes).0)) }
-        ensures sound { IfOk result (λ operation.
-            IsOk (selected_modes self.now.state ten sp list.now)) }
-    {
-        let mut modes = self.modes;
-        match modes.select(list, ten, sp, self.config.blocks()) {
-            Ok(Changed(changed)) => Ok(Operation::SetModes { modes, changed }),
-            Err(ModeSelectFault::Length) => Err(Refusal::Check(Reason::ParameterListLengthError)),
-            Err(ModeSelectFault::Field(byte)) => {
-                Err(Refusal::Check(Reason::InvalidFieldInParameterList { byte: byte as u16 }))
-            }
-        }
-    }
-
-    // The mode pages become other ones. Where a current value has changed, the other initiators get a
-    // unit attention.
-    pub(crate) fn set_modes(
+    // MODE SELECT: the mode pages become those of a parameter list, unless something is wrong with it.
+    // Room for them would else be made for every command.
+    #[inline(never)]
+    #[tactic(auto, using(crate::proofs::StepLemmas::has_room), unfolding(crate::specs::ModeCommands::selected_modes))]
+    pub(crate) fn select_modes(
         &mut self,
         initiator: Initiator,
-        modes: ModePages,
-        changed: bool,
+        ten: bool,
+        sp: bool,
+        list: &[u8],
+        buf: &[u8],
     ) -> Reply
-        ensures reply { result ≡ executed_reply 0 no_counts }
-        ensures state { self.new.state
-            ≡ (setting_modes self.old.state initiator modes changed).after }
+        requires list { length list.now < 2 ^ 16 }
+        requires limits { IsWithinLimits self.old.state }
+        ensures reply { let done = outcome self.old.state initiator
+            (selecting self.old.state initiator ten sp list.now) in
+            Carries done.answer result buf.now buf.now }
+        ensures state { self.new.state ≡ (outcome self.old.state initiator
+            (selecting self.old.state initiator ten sp list.now)).state }
+        ensures charge { IsCharged (cost_bounds S.price S.least) self.old.state.disk.pool
+            (ranges_in (selecting self.old.state initiator ten sp list.now))
+            self.old.meter self.new.meter result }
+    {
+        let reason = match self.modes.select(list, ten, sp, self.config.blocks()) {
+            Ok(Changed(changed)) => {
+                self.report_changed_modes(initiator, changed);
+                return Reply::without_blocks(0);
+            }
+            Err(ModeSelectFault::Length) => Reason::ParameterListLengthError,
+            Err(ModeSelectFault::Field(byte)) => {
+                Reason::InvalidFieldInParameterList { byte: byte as u16 }
+            }
+        };
+        self.refuse(initiator, Refusal::Check(reason), Counts::default())
+    }
+
+    // Where a current value has changed, the other initiators get a unit attention.
+    fn report_changed_modes(&mut self, initiator: Initiator, changed: bool)
+        ensures state { self.new.state ≡ record self.old.state {
+          attentions = attentions_after self.old.state.attentions initiator changed;
+        } }
         ensures meter { self.new.meter ≡ self.old.meter }
     {
-        self.modes = modes;
         if changed {
             let others = Raised::for_others(initiator, UnitAttention::ModeParametersChanged);
             self.attentions.raise_for_each(&others);
         }
-        Reply::without_blocks(0)
     }
 }

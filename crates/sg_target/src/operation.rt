@@ -1,20 +1,20 @@
 // What is left to do of a command: from the command to its execution.
-ghost use Rattle.std.specs.Prelude.{◌≡◌, ◌≤◌, ◌==◌, length, Some, None, IfOk, IfErr, IfNone, IfSome, IsSome};
+ghost use Rattle.std.specs.Prelude.{◌≡◌, ◌≤◌, ◌==◌, ℕ, true, [], ◌∷◌, length, Some, None, Ok};
+ghost use Rattle.std.specs.Prelude.{IfOk, IfErr, IfNone, IfSome, IsSome};
 ghost use Rattle.std.specs.List.{list_all};
 ghost use Rattle.sg_pages.specs.ProvisioningPages.{maximum_transfer_length};
 ghost use Rattle.sg_target.specs.BlockCommands.{bytes_of};
-ghost use Rattle.sg_target.specs.CapacityData.{block_length};
-ghost use Rattle.sg_target.specs.ProvisioningCommands.{unmaps};
+ghost use Rattle.sg_target.specs.ProvisioningCommands.{unmaps, writing_same};
 ghost use Rattle.sg_target.specs.Checks.{out_of_range, request_fault, unsupported_value};
 ghost use Rattle.sg_target.specs.Operation.{AreOnDisk, IsExecutable, IsRequested, effect_of};
 ghost use Rattle.sg_target.specs.Operation.{extents_of, step_by, write_fault};
 ghost use Rattle.sg_target.specs.Operation.{writes_medium};
-ghost use Rattle.sg_target.specs.Operation.{write_same_fault, write_same_operation};
+ghost use Rattle.sg_target.specs.Operation.{write_same_fault};
 ghost use Rattle.sg_target.specs.PrimaryCommands.{format_of, inquiry_page};
-ghost use Rattle.sg_target.specs.Ranges.{IsCharged, cost_bounds};
+ghost use Rattle.sg_target.specs.Ranges.{IsCharged, cost_bounds, ranges_in};
 ghost use Rattle.sg_target.specs.Reply.{Carries};
 ghost use Rattle.sg_target.specs.Semantics.{semantics, too_long};
-ghost use Rattle.sg_target.specs.State.{IsWithinLimits};
+ghost use Rattle.sg_target.specs.State.{IsWithinLimits, State};
 
 use crate::checks::{
     check_data_out, check_transfer_length, check_write_same_length, needed_data_out, past_capacity,
@@ -22,18 +22,21 @@ use crate::checks::{
 use crate::data_in::{CAPACITY_10_LENGTH, CAPACITY_16_LENGTH, DataIn};
 use crate::extent::Extent;
 use crate::inquiry_page::InquiryPage;
+use crate::mode::mode_select;
+use crate::parameter_list::ParameterList;
 use crate::refusal::{Reason, Refusal};
 use crate::reply::{Reply, format_of};
-use crate::reservation::{ReserveInData, persistent_reserve_in};
+use crate::reservation::{ReserveInData, persistent_reserve_in, persistent_reserve_out};
 use crate::target::{BUFFER_LENGTH, Target};
 use crate::unmap::{ListedExtents, unmap};
 use sg_blocks::{BLOCK_LENGTH, MAX_CAPACITY, Store};
-use sg_pages::{ModePages, ModeSenseRequest};
-use sg_units::ReservationChange;
-use sg_wire::{Command, Format, Initiator};
+use sg_pages::ModeSenseRequest;
+use sg_wire::{Command, Format, Initiator, OutAction};
 
-/// What is left to do of a command whose values, data-out and parameter list are sound, with what
-/// that takes. Only blocks past the last one and want of space can still refuse it.
+/// What is left to do of a command whose values and data-out are sound, with what that takes. Blocks
+/// past the last one and want of space can still refuse it, and so can the parameter list of MODE
+/// SELECT or PERSISTENT RESERVE OUT: no other check comes after it, so it is read where it lies as it
+/// is executed, and what is left to do of each command stays small.
 #[derive(Drop)]
 pub(crate) enum Operation<'a> {
     /// TEST UNIT READY.
@@ -56,11 +59,13 @@ pub(crate) enum Operation<'a> {
         /// In bytes.
         allocation_length: u16,
     },
-    /// MODE SELECT: the mode pages become these.
-    SetModes {
-        modes: ModePages,
-        /// Whether a current value differs from what it was.
-        changed: bool,
+    /// MODE SELECT: the mode pages become those of a list.
+    SelectModes {
+        /// Whether the list is that of MODE SELECT(10), with its longer header.
+        ten: bool,
+        /// Whether all pages are saved.
+        sp: bool,
+        list: ParameterList<'a>,
     },
     ReadCapacity10,
     ReadCapacity16 {
@@ -92,7 +97,12 @@ pub(crate) enum Operation<'a> {
         allocation_length: u16,
     },
     /// PERSISTENT RESERVE OUT: registrations and reservation change.
-    ChangeReservations(ReservationChange),
+    ReserveOut {
+        action: OutAction,
+        /// Byte 2 of the CDB.
+        scope_type: u8,
+        list: ParameterList<'a>,
+    },
 }
 
 impl<'a> Operation<'a> {
@@ -121,11 +131,11 @@ impl<'a> Operation<'a> {
             | Operation::RequestSense { .. }
             | Operation::ReturnInquiry { .. }
             | Operation::ModeSense { .. }
-            | Operation::SetModes { .. }
+            | Operation::SelectModes { .. }
             | Operation::ReadCapacity10
             | Operation::ReadCapacity16 { .. }
             | Operation::PersistentReserveIn { .. }
-            | Operation::ChangeReservations(_) => None,
+            | Operation::ReserveOut { .. } => None,
         }
     }
 
@@ -174,12 +184,12 @@ impl<S: Store> Target<S> {
                 pf,
                 sp,
                 list_length,
-            } => self.mode_select(false, pf, sp, u16::from(list_length), data_out),
+            } => mode_select(false, pf, sp, u16::from(list_length), data_out),
             Command::ModeSelect10 {
                 pf,
                 sp,
                 list_length,
-            } => self.mode_select(true, pf, sp, list_length, data_out),
+            } => mode_select(true, pf, sp, list_length, data_out),
             Command::ModeSense6 {
                 dbd,
                 page_control: pc,
@@ -258,7 +268,7 @@ impl<S: Store> Target<S> {
                 action,
                 scope_type,
                 list_length: length,
-            } => self.persistent_reserve_out(initiator, action, scope_type, length, data_out),
+            } => persistent_reserve_out(action, scope_type, length, data_out),
         }
     }
 
@@ -279,7 +289,7 @@ impl<S: Store> Target<S> {
             Carries done.answer result buf.old buf.new }
         ensures state { self.new.state ≡ (step_by self.old.state initiator operation.entry data_out.now).state }
         ensures charge { IsCharged (cost_bounds S.price S.least) self.old.state.disk.pool
-            (effect_of self.old.state initiator operation.entry data_out.now).ranges
+            (ranges_in (effect_of self.old.state initiator operation.entry data_out.now))
             self.old.meter self.new.meter result }
     {
         match operation {
@@ -304,7 +314,9 @@ impl<S: Store> Target<S> {
                 let list = DataIn::ModeParameters(request);
                 self.return_data(list, usize::from(allocation_length), buf)
             }
-            Operation::SetModes { modes, changed } => self.set_modes(initiator, modes, changed),
+            Operation::SelectModes { ten, sp, list } => {
+                self.select_modes(initiator, ten, sp, list.bytes, buf)
+            }
             Operation::ReadCapacity10 => {
                 self.return_data(DataIn::Capacity10, CAPACITY_10_LENGTH, buf)
             }
@@ -328,7 +340,11 @@ impl<S: Store> Target<S> {
                 let data_in = DataIn::Reservations(kind);
                 self.return_data(data_in, usize::from(allocation_length), buf)
             }
-            Operation::ChangeReservations(change) => self.change_reservations(initiator, change),
+            Operation::ReserveOut {
+                action,
+                scope_type,
+                list,
+            } => self.reserve_out(initiator, action, scope_type, list.bytes, buf),
         }
     }
 }
@@ -413,9 +429,12 @@ fn write_same(
         write_same_fault anchor extent.count byte data_out.now ≡ Some refusal) }
     ensures passed { IfOk result (λ _.
         write_same_fault anchor extent.count byte data_out.now ≡ None) }
-    ensures operation { IfOk result (λ operation.
-        operation ≡ write_same_operation unmap extent data_out.now) }
-    ensures whole { IfOk result (λ _. block_length ≤ length data_out.now) }
+    ensures effect { IfOk result (λ operation. (state : State) (initiator : ℕ) →
+        effect_of state initiator operation data_out.now
+        ≡ Ok (writing_same state unmap extent data_out.now)) }
+    ensures extents { IfOk result (λ operation. extents_of operation ≡ extent ∷ []) }
+    ensures writes { IfOk result (λ operation. writes_medium operation ≡ true) }
+    ensures executable { IfOk result (λ operation. IsExecutable operation data_out.now) }
 {
     if anchor {
         return Err(Refusal::Check(Reason::InvalidFieldInCdb { byte: 1 }));

@@ -1,22 +1,25 @@
 // PERSISTENT RESERVE IN and PERSISTENT RESERVE OUT: what they ask for, and their work.
-ghost use Rattle.std.specs.Prelude.{◌≡◌, Some, None};
+ghost use Rattle.std.specs.Prelude.{◌≡◌, Option, Some, None};
 ghost use Rattle.std.specs.Prelude.{IfOk, IfErr, IfSome, IsSome};
 ghost use Rattle.sg_wire.specs.Cut.{Puts};
 ghost use Rattle.sg_wire.specs.CutAnswer.{first_bytes};
-ghost use Rattle.sg_blocks.specs.Meter.{no_counts};
-ghost use Rattle.sg_units.specs.ReserveOut.{IsConsistentChange};
-ghost use Rattle.sg_target.specs.Operation.{executed_reply, reserve_out_fault};
-ghost use Rattle.sg_target.specs.ReservationCommands.{always_needs_type, changing_reservations};
-ghost use Rattle.sg_target.specs.ReservationCommands.{in_data_of, out_refusal, reservation_change};
-ghost use Rattle.sg_target.specs.ReservationCommands.{reserve_in_data};
+ghost use Rattle.sg_target.specs.Operation.{reserve_out_fault};
+ghost use Rattle.sg_target.specs.Ranges.{IsCharged, cost_bounds, ranges_in};
+ghost use Rattle.sg_target.specs.Reply.{Carries};
+ghost use Rattle.sg_target.specs.ReservationCommands.{always_needs_type, in_data_of, out_refusal};
+ghost use Rattle.sg_target.specs.ReservationCommands.{reserve_in_data, reserving_out};
+ghost use Rattle.sg_target.specs.State.{IsWithinLimits};
+ghost use Rattle.sg_target.specs.Step.{outcome};
+ghost use Rattle.sg_target.specs.declared.refusal.Refusal.{Refusal};
 
 use crate::checks::needed_data_out;
 use crate::operation::Operation;
+use crate::parameter_list::ParameterList;
 use crate::refusal::{Reason, Refusal};
 use crate::reply::Reply;
 use crate::target::Target;
-use sg_blocks::Store;
-use sg_units::{OutFault, OutList, ReservationChange, ReservationType, Reservations};
+use sg_blocks::{Counts, Store};
+use sg_units::{OutFault, OutList, ReservationType, Reservations};
 use sg_wire::{Cut, InAction, Initiator, OutAction};
 
 // ---- PERSISTENT RESERVE IN
@@ -106,77 +109,70 @@ fn always_needs_type(action: OutAction) -> bool
     matches!(action, OutAction::Reserve | OutAction::Release)
 }
 
-impl<S: Store> Target<S> {
-    // What a PERSISTENT RESERVE OUT asks for. The scope and type are byte 2.
-    #[tactic(auto, unfolding(crate::specs::Checks::first_fault, crate::specs::ReservationCommands::unless_type))]
-    pub(crate) fn persistent_reserve_out(
-        &self,
-        initiator: Initiator,
-        action: OutAction,
-        scope_type: u8,
-        list_length: u32,
-        data_out: &[u8],
-    ) -> Result<Operation<'static>, Refusal>
-        ensures refused { IfErr result (λ refusal.
-            reserve_out_fault self.now.state initiator action scope_type list_length data_out.now
-            ≡ Some refusal) }
-        ensures passed { IfOk result (λ _.
-            reserve_out_fault self.now.state initiator action scope_type list_length data_out.now
-            ≡ None) }
-        ensures operation { IfOk result (λ operation.
-            IfOk (reservation_change self.now.state initiator action scope_type
-            (first_bytes list_length data_out.now))
-            (λ change. operation ≡ Operation.ChangeReservations change)) }
-        ensures consistent { IfOk result (λ operation.
-            IfOk (reservation_change self.now.state initiator action scope_type
-            (first_bytes list_length data_out.now))
-            IsConsistentChange) }
-    {
-        if always_needs_type(action) && ReservationType::with_scope_and_type(scope_type).is_none() {
-            return Err(Refusal::Check(Reason::InvalidFieldInCdb { byte: 2 }));
-        }
-        let list = needed_data_out(data_out, list_length as usize)?;
-        let change = self.reservation_change(initiator, action, scope_type, list)?;
-        Ok(Operation::ChangeReservations(change))
+// What a PERSISTENT RESERVE OUT asks for. The scope and type are byte 2.
+#[tactic(auto, unfolding(crate::specs::Checks::first_fault, crate::specs::ReservationCommands::unless_type))]
+pub(crate) fn persistent_reserve_out(
+    action: OutAction,
+    scope_type: u8,
+    list_length: u32,
+    data_out: &[u8],
+) -> Result<Operation<'_>, Refusal>
+    ensures refused { IfErr result (λ refusal. (list : Option Refusal) →
+        reserve_out_fault action scope_type list_length data_out.now list ≡ Some refusal) }
+    ensures passed { IfOk result (λ _. (list : Option Refusal) →
+        reserve_out_fault action scope_type list_length data_out.now list ≡ list) }
+    ensures operation { IfOk result (λ operation. operation
+        ≡ Operation.ReserveOut action scope_type (first_bytes list_length data_out.now)) }
+{
+    if always_needs_type(action) && ReservationType::with_scope_and_type(scope_type).is_none() {
+        return Err(Refusal::Check(Reason::InvalidFieldInCdb { byte: 2 }));
     }
+    let bytes = needed_data_out(data_out, list_length as usize)?;
+    Ok(Operation::ReserveOut {
+        action,
+        scope_type,
+        list: ParameterList { bytes },
+    })
+}
 
-    // What a parameter list asks for.
-    #[tactic(auto, unfolding(crate::specs::ReservationCommands::reservation_change))]
-    fn reservation_change(
-        &self,
+impl<S: Store> Target<S> {
+    // PERSISTENT RESERVE OUT: registrations and reservation change, unless something is wrong with the
+    // parameter list. Other initiators get unit attentions. Room for the change would else be made for
+    // every command.
+    #[inline(never)]
+    #[tactic(auto, using(crate::proofs::StepLemmas::has_room), unfolding(crate::specs::ReservationCommands::reservation_change))]
+    pub(crate) fn reserve_out(
+        &mut self,
         initiator: Initiator,
         action: OutAction,
         scope_type: u8,
         list: &[u8],
-    ) -> Result<ReservationChange, Refusal>
-        ensures value { result
-            ≡ reservation_change self.now.state initiator action scope_type list.now }
-        ensures consistent { IfOk result IsConsistentChange }
+        buf: &[u8],
+    ) -> Reply
+        requires limits { IsWithinLimits self.old.state }
+        ensures reply { let done = outcome self.old.state initiator
+            (reserving_out self.old.state initiator action scope_type list.now) in
+            Carries done.answer result buf.now buf.now }
+        ensures state { self.new.state ≡ (outcome self.old.state initiator
+            (reserving_out self.old.state initiator action scope_type list.now)).state }
+        ensures charge { IsCharged (cost_bounds S.price S.least) self.old.state.disk.pool
+            (ranges_in (reserving_out self.old.state initiator action scope_type list.now))
+            self.old.meter self.new.meter result }
     {
         if list.len() != OutList::LENGTH {
-            return Err(Refusal::Check(Reason::ParameterListLengthError));
+            let refusal = Refusal::Check(Reason::ParameterListLengthError);
+            return self.refuse(initiator, refusal, Counts::default());
         }
         let list = OutList::read(list);
-        Ok(
-            self.reservations
-                .change(initiator, action, scope_type, &list)?,
-        )
-    }
-
-    // Registrations and reservation change. Other initiators get unit attentions.
-    pub(crate) fn change_reservations(
-        &mut self,
-        initiator: Initiator,
-        change: ReservationChange,
-    ) -> Reply
-        requires { IsConsistentChange change }
-        ensures reply { result ≡ executed_reply 0 no_counts }
-        ensures state { self.new.state
-            ≡ (changing_reservations self.old.state initiator change).after }
-        ensures meter { self.new.meter ≡ self.old.meter }
-    {
-        let raised = self.reservations.apply(initiator, change);
-        self.attentions.raise_for_each(&raised);
-        Reply::without_blocks(0)
+        match self
+            .reservations
+            .persistent_reserve_out(initiator, action, scope_type, &list)
+        {
+            Ok(raised) => {
+                self.attentions.raise_for_each(&raised);
+                Reply::without_blocks(0)
+            }
+            Err(fault) => self.refuse(initiator, Refusal::from(fault), Counts::default()),
+        }
     }
 }
