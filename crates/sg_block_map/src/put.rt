@@ -1,5 +1,5 @@
 // Putting runs in the place of the gathered ones.
-ghost use Rattle.std.specs.Prelude.{◌≡◌, ◌+◌, ◌≤◌, length, IsTrue};
+ghost use Rattle.std.specs.Prelude.{◌≡◌, ◌+◌, ◌≤◌, length};
 ghost use Rattle.std.specs.List.{splice};
 ghost use Rattle.sg_blocks.specs.Leaves.{move_bound};
 ghost use Rattle.sg_blocks.specs.Table.{spliced};
@@ -9,31 +9,6 @@ use sg_blocks::MAX_POOL;
 use sg_blocks::draft::Draft;
 use sg_blocks::run::Run;
 use sg_blocks::table::RunTable;
-
-/// Whether two runs are the same.
-fn is_same(run: Run, other: Run) -> bool
-    ensures { IsTrue result → run ≡ other }
-{
-    run.start == other.start
-        && run.count == other.count
-        && run.first == other.first
-        && run.last == other.last
-}
-
-/// Whether two lists have the same runs.
-fn are_same(runs: &[Run], others: &[Run]) -> bool
-    ensures { IsTrue result → runs.now ≡ others.now }
-{
-    if runs.len() != others.len() {
-        return false;
-    }
-    for i in 0..runs.len() {
-        if !is_same(runs[i], others[i]) {
-            return false;
-        }
-    }
-    true
-}
 
 /// Replaces the gathered runs in the table by others.
 // A table that has these already is left alone: a splice costs far more than to compare them.
@@ -52,7 +27,7 @@ pub fn put_runs(table: &mut RunTable, gathered: &Draft, runs: &[Run])
     ensures moves { table.new.moved ≤ table.old.moved + move_bound + length runs.now }
 {
     let old = gathered.records();
-    if are_same(runs, old) {
+    if runs == old {
         return;
     }
     let from = gathered.from();

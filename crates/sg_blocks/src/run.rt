@@ -3,7 +3,7 @@ ghost use Rattle.sg_blocks.specs.Records.{single};
 
 /// A record of the map: mapped addresses in a row, and the chain of slots that has their blocks. In
 /// a [`PlainMap`](crate::PlainMap) each record has one address.
-#[derive(Clone, Copy, Default)]
+#[derive(Clone, Copy, Default, PartialEq)]
 pub struct Run {
     /// The first address.
     pub start: u64,

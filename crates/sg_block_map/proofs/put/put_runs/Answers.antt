@@ -1,0 +1,34 @@
+use Rattle.std.proofs.Common.{◌≡◌, sym, ap, ◌∙◌, ◌==◌, ◌&&◌}
+use Rattle.std.specs.Bool.{Decides}
+use Rattle.std.specs.List.{splice}
+use Rattle.std.proofs.lemmas.Bool.Decides.{Decides-and, Decides-eqb}
+use Rattle.std.proofs.lemmas.Slice.Eq.{slice_eq-Decides}
+use Rattle.sg_blocks.specs.declared.run.Run.{Run}
+use Rattle.sg_block_map.specs.Gathering.{end_index}
+use Rattle.sg_block_map.proofs.put.put_runs.Goals as goal
+
+-- two runs are equal where each of their fields is
+run-Decides : (a b : Run)
+    → Decides (a.start == b.start && (a.count == b.count && (a.first == b.first && a.last == b.last))) (a ≡ b)
+run-Decides a b =
+    let fields = Decides-and _ _ (Decides-eqb a.start b.start)
+    (Decides-and _ _ (Decides-eqb a.count b.count)
+    (Decides-and _ _ (Decides-eqb a.first b.first) (Decides-eqb a.last b.last))) in
+    (
+      λ t. let e = fields.0 t in
+        ap (λ n. record a { start = n }) e.0
+        ∙ ap (λ n. record b { count = n; first = a.first; last = a.last }) e.1.0
+        ∙ ap (λ n. record b { first = n; last = a.last }) e.1.1.0
+        ∙ ap (λ n. record b { last = n }) e.1.1.1,
+      λ e. fields.1 (ap (λ (r : Run). r.start) e, (ap (λ (r : Run). r.count) e,
+        (ap (λ (r : Run). r.first) e, ap (λ (r : Run). r.last) e))),
+    )
+
+pub returns-then-eq-clause-table : goal.returns-then-eq-clause-table
+returns-then-eq-clause-table c =
+    let t = c.args.table.now in
+    let g = c.args.gathered.now in
+    let equal = (slice_eq-Decides run-Decides c.args.runs.now c.records-old.result.now _ c.eq.ensures).0
+    c.if-eq.true in
+    let same : c.args.runs.now ≡ g.records = equal ∙ c.records-old.ensures in
+    ap (λ x. record t { records = x }) (sym (ap (splice t.records g.from (end_index g)) same ∙ c.requires.same))
