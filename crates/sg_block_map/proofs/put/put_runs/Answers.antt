@@ -13,15 +13,19 @@ run-Decides : (a b : Run)
 run-Decides a b =
     let fields = Decides-and _ _ (Decides-eqb a.start b.start)
     (Decides-and _ _ (Decides-eqb a.count b.count)
-    (Decides-and _ _ (Decides-eqb a.first b.first) (Decides-eqb a.last b.last))) in
-    (
+    (Decides-and _ _ (Decides-eqb a.first b.first) (Decides-eqb a.last b.last))) in (
       λ t. let e = fields.0 t in
-        ap (λ n. record a { start = n }) e.0
-        ∙ ap (λ n. record b { count = n; first = a.first; last = a.last }) e.1.0
-        ∙ ap (λ n. record b { first = n; last = a.last }) e.1.1.0
-        ∙ ap (λ n. record b { last = n }) e.1.1.1,
-      λ e. fields.1 (ap (λ (r : Run). r.start) e, (ap (λ (r : Run). r.count) e,
-        (ap (λ (r : Run). r.first) e, ap (λ (r : Run). r.last) e))),
+          ap (λ n. record a { start = n }) e.0
+          ∙ ap (λ n. record b { count = n; first = a.first; last = a.last }) e.1.0
+          ∙ ap (λ n. record b { first = n; last = a.last }) e.1.1.0
+          ∙ ap (λ n. record b { last = n }) e.1.1.1,
+      λ e. fields.1 (
+        ap (λ (r : Run). r.start) e,
+        (
+          ap (λ (r : Run). r.count) e,
+          (ap (λ (r : Run). r.first) e, ap (λ (r : Run). r.last) e),
+        ),
+      ),
     )
 
 pub returns-then-eq-clause-table : goal.returns-then-eq-clause-table
