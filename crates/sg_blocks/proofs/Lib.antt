@@ -24,5 +24,6 @@ pub mod SourceLemmas
 pub mod StatusLemmas
 pub mod DescriptorLemmas
 pub mod ReportLemmas
+pub mod SearchLemmas
 pub mod EditingLemmas
 pub mod WellFormedLemmas

@@ -5,8 +5,9 @@ use Rattle.std.proofs.lemmas.List.{drop-append-le, drop-drop, drop_at, get_or_ap
 use Rattle.std.proofs.lemmas.List.{set_split, take-append-le}
 use Rattle.std.proofs.Math.Seq.{take-append-add}
 use Rattle.std.specs.List.{splice}
-use Rattle.sg_blocks.specs.Leaves.{IsPlace, IsSpan, joined, leaf_at, replaced}
+use Rattle.sg_blocks.specs.Leaves.{IsPlace, IsSpan, count_before, joined, leaf_at, replaced}
 use Rattle.sg_blocks.specs.declared.leaves.Place.{Place}
+use Rattle.sg_blocks.specs.declared.leaves.Span.{Span}
 use Rattle.sg_blocks.specs.declared.run.Run.{Run}
 use Rattle.sg_blocks.proofs.LeavesLemmas.{joined-append, joined-split, count_before-more, placed}
 
@@ -80,12 +81,15 @@ replaced-located ls later from to p q runs same f t =
     sym (splice-places later from to p q runs first t) ∙ ap (λ l. splice (joined l) from to runs) same
 
 -- the place of an index of a leaf
-pub place-span : (ls : List (List Run)) (leaf start end index : ℕ) → IsSpan ls leaf start end
-    → start ≤ index → index < end
-    → let place : Place = record { leaf = leaf; offset = index - start } in
-    IsPlace ls index place × (index - start < length (leaf_at ls leaf))
-place-span ls leaf start end index span le lt =
-    let is = span (omega arith) in
-    let next = count_before-more ls leaf is.0 in
-    let end_is = rw add-one at is.2 in
-    (placed ls index leaf start is.0 is.1 le (omega arith), omega arith)
+pub place-span : (ls : List (List Run)) (span : Span) (index : ℕ) → IsSpan ls span
+    → span.start ≤ index → index ≤ span.end
+    → IsPlace ls index (record { leaf = span.leaf; offset = index - span.start })
+place-span ls span index is le end =
+    placed ls index span.leaf span.start is.within is.start le (omega (arith, is.end))
+
+-- the records of a leaf fill its span
+pub length-span : (ls : List (List Run)) (span : Span) → IsSpan ls span
+    → span.end ≡ span.start + length (leaf_at ls span.leaf)
+length-span ls span is =
+    is.end ∙ ap (count_before ls) (add-one span.leaf) ∙ count_before-more ls span.leaf is.within
+    ∙ ap (λ n. n + length (leaf_at ls span.leaf)) (sym is.start)

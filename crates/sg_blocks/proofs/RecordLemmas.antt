@@ -19,6 +19,15 @@ start_of-read [] i r h e = absurd (omega arith)
 start_of-read (x ∷ rs) zero r h e = ap (λ (y : Run). y.start) e
 start_of-read (x ∷ rs) (suc i) r h e = start_of-read rs i r (omega arith) e
 
+-- what a list of records gives behind its end
+abbrev pub no_run : Run
+no_run = record { start = 0; count = 0; first = 0; last = 0 }
+
+pub start_of-at : (rs : List Run) (i : ℕ) → (get_or rs i no_run).start ≡ start_of rs i
+start_of-at [] i = refl
+start_of-at (x ∷ rs) zero = refl
+start_of-at (x ∷ rs) (suc i) = start_of-at rs i
+
 pub sorted_tail : (x : Run) (rs : List Run) → IsSorted (x ∷ rs) → IsSorted rs
 sorted_tail x rs h i j lt below = h (suc i) (suc j) (omega arith) (omega arith)
 

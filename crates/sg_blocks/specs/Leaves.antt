@@ -5,6 +5,7 @@ use Rattle.std.specs.List.{All}
 use Rattle.sg_blocks.specs.declared.leaf.TheConstants.{MAX_LEAF}
 use Rattle.sg_blocks.specs.declared.leaves.TheConstants.{MIN_LEAF}
 use Rattle.sg_blocks.specs.declared.leaves.Place.{Place}
+use Rattle.sg_blocks.specs.declared.leaves.Span.{Span}
 use Rattle.sg_blocks.specs.declared.run.Run.{Run}
 
 -- The records of each leaf, in order; for how many leaves there is room; and how many records were
@@ -51,10 +52,11 @@ pub record IsLeafOf (leaves : List (List Run)) (index leaf : ℕ) : Type 0 where
   pub end : index ≤ count_before leaves (leaf + 1)
   pub record_end : index < length (joined leaves) → index < count_before leaves (leaf + 1)
 
--- The indexes from `start` to `end` are those of the leaf's records, or there are none.
-abbrev pub IsSpan : List (List Run) → (leaf start end : ℕ) → Type 0
-IsSpan leaves leaf start end = start < end → (leaf < length leaves)
-    × (start ≡ count_before leaves leaf) × (end ≡ count_before leaves (leaf + 1))
+-- The leaf is one of the table, and its records have the indexes from `start` to `end`.
+pub record IsSpan (leaves : List (List Run)) (span : Span) : Type 0 where
+  pub within : span.leaf < length leaves
+  pub start : span.start ≡ count_before leaves span.leaf
+  pub end : span.end ≡ count_before leaves (span.leaf + 1)
 
 -- The place of an index among the records of all leaves: a leaf, and an offset in it.
 pub record IsPlace (leaves : List (List Run)) (index : ℕ) (place : Place) : Type 0 where

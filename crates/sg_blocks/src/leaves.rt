@@ -1,3 +1,4 @@
+mod searching;
 mod splicing;
 
 ghost use Rattle.std.specs.Prelude.{◌≡◌, ◌+◌, ◌-◌, ◌^◌, ◌<◌, ◌≤◌, [], ◌∷◌, ◌++◌, length, map};
@@ -12,6 +13,7 @@ use crate::leaf::MAX_LEAF;
 use crate::leaf_list::LeafList;
 use crate::run::Run;
 use arrayvec::ArrayVec;
+pub use searching::lower_bound;
 pub use splicing::splice;
 use std::alloc::{AllocError, Global};
 use std::marker::Model;
@@ -37,20 +39,33 @@ pub struct Place {
     pub offset: usize,
 }
 
-/// A leaf, with the indexes from that of its first record to the one behind its last. Where these
-/// are none, it may be any leaf.
+/// A leaf, with the indexes from that of its first record to the one behind its last.
 #[derive(Clone, Copy)]
-struct Span {
-    leaf: usize,
-    start: usize,
-    end: usize,
+pub struct Span {
+    pub leaf: usize,
+    pub start: usize,
+    pub end: usize,
 }
 
+// No index is in it.
 const NO_SPAN: Span = Span {
     leaf: 0,
     start: 0,
     end: 0,
 };
+
+impl Span {
+    /// The place of an index in the leaf.
+    fn place(self, index: usize) -> Place
+        requires { self.start ≤ index }
+        ensures { result ≡ record { leaf = self.leaf; offset = index - self.start } }
+    {
+        Place {
+            leaf: self.leaf,
+            offset: index - self.start,
+        }
+    }
+}
 
 /// The records of a table in leaves, with a directory of where each leaf begins.
 #[derive(Drop)]
@@ -82,7 +97,7 @@ impl Model for Leaves {
         × (l.leaves.capacity < vec_capacity l.starts)
         × (l.leaves.capacity ≤ MAX_LEAVES)
         × (length l.hints.items ≡ HINTS)
-        × IsSpan l.leaves.leaves l.recent.leaf l.recent.start l.recent.end };
+        × (l.recent.start < l.recent.end → IsSpan l.leaves.leaves l.recent) };
 }
 
 /// The directory of one leaf without records, with room for `count` leaves.
@@ -159,6 +174,15 @@ impl Leaves {
         self.leaves.leaf(leaf).len()
     }
 
+    /// The records of a leaf.
+    pub fn records(&self, leaf: usize) -> &[Run]
+        requires { leaf < length self.now.leaves }
+        ensures value { result.now ≡ leaf_at self.now.leaves leaf }
+        ensures fits { length result.now ≤ MAX_LEAF }
+    {
+        self.leaves.leaf(leaf).records()
+    }
+
     /// The record at a place.
     pub fn record(&self, place: Place) -> Run
         requires leaf { place.leaf < length self.now.leaves }
@@ -201,22 +225,11 @@ impl Leaves {
         low
     }
 
-    /// The leaf of the record at an index, or the last leaf. An earlier search has mostly found it.
-    fn find(&self, index: usize) -> usize
-        requires { index ≤ length (joined self.now.leaves) }
-        ensures { IsLeafOf self.now.leaves index result }
-    {
-        let hint = self.hints[index / HINT_RECORDS % HINTS] as usize;
-        if self.has(hint, index) {
-            return hint;
-        }
-        self.search(index)
-    }
-
     /// A leaf with its indexes.
     fn span(&self, leaf: usize) -> Span
         requires { leaf < length self.now.leaves }
-        ensures { IsSpan self.now.leaves result.leaf result.start result.end }
+        ensures span { IsSpan self.now.leaves result }
+        ensures leaf { result.leaf ≡ leaf }
     {
         Span {
             leaf,
@@ -225,15 +238,21 @@ impl Leaves {
         }
     }
 
-    /// The place of an index in its leaf.
-    fn place(&self, leaf: usize, index: usize) -> Place
-        requires { IsLeafOf self.now.leaves index leaf }
-        ensures place { IsPlace self.now.leaves index result }
-        ensures within { index < length (joined self.now.leaves)
-            → result.offset < length (leaf_at self.now.leaves result.leaf) }
+    /// The leaf of the record at an index, or the last leaf. An earlier search has mostly found it.
+    pub fn find(&mut self, index: usize) -> Span
+        requires { index ≤ length (joined self.old.leaves) }
+        ensures span { IsSpan self.old.leaves result }
+        ensures leaf { IsLeafOf self.old.leaves index result.leaf }
+        ensures leaves { self.new ≡ self.old }
     {
-        let offset = index - self.starts[leaf] as usize;
-        Place { leaf, offset }
+        let hint = index / HINT_RECORDS % HINTS;
+        let mut leaf = self.hints[hint] as usize;
+        if !self.has(leaf, index) {
+            leaf = self.search(index);
+            self.hints[hint] = leaf as u16;
+        }
+        self.recent = self.span(leaf);
+        self.recent
     }
 
     /// The place of the record at an index, or the end of the last leaf.
@@ -244,15 +263,11 @@ impl Leaves {
             → result.offset < length (leaf_at self.old.leaves result.leaf) }
         ensures leaves { self.new ≡ self.old }
     {
-        let Span { leaf, start, end } = self.recent;
-        if start <= index && index < end {
-            let offset = index - start;
-            return Place { leaf, offset };
+        let recent = self.recent;
+        if recent.start <= index && index < recent.end {
+            return recent.place(index);
         }
-        let leaf = self.find(index);
-        self.recent = self.span(leaf);
-        self.hints[index / HINT_RECORDS % HINTS] = leaf as u16;
-        self.place(leaf, index)
+        self.find(index).place(index)
     }
 
     /// The place of an index, where a record may end, in the first leaf from one on where it can be.
@@ -334,7 +349,7 @@ impl Leaves {
           moved = self.old.moved + (length (leaf_at self.old.leaves leaf) - from);
         } }
     {
-        let records = self.leaves.leaf(leaf).records();
+        let records = self.records(leaf);
         let extended = copied.try_extend_from_slice(&records[from..]);
         prove!(extended.is_ok());
         let _ = extended;

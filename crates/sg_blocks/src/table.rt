@@ -6,7 +6,7 @@ ghost use Rattle.sg_blocks.specs.Leaves.{move_bound};
 ghost use Rattle.sg_blocks.specs.Table.{spliced};
 
 use crate::ghost_number::GhostNumber;
-use crate::leaves::{Leaves, MIN_LEAF, splice};
+use crate::leaves::{Leaves, MIN_LEAF, lower_bound, splice};
 use crate::run::Run;
 use crate::store::MAX_POOL;
 use std::alloc::{AllocError, Global};
@@ -146,17 +146,9 @@ impl RunTable {
         ensures halving { 2 ^ (self.new.probes - self.old.probes) ≤ 2 * length self.old.records + 1 }
         ensures all_counted { length self.old.records + 2 ≤ 2 ^ (self.new.probes - self.old.probes + 1) }
     {
-        let mut low = 0;
-        let mut high = self.count();
-        while low < high {
-            let middle = low + (high - low) / 2;
-            if self.start(middle) < lba {
-                low = middle + 1;
-            } else {
-                high = middle;
-            }
-        }
-        low
+        let found = lower_bound(&mut self.leaves, lba);
+        self.probes += found.probes;
+        found.index
     }
 
     /// Replaces the records from one index to another.

@@ -3,14 +3,15 @@ use Rattle.sg_blocks.specs.Leaves.{LeafTable}
 use Rattle.sg_blocks.proofs.LeavesLemmas.{start-read}
 use Rattle.sg_blocks.proofs.leaves.Leaves.span.Goals as goal
 
-pub returns : goal.returns
-returns c = λ lt.
+pub returns-clause-span : goal.returns-clause-span
+returns-clause-span c =
     let ls = c.args.self.now.leaves in
     let leaf = c.args.leaf in
     let leaves = c.self.inside.leaves.leaves in
     let starts = c.self.inside.starts.items in
     let same = ap (λ (l : LeafTable). l.leaves) c.self.view_is in
-    let start = start-read leaves starts ls leaf _ c.self.invariant.0 same (omega arith) c.index.ensures in
-    let end = start-read leaves starts ls (leaf + 1) _ c.self.invariant.0 same (omega arith)
-    c.index-2.ensures in
-    (c.requires, start, end)
+    record {
+      within = c.requires;
+      start = start-read leaves starts ls leaf _ c.self.invariant.0 same (omega arith) c.index.ensures;
+      end = start-read leaves starts ls (leaf + 1) _ c.self.invariant.0 same (omega arith) c.index-2.ensures;
+    }
