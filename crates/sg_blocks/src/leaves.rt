@@ -28,9 +28,9 @@ pub const MAX_LEAVES: usize = 513;
 pub const TWO_LEAVES: usize = 2 * MAX_LEAF;
 
 // How many indexes share a hint on where they are, and how many hints there are.
-const HINT_RECORDS: usize = 64;
+const HINT_RECORDS: usize = 32;
 
-const HINTS: usize = 1024;
+const HINTS: usize = 2048;
 
 /// A leaf, by its index, and an offset in it.
 #[derive(Clone, Copy)]
