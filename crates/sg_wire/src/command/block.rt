@@ -168,6 +168,8 @@ pub(super) fn decode_extent_10(masks: &[u8; 10], cdb: &[u8]) -> Result<(u32, u16
 }
 
 // An address, and the number behind it, of commands of 16 bytes.
+// Inlined, since the masks of each caller are constant: a byte that may have any bit takes no test.
+#[inline(always)]
 pub(super) fn decode_extent_16(masks: &[u8; 16], cdb: &[u8]) -> Result<(u64, u32), CdbFault>
     ensures fits { MatchResult result
         (λ _. fits_masks masks.now cdb.now ≡ Ok tt)
