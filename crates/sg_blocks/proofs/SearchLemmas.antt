@@ -1,5 +1,5 @@
 -- A search of records that goes on in a part of them.
-use Rattle.std.proofs.Common.{◌≡◌, ℕ, zero, suc, ◌+◌, ◌-◌, ◌<◌, ◌≤◌, List, [], ◌∷◌, length, take, drop}
+use Rattle.std.proofs.Common.{◌≡◌, ℕ, zero, suc, ◌+◌, ◌-◌, ◌*◌, ◌/◌, ◌^◌, ◌<◌, ◌≤◌, List, [], ◌∷◌, length, take, drop}
 use Rattle.std.proofs.Common.{get_or}
 use Rattle.std.proofs.Common.{sym, ap, ◌∙◌, arith, refl, inl, inr, length-drop}
 use Rattle.std.proofs.lemmas.Bool.{cases_lt}
@@ -9,7 +9,8 @@ use Rattle.sg_blocks.specs.Records.{start_of, IsSorted, IsLowerBound}
 use Rattle.sg_blocks.specs.declared.leaves.Span.{Span}
 use Rattle.sg_blocks.specs.declared.run.Run.{Run}
 use Rattle.sg_blocks.proofs.PlaceLemmas.{drop-place, length-span, place-span, record-place}
-use Rattle.sg_blocks.proofs.RecordLemmas.{no_run, start_of-at}
+use Rattle.sg_blocks.proofs.RecordLemmas.{no_run, at_or_before, at_or_past, start_of-at}
+use Rattle.sg_blocks.proofs.HalvingLemmas.{halved-more, halved-less, cost-more}
 
 start_of-drop : (rs : List Run) (low i j : ℕ) → j ≡ low + i → start_of (drop low rs) i ≡ start_of rs j
 start_of-drop rs zero i j e = ap (start_of rs) (omega arith)
@@ -94,3 +95,50 @@ start_of-leaf ls span i is le lt =
     ap (λ (r : Run). r.start) (sym (record-place ls i _ no_run
     (place-span ls span i is le (omega arith)) (omega arith)))
     ∙ start_of-at (joined ls) i
+
+-- The first record that is not before the address has an index from `low` to `high`, and each of
+-- `probes` steps of a search halved what lies between.
+pub record IsWindow (records : List Run) (lba low high probes : ℕ) : Type 0 where
+  pub ordered : low ≤ high
+  pub within : high ≤ length records
+  pub before : (i : ℕ) → i < low → start_of records i < lba
+  pub after : (i : ℕ) → high ≤ i → i < length records → lba ≤ start_of records i
+  pub halved : 2 ^ probes * (high - low) ≤ length records
+  pub cost : 2 ^ probes ≤ 2 * length records + 1
+  pub least : length records + 2 ≤ 2 ^ probes * (high - low + 2)
+
+-- a step whose record is before the address
+pub window-behind : (rs : List Run) (lba low high probes : ℕ) → IsSorted rs
+    → IsWindow rs lba low high probes → low < high
+    → start_of rs (low + (high - low) / 2) < lba
+    → IsWindow rs lba (low + (high - low) / 2 + 1) high (probes + 1)
+window-behind rs lba low high probes sorted is lt less =
+    let n = high - low in
+    let within = is.within in
+    record {
+      ordered = omega arith;
+      within = within;
+      before = λ i below. at_or_before rs (low + n / 2) i lba sorted less (omega arith) (omega arith);
+      after = is.after;
+      halved = halved-more probes n _ (length rs) is.halved (omega arith) (omega arith);
+      cost = cost-more probes n (length rs) is.halved (omega arith);
+      least = halved-less probes n _ (length rs) is.least (omega arith);
+    }
+
+-- and one whose record is not
+pub window-before : (rs : List Run) (lba low high probes : ℕ) → IsSorted rs
+    → IsWindow rs lba low high probes → low < high
+    → lba ≤ start_of rs (low + (high - low) / 2)
+    → IsWindow rs lba low (low + (high - low) / 2) (probes + 1)
+window-before rs lba low high probes sorted is lt past =
+    let n = high - low in
+    let within = is.within in
+    record {
+      ordered = omega arith;
+      within = omega arith;
+      before = is.before;
+      after = λ i le below. at_or_past rs (low + n / 2) i lba sorted past le below;
+      halved = halved-more probes n _ (length rs) is.halved (omega arith) (omega arith);
+      cost = cost-more probes n (length rs) is.halved (omega arith);
+      least = halved-less probes n _ (length rs) is.least (omega arith);
+    }

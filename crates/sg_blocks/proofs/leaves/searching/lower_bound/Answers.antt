@@ -1,9 +1,10 @@
 use Rattle.std.proofs.Common.{◌+◌, ◌-◌, ◌/◌, List, length, get_or, ap, ◌∙◌, arith}
 use Rattle.sg_blocks.specs.Leaves.{LeafTable, IsLeafOf, IsSpan, joined, leaf_at}
 use Rattle.sg_blocks.specs.Records.{IsLowerBound}
-use Rattle.sg_blocks.proofs.RecordLemmas.{no_run, at_or_before, at_or_past}
-use Rattle.sg_blocks.proofs.HalvingLemmas.{halved-more, halved-less, cost-more, cost-rest, least-rest, probes-le}
+use Rattle.sg_blocks.proofs.RecordLemmas.{no_run}
+use Rattle.sg_blocks.proofs.HalvingLemmas.{cost-rest, least-rest, probes-le}
 use Rattle.sg_blocks.proofs.PlaceLemmas.{length-span}
+use Rattle.sg_blocks.proofs.SearchLemmas.{window-before, window-behind}
 use Rattle.sg_blocks.proofs.SearchLemmas.{part, length-part, part-leaf, sorted-part, bound-part, start_of-leaf}
 use Rattle.sg_blocks.specs.declared.run.Run.{Run}
 use Rattle.sg_blocks.proofs.leaves.searching.lower_bound.Goals as goal
@@ -31,7 +32,7 @@ search_leaf-found-requires-clause-sorted c =
     ∙ ap (λ (l : LeafTable). leaf_at l.leaves found.leaf) (c.find-span.ensures.leaves ∙ inv.leaves) in
     let rest = ap (λ x. part x (c.loop-low.low - found.start) (c.loop-low.high - found.start)) value
     ∙ part-leaf ls found c.loop-low.low c.loop-low.high span (omega arith) (omega arith) (omega arith) in
-    rw rest (sorted-part (joined ls) c.loop-low.low c.loop-low.high (omega arith) inv.within c.requires.sorted)
+    rw rest (sorted-part (joined ls) c.loop-low.low c.loop-low.high (omega arith) inv.window.within c.requires.sorted)
 
 pub overflow_add-result-then-high-span : goal.overflow_add-result-then-high-span
 overflow_add-result-then-high-span c =
@@ -45,9 +46,9 @@ overflow_add-result-then-high-span c =
     let rest = ap (λ x. part x (c.loop-low.low - found.start) (c.loop-low.high - found.start)) value
     ∙ part-leaf ls found c.loop-low.low c.loop-low.high span (omega arith) (omega arith) (omega arith) in
     let size = ap length rest
-    ∙ length-part (joined ls) c.loop-low.low c.loop-low.high (omega arith) inv.within in
+    ∙ length-part (joined ls) c.loop-low.low c.loop-low.high (omega arith) inv.window.within in
     let cost = cost-rest c.loop-low.probes (c.loop-low.high - c.loop-low.low) (length (joined ls))
-    c.search_leaf-found.result.probes inv.halved (omega arith)
+    c.search_leaf-found.result.probes inv.window.halved (omega arith)
     (omega (arith, c.search_leaf-found.ensures.halving, size))
     (omega (arith, c.search_leaf-found.ensures.all_counted, size)) in
     omega (arith, probes-le _ (length (joined ls)) cost c.requires.count)
@@ -65,8 +66,8 @@ returns-then-high-span-clause-index c =
     ∙ part-leaf ls found c.loop-low.low c.loop-low.high span (omega arith) (omega arith) (omega arith) in
     let is : IsLowerBound (part (joined ls) c.loop-low.low c.loop-low.high) c.search_leaf-found.result.index
     c.args.lba = rw rest at c.search_leaf-found.ensures.index in
-    bound-part (joined ls) c.loop-low.low c.loop-low.high _ c.args.lba (omega arith) inv.within inv.before
-    inv.after is
+    bound-part (joined ls) c.loop-low.low c.loop-low.high _ c.args.lba (omega arith) inv.window.within inv.window.before
+    inv.window.after is
 
 pub returns-then-high-span-clause-halving : goal.returns-then-high-span-clause-halving
 returns-then-high-span-clause-halving c =
@@ -80,9 +81,9 @@ returns-then-high-span-clause-halving c =
     let rest = ap (λ x. part x (c.loop-low.low - found.start) (c.loop-low.high - found.start)) value
     ∙ part-leaf ls found c.loop-low.low c.loop-low.high span (omega arith) (omega arith) (omega arith) in
     let size = ap length rest
-    ∙ length-part (joined ls) c.loop-low.low c.loop-low.high (omega arith) inv.within in
+    ∙ length-part (joined ls) c.loop-low.low c.loop-low.high (omega arith) inv.window.within in
     cost-rest c.loop-low.probes (c.loop-low.high - c.loop-low.low) (length (joined ls))
-    c.search_leaf-found.result.probes inv.halved (omega arith)
+    c.search_leaf-found.result.probes inv.window.halved (omega arith)
     (omega (arith, c.search_leaf-found.ensures.halving, size))
     (omega (arith, c.search_leaf-found.ensures.all_counted, size))
 
@@ -98,16 +99,16 @@ returns-then-high-span-clause-all_counted c =
     let rest = ap (λ x. part x (c.loop-low.low - found.start) (c.loop-low.high - found.start)) value
     ∙ part-leaf ls found c.loop-low.low c.loop-low.high span (omega arith) (omega arith) (omega arith) in
     let size = ap length rest
-    ∙ length-part (joined ls) c.loop-low.low c.loop-low.high (omega arith) inv.within in
+    ∙ length-part (joined ls) c.loop-low.low c.loop-low.high (omega arith) inv.window.within in
     least-rest c.loop-low.probes (c.loop-low.high - c.loop-low.low) (length (joined ls))
-    c.search_leaf-found.result.probes inv.least
+    c.search_leaf-found.result.probes inv.window.least
     (omega (arith, c.search_leaf-found.ensures.all_counted, size))
 
 pub overflow_add-probes : goal.overflow_add-probes
 overflow_add-probes c =
     omega (
       arith,
-      probes-le _ (length (joined c.args.leaves.now.leaves)) c.loop-low.invariant.cost c.requires.count,
+      probes-le _ (length (joined c.args.leaves.now.leaves)) c.loop-low.invariant.window.cost c.requires.count,
     )
 
 pub bounds-records-middle : goal.bounds-records-middle
@@ -124,7 +125,7 @@ bounds-records-middle c =
     let below = index.record_end (omega arith) in
     omega (arith, length-span ls found span, ap length value, span.start, span.end, index.start)
 
--- what a probe leaves
+-- what a step leaves
 pub loop-low-preserved-then-records-middle : goal.loop-low-preserved-then-records-middle
 loop-low-preserved-then-records-middle c =
     let ls = c.args.leaves.now.leaves in
@@ -134,24 +135,17 @@ loop-low-preserved-then-records-middle c =
     let span : IsSpan ls found = rw same at c.find-span.ensures.span in
     let value = c.records-records.ensures.value
     ∙ ap (λ (l : LeafTable). leaf_at l.leaves found.leaf) (c.find-span.ensures.leaves ∙ inv.leaves) in
-    let rs = joined ls in
-    let n = c.loop-low.high - c.loop-low.low in
-    let middle = c.loop-low.low + n / 2 in
+    let middle = c.loop-low.low + (c.loop-low.high - c.loop-low.low) / 2 in
     let index : IsLeafOf ls middle found.leaf = rw same at c.find-span.ensures.leaf in
+    let within = inv.window.within in
     let below = index.record_end (omega arith) in
     let start = ap (λ (x : List Run). (get_or x (middle - found.start) no_run).start) value
     ∙ start_of-leaf ls found middle span (omega (arith, span.start, index.start))
     (omega (arith, span.end, below)) in
     record {
-      ordered = omega arith;
-      within = inv.within;
-      before = λ j lt. at_or_before rs middle j c.args.lba c.requires.sorted
-          (omega (arith, c.if-records-middle.true, start)) (omega arith) (omega arith);
-      after = inv.after;
       leaves = c.find-span.ensures.leaves ∙ inv.leaves;
-      halved = halved-more c.loop-low.probes n _ (length rs) inv.halved (omega arith) (omega arith);
-      cost = cost-more c.loop-low.probes n (length rs) inv.halved (omega arith);
-      least = halved-less c.loop-low.probes n _ (length rs) inv.least (omega arith);
+      window = window-behind (joined ls) c.args.lba c.loop-low.low c.loop-low.high c.loop-low.probes
+          c.requires.sorted inv.window c.loop-low-test.true (omega (arith, start, c.if-records-middle.true));
     }
 
 pub loop-low-preserved : goal.loop-low-preserved
@@ -163,22 +157,15 @@ loop-low-preserved c =
     let span : IsSpan ls found = rw same at c.find-span.ensures.span in
     let value = c.records-records.ensures.value
     ∙ ap (λ (l : LeafTable). leaf_at l.leaves found.leaf) (c.find-span.ensures.leaves ∙ inv.leaves) in
-    let rs = joined ls in
-    let n = c.loop-low.high - c.loop-low.low in
-    let middle = c.loop-low.low + n / 2 in
+    let middle = c.loop-low.low + (c.loop-low.high - c.loop-low.low) / 2 in
     let index : IsLeafOf ls middle found.leaf = rw same at c.find-span.ensures.leaf in
+    let within = inv.window.within in
     let below = index.record_end (omega arith) in
     let start = ap (λ (x : List Run). (get_or x (middle - found.start) no_run).start) value
     ∙ start_of-leaf ls found middle span (omega (arith, span.start, index.start))
     (omega (arith, span.end, below)) in
     record {
-      ordered = omega arith;
-      within = omega arith;
-      before = inv.before;
-      after = λ j le lt. at_or_past rs middle j c.args.lba c.requires.sorted
-          (omega (arith, c.if-records-middle.false, start)) le lt;
       leaves = c.find-span.ensures.leaves ∙ inv.leaves;
-      halved = halved-more c.loop-low.probes n _ (length rs) inv.halved (omega arith) (omega arith);
-      cost = cost-more c.loop-low.probes n (length rs) inv.halved (omega arith);
-      least = halved-less c.loop-low.probes n _ (length rs) inv.least (omega arith);
+      window = window-before (joined ls) c.args.lba c.loop-low.low c.loop-low.high c.loop-low.probes
+          c.requires.sorted inv.window c.loop-low-test.true (omega (arith, start, c.if-records-middle.false));
     }

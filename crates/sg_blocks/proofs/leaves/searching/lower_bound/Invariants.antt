@@ -1,21 +1,13 @@
-use Rattle.std.proofs.Common.{◌≡◌, ℕ, ◌+◌, ◌-◌, ◌*◌, ◌^◌, ◌≤◌, ◌<◌, length}
+use Rattle.std.proofs.Common.{◌≡◌, ◌-◌}
 use Rattle.sg_blocks.specs.Leaves.{joined}
-use Rattle.sg_blocks.specs.Records.{start_of}
+use Rattle.sg_blocks.proofs.SearchLemmas.{IsWindow}
 use Rattle.sg_blocks.proofs.leaves.searching.lower_bound.Given as goal
 
--- the index is from low to high, and each probe halves what lies between
 abbrev pub invariant-loop-low : goal.invariant-loop-low
 invariant-loop-low l =
-    let rs = joined l.fn.leaves.leaves in
     record {
-      ordered : l.low ≤ l.high;
-      within : l.high ≤ length rs;
-      before : (j : ℕ) → j < l.low → start_of rs j < l.lba;
-      after : (j : ℕ) → l.high ≤ j → j < length rs → l.lba ≤ start_of rs j;
       leaves : l.leaves ≡ l.fn.leaves;
-      halved : 2 ^ l.probes * (l.high - l.low) ≤ length rs;
-      cost : 2 ^ l.probes ≤ 2 * length rs + 1;
-      least : length rs + 2 ≤ 2 ^ l.probes * (l.high - l.low + 2);
+      window : IsWindow (joined l.fn.leaves.leaves) l.lba l.low l.high l.probes;
     }
 
 abbrev pub decreases-loop-low : goal.decreases-loop-low
