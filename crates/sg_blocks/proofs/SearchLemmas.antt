@@ -1,6 +1,5 @@
 -- A search of records that goes on in a part of them.
 use Rattle.std.proofs.Common.{◌≡◌, ℕ, zero, suc, ◌+◌, ◌-◌, ◌*◌, ◌/◌, ◌^◌, ◌<◌, ◌≤◌, List, [], ◌∷◌, length, take, drop}
-use Rattle.std.proofs.Common.{get_or}
 use Rattle.std.proofs.Common.{sym, ap, ◌∙◌, arith, refl, inl, inr, length-drop}
 use Rattle.std.proofs.lemmas.Bool.{cases_lt}
 use Rattle.std.proofs.lemmas.List.{length-take-le, take-append-le}
@@ -89,10 +88,11 @@ part-leaf ls span low high is start le end =
 -- the address of a record of a leaf
 pub start_of-leaf : (ls : List (List Run)) (span : Span) (i : ℕ) → IsSpan ls span
     → span.start ≤ i → i < span.end
-    → (get_or (leaf_at ls span.leaf) (i - span.start) no_run).start ≡ start_of (joined ls) i
+    → start_of (leaf_at ls span.leaf) (i - span.start) ≡ start_of (joined ls) i
 start_of-leaf ls span i is le lt =
     let size = length-span ls span is in
-    ap (λ (r : Run). r.start) (sym (record-place ls i _ no_run
+    sym (start_of-at (leaf_at ls span.leaf) (i - span.start))
+    ∙ ap (λ (r : Run). r.start) (sym (record-place ls i _ no_run
     (place-span ls span i is le (omega arith)) (omega arith)))
     ∙ start_of-at (joined ls) i
 

@@ -58,6 +58,11 @@ pub record IsSpan (leaves : List (List Run)) (span : Span) : Type 0 where
   pub start : span.start ≡ count_before leaves span.leaf
   pub end : span.end ≡ count_before leaves (span.leaf + 1)
 
+-- Records of a leaf, and how many of their addresses a search compared.
+pub record ProbedRecords : Type 0 where
+  pub records : List Run
+  pub probes : ℕ
+
 -- The place of an index among the records of all leaves: a leaf, and an offset in it.
 pub record IsPlace (leaves : List (List Run)) (index : ℕ) (place : Place) : Type 0 where
   pub leaf : place.leaf < length leaves

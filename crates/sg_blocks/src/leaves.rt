@@ -1,3 +1,4 @@
+mod probed;
 mod searching;
 mod splicing;
 
@@ -13,6 +14,7 @@ use crate::leaf::MAX_LEAF;
 use crate::leaf_list::LeafList;
 use crate::run::Run;
 use arrayvec::ArrayVec;
+use probed::Probed;
 pub use searching::lower_bound;
 pub use splicing::splice;
 use std::alloc::{AllocError, Global};
@@ -174,13 +176,13 @@ impl Leaves {
         self.leaves.leaf(leaf).len()
     }
 
-    /// The records of a leaf.
-    pub fn records(&self, leaf: usize) -> &[Run]
+    /// The records of a leaf, for a search.
+    pub fn probed(&self, leaf: usize) -> Probed<'_>
         requires { leaf < length self.now.leaves }
-        ensures value { result.now ≡ leaf_at self.now.leaves leaf }
-        ensures fits { length result.now ≤ MAX_LEAF }
+        ensures value { result ≡ record { records = leaf_at self.now.leaves leaf; probes = 0 } }
+        ensures fits { length result.records ≤ MAX_LEAF }
     {
-        self.leaves.leaf(leaf).records()
+        Probed::new(self.leaves.leaf(leaf).records())
     }
 
     /// The record at a place.
@@ -349,7 +351,7 @@ impl Leaves {
           moved = self.old.moved + (length (leaf_at self.old.leaves leaf) - from);
         } }
     {
-        let records = self.records(leaf);
+        let records = self.leaves.leaf(leaf).records();
         let extended = copied.try_extend_from_slice(&records[from..]);
         prove!(extended.is_ok());
         let _ = extended;

@@ -4,7 +4,7 @@ ghost use Rattle.sg_blocks.specs.Leaves.{joined};
 ghost use Rattle.sg_blocks.specs.Records.{IsSorted, IsLowerBound};
 
 use crate::leaves::Leaves;
-use crate::run::Run;
+use crate::leaves::probed::Probed;
 use crate::store::MAX_POOL;
 
 /// Where a search ended, and how many addresses it compared.
@@ -29,16 +29,18 @@ pub fn lower_bound(leaves: &mut Leaves, lba: u64) -> Found
     while low < high {
         let middle = low + (high - low) / 2;
         let span = leaves.find(middle);
-        let records = leaves.records(span.leaf);
+        let mut records = leaves.probed(span.leaf);
         if span.start <= low && high <= span.end {
-            let found = search_leaf(&records[low - span.start..high - span.start], lba);
+            let mut rest = records.part(low - span.start, high - span.start);
+            let index = search_leaf(&mut rest, lba);
             return Found {
-                index: low + found.index,
-                probes: probes + found.probes,
+                index: low + index,
+                probes: probes + rest.probes(),
             };
         }
-        probes += 1;
-        if records[middle - span.start].start < lba {
+        let start = records.start(middle - span.start);
+        probes += records.probes();
+        if start < lba {
             low = middle + 1;
         } else {
             high = middle;
@@ -48,24 +50,23 @@ pub fn lower_bound(leaves: &mut Leaves, lba: u64) -> Found
 }
 
 /// The index of the first that is not before an address, of some records of a leaf.
-fn search_leaf(records: &[Run], lba: u64) -> Found
-    requires sorted { IsSorted records.now }
-    requires count { length records.now ≤ MAX_POOL }
-    ensures index { IsLowerBound records.now result.index lba }
-    ensures halving { 2 ^ result.probes ≤ 2 * length records.now + 1 }
-    ensures all_counted { length records.now + 2 ≤ 2 ^ (result.probes + 1) }
+fn search_leaf(records: &mut Probed<'_>, lba: u64) -> usize
+    requires fresh { records.old.probes ≡ 0 }
+    requires sorted { IsSorted records.old.records }
+    requires count { length records.old.records ≤ MAX_POOL }
+    ensures index { IsLowerBound records.old.records result lba }
+    ensures halving { 2 ^ records.new.probes ≤ 2 * length records.old.records + 1 }
+    ensures all_counted { length records.old.records + 2 ≤ 2 ^ (records.new.probes + 1) }
 {
     let mut low = 0;
     let mut high = records.len();
-    let mut probes = 0;
     while low < high {
         let middle = low + (high - low) / 2;
-        probes += 1;
-        if records[middle].start < lba {
+        if records.start(middle) < lba {
             low = middle + 1;
         } else {
             high = middle;
         }
     }
-    Found { index: low, probes }
+    low
 }
