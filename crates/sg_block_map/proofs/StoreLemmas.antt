@@ -1,9 +1,9 @@
 -- A disk of maximal runs: what its calls rest on.
-use Rattle.std.proofs.Common.{◌≡◌, ℕ, ◌+◌, ◌-◌, ◌*◌, ◌<◌, ◌≤◌, ◌^◌, List, [], ◌++◌, length, take}
-use Rattle.std.proofs.Common.{drop, arith, refl, sym, ap, ◌∙◌, subst, add-one, inl, inr}
-use Rattle.std.proofs.Math.Nat.{pow-succ'}
+use Rattle.std.proofs.Common.{◌≡◌, ℕ, ◌+◌, ◌-◌, ◌<◌, ◌≤◌, ◌^◌, List, [], ◌++◌, length, take}
+use Rattle.std.proofs.Common.{drop, arith, refl, sym, ap, ◌∙◌, subst, inl, inr}
 use Rattle.std.proofs.Math.Pow.{pow_mono}
 use Rattle.std.proofs.lemmas.Bool.{cases_lt}
+use Rattle.std.proofs.lemmas.Nat.{pow-add}
 use Rattle.std.proofs.lemmas.List.{length-map}
 use Rattle.std.specs.FinMap as map
 use Rattle.std.specs.List.{count_by, sum_by}
@@ -11,6 +11,7 @@ use Rattle.sg_blocks.specs.Disk.{Contents, Disk, IsWellFormed, mapped_among, rep
 use Rattle.sg_blocks.specs.Draft.{Drafted}
 use Rattle.sg_blocks.specs.Meter.{Meter, Costs}
 use Rattle.sg_blocks.specs.Records.{contents_of, IsSorted}
+use Rattle.sg_blocks.specs.Search.{CostsSearch}
 use Rattle.sg_blocks.specs.Slots.{Slots, IsEachOnce}
 use Rattle.sg_blocks.specs.Table.{Table, visited, probed}
 use Rattle.sg_blocks.specs.declared.run.Run.{Run}
@@ -101,14 +102,14 @@ module _ (rs : List Run) (slots : Slots) (room : ℕ) (gathered : Drafted) (lba 
     gathered-near = near-gathered slots.next rs slots.blocks gathered lba count
         (MAX_CAPACITY + 1) h.maximal h.chained g
 
--- a count that has `digits` binary digits is halved at most as often
-halved : (probes count digits : ℕ) → 2 ^ probes ≤ 2 * count + 1 → count < 2 ^ digits
-    → probes ≤ digits
-halved probes count digits h lt = elim (cases_lt digits probes) [
+-- a search of a count that has `digits` binary digits takes at most one probe more
+searched : (probes count digits : ℕ) → CostsSearch count probes → count < 2 ^ digits
+    → probes ≤ digits + 1
+searched probes count digits is lt = elim (cases_lt (digits + 1) probes) [
   | inl more ↦
-      let rises : 2 ^ (digits + 1) ≤ 2 ^ probes = pow_mono (omega (arith, more)) in
-      let twice : 2 ^ (digits + 1) ≡ 2 * 2 ^ digits = rw (add-one) (pow-succ' 2 digits) in
-      absurd (omega (arith, rises, twice))
+      let rises : 2 ^ (digits + 2) ≤ 2 ^ probes = pow_mono (omega (arith, more)) in
+      let most = is.most in
+      absurd (omega (arith, rises, pow-add 2 digits 2))
   | inr le ↦ le
 ]
 
@@ -117,7 +118,7 @@ module _ (rs : List Run) (slots after_slots : Slots) (room lba count : ℕ) (bef
     (h : AreRuns rs slots room) (same : before.records ≡ rs)
     (table : after ≡ visited (probed before (after.probes - before.probes))
     (after.total - before.total)) (rise : before.probes ≤ after.probes)
-    (halving : 2 ^ (after.probes - before.probes) ≤ 2 * length before.records + 1)
+    (search : CostsSearch (length before.records) (after.probes - before.probes))
     (least : before.total ≤ after.total) where
   pub gathered-costs : room ≤ MAX_POOL → slots.links ≤ after_slots.links
       → after_slots.links ≤ slots.links + room
@@ -127,7 +128,7 @@ module _ (rs : List Run) (slots after_slots : Slots) (room lba count : ℕ) (bef
       let restarts = ap (λ (t : Table). t.restarts) table in
       let fit = runs-fit rs slots room h in
       let len = ap length same in
-      let probes = probes-le (after.probes - before.probes) (length before.records) halving
+      let probes = probes-le (after.probes - before.probes) (length before.records) search.most
       (omega arith) in
       record {
         visits = omega arith;
@@ -156,8 +157,8 @@ module _ (rs : List Run) (slots after_slots : Slots) (room lba count : ℕ) (bef
       (MAX_CAPACITY + 1) h.maximal h.chained) ∙ length-map rs extent_of
       ∙ ap length (sym same) in
       record {
-        probes = λ digits lt. let p = halved (after.probes - before.probes)
-            (length before.records) digits halving (omega (arith, len, lt)) in
+        probes = λ digits lt. let p = searched (after.probes - before.probes)
+            (length before.records) digits search (omega (arith, len, lt)) in
             omega (arith, p, rise);
         links = links;
       }
@@ -182,14 +183,14 @@ pub gathered-range : (before after : Table) (slots after_slots : Slots) (capacit
     → before.room ≤ MAX_POOL
     → after ≡ visited (probed before (after.probes - before.probes)) (after.total - before.total)
     → before.probes ≤ after.probes
-    → 2 ^ (after.probes - before.probes) ≤ 2 * length before.records + 1
+    → CostsSearch (length before.records) (after.probes - before.probes)
     → before.total + length gathered.records ≤ after.total
     → after.total ≤ before.total + count_by (starts_in lba (lba + count)) before.records + 2
     → slots.links ≤ after_slots.links
     → after_slots.links ≤ slots.links + blocks_of gathered.records
     → CostsRange (disk_at capacity before slots) lba count
     (meter_at before slots) (meter_at after after_slots)
-gathered-range before after slots after_slots capacity lba count gathered h g small is rise halving
+gathered-range before after slots after_slots capacity lba count gathered h g small is rise search
     least most links_rise links =
     let rs = before.records in
     let room = before.room in
@@ -198,12 +199,12 @@ gathered-range before after slots after_slots capacity lba count gathered h g sm
     let near = gathered-near rs slots room gathered lba count h g in
     let met = gathered-meet rs slots room gathered lba count h g in
     record {
-      cost = gathered-costs rs slots after_slots room lba count before after h refl is rise halving
+      cost = gathered-costs rs slots after_slots room lba count before after h refl is rise search
           total small links_rise (omega (arith, blocks, links));
-      price = gathered-price rs slots after_slots room lba count before after h refl is rise halving
+      price = gathered-price rs slots after_slots room lba count before after h refl is rise search
           total most;
       least = omega (arith, least, met);
-      runs = gathered-runs rs slots after_slots room lba count before after h refl is rise halving
+      runs = gathered-runs rs slots after_slots room lba count before after h refl is rise search
           total (omega (arith, near, links));
     }
 

@@ -12,12 +12,12 @@ block_least contents lba count = meet contents lba count
 abbrev pub block_price : Contents → (lba count : ℕ) → ℕ
 block_price contents lba count = meet contents lba count + 2
 
--- What a call over a range compares and follows, by the maximal runs before it: at most as many
--- addresses as the number of runs has binary digits, and at most as many links as the runs have
--- blocks that meet the range or touch its ends.
+-- What a call over a range compares and follows, by the maximal runs before it: at most one address
+-- more than the number of runs has binary digits, and at most as many links as the runs have blocks
+-- that meet the range or touch its ends.
 pub record CostsRuns (contents : Contents) (lba count : ℕ) (before after : Meter) : Type 0 where
   pub probes : (digits : ℕ) → length (runs contents) < 2 ^ digits
-      → after.counts.probes ≤ before.counts.probes + digits
+      → after.counts.probes ≤ before.counts.probes + digits + 1
   pub links : after.counts.links ≤ before.counts.links + blocks_near contents lba count
 
 -- All that a call over a range costs, by the disk before it.

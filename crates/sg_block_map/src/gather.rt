@@ -1,7 +1,8 @@
 // Gathering the runs near a range from the table.
-ghost use Rattle.std.specs.Prelude.{◌≡◌, ◌+◌, ◌-◌, ◌*◌, ◌^◌, ◌<◌, ◌≤◌, ℕ, length, drop, nat_lt};
+ghost use Rattle.std.specs.Prelude.{◌≡◌, ◌+◌, ◌-◌, ◌<◌, ◌≤◌, ℕ, length, drop, nat_lt};
 ghost use Rattle.std.specs.List.{count_by, splice, sum_by};
 ghost use Rattle.sg_blocks.specs.Records.{IsLowerBound, start_of};
+ghost use Rattle.sg_blocks.specs.Search.{CostsSearch};
 ghost use Rattle.sg_blocks.specs.Table.{visited, probed};
 ghost use Rattle.sg_block_map.specs.Gathering.{AreGathered, AreBegun, end_index, overlap};
 ghost use Rattle.sg_block_map.specs.Gathering.{starts_in};
@@ -103,7 +104,7 @@ pub fn gather(table: &mut RunTable, gathered: &mut Draft, lba: u64, count: u32)
     ensures table { table.new ≡ visited (probed table.old (table.new.probes - table.old.probes))
         (table.new.total - table.old.total) }
     ensures rise { table.old.probes ≤ table.new.probes }
-    ensures halving { 2 ^ (table.new.probes - table.old.probes) ≤ 2 * length table.old.records + 1 }
+    ensures search { CostsSearch (length table.old.records) (table.new.probes - table.old.probes) }
     ensures least { table.old.total + length gathered.new.records ≤ table.new.total }
     ensures most { table.new.total
         ≤ table.old.total + count_by (starts_in lba (lba + count)) table.old.records + 2 }

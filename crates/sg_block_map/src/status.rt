@@ -1,9 +1,10 @@
-ghost use Rattle.std.specs.Prelude.{◌≡◌, ◌+◌, ◌-◌, ◌*◌, ◌^◌, ◌<◌, ◌≤◌, ℕ, length};
+ghost use Rattle.std.specs.Prelude.{◌≡◌, ◌+◌, ◌-◌, ◌<◌, ◌≤◌, ℕ, length};
 ghost use Rattle.std.specs.List.{flat_map};
 ghost use Rattle.sg_blocks.specs.LbaStatus.{covered, descriptor_at, descriptor_bytes};
 ghost use Rattle.sg_blocks.specs.LbaStatus.{descriptors_from};
 ghost use Rattle.sg_blocks.specs.Records.{ahead};
 ghost use Rattle.sg_blocks.specs.Slots.{Slots};
+ghost use Rattle.sg_blocks.specs.Search.{CostsSearch};
 ghost use Rattle.sg_blocks.specs.Table.{visited, probed};
 ghost use Rattle.sg_blocks.specs.Records.{passed};
 ghost use Rattle.sg_wire.specs.Cut.{Puts};
@@ -29,7 +30,7 @@ pub fn cursor_over(table: &mut RunTable, lba: u64) -> Cursor
     ensures table { table.new ≡ visited (probed table.old (table.new.probes - table.old.probes))
         (table.new.total - table.old.total) }
     ensures rise { table.old.probes ≤ table.new.probes }
-    ensures halving { 2 ^ (table.new.probes - table.old.probes) ≤ 2 * length table.old.records + 1 }
+    ensures search { CostsSearch (length table.old.records) (table.new.probes - table.old.probes) }
     ensures least { table.old.total + ahead result.next ≤ table.new.total }
     ensures most { table.new.total ≤ table.old.total + ahead result.next + 1 }
 {

@@ -15,13 +15,13 @@ use Rattle.sg_blocks.proofs.OccurrenceLemmas.{below_count, not_equal, once-le, o
 use Rattle.sg_blocks.proofs.OccurrenceLemmas.{occurrences-append, occurrences-more, occurrences-one}
 use Rattle.sg_blocks.proofs.OccurrenceLemmas.{same_slot}
 
-map-insert : {X Y : Type 0} (f : X → Y) (xs : List X) (k : ℕ) (x : X)
+pub map-insert : {X Y : Type 0} (f : X → Y) (xs : List X) (k : ℕ) (x : X)
     → map f (insert xs k x) ≡ insert (map f xs) k (f x)
 map-insert f xs zero x = refl
 map-insert f [] (suc k) x = refl
 map-insert f (y ∷ xs) (suc k) x = ap (λ ys. f y ∷ ys) (map-insert f xs k x)
 
-map-remove : {X Y : Type 0} (f : X → Y) (xs : List X) (k : ℕ) → map f (remove xs k) ≡ remove (map f xs) k
+pub map-remove : {X Y : Type 0} (f : X → Y) (xs : List X) (k : ℕ) → map f (remove xs k) ≡ remove (map f xs) k
 map-remove f [] zero = refl
 map-remove f [] (suc k) = refl
 map-remove f (y ∷ xs) zero = refl

@@ -25,5 +25,6 @@ pub mod StatusLemmas
 pub mod DescriptorLemmas
 pub mod ReportLemmas
 pub mod SearchLemmas
+pub mod LeafSearchLemmas
 pub mod EditingLemmas
 pub mod WellFormedLemmas

@@ -1,7 +1,8 @@
 -- The leaves of the table of records.
 use Rattle.std.specs.Prelude.{◌≡◌, ℕ, ◌+◌, ◌-◌, ◌*◌, ◌<◌, ◌≤◌, List, [], ◌∷◌, ◌++◌, length, take, drop}
-use Rattle.std.specs.Prelude.{slice_index_or, ◌⊎◌}
+use Rattle.std.specs.Prelude.{map, slice_index_or, ◌⊎◌}
 use Rattle.std.specs.List.{All}
+use Rattle.sg_blocks.specs.Records.{start_of}
 use Rattle.sg_blocks.specs.declared.leaf.TheConstants.{MAX_LEAF}
 use Rattle.sg_blocks.specs.declared.leaves.TheConstants.{MIN_LEAF}
 use Rattle.sg_blocks.specs.declared.leaves.Place.{Place}
@@ -36,6 +37,10 @@ count_before leaves leaf = length (joined (take leaf leaves))
 abbrev pub IsFilled : List Run → Type 0
 IsFilled leaf = MIN_LEAF ≤ length leaf
 
+-- The leaf has not too many records.
+abbrev pub FitsLeaf : List Run → Type 0
+FitsLeaf leaf = length leaf ≤ MAX_LEAF
+
 -- Each leaf has enough records, unless it is the only one.
 abbrev pub AreBalanced : List (List Run) → Type 0
 AreBalanced leaves = (length leaves ≡ 1) ⊎ All IsFilled leaves
@@ -58,10 +63,13 @@ pub record IsSpan (leaves : List (List Run)) (span : Span) : Type 0 where
   pub start : span.start ≡ count_before leaves span.leaf
   pub end : span.end ≡ count_before leaves (span.leaf + 1)
 
--- Records of a leaf, and how many of their addresses a search compared.
-pub record ProbedRecords : Type 0 where
-  pub records : List Run
-  pub probes : ℕ
+-- The addresses of records.
+abbrev pub addresses : List Run → List ℕ
+addresses records = map (λ run. run.start) records
+
+-- The address of the first record of each leaf, and 0 for a leaf without records.
+abbrev pub first_addresses : List (List Run) → List ℕ
+first_addresses leaves = map (λ leaf. start_of leaf 0) leaves
 
 -- The place of an index among the records of all leaves: a leaf, and an offset in it.
 pub record IsPlace (leaves : List (List Run)) (index : ℕ) (place : Place) : Type 0 where

@@ -9,6 +9,7 @@ pub mod Laws
 -- `PlainMap` edits them.
 pub mod Source
 pub mod Records
+pub mod Search
 pub mod Slots
 pub mod Chains
 pub mod Leaves

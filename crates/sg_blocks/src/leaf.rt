@@ -1,6 +1,7 @@
 ghost use Rattle.std.specs.Prelude.{◌≡◌, ◌+◌, ◌-◌, ◌<◌, ◌≤◌, [], length, slice_index_or};
 ghost use Rattle.std.specs.List.{splice};
 ghost use Rattle.sg_blocks.specs.Leaves.{rotated_left, rotated_right};
+ghost use Rattle.sg_blocks.specs.Records.{start_of};
 
 use crate::run::Run;
 use arrayvec::ArrayVec;
@@ -56,6 +57,16 @@ impl Leaf {
         ensures { slice_index_or self.now offset result ≡ result }
     {
         self.records.as_slice()[offset]
+    }
+
+    /// The address of the first record, or 0 where there is none.
+    pub fn start(&self) -> u64
+        ensures { result ≡ start_of self.now 0 }
+    {
+        match self.records.as_slice().first() {
+            Some(run) => run.start,
+            None => 0,
+        }
     }
 
     /// Removes all records.

@@ -4,10 +4,11 @@ mod splicing;
 
 ghost use Rattle.std.specs.Prelude.{◌≡◌, ◌+◌, ◌-◌, ◌^◌, ◌<◌, ◌≤◌, [], ◌∷◌, ◌++◌, length, map};
 ghost use Rattle.std.specs.Prelude.{take, drop, insert, remove, slice_index_or, slice_set};
-ghost use Rattle.std.specs.Prelude.{vec_capacity, IfOk, IsTrue};
+ghost use Rattle.std.specs.Prelude.{vec_capacity, IfOk};
 ghost use Rattle.std.specs.List.{All};
 ghost use Rattle.std.specs.List.{splice as splice_list};
-ghost use Rattle.sg_blocks.specs.Leaves.{IsLeafOf, IsPlace, IsSpan, count_before, joined, leaf_at};
+ghost use Rattle.sg_blocks.specs.Leaves.{FitsLeaf, IsLeafOf, IsPlace, IsSpan, addresses};
+ghost use Rattle.sg_blocks.specs.Leaves.{count_before, first_addresses, joined, leaf_at};
 
 use crate::ghost_number::GhostNumber;
 use crate::leaf::MAX_LEAF;
@@ -28,11 +29,6 @@ pub const MAX_LEAVES: usize = 513;
 
 /// The most records of two leaves.
 pub const TWO_LEAVES: usize = 2 * MAX_LEAF;
-
-// How many indexes share a hint on where they are, and how many hints there are.
-const HINT_RECORDS: usize = 32;
-
-const HINTS: usize = 2048;
 
 /// A leaf, by its index, and an offset in it.
 #[derive(Clone, Copy)]
@@ -75,16 +71,18 @@ pub struct Leaves {
     leaves: LeafList,
     /// The index of the first record of each leaf, and the number of records.
     starts: Vec<u32>,
-    /// The leaf that was found last, and those that were found last near other indexes.
+    /// The address of the first record of each leaf, and 0 for a leaf without records.
+    firsts: Vec<u64>,
+    /// The leaf that was found last.
     recent: Span,
-    hints: Vec<u16>,
     moved: GhostNumber,
 }
 
 impl Model for Leaves {
     ghost use Rattle.std.specs.Prelude.{◌≡◌, ◌<◌, ◌≤◌, length, vec_capacity};
-    ghost use Rattle.sg_blocks.specs.Leaves.{LeafTable, IsDirectory, IsSpan};
-    ghost use Rattle.sg_blocks.specs.declared.leaves.TheConstants.{HINTS, MAX_LEAVES};
+    ghost use Rattle.std.specs.List.{All};
+    ghost use Rattle.sg_blocks.specs.Leaves.{LeafTable, FitsLeaf, IsDirectory, IsSpan, first_addresses};
+    ghost use Rattle.sg_blocks.specs.declared.leaves.TheConstants.{MAX_LEAVES};
 
     ghost Value = { LeafTable };
 
@@ -98,7 +96,9 @@ impl Model for Leaves {
         × (length l.leaves.leaves ≤ l.leaves.capacity)
         × (l.leaves.capacity < vec_capacity l.starts)
         × (l.leaves.capacity ≤ MAX_LEAVES)
-        × (length l.hints.items ≡ HINTS)
+        × All FitsLeaf l.leaves.leaves
+        × (l.firsts.items ≡ first_addresses l.leaves.leaves)
+        × (l.leaves.capacity ≤ vec_capacity l.firsts)
         × (l.recent.start < l.recent.end → IsSpan l.leaves.leaves l.recent) };
 }
 
@@ -139,13 +139,16 @@ impl Leaves {
         requires { (1 ≤ count) × (count ≤ MAX_LEAVES) }
         ensures { IfOk result (λ l. l ≡ record { leaves = [] ∷ []; capacity = count; moved = 0 }) }
     {
+        let starts = empty_directory(alloc, count)?;
+        let mut firsts = Vec::with_capacity(alloc, count)?;
+        firsts.push(0)?;
         let mut leaves = LeafList::new(alloc, count)?;
         leaves.open(0);
         Ok(Leaves {
             leaves,
-            starts: empty_directory(alloc, count)?,
+            starts,
+            firsts,
             recent: NO_SPAN,
-            hints: vec![in alloc; 0; HINTS]?,
             moved: GhostNumber::zero(),
         })
     }
@@ -176,11 +179,21 @@ impl Leaves {
         self.leaves.leaf(leaf).len()
     }
 
+    /// The first addresses of all leaves but the first, for a search.
+    fn other_firsts(&self) -> Probed<'_, u64>
+        ensures starts { result.starts ≡ drop 1 (first_addresses self.now.leaves) }
+        ensures fresh { result.probes ≡ 0 }
+        ensures not_empty { 1 ≤ length self.now.leaves }
+        ensures fits { All FitsLeaf self.now.leaves }
+    {
+        Probed::new(&self.firsts[1..])
+    }
+
     /// The records of a leaf, for a search.
-    pub fn probed(&self, leaf: usize) -> Probed<'_>
+    fn probed(&self, leaf: usize) -> Probed<'_, Run>
         requires { leaf < length self.now.leaves }
-        ensures value { result ≡ record { records = leaf_at self.now.leaves leaf; probes = 0 } }
-        ensures fits { length result.records ≤ MAX_LEAF }
+        ensures starts { result.starts ≡ addresses (leaf_at self.now.leaves leaf) }
+        ensures fresh { result.probes ≡ 0 }
     {
         Probed::new(self.leaves.leaf(leaf).records())
     }
@@ -194,24 +207,8 @@ impl Leaves {
         self.leaves.leaf(place.leaf).record(place.offset)
     }
 
-    /// Whether the record at an index is in a leaf.
-    fn has(&self, leaf: usize, index: usize) -> bool
-        ensures { IsTrue result → (leaf < length self.now.leaves)
-            × (count_before self.now.leaves leaf ≤ index)
-            × (index < count_before self.now.leaves (leaf + 1)) }
-    {
-        if leaf >= self.used() {
-            return false;
-        }
-        let start = self.starts[leaf] as usize;
-        let end = self.starts[leaf + 1] as usize;
-        start <= index && index < end
-    }
-
-    /// The last leaf that begins at an index or before it, found by binary search.
-    // Inlined into the search of the table it would make each probe there wait for the one before.
-    #[inline(never)]
-    fn search(&self, index: usize) -> usize
+    /// The leaf of the record at an index, or the last leaf, found by binary search.
+    fn leaf_of(&self, index: usize) -> usize
         requires { index ≤ length (joined self.now.leaves) }
         ensures { IsLeafOf self.now.leaves index result }
     {
@@ -240,19 +237,13 @@ impl Leaves {
         }
     }
 
-    /// The leaf of the record at an index, or the last leaf. An earlier search has mostly found it.
-    pub fn find(&mut self, index: usize) -> Span
-        requires { index ≤ length (joined self.old.leaves) }
+    /// A leaf with its indexes. The calls that follow will mostly look for records of it.
+    fn enter(&mut self, leaf: usize) -> Span
+        requires { leaf < length self.old.leaves }
         ensures span { IsSpan self.old.leaves result }
-        ensures leaf { IsLeafOf self.old.leaves index result.leaf }
+        ensures leaf { result.leaf ≡ leaf }
         ensures leaves { self.new ≡ self.old }
     {
-        let hint = index / HINT_RECORDS % HINTS;
-        let mut leaf = self.hints[hint] as usize;
-        if !self.has(leaf, index) {
-            leaf = self.search(index);
-            self.hints[hint] = leaf as u16;
-        }
         self.recent = self.span(leaf);
         self.recent
     }
@@ -269,7 +260,8 @@ impl Leaves {
         if recent.start <= index && index < recent.end {
             return recent.place(index);
         }
-        self.find(index).place(index)
+        let leaf = self.leaf_of(index);
+        self.enter(leaf).place(index)
     }
 
     /// The place of an index, where a record may end, in the first leaf from one on where it can be.
@@ -308,6 +300,7 @@ impl Leaves {
         let after = self.leaves.leaf(leaf).len();
         self.moved = self.moved.increased(before - from).increased(after - from);
         shift(&mut self.starts, leaf + 1, before as u32, after as u32);
+        self.firsts[leaf] = self.leaves.leaf(leaf).start();
         self.recent = NO_SPAN;
     }
 
@@ -320,6 +313,9 @@ impl Leaves {
         self.leaves.open(leaf);
         let start = self.starts[leaf];
         let inserted = self.starts.insert(leaf, start);
+        prove!(inserted.is_ok());
+        let _ = inserted;
+        let inserted = self.firsts.insert(leaf, 0);
         prove!(inserted.is_ok());
         let _ = inserted;
         self.recent = NO_SPAN;
@@ -335,6 +331,7 @@ impl Leaves {
         let count = self.leaves.leaf(leaf).len();
         shift(&mut self.starts, leaf + 1, count as u32, 0);
         self.starts.remove(leaf);
+        self.firsts.remove(leaf);
         self.leaves.close(leaf);
         self.recent = NO_SPAN;
     }

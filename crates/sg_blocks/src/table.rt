@@ -1,5 +1,6 @@
-ghost use Rattle.std.specs.Prelude.{◌≡◌, ◌+◌, ◌-◌, ◌*◌, ◌^◌, ◌<◌, ◌≤◌, length, slice_index_or, IfOk};
+ghost use Rattle.std.specs.Prelude.{◌≡◌, ◌+◌, ◌-◌, ◌<◌, ◌≤◌, length, slice_index_or, IfOk};
 ghost use Rattle.sg_blocks.specs.Records.{start_of, IsSorted, IsLowerBound};
+ghost use Rattle.sg_blocks.specs.Search.{CostsSearch};
 ghost use Rattle.sg_blocks.specs.Meter.{probe_bound};
 ghost use Rattle.sg_blocks.specs.Table.{new_table, visited, probed, search_bound, restarted_table};
 ghost use Rattle.sg_blocks.specs.Leaves.{move_bound};
@@ -143,8 +144,7 @@ impl RunTable {
         ensures table { self.new ≡ probed self.old (self.new.probes - self.old.probes) }
         ensures probes_rise { self.old.probes ≤ self.new.probes }
         ensures probe_count { self.new.probes ≤ self.old.probes + search_bound }
-        ensures halving { 2 ^ (self.new.probes - self.old.probes) ≤ 2 * length self.old.records + 1 }
-        ensures all_counted { length self.old.records + 2 ≤ 2 ^ (self.new.probes - self.old.probes + 1) }
+        ensures search { CostsSearch (length self.old.records) (self.new.probes - self.old.probes) }
     {
         let found = lower_bound(&mut self.leaves, lba);
         self.probes += found.probes;

@@ -1,63 +1,81 @@
-ghost use Rattle.std.specs.Prelude.{◌≡◌, ◌+◌, ◌-◌, ◌<◌, ◌≤◌, length, take, drop};
-ghost use Rattle.sg_blocks.specs.Records.{start_of};
+ghost use Rattle.std.specs.Prelude.{◌≡◌, ℕ, ◌+◌, ◌<◌, length, map};
+ghost use Rattle.sg_blocks.specs.Search.{address_at};
 
 use crate::run::Run;
 use std::marker::Model;
 
-/// Records of a leaf for a search, with how many of their addresses it compared. No other call
-/// reads one.
+/// What begins at an address.
+pub trait HasStart {
+    ghost start_of: { Self → ℕ };
+
+    /// The first address.
+    fn start(&self) -> u64
+        ensures { result ≡ start_of self.now };
+}
+
+impl HasStart for Run {
+    ghost start_of = { λ run. run.start };
+
+    fn start(&self) -> u64 {
+        self.start
+    }
+}
+
+/// An address stands for the record that begins there.
+impl HasStart for u64 {
+    ghost start_of = { λ lba. lba };
+
+    fn start(&self) -> u64 {
+        *self
+    }
+}
+
+/// Starts in a row for a search, with how many of them it compared. No other call reads one.
 #[derive(Drop)]
-pub struct Probed<'a> {
-    records: &'a [Run],
+pub struct Probed<'a, T: HasStart> {
+    items: &'a [T],
     probes: u64,
 }
 
-impl<'a> Model for Probed<'a> {
-    ghost use Rattle.sg_blocks.specs.Leaves.{ProbedRecords};
+impl<'a, T: HasStart> Model for Probed<'a, T> {
+    ghost use Rattle.std.specs.Prelude.{map};
+    ghost use Rattle.sg_blocks.specs.Search.{ProbedStarts};
 
-    ghost Value = { ProbedRecords };
+    ghost Value = { ProbedStarts };
 
-    ghost view = { λ p. record { records = p.records.now; probes = p.probes } };
+    ghost view = { λ p. record { starts = map T.start_of p.items.now; probes = p.probes } };
 }
 
-impl<'a> Probed<'a> {
-    /// Records of which no address was compared.
-    pub fn new(records: &'a [Run]) -> Probed<'a>
-        ensures { result ≡ record { records = records.now; probes = 0 } }
+impl<'a, T: HasStart> Probed<'a, T> {
+    /// Starts of which none was compared.
+    pub fn new(items: &'a [T]) -> Probed<'a, T>
+        ensures { result ≡ record { starts = map T.start_of items.now; probes = 0 } }
     {
-        Probed { records, probes: 0 }
+        Probed { items, probes: 0 }
     }
 
-    /// How many records there are.
+    /// How many starts there are.
     pub fn len(&self) -> usize
-        ensures { result ≡ length self.now.records }
+        ensures { result ≡ length self.now.starts }
     {
-        self.records.len()
+        self.items.len()
     }
 
-    /// How many addresses were compared.
+    /// How many starts were compared.
     pub fn probes(&self) -> u64
         ensures { result ≡ self.now.probes }
     {
         self.probes
     }
 
-    /// The address of the record at an index, which counts as a probe.
+    /// The start at an index, which counts as a probe.
     pub fn start(&mut self, index: usize) -> u64
-        requires index { index < length self.old.records }
+        requires index { index < length self.old.starts }
         requires headroom { self.old.probes < u64.MAX }
-        ensures value { result ≡ start_of self.old.records index }
+        ensures value { result ≡ address_at self.old.starts index }
         ensures probed { self.new ≡ record self.old { probes = self.old.probes + 1 } }
     {
         self.probes += 1;
-        self.records[index].start
-    }
-
-    /// The records from one index to another, of which no address was compared.
-    pub fn part(&self, from: usize, to: usize) -> Probed<'a>
-        requires { (from ≤ to) × (to ≤ length self.now.records) }
-        ensures { result ≡ record { records = take (to - from) (drop from self.now.records); probes = 0 } }
-    {
-        Probed::new(&self.records[from..to])
+        self.items[index].start()
     }
 }

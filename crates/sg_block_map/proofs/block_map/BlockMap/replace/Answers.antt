@@ -85,7 +85,7 @@ returns-then-from-free_count-clause-costs c =
     let s = c.args.self.now in
     let e = c.gather.ensures in
     gathered-range s.table c.gather.new.table s.pool s.pool s.capacity c.args.lba c.args.count
-    c.gather.new.gathered s.runs e.gathered s.pool_fits e.table e.rise e.halving e.least e.most
+    c.gather.new.gathered s.runs e.gathered s.pool_fits e.table e.rise e.search e.least e.most
     (omega arith) (omega arith)
 
 -- there are enough
@@ -146,5 +146,5 @@ returns-clause-costs c =
     subst (λ (m : Meter). CostsRange (disk_of s) c.args.lba c.args.count (meter_at s.table s.pool) m)
     (sym (ap (λ t. meter_at t pool) c.write_runs.ensures.table))
     (gathered-range s.table c.gather.new.table s.pool pool s.capacity c.args.lba c.args.count
-    c.gather.new.gathered s.runs e.gathered s.pool_fits e.table e.rise e.halving e.least e.most
+    c.gather.new.gathered s.runs e.gathered s.pool_fits e.table e.rise e.search e.least e.most
     c.write_runs.ensures.rise c.write_runs.ensures.links)

@@ -51,5 +51,5 @@ returns-clause-costs c =
     let links = ap (λ zs. length (expanded s.pool.next zs)) c.records.ensures
     ∙ length-expanded s.pool.next gathered.records in
     gathered-range s.table c.gather.new.table s.pool c.read_runs.new.pool s.capacity c.args.lba
-    c.args.count gathered s.runs e.gathered s.pool_fits e.table e.rise e.halving e.least e.most
+    c.args.count gathered s.runs e.gathered s.pool_fits e.table e.rise e.search e.least e.most
     c.read_runs.ensures.rise (omega (arith, c.read_runs.ensures.links, links))

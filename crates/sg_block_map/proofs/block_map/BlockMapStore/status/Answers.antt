@@ -80,9 +80,9 @@ returns-clause-costs c =
     let least = rw same at (f.least s.pool) in
     record {
       cost = gathered-costs s.table.records s.pool s.pool s.table.room lba count s.table u s.runs
-          refl joined rise (rw probes e.halving) total s.pool_fits (omega arith) (omega arith);
+          refl joined rise (rw probes e.search) total s.pool_fits (omega arith) (omega arith);
       price = omega (arith, most, e.most, met);
       least = omega (arith, least, e.least, met);
       runs = gathered-runs s.table.records s.pool s.pool s.table.room lba count s.table u s.runs
-          refl joined rise (rw probes e.halving) total (omega arith);
+          refl joined rise (rw probes e.search) total (omega arith);
     }

@@ -103,5 +103,5 @@ returns-clause-costs c =
     subst (λ (m : Meter). CostsRange (disk_of s) c.args.lba c.args.count (meter_at s.table s.pool) m)
     (sym (ap (λ t. meter_at t pool) c.unmap_runs.ensures.table))
     (gathered-range s.table c.gather.new.table s.pool pool s.capacity c.args.lba c.args.count
-    c.gather.new.gathered s.runs e.gathered s.pool_fits e.table e.rise e.halving e.least e.most
+    c.gather.new.gathered s.runs e.gathered s.pool_fits e.table e.rise e.search e.least e.most
     c.unmap_runs.ensures.rise c.unmap_runs.ensures.links)

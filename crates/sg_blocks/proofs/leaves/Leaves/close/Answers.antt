@@ -3,7 +3,8 @@ use Rattle.std.proofs.lemmas.List.{take_at}
 use Rattle.std.proofs.lemmas.List.Edits.{length-remove}
 use Rattle.std.specs.Prelude.{remove}
 use Rattle.sg_blocks.specs.LeafList.{LeafRow}
-use Rattle.sg_blocks.specs.Leaves.{LeafTable, joined}
+use Rattle.sg_blocks.specs.Leaves.{FitsLeaf, LeafTable, joined}
+use Rattle.sg_blocks.proofs.LeafSearchLemmas.{all-remove, firsts-remove}
 use Rattle.sg_blocks.proofs.LeavesLemmas.{directory-behind, directory-remove, same-table}
 use Rattle.sg_blocks.proofs.leaves.Leaves.close.Goals as goal
 
@@ -54,7 +55,9 @@ invariant_of-self c =
       omega (arith, ap length closed, length-remove leaves k within, capacity, c.self.invariant.1),
       omega (arith, capacity, c.self.invariant.2, c.remove.ensures.capacity),
       omega (arith, capacity, c.self.invariant.3),
-      c.self.invariant.4,
+      rw closed (all-remove FitsLeaf leaves k c.self.invariant.4),
+      c.remove-2.ensures.items ∙ ap (λ xs. remove xs k) c.self.invariant.5 ∙ firsts-remove leaves _ k closed,
+      omega (arith, capacity, c.self.invariant.6, c.remove-2.ensures.capacity),
       λ lt. absurd (omega arith),
     )
 

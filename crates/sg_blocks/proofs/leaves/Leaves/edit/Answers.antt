@@ -1,10 +1,13 @@
 use Rattle.std.proofs.Common.{◌≡◌, ◌<◌, List, [], length, set, ap, refl, ◌∙◌, arith}
 use Rattle.std.proofs.Common.{length-set}
 use Rattle.std.proofs.lemmas.List.{get_or-set_same, take_at}
+use Rattle.std.proofs.lemmas.List.Elements.{All-set}
 use Rattle.std.specs.List.{splice}
 use Rattle.sg_blocks.specs.LeafList.{LeafRow}
-use Rattle.sg_blocks.specs.Leaves.{LeafTable, joined, leaf_at}
+use Rattle.sg_blocks.specs.Leaves.{FitsLeaf, LeafTable, joined, leaf_at}
+use Rattle.sg_blocks.specs.Records.{start_of}
 use Rattle.sg_blocks.specs.declared.run.Run.{Run}
+use Rattle.sg_blocks.proofs.LeafSearchLemmas.{firsts-set}
 use Rattle.sg_blocks.proofs.LeavesLemmas.{directory-behind, directory-set, length-splice, same-table}
 use Rattle.sg_blocks.proofs.leaves.Leaves.edit.Goals as goal
 
@@ -65,6 +68,10 @@ invariant_of-self c =
     let capacity = ap (λ (l : LeafRow). l.capacity) c.splice.ensures in
     let after = c.leaf-2.ensures ∙ ap (λ l. leaf_at l k) spliced
     ∙ get_or-set_same leaves k new [] within in
+    let first = c.leaf-3.ensures ∙ ap (λ l. leaf_at l k) spliced ∙ get_or-set_same leaves k new [] within in
+    let old = ap (λ (l : LeafTable). length (leaf_at l.leaves k)) c.self.view_is in
+    let size = length-splice (leaf_at leaves k) c.args.from c.args.to c.args.runs.now c.requires.range.0
+    (omega (arith, c.requires.range.1, old)) in
     let back = take_at c.shift.new.starts _ c.self.inside.starts.len
     (omega (arith, c.self.inside.starts.ok.0, c.shift.auto.starts, c.deref_mut.ensures.len)) in
     let shifted = rw c.deref_mut.ensures.value at c.shift.ensures in
@@ -75,7 +82,10 @@ invariant_of-self c =
       omega (arith, ap length spliced, length-set leaves k new, capacity, c.self.invariant.1),
       omega (arith, capacity, c.self.invariant.2),
       omega (arith, capacity, c.self.invariant.3),
-      c.self.invariant.4,
+      rw spliced (All-set FitsLeaf leaves k new (omega (arith, size, old, c.requires)) c.self.invariant.4),
+      ap (λ xs. set xs k c.start.result) c.self.invariant.5
+          ∙ firsts-set leaves _ k new _ spliced (c.start.ensures ∙ ap (λ leaf. start_of leaf 0) first),
+      omega (arith, capacity, c.self.invariant.6),
       λ lt. absurd (omega arith),
     )
 

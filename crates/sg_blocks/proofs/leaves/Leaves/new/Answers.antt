@@ -1,6 +1,8 @@
 use Rattle.std.proofs.Common.{ap, ◌∙◌, arith, length}
-use Rattle.std.specs.Prelude.{insert, []}
+use Rattle.std.specs.Prelude.{insert, [], ◌∷◌, ◌++◌}
+use Rattle.std.proofs.lemmas.List.Elements.{All-cons, All-nil}
 use Rattle.sg_blocks.specs.LeafList.{LeafRow}
+use Rattle.sg_blocks.specs.Leaves.{FitsLeaf}
 use Rattle.sg_blocks.proofs.LeavesLemmas.{directory-new, same-table}
 use Rattle.sg_blocks.proofs.leaves.Leaves.new.Goals as goal
 
@@ -10,12 +12,14 @@ invariant_of-result c =
     c.in_ok-leaves.ensures in
     let one = ap (λ (l : LeafRow). l.leaves) opened in
     let capacity = ap (λ (l : LeafRow). l.capacity) opened in
-    let starts = c.in_ok-empty_directory.ensures in (
+    let starts = c.in_ok-starts.ensures in (
       directory-new _ _ one starts.starts,
       omega (arith, ap length one, capacity, c.requires.0),
       omega (arith, capacity, starts.room),
       omega (arith, capacity, c.requires.1),
-      omega (arith, c.in_ok-vec.ensures.len),
+      rw one (All-cons FitsLeaf [] [] (omega arith) (All-nil FitsLeaf)),
+      rw one (c.in_ok-push.ensures.items ∙ ap (λ xs. xs ++ 0 ∷ []) c.in_ok-firsts.ensures.items),
+      omega (arith, capacity, c.in_ok-push.ensures.capacity, c.in_ok-firsts.ensures.capacity),
       λ lt. absurd (omega arith),
     )
 

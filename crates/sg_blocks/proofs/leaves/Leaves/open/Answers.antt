@@ -2,7 +2,8 @@ use Rattle.std.proofs.Common.{◌≤◌, [], length, ap, sym, ◌∙◌, arith}
 use Rattle.std.proofs.lemmas.List.Edits.{length-insert}
 use Rattle.std.specs.Prelude.{insert}
 use Rattle.sg_blocks.specs.LeafList.{LeafRow}
-use Rattle.sg_blocks.specs.Leaves.{LeafTable}
+use Rattle.sg_blocks.specs.Leaves.{FitsLeaf, LeafTable}
+use Rattle.sg_blocks.proofs.LeafSearchLemmas.{all-insert, firsts-insert}
 use Rattle.sg_blocks.proofs.LeavesLemmas.{directory-insert, same-table}
 use Rattle.sg_blocks.proofs.leaves.Leaves.open.Goals as goal
 
@@ -22,7 +23,10 @@ invariant_of-self c =
       omega (arith, ap length opened, length-insert leaves k [] le, capacity, room, count, c.requires.room),
       omega (arith, capacity, c.self.invariant.2, c.insert-inserted.ensures.capacity),
       omega (arith, capacity, c.self.invariant.3),
-      c.self.invariant.4,
+      rw opened (all-insert FitsLeaf leaves k [] le (omega arith) c.self.invariant.4),
+      (rw (sym c.is_ok-2.ensures.value ∙ c.if-prove-2.false) at c.insert-inserted-2.ensures.items)
+          ∙ ap (λ xs. insert xs k 0) c.self.invariant.5 ∙ firsts-insert leaves _ k opened,
+      omega (arith, capacity, c.self.invariant.6, c.insert-inserted-2.ensures.capacity),
       λ lt. absurd (omega arith),
     )
 

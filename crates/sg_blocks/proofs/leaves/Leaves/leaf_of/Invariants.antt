@@ -1,6 +1,6 @@
 use Rattle.std.proofs.Common.{◌+◌, ◌<◌, ◌≤◌, length}
 use Rattle.sg_blocks.specs.Leaves.{count_before, joined}
-use Rattle.sg_blocks.proofs.leaves.Leaves.search.Given as goal
+use Rattle.sg_blocks.proofs.leaves.Leaves.leaf_of.Given as goal
 
 -- the leaf is one of those from low on
 abbrev pub invariant-loop-count : goal.invariant-loop-count

@@ -1,7 +1,7 @@
 use Rattle.std.proofs.Common.{◌≡◌, ◌+◌, ◌-◌, ◌/◌, ap, arith}
 use Rattle.sg_blocks.specs.Leaves.{LeafTable}
 use Rattle.sg_blocks.proofs.LeavesLemmas.{start-read, count_before-rise}
-use Rattle.sg_blocks.proofs.leaves.Leaves.search.Goals as goal
+use Rattle.sg_blocks.proofs.leaves.Leaves.leaf_of.Goals as goal
 
 pub loop-count-preserved-then-index : goal.loop-count-preserved-then-index
 loop-count-preserved-then-index c =
