@@ -1,6 +1,7 @@
 -- A search of the leaves by their first records, and then of one leaf.
 use Rattle.std.proofs.Common.{◌≡◌, ℕ, zero, suc, ◌+◌, ◌-◌, ◌*◌, ◌^◌, ◌<◌, ◌≤◌, List, [], ◌∷◌, length}
-use Rattle.std.proofs.Common.{set, drop, sym, ap, ◌∙◌, arith, inl, inr, ⊎_elim, refl, length-drop, length-append}
+use Rattle.std.proofs.Common.{set, drop, sym, ap, ◌∙◌, arith, inl, inr, ⊎_elim, refl}
+use Rattle.std.proofs.Common.{length-drop, length-append}
 use Rattle.std.proofs.Math.Pow.{pow_mono}
 use Rattle.std.proofs.lemmas.Bool.{cases_lt}
 use Rattle.std.proofs.lemmas.Grind.{get_or_after_one}
@@ -116,13 +117,6 @@ module _ (ls : List (List Run)) (sorted : IsSorted (joined ls)) (balanced : AreB
         length-map ls (λ (leaf : List Run). start_of leaf 0),
       )
 
-  -- there are fewer of them than records
-  pub firsts-count : length (drop 1 (first_addresses ls)) ≤ length (joined ls)
-  firsts-count = let others = other-firsts in elim (cases_lt 1 (length ls)) [
-    | inl many ↦ let full = filled-count ls (filled many) in omega arith
-    | inr few ↦ omega arith
-  ]
-
   pub firsts-rising : AreRising (drop 1 (first_addresses ls))
   firsts-rising = λ i j lt end.
       let size = other-firsts in
@@ -184,8 +178,8 @@ module _ (ls : List (List Run)) (sorted : IsSorted (joined ls)) (balanced : AreB
                 let end = firsts-rise (k - 1) k (omega arith) within in
                 let up = sorted i begin earlier end.1 in omega arith
             | inr none ↦
-                let zero_ : k ≡ 0 = omega arith in
-                let nothing : begin ≡ 0 = ap (count_before ls) zero_ in absurd (omega arith)
+                let first_leaf : k ≡ 0 = omega arith in
+                let nothing : begin ≡ 0 = ap (count_before ls) first_leaf in absurd (omega arith)
           ]
           | inr later ↦
               let below = is.before (i - begin) (omega arith) in

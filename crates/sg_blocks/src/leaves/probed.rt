@@ -30,7 +30,8 @@ impl HasStart for u64 {
     }
 }
 
-/// Starts in a row for a search, with how many of them it compared. No other call reads one.
+/// Starts in a row for a search, with how many of them it compared. `Probed::start` alone reads
+/// one.
 #[derive(Drop)]
 pub struct Probed<'a, T: HasStart> {
     items: &'a [T],

@@ -2,7 +2,7 @@
 ghost use Rattle.std.specs.Prelude.{◌≡◌, ◌≤◌, length};
 ghost use Rattle.sg_blocks.specs.Leaves.{AreBalanced, joined};
 ghost use Rattle.sg_blocks.specs.Records.{IsSorted, IsLowerBound};
-ghost use Rattle.sg_blocks.specs.Search.{AreRising, IsFirstFrom, CostsHalving, CostsSearch};
+ghost use Rattle.sg_blocks.specs.Search.{AreRising, CostsHalving, CostsSearch, IsFirstFrom};
 
 use crate::leaves::Leaves;
 use crate::leaves::probed::{HasStart, Probed};
@@ -40,7 +40,6 @@ pub fn lower_bound(leaves: &mut Leaves, lba: u64) -> Found
 fn search<T: HasStart>(starts: &mut Probed<'_, T>, lba: u64) -> usize
     requires fresh { starts.old.probes ≡ 0 }
     requires rising { AreRising starts.old.starts }
-    requires count { length starts.old.starts ≤ MAX_POOL }
     ensures index { IsFirstFrom starts.old.starts result lba }
     ensures halving { CostsHalving (length starts.old.starts) starts.new.probes }
 {

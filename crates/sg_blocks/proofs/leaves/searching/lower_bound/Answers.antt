@@ -1,7 +1,7 @@
-use Rattle.std.proofs.Common.{◌∙◌, length, sym, ap, arith}
+use Rattle.std.proofs.Common.{◌∙◌, sym, ap, arith}
 use Rattle.sg_blocks.specs.Leaves.{count_before}
 use Rattle.sg_blocks.proofs.HalvingLemmas.{probes-le}
-use Rattle.sg_blocks.proofs.LeafSearchLemmas.{firsts-count, firsts-rising, leaf-bound, leaf-cost}
+use Rattle.sg_blocks.proofs.LeafSearchLemmas.{firsts-rising, leaf-bound, leaf-cost}
 use Rattle.sg_blocks.proofs.LeafSearchLemmas.{leaf-rising}
 use Rattle.sg_blocks.proofs.leaves.searching.lower_bound.Goals as goal
 
@@ -10,17 +10,6 @@ search-leaf-requires-clause-rising c =
     let r = c.requires in
     let f = c.other_firsts-firsts.ensures in
     rw f.starts (firsts-rising c.args.leaves.now.leaves r.sorted r.balanced f.not_empty)
-
-pub search-leaf-requires-clause-count : goal.search-leaf-requires-clause-count
-search-leaf-requires-clause-count c =
-    let r = c.requires in
-    let f = c.other_firsts-firsts.ensures in
-    omega (
-      arith,
-      ap length f.starts,
-      firsts-count c.args.leaves.now.leaves r.sorted r.balanced f.not_empty,
-      r.count,
-    )
 
 pub search-offset-requires-clause-rising : goal.search-offset-requires-clause-rising
 search-offset-requires-clause-rising c =

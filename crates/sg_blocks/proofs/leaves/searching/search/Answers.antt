@@ -1,5 +1,5 @@
 use Rattle.std.proofs.Common.{length, arith}
-use Rattle.sg_blocks.proofs.HalvingLemmas.{halvings-le}
+use Rattle.sg_blocks.proofs.HalvingLemmas.{halvings-fit}
 use Rattle.sg_blocks.proofs.SearchLemmas.{searched-before, searched-behind}
 use Rattle.sg_blocks.proofs.leaves.searching.search.Goals as goal
 
@@ -7,7 +7,8 @@ pub start-requires-clause-headroom : goal.start-requires-clause-headroom
 start-requires-clause-headroom g c =
     omega (
       arith,
-      halvings-le _ (length c.args.starts.now.starts) c.loop-low.invariant.window.cost c.requires.count,
+      halvings-fit _ (length c.args.starts.now.starts) c.loop-low.invariant.window.cost
+          (omega (arith, c.len-high.ensures, c.len-high.type_inv)),
     )
 
 -- what a step leaves
