@@ -2,7 +2,7 @@
 ghost use Rattle.std.specs.Prelude.{◌≡◌, ◌+◌, ◌*◌, ◌≤◌, length};
 
 use sg_block_map::BlockMap;
-use sg_blocks::{BLOCK_LENGTH, Counts, Space, Store};
+use sg_store::{BLOCK_LENGTH, Counts, Space, Store};
 use std::test::Fail;
 
 const A: [u8; BLOCK_LENGTH] = [0xA1; BLOCK_LENGTH];

@@ -1,6 +1,6 @@
 // The parameter data of GET LBA STATUS (SBC-3, 5.4.2) at each allocation length.
 use sg_block_map::BlockMap;
-use sg_blocks::{BLOCK_LENGTH, Store};
+use sg_store::{BLOCK_LENGTH, Store};
 use sg_wire::Cut;
 use std::test::Fail;
 

@@ -7,8 +7,9 @@
 //! commands that were good are printed.
 #![tactic(auto)]
 
-use sg_blocks::{BLOCK_LENGTH, PlainMap, Store};
 use sg_pages::Identity;
+use sg_plain_map::PlainMap;
+use sg_store::{BLOCK_LENGTH, Store};
 use sg_target::{Config, Status, Target};
 use sg_wire::{CdbBytes, Command, Initiator};
 use std::alloc::AllocError;

@@ -6,8 +6,9 @@ mod random;
 
 use random::Random;
 use sg_block_map::BlockMap;
-use sg_blocks::{BLOCK_LENGTH, PlainMap};
 use sg_pages::Identity;
+use sg_plain_map::PlainMap;
+use sg_store::BLOCK_LENGTH;
 use sg_target::{BUFFER_LENGTH, Config, Status, Target};
 use sg_wire::{Command, GroupNumber, Initiator, OutAction};
 use std::alloc::Global;

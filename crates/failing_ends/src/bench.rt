@@ -1,7 +1,7 @@
 // A run of a script, and what it has to leave.
 use crate::ends::{Pace, Pieces, Sink};
-use sg_blocks::PlainMap;
 use sg_pages::Identity;
+use sg_plain_map::PlainMap;
 use sg_run::{RunFault, Session, run_script};
 use sg_target::{BUFFER_LENGTH, Config, Status, Target};
 use sg_wire::{Initiator, Watched};

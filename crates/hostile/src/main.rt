@@ -18,8 +18,8 @@ ghost use Rattle.std.specs.Prelude.{◌≡◌, ◌<◌, if◌then◌else◌, ◌
 
 use crate::ending::Ending;
 use crate::table::{COMMANDS, Row, WRONG};
-use sg_blocks::PlainMap;
 use sg_pages::Identity;
+use sg_plain_map::PlainMap;
 use sg_target::{BUFFER_LENGTH, Config, Target};
 use sg_wire::Initiator;
 use std::alloc::Global;

@@ -1,8 +1,8 @@
 //! `rows`: runs worked rows over the disk. A row is a script with all that it has to print, kept as
 //! files in `data/`, where the program runs:
 //!
-//! - `rows` has a line for each row: its name, and where the disk is not of 4,096 blocks with a pool
-//!   of 4, its number of blocks and its pool, as `capacity-of-1-block 1 4`;
+//! - `rows` has a line for each row: its name with its folder, and where the disk is not of 4,096
+//!   blocks with a pool of 4, its number of blocks and its pool, as `read-capacity/of-1-block 1 4`;
 //! - `NAME.script` is the script;
 //! - `NAME.expected` is what it prints, and a last line `status N` with its exit status.
 //!
@@ -22,9 +22,10 @@ ghost use Rattle.std.specs.Prelude.{◌≡◌, ◌↔◌, IfOk, IsTrue, if◌the
 use crate::difference::{first_difference, line_after, lines_before};
 use crate::row::read_row;
 use sg_block_map::BlockMap;
-use sg_blocks::{PlainMap, Store};
 use sg_pages::Identity;
+use sg_plain_map::PlainMap;
 use sg_run::{Session, run_script};
+use sg_store::Store;
 use sg_target::{Config, Target};
 use sg_wire::Watched;
 use std::alloc::Global;

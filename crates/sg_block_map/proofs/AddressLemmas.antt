@@ -7,12 +7,12 @@ use Rattle.std.specs.Cmp.{nat_cmp_total}
 use Rattle.std.specs.FinMap.{find, get-from_entries, contains_key}
 use Rattle.std.specs.Ordering.{nat_cmp, eq_by_cmp}
 use Rattle.std.specs.Prelude.{slice_index, is_some}
-use Rattle.sg_blocks.specs.Records.{start_of}
-use Rattle.sg_blocks.specs.Records.{mapped_blocks, contents_of}
-use Rattle.sg_blocks.specs.declared.run.Run.{Run}
+use Rattle.sg_table.specs.Records.{start_of}
+use Rattle.sg_pool.specs.MappedRecords.{mapped_blocks, contents_of}
+use Rattle.sg_table.specs.declared.run.Run.{Run}
 use Rattle.sg_block_map.specs.Gathering.{end_at}
 use Rattle.sg_block_map.specs.Runs.{end_of, singles, singles_of, expanded, AreMaximal}
-use Rattle.sg_blocks.proofs.RecordLemmas.{eq_same}
+use Rattle.sg_store.proofs.DiskLemmas.{eq_same}
 use Rattle.sg_block_map.proofs.BetweenLemmas.{between-singles, maximal-le}
 use Rattle.sg_block_map.proofs.ContentsLemmas.{find-below, find-above, find-right}
 use Rattle.sg_block_map.proofs.ExpandedLemmas.{expanded-more, expanded-none}

@@ -3,8 +3,8 @@ use Rattle.std.proofs.Common.{◌≡◌, ◌≢◌, ℕ, ◌+◌, ◌-◌, ◌<�
 use Rattle.std.proofs.Common.{length, arith, refl, inl, inr, length-append}
 use Rattle.std.proofs.lemmas.Bool.{cases_lt}
 use Rattle.std.specs.Prelude.{slice_index}
-use Rattle.sg_blocks.specs.Records.{start_of, IsSorted, IsLowerBound}
-use Rattle.sg_blocks.specs.declared.run.Run.{Run}
+use Rattle.sg_table.specs.Records.{start_of, IsSorted, IsLowerBound}
+use Rattle.sg_table.specs.declared.run.Run.{Run}
 use Rattle.sg_block_map.specs.Runs.{end_of, singles, singles_of, expanded, AreMaximal, AreBetween}
 
 pub between-le : (xs : List Run) (a b : ℕ) → AreBetween a b xs → a ≤ b

@@ -10,13 +10,13 @@ use Rattle.std.specs.FinMap.{find, get-from_entries, get-retain_keys, same_map}
 use Rattle.std.specs.FinMap.{nat_cmp-IsAntisymmetric}
 use Rattle.std.specs.Ordering.{nat_cmp, eq_by_cmp}
 use Rattle.std.specs.Prelude.{slice_index_or, unwrap_or, not, is_some}
-use Rattle.sg_blocks.specs.Disk.{Contents, zero_block, blocks, mapped_among, lies_in, unmapped}
-use Rattle.sg_blocks.specs.Records.{mapped_blocks, contents_of}
-use Rattle.sg_blocks.specs.declared.run.Run.{Run}
+use Rattle.sg_store.specs.Disk.{Contents, zero_block, blocks, mapped_among, lies_in, unmapped}
+use Rattle.sg_pool.specs.MappedRecords.{mapped_blocks, contents_of}
+use Rattle.sg_table.specs.declared.run.Run.{Run}
 use Rattle.sg_block_map.specs.Runs.{AreBetween}
-use Rattle.sg_blocks.proofs.DiskLemmas.{blocks-none, blocks-more, mapped_among-none}
-use Rattle.sg_blocks.proofs.DiskLemmas.{mapped_among-more}
-use Rattle.sg_blocks.proofs.RecordLemmas.{find-unmapped}
+use Rattle.sg_store.proofs.DiskLemmas.{blocks-none, blocks-more, mapped_among-none}
+use Rattle.sg_store.proofs.DiskLemmas.{mapped_among-more}
+use Rattle.sg_pool.proofs.MappedLemmas.{find-unmapped}
 use Rattle.sg_block_map.proofs.BetweenLemmas.{between-low, between-high}
 
 -- outside the addresses between which records lie

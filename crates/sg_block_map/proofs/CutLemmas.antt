@@ -3,13 +3,15 @@ use Rattle.std.proofs.Common.{◌≡◌, ℕ, ◌+◌, ◌≤◌, List, [], ◌�
 use Rattle.std.proofs.Common.{ap, ◌∙◌, append_assoc, length-append, Option, Some, None}
 use Rattle.std.proofs.lemmas.List.{append-nil}
 use Rattle.std.specs.Prelude.{option_to_list, IfSome}
-use Rattle.sg_blocks.specs.Chains.{chain, AreBelow, IsChain}
-use Rattle.sg_blocks.specs.Slots.{Slots, slots_of, occurrences}
-use Rattle.sg_blocks.specs.declared.run.Run.{Run}
+use Rattle.sg_pool.specs.Chains.{chain, AreBelow, IsChain}
+use Rattle.sg_pool.specs.Slots.{Slots}
+use Rattle.sg_table.specs.Records.{slots_of}
+use Rattle.sg_table.specs.Occurrences.{occurrences}
+use Rattle.sg_table.specs.declared.run.Run.{Run}
 use Rattle.sg_block_map.specs.Cutting.{AreDistinct, StaysBut, IsCut}
 use Rattle.sg_block_map.specs.Runs.{end_of, singles_of, expanded, AreChained}
 use Rattle.sg_block_map.specs.Splitting.{IsFront, IsRest, IsSplit}
-use Rattle.sg_blocks.proofs.OccurrenceLemmas.{occurrences-append}
+use Rattle.sg_table.proofs.OccurrenceLemmas.{occurrences-append}
 use Rattle.sg_block_map.proofs.ExpandedLemmas.{expanded-append, expanded-none, expanded-set}
 use Rattle.sg_block_map.proofs.ExpandedLemmas.{chained-set, chained-append, chained-left}
 use Rattle.sg_block_map.proofs.ExpandedLemmas.{chained-right, slots-append, slots-singles}

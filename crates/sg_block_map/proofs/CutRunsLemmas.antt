@@ -11,21 +11,23 @@ use Rattle.std.specs.FinMap.{find, get-from_entries, same_map, nat_cmp-IsAntisym
 use Rattle.std.specs.List.{splice}
 use Rattle.std.specs.Ordering.{nat_cmp, eq_by_cmp}
 use Rattle.std.specs.Prelude.{option_to_list, IfSome, slice_index_or}
-use Rattle.sg_blocks.specs.Chains.{chain, AreBelow, IsChain}
-use Rattle.sg_blocks.specs.Disk.{zero_block, lies_in, unmapped}
-use Rattle.sg_blocks.specs.Draft.{Drafted}
-use Rattle.sg_blocks.specs.Records.{mapped_blocks, contents_of}
-use Rattle.sg_blocks.specs.Slots.{Slots, slots_of, occurrences, IsEachOnce}
-use Rattle.sg_blocks.specs.declared.run.Run.{Run}
-use Rattle.sg_blocks.specs.declared.store.TheConstants.{MAX_CAPACITY}
+use Rattle.sg_pool.specs.Chains.{chain, AreBelow, IsChain}
+use Rattle.sg_store.specs.Disk.{zero_block, lies_in, unmapped}
+use Rattle.sg_table.specs.Draft.{Drafted}
+use Rattle.sg_pool.specs.MappedRecords.{mapped_blocks, contents_of}
+use Rattle.sg_pool.specs.Slots.{Slots}
+use Rattle.sg_table.specs.Records.{slots_of}
+use Rattle.sg_table.specs.Occurrences.{occurrences, IsEachOnce}
+use Rattle.sg_table.specs.declared.run.Run.{Run}
+use Rattle.sg_store.specs.declared.store.TheConstants.{MAX_CAPACITY}
 use Rattle.sg_block_map.specs.Cutting.{AreDistinct, IsCut}
 use Rattle.sg_block_map.specs.Gathering.{AreGathered, end_index}
 use Rattle.sg_block_map.specs.Runs.{end_of, singles_of, expanded, AreChained, AreMaximal}
 use Rattle.sg_block_map.specs.Runs.{AreBetween, AreRuns, blocks_of}
 use Rattle.sg_block_map.specs.Splitting.{IsFront}
-use Rattle.sg_blocks.proofs.OccurrenceLemmas.{same_slot, occurrences-append, occurrences-more}
-use Rattle.sg_blocks.proofs.OccurrenceLemmas.{once-le, below_count}
-use Rattle.sg_blocks.proofs.SpliceLemmas.{front_of}
+use Rattle.sg_table.proofs.OccurrenceLemmas.{same_slot, occurrences-append, occurrences-more}
+use Rattle.sg_table.proofs.OccurrenceLemmas.{once-le, below_count}
+use Rattle.sg_table.proofs.SpliceLemmas.{front_of}
 use Rattle.sg_block_map.proofs.BetweenLemmas.{behind, maximal-left, maximal-right, maximal-append}
 use Rattle.sg_block_map.proofs.BetweenLemmas.{maximal-le, between-expanded, between-singles}
 use Rattle.sg_block_map.proofs.BetweenLemmas.{between-weaker, sorted-between}

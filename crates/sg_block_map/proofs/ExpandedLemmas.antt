@@ -4,13 +4,14 @@ use Rattle.std.proofs.Common.{get_or, set, drop, arith, refl, sym, ap, ap₂, �
 use Rattle.std.proofs.Common.{length-append}
 use Rattle.std.proofs.lemmas.List.{get_or-set_other}
 use Rattle.std.specs.Prelude.{slice_index}
-use Rattle.sg_blocks.specs.Chains.{chain, slot_after, IsChain}
-use Rattle.sg_blocks.specs.Records.{single}
-use Rattle.sg_blocks.specs.Slots.{slots_of, occurrences}
-use Rattle.sg_blocks.specs.declared.run.Run.{Run}
+use Rattle.sg_pool.specs.Chains.{chain, slot_after, IsChain}
+use Rattle.sg_table.specs.Records.{single}
+use Rattle.sg_table.specs.Records.{slots_of}
+use Rattle.sg_table.specs.Occurrences.{occurrences}
+use Rattle.sg_table.specs.declared.run.Run.{Run}
 use Rattle.sg_block_map.specs.Runs.{singles, singles_of, expanded, AreChained}
-use Rattle.sg_blocks.proofs.LinkLemmas.{chain-append, slot_after-set, slot_after-in}
-use Rattle.sg_blocks.proofs.OccurrenceLemmas.{not_equal, occurrences-append}
+use Rattle.sg_pool.proofs.LinkLemmas.{chain-append, slot_after-set, slot_after-in}
+use Rattle.sg_table.proofs.OccurrenceLemmas.{not_equal, occurrences-append}
 
 pub slots-singles : (next : List ℕ) (start first n : ℕ)
     → slots_of (singles next start first n) ≡ chain next first n

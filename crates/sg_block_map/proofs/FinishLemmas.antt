@@ -4,22 +4,26 @@ use Rattle.std.proofs.Common.{arith, refl, sym, ap, ap₂, ◌∙◌, append_ass
 use Rattle.std.proofs.Common.{None, Option}
 use Rattle.std.specs.FinMap as map
 use Rattle.std.specs.Prelude.{unwrap_or, option_to_list, IfSome}
-use Rattle.sg_blocks.specs.Chains.{IsChain}
-use Rattle.sg_blocks.specs.Disk.{Contents, mapped_among, replaced}
-use Rattle.sg_blocks.specs.Records.{run_at, contents_of, mapped_at}
-use Rattle.sg_blocks.specs.Slots.{Slots, slots_of, IsConsistent}
-use Rattle.sg_blocks.specs.declared.run.Run.{Run}
-use Rattle.sg_blocks.specs.declared.store.TheConstants.{MAX_CAPACITY}
+use Rattle.sg_pool.specs.Chains.{IsChain}
+use Rattle.sg_store.specs.Disk.{Contents, mapped_among, replaced}
+use Rattle.sg_table.specs.Records.{run_at}
+use Rattle.sg_pool.specs.MappedRecords.{contents_of}
+use Rattle.sg_store.specs.Disk.{mapped_at}
+use Rattle.sg_pool.specs.Slots.{Slots}
+use Rattle.sg_table.specs.Records.{slots_of}
+use Rattle.sg_pool.specs.MappedRecords.{IsConsistent}
+use Rattle.sg_table.specs.declared.run.Run.{Run}
+use Rattle.sg_store.specs.declared.store.TheConstants.{MAX_CAPACITY}
 use Rattle.sg_block_map.specs.Gathering.{AreNear}
 use Rattle.sg_block_map.specs.Joining.{joined, linked, no_run, IsWriting, IsFinished}
 use Rattle.sg_block_map.specs.Runs.{end_of, singles_of, expanded, AreChained, AreMaximal, AreRuns}
 use Rattle.sg_block_map.specs.Runs.{chained_contents, blocks_of}
 use Rattle.sg_block_map.specs.Splitting.{IsRest}
 use Rattle.sg_block_map.specs.Walking.{ahead_of, AreAhead, IsWalkFrom}
-use Rattle.sg_blocks.proofs.DiskLemmas.{len-replaced, mapped_among-more, mapped_among-rest}
-use Rattle.sg_blocks.proofs.DiskLemmas.{mapped_at-past}
-use Rattle.sg_blocks.proofs.OccurrenceLemmas.{occurrences-append}
-use Rattle.sg_blocks.proofs.RecordLemmas.{len-contents_of, none_mapped}
+use Rattle.sg_store.proofs.DiskLemmas.{len-replaced, mapped_among-more, mapped_among-rest}
+use Rattle.sg_store.proofs.DiskLemmas.{mapped_at-past}
+use Rattle.sg_table.proofs.OccurrenceLemmas.{occurrences-append}
+use Rattle.sg_pool.proofs.MappedLemmas.{len-contents_of, none_mapped}
 use Rattle.sg_block_map.proofs.BetweenLemmas.{behind, between-expanded, none-between, maximal-left}
 use Rattle.sg_block_map.proofs.BetweenLemmas.{maximal-right, maximal-append, maximal-weaker}
 use Rattle.sg_block_map.proofs.BetweenLemmas.{maximal-le}

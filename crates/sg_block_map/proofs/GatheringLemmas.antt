@@ -9,13 +9,13 @@ use Rattle.std.proofs.lemmas.List.Elements.{filter-append}
 use Rattle.std.proofs.lemmas.List.Sums.{length-filter}
 use Rattle.std.specs.List.{count_by, splice}
 use Rattle.std.specs.Prelude.{nat_lt, nat_le, ◌&&◌}
-use Rattle.sg_blocks.specs.Draft.{Drafted}
-use Rattle.sg_blocks.specs.Records.{start_of, IsLowerBound}
-use Rattle.sg_blocks.specs.declared.run.Run.{Run}
+use Rattle.sg_table.specs.Draft.{Drafted}
+use Rattle.sg_table.specs.Records.{start_of, IsLowerBound}
+use Rattle.sg_table.specs.declared.run.Run.{Run}
 use Rattle.sg_block_map.specs.Gathering.{end_at, AreNear, starts_in, end_index, AreGathered}
 use Rattle.sg_block_map.specs.Gathering.{AreBegun}
 use Rattle.sg_block_map.specs.Runs.{end_of, AreMaximal}
-use Rattle.sg_blocks.proofs.SpliceLemmas.{same-splice, front_of}
+use Rattle.sg_table.proofs.SpliceLemmas.{same-splice, front_of}
 use Rattle.sg_block_map.proofs.BetweenLemmas.{start_of-left, maximal-le}
 
 pub count-append : {X : Type 0} (p : X → Bool) (xs ys : List X)

@@ -4,15 +4,18 @@ use Rattle.std.proofs.Common.{length-set, set, arith, refl, sym, ap, ap₂, ◌�
 use Rattle.std.proofs.Common.{false}
 use Rattle.std.proofs.lemmas.Bool.Decides.{nat_tests}
 use Rattle.std.specs.Prelude.{◌==◌}
-use Rattle.sg_blocks.specs.Chains.{chain, slot_after, IsChain}
-use Rattle.sg_blocks.specs.Slots.{Slots, slots_of, occurrences, IsConsistent}
-use Rattle.sg_blocks.specs.declared.run.Run.{Run}
-use Rattle.sg_blocks.specs.declared.store.TheConstants.{MAX_CAPACITY}
+use Rattle.sg_pool.specs.Chains.{chain, slot_after, IsChain}
+use Rattle.sg_pool.specs.Slots.{Slots}
+use Rattle.sg_table.specs.Records.{slots_of}
+use Rattle.sg_table.specs.Occurrences.{occurrences}
+use Rattle.sg_pool.specs.MappedRecords.{IsConsistent}
+use Rattle.sg_table.specs.declared.run.Run.{Run}
+use Rattle.sg_store.specs.declared.store.TheConstants.{MAX_CAPACITY}
 use Rattle.sg_block_map.specs.Joining.{joined, linked, IsWriting}
 use Rattle.sg_block_map.specs.Runs.{end_of, singles, singles_of, expanded, AreChained, AreMaximal}
-use Rattle.sg_blocks.proofs.LinkLemmas.{chain-last, slot_after-add, linked-front, linked-on}
-use Rattle.sg_blocks.proofs.OccurrenceLemmas.{same_slot, occurrences-append, occurrences-one}
-use Rattle.sg_blocks.proofs.OccurrenceLemmas.{once-le, below_count}
+use Rattle.sg_pool.proofs.LinkLemmas.{chain-last, slot_after-add, linked-front, linked-on}
+use Rattle.sg_table.proofs.OccurrenceLemmas.{same_slot, occurrences-append, occurrences-one}
+use Rattle.sg_table.proofs.OccurrenceLemmas.{once-le, below_count}
 use Rattle.sg_block_map.proofs.ExpandedLemmas.{singles-append, singles-set, singles-by}
 use Rattle.sg_block_map.proofs.ExpandedLemmas.{singles-none, expanded-append, expanded-more}
 use Rattle.sg_block_map.proofs.ExpandedLemmas.{expanded-set, chained-set, is_chain-set, slots-both}

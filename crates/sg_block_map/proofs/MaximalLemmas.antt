@@ -12,10 +12,10 @@ use Rattle.std.specs.Ordering.{nat_cmp}
 use Rattle.std.specs.Prelude.{map, slice_index, slice_index_or, nat_lt, nat_le, ◌==◌, ◌&&◌, min}
 use Rattle.std.specs.Prelude.{max}
 use Rattle.std.specs.declared.cmp.Ordering.TheVariants.{Less}
-use Rattle.sg_blocks.specs.Disk.{zero_block}
-use Rattle.sg_blocks.specs.Draft.{Drafted}
-use Rattle.sg_blocks.specs.Records.{mapped_blocks, contents_of}
-use Rattle.sg_blocks.specs.declared.run.Run.{Run}
+use Rattle.sg_store.specs.Disk.{zero_block}
+use Rattle.sg_table.specs.Draft.{Drafted}
+use Rattle.sg_pool.specs.MappedRecords.{mapped_blocks, contents_of}
+use Rattle.sg_table.specs.declared.run.Run.{Run}
 use Rattle.sg_block_map.specs.Gathering.{starts_in, AreNear, AreGathered, end_index}
 use Rattle.sg_block_map.specs.MaximalRuns.{with_address, runs_of, runs, meets, meet, blocks_near}
 use Rattle.sg_block_map.specs.Runs.{end_of, singles, singles_of, expanded, AreChained, AreMaximal}

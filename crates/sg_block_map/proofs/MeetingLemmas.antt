@@ -5,10 +5,10 @@ use Rattle.std.proofs.Common.{inr, cond}
 use Rattle.std.proofs.lemmas.Bool.Decides.{nat_tests}
 use Rattle.std.specs.Prelude.{min, max, map}
 use Rattle.std.specs.Prelude.{nat_lt}
-use Rattle.sg_blocks.specs.Records.{start_of}
-use Rattle.sg_blocks.specs.Slots.{Slots}
-use Rattle.sg_blocks.specs.declared.run.Run.{Run}
-use Rattle.sg_blocks.specs.declared.store.TheConstants.{MAX_CAPACITY}
+use Rattle.sg_table.specs.Records.{start_of}
+use Rattle.sg_pool.specs.Slots.{Slots}
+use Rattle.sg_table.specs.declared.run.Run.{Run}
+use Rattle.sg_store.specs.declared.store.TheConstants.{MAX_CAPACITY}
 use Rattle.sg_block_map.specs.Gathering.{end_at}
 use Rattle.sg_block_map.specs.MaximalRuns.{meets, meet}
 use Rattle.sg_block_map.specs.Runs.{AreRuns, chained_contents, extent_of}

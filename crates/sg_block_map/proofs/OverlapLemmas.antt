@@ -10,16 +10,19 @@ use Rattle.std.specs.FinMap as map
 use Rattle.std.specs.List.{count_by, sum_by}
 use Rattle.std.specs.Ordering.{nat_cmp, eq_by_cmp}
 use Rattle.std.specs.Prelude.{slice_index, slice_index_or, is_some, min, max}
-use Rattle.sg_blocks.specs.Disk.{Contents, zero_block, blocks, lies_in, mapped_among}
-use Rattle.sg_blocks.specs.Draft.{Drafted}
-use Rattle.sg_blocks.specs.Records.{contents_of, mapped_at, single}
-use Rattle.sg_blocks.specs.Slots.{Slots}
-use Rattle.sg_blocks.specs.declared.run.Run.{Run}
+use Rattle.sg_store.specs.Disk.{Contents, zero_block, blocks, lies_in, mapped_among}
+use Rattle.sg_table.specs.Draft.{Drafted}
+use Rattle.sg_pool.specs.MappedRecords.{contents_of}
+use Rattle.sg_store.specs.Disk.{mapped_at}
+use Rattle.sg_table.specs.Records.{single}
+use Rattle.sg_pool.specs.Slots.{Slots}
+use Rattle.sg_table.specs.declared.run.Run.{Run}
 use Rattle.sg_block_map.specs.Gathering.{overlap, AreGathered, end_index}
 use Rattle.sg_block_map.specs.Runs.{singles, singles_of, expanded, AreMaximal, AreBetween}
 use Rattle.sg_block_map.specs.Runs.{chained_contents}
-use Rattle.sg_blocks.proofs.DiskLemmas.{mapped_among-none, mapped_among-more, eq_other}
-use Rattle.sg_blocks.proofs.RecordLemmas.{eq_same, none_mapped}
+use Rattle.sg_store.proofs.DiskLemmas.{mapped_among-none, mapped_among-more, eq_other}
+use Rattle.sg_store.proofs.DiskLemmas.{eq_same}
+use Rattle.sg_pool.proofs.MappedLemmas.{none_mapped}
 use Rattle.sg_block_map.proofs.BetweenLemmas.{between-expanded, between-low}
 use Rattle.sg_block_map.proofs.ContentsLemmas.{inside, below, above, blocks-same, mapped_among-same}
 use Rattle.sg_block_map.proofs.ContentsLemmas.{get-middle}

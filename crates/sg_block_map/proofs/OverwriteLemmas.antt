@@ -3,16 +3,18 @@ use Rattle.std.proofs.Common.{◌≡◌, ℕ, ◌+◌, ◌-◌, ◌<◌, List, �
 use Rattle.std.proofs.Common.{◌∙◌, append_assoc, length-append, take, drop, subst}
 use Rattle.std.proofs.Math.Seq.{get_or-append_seam}
 use Rattle.std.specs.FinMap as map
-use Rattle.sg_blocks.specs.Chains.{chain, slot_after, AreBelow}
-use Rattle.sg_blocks.specs.Draft.{Drafted}
-use Rattle.sg_blocks.specs.Records.{single, contents_of}
-use Rattle.sg_blocks.specs.Slots.{Slots, IsConsistent}
-use Rattle.sg_blocks.specs.declared.run.Run.{Run}
-use Rattle.sg_blocks.specs.declared.store.TheConstants.{MAX_CAPACITY}
+use Rattle.sg_pool.specs.Chains.{chain, slot_after, AreBelow}
+use Rattle.sg_table.specs.Draft.{Drafted}
+use Rattle.sg_table.specs.Records.{single}
+use Rattle.sg_pool.specs.MappedRecords.{contents_of}
+use Rattle.sg_pool.specs.Slots.{Slots}
+use Rattle.sg_pool.specs.MappedRecords.{IsConsistent}
+use Rattle.sg_table.specs.declared.run.Run.{Run}
+use Rattle.sg_store.specs.declared.store.TheConstants.{MAX_CAPACITY}
 use Rattle.sg_block_map.specs.Gathering.{AreGathered, end_index}
 use Rattle.sg_block_map.specs.Walking.{AreAhead}
 use Rattle.sg_block_map.specs.Runs.{singles, singles_of, expanded, AreRuns}
-use Rattle.sg_blocks.proofs.ConsistencyLemmas.{contents-over}
+use Rattle.sg_pool.proofs.ConsistencyLemmas.{contents-over}
 use Rattle.sg_block_map.proofs.FinishLemmas.{gathered-ahead}
 use Rattle.sg_block_map.proofs.WalkLemmas.{ahead-first}
 use Rattle.sg_block_map.proofs.ExpandedLemmas.{expanded-append, expanded-more, singles-append}

@@ -2,12 +2,12 @@
 use Rattle.std.proofs.Common.{◌≡◌, ℕ, ◌+◌, ◌-◌, ◌<◌, ◌≤◌, List, [], ◌∷◌, ◌++◌, length, arith, refl}
 use Rattle.std.proofs.Common.{sym, ap, ◌∙◌, Some, None}
 use Rattle.std.proofs.lemmas.List.{append-nil}
-use Rattle.sg_blocks.specs.Chains.{chain, slot_after, AreBelow, IsChain}
-use Rattle.sg_blocks.specs.Slots.{Slots, followed}
-use Rattle.sg_blocks.specs.declared.run.Run.{Run}
+use Rattle.sg_pool.specs.Chains.{chain, slot_after, AreBelow, IsChain}
+use Rattle.sg_pool.specs.Slots.{Slots, followed}
+use Rattle.sg_table.specs.declared.run.Run.{Run}
 use Rattle.sg_block_map.specs.Runs.{end_of, singles, singles_of, expanded}
 use Rattle.sg_block_map.specs.Splitting.{front_of, rest_of, IsSplit}
-use Rattle.sg_blocks.proofs.LinkLemmas.{chain-append, chain-last, slot_after-add}
+use Rattle.sg_pool.proofs.LinkLemmas.{chain-append, chain-last, slot_after-add}
 use Rattle.sg_block_map.proofs.ExpandedLemmas.{expanded-more, expanded-none, singles-append}
 use Rattle.sg_block_map.proofs.ExpandedLemmas.{length-singles}
 

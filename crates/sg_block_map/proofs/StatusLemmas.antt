@@ -9,25 +9,26 @@ use Rattle.std.proofs.lemmas.List.Sums.{sum_by-cons}
 use Rattle.std.specs.FinMap.{get, contains_key}
 use Rattle.std.specs.Prelude.{slice_index_or, unwrap_or, min}
 use Rattle.std.specs.Prelude.{nat_le}
-use Rattle.sg_blocks.specs.Disk.{IsWellFormed}
-use Rattle.sg_blocks.specs.LbaStatus.{descriptor_at}
-use Rattle.sg_blocks.specs.Records.{start_of, IsSorted, IsLowerBound, IsNext, ahead, end_of_gap}
-use Rattle.sg_blocks.specs.Records.{contents_of}
-use Rattle.sg_blocks.specs.Slots.{Slots}
-use Rattle.sg_blocks.specs.Table.{Table, visited, probed}
-use Rattle.sg_blocks.specs.declared.cursor.Cursor.{Cursor}
-use Rattle.sg_blocks.specs.declared.lba_status.ProvisioningStatus.TheVariants.{Mapped, Deallocated}
-use Rattle.sg_blocks.specs.declared.lba_status.StatusDescriptor.{StatusDescriptor}
-use Rattle.sg_blocks.specs.declared.lba_status.TheConstants.{MAX_ADDRESSES}
-use Rattle.sg_blocks.specs.declared.run.Run.{Run}
-use Rattle.sg_blocks.specs.declared.store.TheConstants.{MAX_CAPACITY, MAX_POOL}
+use Rattle.sg_store.specs.Disk.{IsWellFormed}
+use Rattle.sg_store.specs.LbaStatus.{descriptor_at}
+use Rattle.sg_table.specs.Records.{start_of, IsSorted, IsLowerBound, IsNext, ahead, end_of_gap}
+use Rattle.sg_pool.specs.MappedRecords.{contents_of}
+use Rattle.sg_pool.specs.Slots.{Slots}
+use Rattle.sg_table.specs.Table.{Table, visited, probed}
+use Rattle.sg_table.specs.declared.cursor.Cursor.{Cursor}
+use Rattle.sg_store.specs.declared.lba_status.ProvisioningStatus.TheVariants.{Mapped, Deallocated}
+use Rattle.sg_store.specs.declared.lba_status.StatusDescriptor.{StatusDescriptor}
+use Rattle.sg_store.specs.declared.lba_status.TheConstants.{MAX_ADDRESSES}
+use Rattle.sg_table.specs.declared.run.Run.{Run}
+use Rattle.sg_store.specs.declared.store.TheConstants.{MAX_CAPACITY, MAX_POOL}
 use Rattle.sg_block_map.specs.Gathering.{end_at}
 use Rattle.sg_block_map.specs.Runs.{end_of, expanded, AreMaximal, AreChained}
 use Rattle.sg_block_map.specs.Runs.{AreRuns, chained_contents, blocks_of}
 use Rattle.sg_block_map.specs.Status.{IsRunTable, IsOver, run_over, AreMet, AreFrom}
-use Rattle.sg_blocks.proofs.DescriptorLemmas.{described, below-some}
-use Rattle.sg_blocks.proofs.RecordLemmas.{start_of-read}
-use Rattle.sg_blocks.proofs.TableLemmas.{visited-more, visited-less}
+use Rattle.sg_store.proofs.DescriptorLemmas.{described}
+use Rattle.sg_store.proofs.WellFormedLemmas.{below-some}
+use Rattle.sg_table.proofs.RecordLemmas.{start_of-read}
+use Rattle.sg_table.proofs.TableLemmas.{visited-more, visited-less}
 use Rattle.sg_block_map.proofs.BetweenLemmas.{maximal-sorted}
 use Rattle.sg_block_map.proofs.CutRunsLemmas.{runs-fit, blocks-fit}
 use Rattle.sg_block_map.proofs.GatheringLemmas.{end_at-read}

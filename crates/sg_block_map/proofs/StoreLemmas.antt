@@ -7,25 +7,27 @@ use Rattle.std.proofs.lemmas.Nat.{pow-add}
 use Rattle.std.proofs.lemmas.List.{length-map}
 use Rattle.std.specs.FinMap as map
 use Rattle.std.specs.List.{count_by, sum_by}
-use Rattle.sg_blocks.specs.Disk.{Contents, Disk, IsWellFormed, mapped_among, replaced}
-use Rattle.sg_blocks.specs.Draft.{Drafted}
-use Rattle.sg_blocks.specs.Meter.{Meter, Costs}
-use Rattle.sg_blocks.specs.Records.{contents_of, IsSorted}
-use Rattle.sg_blocks.specs.Search.{CostsSearch}
-use Rattle.sg_blocks.specs.Slots.{Slots, IsEachOnce}
-use Rattle.sg_blocks.specs.Table.{Table, visited, probed}
-use Rattle.sg_blocks.specs.declared.run.Run.{Run}
-use Rattle.sg_blocks.specs.declared.store.TheConstants.{MAX_POOL, MAX_CAPACITY}
+use Rattle.sg_store.specs.Disk.{Contents, Disk, IsWellFormed, mapped_among, replaced}
+use Rattle.sg_table.specs.Draft.{Drafted}
+use Rattle.sg_store.specs.Meter.{Meter, Costs}
+use Rattle.sg_pool.specs.MappedRecords.{contents_of}
+use Rattle.sg_table.specs.Records.{IsSorted}
+use Rattle.sg_table.specs.Search.{CostsSearch}
+use Rattle.sg_pool.specs.Slots.{Slots}
+use Rattle.sg_table.specs.Occurrences.{IsEachOnce}
+use Rattle.sg_table.specs.Table.{Table, visited, probed}
+use Rattle.sg_table.specs.declared.run.Run.{Run}
+use Rattle.sg_store.specs.declared.store.TheConstants.{MAX_POOL, MAX_CAPACITY}
 use Rattle.sg_block_map.specs.Gathering.{starts_in, overlap, AreGathered, end_index}
 use Rattle.sg_block_map.specs.MaximalRuns.{runs, meet, blocks_near}
 use Rattle.sg_block_map.specs.RunCost.{block_price, CostsRuns, CostsRange}
 use Rattle.sg_block_map.specs.Runs.{extent_of, expanded, AreRuns, chained_contents, blocks_of}
 use Rattle.sg_block_map.specs.State.{disk_at, meter_at}
 use Rattle.sg_block_map.specs.Walking.{AreAhead}
-use Rattle.sg_blocks.proofs.DiskLemmas.{len-replaced}
-use Rattle.sg_blocks.proofs.HalvingLemmas.{probes-le}
-use Rattle.sg_blocks.proofs.RecordLemmas.{len-contents_of}
-use Rattle.sg_blocks.proofs.WellFormedLemmas.{well_formed-empty}
+use Rattle.sg_store.proofs.DiskLemmas.{len-replaced}
+use Rattle.sg_table.proofs.HalvingLemmas.{probes-le}
+use Rattle.sg_pool.proofs.MappedLemmas.{len-contents_of}
+use Rattle.sg_store.proofs.WellFormedLemmas.{well_formed-empty}
 use Rattle.sg_block_map.proofs.BetweenLemmas.{maximal-sorted}
 use Rattle.sg_block_map.proofs.CutRunsLemmas.{runs-fit, gathered-blocks, length-expanded}
 use Rattle.sg_block_map.proofs.ExpandedLemmas.{expanded-none}

@@ -9,20 +9,21 @@ use Rattle.std.specs.FinMap as map
 use Rattle.std.specs.FinMap.{find, get-from_entries}
 use Rattle.std.specs.Ordering.{nat_cmp}
 use Rattle.std.specs.Prelude.{slice_index, slice_index_or, option_to_list, IfSome, unwrap_or, ◌==◌}
-use Rattle.sg_blocks.specs.Chains.{chain, AreBelow}
-use Rattle.sg_blocks.specs.Disk.{zero_block, block}
-use Rattle.sg_blocks.specs.Records.{mapped_blocks, contents_of, run_at, single}
-use Rattle.sg_blocks.specs.Slots.{slots_of}
-use Rattle.sg_blocks.specs.declared.run.Run.{Run}
-use Rattle.sg_blocks.specs.declared.store.TheConstants.{MAX_CAPACITY}
+use Rattle.sg_pool.specs.Chains.{chain, AreBelow}
+use Rattle.sg_store.specs.Disk.{zero_block, block}
+use Rattle.sg_pool.specs.MappedRecords.{mapped_blocks, contents_of}
+use Rattle.sg_table.specs.Records.{run_at, single}
+use Rattle.sg_table.specs.Records.{slots_of}
+use Rattle.sg_table.specs.declared.run.Run.{Run}
+use Rattle.sg_store.specs.declared.store.TheConstants.{MAX_CAPACITY}
 use Rattle.sg_block_map.specs.Gathering.{AreNear}
 use Rattle.sg_block_map.specs.Runs.{end_of, singles, singles_of, expanded, AreChained, AreMaximal}
 use Rattle.sg_block_map.specs.Runs.{AreBetween}
 use Rattle.sg_block_map.specs.Splitting.{rest_of, IsFront, IsRest}
 use Rattle.sg_block_map.specs.Walking.{ahead_of, passed, AreAhead, IsWalkFrom}
-use Rattle.sg_blocks.proofs.DiskLemmas.{eq_other}
-use Rattle.sg_blocks.proofs.LinkLemmas.{slot_after-none, slot_after-one}
-use Rattle.sg_blocks.proofs.RecordLemmas.{eq_same}
+use Rattle.sg_store.proofs.DiskLemmas.{eq_other}
+use Rattle.sg_pool.proofs.LinkLemmas.{slot_after-none, slot_after-one}
+use Rattle.sg_store.proofs.DiskLemmas.{eq_same}
 use Rattle.sg_block_map.proofs.BetweenLemmas.{between-expanded, between-singles, between-weaker}
 use Rattle.sg_block_map.proofs.BetweenLemmas.{maximal-weaker, maximal-le}
 use Rattle.sg_block_map.proofs.ContentsLemmas.{find-below, find-above, find-right}

@@ -8,24 +8,28 @@ use Rattle.std.specs.FinMap as map
 use Rattle.std.specs.FinMap.{find, get-from_entries}
 use Rattle.std.specs.Ordering.{nat_cmp}
 use Rattle.std.specs.Prelude.{insert, slice_index_or, ◌==◌}
-use Rattle.sg_blocks.specs.Chains.{IsChain}
-use Rattle.sg_blocks.specs.Disk.{zero_block}
-use Rattle.sg_blocks.specs.Records.{start_of, mapped_blocks, contents_of, single, run_at}
-use Rattle.sg_blocks.specs.Slots.{Slots, slots_of, occurrences, followed, IsConsistent, IsEachOnce}
-use Rattle.sg_blocks.specs.declared.run.Run.{Run}
-use Rattle.sg_blocks.specs.declared.store.TheConstants.{MAX_CAPACITY}
+use Rattle.sg_pool.specs.Chains.{IsChain}
+use Rattle.sg_store.specs.Disk.{zero_block}
+use Rattle.sg_table.specs.Records.{start_of, single, run_at}
+use Rattle.sg_pool.specs.MappedRecords.{mapped_blocks, contents_of}
+use Rattle.sg_pool.specs.Slots.{Slots, followed}
+use Rattle.sg_table.specs.Records.{slots_of}
+use Rattle.sg_table.specs.Occurrences.{occurrences, IsEachOnce}
+use Rattle.sg_pool.specs.MappedRecords.{IsConsistent}
+use Rattle.sg_table.specs.declared.run.Run.{Run}
+use Rattle.sg_store.specs.declared.store.TheConstants.{MAX_CAPACITY}
 use Rattle.sg_block_map.specs.Joining.{joined, linked, IsWriting, KeepSlots}
 use Rattle.sg_block_map.specs.Runs.{end_of, singles_of, expanded, AreChained, AreMaximal}
 use Rattle.sg_block_map.specs.Runs.{AreBetween, chained_contents}
 use Rattle.sg_block_map.specs.Splitting.{rest_of}
 use Rattle.sg_block_map.specs.Walking.{passed, ahead_of}
-use Rattle.sg_blocks.proofs.BlockLemmas.{find-added}
-use Rattle.sg_blocks.proofs.ConsistencyLemmas.{taken_below, consistent-added, contents-added}
-use Rattle.sg_blocks.proofs.ConsistencyLemmas.{consistent-over, contents-over}
-use Rattle.sg_blocks.proofs.DiskLemmas.{eq_other}
-use Rattle.sg_blocks.proofs.LinkLemmas.{slot_after-none, slot_after-in}
-use Rattle.sg_blocks.proofs.OccurrenceLemmas.{occurrences-append, once-le, below_count}
-use Rattle.sg_blocks.proofs.RecordLemmas.{find-unmapped}
+use Rattle.sg_pool.proofs.BlockLemmas.{find-added}
+use Rattle.sg_pool.proofs.ConsistencyLemmas.{taken_below, consistent-added, contents-added}
+use Rattle.sg_pool.proofs.ConsistencyLemmas.{consistent-over, contents-over}
+use Rattle.sg_store.proofs.DiskLemmas.{eq_other}
+use Rattle.sg_pool.proofs.LinkLemmas.{slot_after-none, slot_after-in}
+use Rattle.sg_table.proofs.OccurrenceLemmas.{occurrences-append, once-le, below_count}
+use Rattle.sg_pool.proofs.MappedLemmas.{find-unmapped}
 use Rattle.sg_block_map.proofs.BetweenLemmas.{between-expanded, between-append, between-singles}
 use Rattle.sg_block_map.proofs.BetweenLemmas.{index-between, none-between, maximal-weaker}
 use Rattle.sg_block_map.proofs.ExpandedLemmas.{expanded-append, expanded-more, singles-one}

@@ -1,7 +1,9 @@
 -- Runs of which the addresses of a range are unmapped.
 use Rattle.std.specs.Prelude.{◌≡◌, ℕ, ◌+◌, ◌≤◌, List, ◌++◌, length, Option, IfSome, option_to_list}
-use Rattle.sg_blocks.specs.Slots.{Slots, slots_of, occurrences}
-use Rattle.sg_blocks.specs.declared.run.Run.{Run}
+use Rattle.sg_pool.specs.Slots.{Slots}
+use Rattle.sg_table.specs.Records.{slots_of}
+use Rattle.sg_table.specs.Occurrences.{occurrences}
+use Rattle.sg_table.specs.declared.run.Run.{Run}
 use Rattle.sg_block_map.specs.Runs.{end_of, singles_of, expanded, AreChained}
 use Rattle.sg_block_map.specs.Splitting.{IsFront}
 

@@ -2,8 +2,8 @@
 use Rattle.std.specs.Prelude.{◌≡◌, ℕ, ◌+◌, ◌-◌, ◌<◌, ◌≤◌, zero, suc, List, [], ◌∷◌, Bool}
 use Rattle.std.specs.Prelude.{nat_le, nat_lt, ◌&&◌, min, max, length, take, drop}
 use Rattle.std.specs.List.{splice}
-use Rattle.sg_blocks.specs.Draft.{Drafted}
-use Rattle.sg_blocks.specs.declared.run.Run.{Run}
+use Rattle.sg_table.specs.Draft.{Drafted}
+use Rattle.sg_table.specs.declared.run.Run.{Run}
 use Rattle.sg_block_map.specs.Runs.{end_of, AreMaximal}
 
 -- The address past the run at an index.

@@ -3,7 +3,7 @@ use Rattle.std.specs.Prelude.{ℕ, ◌+◌, List, [], ◌∷◌, Bool, nat_lt, n
 use Rattle.std.specs.Prelude.{if◌then◌else◌, min, max}
 use Rattle.std.specs.List.{count_by, sum_by}
 use Rattle.std.specs.FinMap.{keys}
-use Rattle.sg_blocks.specs.Disk.{Contents}
+use Rattle.sg_store.specs.Disk.{Contents}
 
 -- Runs with an address before them: joined to the first run if that begins right behind it, and a
 -- run of its own if not.

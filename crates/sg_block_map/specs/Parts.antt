@@ -1,11 +1,11 @@
 -- What a `BlockMap` is made of.
 use Rattle.std.specs.Prelude.{◌≡◌, ℕ, ◌≤◌}
 use Rattle.std.proofs.Common.{refl}
-use Rattle.sg_blocks.specs.Disk.{IsWellFormed}
-use Rattle.sg_blocks.specs.Draft.{empty_draft}
-use Rattle.sg_blocks.specs.Slots.{Slots}
-use Rattle.sg_blocks.specs.Table.{Table}
-use Rattle.sg_blocks.specs.declared.store.TheConstants.{MAX_CAPACITY, MAX_POOL}
+use Rattle.sg_store.specs.Disk.{IsWellFormed}
+use Rattle.sg_table.specs.Draft.{empty_draft}
+use Rattle.sg_pool.specs.Slots.{Slots}
+use Rattle.sg_table.specs.Table.{Table}
+use Rattle.sg_store.specs.declared.store.TheConstants.{MAX_CAPACITY, MAX_POOL}
 use Rattle.sg_block_map.specs.Runs.{AreRuns, chained_contents}
 use Rattle.sg_block_map.specs.declared.block_map.BlockMap.{BlockMap}
 

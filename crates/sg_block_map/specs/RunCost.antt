@@ -1,7 +1,7 @@
 -- What a call over a range costs in a store that has a record for each maximal run.
 use Rattle.std.specs.Prelude.{ℕ, ◌+◌, ◌^◌, ◌<◌, ◌≤◌, length}
-use Rattle.sg_blocks.specs.Disk.{Contents, Disk}
-use Rattle.sg_blocks.specs.Meter.{Meter, Costs}
+use Rattle.sg_store.specs.Disk.{Contents, Disk}
+use Rattle.sg_store.specs.Meter.{Meter, Costs}
 use Rattle.sg_block_map.specs.MaximalRuns.{runs, meet, blocks_near}
 
 -- At least the record of each maximal run that the range meets is visited,

@@ -15,8 +15,8 @@ use Rattle.std.proofs.lemmas.Bool.{cases_lt}
 use Rattle.std.proofs.lemmas.Bool.Decides.{nat_tests}
 use Rattle.std.proofs.lemmas.List.Sums.{length-filter}
 use Rattle.std.proofs.lemmas.List.Elements.{filter-append}
-use Rattle.sg_blocks.specs.Disk.{Contents, lies_in, mapped_among}
-use Rattle.sg_blocks.proofs.DiskLemmas.{mapped_among-none, mapped_among-more}
+use Rattle.sg_store.specs.Disk.{Contents, lies_in, mapped_among}
+use Rattle.sg_store.proofs.DiskLemmas.{mapped_among-none, mapped_among-more}
 use Rattle.sg_block_map.specs.MaximalRuns.{with_address, runs_of, runs, meets, meet}
 use Rattle.sg_block_map.specs.RunCost.{block_price, block_least}
 

@@ -1,12 +1,14 @@
 -- Runs of mapped addresses over chains of slots, and the single addresses that they stand for.
 use Rattle.std.specs.Prelude.{◌≡◌, ℕ, ◌+◌, ◌≤◌, zero, suc, List, [], ◌∷◌, ◌++◌, slice_index, length}
 use Rattle.std.specs.List.{sum_by}
-use Rattle.sg_blocks.specs.Chains.{IsChain}
-use Rattle.sg_blocks.specs.Disk.{Contents}
-use Rattle.sg_blocks.specs.Records.{single, contents_of}
-use Rattle.sg_blocks.specs.Slots.{Slots, IsConsistent}
-use Rattle.sg_blocks.specs.declared.run.Run.{Run}
-use Rattle.sg_blocks.specs.declared.store.TheConstants.{MAX_CAPACITY}
+use Rattle.sg_pool.specs.Chains.{IsChain}
+use Rattle.sg_store.specs.Disk.{Contents}
+use Rattle.sg_table.specs.Records.{single}
+use Rattle.sg_pool.specs.MappedRecords.{contents_of}
+use Rattle.sg_pool.specs.Slots.{Slots}
+use Rattle.sg_pool.specs.MappedRecords.{IsConsistent}
+use Rattle.sg_table.specs.declared.run.Run.{Run}
+use Rattle.sg_store.specs.declared.store.TheConstants.{MAX_CAPACITY}
 
 -- The address past a run.
 abbrev pub end_of : Run → ℕ

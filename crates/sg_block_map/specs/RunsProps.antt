@@ -2,7 +2,7 @@
 use Rattle.std.specs.Prelude.{ℕ, ◌+◌, List, [], ◌∷◌}
 use Rattle.std.proofs.Props.{props}
 use Rattle.sg_block_map.specs.Runs.{end_of, AreMaximal, AreChained}
-use Rattle.sg_blocks.specs.declared.run.Run.{Run}
+use Rattle.sg_table.specs.declared.run.Run.{Run}
 
 pub AreMaximal-IsProp : (low high : ℕ) (runs : List Run) → IsProp (AreMaximal low high runs)
 AreMaximal-IsProp low high [] = hlevel props

@@ -1,8 +1,8 @@
 -- A run that is split at an address.
 use Rattle.std.specs.Prelude.{◌≡◌, ℕ, ◌+◌, ◌-◌, ◌<◌, ◌≤◌, min, max, List, ◌++◌}
 use Rattle.std.specs.Prelude.{Option, IfSome, option_to_list}
-use Rattle.sg_blocks.specs.Chains.{slot_after}
-use Rattle.sg_blocks.specs.declared.run.Run.{Run}
+use Rattle.sg_pool.specs.Chains.{slot_after}
+use Rattle.sg_table.specs.declared.run.Run.{Run}
 use Rattle.sg_block_map.specs.Runs.{end_of, singles_of, expanded, AreChained}
 
 -- The first `count` addresses of a run,

@@ -2,11 +2,11 @@
 use Rattle.std.specs.Prelude.{◌≡◌, ℕ, List, [], ◌∷◌, Some, map}
 use Rattle.std.specs.FinMap.{get}
 use Rattle.std.specs.List.{range_with_len}
-use Rattle.sg_blocks.specs.Disk.{Contents, Disk}
-use Rattle.sg_blocks.specs.Meter.{Meter}
-use Rattle.sg_blocks.specs.Records.{contents_of}
-use Rattle.sg_blocks.specs.Slots.{Slots}
-use Rattle.sg_blocks.specs.Table.{Table}
+use Rattle.sg_store.specs.Disk.{Contents, Disk}
+use Rattle.sg_store.specs.Meter.{Meter}
+use Rattle.sg_pool.specs.MappedRecords.{contents_of}
+use Rattle.sg_pool.specs.Slots.{Slots}
+use Rattle.sg_table.specs.Table.{Table}
 use Rattle.sg_block_map.specs.Runs.{expanded, chained_contents, extent_of}
 use Rattle.sg_block_map.specs.declared.block_map.BlockMap.{BlockMap}
 

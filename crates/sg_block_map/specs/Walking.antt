@@ -1,10 +1,10 @@
 -- Going over the addresses of runs in a row.
 use Rattle.std.specs.Prelude.{◌≡◌, ℕ, ◌+◌, List, [], ◌∷◌, ◌++◌, option_to_list, drop}
 use Rattle.std.specs.Prelude.{Option, Some, None, if◌then◌else◌, ◌==◌}
-use Rattle.sg_blocks.specs.Chains.{AreBelow}
-use Rattle.sg_blocks.specs.Slots.{slots_of}
-use Rattle.sg_blocks.specs.declared.run.Run.{Run}
-use Rattle.sg_blocks.specs.declared.store.TheConstants.{MAX_CAPACITY}
+use Rattle.sg_pool.specs.Chains.{AreBelow}
+use Rattle.sg_table.specs.Records.{slots_of}
+use Rattle.sg_table.specs.declared.run.Run.{Run}
+use Rattle.sg_store.specs.declared.store.TheConstants.{MAX_CAPACITY}
 use Rattle.sg_block_map.specs.Runs.{expanded, AreChained, AreMaximal}
 use Rattle.sg_block_map.specs.Splitting.{rest_of, IsSplit}
 

@@ -1,31 +1,29 @@
 ghost use Rattle.std.specs.Prelude.{◌≡◌, ◌+◌, ◌*◌, ◌<◌, ◌≤◌, ◌↔◌, length};
 ghost use Rattle.std.specs.Prelude.{IsErr, OnOk, OnErr};
 ghost use Rattle.std.proofs.Props.{props};
-ghost use Rattle.sg_blocks.specs.Disk.{IsWellFormed, IsOverfull, blocks};
-ghost use Rattle.sg_blocks.specs.Disk.{disk_replaced, disk_written, disk_filled, disk_unmapped};
-ghost use Rattle.sg_blocks.specs.Disk.{unmapped};
-ghost use Rattle.sg_blocks.specs.LbaStatus.{lba_status, covered, status_data};
-ghost use Rattle.sg_blocks.specs.Meter.{HasHeadroom, restarted};
+ghost use Rattle.sg_store.specs.Disk.{IsWellFormed, IsOverfull, blocks};
+ghost use Rattle.sg_store.specs.Disk.{disk_replaced, disk_written, disk_filled, disk_unmapped};
+ghost use Rattle.sg_store.specs.Disk.{unmapped};
+ghost use Rattle.sg_store.specs.LbaStatus.{lba_status, covered, status_data};
+ghost use Rattle.sg_store.specs.Meter.{HasHeadroom, restarted};
 ghost use Rattle.sg_wire.specs.Cut.{Puts};
 ghost use Rattle.sg_block_map.specs.MaximalRuns.{runs};
 ghost use Rattle.sg_block_map.specs.RunCost.{block_price, block_least, CostsRange};
 ghost use Rattle.sg_block_map.specs.RunCostLaws.{block_price-within, block_least-positive};
 ghost use Rattle.sg_block_map.specs.Runs.{AreRuns, chained_contents};
 ghost use Rattle.sg_block_map.specs.RunsProps.{AreMaximal-IsProp, AreChained-IsProp};
-ghost use Rattle.sg_blocks.specs.Draft.{empty_draft};
-ghost use Rattle.sg_blocks.specs.declared.store.TheConstants.{MAX_CAPACITY, MAX_POOL};
+ghost use Rattle.sg_table.specs.Draft.{empty_draft};
+ghost use Rattle.sg_store.specs.declared.store.TheConstants.{MAX_CAPACITY, MAX_POOL};
 
 use crate::gather::{gather, mapped_in};
 use crate::read::read_runs;
 use crate::status::{cursor_over, write_descriptors};
 use crate::unmap::unmap_runs;
 use crate::write::write_runs;
-use sg_blocks::draft::Draft;
-use sg_blocks::lba_status::header;
-use sg_blocks::pool::Pool;
-use sg_blocks::source::Source;
-use sg_blocks::table::RunTable;
-use sg_blocks::{BLOCK_LENGTH, Counts, MAX_CAPACITY, MAX_POOL, Space, Store};
+use sg_pool::{Pool, Source};
+use sg_store::lba_status::header;
+use sg_store::{BLOCK_LENGTH, Counts, MAX_CAPACITY, MAX_POOL, Space, Store};
+use sg_table::{Draft, RunTable};
 use sg_wire::Cut;
 use std::alloc::{AllocError, Global};
 
@@ -50,7 +48,7 @@ pub struct BlockMap {
 }
 
 impl BlockMap {
-    ghost use Rattle.sg_blocks.specs.Source.{HasBlocks, block_of};
+    ghost use Rattle.sg_pool.specs.Source.{HasBlocks, block_of};
     ghost use Rattle.sg_block_map.specs.State.{disk_of, meter_of, records_of, slots_by_address};
     ghost use Rattle.sg_block_map.specs.State.{Keeps};
 

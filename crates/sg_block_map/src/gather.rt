@@ -1,17 +1,15 @@
 // Gathering the runs near a range from the table.
 ghost use Rattle.std.specs.Prelude.{◌≡◌, ◌+◌, ◌-◌, ◌<◌, ◌≤◌, ℕ, length, drop, nat_lt};
 ghost use Rattle.std.specs.List.{count_by, splice, sum_by};
-ghost use Rattle.sg_blocks.specs.Records.{IsLowerBound, start_of};
-ghost use Rattle.sg_blocks.specs.Search.{CostsSearch};
-ghost use Rattle.sg_blocks.specs.Table.{visited, probed};
+ghost use Rattle.sg_table.specs.Records.{IsLowerBound, start_of};
+ghost use Rattle.sg_table.specs.Search.{CostsSearch};
+ghost use Rattle.sg_table.specs.Table.{visited, probed};
 ghost use Rattle.sg_block_map.specs.Gathering.{AreGathered, AreBegun, end_index, overlap};
 ghost use Rattle.sg_block_map.specs.Gathering.{starts_in};
 ghost use Rattle.sg_block_map.specs.Runs.{AreMaximal, blocks_of};
 
-use sg_blocks::draft::Draft;
-use sg_blocks::run::Run;
-use sg_blocks::table::RunTable;
-use sg_blocks::{MAX_CAPACITY, MAX_COUNT, MAX_POOL};
+use sg_store::{MAX_CAPACITY, MAX_COUNT, MAX_POOL};
+use sg_table::{Draft, Run, RunTable};
 
 /// Begins at the index of an address, with the run before it if that reaches the address.
 fn gather_before(table: &mut RunTable, gathered: &mut Draft, index: usize, low: u64)

@@ -1,16 +1,15 @@
 // Writing a range that lies inside one run: each block goes to the slot that its address has.
 ghost use Rattle.std.specs.Prelude.{◌≡◌, ◌+◌, ◌<◌, ◌≤◌, ◌++◌, ◌∷◌, List, length, drop, IfSome};
-ghost use Rattle.sg_blocks.specs.Chains.{chain, AreBelow};
-ghost use Rattle.sg_blocks.specs.Disk.{replaced};
-ghost use Rattle.sg_blocks.specs.Slots.{IsConsistent};
-ghost use Rattle.sg_blocks.specs.Source.{HasBlocks, block_of};
+ghost use Rattle.sg_pool.specs.Chains.{chain, AreBelow};
+ghost use Rattle.sg_store.specs.Disk.{replaced};
+ghost use Rattle.sg_pool.specs.MappedRecords.{IsConsistent};
+ghost use Rattle.sg_pool.specs.Source.{HasBlocks, block_of};
 ghost use Rattle.sg_block_map.specs.Runs.{end_of, expanded, chained_contents};
 
 use crate::split::follow;
-use sg_blocks::MAX_CAPACITY;
-use sg_blocks::pool::Pool;
-use sg_blocks::run::Run;
-use sg_blocks::source::Source;
+use sg_pool::{Pool, Source};
+use sg_store::MAX_CAPACITY;
+use sg_table::Run;
 
 /// The first of some runs, if it has all addresses of a range.
 pub fn covering(runs: &[Run], lba: u64, count: u32) -> Option<Run>

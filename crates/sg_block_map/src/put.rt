@@ -1,14 +1,12 @@
 // Putting runs in the place of the gathered ones.
 ghost use Rattle.std.specs.Prelude.{◌≡◌, ◌+◌, ◌≤◌, length};
 ghost use Rattle.std.specs.List.{splice};
-ghost use Rattle.sg_blocks.specs.Leaves.{move_bound};
-ghost use Rattle.sg_blocks.specs.Table.{spliced};
+ghost use Rattle.sg_table.specs.Leaves.{move_bound};
+ghost use Rattle.sg_table.specs.Table.{spliced};
 ghost use Rattle.sg_block_map.specs.Gathering.{end_index};
 
-use sg_blocks::MAX_POOL;
-use sg_blocks::draft::Draft;
-use sg_blocks::run::Run;
-use sg_blocks::table::RunTable;
+use sg_store::MAX_POOL;
+use sg_table::{Draft, Run, RunTable};
 
 /// Replaces the gathered runs in the table by others.
 // A table that has these already is left alone: a splice costs far more than to compare them.

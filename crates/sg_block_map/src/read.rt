@@ -1,15 +1,15 @@
 ghost use Rattle.std.specs.Prelude.{◌≡◌, ◌+◌, ◌-◌, ◌*◌, ◌<◌, ◌≤◌, ℕ, length};
 ghost use Rattle.std.specs.FinMap.{get};
-ghost use Rattle.sg_blocks.specs.Disk.{block, blocks};
-ghost use Rattle.sg_blocks.specs.Slots.{followed};
+ghost use Rattle.sg_store.specs.Disk.{block, blocks};
+ghost use Rattle.sg_pool.specs.Slots.{followed};
 ghost use Rattle.sg_block_map.specs.Gathering.{AreNear};
 ghost use Rattle.sg_block_map.specs.Runs.{expanded, chained_contents};
 ghost use Rattle.sg_block_map.specs.Walking.{ahead_of, AreAhead};
 
 use crate::walk::{Walk, walk_from};
-use sg_blocks::pool::Pool;
-use sg_blocks::run::Run;
-use sg_blocks::{BLOCK_LENGTH, MAX_CAPACITY};
+use sg_pool::Pool;
+use sg_store::{BLOCK_LENGTH, MAX_CAPACITY};
+use sg_table::Run;
 
 /// Reads the block at an address, and goes on to the next one.
 fn read_address(pool: &mut Pool, runs: &[Run], walk: Walk, lba: u64, bytes: &mut [u8]) -> Walk

@@ -1,13 +1,13 @@
 // Splitting a run in two. No block is moved and no link is changed: the parts share the chain.
 ghost use Rattle.std.specs.Prelude.{◌≡◌, ◌+◌, ◌-◌, ◌<◌, ◌≤◌, length, option_to_list};
-ghost use Rattle.sg_blocks.specs.Chains.{chain, slot_after, AreBelow, IsChain};
-ghost use Rattle.sg_blocks.specs.Slots.{followed};
+ghost use Rattle.sg_pool.specs.Chains.{chain, slot_after, AreBelow, IsChain};
+ghost use Rattle.sg_pool.specs.Slots.{followed};
 ghost use Rattle.sg_block_map.specs.Runs.{expanded};
 ghost use Rattle.sg_block_map.specs.Splitting.{front_of, rest_of, IsSplit};
 
-use sg_blocks::MAX_CAPACITY;
-use sg_blocks::pool::Pool;
-use sg_blocks::run::Run;
+use sg_pool::Pool;
+use sg_store::MAX_CAPACITY;
+use sg_table::Run;
 
 /// The slot that is `count` links after one.
 pub fn follow(pool: &mut Pool, first: u32, count: u32) -> u32

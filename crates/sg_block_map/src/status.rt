@@ -1,22 +1,20 @@
 ghost use Rattle.std.specs.Prelude.{◌≡◌, ◌+◌, ◌-◌, ◌<◌, ◌≤◌, ℕ, length};
 ghost use Rattle.std.specs.List.{flat_map};
-ghost use Rattle.sg_blocks.specs.LbaStatus.{covered, descriptor_at, descriptor_bytes};
-ghost use Rattle.sg_blocks.specs.LbaStatus.{descriptors_from};
-ghost use Rattle.sg_blocks.specs.Records.{ahead};
-ghost use Rattle.sg_blocks.specs.Slots.{Slots};
-ghost use Rattle.sg_blocks.specs.Search.{CostsSearch};
-ghost use Rattle.sg_blocks.specs.Table.{visited, probed};
-ghost use Rattle.sg_blocks.specs.Records.{passed};
+ghost use Rattle.sg_store.specs.LbaStatus.{covered, descriptor_at, descriptor_bytes};
+ghost use Rattle.sg_store.specs.LbaStatus.{descriptors_from};
+ghost use Rattle.sg_table.specs.Records.{ahead};
+ghost use Rattle.sg_pool.specs.Slots.{Slots};
+ghost use Rattle.sg_table.specs.Search.{CostsSearch};
+ghost use Rattle.sg_table.specs.Table.{visited, probed};
+ghost use Rattle.sg_table.specs.Records.{passed};
 ghost use Rattle.sg_wire.specs.Cut.{Puts};
 ghost use Rattle.sg_block_map.specs.Runs.{chained_contents};
 ghost use Rattle.sg_block_map.specs.Status.{AreFrom, AreMet, IsOver, IsRunTable};
 ghost use Rattle.sg_block_map.specs.Status.{records_met, run_over};
 
-use sg_blocks::cursor::Cursor;
-use sg_blocks::lba_status::{MAX_DESCRIPTORS, ProvisioningStatus, StatusDescriptor};
-use sg_blocks::run::Run;
-use sg_blocks::table::RunTable;
-use sg_blocks::{MAX_COUNT, MAX_POOL};
+use sg_store::lba_status::{MAX_ADDRESSES, MAX_DESCRIPTORS, ProvisioningStatus, StatusDescriptor};
+use sg_store::{MAX_COUNT, MAX_POOL};
+use sg_table::{Cursor, Run, RunTable};
 use sg_wire::Cut;
 
 /// The cursor at the first run that has an address or one past it.
@@ -82,7 +80,7 @@ fn describe(
     ensures cost { visited table.new (passed cursor) ≡ visited table.old (passed result.1) }
 {
     let Some(run) = run_over(cursor, lba) else {
-        let count = cursor.count_unmapped(lba, capacity);
+        let count = cursor.count_unmapped(lba, capacity, MAX_ADDRESSES);
         let status = ProvisioningStatus::Deallocated;
         return (StatusDescriptor { lba, count, status }, cursor);
     };

@@ -1,21 +1,19 @@
 ghost use Rattle.std.specs.Prelude.{◌≡◌, ◌+◌, ◌-◌, ◌<◌, ◌≤◌, ◌++◌, ℕ, List, length};
 ghost use Rattle.std.specs.Prelude.{option_to_list, IfSome};
-ghost use Rattle.sg_blocks.specs.Chains.{chain, AreBelow, IsChain};
-ghost use Rattle.sg_blocks.specs.Disk.{unmapped};
-ghost use Rattle.sg_blocks.specs.Leaves.{move_bound};
-ghost use Rattle.sg_blocks.specs.Records.{contents_of};
-ghost use Rattle.sg_blocks.specs.Slots.{slots_of};
+ghost use Rattle.sg_pool.specs.Chains.{chain, AreBelow, IsChain};
+ghost use Rattle.sg_store.specs.Disk.{unmapped};
+ghost use Rattle.sg_table.specs.Leaves.{move_bound};
+ghost use Rattle.sg_pool.specs.MappedRecords.{contents_of};
+ghost use Rattle.sg_table.specs.Records.{slots_of};
 ghost use Rattle.sg_block_map.specs.Cutting.{AreDistinct, StaysBut, IsCut};
 ghost use Rattle.sg_block_map.specs.Gathering.{AreGathered};
 ghost use Rattle.sg_block_map.specs.Runs.{expanded, AreRuns, blocks_of};
 
 use crate::put::put_runs;
 use crate::split::split_at;
-use sg_blocks::draft::Draft;
-use sg_blocks::pool::Pool;
-use sg_blocks::run::Run;
-use sg_blocks::table::RunTable;
-use sg_blocks::{MAX_CAPACITY, MAX_COUNT, MAX_POOL};
+use sg_pool::Pool;
+use sg_store::{MAX_CAPACITY, MAX_COUNT, MAX_POOL};
+use sg_table::{Draft, Run, RunTable};
 
 /// Keeps a part of a run, if there is one.
 fn keep(remaining: &mut Draft, part: Option<Run>)

@@ -1,14 +1,14 @@
 // Going over the addresses of runs in a row.
 ghost use Rattle.std.specs.Prelude.{◌≡◌, ◌+◌, ◌-◌, ◌<◌, ◌≤◌, length, drop, option_to_list};
-ghost use Rattle.sg_blocks.specs.Records.{run_at};
-ghost use Rattle.sg_blocks.specs.Slots.{followed};
+ghost use Rattle.sg_table.specs.Records.{run_at};
+ghost use Rattle.sg_pool.specs.Slots.{followed};
 ghost use Rattle.sg_block_map.specs.Runs.{expanded};
 ghost use Rattle.sg_block_map.specs.Walking.{ahead_of, passed, AreAhead, IsWalkFrom};
 
 use crate::split::split_at;
-use sg_blocks::MAX_CAPACITY;
-use sg_blocks::pool::Pool;
-use sg_blocks::run::Run;
+use sg_pool::Pool;
+use sg_store::MAX_CAPACITY;
+use sg_table::Run;
 
 /// The addresses that are ahead in a list of runs.
 #[derive(Clone, Copy)]

@@ -2,11 +2,12 @@
 ghost use Rattle.std.specs.Prelude.{◌≡◌, ◌+◌, ◌-◌, ◌^◌, ◌<◌, ◌≤◌, ◌++◌, ◌∷◌, ℕ, List, length};
 ghost use Rattle.std.specs.Prelude.{None, Option, option_to_list, unwrap_or, IfSome};
 ghost use Rattle.std.specs.FinMap.{insert};
-ghost use Rattle.sg_blocks.specs.Disk.{replaced, mapped_among};
-ghost use Rattle.sg_blocks.specs.Leaves.{move_bound};
-ghost use Rattle.sg_blocks.specs.Records.{run_at};
-ghost use Rattle.sg_blocks.specs.Slots.{occurrences, followed};
-ghost use Rattle.sg_blocks.specs.Source.{HasBlocks, block_of};
+ghost use Rattle.sg_store.specs.Disk.{replaced, mapped_among};
+ghost use Rattle.sg_table.specs.Leaves.{move_bound};
+ghost use Rattle.sg_table.specs.Records.{run_at};
+ghost use Rattle.sg_table.specs.Occurrences.{occurrences};
+ghost use Rattle.sg_pool.specs.Slots.{followed};
+ghost use Rattle.sg_pool.specs.Source.{HasBlocks, block_of};
 ghost use Rattle.sg_block_map.specs.Gathering.{AreNear, AreGathered};
 ghost use Rattle.sg_block_map.specs.Joining.{joined, linked, no_run, IsWriting, IsFinished};
 ghost use Rattle.sg_block_map.specs.Joining.{KeepSlots};
@@ -17,12 +18,9 @@ ghost use Rattle.sg_block_map.specs.Walking.{ahead_of, AreAhead, IsWalkFrom};
 use crate::overwrite::{covering, overwrite};
 use crate::put::put_runs;
 use crate::walk::{Walk, walk_from};
-use sg_blocks::draft::Draft;
-use sg_blocks::pool::Pool;
-use sg_blocks::run::Run;
-use sg_blocks::source::Source;
-use sg_blocks::table::RunTable;
-use sg_blocks::{BLOCK_LENGTH, MAX_CAPACITY, MAX_COUNT, MAX_POOL};
+use sg_pool::{Pool, Source};
+use sg_store::{BLOCK_LENGTH, MAX_CAPACITY, MAX_COUNT, MAX_POOL};
+use sg_table::{Draft, Run, RunTable};
 
 /// How far a range is written.
 #[derive(Clone, Copy)]

@@ -1,22 +1,9 @@
-//! The blocks of a disk: a store behind a trait, whose meaning is a finite map from addresses to
-//! blocks. The table, the pool and the other parts that a store is built from are public, for stores
-//! of other crates.
+//! The blocks of a disk, by the names that users know. Each is defined in the crate that it comes
+//! from.
 #![tactic(auto)]
 
-pub mod cursor;
-pub mod draft;
-mod ghost_number;
-pub mod laws;
-pub mod lba_status;
-mod leaf;
-mod leaf_list;
-mod leaves;
-mod plain_map;
-pub mod pool;
-pub mod run;
-pub mod source;
-mod store;
-pub mod table;
-
-pub use plain_map::PlainMap;
-pub use store::{BLOCK_LENGTH, Counts, MAX_CAPACITY, MAX_COUNT, MAX_POOL, Space, Store};
+pub use sg_block_map::BlockMap;
+pub use sg_plain_map::PlainMap;
+pub use sg_pool::Pool;
+pub use sg_store::{BLOCK_LENGTH, Counts, MAX_CAPACITY, MAX_COUNT, MAX_POOL, Space, Store};
+pub use sg_table::RunTable;

@@ -9,10 +9,11 @@ mod provisioning_pages;
 mod vital_product_data;
 
 pub use identity::{Identity, IdentityFault};
-pub use inquiry_data::write_standard_inquiry;
+pub use inquiry_data::{write_standard_inquiry, write_standard_inquiry as inquiry};
 pub use mode_pages::{
-    Changed, ModePage, ModePages, ModeSelectFault, ModeSenseFault, ModeSenseRequest, PageControl,
-    PageValues, only_changeable_bits_change, only_sp_saves, sp_saves_all,
+    Changed, ModePage, ModePages, ModeSelectFault, ModeSelectFault as SelectFault, ModeSenseFault,
+    ModeSenseFault as AskFault, ModeSenseRequest, ModeSenseRequest as Ask, PageControl, PageValues,
+    only_changeable_bits_change, only_sp_saves, sp_saves_all,
 };
 pub use provisioning_pages::{
     MAXIMUM_TRANSFER_LENGTH, MAXIMUM_UNMAP_DESCRIPTORS, MAXIMUM_WRITE_SAME_LENGTH,

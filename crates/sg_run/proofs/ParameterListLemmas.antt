@@ -1,6 +1,6 @@
--- The parameter lists that tools send, as the target reads them.
+-- The parameter list of UNMAP that a tool sends, as the target reads it.
 use Rattle.std.proofs.Common.{◌≡◌, ◌≤◌, ◌<◌, ◌+◌, ◌*◌, ◌^◌, ℕ, zero, suc, List, [], ◌∷◌, ◌++◌}
-use Rattle.std.proofs.Common.{length, drop, get_or, Bool, true, false, Ok, refl, ap, sym, ◌∙◌}
+use Rattle.std.proofs.Common.{length, drop, get_or, false, Ok, refl, ap, sym, ◌∙◌}
 use Rattle.std.proofs.Common.{arith}
 use Rattle.std.specs.Prelude.{nat_lt, ◌==◌}
 use Rattle.std.specs.List.{flat_map}
@@ -11,53 +11,10 @@ use Rattle.sg_target.specs.ProvisioningCommands.{unmap_list as extents_listed, d
 use Rattle.sg_target.specs.ProvisioningCommands.{descriptor_count}
 use Rattle.byteorder.specs.Endian.{big_bytes, big_number}
 use Rattle.byteorder.specs.Numbers.{big_number-reads_back}
-use Rattle.sg_units.specs.declared.out_list.OutList.{OutList}
-use Rattle.sg_tools.specs.ParameterLists.{reserve_out_list, unmap_list, unmap_descriptor}
+use Rattle.sg_tools.specs.ParameterLists.{unmap_list, unmap_descriptor}
 use Rattle.sg_tools.specs.declared.extents.Extent.{Extent}
-use Rattle.sg_run.specs.Laws.{HasLengthAndFields, ReserveOutListIsRead, UnmapListIsRead}
+use Rattle.sg_run.specs.Laws.{UnmapListIsRead}
 use Rattle.sg_run.specs.Laws.{no_extent}
-
-list_with : (key action_key : ℕ) (aptpl : Bool) → OutList
-list_with key action_key aptpl = record {
-  reservation_key = key;
-  service_action_key = action_key;
-  spec_i_pt = false;
-  all_tg_pt = false;
-  aptpl = aptpl;
-}
-
-by_flag : (key action_key : ℕ) (aptpl : Bool) → key < 2 ^ 64 → action_key < 2 ^ 64
-    → HasLengthAndFields (record {
-      reservation_key = key;
-      service_action_key = action_key;
-      aptpl =
-          aptpl;
-    })
-unfolding reserve_out_list list_with
-by_flag key action_key true small also =
-    let flags : List ℕ = 0 ∷ 0 ∷ 0 ∷ 0 ∷ 1 ∷ 0 ∷ 0 ∷ 0 ∷ [] in
-    let first = big_number-reads_back 8 key (big_bytes 8 action_key ++ flags) small in
-    let second = big_number-reads_back 8 action_key flags also in
-    record {
-      length = refl;
-      fields = ap (λ n. list_with n (big_number 8 (big_bytes 8 action_key ++ flags)) true) first
-          ∙ ap (λ n. list_with key n true) second;
-    }
-by_flag key action_key false small also =
-    let flags : List ℕ = 0 ∷ 0 ∷ 0 ∷ 0 ∷ 0 ∷ 0 ∷ 0 ∷ 0 ∷ [] in
-    let first = big_number-reads_back 8 key (big_bytes 8 action_key ++ flags) small in
-    let second = big_number-reads_back 8 action_key flags also in
-    record {
-      length = refl;
-      fields = ap (λ n. list_with n (big_number 8 (big_bytes 8 action_key ++ flags)) false) first
-          ∙ ap (λ n. list_with key n false) second;
-    }
-
-pub reserve_out_read : ReserveOutListIsRead
-reserve_out_read parameters small also =
-    by_flag parameters.reservation_key parameters.service_action_key parameters.aptpl small also
-
--- ---- UNMAP
 
 abbrev each : List Extent → List ℕ
 each extents = flat_map unmap_descriptor extents

@@ -21,7 +21,7 @@ use crate::request::{FilledBlocks, LineFault, Request, ToolLine, read_request};
 use crate::text::answer::print_answer;
 use crate::text::header::print_line_header;
 use crate::text::reply::print_reply;
-use sg_blocks::{BLOCK_LENGTH, Store};
+use sg_store::{BLOCK_LENGTH, Store};
 use sg_target::{Call, Target};
 use sg_tools::{Show, exit_status};
 use sg_wire::{Printer, Sense, Watched};

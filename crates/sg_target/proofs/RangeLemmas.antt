@@ -1,6 +1,6 @@
 -- What ranges cost together.
 use Rattle.std.proofs.Common.{ℕ, ◌+◌, ◌≤◌, List, [], ◌∷◌, arith}
-use Rattle.sg_blocks.specs.Disk.{Contents}
+use Rattle.sg_store.specs.Disk.{Contents}
 use Rattle.sg_target.specs.Effect.{Range}
 use Rattle.sg_target.specs.Ranges.{sum_over, visit_bound}
 

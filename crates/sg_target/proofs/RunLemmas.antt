@@ -4,7 +4,7 @@ use Rattle.std.proofs.Common.{ap, subst, ◌∙◌, append_assoc, Result, Ok, Er
 use Rattle.std.specs.Prelude.{OnErr}
 use Rattle.std.proofs.Math.Seq.{take-append_seam}
 use Rattle.std.proofs.lemmas.List.{map-append}
-use Rattle.sg_blocks.specs.Meter.{Meter}
+use Rattle.sg_store.specs.Meter.{Meter}
 use Rattle.sg_target.specs.Ranges.{CostBounds, IsCharged}
 use Rattle.sg_target.specs.Reply.{Carries}
 use Rattle.sg_target.specs.Runs.{step_of, ranges_of_call, state_after_all, answers, Exchange}

@@ -1,8 +1,8 @@
 -- The effects of the block commands (SBC-3, 5).
 use Rattle.std.specs.Prelude.{ℕ, ◌*◌, List, [], ◌∷◌}
 use Rattle.sg_wire.specs.CutAnswer.{first_bytes}
-use Rattle.sg_blocks.specs.Disk.{blocks, written}
-use Rattle.sg_target.specs.CapacityData.{capacity_10, capacity_16}
+use Rattle.sg_store.specs.Disk.{blocks, written}
+use Rattle.sg_target.specs.CapacityData.{block_length, capacity_10, capacity_16}
 use Rattle.sg_target.specs.Effect.{Effect, no_effect, range, returning, returning_up_to, with_contents}
 use Rattle.sg_target.specs.State.{State}
 use Rattle.sg_target.specs.declared.extent.Extent.{Extent}
@@ -15,15 +15,21 @@ reading state extent =
 
 -- WRITE replaces its blocks by those of data-out, of which it takes 512 bytes for each block.
 abbrev pub bytes_of : Extent → ℕ
-bytes_of extent = 512 * extent.count
+bytes_of extent = block_length * extent.count
 
-abbrev pub blocks_out : Extent → (data_out : List ℕ) → List ℕ
-blocks_out extent data_out = first_bytes (bytes_of extent) data_out
+-- Blocks, and as many bytes as they have.
+pub record BlocksOutFields : Type 0 where
+  pub extent : Extent
+  pub bytes : List ℕ
 
-abbrev pub writing : State → Extent → (data_out : List ℕ) → Effect
-writing state extent data_out = let contents = state.disk.contents in record (no_effect state) {
-  ranges = range contents extent ∷ [];
-  after = with_contents state (written contents extent.lba extent.count (blocks_out extent data_out));
+abbrev pub blocks_out : Extent → (data_out : List ℕ) → BlocksOutFields
+blocks_out extent data_out =
+    record { extent = extent; bytes = first_bytes (bytes_of extent) data_out }
+
+abbrev pub writing : State → BlocksOutFields → Effect
+writing state out = let contents = state.disk.contents in record (no_effect state) {
+  ranges = range contents out.extent ∷ [];
+  after = with_contents state (written contents out.extent.lba out.extent.count out.bytes);
 }
 
 -- READ CAPACITY (10) and (16).

@@ -1,5 +1,5 @@
 -- The checks that a command passes before it is executed, in their order. They know commands by
--- their semantics alone.
+-- their demands, and operations by their use of the medium.
 use Rattle.std.specs.Prelude.{Bool, ◌&&◌}
 use Rattle.std.specs.Prelude.{ℕ, ◌+◌, max, List, [], ◌∷◌, length, map, Option, Some, None, Result}
 use Rattle.std.specs.Prelude.{Ok, Err, nat_lt, if◌then◌else◌}
@@ -10,15 +10,17 @@ use Rattle.sg_wire.specs.Layout.{class_of, command_of, is_blocked_by_attention}
 use Rattle.sg_wire.specs.declared.command.Command.{Command}
 use Rattle.sg_wire.specs.declared.command.CdbFault.{CdbFault}
 use Rattle.sg_wire.specs.declared.command.CdbFault.TheVariants.{Empty, Opcode, Short, Field}
-use Rattle.sg_blocks.specs.Disk.{Disk}
+use Rattle.sg_store.specs.Disk.{Disk}
 use Rattle.sg_pages.specs.ModePage.{ModeState, write_protected}
 use Rattle.sg_units.specs.Access.{allows}
 use Rattle.sg_units.specs.Attentions.{oldest}
 use Rattle.sg_target.specs.Effect.{Effect}
-use Rattle.sg_target.specs.Refusal.{refusal_for}
-use Rattle.sg_target.specs.Semantics.{Semantics, semantics}
+use Rattle.sg_target.specs.Demands.{Demands, demands}
+use Rattle.sg_target.specs.Refusal.{checked_next, first_some, refusal_for, unless_refused}
+use Rattle.sg_target.specs.Semantics.{MediumUse, effect_of, medium_use}
 use Rattle.sg_target.specs.State.{State}
 use Rattle.sg_target.specs.declared.extent.Extent.{Extent}
+use Rattle.sg_target.specs.declared.operation.Operation.{Operation}
 use Rattle.sg_target.specs.declared.refusal.Reason.TheVariants.{InvalidFieldInCdb}
 use Rattle.sg_target.specs.declared.refusal.Reason.TheVariants.{UnitAttention as Attention}
 use Rattle.sg_target.specs.declared.refusal.Reason.TheVariants.{DataPhaseError, LbaOutOfRange}
@@ -26,12 +28,6 @@ use Rattle.sg_target.specs.declared.refusal.Reason.TheVariants.{SpaceAllocationF
 use Rattle.sg_target.specs.declared.refusal.Reason.TheVariants.{SoftwareWriteProtected}
 use Rattle.sg_target.specs.declared.refusal.Refusal.{Refusal}
 use Rattle.sg_target.specs.declared.refusal.Refusal.TheVariants.{Conflict, Check}
-
--- The first check that refuses decides.
-abbrev pub first_some : {A : Type 0} → List (Option A) → Option A
-first_some [] = None
-first_some (Some x ∷ rest) = Some x
-first_some (None ∷ rest) = first_some rest
 
 -- ---- Checks of a CDB
 
@@ -90,21 +86,15 @@ short_data_out None data_out = None
 short_data_out (Some n) data_out =
     if nat_lt (length data_out) n then Some (Check DataPhaseError) else None
 
--- Something is wrong with the page or the parameter list that it names.
-abbrev pub list_fault : {A : Type 0} → Result A Refusal → Option Refusal
-list_fault (Ok sound) = None
-list_fault (Err refusal) = Some refusal
+-- What a command asks for, or the first refusal: of a value, for want of data-out, or of the page or
+-- the parameter list that it names.
+abbrev pub requested : Demands → (data_out : List ℕ) → Result Operation Refusal
+requested d data_out =
+    unless_refused
+    (first_some (unsupported_value d.unsupported ∷ short_data_out d.data_out_length data_out ∷ []))
+    d.operation
 
-unfoldable pub first_fault : (value data_out list : Option Refusal) → Option Refusal
-first_fault value data_out list = first_some (value ∷ data_out ∷ list ∷ [])
-
--- What is wrong with the values, the data-out or the parameter list of a command.
-abbrev pub request_fault : Semantics → (data_out : List ℕ) → Option Refusal
-request_fault s data_out =
-    first_fault
-    (unsupported_value s.unsupported)
-    (short_data_out s.data_out_length data_out)
-    (list_fault s.effect)
+-- ---- Checks of an operation
 
 -- An address is past the last one; the first such address is reported.
 abbrev pub past_capacity : (capacity : ℕ) → Extent → Option Refusal
@@ -122,32 +112,38 @@ unfoldable pub write_protection : ModeState → (writes_medium : Bool) → Optio
 write_protection modes writes_medium =
     if write_protected modes && writes_medium then Some (Check SoftwareWriteProtected) else None
 
-abbrev pub command_checks : State → Semantics → (data_out : List ℕ) → List (Option Refusal)
-command_checks state s data_out =
-    request_fault s data_out
-    ∷ out_of_range state.disk.capacity s.extents
-    ∷ write_protection state.modes s.writes_medium
-    ∷ []
+abbrev pub medium_checks : State → MediumUse → List (Option Refusal)
+medium_checks state medium =
+    out_of_range state.disk.capacity medium.extents ∷ write_protection state.modes medium.writes ∷ []
+
+abbrev pub checked_operation : State → Operation → Result Operation Refusal
+checked_operation state operation =
+    unless_refused (first_some (medium_checks state (medium_use operation))) (Ok operation)
 
 -- ---- All of them, but that for space
 
-abbrev pub unless_refused : Option Refusal → Result Effect Refusal → Result Effect Refusal
-unless_refused None effect = effect
-unless_refused (Some refusal) effect = Err refusal
+-- The operation that a command asks for, or the first refusal.
+abbrev pub checked_command : State → Command → (data_out : List ℕ) → Result Operation Refusal
+checked_command state command data_out =
+    checked_next (requested (demands state.disk.capacity command data_out) data_out)
+    (checked_operation state)
 
--- The effect of a command, or the first refusal.
-abbrev pub checked_command : State → Semantics → (data_out : List ℕ) → Result Effect Refusal
-checked_command state s data_out = unless_refused (first_some (command_checks state s data_out)) s.effect
+abbrev pub checked_parse : State → Result Command CdbFault → (data_out : List ℕ)
+    → Result Operation Refusal
+checked_parse state (Err fault) data_out = Err (refusal_for fault)
+checked_parse state (Ok command) data_out = checked_command state command data_out
 
-abbrev pub checked_parse : State → (initiator : ℕ) → Result Command CdbFault → List ℕ → Result Effect Refusal
-checked_parse state initiator (Err fault) data_out = Err (refusal_for fault)
-checked_parse state initiator (Ok command) data_out =
-    checked_command state (semantics state initiator command data_out) data_out
-
-unfoldable pub checked_effect : State → (initiator : ℕ) → (cdb data_out : List ℕ) → Result Effect Refusal
-checked_effect state initiator cdb data_out =
+unfoldable pub checked_cdb : State → (initiator : ℕ) → (cdb data_out : List ℕ)
+    → Result Operation Refusal
+checked_cdb state initiator cdb data_out =
     unless_refused (first_some (cdb_checks state initiator cdb))
-    (checked_parse state initiator (command_of cdb) data_out)
+    (checked_parse state (command_of cdb) data_out)
+
+-- Its effect. What MODE SENSE, MODE SELECT and PERSISTENT RESERVE OUT ask of the disk is checked
+-- last, against the state.
+abbrev pub checked_effect : State → (initiator : ℕ) → (cdb data_out : List ℕ) → Result Effect Refusal
+checked_effect state initiator cdb data_out =
+    checked_next (checked_cdb state initiator cdb data_out) (effect_of state initiator)
 
 -- ---- The last one
 

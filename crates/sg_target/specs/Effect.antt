@@ -1,6 +1,6 @@
 -- What commands do.
 use Rattle.std.specs.Prelude.{ℕ, List, [], Option, Some, None}
-use Rattle.sg_blocks.specs.Disk.{Contents}
+use Rattle.sg_store.specs.Disk.{Contents}
 use Rattle.sg_units.specs.Attentions.{without_oldest}
 use Rattle.sg_target.specs.State.{State}
 use Rattle.sg_target.specs.declared.extent.Extent.{Extent}

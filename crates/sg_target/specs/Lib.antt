@@ -9,6 +9,7 @@ pub mod BlockCommands
 pub mod ProvisioningCommands
 pub mod ModeCommands
 pub mod ReservationCommands
+pub mod Demands
 pub mod Semantics
 pub mod Checks
 pub mod Status
@@ -17,7 +18,6 @@ pub mod Reply
 pub mod Ranges
 pub mod Runs
 pub mod Target
-pub mod Laws
-pub mod Fencing
 -- What private contracts cite alone.
-pub mod Operation
+pub mod DataIn
+pub mod Extents

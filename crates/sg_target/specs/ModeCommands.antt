@@ -1,6 +1,6 @@
 -- The effects of MODE SENSE and MODE SELECT (SPC-4).
-use Rattle.std.specs.Prelude.{ℕ, List, [], Bool, ◌==◌, if◌then◌else◌, Option, Some, None, Result, Ok, Err}
-use Rattle.std.specs.Result.{result_map_both, result_unwrap_or}
+use Rattle.std.specs.Prelude.{ℕ, List, Bool, ◌==◌, if◌then◌else◌, Option, Some, None, Result}
+use Rattle.std.specs.Result.{result_map_both}
 use Rattle.sg_pages.specs.ModePage.{ModeState}
 use Rattle.sg_pages.specs.ModeSelect.{changed_by, mode_select}
 use Rattle.sg_pages.specs.ModeSense.{RequestFields, mode_sense}
@@ -14,7 +14,7 @@ use Rattle.sg_pages.specs.declared.mode_pages.request.PageControl.TheVariants.{D
 use Rattle.sg_units.specs.Attentions.{Pending}
 use Rattle.sg_units.specs.Raised.{raised_for_each, raised_for_others}
 use Rattle.sg_units.specs.declared.unit_attention.UnitAttention.TheVariants.{ModeParametersChanged}
-use Rattle.sg_target.specs.Effect.{Effect, no_effect, returning_up_to}
+use Rattle.sg_target.specs.Effect.{Effect, no_effect}
 use Rattle.sg_target.specs.State.{State}
 use Rattle.sg_target.specs.declared.refusal.Reason.TheVariants.{InvalidFieldInCdb}
 use Rattle.sg_target.specs.declared.refusal.Reason.TheVariants.{InvalidFieldInParameterList}
@@ -32,9 +32,9 @@ page_control_of pc =
 
 -- What a MODE SENSE requests of a disk with a number of blocks: by the CDB of ten bytes, which has
 -- LLBAA, or by that of six.
-abbrev pub sense_request : (blocks : ℕ) (ten llbaa dbd : Bool) (pc page_code subpage_code : ℕ)
+abbrev pub mode_sense_request : (blocks : ℕ) (ten llbaa dbd : Bool) (pc page_code subpage_code : ℕ)
     → RequestFields
-sense_request blocks ten llbaa dbd pc page_code subpage_code = record {
+mode_sense_request blocks ten llbaa dbd pc page_code subpage_code = record {
   ten = ten;
   llbaa = llbaa;
   dbd = dbd;
@@ -54,14 +54,6 @@ sense_refusal Subpage = Check (InvalidFieldInCdb 3)
 unfoldable pub mode_parameters : ModeState → RequestFields → Result (List ℕ) Refusal
 mode_parameters modes request =
     result_map_both (λ list. list) sense_refusal (mode_sense modes request)
-
-abbrev pub returning_if_sound : State → (allocation_length : ℕ) → Result (List ℕ) Refusal
-    → Result Effect Refusal
-returning_if_sound state n (Ok list) = Ok (returning_up_to state n list)
-returning_if_sound state n (Err refusal) = Err refusal
-
-abbrev pub sensing : State → RequestFields → (allocation_length : ℕ) → Result Effect Refusal
-sensing state request n = returning_if_sound state n (mode_parameters state.modes request)
 
 -- ---- MODE SELECT
 
@@ -83,39 +75,18 @@ attentions_after attentions initiator changed =
     if changed then raised_for_each attentions (raised_for_others initiator ModeParametersChanged)
     else attentions
 
--- The mode pages become other ones, of which a current value differs, or none.
-abbrev pub setting_modes : State → (initiator : ℕ) → ModeState → (changed : Bool) → Effect
-setting_modes state initiator modes changed = record (no_effect state) {
-  after =
-      record state {
-        modes = modes;
-        attentions = attentions_after state.attentions initiator changed;
-      };
-}
-
-abbrev pub setting_if_sound : State → (initiator : ℕ) → Result ModeState Refusal
-    → Result Effect Refusal
-setting_if_sound state initiator (Ok modes) =
-    Ok (setting_modes state initiator modes (changed_by state.modes modes).0)
-setting_if_sound state initiator (Err refusal) = Err refusal
+-- The mode pages become other ones.
+abbrev pub changing_modes : State → (initiator : ℕ) → ModeState → Effect
+changing_modes state initiator modes = let changed = (changed_by state.modes modes).0 in
+    record (no_effect state) {
+      after =
+          record state {
+            modes = modes;
+            attentions = attentions_after state.attentions initiator changed;
+          };
+    }
 
 -- A parameter list in another format than the standard's is not supported: PF, in byte 1, has to be
 -- set.
 abbrev pub unless_page_format : (pf : Bool) → Option ℕ
 unless_page_format pf = if pf then None else Some 1
-
--- ---- Cited by private contracts alone
-
--- The mode parameter list, where it is not refused.
-abbrev pub mode_parameter_bytes : ModeState → RequestFields → List ℕ
-mode_parameter_bytes modes request = result_unwrap_or (mode_parameters modes request) []
-
-abbrev pub returning_modes : State → RequestFields → (allocation_length : ℕ) → Effect
-returning_modes state request n =
-    returning_up_to state n (mode_parameter_bytes state.modes request)
-
--- What a MODE SELECT does with its parameter list.
-abbrev pub selecting : State → (initiator : ℕ) → (ten sp : Bool) → (list : List ℕ)
-    → Result Effect Refusal
-selecting state initiator ten sp list =
-    setting_if_sound state initiator (selected_modes state ten sp list)

@@ -1,5 +1,5 @@
 -- The effects of the primary commands (SPC-4).
-use Rattle.std.specs.Prelude.{ℕ, List, Bool, true, false, Option, Some, None, Result, Ok, Err}
+use Rattle.std.specs.Prelude.{ℕ, List, Bool, true, false, Option, Some, None}
 use Rattle.std.specs.Prelude.{option_map, ◌==◌, if◌then◌else◌}
 use Rattle.sg_wire.specs.SenseData.{sense_data}
 use Rattle.sg_wire.specs.declared.sense.Format.{Format}
@@ -11,11 +11,8 @@ use Rattle.sg_units.specs.Attentions.{oldest}
 use Rattle.sg_target.specs.Effect.{Effect, returning_up_to, without_attention}
 use Rattle.sg_target.specs.Refusal.{pending_sense}
 use Rattle.sg_target.specs.State.{State}
-use Rattle.sg_target.specs.declared.inquiry_page.InquiryPage.{InquiryPage}
-use Rattle.sg_target.specs.declared.inquiry_page.InquiryPage.TheVariants.{Standard, VitalProductData}
-use Rattle.sg_target.specs.declared.refusal.Reason.TheVariants.{InvalidFieldInCdb}
-use Rattle.sg_target.specs.declared.refusal.Refusal.{Refusal}
-use Rattle.sg_target.specs.declared.refusal.Refusal.TheVariants.{Check}
+use Rattle.sg_target.specs.declared.primary.InquiryPage.{InquiryPage}
+use Rattle.sg_target.specs.declared.primary.InquiryPage.TheVariants.{Standard, VitalProductData}
 
 -- REQUEST SENSE returns the oldest unit attention as sense data, in the format that DESC asks for,
 -- and clears it, whatever its allocation length.
@@ -27,11 +24,8 @@ returning_sense state initiator format n =
     let sense = sense_data format (pending_sense (oldest state.attentions initiator)) in
     record (returning_up_to state n sense) { after = without_attention state initiator }
 
-abbrev pub request_sense : State → (initiator : ℕ) → (desc : Bool) → (allocation_length : ℕ) → Effect
-request_sense state initiator desc n = returning_sense state initiator (format_of desc) n
-
 -- INQUIRY returns a page of vital product data with EVPD, and without it the standard INQUIRY data,
--- where PAGE CODE is zero. A page that the disk has not is an invalid field, PAGE CODE in byte 2.
+-- where PAGE CODE is zero.
 abbrev pub inquiry_page : (evpd : Bool) (page_code : ℕ) → Option InquiryPage
 inquiry_page true page_code = option_map VitalProductData (page_with_code page_code)
 inquiry_page false page_code = if page_code == 0 then Some Standard else None
@@ -42,10 +36,3 @@ inquiry_data identity (VitalProductData page) = page_data page identity
 
 abbrev pub returning_page : State → InquiryPage → (allocation_length : ℕ) → Effect
 returning_page state page n = returning_up_to state n (inquiry_data state.identity page)
-
-abbrev pub returning_if_there : State → Option InquiryPage → (allocation_length : ℕ) → Result Effect Refusal
-returning_if_there state (Some page) n = Ok (returning_page state page n)
-returning_if_there state None n = Err (Check (InvalidFieldInCdb 2))
-
-abbrev pub inquiry : State → (evpd : Bool) (page_code allocation_length : ℕ) → Result Effect Refusal
-inquiry state evpd page_code n = returning_if_there state (inquiry_page evpd page_code) n

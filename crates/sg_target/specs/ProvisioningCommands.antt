@@ -5,8 +5,8 @@ use Rattle.std.specs.List.{list_all, range_with_len}
 use Rattle.byteorder.specs.Endian.{big_number}
 use Rattle.sg_wire.specs.CutAnswer.{first_bytes}
 use Rattle.sg_pages.specs.ProvisioningPages.{maximum_unmap_descriptors}
-use Rattle.sg_blocks.specs.Disk.{Contents, filled, unmapped}
-use Rattle.sg_blocks.specs.LbaStatus.{covered, lba_status, status_data}
+use Rattle.sg_store.specs.Disk.{Contents, filled, unmapped}
+use Rattle.sg_store.specs.LbaStatus.{covered, lba_status, status_data}
 use Rattle.sg_target.specs.CapacityData.{block_length}
 use Rattle.sg_target.specs.Effect.{Effect, Range, no_effect, range, returning_up_to, with_contents}
 use Rattle.sg_target.specs.State.{State}
@@ -75,11 +75,6 @@ unmap_list list =
     then Err (Check (InvalidFieldInParameterList 2))
     else Ok (first_descriptors list (descriptor_count list))))
 
--- UNMAP unmaps the extents of its list.
-abbrev pub unmapping_listed : State → Result (List Extent) Refusal → Result Effect Refusal
-unmapping_listed state (Ok extents) = Ok (unmapping state extents)
-unmapping_listed state (Err refusal) = Err refusal
-
 -- ---- WRITE SAME
 
 -- Each block of an extent is replaced by one block.
@@ -97,10 +92,6 @@ block_out data_out = first_bytes block_length data_out
 -- then.
 unfoldable pub unmaps : (unmap : Bool) (block : List ℕ) → Bool
 unmaps unmap block = unmap && list_all (λ byte. byte == 0) block
-
-abbrev pub writing_same : State → (unmap : Bool) → Extent → (data_out : List ℕ) → Effect
-writing_same state unmap extent data_out = let block = block_out data_out in
-    if unmaps unmap block then unmapping state (extent ∷ []) else filling state extent block
 
 -- ---- GET LBA STATUS
 

@@ -1,7 +1,7 @@
 -- The ranges of blocks that a command goes over, and what that costs.
 use Rattle.std.specs.Prelude.{◌≡◌, ℕ, ◌+◌, ◌*◌, ◌<◌, ◌≤◌, List, [], ◌∷◌, length, Result, Ok, Err}
-use Rattle.sg_blocks.specs.Disk.{Contents}
-use Rattle.sg_blocks.specs.Meter.{Meter}
+use Rattle.sg_store.specs.Disk.{Contents}
+use Rattle.sg_store.specs.Meter.{Meter}
 use Rattle.sg_target.specs.Checks.{checked_effect}
 use Rattle.sg_target.specs.Effect.{Effect, Range}
 use Rattle.sg_target.specs.State.{State}

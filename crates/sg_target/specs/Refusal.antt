@@ -1,5 +1,5 @@
 -- Why a command is refused, and the sense data that reports it.
-use Rattle.std.specs.Prelude.{ℕ, Option, Some, None, true, false}
+use Rattle.std.specs.Prelude.{ℕ, List, [], ◌∷◌, Option, Some, None, Result, Ok, Err, true, false}
 use Rattle.sg_wire.specs.SenseData.{SenseFields}
 use Rattle.sg_wire.specs.declared.command.CdbFault.{CdbFault}
 use Rattle.sg_wire.specs.declared.command.CdbFault.TheVariants.{Empty, Opcode, Short, Field}
@@ -76,3 +76,31 @@ reason_for (Field byte) = InvalidFieldInCdb byte
 
 abbrev pub refusal_for : CdbFault → Refusal
 refusal_for fault = Check (reason_for fault)
+
+-- ---- Checks in order
+
+-- The first check that refuses decides.
+abbrev pub first_some : {A : Type 0} → List (Option A) → Option A
+first_some [] = None
+first_some (Some x ∷ rest) = Some x
+first_some (None ∷ rest) = first_some rest
+
+abbrev pub unless_refused : {A : Type 0} → Option Refusal → Result A Refusal → Result A Refusal
+unless_refused None result = result
+unless_refused (Some refusal) result = Err refusal
+
+-- What becomes of a value that was found sound, and the refusal where it was not.
+abbrev pub when_sound : {A B : Type 0} → Result A Refusal → (A → B) → Result B Refusal
+when_sound (Ok value) becomes = Ok (becomes value)
+when_sound (Err refusal) becomes = Err refusal
+
+-- The same where what comes next can refuse it too.
+abbrev pub checked_next : {A B : Type 0} → Result A Refusal → (A → Result B Refusal)
+    → Result B Refusal
+checked_next (Ok value) next = next value
+checked_next (Err refusal) next = Err refusal
+
+-- What the disk does not support is an invalid field, at its byte in the CDB.
+abbrev pub if_supported : {A : Type 0} → (byte : ℕ) → Option A → Result A Refusal
+if_supported byte (Some value) = Ok value
+if_supported byte None = Err (Check (InvalidFieldInCdb byte))

@@ -8,13 +8,14 @@ use Rattle.sg_wire.specs.declared.command.in_action.InAction.TheVariants.{Report
 use Rattle.sg_wire.specs.declared.command.in_action.InAction.TheVariants.{ReadFullStatus}
 use Rattle.sg_wire.specs.declared.command.out_action.OutAction.{OutAction}
 use Rattle.sg_wire.specs.declared.command.out_action.OutAction.TheVariants.{Reserve, Release}
-use Rattle.sg_units.specs.OutList.{list_length, out_list}
+use Rattle.sg_wire.specs.OutList.{list_length, out_list}
 use Rattle.sg_units.specs.Raised.{raised_for_each}
 use Rattle.sg_units.specs.ReservationType.{type_of}
 use Rattle.sg_units.specs.ReserveIn.{capabilities_data, keys_data, reservation_data}
 use Rattle.sg_units.specs.ReserveOut.{outcome, raised_by, state_after}
 use Rattle.sg_units.specs.declared.out_fault.OutFault.{OutFault}
 use Rattle.sg_units.specs.declared.out_fault.OutFault.TheVariants as out_fault
+use Rattle.sg_wire.specs.declared.out_list.OutList.{OutList}
 use Rattle.sg_units.specs.declared.reservation_change.ReservationChange.{ReservationChange}
 use Rattle.sg_units.specs.declared.reservation_state.ReservationState.{ReservationState}
 use Rattle.sg_target.specs.Effect.{Effect, no_effect, returning_up_to}
@@ -47,12 +48,6 @@ reserve_in_data reservations Capabilities = capabilities_data
 abbrev pub reporting : State → ReserveInData → (allocation_length : ℕ) → Effect
 reporting state kind n = returning_up_to state n (reserve_in_data state.reservations kind)
 
--- SERVICE ACTION is in byte 1.
-abbrev pub reporting_if_supported : State → Option ReserveInData → (allocation_length : ℕ)
-    → Result Effect Refusal
-reporting_if_supported state (Some kind) n = Ok (reporting state kind n)
-reporting_if_supported state None n = Err (Check (InvalidFieldInCdb 1))
-
 -- ---- PERSISTENT RESERVE OUT
 
 -- RESERVE and RELEASE need a valid scope and type, in byte 2. PREEMPT needs one where it takes the
@@ -69,20 +64,22 @@ unless_type action scope_type =
 -- The status or the sense data of each fault.
 abbrev pub out_refusal : OutFault → Refusal
 out_refusal out_fault.Conflict = Conflict
-out_refusal out_fault.InsufficientRegistrationResources = Check InsufficientRegistrationResources
-out_refusal out_fault.InvalidRelease = Check InvalidRelease
-out_refusal (out_fault.ListField byte) = Check (InvalidFieldInParameterList byte)
-out_refusal out_fault.InvalidScopeOrType = Check (InvalidFieldInCdb 2)
+out_refusal out_fault.NoRoom = Check InsufficientRegistrationResources
+out_refusal out_fault.BadRelease = Check InvalidRelease
+out_refusal (out_fault.Field byte) = Check (InvalidFieldInParameterList byte)
+out_refusal out_fault.BadType = Check (InvalidFieldInCdb 2)
 
--- What a parameter list asks for, or the refusal. A list of another length than that of its fields
--- is an error.
+-- The fields of a parameter list. A list of another length than theirs is an error.
+abbrev pub fields_out : (list : List ℕ) → Result OutList Refusal
+fields_out list =
+    if length list == list_length then Ok (out_list list) else Err (Check ParameterListLengthError)
+
+-- What they ask for, or the refusal.
 unfoldable pub reservation_change : State → (initiator : ℕ) → OutAction → (scope_type : ℕ)
-    → (list : List ℕ) → Result ReservationChange Refusal
+    → OutList → Result ReservationChange Refusal
 reservation_change state initiator action scope_type list =
-    if length list == list_length
-    then result_map_both (λ change. change) out_refusal
-    (outcome state.reservations initiator action scope_type (out_list list))
-    else Err (Check ParameterListLengthError)
+    result_map_both (λ change. change) out_refusal
+    (outcome state.reservations initiator action scope_type list)
 
 -- Registrations and reservation change, and conditions are established for other initiators.
 abbrev pub changing_reservations : State → (initiator : ℕ) → ReservationChange → Effect
@@ -95,16 +92,3 @@ changing_reservations state initiator change =
             attentions = raised_for_each state.attentions raised;
           };
     }
-
-abbrev pub changing_if_sound : State → (initiator : ℕ) → Result ReservationChange Refusal
-    → Result Effect Refusal
-changing_if_sound state initiator (Ok change) = Ok (changing_reservations state initiator change)
-changing_if_sound state initiator (Err refusal) = Err refusal
-
--- ---- Cited by private contracts alone
-
--- What a PERSISTENT RESERVE OUT does with its parameter list.
-abbrev pub reserving_out : State → (initiator : ℕ) → OutAction → (scope_type : ℕ) → (list : List ℕ)
-    → Result Effect Refusal
-reserving_out state initiator action scope_type list =
-    changing_if_sound state initiator (reservation_change state initiator action scope_type list)

@@ -1,6 +1,6 @@
 -- What a list of commands does: one step after another.
 use Rattle.std.specs.Prelude.{◌≡◌, ◌<◌, ℕ, ◌+◌, List, [], ◌∷◌, ◌++◌, length, map, take}
-use Rattle.sg_blocks.specs.Meter.{Meter}
+use Rattle.sg_store.specs.Meter.{Meter}
 use Rattle.sg_target.specs.Effect.{Range}
 use Rattle.sg_target.specs.Ranges.{CostBounds, IsCharged, ranges}
 use Rattle.sg_target.specs.State.{State}

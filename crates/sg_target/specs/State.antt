@@ -1,7 +1,7 @@
 -- The state of the disk between two commands.
 use Rattle.std.specs.Prelude.{◌≤◌}
 use Rattle.std.specs.FinMap.{len}
-use Rattle.sg_blocks.specs.Disk.{Disk, empty_disk}
+use Rattle.sg_store.specs.Disk.{Disk, empty_disk}
 use Rattle.sg_pages.specs.Identity.{IdentityFields}
 use Rattle.sg_pages.specs.ModePage.{ModeState, initial_state}
 use Rattle.sg_units.specs.Attentions.{ArePending, Pending, power_on_pending}

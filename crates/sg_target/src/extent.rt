@@ -1,18 +1,21 @@
-// Logical blocks that lie together.
-use sg_blocks::BLOCK_LENGTH;
+// Logical blocks that lie together, and whether the disk has them.
+use crate::refusal::{Reason, Refusal};
+use sg_store::{BLOCK_LENGTH, MAX_CAPACITY};
 use sg_wire::ShortExtent;
 
 /// Logical blocks from an address on.
 #[derive(Clone, Copy, Default)]
-pub(crate) struct Extent {
+pub struct Extent {
     /// The first block's address.
-    pub(crate) lba: u64,
+    pub lba: u64,
     /// The number of blocks.
-    pub(crate) count: u32,
+    pub count: u32,
 }
 
-ghost use Rattle.std.specs.Prelude.{◌≡◌, ◌≤◌};
+ghost use Rattle.std.specs.Prelude.{◌≡◌, ◌≤◌, ◌+◌, IfNone};
 ghost use Rattle.sg_target.specs.BlockCommands.{bytes_of};
+ghost use Rattle.sg_target.specs.Checks.{out_of_range, past_capacity};
+ghost use Rattle.sg_target.specs.Extents.{AreOnDisk};
 
 impl Extent {
     /// The blocks that a command of ten bytes names.
@@ -31,6 +34,36 @@ impl Extent {
     {
         BLOCK_LENGTH as u64 * u64::from(self.count)
     }
+
+    /// The refusal of blocks of which some is past the last one of a disk.
+    pub(crate) fn past_capacity(self, capacity: u64) -> Option<Refusal>
+        requires { capacity ≤ MAX_CAPACITY }
+        ensures value { result ≡ past_capacity capacity self }
+        ensures on_disk { IfNone result (self.lba + self.count ≤ capacity) }
+    {
+        let count = u64::from(self.count);
+        if count <= capacity && self.lba <= capacity - count {
+            return None;
+        }
+        Some(Refusal::Check(Reason::LbaOutOfRange {
+            lba: self.lba.max(capacity),
+        }))
+    }
+}
+
+/// The refusal of the first of some extents of which some block is past the last one of a disk.
+#[tactic(auto, unfolding(crate::specs::Checks::out_of_range))]
+pub(crate) fn first_past_capacity(capacity: u64, extents: &[Extent]) -> Option<Refusal>
+    requires { capacity ≤ MAX_CAPACITY }
+    ensures value { result ≡ out_of_range capacity extents.now }
+    ensures on_disk { IfNone result (AreOnDisk capacity extents.now) }
+{
+    for extent in extents {
+        if let Some(refusal) = extent.past_capacity(capacity) {
+            return Some(refusal);
+        }
+    }
+    None
 }
 
 impl From<ShortExtent> for Extent {

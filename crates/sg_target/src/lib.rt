@@ -2,27 +2,34 @@
 //! other (SPC-4, 4.2; SBC-3, 4).
 #![tactic(auto)]
 
+mod block;
 mod call;
 mod checks;
 mod config;
 mod data_in;
-mod execution;
+mod data_out;
 mod extent;
 mod extent_list;
-mod inquiry_page;
-pub mod laws;
 mod mode;
 mod operation;
-mod parameter_list;
+mod primary;
+mod provisioning;
 mod refusal;
 mod reply;
 mod reservation;
 mod run;
 mod target;
-mod unmap;
 
+pub use block::{BlocksIn, BlocksOut};
 pub use call::Call;
 pub use config::{Config, ConfigFault};
+pub use extent::Extent;
+pub use mode::{ModeList, RequestedModes};
+pub use operation::Operation;
+pub use primary::InquiryPage;
+pub use provisioning::{BlockOut, ListedExtents};
+pub use refusal::{Reason, Refusal};
 pub use reply::{Reply, SenseBytes, Status};
+pub use reservation::ReserveInData;
 pub use run::Sink;
 pub use target::{BUFFER_LENGTH, Target};

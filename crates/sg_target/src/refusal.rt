@@ -4,7 +4,7 @@ use sg_wire::{CdbFault, Pointer, Sense};
 
 /// How a command is refused.
 #[derive(Clone, Copy)]
-pub(crate) enum Refusal {
+pub enum Refusal {
     /// RESERVATION CONFLICT, a status without sense data.
     Conflict,
     /// CHECK CONDITION.
@@ -13,7 +13,7 @@ pub(crate) enum Refusal {
 
 /// Why a command ends with CHECK CONDITION (SPC-4, sense keys and additional sense codes).
 #[derive(Clone, Copy)]
-pub(crate) enum Reason {
+pub enum Reason {
     /// INVALID FIELD IN CDB, at this byte.
     InvalidFieldInCdb { byte: u16 },
     /// INVALID COMMAND OPERATION CODE.

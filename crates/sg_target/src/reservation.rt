@@ -1,32 +1,35 @@
-// PERSISTENT RESERVE IN and PERSISTENT RESERVE OUT: what they ask for, and their work.
-ghost use Rattle.std.specs.Prelude.{◌≡◌, Option, Some, None};
-ghost use Rattle.std.specs.Prelude.{IfOk, IfErr, IfSome, IsSome};
+// PERSISTENT RESERVE IN and PERSISTENT RESERVE OUT (SPC-4, 5.13).
+ghost use Rattle.std.specs.Prelude.{◌≡◌, [], Some, None};
 ghost use Rattle.sg_wire.specs.Cut.{Puts};
-ghost use Rattle.sg_wire.specs.CutAnswer.{first_bytes};
-ghost use Rattle.sg_target.specs.Operation.{reserve_out_fault};
+ghost use Rattle.sg_target.specs.Checks.{requested};
+ghost use Rattle.sg_target.specs.Demands.{reserve_in, reserve_out};
 ghost use Rattle.sg_target.specs.Ranges.{IsCharged, cost_bounds, ranges_in};
 ghost use Rattle.sg_target.specs.Reply.{Carries};
 ghost use Rattle.sg_target.specs.ReservationCommands.{always_needs_type, in_data_of, out_refusal};
-ghost use Rattle.sg_target.specs.ReservationCommands.{reserve_in_data, reserving_out};
+ghost use Rattle.sg_target.specs.ReservationCommands.{reserve_in_data};
+ghost use Rattle.sg_target.specs.Semantics.{effect_of};
 ghost use Rattle.sg_target.specs.State.{IsWithinLimits};
-ghost use Rattle.sg_target.specs.Step.{outcome};
-ghost use Rattle.sg_target.specs.declared.refusal.Refusal.{Refusal};
+ghost use Rattle.sg_target.specs.Step.{step_by};
 
-use crate::checks::needed_data_out;
+use crate::data_out::needed_data_out;
 use crate::operation::Operation;
-use crate::parameter_list::ParameterList;
 use crate::refusal::{Reason, Refusal};
 use crate::reply::Reply;
 use crate::target::Target;
-use sg_blocks::{Counts, Store};
+use sg_store::{Counts, Store};
 use sg_units::{OutFault, OutList, ReservationType, Reservations};
 use sg_wire::{Cut, InAction, Initiator, OutAction};
+
+// Where SERVICE ACTION is in the CDBs, and SCOPE and TYPE in that of PERSISTENT RESERVE OUT.
+const SERVICE_ACTION_BYTE: u16 = 1;
+
+const SCOPE_TYPE_BYTE: u16 = 2;
 
 // ---- PERSISTENT RESERVE IN
 
 /// What PERSISTENT RESERVE IN returns.
 #[derive(Clone, Copy)]
-pub(crate) enum ReserveInData {
+pub enum ReserveInData {
     /// The reservation keys of all registrants.
     Keys,
     /// The reservation that is held, if any.
@@ -60,23 +63,20 @@ impl ReserveInData {
     }
 }
 
-// What a PERSISTENT RESERVE IN asks for. SERVICE ACTION is in byte 1.
-pub(crate) fn persistent_reserve_in(
+pub(crate) fn check_reserve_in(
     action: InAction,
     allocation_length: u16,
 ) -> Result<Operation<'static>, Refusal>
-    ensures refused { IfErr result (λ refusal. (in_data_of action ≡ None)
-        × (refusal ≡ Refusal.Check (Reason.InvalidFieldInCdb 1))) }
-    ensures passed { IfOk result (λ operation. IfSome (in_data_of action) (λ kind.
-        operation ≡ Operation.PersistentReserveIn kind allocation_length)) }
-    ensures supported { IfOk result (λ operation. IsSome (in_data_of action)) }
+    ensures { result ≡ requested (reserve_in action allocation_length) [] }
 {
     match ReserveInData::of(action) {
-        Some(kind) => Ok(Operation::PersistentReserveIn {
+        Some(kind) => Ok(Operation::ReturnReservations {
             kind,
             allocation_length,
         }),
-        None => Err(Refusal::Check(Reason::InvalidFieldInCdb { byte: 1 })),
+        None => Err(Refusal::Check(Reason::InvalidFieldInCdb {
+            byte: SERVICE_ACTION_BYTE,
+        })),
     }
 }
 
@@ -90,14 +90,14 @@ impl From<OutFault> for Refusal {
     fn from(fault: OutFault) -> Refusal {
         match fault {
             OutFault::Conflict => Refusal::Conflict,
-            OutFault::InsufficientRegistrationResources => {
-                Refusal::Check(Reason::InsufficientRegistrationResources)
-            }
-            OutFault::InvalidRelease => Refusal::Check(Reason::InvalidRelease),
-            OutFault::ListField(byte) => Refusal::Check(Reason::InvalidFieldInParameterList {
+            OutFault::NoRoom => { Refusal::Check(Reason::InsufficientRegistrationResources) }
+            OutFault::BadRelease => Refusal::Check(Reason::InvalidRelease),
+            OutFault::Field(byte) => Refusal::Check(Reason::InvalidFieldInParameterList {
                 byte: u16::from(byte),
             }),
-            OutFault::InvalidScopeOrType => Refusal::Check(Reason::InvalidFieldInCdb { byte: 2 }),
+            OutFault::BadType => Refusal::Check(Reason::InvalidFieldInCdb {
+                byte: SCOPE_TYPE_BYTE,
+            }),
         }
     }
 }
@@ -109,65 +109,57 @@ fn always_needs_type(action: OutAction) -> bool
     matches!(action, OutAction::Reserve | OutAction::Release)
 }
 
-// What a PERSISTENT RESERVE OUT asks for. The scope and type are byte 2.
-#[tactic(auto, unfolding(crate::specs::Checks::first_fault, crate::specs::ReservationCommands::unless_type))]
-pub(crate) fn persistent_reserve_out(
+#[tactic(auto, unfolding(crate::specs::ReservationCommands::unless_type))]
+pub(crate) fn check_reserve_out(
     action: OutAction,
     scope_type: u8,
     list_length: u32,
     data_out: &[u8],
-) -> Result<Operation<'_>, Refusal>
-    ensures refused { IfErr result (λ refusal. (list : Option Refusal) →
-        reserve_out_fault action scope_type list_length data_out.now list ≡ Some refusal) }
-    ensures passed { IfOk result (λ _. (list : Option Refusal) →
-        reserve_out_fault action scope_type list_length data_out.now list ≡ list) }
-    ensures operation { IfOk result (λ operation. operation
-        ≡ Operation.ReserveOut action scope_type (first_bytes list_length data_out.now)) }
+) -> Result<Operation<'static>, Refusal>
+    ensures { result
+        ≡ requested (reserve_out action scope_type list_length data_out.now) data_out.now }
 {
     if always_needs_type(action) && ReservationType::with_scope_and_type(scope_type).is_none() {
-        return Err(Refusal::Check(Reason::InvalidFieldInCdb { byte: 2 }));
+        return Err(Refusal::Check(Reason::InvalidFieldInCdb {
+            byte: SCOPE_TYPE_BYTE,
+        }));
     }
-    let bytes = needed_data_out(data_out, list_length as usize)?;
-    Ok(Operation::ReserveOut {
+    let list = needed_data_out(data_out, list_length as usize)?;
+    if list.len() != OutList::LENGTH {
+        return Err(Refusal::Check(Reason::ParameterListLengthError));
+    }
+    Ok(Operation::ChangeReservations {
         action,
         scope_type,
-        list: ParameterList { bytes },
+        list: OutList::read(list),
     })
 }
 
 impl<S: Store> Target<S> {
-    // PERSISTENT RESERVE OUT: registrations and reservation change, unless something is wrong with the
-    // parameter list. Other initiators get unit attentions. Room for the change would else be made for
-    // every command.
+    /// Registrations and reservation change, unless something is wrong with the parameter list. Other
+    /// initiators get unit attentions. Room for the change would else be made for every command.
     #[inline(never)]
     #[tactic(auto, using(crate::proofs::StepLemmas::has_room), unfolding(crate::specs::ReservationCommands::reservation_change))]
-    pub(crate) fn reserve_out(
+    pub(crate) fn change_reservations(
         &mut self,
         initiator: Initiator,
         action: OutAction,
         scope_type: u8,
-        list: &[u8],
+        list: &OutList,
         buf: &[u8],
     ) -> Reply
         requires limits { IsWithinLimits self.old.state }
-        ensures reply { let done = outcome self.old.state initiator
-            (reserving_out self.old.state initiator action scope_type list.now) in
+        ensures reply { let done = step_by self.old.state initiator
+            (Operation.ChangeReservations action scope_type list.now) in
             Carries done.answer result buf.now buf.now }
-        ensures state { self.new.state ≡ (outcome self.old.state initiator
-            (reserving_out self.old.state initiator action scope_type list.now)).state }
+        ensures state { self.new.state ≡ (step_by self.old.state initiator
+            (Operation.ChangeReservations action scope_type list.now)).state }
         ensures charge { IsCharged (cost_bounds S.price S.least) self.old.state.disk.pool
-            (ranges_in (reserving_out self.old.state initiator action scope_type list.now))
+            (ranges_in (effect_of self.old.state initiator
+            (Operation.ChangeReservations action scope_type list.now)))
             self.old.meter self.new.meter result }
     {
-        if list.len() != OutList::LENGTH {
-            let refusal = Refusal::Check(Reason::ParameterListLengthError);
-            return self.refuse(initiator, refusal, Counts::default());
-        }
-        let list = OutList::read(list);
-        match self
-            .reservations
-            .persistent_reserve_out(initiator, action, scope_type, &list)
-        {
+        match self.reservations.out(initiator, action, scope_type, list) {
             Ok(raised) => {
                 self.attentions.raise_for_each(&raised);
                 Reply::without_blocks(0)

@@ -7,7 +7,7 @@ ghost use Rattle.sg_target.specs.State.{IsWithinLimits};
 use crate::call::Call;
 use crate::reply::Reply;
 use crate::target::{BUFFER_LENGTH, Target};
-use sg_blocks::Store;
+use sg_store::Store;
 
 /// Takes replies, one after another.
 pub trait Sink {

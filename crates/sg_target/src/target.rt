@@ -2,8 +2,8 @@
 use crate::config::Config;
 use crate::refusal::{Reason, Refusal};
 use crate::reply::{Reply, format_of};
-use sg_blocks::{Counts, Store};
 use sg_pages::ModePages;
+use sg_store::{Counts, Store};
 use sg_units::{Attentions, Reservations};
 use sg_wire::{Format, Initiator};
 use std::alloc::{AllocError, Global};
@@ -28,7 +28,7 @@ impl<S: Store> Model for Target<S> {
     ghost use Rattle.sg_units.specs.Attentions.{ArePending};
     ghost use Rattle.sg_units.specs.Reservations.{IsConsistent};
     ghost use Rattle.std.specs.FinMap.{len};
-    ghost use Rattle.sg_blocks.specs.declared.store.TheConstants.{MAX_POOL};
+    ghost use Rattle.sg_store.specs.declared.store.TheConstants.{MAX_POOL};
     ghost use Rattle.std.specs.Coded.{codes};
     ghost use Rattle.sg_target.specs.Target.{TargetFields, contents_code};
 
@@ -55,10 +55,9 @@ impl<S: Store> Model for Target<S> {
 }
 
 ghost use Rattle.std.specs.Prelude.{◌≡◌, ◌≤◌, length, IfOk};
-ghost use Rattle.sg_blocks.specs.Meter.{new_meter};
-ghost use Rattle.sg_target.specs.Operation.{refused_reply};
+ghost use Rattle.sg_store.specs.Meter.{new_meter};
+ghost use Rattle.sg_target.specs.Reply.{Carries, refused_reply};
 ghost use Rattle.sg_target.specs.Ranges.{IsCharged, cost_bounds, ranges, visit_bound};
-ghost use Rattle.sg_target.specs.Reply.{Carries};
 ghost use Rattle.sg_target.specs.State.{IsWithinLimits, powered_on};
 ghost use Rattle.sg_target.specs.Step.{after_refusal, sense_format, step};
 
@@ -111,7 +110,7 @@ impl<S: Store> Target<S> {
             (ranges self.old.state initiator cdb.now data_out.now) self.old.meter self.new.meter result }
     {
         match self.check_command(initiator, cdb, data_out) {
-            Ok(operation) => self.execute_checked(initiator, operation, data_out, buf),
+            Ok(operation) => self.execute_checked(initiator, operation, buf),
             Err(refusal) => self.refuse(initiator, refusal, Counts::default()),
         }
     }

@@ -1,10 +1,9 @@
 -- The parameter lists that tools send.
-use Rattle.std.specs.Prelude.{ℕ, ◌+◌, ◌*◌, List, [], ◌∷◌, ◌++◌, length, replicate}
-use Rattle.std.specs.Prelude.{if◌then◌else◌}
+use Rattle.std.specs.Prelude.{ℕ, ◌+◌, ◌*◌, List, [], ◌++◌, length, replicate}
 use Rattle.std.specs.List.{flat_map}
 use Rattle.byteorder.specs.Endian.{big_bytes}
+use Rattle.sg_wire.specs.OutList.{out_list_bytes}
 use Rattle.sg_tools.specs.declared.extents.Extent.{Extent}
-use Rattle.sg_tools.specs.declared.parameters.ReserveOutParameters.{ReserveOutParameters}
 use Rattle.sg_tools.specs.declared.parameters.Parameters.{Parameters}
 use Rattle.sg_tools.specs.declared.parameters.Parameters.TheVariants as parameters
 
@@ -27,24 +26,12 @@ unmap_list extents = unmap_header (length extents) ++ flat_map unmap_descriptor 
 abbrev pub unmap_list_length : (descriptors : ℕ) → ℕ
 unmap_list_length descriptors = 16 * descriptors + 8
 
--- ---- PERSISTENT RESERVE OUT (SPC-4)
-
--- RESERVATION KEY in bytes 0 to 7, SERVICE ACTION RESERVATION KEY in bytes 8 to 15, and in byte 20
--- APTPL, bit 0. SPEC_I_PT, ALL_TG_PT and all else are zero.
-unfoldable pub reserve_out_list : ReserveOutParameters → List ℕ
-reserve_out_list parameters =
-    (big_bytes 8 parameters.reservation_key ++ big_bytes 8 parameters.service_action_key)
-    ++ 0 ∷ 0 ∷ 0 ∷ 0 ∷ (if parameters.aptpl then 1 else 0) ∷ 0 ∷ 0 ∷ 0 ∷ []
-
-abbrev pub reserve_out_list_length : ℕ
-reserve_out_list_length = 24
-
 -- ---- Any command: the data-out
 
 abbrev pub parameter_list : Parameters → List ℕ
 parameter_list parameters.Nothing = []
 parameter_list (parameters.Unmap extents) = unmap_list extents
-parameter_list (parameters.ReserveOut list) = reserve_out_list list
+parameter_list (parameters.ReserveOut list) = out_list_bytes list
 
 -- The length of the longest, of UNMAP with 64 descriptors.
 abbrev pub max_data_out : ℕ

@@ -2,16 +2,17 @@
 -- docs/DECISIONS.md). Of two faults the first in this order is returned: `Usage` of clap, or of a list
 -- that is not given; `Exclusive`; `Number`; and then any other `Usage`.
 use Rattle.std.specs.Prelude.{ℕ, ◌^◌, ◌-◌, List, [], ◌∷◌, length, codes, filter, map, Option, Some}
-use Rattle.std.specs.Prelude.{None, is_some, Result, Ok, Err, Bool, true, ◌==◌, ◌&&◌, ◌||◌}
+use Rattle.std.specs.Prelude.{None, is_some, Result, Ok, Err, Bool, true, false, ◌==◌, ◌&&◌, ◌||◌}
 use Rattle.std.specs.Prelude.{nat_le, if◌then◌else◌}
 use Rattle.clap.specs.Words.{Row, Text}
 use Rattle.sg_tools.specs.Options.{command_line}
 use Rattle.sg_tools.specs.GivenOptions.{is_set, given_options, text_of}
 use Rattle.sg_tools.specs.OptionTexts.{reservation_key, reservation_type, numbers_up_to, mode_page}
 use Rattle.sg_tools.specs.OptionTexts.{number_or, value_or, vpd_page}
-use Rattle.sg_tools.specs.ParameterLists.{unmap_list_length, reserve_out_list_length}
+use Rattle.sg_tools.specs.ParameterLists.{unmap_list_length}
 use Rattle.sg_tools.specs.declared.extents.Extent.{Extent}
-use Rattle.sg_tools.specs.declared.parameters.ReserveOutParameters.{ReserveOutParameters}
+use Rattle.sg_wire.specs.OutList.{list_length}
+use Rattle.sg_wire.specs.declared.out_list.OutList.{OutList}
 use Rattle.sg_tools.specs.declared.parameters.Parameters.{Parameters}
 use Rattle.sg_tools.specs.declared.parameters.Parameters.TheVariants as parameters
 use Rattle.sg_tools.specs.declared.service_action.ServiceAction.{ServiceAction}
@@ -219,14 +220,13 @@ abbrev pub reserve_in : InAction → Request
 reserve_in action = asks (command.PersistentReserveIn action 8192) (reserve_in_show action)
 
 -- The SCOPE is that of a logical unit, 0h.
-abbrev pub reserve_out : OutAction → (type : ℕ) → ReserveOutParameters → Request
+abbrev pub reserve_out : OutAction → (type : ℕ) → OutList → Request
 reserve_out action type list =
-    sends (command.PersistentReserveOut action type reserve_out_list_length)
+    sends (command.PersistentReserveOut action type list_length)
     (parameters.ReserveOut list) show.Nothing
 
 -- READ KEYS where no service action is given, and --out neither.
-abbrev pub reserve : (as_out : Bool) → List ServiceAction → (type : ℕ) → ReserveOutParameters
-    → Request
+abbrev pub reserve : (as_out : Bool) → List ServiceAction → (type : ℕ) → OutList → Request
 reserve as_out [] type list = if as_out then Err Usage else reserve_in ReadKeys
 reserve as_out (In action ∷ others) type list = reserve_in action
 reserve as_out (Out action ∷ others) type list = reserve_out action type list
@@ -245,6 +245,8 @@ sg_persist rows =
     reserve as_out actions type (record {
       reservation_key = key;
       service_action_key = action_key;
+      spec_i_pt = false;
+      all_tg_pt = false;
       aptpl = is_set (codes "param-aptpl") rows;
     })))))
 

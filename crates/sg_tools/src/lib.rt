@@ -27,7 +27,7 @@ pub use extents::{Extent, Extents};
 pub use given_options::GivenOptions;
 pub use number::{read_number, read_number_up_to};
 pub use option_text::number_or;
-pub use parameters::{MAX_DATA_OUT, Parameters, ReserveOutParameters};
+pub use parameters::{MAX_DATA_OUT, Parameters};
 pub use reply_status::{exit_status, status_of};
 pub use show::Show;
 pub use tool::{Plan, Tool};

@@ -1,19 +1,16 @@
 // The parameter lists that tools send.
-ghost use Rattle.std.specs.Prelude.{◌≡◌, ◌≤◌, ◌+◌, ◌++◌, ◌∷◌, [], length, take, if◌then◌else◌};
-ghost use Rattle.byteorder.specs.Endian.{big_bytes};
-ghost use Rattle.sg_tools.specs.ParameterLists.{max_data_out, parameter_list, reserve_out_list};
-ghost use Rattle.sg_tools.specs.ParameterLists.{reserve_out_list_length, unmap_descriptor};
+ghost use Rattle.std.specs.Prelude.{◌≡◌, ◌≤◌, ◌+◌, ◌++◌, length, take};
+ghost use Rattle.sg_tools.specs.ParameterLists.{max_data_out, parameter_list, unmap_descriptor};
 ghost use Rattle.sg_tools.specs.ParameterLists.{unmap_header, unmap_list, unmap_list_length};
+ghost use Rattle.sg_wire.specs.OutList.{list_length, out_list_bytes};
 ghost use Rattle.sg_tools.specs.Requests.{max_unmap_descriptors};
 
 use crate::extents::{Extent, Extents};
 use byteorder::{BigEndian, ByteOrder};
+use sg_wire::OutList;
 
 /// The length of the longest data-out of a tool, in bytes.
 pub const MAX_DATA_OUT: usize = 1032;
-
-// Of PERSISTENT RESERVE OUT, in bytes.
-pub(crate) const RESERVE_OUT_LIST_LENGTH: usize = 24;
 
 /// The parameter list that a tool sends.
 #[derive(Drop)]
@@ -23,18 +20,7 @@ pub enum Parameters {
     /// That of UNMAP.
     Unmap(Extents),
     /// That of PERSISTENT RESERVE OUT.
-    ReserveOut(ReserveOutParameters),
-}
-
-/// What the parameter list of PERSISTENT RESERVE OUT contains (SPC-4).
-#[derive(Clone, Copy)]
-pub struct ReserveOutParameters {
-    /// RESERVATION KEY.
-    pub reservation_key: u64,
-    /// SERVICE ACTION RESERVATION KEY.
-    pub service_action_key: u64,
-    /// APTPL: registrations and reservation are to be kept through a power loss.
-    pub aptpl: bool,
+    ReserveOut(OutList),
 }
 
 impl Parameters {
@@ -47,7 +33,7 @@ impl Parameters {
         match self {
             Parameters::Nothing => 0,
             Parameters::Unmap(extents) => write_unmap_list(extents.as_slice(), data_out),
-            Parameters::ReserveOut(parameters) => write_reserve_out_list(parameters, data_out),
+            Parameters::ReserveOut(list) => write_reserve_out_list(list, data_out),
         }
     }
 }
@@ -92,35 +78,13 @@ fn unmap_descriptor(extent: &Extent) -> [u8; 16]
     descriptor
 }
 
-fn write_reserve_out_list(parameters: &ReserveOutParameters, data_out: &mut [u8]) -> usize
-    requires { reserve_out_list_length ≤ length data_out.old }
-    ensures list { take result data_out.new ≡ reserve_out_list parameters.now }
-    ensures length { result ≡ reserve_out_list_length }
+fn write_reserve_out_list(list: &OutList, data_out: &mut [u8]) -> usize
+    requires { list_length ≤ length data_out.old }
+    ensures list { take result data_out.new ≡ out_list_bytes list.now }
+    ensures length { result ≡ list_length }
 {
-    let keys = both_keys(parameters.reservation_key, parameters.service_action_key);
-    write_at(0, &keys, data_out);
-    write_at(16, &flag_bytes(parameters.aptpl), data_out);
-    RESERVE_OUT_LIST_LENGTH
-}
-
-fn both_keys(reservation_key: u64, service_action_key: u64) -> [u8; 16]
-    ensures { result ≡ big_bytes 8 reservation_key ++ big_bytes 8 service_action_key }
-{
-    let mut keys = [0; 16];
-    BigEndian::write_u64(&mut keys, reservation_key);
-    BigEndian::write_u64(&mut keys[8..], service_action_key);
-    keys
-}
-
-// Bytes 16 to 23: byte 20 has the flags.
-fn flag_bytes(aptpl: bool) -> [u8; 8]
-    ensures { result ≡ 0 ∷ 0 ∷ 0 ∷ 0 ∷ (if aptpl then 1 else 0) ∷ 0 ∷ 0 ∷ 0 ∷ [] }
-{
-    if aptpl {
-        [0, 0, 0, 0, 0x01, 0, 0, 0]
-    } else {
-        [0; 8]
-    }
+    write_at(0, &list.write(), data_out);
+    OutList::LENGTH
 }
 
 // Writes bytes from an index on.

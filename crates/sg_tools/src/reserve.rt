@@ -6,12 +6,12 @@ ghost use Rattle.sg_tools.specs.Requests.{reserve_out, sg_persist};
 
 use crate::given_options::GivenOptions;
 use crate::number::read_digits;
-use crate::parameters::{Parameters, RESERVE_OUT_LIST_LENGTH, ReserveOutParameters};
+use crate::parameters::Parameters;
 use crate::service_action::{ServiceAction, are_exclusive, given_actions};
 use crate::show::Show;
 use crate::tool::Tool;
 use crate::tool_fault::ToolFault;
-use sg_wire::{Command, InAction, OutAction};
+use sg_wire::{Command, InAction, OutAction, OutList};
 
 // What the options of sg_persist ask for.
 pub(crate) fn sg_persist(options: &GivenOptions) -> Result<Tool, ToolFault>
@@ -28,12 +28,14 @@ pub(crate) fn sg_persist(options: &GivenOptions) -> Result<Tool, ToolFault>
     let (Some(type_code), Some(key), Some(action_key)) = (type_code, key, action_key) else {
         return Err(ToolFault::Number);
     };
-    let parameters = ReserveOutParameters {
+    let list = OutList {
         reservation_key: key,
         service_action_key: action_key,
+        spec_i_pt: false,
+        all_tg_pt: false,
         aptpl: options.is_set("param-aptpl"),
     };
-    reserve(as_out, &actions, type_code, parameters)
+    reserve(as_out, &actions, type_code, list)
 }
 
 // READ KEYS where no service action is given.
@@ -41,15 +43,15 @@ fn reserve(
     as_out: bool,
     actions: &[ServiceAction],
     type_code: u8,
-    parameters: ReserveOutParameters,
+    list: OutList,
 ) -> Result<Tool, ToolFault>
-    ensures { result ≡ reserve as_out actions.now type_code parameters }
+    ensures { result ≡ reserve as_out actions.now type_code list }
 {
     match actions {
         [] if as_out => Err(ToolFault::Usage),
         [] => Ok(reserve_in(InAction::ReadKeys)),
         [ServiceAction::In(action), ..] => Ok(reserve_in(*action)),
-        [ServiceAction::Out(action), ..] => Ok(reserve_out(*action, type_code, parameters)),
+        [ServiceAction::Out(action), ..] => Ok(reserve_out(*action, type_code, list)),
     }
 }
 
@@ -74,16 +76,16 @@ fn reserve_in_show(action: InAction) -> Show
     }
 }
 
-fn reserve_out(action: OutAction, type_code: u8, parameters: ReserveOutParameters) -> Tool
-    ensures { Ok result ≡ reserve_out action type_code parameters }
+fn reserve_out(action: OutAction, type_code: u8, list: OutList) -> Tool
+    ensures { Ok result ≡ reserve_out action type_code list }
 {
     Tool {
         command: Command::PersistentReserveOut {
             action,
             scope_type: type_code,
-            list_length: RESERVE_OUT_LIST_LENGTH as u32,
+            list_length: OutList::LENGTH as u32,
         },
-        parameters: Parameters::ReserveOut(parameters),
+        parameters: Parameters::ReserveOut(list),
         show: Show::Nothing,
     }
 }

@@ -9,7 +9,7 @@ use Rattle.std.proofs.lemmas.Bool.Decides.{nat_tests}
 use Rattle.std.proofs.lemmas.List.{length-append}
 use Rattle.std.proofs.lemmas.List.Folds.{list_any-append}
 use Rattle.std.proofs.lemmas.List.Sums.{sum_by-cons, sum_by_push, length-filter, count_by-le-length}
-use Rattle.sg_units.specs.OutList.{has_unsupported_flag}
+use Rattle.sg_units.specs.UnsupportedFlags.{has_unsupported_flag}
 use Rattle.sg_units.specs.ReserveOut.{IsConsistentChange, Outcome, accepts_key, action_outcome}
 use Rattle.sg_units.specs.ReserveOut.{outcome}
 use Rattle.sg_units.specs.ReserveOut.{preempt_cases, register_cases, release_cases}
@@ -30,8 +30,8 @@ use Rattle.sg_wire.specs.declared.command.out_action.OutAction.TheVariants.{Rele
 use Rattle.sg_wire.specs.declared.command.out_action.OutAction.TheVariants.{PreemptAndAbort}
 use Rattle.sg_wire.specs.declared.command.out_action.OutAction.TheVariants.{}
 use Rattle.sg_wire.specs.declared.command.out_action.OutAction.TheVariants.{RegisterAndIgnoreExistingKey}
-use Rattle.sg_units.specs.declared.out_fault.OutFault.TheVariants.{Conflict, ListField}
-use Rattle.sg_units.specs.declared.out_list.OutList.{OutList}
+use Rattle.sg_units.specs.declared.out_fault.OutFault.TheVariants.{Conflict, Field}
+use Rattle.sg_wire.specs.declared.out_list.OutList.{OutList}
 use Rattle.sg_units.specs.declared.registrations.Registration.{Registration}
 use Rattle.sg_units.specs.declared.reservation.Reservation.{Reservation}
 use Rattle.sg_units.specs.declared.reservation_state.ReservationState.{ReservationState}
@@ -408,7 +408,7 @@ consistent-outcome state i action scope_type list h =
     let sark = list.service_action_key in
     let accepts = accepts_key state.registrations i action key in
     choice IsConsistentChange (has_unsupported_flag action list) _ _
-    (λ _. refused IsConsistentChange (ListField 20))
+    (λ _. refused IsConsistentChange (Field 20))
     (λ _. choice IsConsistentChange (not accepts) _ _ (λ _. refused IsConsistentChange Conflict)
     (λ a. consistent-action state i action (type_of scope_type) key sark (not_false accepts a) h))
 

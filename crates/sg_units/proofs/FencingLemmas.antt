@@ -13,7 +13,7 @@ use Rattle.sg_wire.specs.declared.command.out_action.OutAction.TheVariants.{Pree
 use Rattle.sg_wire.specs.declared.command.out_action.OutAction.TheVariants.{}
 use Rattle.sg_wire.specs.declared.command.out_action.OutAction.TheVariants.{RegisterAndIgnoreExistingKey}
 use Rattle.sg_units.specs.Laws.{ends_for_others}
-use Rattle.sg_units.specs.OutList.{has_unsupported_flag}
+use Rattle.sg_units.specs.UnsupportedFlags.{has_unsupported_flag}
 use Rattle.sg_units.specs.Registrations.{is_of, is_registered, is_registered_under, is_under}
 use Rattle.sg_units.specs.Registrations.{key_of}
 use Rattle.sg_units.specs.Registrations.{registration, with_key_replaced, with_registration}
@@ -24,8 +24,8 @@ use Rattle.sg_units.specs.ReserveOut.{accepts_key, action_outcome, outcome, pree
 use Rattle.sg_units.specs.ReserveOut.{preempted}
 use Rattle.sg_units.specs.ReserveOut.{raised_for, register_cases, release_cases, released}
 use Rattle.sg_units.specs.ReserveOut.{released_unless_held, reserve_cases}
-use Rattle.sg_units.specs.declared.out_fault.OutFault.TheVariants.{Conflict, ListField}
-use Rattle.sg_units.specs.declared.out_list.OutList.{OutList}
+use Rattle.sg_units.specs.declared.out_fault.OutFault.TheVariants.{Conflict, Field}
+use Rattle.sg_wire.specs.declared.out_list.OutList.{OutList}
 use Rattle.sg_units.specs.declared.registrations.Registration.{Registration}
 use Rattle.sg_units.specs.declared.reservation.Reservation.{Reservation}
 use Rattle.sg_units.specs.declared.reservation_change.ReservationChange.{ReservationChange}
@@ -47,7 +47,7 @@ key_of-cons r rs i = split (is_of i r)
     split true = refl
     split false = refl
 
-key_of-push : (rs : List Registration) (i j key : ℕ) → (j == i) ≡ false
+pub key_of-push : (rs : List Registration) (i j key : ℕ) → (j == i) ≡ false
     → key_of (with_registration rs j key) i ≡ key_of rs i
 key_of-push [] i j key h =
     key_of-cons (registration j key) [] i ∙ ap (λ b. cond b (Some key) None) h
@@ -78,7 +78,7 @@ apart : (r : Registration) (i j : ℕ) → (j == i) ≡ false → is_of i r ≡ 
     → not (is_of j r) ≡ true
 apart r i j h e = grind (arith, nat_tests)
 
-key_of-without : (rs : List Registration) (i j : ℕ) → (j == i) ≡ false
+pub key_of-without : (rs : List Registration) (i j : ℕ) → (j == i) ≡ false
     → key_of (without_initiator rs j) i ≡ key_of rs i
 key_of-without rs i j h = key_of-filter (λ r. not (is_of j r)) i (λ r e. apart r i j h e) rs
 
@@ -111,7 +111,7 @@ replaced_head r i j key true e h was =
     ap (λ b. cond b (Some key) was) h ∙ sym (ap (λ b. cond b (Some r.key) was) no)
 replaced_head r i j key false e h was = refl
 
-key_of-replaced : (rs : List Registration) (i j key : ℕ) → (j == i) ≡ false
+pub key_of-replaced : (rs : List Registration) (i j key : ℕ) → (j == i) ≡ false
     → key_of (with_key_replaced rs j key) i ≡ key_of rs i
 key_of-replaced [] i j key h = refl
 key_of-replaced (r ∷ rs) i j key h =
@@ -284,7 +284,7 @@ module _ (all : List Registration) (kind : ReservationType) (generation i j : �
   unfolding outcome
   outcome_leaves action scope_type list here other =
       let accepts = accepts_key all j action list.reservation_key in
-      choice P (has_unsupported_flag action list) _ _ (λ _. refused P (ListField 20))
+      choice P (has_unsupported_flag action list) _ _ (λ _. refused P (Field 20))
       (λ _. choice P (not accepts) _ _ (λ _. refused P Conflict)
       (λ _. action_leaves action (type_of scope_type) list.service_action_key here other))
 
@@ -361,6 +361,6 @@ module _ (all : List Registration) (kind : ReservationType) (generation i j : �
   unfolding outcome
   outcome_holds action scope_type list mild here other =
       let accepts = accepts_key all j action list.reservation_key in
-      choice H (has_unsupported_flag action list) _ _ (λ _. refused H (ListField 20))
+      choice H (has_unsupported_flag action list) _ _ (λ _. refused H (Field 20))
       (λ _. choice H (not accepts) _ _ (λ _. refused H Conflict)
       (λ _. action_holds action (type_of scope_type) list.service_action_key mild here other))

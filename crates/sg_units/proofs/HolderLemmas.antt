@@ -15,7 +15,7 @@ use Rattle.sg_wire.specs.declared.command.out_action.OutAction.TheVariants.{}
 use Rattle.sg_wire.specs.declared.command.out_action.OutAction.TheVariants.{RegisterAndIgnoreExistingKey}
 use Rattle.sg_wire.specs.declared.command.Class.{Class}
 use Rattle.sg_units.specs.Access.{allowed, allows, standing_of}
-use Rattle.sg_units.specs.OutList.{has_unsupported_flag}
+use Rattle.sg_units.specs.UnsupportedFlags.{has_unsupported_flag}
 use Rattle.sg_units.specs.Registrations.{is_of, is_registered, is_registered_under, is_under}
 use Rattle.sg_units.specs.Registrations.{key_of, registration, registrations_of, with_key_replaced}
 use Rattle.sg_units.specs.Registrations.{without_initiator, without_key}
@@ -28,7 +28,7 @@ use Rattle.sg_units.specs.ReserveOut.{reserve_cases, state_after, with_type}
 use Rattle.sg_units.specs.declared.access.Standing.{Standing}
 use Rattle.sg_units.specs.declared.access.Standing.TheVariants.{Holder, Registrant, Other}
 use Rattle.sg_units.specs.declared.out_fault.OutFault.{OutFault}
-use Rattle.sg_units.specs.declared.out_list.OutList.{OutList}
+use Rattle.sg_wire.specs.declared.out_list.OutList.{OutList}
 use Rattle.sg_units.specs.declared.registrations.Registration.{Registration}
 use Rattle.sg_units.specs.declared.reservation.Reservation.{Reservation}
 use Rattle.sg_units.specs.declared.reservation_change.ReservationChange.{ReservationChange}

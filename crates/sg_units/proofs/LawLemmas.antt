@@ -10,7 +10,7 @@ use Rattle.sg_wire.specs.declared.command.Class.{Class}
 use Rattle.sg_wire.specs.declared.command.Class.TheVariants.{Always, Reads, Writes}
 use Rattle.sg_units.specs.Access.{access_of, allowed, allows, highest_class, is_within, standing_of}
 use Rattle.sg_units.specs.Laws.{CountsChanges, HasOneHolder, IsHeldByAll, IsRefused}
-use Rattle.sg_units.specs.OutList.{has_unsupported_flag}
+use Rattle.sg_units.specs.UnsupportedFlags.{has_unsupported_flag}
 use Rattle.sg_units.specs.ReserveOut.{Outcome, accepts_key, action_outcome}
 use Rattle.sg_units.specs.ReserveOut.{generation_after, next_generation, outcome}
 use Rattle.sg_units.specs.ReserveOut.{preempt_cases, register_cases, release_cases}
@@ -31,8 +31,8 @@ use Rattle.sg_wire.specs.declared.command.out_action.OutAction.TheVariants.{Rele
 use Rattle.sg_wire.specs.declared.command.out_action.OutAction.TheVariants.{PreemptAndAbort}
 use Rattle.sg_wire.specs.declared.command.out_action.OutAction.TheVariants.{}
 use Rattle.sg_wire.specs.declared.command.out_action.OutAction.TheVariants.{RegisterAndIgnoreExistingKey}
-use Rattle.sg_units.specs.declared.out_fault.OutFault.TheVariants.{Conflict, ListField}
-use Rattle.sg_units.specs.declared.out_list.OutList.{OutList}
+use Rattle.sg_units.specs.declared.out_fault.OutFault.TheVariants.{Conflict, Field}
+use Rattle.sg_wire.specs.declared.out_list.OutList.{OutList}
 use Rattle.sg_units.specs.declared.registrations.Registration.{Registration}
 use Rattle.sg_units.specs.declared.reservation.Reservation.{Reservation}
 use Rattle.sg_units.specs.declared.reservation_state.ReservationState.{ReservationState}
@@ -373,7 +373,7 @@ unfolding outcome
 counted-outcome state i action scope_type list =
     let P = Counted state in
     let accepts = accepts_key state.registrations i action list.reservation_key in
-    choice P (has_unsupported_flag action list) _ _ (λ _. refused P (ListField 20))
+    choice P (has_unsupported_flag action list) _ _ (λ _. refused P (Field 20))
     (λ _. choice P (not accepts) _ _ (λ _. refused P Conflict)
     (λ _. counted-action state i action (type_of scope_type) list.service_action_key))
 

@@ -5,7 +5,7 @@ use Rattle.std.proofs.lemmas.Bool.{false≢true}
 use Rattle.sg_units.specs.ReserveOut.{Case, Outcome, first_case, preempted, with_type}
 use Rattle.sg_units.specs.declared.reservation_change.ReservationChange.{ReservationChange}
 use Rattle.sg_units.specs.declared.out_fault.OutFault.{OutFault}
-use Rattle.sg_units.specs.declared.out_fault.OutFault.TheVariants.{InvalidScopeOrType}
+use Rattle.sg_units.specs.declared.out_fault.OutFault.TheVariants.{BadType}
 use Rattle.sg_units.specs.declared.registrations.Registration.{Registration}
 use Rattle.sg_units.specs.declared.reservation.Reservation.{Reservation}
 use Rattle.sg_units.specs.declared.types.ReservationType.{ReservationType}
@@ -34,12 +34,12 @@ pub taking : (P : ReservationChange → Type 0) (held : Option Reservation) (i :
     (type : Option ReservationType) (rest : List Registration)
     → ((type : ReservationType) → EffectIs P (preempted held i (Some type) rest))
     → EffectIs P (preempted held i type rest)
-taking P held i None rest h = refused P InvalidScopeOrType
+taking P held i None rest h = refused P BadType
 taking P held i (Some type) rest h = h type
 
 pub typed : (P : ReservationChange → Type 0) (type : Option ReservationType) (f : ReservationType → Outcome)
     → ((type : ReservationType) → EffectIs P (f type)) → EffectIs P (with_type type f)
-typed P None f h = refused P InvalidScopeOrType
+typed P None f h = refused P BadType
 typed P (Some type) f h = h type
 
 -- the first case that applies

@@ -15,7 +15,7 @@ use Rattle.sg_units.specs.ReservationType.{is_all_registrants, is_exclusive_acce
 use Rattle.sg_units.specs.Reservations.{IsConsistent, is_holder}
 use Rattle.sg_units.specs.declared.reservation_change.ReservationChange.{ReservationChange}
 use Rattle.sg_wire.specs.declared.command.out_action.OutAction.{OutAction}
-use Rattle.sg_units.specs.declared.out_list.OutList.{OutList}
+use Rattle.sg_wire.specs.declared.out_list.OutList.{OutList}
 use Rattle.sg_units.specs.declared.registrations.Registration.{Registration}
 use Rattle.sg_units.specs.declared.reservation.Reservation.{Reservation}
 use Rattle.sg_units.specs.declared.reservation_state.ReservationState.{ReservationState}

@@ -6,7 +6,7 @@ pub mod ReservationType
 pub mod Registrations
 pub mod Reservations
 pub mod Access
-pub mod OutList
+pub mod UnsupportedFlags
 pub mod ReserveOut
 pub mod ReserveIn
 pub mod Laws

@@ -5,7 +5,8 @@ use Rattle.std.specs.Prelude.{Option, Some, None, is_some, is_none}
 use Rattle.std.specs.List.{range_with_len}
 use Rattle.std.specs.Option.{option_map_or}
 use Rattle.sg_units.specs.Attentions.{initiator_count}
-use Rattle.sg_units.specs.OutList.{flags_at, has_unsupported_flag, service_action_key_at}
+use Rattle.sg_units.specs.UnsupportedFlags.{has_unsupported_flag}
+use Rattle.sg_wire.specs.OutList.{flags_at, service_action_key_at}
 use Rattle.sg_units.specs.Raised.{Conditions}
 use Rattle.sg_units.specs.Registrations.{has_key, is_registered, is_registered_under, max_registrations}
 use Rattle.sg_units.specs.Registrations.{with_key_replaced, with_registration, without_initiator}
@@ -21,10 +22,10 @@ use Rattle.sg_wire.specs.declared.command.out_action.OutAction.TheVariants.{Pree
 use Rattle.sg_wire.specs.declared.command.out_action.OutAction.TheVariants.{RegisterAndIgnoreExistingKey}
 use Rattle.sg_units.specs.declared.out_fault.OutFault.{OutFault}
 use Rattle.sg_units.specs.declared.out_fault.OutFault.TheVariants.{Conflict}
-use Rattle.sg_units.specs.declared.out_fault.OutFault.TheVariants.{InsufficientRegistrationResources}
-use Rattle.sg_units.specs.declared.out_fault.OutFault.TheVariants.{InvalidRelease, ListField}
-use Rattle.sg_units.specs.declared.out_fault.OutFault.TheVariants.{InvalidScopeOrType}
-use Rattle.sg_units.specs.declared.out_list.OutList.{OutList}
+use Rattle.sg_units.specs.declared.out_fault.OutFault.TheVariants.{NoRoom}
+use Rattle.sg_units.specs.declared.out_fault.OutFault.TheVariants.{BadRelease, Field}
+use Rattle.sg_units.specs.declared.out_fault.OutFault.TheVariants.{BadType}
+use Rattle.sg_wire.specs.declared.out_list.OutList.{OutList}
 use Rattle.sg_units.specs.declared.registrations.Registration.{Registration}
 use Rattle.sg_units.specs.declared.reservation.Reservation.{Reservation}
 use Rattle.sg_units.specs.declared.reservation_state.ReservationState.{ReservationState}
@@ -106,7 +107,7 @@ register_cases state caller sark =
     let known = is_registered all caller in
     let rest = without_initiator all caller in
     when (not known && sark == 0) (same_generation all held None)
-    ∷ when (not known && length all == max_registrations) (Err InsufficientRegistrationResources)
+    ∷ when (not known && length all == max_registrations) (Err NoRoom)
     ∷ when (not known) (next_generation (with_registration all caller sark) held None None)
     ∷ when (not (sark == 0)) (next_generation (with_key_replaced all caller sark) held None None)
     ∷ otherwise (next_generation rest (while_held held rest) None (released_unless_held held rest))
@@ -128,7 +129,7 @@ release_cases state caller type =
     let all = state.registrations in
     let held = state.reservation in
     when (not (is_holder state caller)) (same_generation all held None)
-    ∷ when (not (has_type held type)) (Err InvalidRelease)
+    ∷ when (not (has_type held type)) (Err BadRelease)
     ∷ otherwise (same_generation all None (released type))
     ∷ []
 
@@ -140,7 +141,7 @@ cleared = next_generation [] None (Some ReservationsPreempted) None
 -- remain.
 abbrev pub preempted : Option Reservation → (caller : ℕ) → Option ReservationType
     → List Registration → Outcome
-preempted held caller None rest = Err InvalidScopeOrType
+preempted held caller None rest = Err BadType
 preempted held caller (Some type) rest =
     next_generation rest (Some (taken type caller)) (Some RegistrationsPreempted)
     (released_unless_type held type)
@@ -167,7 +168,7 @@ preempt_cases state caller type sark =
     let held = state.reservation in
     let rest = without_key all sark in
     let take : List Registration → Outcome = preempted held caller type in
-    when (has_one_holder held && sark == 0) (Err (ListField service_action_key_at))
+    when (has_one_holder held && sark == 0) (Err (Field service_action_key_at))
     ∷ when (is_key_of_holder state sark) (take (without_key_of_others all caller sark))
     ∷ when (is_held_by_all held && sark == 0) (take (without_others all caller))
     ∷ when (not (has_key all sark)) (Err Conflict)
@@ -178,7 +179,7 @@ preempt_cases state caller type sark =
 
 -- A service action that needs a type is refused where the scope or the type is not valid.
 abbrev pub with_type : Option ReservationType → (ReservationType → Outcome) → Outcome
-with_type None outcome = Err InvalidScopeOrType
+with_type None outcome = Err BadType
 with_type (Some type) outcome = outcome type
 
 abbrev pub action_outcome : ReservationState → (caller : ℕ) → OutAction → Option ReservationType
@@ -208,7 +209,7 @@ outcome state caller action scope_type list =
     let accepts = accepts_key state.registrations caller action list.reservation_key in
     let type = type_of scope_type in
     first_case (
-    when (has_unsupported_flag action list) (Err (ListField flags_at))
+    when (has_unsupported_flag action list) (Err (Field flags_at))
     ∷ when (not accepts) (Err Conflict)
     ∷ otherwise (action_outcome state caller action type list.service_action_key)
     ∷ [])

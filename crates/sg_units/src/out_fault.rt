@@ -9,14 +9,14 @@ pub enum OutFault {
     Conflict,
     /// INSUFFICIENT REGISTRATION RESOURCES, 55h/04h.
     #[error("there is no room for another registration")]
-    InsufficientRegistrationResources,
+    NoRoom,
     /// INVALID RELEASE OF PERSISTENT RESERVATION, 26h/04h.
     #[error("the reservation that is held has another type")]
-    InvalidRelease,
+    BadRelease,
     /// INVALID FIELD IN PARAMETER LIST, 26h/00h, at this byte of the list, from 0.
     #[error("byte {0} of the parameter list has a value that is not supported")]
-    ListField(u8),
+    Field(u8),
     /// INVALID FIELD IN CDB, 24h/00h, at byte 2: the scope and type.
     #[error("the scope or the type is not valid")]
-    InvalidScopeOrType,
+    BadType,
 }

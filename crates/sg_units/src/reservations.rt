@@ -81,7 +81,7 @@ impl Reservations {
     ///
     /// # Errors
     /// The first fault that applies. Nothing has changed then.
-    pub fn persistent_reserve_out(
+    pub fn out(
         &mut self,
         caller: Initiator,
         action: OutAction,

@@ -1,8 +1,8 @@
 -- A CDB, byte by byte.
 use Rattle.std.proofs.Common.{◌≡◌, ◌<◌, ◌≤◌, ℕ, ◌+◌, ◌*◌, ◌/◌, ◌^◌, ◌%◌, ◌==◌, List, [], ◌∷◌, ◌++◌}
-use Rattle.std.proofs.Common.{length, drop, get_or, Bool, true, false, Option, Some, None, Ok, cond}
+use Rattle.std.proofs.Common.{length, drop, get_or, Bool, true, false, Option, Some, None, Ok, Err, cond}
 use Rattle.std.proofs.Common.{eqb, eq-eqb, refl, ap, sym, subst, ◌∙◌, arith}
-use Rattle.std.specs.Prelude.{bit_and, if◌then◌else◌}
+use Rattle.std.specs.Prelude.{bit_and, nat_lt, if◌then◌else◌}
 use Rattle.std.proofs.lemmas.List.{drop_more, drop_all}
 use Rattle.std.proofs.lemmas.Bool.Decides.{nat_tests}
 use Rattle.std.proofs.lemmas.Nat.{and_mask}
@@ -17,11 +17,11 @@ use Rattle.sg_wire.specs.declared.command.Command.TheVariants.{Write10, Write16,
 use Rattle.sg_wire.specs.declared.command.Command.TheVariants.{ReadCapacity16, SynchronizeCache10}
 use Rattle.sg_wire.specs.declared.command.Command.TheVariants.{WriteSame10, WriteSame16, Unmap}
 use Rattle.sg_wire.specs.declared.command.Command.TheVariants.{GetLbaStatus}
-use Rattle.sg_wire.specs.declared.command.Class.{Class}
-use Rattle.sg_wire.specs.declared.command.Class.TheVariants.{Always, Reads}
+use Rattle.sg_wire.specs.declared.command.CdbFault.TheVariants.{Short}
+use Rattle.sg_wire.specs.declared.command.Class.TheVariants.{Always}
 use Rattle.std.specs.Option.{option_map_or}
 use Rattle.sg_wire.specs.Layout.{Layout, layout, class_of, first_bad, command_of, command_with}
-use Rattle.sg_wire.specs.Layout.{cdb_of, blocks_of}
+use Rattle.sg_wire.specs.Layout.{cdb_of, blocks_of, command_by_row, is_blocked_by_attention}
 
 -- one more byte
 pub first_bad-more : (masks bytes : List ℕ) (k : ℕ) → k < length masks → k < length bytes →
@@ -57,36 +57,59 @@ unfolding command_of
 command_of-some [] h = absurd (omega arith)
 command_of-some (opcode ∷ rest) h = refl
 
-abbrev class_in : Option Layout → Class
-class_in found = option_map_or (λ (l : Layout). l.class) found Always
-
 -- SERVICE ACTION IN(16) has two service actions, of which that of GET LBA STATUS reads
-by_actions : (is_capacity is_status : Bool) → (is_capacity ≡ true → is_status ≡ false)
-    → class_in (cond is_capacity (Some (layout (ReadCapacity16 0)))
-    (cond is_status (Some (layout (GetLbaStatus 0 0))) None)) ≡ cond is_status Reads Always
-by_actions true is_status other = rw (other refl) refl
-by_actions false true other = refl
-by_actions false false other = refl
+abbrev action_of : List ℕ → ℕ
+action_of bytes = bit_and (get_or bytes 1 0) 0x1F
 
-one_action : (action : ℕ) → (action == 0x10) ≡ true → (action == 0x12) ≡ false
-one_action action e = grind (arith, nat_tests)
+abbrev row_with : (is_capacity is_status : Bool) → Option Layout
+row_with is_capacity is_status = cond is_capacity (Some (layout (ReadCapacity16 0)))
+    (cond is_status (Some (layout (GetLbaStatus 0 0))) None)
 
-class_of-action : (rest : List ℕ) → class_of (0x9E ∷ rest)
-    ≡ Some (if bit_and (get_or rest 0 0) 0x1F == 0x12 then Reads else Always)
+-- what the bytes have where their first is the operation code of SERVICE ACTION IN(16)
+module _ (Has : List ℕ → Type 0) (h : (rest : List ℕ) → Has (0x9E ∷ rest)) where
+  by_code : (bytes : List ℕ) → get_or bytes 0 0 ≡ 0x9E → Has bytes
+  by_code [] e = cc
+  by_code (opcode ∷ rest) e = subst (λ (code : ℕ). Has (code ∷ rest)) (sym e) (h rest)
+
+abbrev HasClass : List ℕ → Type 0
+HasClass bytes = class_of bytes
+    ≡ Some (option_map_or (λ (l : Layout). l.class)
+    (row_with (action_of bytes == 0x10) (action_of bytes == 0x12)) Always)
+
+class_of-rest : (rest : List ℕ) → HasClass (0x9E ∷ rest)
 unfolding class_of
-class_of-action rest = let action = bit_and (get_or rest 0 0) 0x1F in
-    ap Some (by_actions (action == 0x10) (action == 0x12) (one_action action))
+class_of-rest rest = refl
 
-pub class_of-service_action_in : (bytes : List ℕ) → get_or bytes 0 0 ≡ 0x9E → class_of bytes
-    ≡ Some (if bit_and (get_or bytes 1 0) 0x1F == 0x12 then Reads else Always)
-class_of-service_action_in [] e = cc
-class_of-service_action_in (opcode ∷ rest) e =
-    subst
-    (λ (code : ℕ). class_of (code ∷ rest)
-    ≡ Some (if bit_and (get_or rest 0 0) 0x1F == 0x12 then Reads else Always))
-    (sym e) (class_of-action rest)
+pub class_of-service_action_in : (bytes : List ℕ) → get_or bytes 0 0 ≡ 0x9E → HasClass bytes
+class_of-service_action_in = by_code HasClass class_of-rest
 
-pub ruleset service_action_classes = (class_of-service_action_in)
+abbrev IsBlocked : List ℕ → Type 0
+IsBlocked bytes = is_blocked_by_attention bytes ≡ true
+
+blocked-rest : (rest : List ℕ) → IsBlocked (0x9E ∷ rest)
+unfolding is_blocked_by_attention
+blocked-rest rest = refl
+
+pub blocked-service_action_in : (bytes : List ℕ) → get_or bytes 0 0 ≡ 0x9E → IsBlocked bytes
+blocked-service_action_in = by_code IsBlocked blocked-rest
+
+abbrev HasCommand : List ℕ → Type 0
+HasCommand bytes = command_of bytes
+    ≡ (if nat_lt (length bytes) 16 then Err (Short (length bytes)) else
+    command_by_row bytes (row_with (action_of bytes == 0x10) (action_of bytes == 0x12)))
+
+command_of-rest : (rest : List ℕ) → HasCommand (0x9E ∷ rest)
+unfolding command_of command_with
+command_of-rest rest = refl
+
+pub command_of-service_action_in : (bytes : List ℕ) → get_or bytes 0 0 ≡ 0x9E → HasCommand bytes
+command_of-service_action_in = by_code HasCommand command_of-rest
+
+pub ruleset service_action_rules = (
+  class_of-service_action_in,
+  blocked-service_action_in,
+  command_of-service_action_in,
+)
 
 -- ---- the CDB of each command is decoded as it again
 

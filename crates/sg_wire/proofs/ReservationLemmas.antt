@@ -57,6 +57,23 @@ unless_bad-fit value true count bad e = cc
 unless_bad-fit value false count None e = refl
 unless_bad-fit value false count (Some byte) e = cc
 
+unless_bad-refused : {A : Type 0} (value : A) (is_short : Bool) (count : ℕ) (bad : Option ℕ)
+    (fault : CdbFault) → is_short ≡ false → fit is_short count bad ≡ Err fault
+    → unless_bad bad value ≡ Err fault
+unless_bad-refused value true count bad fault e h = cc
+unless_bad-refused value false count None fault e h = cc
+unless_bad-refused value false count (Some byte) fault e h = cc
+
+pub reserve_out-refused : (cdb : List ℕ) (action : OutAction) (fault : CdbFault) → 10 ≤ length cdb
+    → out_action_with (bit_and (get_or cdb 1 0) 0x1F) ≡ Some action
+    → fits_masks (masks (out_row action)) cdb ≡ Err fault → command_with 0x5F cdb ≡ Err fault
+unfolding fits_masks
+reserve_out-refused cdb action fault whole known refused =
+    reserve_out-known cdb action whole known
+    ∙ unless_bad-refused (PersistentReserveOut action (get_or cdb 2 0) (big_number 4 (drop 5 cdb)))
+    (nat_lt (length cdb) 10) (length cdb) (first_bad 0 (masks (out_row action)) cdb) fault
+    (long_enough (length cdb) whole) refused
+
 pub reserve_out-fits : (cdb : List ℕ) (action : OutAction) → 10 ≤ length cdb
     → out_action_with (bit_and (get_or cdb 1 0) 0x1F) ≡ Some action
     → fits_masks (masks (out_row action)) cdb ≡ Ok tt → command_with 0x5F cdb

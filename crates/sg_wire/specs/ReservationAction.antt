@@ -1,4 +1,5 @@
--- The service actions of PERSISTENT RESERVE IN and PERSISTENT RESERVE OUT (SPC-4).
+-- The service actions of PERSISTENT RESERVE IN and PERSISTENT RESERVE OUT (SPC-4, 6.15 and
+-- 6.16).
 use Rattle.std.specs.Prelude.{ℕ, ◌==◌, List, [], ◌∷◌, find, Option}
 use Rattle.sg_wire.specs.declared.command.in_action.InAction.{InAction}
 use Rattle.sg_wire.specs.declared.command.in_action.InAction.TheVariants.{ReadKeys, ReadReservation}

@@ -1,7 +1,8 @@
 // What the calls of a disk count.
 ghost use Rattle.std.specs.Prelude.{◌≡◌, ◌+◌, ◌*◌, ◌<◌, ◌≤◌, length};
 
-use sg_blocks::{BLOCK_LENGTH, Counts, PlainMap, Space, Store};
+use sg_plain_map::PlainMap;
+use sg_store::{BLOCK_LENGTH, Counts, Space, Store};
 use sg_wire::Cut;
 use std::test::Fail;
 

@@ -3,6 +3,8 @@
 #![tactic(auto)]
 
 #[cfg(test)]
+mod attentions;
+#[cfg(test)]
 mod blocks;
 #[cfg(test)]
 mod mode_pages;

@@ -1,9 +1,7 @@
 // MODE SENSE and MODE SELECT of the mode pages, byte by byte as SPC-4, 7.5, and SBC-3, 6.4, have them.
-use sg_pages::ModeSelectFault::{Field, Length};
 use sg_pages::PageControl::{Changeable, Current, Default, Saved};
-use sg_pages::{
-    Changed, ModePages, ModeSelectFault, ModeSenseFault, ModeSenseRequest, PageControl,
-};
+use sg_pages::SelectFault::{Field, Length};
+use sg_pages::{Ask, AskFault, Changed, ModePages, PageControl, SelectFault};
 use sg_wire::Cut;
 
 const BLOCKS: u64 = 0x1000;
@@ -64,7 +62,8 @@ const SENSED: [Sensed; 6] = [
         0x3F,
         0x00,
         BLOCKS,
-        b"\x3B\x00\x10\x00\x81\x0A\xC0\x08\0\0\0\0\x08\0\0\0\x88\x12\x04\0\0\0\0\0\0\0\0\0\0\0\0\0\0\0\0\0\x8A\x0A\0\0\0\0\0\0\0\0\0\0\x9C\x0A\x08\0\0\0\0\0\0\0\0\0",
+        b"\x3B\x00\x10\x00\x81\x0A\xC0\x08\0\0\0\0\x08\0\0\0\x88\x12\x04\0\0\0\0\0\0\0\0\0\0\0\0\0\
+          \0\0\0\0\x8A\x0A\0\0\0\0\0\0\0\0\0\0\x9C\x0A\x08\0\0\0\0\0\0\0\0\0",
     ),
     (
         true,
@@ -81,7 +80,7 @@ const SENSED: [Sensed; 6] = [
 #[test]
 fn a_list_is_returned_up_to_a_limit(rt: HostRuntime) {
     for (ten, llbaa, dbd, page_control, page_code, subpage_code, blocks, bytes) in SENSED {
-        let request = ModeSenseRequest {
+        let request = Ask {
             ten,
             llbaa: ten && llbaa,
             dbd,
@@ -101,18 +100,18 @@ fn a_list_is_returned_up_to_a_limit(rt: HostRuntime) {
 }
 
 // PAGE CODE and SUBPAGE CODE, and how they are refused.
-const REFUSED: [(u8, u8, ModeSenseFault); 5] = [
-    (0x00, 0x00, ModeSenseFault::Page),
-    (0x02, 0x01, ModeSenseFault::Page),
-    (0x3E, 0xFF, ModeSenseFault::Page),
-    (0x0A, 0x01, ModeSenseFault::Subpage),
-    (0x3F, 0xFE, ModeSenseFault::Subpage),
+const REFUSED: [(u8, u8, AskFault); 5] = [
+    (0x00, 0x00, AskFault::Page),
+    (0x02, 0x01, AskFault::Page),
+    (0x3E, 0xFF, AskFault::Page),
+    (0x0A, 0x01, AskFault::Subpage),
+    (0x3F, 0xFE, AskFault::Subpage),
 ];
 
 #[test]
 fn other_pages_are_refused(rt: HostRuntime) {
     for (page_code, subpage_code, fault) in REFUSED {
-        let request = ModeSenseRequest {
+        let request = Ask {
             ten: false,
             llbaa: false,
             dbd: false,
@@ -128,7 +127,7 @@ fn other_pages_are_refused(rt: HostRuntime) {
     }
 }
 
-type Selected = Result<Changed, ModeSelectFault>;
+type Selected = Result<Changed, SelectFault>;
 
 const TRUNCATED: Selected = Err(Length);
 
@@ -239,7 +238,7 @@ fn all_pages_are_saved(rt: HostRuntime) {
     let protection = b"\x00\x00\x00\x00\x0A\x0A\x00\x00\x08\0\0\0\0\0\0\0";
     assert_eq!(rt; pages.select(protection, false, true, BLOCKS), CHANGED);
     assert!(rt; pages.write_protected());
-    let request = ModeSenseRequest {
+    let request = Ask {
         ten: false,
         llbaa: false,
         dbd: true,

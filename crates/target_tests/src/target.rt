@@ -4,8 +4,8 @@ mod configuration;
 mod log;
 mod runs;
 
-use sg_blocks::PlainMap;
 use sg_pages::Identity;
+use sg_plain_map::PlainMap;
 use sg_target::{BUFFER_LENGTH, Config, Reply, Status, Target};
 use sg_wire::Initiator;
 use std::alloc::Global;

@@ -11,6 +11,7 @@ ghost use Rattle.sg_pages.specs.ModeSelect.{selected_values, unless_fault, value
 use super::list_check::{check, check_descriptor, check_header, header_length};
 use super::mode_page::CHANGEABLE;
 use super::{ModePage, ModePages, PageValues};
+use thiserror::Error;
 
 /// Whether a MODE SELECT changed a current value.
 #[derive(Clone, Copy, Debug, PartialEq, Eq)]
@@ -18,11 +19,13 @@ pub struct Changed(pub bool);
 
 /// Why a mode parameter list is refused. Of several faults the one that comes first in the list is
 /// returned.
-#[derive(Clone, Copy, Debug, PartialEq, Eq)]
+#[derive(Clone, Copy, Debug, Error, PartialEq, Eq)]
 pub enum ModeSelectFault {
     /// The list ends within its header, its block descriptor or a page.
+    #[error("the list ends within its header, its block descriptor or a page")]
     Length,
     /// The byte at this offset in the list has a value that is not supported.
+    #[error("byte {0} of the list has a value that is not supported")]
     Field(usize),
 }
 

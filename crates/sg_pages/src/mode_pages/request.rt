@@ -1,6 +1,8 @@
 // What a MODE SENSE requests.
 ghost use Rattle.std.specs.Prelude.{IsTrue};
 
+use thiserror::Error;
+
 /// Which values of the pages are requested: the PC field (SPC-4).
 #[derive(Clone, Copy)]
 pub enum PageControl {
@@ -35,10 +37,12 @@ pub struct ModeSenseRequest {
 }
 
 /// Why a MODE SENSE is refused. The first that applies is returned.
-#[derive(Clone, Copy, Debug, PartialEq, Eq)]
+#[derive(Clone, Copy, Debug, Error, PartialEq, Eq)]
 pub enum ModeSenseFault {
     /// The disk does not have the page of PAGE CODE.
+    #[error("the disk does not have the page of PAGE CODE")]
     Page,
     /// No page has the subpage of SUBPAGE CODE.
+    #[error("no page has the subpage of SUBPAGE CODE")]
     Subpage,
 }

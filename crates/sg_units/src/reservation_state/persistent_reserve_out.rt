@@ -1,6 +1,7 @@
 // PERSISTENT RESERVE OUT.
 ghost use Rattle.std.specs.Prelude.{◌≡◌};
 ghost use Rattle.sg_units.specs.ReserveOut.{accepts_key, action_outcome, outcome};
+ghost use Rattle.sg_units.specs.UnsupportedFlags.{has_unsupported_flag};
 
 use super::ReservationState;
 use crate::reservation_change::ReservationChange;
@@ -19,8 +20,8 @@ impl ReservationState {
     ) -> Result<ReservationChange, OutFault>
         ensures { result ≡ outcome self.now caller action scope_type list.now }
     {
-        if list.has_unsupported_flag(action) {
-            return Err(OutFault::ListField(OutList::FLAGS_AT as u8));
+        if has_unsupported_flag(list, action) {
+            return Err(OutFault::Field(OutList::FLAGS_AT as u8));
         }
         if !self.accepts_key(caller, action, list.reservation_key) {
             return Err(OutFault::Conflict);
@@ -58,16 +59,28 @@ impl ReservationState {
     {
         match action {
             OutAction::Register => self.register(caller, sark),
-            OutAction::Reserve => {
-                self.reserve(caller, kind.ok_or(OutFault::InvalidScopeOrType)?)
-            }
-            OutAction::Release => {
-                self.release(caller, kind.ok_or(OutFault::InvalidScopeOrType)?)
-            }
+            OutAction::Reserve => { self.reserve(caller, kind.ok_or(OutFault::BadType)?) }
+            OutAction::Release => { self.release(caller, kind.ok_or(OutFault::BadType)?) }
             OutAction::Clear => Ok(self.clear()),
             OutAction::Preempt => self.preempt(caller, kind, sark),
             OutAction::PreemptAndAbort => self.preempt(caller, kind, sark),
             OutAction::RegisterAndIgnoreExistingKey => self.register(caller, sark),
         }
+    }
+}
+
+// Whether a flag is set that is not supported with a service action.
+fn has_unsupported_flag(list: &OutList, action: OutAction) -> bool
+    ensures { result ≡ has_unsupported_flag action list.now }
+{
+    match action {
+        OutAction::Register | OutAction::RegisterAndIgnoreExistingKey => {
+            list.spec_i_pt || list.all_tg_pt || list.aptpl
+        }
+        OutAction::Reserve
+        | OutAction::Release
+        | OutAction::Clear
+        | OutAction::Preempt
+        | OutAction::PreemptAndAbort => list.spec_i_pt,
     }
 }

@@ -25,7 +25,7 @@ impl ReservationState {
         ensures { result ≡ first_case (preempt_cases self.now caller kind sark) }
     {
         if self.has_one_holder() && sark == 0 {
-            return Err(OutFault::ListField(OutList::SERVICE_ACTION_KEY_AT as u8));
+            return Err(OutFault::Field(OutList::SERVICE_ACTION_KEY_AT as u8));
         }
         let mut registrations = self.registrations.copied();
         if self.is_key_of_holder(sark) {
@@ -52,7 +52,7 @@ impl ReservationState {
     ) -> Result<ReservationChange, OutFault>
         ensures { result ≡ preempted self.now.reservation caller kind registrations }
     {
-        let kind = kind.ok_or(OutFault::InvalidScopeOrType)?;
+        let kind = kind.ok_or(OutFault::BadType)?;
         let for_remaining = if self.has_type(kind) {
             None
         } else {

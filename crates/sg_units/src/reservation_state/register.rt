@@ -32,7 +32,7 @@ impl ReservationState {
             return Ok(self.unchanged());
         }
         if self.registrations.is_full() {
-            return Err(OutFault::InsufficientRegistrationResources);
+            return Err(OutFault::NoRoom);
         }
         let mut registrations = self.registrations.copied();
         registrations.register(caller, sark);

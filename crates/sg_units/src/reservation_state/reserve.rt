@@ -44,7 +44,7 @@ impl ReservationState {
             return Ok(self.unchanged());
         }
         if !self.has_type(kind) {
-            return Err(OutFault::InvalidRelease);
+            return Err(OutFault::BadRelease);
         }
         Ok(ReservationChange {
             reservation: None,

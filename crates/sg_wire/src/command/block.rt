@@ -6,50 +6,13 @@ ghost use Rattle.sg_wire.specs.Layout.{cdb_of, command_with, fits_masks, number_
 ghost use Rattle.sg_wire.specs.Layout.Place.{short_extent};
 
 use super::masks::check_masks;
+use super::table::{
+    READ_6, READ_10, READ_16, READ_CAPACITY_10, READ_CAPACITY_16, Row, SYNCHRONIZE_CACHE_10,
+    WRITE_6, WRITE_10, WRITE_16,
+};
 use super::{CdbFault, Command, ShortExtent};
 use crate::bytes::{CdbBytes, MAX_CDB_LENGTH};
 use byteorder::{BigEndian, ByteOrder};
-
-// Operation codes.
-pub(super) const READ_6: u8 = 0x08;
-
-pub(super) const WRITE_6: u8 = 0x0A;
-
-pub(super) const READ_CAPACITY_10: u8 = 0x25;
-
-pub(super) const READ_10: u8 = 0x28;
-
-pub(super) const WRITE_10: u8 = 0x2A;
-
-pub(super) const SYNCHRONIZE_CACHE_10: u8 = 0x35;
-
-pub(super) const READ_16: u8 = 0x88;
-
-pub(super) const WRITE_16: u8 = 0x8A;
-
-pub(super) const SERVICE_ACTION_IN_16: u8 = 0x9E;
-
-// The service action of READ CAPACITY(16).
-pub(super) const READ_CAPACITY_16: u8 = 0x10;
-
-// The bits of each byte that may be set.
-const READ_WRITE_6_MASKS: [u8; 6] = [0xFF, 0x1F, 0xFF, 0xFF, 0xFF, 0x00];
-
-const READ_WRITE_10_MASKS: [u8; 10] = [0xFF, 0x1A, 0xFF, 0xFF, 0xFF, 0xFF, 0x1F, 0xFF, 0xFF, 0x00];
-
-const READ_WRITE_16_MASKS: [u8; 16] = [
-    0xFF, 0x1A, 0xFF, 0xFF, 0xFF, 0xFF, 0xFF, 0xFF, 0xFF, 0xFF, 0xFF, 0xFF, 0xFF, 0xFF, 0x1F, 0x00,
-];
-
-const SYNCHRONIZE_CACHE_10_MASKS: [u8; 10] = [
-    0xFF, 0x06, 0xFF, 0xFF, 0xFF, 0xFF, 0x1F, 0xFF, 0xFF, 0x00,
-];
-
-const READ_CAPACITY_10_MASKS: [u8; 10] = [0xFF, 0, 0, 0, 0, 0, 0, 0, 0, 0x00];
-
-const READ_CAPACITY_16_MASKS: [u8; 16] = [
-    0xFF, 0x1F, 0, 0, 0, 0, 0, 0, 0, 0, 0xFF, 0xFF, 0xFF, 0xFF, 0, 0x00,
-];
 
 // ---- Decoding
 
@@ -57,21 +20,21 @@ const READ_CAPACITY_16_MASKS: [u8; 16] = [
 pub(super) fn decode_read_6(cdb: &[u8]) -> Result<Command, CdbFault>
     ensures { result ≡ command_with 0x08 cdb.now }
 {
-    Ok(Command::Read6(decode_extent_6(cdb)?))
+    Ok(Command::Read6(decode_extent_6(READ_6.masks, cdb)?))
 }
 
 #[tactic(auto, unfolding(crate::specs::Layout::command_with, crate::specs::Layout::fits_masks))]
 pub(super) fn decode_write_6(cdb: &[u8]) -> Result<Command, CdbFault>
     ensures { result ≡ command_with 0x0A cdb.now }
 {
-    Ok(Command::Write6(decode_extent_6(cdb)?))
+    Ok(Command::Write6(decode_extent_6(WRITE_6.masks, cdb)?))
 }
 
 #[tactic(auto, unfolding(crate::specs::Layout::command_with, crate::specs::Layout::fits_masks))]
 pub(super) fn decode_read_10(cdb: &[u8]) -> Result<Command, CdbFault>
     ensures { result ≡ command_with 0x28 cdb.now }
 {
-    let (lba, transfer_length) = decode_extent_10(&READ_WRITE_10_MASKS, cdb)?;
+    let (lba, transfer_length) = decode_extent_10(READ_10.masks, cdb)?;
     Ok(Command::Read10 {
         lba,
         transfer_length,
@@ -82,7 +45,7 @@ pub(super) fn decode_read_10(cdb: &[u8]) -> Result<Command, CdbFault>
 pub(super) fn decode_write_10(cdb: &[u8]) -> Result<Command, CdbFault>
     ensures { result ≡ command_with 0x2A cdb.now }
 {
-    let (lba, transfer_length) = decode_extent_10(&READ_WRITE_10_MASKS, cdb)?;
+    let (lba, transfer_length) = decode_extent_10(WRITE_10.masks, cdb)?;
     Ok(Command::Write10 {
         lba,
         transfer_length,
@@ -93,7 +56,7 @@ pub(super) fn decode_write_10(cdb: &[u8]) -> Result<Command, CdbFault>
 pub(super) fn decode_synchronize_cache_10(cdb: &[u8]) -> Result<Command, CdbFault>
     ensures { result ≡ command_with 0x35 cdb.now }
 {
-    let (lba, count) = decode_extent_10(&SYNCHRONIZE_CACHE_10_MASKS, cdb)?;
+    let (lba, count) = decode_extent_10(SYNCHRONIZE_CACHE_10.masks, cdb)?;
     Ok(Command::SynchronizeCache10 { lba, count })
 }
 
@@ -101,7 +64,7 @@ pub(super) fn decode_synchronize_cache_10(cdb: &[u8]) -> Result<Command, CdbFaul
 pub(super) fn decode_read_16(cdb: &[u8]) -> Result<Command, CdbFault>
     ensures { result ≡ command_with 0x88 cdb.now }
 {
-    let (lba, transfer_length) = decode_extent_16(&READ_WRITE_16_MASKS, cdb)?;
+    let (lba, transfer_length) = decode_extent_16(READ_16.masks, cdb)?;
     Ok(Command::Read16 {
         lba,
         transfer_length,
@@ -112,7 +75,7 @@ pub(super) fn decode_read_16(cdb: &[u8]) -> Result<Command, CdbFault>
 pub(super) fn decode_write_16(cdb: &[u8]) -> Result<Command, CdbFault>
     ensures { result ≡ command_with 0x8A cdb.now }
 {
-    let (lba, transfer_length) = decode_extent_16(&READ_WRITE_16_MASKS, cdb)?;
+    let (lba, transfer_length) = decode_extent_16(WRITE_16.masks, cdb)?;
     Ok(Command::Write16 {
         lba,
         transfer_length,
@@ -123,37 +86,38 @@ pub(super) fn decode_write_16(cdb: &[u8]) -> Result<Command, CdbFault>
 pub(super) fn decode_read_capacity_10(cdb: &[u8]) -> Result<Command, CdbFault>
     ensures { result ≡ command_with 0x25 cdb.now }
 {
-    check_masks(&READ_CAPACITY_10_MASKS, cdb)?;
+    check_masks(READ_CAPACITY_10.masks, cdb)?;
     Ok(Command::ReadCapacity10)
 }
 
 #[tactic(auto, unfolding(crate::specs::Layout::command_with, crate::specs::Layout::fits_masks))]
 pub(super) fn decode_read_capacity_16(cdb: &[u8]) -> Result<Command, CdbFault>
-    requires whole { 16 ≤ length cdb.now }
-    requires action { bit_and (slice_index cdb.now 1) 0x1F ≡ 0x10 }
+    requires { bit_and (slice_index cdb.now 1) 0x1F ≡ 0x10 }
     ensures { result ≡ command_with 0x9E cdb.now }
 {
-    check_masks(&READ_CAPACITY_16_MASKS, cdb)?;
+    check_masks(READ_CAPACITY_16.masks, cdb)?;
     Ok(Command::ReadCapacity16 {
         allocation_length: BigEndian::read_u32(&cdb[10..]),
     })
 }
 
 // The address and the count of READ(6) and WRITE(6).
-fn decode_extent_6(cdb: &[u8]) -> Result<ShortExtent, CdbFault>
+fn decode_extent_6(masks: &[u8], cdb: &[u8]) -> Result<ShortExtent, CdbFault>
+    requires { length masks.now ≡ 6 }
     ensures fits { MatchResult result
-        (λ _. fits_masks READ_WRITE_6_MASKS cdb.now ≡ Ok tt)
-        (λ fault. fits_masks READ_WRITE_6_MASKS cdb.now ≡ Err fault) }
+        (λ _. fits_masks masks.now cdb.now ≡ Ok tt)
+        (λ fault. fits_masks masks.now cdb.now ≡ Err fault) }
     ensures extent { IfOk result (λ extent. extent ≡ value_at cdb.now short_extent) }
 {
-    check_masks(&READ_WRITE_6_MASKS, cdb)?;
+    check_masks(masks, cdb)?;
     let high = u32::from(cdb[1] & 0x1F);
     let rest = u32::from(BigEndian::read_u16(&cdb[2..]));
     Ok(ShortExtent::of_fields(high * 65536 + rest, cdb[4]))
 }
 
 // The address and the count of commands of 10 bytes.
-pub(super) fn decode_extent_10(masks: &[u8; 10], cdb: &[u8]) -> Result<(u32, u16), CdbFault>
+pub(super) fn decode_extent_10(masks: &[u8], cdb: &[u8]) -> Result<(u32, u16), CdbFault>
+    requires { length masks.now ≡ 10 }
     ensures fits { MatchResult result
         (λ _. fits_masks masks.now cdb.now ≡ Ok tt)
         (λ fault. fits_masks masks.now cdb.now ≡ Err fault) }
@@ -170,7 +134,8 @@ pub(super) fn decode_extent_10(masks: &[u8; 10], cdb: &[u8]) -> Result<(u32, u16
 // An address, and the number behind it, of commands of 16 bytes.
 // Inlined, since the masks of each caller are constant: a byte that may have any bit takes no test.
 #[inline(always)]
-pub(super) fn decode_extent_16(masks: &[u8; 16], cdb: &[u8]) -> Result<(u64, u32), CdbFault>
+pub(super) fn decode_extent_16(masks: &[u8], cdb: &[u8]) -> Result<(u64, u32), CdbFault>
+    requires { length masks.now ≡ 16 }
     ensures fits { MatchResult result
         (λ _. fits_masks masks.now cdb.now ≡ Ok tt)
         (λ fault. fits_masks masks.now cdb.now ≡ Err fault) }
@@ -187,15 +152,15 @@ pub(super) fn decode_extent_16(masks: &[u8; 16], cdb: &[u8]) -> Result<(u64, u32
 // ---- Encoding
 
 // READ(6) and WRITE(6). A TRANSFER LENGTH of 0 means 256 blocks.
-pub(super) fn encode_extent_6(opcode: u8, extent: ShortExtent) -> CdbBytes
-    ensures bytes { result ≡ (opcode ∷ extent.0 / 65536 ∷ [])
+pub(super) fn encode_extent_6(row: &Row, extent: ShortExtent) -> CdbBytes
+    ensures bytes { result ≡ (row.now.opcode ∷ extent.0 / 65536 ∷ [])
         ++ big_bytes 2 (extent.0 % 65536) ++ (extent.1 % 256 ∷ 0 ∷ []) }
     ensures lba { extent.0 < 2 ^ 21 }
     ensures count { (1 ≤ extent.1) × (extent.1 ≤ 256) }
 {
     let lba = extent.lba();
     let mut cdb = [0; MAX_CDB_LENGTH];
-    cdb[0] = opcode;
+    cdb[0] = row.opcode;
     cdb[1] = (lba / 65536) as u8;
     BigEndian::write_u16(&mut cdb[2..], (lba % 65536) as u16);
     cdb[4] = (extent.count() % 256) as u8;
@@ -203,23 +168,23 @@ pub(super) fn encode_extent_6(opcode: u8, extent: ShortExtent) -> CdbBytes
 }
 
 // Commands of 10 bytes with an address and a count.
-pub(super) fn encode_extent_10(opcode: u8, lba: u32, count: u16) -> CdbBytes
-    ensures { result ≡ (opcode ∷ 0 ∷ []) ++ big_bytes 4 lba ++ (0 ∷ [])
+pub(super) fn encode_extent_10(row: &Row, lba: u32, count: u16) -> CdbBytes
+    ensures { result ≡ (row.now.opcode ∷ 0 ∷ []) ++ big_bytes 4 lba ++ (0 ∷ [])
         ++ big_bytes 2 count ++ (0 ∷ []) }
 {
     let mut cdb = [0; MAX_CDB_LENGTH];
-    cdb[0] = opcode;
+    cdb[0] = row.opcode;
     BigEndian::write_u32(&mut cdb[2..], lba);
     BigEndian::write_u16(&mut cdb[7..], count);
     CdbBytes::new(cdb, 10)
 }
 
 // READ(16) and WRITE(16).
-pub(super) fn encode_extent_16(opcode: u8, lba: u64, count: u32) -> CdbBytes
-    ensures { result ≡ (opcode ∷ 0 ∷ []) ++ big_bytes 8 lba ++ big_bytes 4 count ++ (0 ∷ 0 ∷ []) }
+pub(super) fn encode_extent_16(row: &Row, lba: u64, count: u32) -> CdbBytes
+    ensures { result ≡ (row.now.opcode ∷ 0 ∷ []) ++ big_bytes 8 lba ++ big_bytes 4 count ++ (0 ∷ 0 ∷ []) }
 {
     let mut cdb = [0; MAX_CDB_LENGTH];
-    cdb[0] = opcode;
+    cdb[0] = row.opcode;
     BigEndian::write_u64(&mut cdb[2..], lba);
     BigEndian::write_u32(&mut cdb[10..], count);
     CdbBytes::new(cdb, 16)
@@ -230,7 +195,7 @@ pub(super) fn encode_read_capacity_10() -> CdbBytes
     ensures { result ≡ cdb_of Command.ReadCapacity10 }
 {
     let mut cdb = [0; MAX_CDB_LENGTH];
-    cdb[0] = READ_CAPACITY_10;
+    cdb[0] = READ_CAPACITY_10.opcode;
     CdbBytes::new(cdb, 10)
 }
 
@@ -239,8 +204,8 @@ pub(super) fn encode_read_capacity_16(allocation_length: u32) -> CdbBytes
     ensures { result ≡ cdb_of (Command.ReadCapacity16 allocation_length) }
 {
     let mut cdb = [0; MAX_CDB_LENGTH];
-    cdb[0] = SERVICE_ACTION_IN_16;
-    cdb[1] = READ_CAPACITY_16;
+    cdb[0] = READ_CAPACITY_16.opcode;
+    cdb[1] = READ_CAPACITY_16.service_action.unwrap_or(0);
     BigEndian::write_u32(&mut cdb[10..], allocation_length);
     CdbBytes::new(cdb, MAX_CDB_LENGTH)
 }

@@ -2,7 +2,7 @@
 ghost use Rattle.std.specs.Prelude.{◌≡◌};
 ghost use Rattle.sg_wire.specs.ReservationAction.{in_action_with, in_code};
 
-/// A service action of PERSISTENT RESERVE IN (SPC-4), with its code.
+/// A service action of PERSISTENT RESERVE IN (SPC-4, 6.15), with its code.
 #[derive(Clone, Copy, Debug, PartialEq, Eq)]
 pub enum InAction {
     /// READ KEYS.

@@ -1,20 +1,12 @@
-// MODE SENSE and MODE SELECT (SPC-4).
+// MODE SENSE and MODE SELECT (SPC-4, 6.11 to 6.14).
 ghost use Rattle.std.specs.Prelude.{◌≡◌, ◌+◌, ◌*◌, ◌<◌, if◌then◌else◌};
 ghost use Rattle.sg_wire.specs.Layout.{cdb_of, command_with};
 
 use super::masks::check_masks;
+use super::table::{MODE_SELECT_6, MODE_SELECT_10, MODE_SENSE_6, MODE_SENSE_10};
 use super::{CdbFault, Command, PageCode, PageControlField};
 use crate::bytes::{CdbBytes, MAX_CDB_LENGTH};
 use byteorder::{BigEndian, ByteOrder};
-
-// Operation codes.
-pub(super) const MODE_SELECT_6: u8 = 0x15;
-
-pub(super) const MODE_SENSE_6: u8 = 0x1A;
-
-pub(super) const MODE_SELECT_10: u8 = 0x55;
-
-pub(super) const MODE_SENSE_10: u8 = 0x5A;
 
 // Bits of byte 1: of MODE SENSE, and of MODE SELECT.
 const LLBAA: u8 = 0x10;
@@ -25,22 +17,13 @@ const PF: u8 = 0x10;
 
 const SP: u8 = 0x01;
 
-// The bits of each byte that may be set.
-const MODE_SENSE_6_MASKS: [u8; 6] = [0xFF, 0x08, 0xFF, 0xFF, 0xFF, 0x00];
-
-const MODE_SENSE_10_MASKS: [u8; 10] = [0xFF, 0x18, 0xFF, 0xFF, 0, 0, 0, 0xFF, 0xFF, 0x00];
-
-const MODE_SELECT_6_MASKS: [u8; 6] = [0xFF, 0x11, 0x00, 0x00, 0xFF, 0x00];
-
-const MODE_SELECT_10_MASKS: [u8; 10] = [0xFF, 0x11, 0, 0, 0, 0, 0, 0xFF, 0xFF, 0x00];
-
 // ---- Decoding
 
 #[tactic(auto, unfolding(crate::specs::Layout::command_with, crate::specs::Layout::fits_masks))]
 pub(super) fn decode_mode_sense_6(cdb: &[u8]) -> Result<Command, CdbFault>
     ensures { result ≡ command_with 0x1A cdb.now }
 {
-    check_masks(&MODE_SENSE_6_MASKS, cdb)?;
+    check_masks(MODE_SENSE_6.masks, cdb)?;
     Ok(Command::ModeSense6 {
         dbd: cdb[1] & DBD != 0,
         page_control: PageControlField::of_byte(cdb[2]),
@@ -54,7 +37,7 @@ pub(super) fn decode_mode_sense_6(cdb: &[u8]) -> Result<Command, CdbFault>
 pub(super) fn decode_mode_sense_10(cdb: &[u8]) -> Result<Command, CdbFault>
     ensures { result ≡ command_with 0x5A cdb.now }
 {
-    check_masks(&MODE_SENSE_10_MASKS, cdb)?;
+    check_masks(MODE_SENSE_10.masks, cdb)?;
     Ok(Command::ModeSense10 {
         llbaa: cdb[1] & LLBAA != 0,
         dbd: cdb[1] & DBD != 0,
@@ -69,7 +52,7 @@ pub(super) fn decode_mode_sense_10(cdb: &[u8]) -> Result<Command, CdbFault>
 pub(super) fn decode_mode_select_6(cdb: &[u8]) -> Result<Command, CdbFault>
     ensures { result ≡ command_with 0x15 cdb.now }
 {
-    check_masks(&MODE_SELECT_6_MASKS, cdb)?;
+    check_masks(MODE_SELECT_6.masks, cdb)?;
     Ok(Command::ModeSelect6 {
         pf: cdb[1] & PF != 0,
         sp: cdb[1] & SP != 0,
@@ -81,7 +64,7 @@ pub(super) fn decode_mode_select_6(cdb: &[u8]) -> Result<Command, CdbFault>
 pub(super) fn decode_mode_select_10(cdb: &[u8]) -> Result<Command, CdbFault>
     ensures { result ≡ command_with 0x55 cdb.now }
 {
-    check_masks(&MODE_SELECT_10_MASKS, cdb)?;
+    check_masks(MODE_SELECT_10.masks, cdb)?;
     Ok(Command::ModeSelect10 {
         pf: cdb[1] & PF != 0,
         sp: cdb[1] & SP != 0,
@@ -105,7 +88,7 @@ pub(super) fn encode_mode_sense_6(
     ensures page_code { page_code < 64 }
 {
     let mut cdb = [0; MAX_CDB_LENGTH];
-    cdb[0] = MODE_SENSE_6;
+    cdb[0] = MODE_SENSE_6.opcode;
     cdb[1] = if dbd { DBD } else { 0 };
     cdb[2] = 64 * page_control.number() + page_code.number();
     cdb[3] = subpage_code;
@@ -128,7 +111,7 @@ pub(super) fn encode_mode_sense_10(
     ensures page_code { page_code < 64 }
 {
     let mut cdb = [0; MAX_CDB_LENGTH];
-    cdb[0] = MODE_SENSE_10;
+    cdb[0] = MODE_SENSE_10.opcode;
     cdb[1] = two_bits(llbaa, LLBAA, dbd, DBD);
     cdb[2] = 64 * page_control.number() + page_code.number();
     cdb[3] = subpage_code;
@@ -141,7 +124,7 @@ pub(super) fn encode_mode_select_6(pf: bool, sp: bool, list_length: u8) -> CdbBy
     ensures { result ≡ cdb_of (Command.ModeSelect6 pf sp list_length) }
 {
     let mut cdb = [0; MAX_CDB_LENGTH];
-    cdb[0] = MODE_SELECT_6;
+    cdb[0] = MODE_SELECT_6.opcode;
     cdb[1] = two_bits(pf, PF, sp, SP);
     cdb[4] = list_length;
     CdbBytes::new(cdb, 6)
@@ -152,7 +135,7 @@ pub(super) fn encode_mode_select_10(pf: bool, sp: bool, list_length: u16) -> Cdb
     ensures { result ≡ cdb_of (Command.ModeSelect10 pf sp list_length) }
 {
     let mut cdb = [0; MAX_CDB_LENGTH];
-    cdb[0] = MODE_SELECT_10;
+    cdb[0] = MODE_SELECT_10.opcode;
     cdb[1] = two_bits(pf, PF, sp, SP);
     BigEndian::write_u16(&mut cdb[7..], list_length);
     CdbBytes::new(cdb, 10)

@@ -2,7 +2,7 @@
 ghost use Rattle.std.specs.Prelude.{◌≡◌};
 ghost use Rattle.sg_wire.specs.ReservationAction.{out_action_with, out_code};
 
-/// A service action of PERSISTENT RESERVE OUT (SPC-4), with its code.
+/// A service action of PERSISTENT RESERVE OUT (SPC-4, 6.16), with its code.
 #[derive(Clone, Copy, Debug, PartialEq, Eq)]
 pub enum OutAction {
     /// REGISTER.

@@ -1,7 +1,7 @@
 // PAGE CODE of MODE SENSE.
 use std::marker::Model;
 
-/// A PAGE CODE of mode pages, 0 to 3Fh (SPC-4).
+/// A PAGE CODE of mode pages, 0 to 3Fh (SPC-4, 6.13).
 #[derive(Clone, Copy, Debug, PartialEq, Eq)]
 pub struct PageCode {
     number: u8,

@@ -1,7 +1,7 @@
 // PC of MODE SENSE.
 use std::marker::Model;
 
-/// A PC field: which values of mode pages are requested, 0 to 3 (SPC-4).
+/// A PC field: which values of mode pages are requested, 0 to 3 (SPC-4, 6.13).
 #[derive(Clone, Copy, Debug, PartialEq, Eq)]
 pub struct PageControlField {
     number: u8,

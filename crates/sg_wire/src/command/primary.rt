@@ -3,23 +3,10 @@ ghost use Rattle.std.specs.Prelude.{◌≡◌};
 ghost use Rattle.sg_wire.specs.Layout.{cdb_of, command_with};
 
 use super::masks::check_masks;
+use super::table::{INQUIRY, REQUEST_SENSE, TEST_UNIT_READY};
 use super::{CdbFault, Command};
 use crate::bytes::{CdbBytes, MAX_CDB_LENGTH};
 use byteorder::{BigEndian, ByteOrder};
-
-// Operation codes.
-pub(super) const TEST_UNIT_READY: u8 = 0x00;
-
-pub(super) const REQUEST_SENSE: u8 = 0x03;
-
-pub(super) const INQUIRY: u8 = 0x12;
-
-// The bits of each byte that may be set.
-const TEST_UNIT_READY_MASKS: [u8; 6] = [0xFF, 0x00, 0x00, 0x00, 0x00, 0x00];
-
-const REQUEST_SENSE_MASKS: [u8; 6] = [0xFF, 0x01, 0x00, 0x00, 0xFF, 0x00];
-
-const INQUIRY_MASKS: [u8; 6] = [0xFF, 0x01, 0xFF, 0xFF, 0xFF, 0x00];
 
 // ---- Decoding
 
@@ -27,7 +14,7 @@ const INQUIRY_MASKS: [u8; 6] = [0xFF, 0x01, 0xFF, 0xFF, 0xFF, 0x00];
 pub(super) fn decode_test_unit_ready(cdb: &[u8]) -> Result<Command, CdbFault>
     ensures { result ≡ command_with 0x00 cdb.now }
 {
-    check_masks(&TEST_UNIT_READY_MASKS, cdb)?;
+    check_masks(TEST_UNIT_READY.masks, cdb)?;
     Ok(Command::TestUnitReady)
 }
 
@@ -35,7 +22,7 @@ pub(super) fn decode_test_unit_ready(cdb: &[u8]) -> Result<Command, CdbFault>
 pub(super) fn decode_request_sense(cdb: &[u8]) -> Result<Command, CdbFault>
     ensures { result ≡ command_with 0x03 cdb.now }
 {
-    check_masks(&REQUEST_SENSE_MASKS, cdb)?;
+    check_masks(REQUEST_SENSE.masks, cdb)?;
     Ok(Command::RequestSense {
         desc: cdb[1] & 0x01 != 0,
         allocation_length: cdb[4],
@@ -46,7 +33,7 @@ pub(super) fn decode_request_sense(cdb: &[u8]) -> Result<Command, CdbFault>
 pub(super) fn decode_inquiry(cdb: &[u8]) -> Result<Command, CdbFault>
     ensures { result ≡ command_with 0x12 cdb.now }
 {
-    check_masks(&INQUIRY_MASKS, cdb)?;
+    check_masks(INQUIRY.masks, cdb)?;
     Ok(Command::Inquiry {
         evpd: cdb[1] & 0x01 != 0,
         page_code: cdb[2],
@@ -61,7 +48,7 @@ pub(super) fn encode_test_unit_ready() -> CdbBytes
     ensures { result ≡ cdb_of Command.TestUnitReady }
 {
     let mut cdb = [0; MAX_CDB_LENGTH];
-    cdb[0] = TEST_UNIT_READY;
+    cdb[0] = TEST_UNIT_READY.opcode;
     CdbBytes::new(cdb, 6)
 }
 
@@ -70,7 +57,7 @@ pub(super) fn encode_request_sense(desc: bool, allocation_length: u8) -> CdbByte
     ensures { result ≡ cdb_of (Command.RequestSense desc allocation_length) }
 {
     let mut cdb = [0; MAX_CDB_LENGTH];
-    cdb[0] = REQUEST_SENSE;
+    cdb[0] = REQUEST_SENSE.opcode;
     cdb[1] = u8::from(desc);
     cdb[4] = allocation_length;
     CdbBytes::new(cdb, 6)
@@ -81,7 +68,7 @@ pub(super) fn encode_inquiry(evpd: bool, page_code: u8, allocation_length: u16) 
     ensures { result ≡ cdb_of (Command.Inquiry evpd page_code allocation_length) }
 {
     let mut cdb = [0; MAX_CDB_LENGTH];
-    cdb[0] = INQUIRY;
+    cdb[0] = INQUIRY.opcode;
     cdb[1] = u8::from(evpd);
     cdb[2] = page_code;
     BigEndian::write_u16(&mut cdb[3..], allocation_length);

@@ -1,5 +1,5 @@
 // A sink that keeps what it takes, up to a number of replies.
-use sg_blocks::Counts;
+use sg_store::Counts;
 use sg_target::{Reply, Sink, Status};
 use std::alloc::{AllocError, Global};
 use std::marker::Model;

@@ -1,6 +1,6 @@
 use Rattle.std.proofs.Common.{◌-◌, ap, sym, ◌∙◌, arith, refl}
-use Rattle.sg_blocks.specs.Draft.{Drafted}
-use Rattle.sg_blocks.proofs.RecordLemmas.{start_of-read}
+use Rattle.sg_table.specs.Draft.{Drafted}
+use Rattle.sg_table.proofs.RecordLemmas.{start_of-read}
 use Rattle.sg_block_map.proofs.GatheringLemmas.{begun-none, begun-one, end_at-read}
 use Rattle.sg_block_map.proofs.gather.gather_before.Goals as goal
 

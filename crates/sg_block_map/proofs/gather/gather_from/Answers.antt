@@ -1,16 +1,16 @@
 use Rattle.std.proofs.Common.{◌≡◌, ℕ, ◌+◌, ◌-◌, ◌<◌, List, length, ap, sym, ◌∙◌, arith}
 use Rattle.std.proofs.lemmas.List.{length_push}
 use Rattle.std.specs.Prelude.{slice_index_or}
-use Rattle.sg_blocks.specs.Draft.{Drafted, pushed}
-use Rattle.sg_blocks.specs.Records.{start_of}
-use Rattle.sg_blocks.specs.Table.{Table, visited}
-use Rattle.sg_blocks.specs.declared.run.Run.{Run}
-use Rattle.sg_blocks.specs.declared.store.TheConstants.{MAX_CAPACITY}
+use Rattle.sg_table.specs.Draft.{Drafted, pushed}
+use Rattle.sg_table.specs.Records.{start_of}
+use Rattle.sg_table.specs.Table.{Table, visited}
+use Rattle.sg_table.specs.declared.run.Run.{Run}
+use Rattle.sg_store.specs.declared.store.TheConstants.{MAX_CAPACITY}
 use Rattle.sg_block_map.specs.Gathering.{end_at, end_index}
 use Rattle.sg_block_map.specs.Runs.{end_of}
-use Rattle.sg_blocks.proofs.RecordLemmas.{start_of-read}
-use Rattle.sg_blocks.proofs.SpliceLemmas.{same-splice}
-use Rattle.sg_blocks.proofs.TableLemmas.{visited-more}
+use Rattle.sg_table.proofs.RecordLemmas.{start_of-read}
+use Rattle.sg_table.proofs.SpliceLemmas.{same-splice}
+use Rattle.sg_table.proofs.TableLemmas.{visited-more}
 use Rattle.sg_block_map.proofs.AddressLemmas.{maximal-order, ends-below}
 use Rattle.sg_block_map.proofs.GatheringLemmas.{count-begun, near-more, begun-more, end_at-read}
 use Rattle.sg_block_map.proofs.gather.gather_from.Goals as goal

@@ -1,7 +1,7 @@
 use Rattle.std.proofs.Common.{◌≡◌, ℕ, ◌-◌, ◌<◌, ◌≤◌, length}
 use Rattle.std.specs.List.{splice}
-use Rattle.sg_blocks.specs.Records.{start_of}
-use Rattle.sg_blocks.specs.Table.{visited}
+use Rattle.sg_table.specs.Records.{start_of}
+use Rattle.sg_table.specs.Table.{visited}
 use Rattle.sg_block_map.specs.Gathering.{end_index}
 use Rattle.sg_block_map.proofs.gather.gather_from.Given as goal
 

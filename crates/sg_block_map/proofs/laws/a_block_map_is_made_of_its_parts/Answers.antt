@@ -1,7 +1,7 @@
 use mathlib.Core.HLevel.{Σ_prop_path}
 use Rattle.std.proofs.Common.{◌≡◌, refl}
 use Rattle.std.proofs.Props.{props}
-use Rattle.sg_blocks.specs.Draft.{Drafted, empty_draft}
+use Rattle.sg_table.specs.Draft.{Drafted, empty_draft}
 use Rattle.sg_block_map.specs.Parts.{IsMadeOfParts}
 use Rattle.sg_block_map.proofs.laws.a_block_map_is_made_of_its_parts.Goals as goal
 

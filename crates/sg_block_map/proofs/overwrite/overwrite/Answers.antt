@@ -1,14 +1,14 @@
 use Rattle.std.proofs.Common.{◌≡◌, ◌+◌, ◌-◌, List, ◌∷◌, ◌++◌, length, length-set, set, arith, ap}
 use Rattle.std.proofs.Common.{ap₂, sym, ◌∙◌, add-zero}
 use Rattle.std.specs.Prelude.{slice_index}
-use Rattle.sg_blocks.specs.Chains.{slot_after}
-use Rattle.sg_blocks.specs.Records.{contents_of}
-use Rattle.sg_blocks.specs.Slots.{Slots}
-use Rattle.sg_blocks.specs.Source.{block_of}
-use Rattle.sg_blocks.specs.declared.run.Run.{Run}
+use Rattle.sg_pool.specs.Chains.{slot_after}
+use Rattle.sg_pool.specs.MappedRecords.{contents_of}
+use Rattle.sg_pool.specs.Slots.{Slots}
+use Rattle.sg_pool.specs.Source.{block_of}
+use Rattle.sg_table.specs.declared.run.Run.{Run}
 use Rattle.sg_block_map.specs.Runs.{expanded, chained_contents}
-use Rattle.sg_blocks.proofs.DiskLemmas.{replaced-none, replaced-more}
-use Rattle.sg_blocks.proofs.LinkLemmas.{slot_after-more}
+use Rattle.sg_store.proofs.DiskLemmas.{replaced-none, replaced-more}
+use Rattle.sg_pool.proofs.LinkLemmas.{slot_after-more}
 use Rattle.sg_block_map.proofs.OverwriteLemmas.{consistent-other, over-contents}
 use Rattle.sg_block_map.proofs.SplitLemmas.{below-part_of_chain, slot-below}
 use Rattle.sg_block_map.proofs.overwrite.overwrite.Goals as goal

@@ -1,9 +1,9 @@
 use Rattle.std.proofs.Common.{◌≡◌, ◌+◌, ◌-◌, List, ◌∷◌, ◌++◌, length}
-use Rattle.sg_blocks.specs.Chains.{slot_after}
-use Rattle.sg_blocks.specs.Disk.{replaced}
-use Rattle.sg_blocks.specs.Slots.{IsConsistent}
-use Rattle.sg_blocks.specs.Source.{block_of}
-use Rattle.sg_blocks.specs.declared.run.Run.{Run}
+use Rattle.sg_pool.specs.Chains.{slot_after}
+use Rattle.sg_store.specs.Disk.{replaced}
+use Rattle.sg_pool.specs.MappedRecords.{IsConsistent}
+use Rattle.sg_pool.specs.Source.{block_of}
+use Rattle.sg_table.specs.declared.run.Run.{Run}
 use Rattle.sg_block_map.specs.Runs.{expanded, chained_contents}
 use Rattle.sg_block_map.proofs.overwrite.overwrite.Given as goal
 

@@ -3,7 +3,7 @@ use Rattle.std.specs.Bool.{Decides}
 use Rattle.std.specs.List.{splice}
 use Rattle.std.proofs.lemmas.Bool.Decides.{Decides-and, Decides-eqb}
 use Rattle.std.proofs.lemmas.Slice.Eq.{slice_eq-Decides}
-use Rattle.sg_blocks.specs.declared.run.Run.{Run}
+use Rattle.sg_table.specs.declared.run.Run.{Run}
 use Rattle.sg_block_map.specs.Gathering.{end_index}
 use Rattle.sg_block_map.proofs.put.put_runs.Goals as goal
 
@@ -35,4 +35,5 @@ returns-then-eq-clause-table c =
     let equal = (slice_eq-Decides run-Decides c.args.runs.now c.records-old.result.now _ c.eq.ensures).0
     c.if-eq.true in
     let same : c.args.runs.now ≡ g.records = equal ∙ c.records-old.ensures in
-    ap (λ x. record t { records = x }) (sym (ap (splice t.records g.from (end_index g)) same ∙ c.requires.same))
+    ap (λ x. record t { records = x })
+    (sym (ap (splice t.records g.from (end_index g)) same ∙ c.requires.same))

@@ -1,8 +1,8 @@
 use Rattle.std.proofs.Common.{◌≡◌, ℕ, List, length, ap, sym, ◌∙◌, arith, replicate, Option}
 use Rattle.std.specs.FinMap as map
 use Rattle.std.specs.Prelude.{unwrap_or}
-use Rattle.sg_blocks.specs.Disk.{zero_block}
-use Rattle.sg_blocks.specs.Records.{contents_of}
+use Rattle.sg_store.specs.Disk.{zero_block}
+use Rattle.sg_pool.specs.MappedRecords.{contents_of}
 use Rattle.sg_block_map.specs.Runs.{expanded}
 use Rattle.sg_block_map.proofs.WalkLemmas.{first-slot, first-block, first-ahead, first-later}
 use Rattle.sg_block_map.proofs.WalkLemmas.{first-length, skip-block}

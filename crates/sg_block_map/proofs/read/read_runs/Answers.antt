@@ -3,11 +3,11 @@ use Rattle.std.proofs.Common.{add-zero, length-append, Option}
 use Rattle.std.proofs.lemmas.Slice.{take-put_mid}
 use Rattle.std.specs.FinMap as map
 use Rattle.std.specs.Prelude.{unwrap_or, option_to_list}
-use Rattle.sg_blocks.specs.Disk.{block, zero_block}
-use Rattle.sg_blocks.specs.Slots.{Slots}
+use Rattle.sg_store.specs.Disk.{block, zero_block}
+use Rattle.sg_pool.specs.Slots.{Slots}
 use Rattle.sg_block_map.specs.Runs.{expanded, chained_contents}
 use Rattle.sg_block_map.specs.Walking.{ahead_of}
-use Rattle.sg_blocks.proofs.DiskLemmas.{blocks-none, blocks-more}
+use Rattle.sg_store.proofs.DiskLemmas.{blocks-none, blocks-more}
 use Rattle.sg_block_map.proofs.ExpandedLemmas.{expanded-append}
 use Rattle.sg_block_map.proofs.SplitLemmas.{followed-on}
 use Rattle.sg_block_map.proofs.WalkLemmas.{walk_from-ahead, walk_from-parts, get-walk_from}

@@ -1,7 +1,7 @@
 use Rattle.std.proofs.Common.{◌≡◌, ℕ, ◌+◌, ◌-◌, ◌*◌, ◌≤◌, take, length}
 use Rattle.std.specs.FinMap as map
-use Rattle.sg_blocks.specs.Disk.{blocks}
-use Rattle.sg_blocks.specs.Slots.{followed}
+use Rattle.sg_store.specs.Disk.{blocks}
+use Rattle.sg_pool.specs.Slots.{followed}
 use Rattle.sg_block_map.specs.Runs.{expanded, chained_contents}
 use Rattle.sg_block_map.specs.Walking.{ahead_of, AreAhead}
 use Rattle.sg_block_map.proofs.read.read_runs.Given as goal

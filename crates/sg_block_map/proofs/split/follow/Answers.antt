@@ -1,7 +1,7 @@
 use Rattle.std.proofs.Common.{length, ap, ap₂, sym, ◌∙◌, arith}
 use Rattle.std.specs.Prelude.{slice_index}
-use Rattle.sg_blocks.specs.Slots.{Slots, followed}
-use Rattle.sg_blocks.proofs.LinkLemmas.{slot_after-none, slot_after-more}
+use Rattle.sg_pool.specs.Slots.{Slots, followed}
+use Rattle.sg_pool.proofs.LinkLemmas.{slot_after-none, slot_after-more}
 use Rattle.sg_block_map.proofs.SplitLemmas.{slot-below, followed-none, followed-more}
 use Rattle.sg_block_map.proofs.split.follow.Goals as goal
 

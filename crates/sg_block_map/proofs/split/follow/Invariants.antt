@@ -1,6 +1,6 @@
 use Rattle.std.proofs.Common.{◌≡◌}
-use Rattle.sg_blocks.specs.Chains.{slot_after}
-use Rattle.sg_blocks.specs.Slots.{followed}
+use Rattle.sg_pool.specs.Chains.{slot_after}
+use Rattle.sg_pool.specs.Slots.{followed}
 use Rattle.sg_block_map.proofs.split.follow.Given as goal
 
 -- `i` links were followed

@@ -1,8 +1,8 @@
 use Rattle.std.proofs.Common.{◌≡◌, ◌+◌, ◌-◌, length, ap, ap₂, sym, ◌∙◌, arith}
 use Rattle.std.specs.Prelude.{slice_index}
-use Rattle.sg_blocks.specs.Chains.{slot_after}
-use Rattle.sg_blocks.specs.Slots.{Slots}
-use Rattle.sg_blocks.proofs.LinkLemmas.{slot_after-more}
+use Rattle.sg_pool.specs.Chains.{slot_after}
+use Rattle.sg_pool.specs.Slots.{Slots}
+use Rattle.sg_pool.proofs.LinkLemmas.{slot_after-more}
 use Rattle.sg_block_map.proofs.SplitLemmas.{slot-below, below-part_of_chain}
 use Rattle.sg_block_map.proofs.split.split.Goals as goal
 

@@ -1,7 +1,7 @@
 use Rattle.std.proofs.Common.{◌-◌, ap, sym, ◌∙◌, arith}
 use Rattle.std.specs.Prelude.{slice_index_or}
-use Rattle.sg_blocks.specs.Table.{Table}
-use Rattle.sg_blocks.proofs.RecordLemmas.{start_of-read}
+use Rattle.sg_table.specs.Table.{Table}
+use Rattle.sg_table.proofs.RecordLemmas.{start_of-read}
 use Rattle.sg_block_map.proofs.GatheringLemmas.{end_at-read}
 use Rattle.sg_block_map.proofs.StatusLemmas.{cursor-before, cursor-at, run_table-sorted}
 use Rattle.sg_block_map.proofs.status.cursor_over.Goals as goal

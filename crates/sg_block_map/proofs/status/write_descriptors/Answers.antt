@@ -5,21 +5,21 @@ use Rattle.std.proofs.lemmas.List.{take_more}
 use Rattle.std.specs.List.{flat_map}
 use Rattle.sg_wire.specs.Cut.{answer_of}
 use Rattle.sg_wire.specs.CutAnswer.{put}
-use Rattle.sg_blocks.specs.Disk.{Contents}
-use Rattle.sg_blocks.specs.LbaStatus.{covered, descriptor_at, descriptor_bytes, descriptors_from}
-use Rattle.sg_blocks.specs.Records.{passed}
-use Rattle.sg_blocks.specs.Slots.{Slots}
-use Rattle.sg_blocks.specs.Table.{Table}
-use Rattle.sg_blocks.specs.declared.lba_status.StatusDescriptor.{StatusDescriptor}
-use Rattle.sg_blocks.specs.declared.run.Run.{Run}
+use Rattle.sg_store.specs.Disk.{Contents}
+use Rattle.sg_store.specs.LbaStatus.{covered, descriptor_at, descriptor_bytes, descriptors_from}
+use Rattle.sg_table.specs.Records.{passed}
+use Rattle.sg_pool.specs.Slots.{Slots}
+use Rattle.sg_table.specs.Table.{Table}
+use Rattle.sg_store.specs.declared.lba_status.StatusDescriptor.{StatusDescriptor}
+use Rattle.sg_table.specs.declared.run.Run.{Run}
 use Rattle.sg_block_map.specs.Gathering.{end_at}
 use Rattle.sg_block_map.specs.Runs.{chained_contents}
 use Rattle.sg_block_map.specs.Status.{AreFrom, AreMet, IsRunTable, records_met}
 use Rattle.sg_wire.proofs.CutLemmas.{put-nil}
-use Rattle.sg_blocks.proofs.DescriptorLemmas.{descriptors-more, descriptors-end, descriptors-none}
-use Rattle.sg_blocks.proofs.DescriptorLemmas.{covered-more}
-use Rattle.sg_blocks.proofs.StatusLemmas.{descriptor-put}
-use Rattle.sg_blocks.proofs.TableLemmas.{ahead-le}
+use Rattle.sg_store.proofs.DescriptorLemmas.{descriptors-more, descriptors-end, descriptors-none}
+use Rattle.sg_store.proofs.DescriptorLemmas.{covered-more}
+use Rattle.sg_store.proofs.StatusLemmas.{descriptor-put}
+use Rattle.sg_table.proofs.TableLemmas.{ahead-le}
 use Rattle.sg_block_map.proofs.StatusLemmas.{next-of, all-of, visited-trade}
 use Rattle.sg_block_map.proofs.MeetingLemmas.{met-count}
 use Rattle.sg_block_map.proofs.status.write_descriptors.Goals as goal
@@ -124,7 +124,8 @@ returns-else-count-lt-MAX_DESCRIPTORS-clause-data c =
     (all slots) c.if-count-lt-MAX_DESCRIPTORS.false (inv.more slots)) (inv.len slots) in
     inv.put slots ∙ ap (λ ds. put (answer_of c.args.cut.now) (flat_map descriptor_bytes ds)) end.0
 
-pub returns-else-count-lt-MAX_DESCRIPTORS-clause-count : goal.returns-else-count-lt-MAX_DESCRIPTORS-clause-count
+pub returns-else-count-lt-MAX_DESCRIPTORS-clause-count :
+    goal.returns-else-count-lt-MAX_DESCRIPTORS-clause-count
 returns-else-count-lt-MAX_DESCRIPTORS-clause-count c =
     let rs = c.args.table.now.records in
     let inv = c.loop-next.invariant in
@@ -134,7 +135,8 @@ returns-else-count-lt-MAX_DESCRIPTORS-clause-count c =
     (full-end (chained_contents rs slots) c.args.capacity c.loop-next.next c.loop-next.count
     (all slots) c.if-count-lt-MAX_DESCRIPTORS.false (inv.more slots)) (inv.len slots)).1
 
-pub returns-else-count-lt-MAX_DESCRIPTORS-clause-least : goal.returns-else-count-lt-MAX_DESCRIPTORS-clause-least
+pub returns-else-count-lt-MAX_DESCRIPTORS-clause-least :
+    goal.returns-else-count-lt-MAX_DESCRIPTORS-clause-least
 returns-else-count-lt-MAX_DESCRIPTORS-clause-least c =
     let rs = c.args.table.now.records in
     let inv = c.loop-next.invariant in

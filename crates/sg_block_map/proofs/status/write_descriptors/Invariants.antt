@@ -1,10 +1,10 @@
 use Rattle.std.proofs.Common.{◌≡◌, ◌+◌, ◌-◌, ◌≤◌, ◌<◌, ◌⊎◌, length, take, drop}
 use Rattle.std.specs.List.{flat_map}
 use Rattle.sg_wire.specs.Cut.{Puts}
-use Rattle.sg_blocks.specs.LbaStatus.{covered, descriptor_bytes, descriptors_from}
-use Rattle.sg_blocks.specs.Records.{passed}
-use Rattle.sg_blocks.specs.Slots.{Slots}
-use Rattle.sg_blocks.specs.Table.{visited}
+use Rattle.sg_store.specs.LbaStatus.{covered, descriptor_bytes, descriptors_from}
+use Rattle.sg_table.specs.Records.{passed}
+use Rattle.sg_pool.specs.Slots.{Slots}
+use Rattle.sg_table.specs.Table.{visited}
 use Rattle.sg_block_map.specs.Runs.{chained_contents}
 use Rattle.sg_block_map.specs.Status.{AreFrom, AreMet, IsOver}
 use Rattle.sg_block_map.proofs.status.write_descriptors.Given as goal

@@ -1,9 +1,10 @@
 use Rattle.std.proofs.Common.{◌≤◌, ◌++◌, length, ap, sym, subst, ◌∙◌, arith}
 use Rattle.std.specs.Prelude.{slice_index, option_to_list}
-use Rattle.sg_blocks.specs.Slots.{slots_of, occurrences}
+use Rattle.sg_table.specs.Records.{slots_of}
+use Rattle.sg_table.specs.Occurrences.{occurrences}
 use Rattle.sg_block_map.specs.Cutting.{AreDistinct, StaysBut}
 use Rattle.sg_block_map.specs.Runs.{expanded}
-use Rattle.sg_blocks.proofs.LinkLemmas.{below-in}
+use Rattle.sg_pool.proofs.LinkLemmas.{below-in}
 use Rattle.sg_block_map.proofs.CutLemmas.{slots-one, length-part, stays-set, once-given}
 use Rattle.sg_block_map.proofs.ExpandedLemmas.{expanded-none, last-in}
 use Rattle.sg_block_map.proofs.unmap.give.Goals as goal

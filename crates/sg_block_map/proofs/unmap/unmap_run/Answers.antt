@@ -1,7 +1,7 @@
 use Rattle.std.proofs.Common.{◌≡◌, ◌++◌, [], ◌∷◌, length, ap, sym, ◌∙◌, arith}
 use Rattle.std.specs.Prelude.{option_to_list}
-use Rattle.sg_blocks.specs.Draft.{Drafted}
-use Rattle.sg_blocks.specs.Slots.{Slots}
+use Rattle.sg_table.specs.Draft.{Drafted}
+use Rattle.sg_pool.specs.Slots.{Slots}
 use Rattle.sg_block_map.specs.Runs.{expanded, singles_of}
 use Rattle.sg_block_map.proofs.CutLemmas.{slots-one, length-part, part-slots, part-length}
 use Rattle.sg_block_map.proofs.CutLemmas.{part-below, parts-twice, rest-chained, cut-front}

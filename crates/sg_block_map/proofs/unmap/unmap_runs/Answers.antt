@@ -7,13 +7,13 @@ use Rattle.std.specs.FinMap.{find}
 use Rattle.std.specs.List.{splice}
 use Rattle.std.specs.Ordering.{nat_cmp}
 use Rattle.std.specs.Prelude.{slice_index_or}
-use Rattle.sg_blocks.specs.Disk.{unmapped}
-use Rattle.sg_blocks.specs.Draft.{Drafted}
-use Rattle.sg_blocks.specs.Records.{mapped_blocks, contents_of}
-use Rattle.sg_blocks.specs.Slots.{Slots}
-use Rattle.sg_blocks.specs.Table.{Table}
-use Rattle.sg_blocks.specs.declared.run.Run.{Run}
-use Rattle.sg_blocks.specs.declared.store.TheConstants.{MAX_CAPACITY}
+use Rattle.sg_store.specs.Disk.{unmapped}
+use Rattle.sg_table.specs.Draft.{Drafted}
+use Rattle.sg_pool.specs.MappedRecords.{mapped_blocks, contents_of}
+use Rattle.sg_pool.specs.Slots.{Slots}
+use Rattle.sg_table.specs.Table.{Table}
+use Rattle.sg_table.specs.declared.run.Run.{Run}
+use Rattle.sg_store.specs.declared.store.TheConstants.{MAX_CAPACITY}
 use Rattle.sg_block_map.specs.Gathering.{end_index, AreGathered}
 use Rattle.sg_block_map.specs.Runs.{expanded, AreRuns}
 use Rattle.sg_block_map.proofs.CutRunsLemmas.{cut-runs, cut-contents, cut-outside, run-chain}

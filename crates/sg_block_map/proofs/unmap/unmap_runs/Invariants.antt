@@ -2,8 +2,8 @@ use Rattle.std.proofs.Common.{◌≡◌, ℕ, ◌+◌, ◌-◌, ◌<◌, ◌≤�
 use Rattle.std.specs.FinMap.{find}
 use Rattle.std.specs.List.{splice}
 use Rattle.std.specs.Ordering.{nat_cmp}
-use Rattle.sg_blocks.specs.Disk.{unmapped}
-use Rattle.sg_blocks.specs.Records.{mapped_blocks, contents_of}
+use Rattle.sg_store.specs.Disk.{unmapped}
+use Rattle.sg_pool.specs.MappedRecords.{mapped_blocks, contents_of}
 use Rattle.sg_block_map.specs.Runs.{expanded, AreRuns, blocks_of}
 use Rattle.sg_block_map.proofs.unmap.unmap_runs.Given as goal
 

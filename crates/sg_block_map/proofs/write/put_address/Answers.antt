@@ -1,12 +1,13 @@
 use Rattle.std.proofs.Common.{◌≡◌, ℕ, ◌-◌, List, ◌∷◌, ◌++◌, set, drop, ap, ap₂, sym, subst, ◌∙◌}
 use Rattle.std.proofs.Common.{arith, Some, Option}
-use Rattle.sg_blocks.specs.Records.{single}
-use Rattle.sg_blocks.specs.Slots.{Slots, occurrences}
-use Rattle.sg_blocks.specs.declared.run.Run.{Run}
+use Rattle.sg_table.specs.Records.{single}
+use Rattle.sg_pool.specs.Slots.{Slots}
+use Rattle.sg_table.specs.Occurrences.{occurrences}
+use Rattle.sg_table.specs.declared.run.Run.{Run}
 use Rattle.sg_block_map.specs.Joining.{joined, linked, KeepSlots}
 use Rattle.sg_block_map.specs.Runs.{chained_contents}
 use Rattle.sg_block_map.specs.Walking.{ahead_of}
-use Rattle.sg_blocks.proofs.OccurrenceLemmas.{occurrences-more}
+use Rattle.sg_table.proofs.OccurrenceLemmas.{occurrences-more}
 use Rattle.sg_block_map.proofs.WalkLemmas.{there}
 use Rattle.sg_block_map.proofs.WriteLemmas.{new-writing, new-contents, new-keeps, walked-writing}
 use Rattle.sg_block_map.proofs.WriteLemmas.{walked-contents, walked-keeps, done-last, slot-taken}

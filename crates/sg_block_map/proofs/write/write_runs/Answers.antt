@@ -4,17 +4,17 @@ use Rattle.std.proofs.Common.{add-zero}
 use Rattle.std.proofs.lemmas.List.{length-take-le}
 use Rattle.std.specs.FinMap as map
 use Rattle.std.specs.Prelude.{unwrap_or}
-use Rattle.sg_blocks.specs.Records.{contents_of}
-use Rattle.sg_blocks.specs.Slots.{Slots}
-use Rattle.sg_blocks.specs.Source.{block_of}
-use Rattle.sg_blocks.specs.Table.{Table}
-use Rattle.sg_blocks.specs.declared.run.Run.{Run}
-use Rattle.sg_blocks.specs.declared.store.TheConstants.{MAX_CAPACITY}
+use Rattle.sg_pool.specs.MappedRecords.{contents_of}
+use Rattle.sg_pool.specs.Slots.{Slots}
+use Rattle.sg_pool.specs.Source.{block_of}
+use Rattle.sg_table.specs.Table.{Table}
+use Rattle.sg_table.specs.declared.run.Run.{Run}
+use Rattle.sg_store.specs.declared.store.TheConstants.{MAX_CAPACITY}
 use Rattle.sg_block_map.specs.Gathering.{end_index}
 use Rattle.sg_block_map.specs.Joining.{no_run}
 use Rattle.sg_block_map.specs.Runs.{expanded, AreRuns, chained_contents}
 use Rattle.sg_block_map.specs.Walking.{ahead_of}
-use Rattle.sg_blocks.proofs.DiskLemmas.{replaced-none, replaced-more}
+use Rattle.sg_store.proofs.DiskLemmas.{replaced-none, replaced-more}
 use Rattle.sg_block_map.proofs.BetweenLemmas.{maximal-weaker}
 use Rattle.sg_block_map.proofs.CutRunsLemmas.{runs-fit, gathered-blocks, length-expanded}
 use Rattle.sg_block_map.proofs.FinishLemmas.{begin-expanded, begin-writing, gathered-ahead}

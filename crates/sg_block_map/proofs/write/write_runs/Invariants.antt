@@ -1,6 +1,6 @@
 use Rattle.std.proofs.Common.{◌≡◌, ◌+◌, ◌≤◌, ◌++◌, ◌∷◌, take, drop, length}
-use Rattle.sg_blocks.specs.Disk.{replaced}
-use Rattle.sg_blocks.specs.Source.{block_of}
+use Rattle.sg_store.specs.Disk.{replaced}
+use Rattle.sg_pool.specs.Source.{block_of}
 use Rattle.sg_block_map.specs.Gathering.{AreNear, end_index}
 use Rattle.sg_block_map.specs.Joining.{IsWriting, KeepSlots}
 use Rattle.sg_block_map.specs.Runs.{chained_contents, blocks_of}

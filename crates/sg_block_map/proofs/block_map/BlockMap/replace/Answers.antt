@@ -2,17 +2,17 @@ use Rattle.std.proofs.Common.{◌≡◌, ◌+◌, [], ◌∷◌, ap, sym, subst,
 use Rattle.std.specs.FinMap as map'
 use Rattle.std.specs.List.{range_with_len}
 use Rattle.std.specs.Prelude.{map}
-use Rattle.sg_blocks.specs.Disk.{Contents, IsWellFormed, replaced, mapped_among}
-use Rattle.sg_blocks.specs.Meter.{Meter}
-use Rattle.sg_blocks.specs.Records.{contents_of}
-use Rattle.sg_blocks.specs.Source.{block_of}
-use Rattle.sg_blocks.specs.Table.{Table}
-use Rattle.sg_blocks.specs.declared.store.TheConstants.{MAX_CAPACITY}
+use Rattle.sg_store.specs.Disk.{Contents, IsWellFormed, replaced, mapped_among}
+use Rattle.sg_store.specs.Meter.{Meter}
+use Rattle.sg_pool.specs.MappedRecords.{contents_of}
+use Rattle.sg_pool.specs.Source.{block_of}
+use Rattle.sg_table.specs.Table.{Table}
+use Rattle.sg_store.specs.declared.store.TheConstants.{MAX_CAPACITY}
 use Rattle.sg_block_map.specs.RunCost.{CostsRange}
 use Rattle.sg_block_map.specs.Runs.{expanded, chained_contents}
 use Rattle.sg_block_map.specs.State.{disk_of, meter_at, slot_map}
-use Rattle.sg_blocks.proofs.DiskLemmas.{replaced-none}
-use Rattle.sg_blocks.proofs.WellFormedLemmas.{well_formed-replaced}
+use Rattle.sg_store.proofs.DiskLemmas.{replaced-none}
+use Rattle.sg_store.proofs.WellFormedLemmas.{well_formed-replaced}
 use Rattle.sg_block_map.proofs.CutRunsLemmas.{runs-fit, gathered-blocks}
 use Rattle.sg_block_map.proofs.StoreLemmas.{runs-ahead, gathered-mapped}
 use Rattle.sg_block_map.proofs.StoreLemmas.{size, size-replaced}

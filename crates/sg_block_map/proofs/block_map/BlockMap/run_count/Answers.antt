@@ -1,6 +1,6 @@
 use Rattle.std.proofs.Common.{◌+◌, length, ap, sym, ◌∙◌}
 use Rattle.std.proofs.lemmas.List.{length-map}
-use Rattle.sg_blocks.specs.declared.store.TheConstants.{MAX_CAPACITY}
+use Rattle.sg_store.specs.declared.store.TheConstants.{MAX_CAPACITY}
 use Rattle.sg_block_map.specs.Runs.{extent_of}
 use Rattle.sg_block_map.proofs.MaximalLemmas.{runs-extents}
 use Rattle.sg_block_map.proofs.block_map.BlockMap.run_count.Goals as goal

@@ -1,6 +1,6 @@
 use Rattle.std.proofs.Common.{ap, sym, subst}
-use Rattle.sg_blocks.specs.Disk.{IsWellFormed}
-use Rattle.sg_blocks.specs.Table.{Table}
+use Rattle.sg_store.specs.Disk.{IsWellFormed}
+use Rattle.sg_table.specs.Table.{Table}
 use Rattle.sg_block_map.specs.Runs.{AreRuns, chained_contents}
 use Rattle.sg_block_map.proofs.StoreLemmas.{no-runs, no-contents}
 use Rattle.sg_block_map.proofs.block_map.BlockMapStore.make.Goals as goal

@@ -2,9 +2,9 @@ use Rattle.std.proofs.Common.{◌≡◌, ◌≤◌, ◌++◌, ℕ, length, ap, s
 use Rattle.std.specs.List.{flat_map}
 use Rattle.sg_wire.specs.Cut.{answer_of}
 use Rattle.sg_wire.specs.CutAnswer.{put, replace}
-use Rattle.sg_blocks.specs.LbaStatus.{covered, lba_status, descriptor_bytes, status_header}
-use Rattle.sg_blocks.specs.LbaStatus.{status_data}
-use Rattle.sg_blocks.specs.Table.{Table}
+use Rattle.sg_store.specs.LbaStatus.{covered, lba_status, descriptor_bytes, status_header}
+use Rattle.sg_store.specs.LbaStatus.{status_data}
+use Rattle.sg_table.specs.Table.{Table}
 use Rattle.sg_block_map.specs.State.{disk_of}
 use Rattle.sg_wire.proofs.CutLemmas.{put-put, put-longer, put-replaced, written-within}
 use Rattle.sg_block_map.proofs.StatusLemmas.{run_table-of, visits-joined}

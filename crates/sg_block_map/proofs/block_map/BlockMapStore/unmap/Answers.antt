@@ -1,14 +1,14 @@
 use Rattle.std.proofs.Common.{◌≡◌, ◌+◌, ◌-◌, [], ◌∷◌, ap, ap₂, sym, subst, ◌∙◌, arith}
 use Rattle.std.specs.List.{range_with_len}
 use Rattle.std.specs.Prelude.{map}
-use Rattle.sg_blocks.specs.Disk.{Contents, IsWellFormed, unmapped}
-use Rattle.sg_blocks.specs.Meter.{Meter}
-use Rattle.sg_blocks.specs.Records.{contents_of}
-use Rattle.sg_blocks.specs.Table.{Table}
+use Rattle.sg_store.specs.Disk.{Contents, IsWellFormed, unmapped}
+use Rattle.sg_store.specs.Meter.{Meter}
+use Rattle.sg_pool.specs.MappedRecords.{contents_of}
+use Rattle.sg_table.specs.Table.{Table}
 use Rattle.sg_block_map.specs.RunCost.{CostsRange}
 use Rattle.sg_block_map.specs.Runs.{expanded, chained_contents}
 use Rattle.sg_block_map.specs.State.{disk_of, meter_at, slot_map}
-use Rattle.sg_blocks.proofs.UnmapLemmas.{well_formed-unmapped}
+use Rattle.sg_store.proofs.UnmapLemmas.{well_formed-unmapped}
 use Rattle.sg_block_map.proofs.ContentsLemmas.{unmapped-none}
 use Rattle.sg_block_map.proofs.CutRunsLemmas.{runs-fit}
 use Rattle.sg_block_map.proofs.StoreLemmas.{gathered-range, nothing-costs}

@@ -1,4 +1,4 @@
-use Rattle.sg_blocks.proofs.SourceLemmas.{blocks-whole}
+use Rattle.sg_pool.proofs.SourceLemmas.{blocks-whole}
 use Rattle.sg_block_map.proofs.block_map.BlockMapStore.write.Goals as goal
 
 pub replace-requires-clause-blocks : goal.replace-requires-clause-blocks

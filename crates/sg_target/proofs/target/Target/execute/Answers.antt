@@ -1,5 +1,5 @@
 use Rattle.std.proofs.Common.{◌≤◌, ap, sym, ◌∙◌, subst, arith}
-use Rattle.sg_target.specs.Operation.{effect_of}
+use Rattle.sg_target.specs.Semantics.{effect_of}
 use Rattle.sg_target.specs.Ranges.{ranges_in, visit_bound}
 use Rattle.sg_target.specs.State.{IsWithinLimits}
 use Rattle.sg_target.specs.Step.{Step}
@@ -12,7 +12,7 @@ pub returns-in-Ok-clause-limits : goal.returns-in-Ok-clause-limits
 returns-in-Ok-clause-limits g c =
     let a = c.in-Ok.ensures in
     let step = step-checked c.args.self.now.state c.args.initiator c.args.cdb.now c.args.data_out.now
-    _ a.passed.effect in
+    _ (sym a.checked) in
     let here = c.execute_checked.ensures.state ∙ sym (ap (λ (s : Step). s.state) step) in
     subst IsWithinLimits (sym here)
     (step-within _ c.args.initiator c.args.cdb.now c.args.data_out.now a.limits)
@@ -21,7 +21,7 @@ pub returns-in-Err-clause-limits : goal.returns-in-Err-clause-limits
 returns-in-Err-clause-limits g c =
     let a = c.in-Err.ensures in
     let step = step-checked c.args.self.now.state c.args.initiator c.args.cdb.now
-    c.args.data_out.now _ a.refused in
+    c.args.data_out.now _ (sym a.checked) in
     let here = c.refuse.ensures.state ∙ sym (ap (λ (s : Step). s.state) step) in
     subst IsWithinLimits (sym here)
     (step-within _ c.args.initiator c.args.cdb.now c.args.data_out.now a.limits)
@@ -29,10 +29,9 @@ returns-in-Err-clause-limits g c =
 pub returns-in-Ok-clause-visits : goal.returns-in-Ok-clause-visits
 returns-in-Ok-clause-visits g c =
     let over =
-    ranges_in (effect_of c.args.self.now.state c.args.initiator c.in-Ok.operation
-    c.args.data_out.now) in
+    ranges_in (effect_of c.args.self.now.state c.args.initiator c.in-Ok.operation) in
     let within = price-within g.S.Store.price g.met.S.Store.price_within over in
     let charged = c.execute_checked.ensures.charge.visits in
     let here : c.execute_checked.result.counts.visits ≤ visit_bound over = omega arith in
     rw (ranges-checked c.args.self.now.state c.args.initiator c.args.cdb.now c.args.data_out.now _
-    c.in-Ok.ensures.passed.effect) here
+    (sym c.in-Ok.ensures.checked)) here

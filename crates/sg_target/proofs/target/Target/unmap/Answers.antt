@@ -1,6 +1,6 @@
 use Rattle.std.proofs.Common.{◌<◌, length, ap, ◌∙◌, arith}
 use Rattle.std.proofs.lemmas.Bool.Decides.{nat_tests}
-use Rattle.sg_blocks.specs.Meter.{restarted}
+use Rattle.sg_store.specs.Meter.{restarted}
 use Rattle.sg_target.specs.Target.{TargetFields}
 use Rattle.sg_target.proofs.UnmapLemmas.{unmapping-charged}
 use Rattle.sg_target.proofs.target.Target.unmap.Goals as goal

@@ -1,14 +1,14 @@
 use Rattle.std.proofs.Common.{rules, refl}
 use Rattle.std.proofs.lemmas.List.{take_rest}
-use Rattle.sg_wire.specs.Layout.{fits_masks}
-use Rattle.sg_wire.proofs.ReservationLemmas.{reserve_out-known, reserve_out-fits}
+use Rattle.sg_wire.proofs.ReservationLemmas.{reserve_out-refused, reserve_out-fits}
 use Rattle.sg_wire.proofs.command.reservation.decode_persistent_reserve_out.Goals as goal
 
 pub returns-in_err-check_masks : goal.returns-in_err-check_masks
-unfolding fits_masks
 returns-in_err-check_masks c =
-    rw (reserve_out-known c.args.cdb.now c.in_ok-action.action (search rules) (search rules))
-    (search rules)
+    let fault = c.in_err-check_masks.field-0.0 in
+    let e = reserve_out-refused c.args.cdb.now c.in_ok-action.action fault (search rules) (search rules)
+    (search rules) in
+    rw e (search rules)
 
 pub returns : goal.returns
 returns c =

@@ -1,5 +1,0 @@
-use Rattle.sg_blocks.proofs.WriteLemmas.{block-filled}
-use Rattle.sg_blocks.proofs.laws.a_fill_puts_one_block_at_each_address_of_its_range.Goals as goal
-
-pub returns : goal.returns
-returns c = block-filled

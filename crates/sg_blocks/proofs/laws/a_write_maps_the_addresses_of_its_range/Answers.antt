@@ -1,5 +1,0 @@
-use Rattle.sg_blocks.proofs.WriteLemmas.{contains-written}
-use Rattle.sg_blocks.proofs.laws.a_write_maps_the_addresses_of_its_range.Goals as goal
-
-pub returns : goal.returns
-returns c = contains-written

@@ -1,5 +1,0 @@
-use Rattle.sg_blocks.proofs.ReportLemmas.{reports-each}
-use Rattle.sg_blocks.proofs.laws.each_status_that_is_reported_is_that_of_the_address.Goals as goal
-
-pub returns : goal.returns
-returns c = reports-each

@@ -1,9 +1,0 @@
-use Rattle.std.proofs.Common.{◌-◌}
-use Rattle.sg_blocks.proofs.SearchLemmas.{IsSearched}
-use Rattle.sg_blocks.proofs.leaves.searching.search.Given as goal
-
-abbrev pub invariant-loop-low : goal.invariant-loop-low
-invariant-loop-low g l = IsSearched l.fn.starts l.starts l.lba l.low l.high
-
-abbrev pub decreases-loop-low : goal.decreases-loop-low
-decreases-loop-low g l = l.high - l.low

@@ -1,0 +1,62 @@
+-- A command of a class that the reservation does not allow does not end with GOOD.
+use Rattle.std.proofs.Common.{◌≡◌, ℕ, false, List, [], ◌∷◌, Option, Some, None, refl, ap, ◌∙◌}
+use Rattle.sg_wire.specs.Layout.{class_of, command_of}
+use Rattle.sg_wire.specs.declared.command.Class.{Class}
+use Rattle.sg_wire.proofs.ClassLemmas.{class_of-command}
+use Rattle.sg_units.specs.Access.{allows}
+use Rattle.sg_target.specs.Checks.{bad_field, cdb_checks, empty_cdb, pending_attention}
+use Rattle.sg_target.specs.Checks.{reservation_conflict, short_cdb, unknown_opcode}
+use Rattle.sg_target.specs.Refusal.{first_some}
+use Rattle.sg_target.specs.State.{State}
+use Rattle.sg_target.specs.Step.{Step, refused, step}
+use Rattle.sg_target.specs.declared.operation.Operation.{Operation}
+use Rattle.sg_target.specs.declared.refusal.Refusal.{Refusal}
+use Rattle.sg_target.specs.declared.refusal.Refusal.TheVariants.{Conflict, Check}
+use Rattle.sg_target.specs.declared.reply.Status.TheVariants.{Good}
+use Rattle.sg_target.proofs.LiftLemmas.{Asked, lifted}
+use Rattle.sg_fencing.proofs.OperationLemmas.{asked-suits, class_for}
+
+module _ (state : State) (j : ℕ) where
+  conflict : (cdb : List ℕ) (class : Class) → class_of cdb ≡ Some class
+      → allows state.reservations j class ≡ false
+      → reservation_conflict state j cdb ≡ Some Conflict
+  conflict cdb class is not_allowed = rw (is, not_allowed) refl
+
+  no_conflict : (a b c d e f : Option Refusal)
+      → first_some (a ∷ b ∷ c ∷ d ∷ e ∷ f ∷ []) ≡ None → d ≡ Some Conflict → ⊥
+  no_conflict None None None (Some x) e f h k = cc
+  no_conflict None None None None e f h k = cc
+  no_conflict (Some x) b c d e f h k = cc
+  no_conflict None (Some x) c d e f h k = cc
+  no_conflict None None (Some x) d e f h k = cc
+
+  -- a command that has passed the checks of its CDB is of a class that is allowed
+  pub passed-is-allowed : (cdb : List ℕ) (class : Class) → first_some (cdb_checks state j cdb) ≡ None
+      → class_of cdb ≡ Some class → allows state.reservations j class ≡ false → ⊥
+  passed-is-allowed cdb class passed is not_allowed =
+      no_conflict (empty_cdb (command_of cdb)) (pending_attention state j cdb)
+      (unknown_opcode (command_of cdb)) (reservation_conflict state j cdb)
+      (short_cdb (command_of cdb)) (bad_field (command_of cdb)) passed
+      (conflict cdb class is not_allowed)
+
+  pub not_good : (refusal : Refusal) → (refused state j refusal).answer.status ≡ Good → ⊥
+  not_good Conflict e = cc
+  not_good (Check reason) e = cc
+
+  -- nor is the operation that it asks for one of a class that is not
+  pub asked-is-allowed : (cdb data_out : List ℕ) (operation : Operation) (class : Class)
+      → Asked state j cdb data_out operation → allows state.reservations j class ≡ false
+      → class_for operation ≡ Some class → ⊥
+  asked-is-allowed cdb data_out operation class k not_allowed is =
+      let of_class =
+      (asked-suits state.disk.capacity k.command data_out operation k.operation_is).class class is in
+      passed-is-allowed cdb class k.passed
+      (class_of-command cdb k.command k.command_is ∙ ap Some of_class) not_allowed
+
+  -- a command of a class that is not allowed does not end with GOOD
+  pub shut-out : (cdb data_out : List ℕ) (class : Class) → class_of cdb ≡ Some class
+      → allows state.reservations j class ≡ false
+      → (step state j cdb data_out).answer.status ≡ Good → ⊥
+  shut-out cdb data_out class is not_allowed =
+      lifted state j cdb data_out (λ (done : Step). done.answer.status ≡ Good → ⊥) not_good
+      (λ operation k e. passed-is-allowed cdb class k.passed is not_allowed)

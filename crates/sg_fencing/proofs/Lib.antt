@@ -1,0 +1,19 @@
+-- Reservations of one holder
+mod HolderLemmas
+-- From a command to its operation
+mod OperationLemmas
+-- Commands of others
+mod AccessLemmas
+mod OthersLemmas
+mod StandingLemmas
+mod UnseenLemmas
+-- Commands of the holder
+mod AlikeLemmas
+mod OwnLemmas
+-- Initiators that are not registered
+mod RegistrationLemmas
+mod OutsiderLemmas
+mod PreemptLemmas
+-- Lists of commands
+mod OutsiderRunLemmas
+mod FencedRunLemmas

@@ -1,0 +1,142 @@
+-- What the operation that a command asks for shows of the command. This is the one module of the laws
+-- with a case for each command.
+use Rattle.std.proofs.Common.{◌≡◌, ℕ, Bool, true, false, List, Option, Some, None, Result, Ok, Err}
+use Rattle.std.proofs.Common.{refl, subst}
+use Rattle.std.specs.Prelude.{if◌then◌else◌}
+use Rattle.sg_wire.specs.CutAnswer.{first_bytes}
+use Rattle.sg_wire.specs.Layout.{layout}
+use Rattle.sg_wire.specs.declared.command.Class.{Class}
+use Rattle.sg_wire.specs.declared.command.Class.TheVariants.{Reads, Writes}
+use Rattle.sg_wire.specs.declared.command.Command.{Command}
+use Rattle.sg_wire.specs.declared.command.Command.TheVariants as command
+use Rattle.sg_wire.specs.declared.command.CdbFault.{CdbFault}
+use Rattle.sg_wire.specs.declared.command.out_action.OutAction.{OutAction}
+use Rattle.sg_target.specs.Demands.{demands}
+use Rattle.sg_target.specs.PrimaryCommands.{inquiry_page}
+use Rattle.sg_target.specs.ProvisioningCommands.{block_out, unmap_list, unmaps}
+use Rattle.sg_target.specs.Refusal.{if_supported, when_sound}
+use Rattle.sg_target.specs.ReservationCommands.{fields_out, in_data_of}
+use Rattle.sg_target.specs.declared.extent.Extent.{Extent}
+use Rattle.sg_target.specs.declared.operation.Operation.{Operation}
+use Rattle.sg_target.specs.declared.operation.Operation.TheVariants.{ChangeModes, Read, Write, Fill}
+use Rattle.sg_target.specs.declared.operation.Operation.TheVariants.{Unmap, UnmapExtent}
+use Rattle.sg_target.specs.declared.operation.Operation.TheVariants.{ReturnInquiry, ReturnLbaStatus}
+use Rattle.sg_target.specs.declared.operation.Operation.TheVariants.{ReturnReservations}
+use Rattle.sg_target.specs.declared.operation.Operation.TheVariants.{ChangeReservations}
+use Rattle.sg_target.specs.declared.refusal.Refusal.{Refusal}
+use Rattle.sg_fencing.specs.Fencing.{shows_others}
+
+-- the class of the commands that ask for it, where it looks at blocks or changes blocks or modes
+abbrev pub class_for : Operation → Option Class
+class_for (Read extent) = Some Reads
+class_for (ReturnLbaStatus start n) = Some Reads
+class_for (Write out) = Some Writes
+class_for (Fill extent block) = Some Writes
+class_for (Unmap extents) = Some Writes
+class_for (UnmapExtent extent) = Some Writes
+class_for (ChangeModes ten sp list) = Some Writes
+class_for _ = None
+
+-- another command than PERSISTENT RESERVE OUT, or that with an action of a kind
+abbrev pub is_of_kind : (OutAction → Bool) → Result Command CdbFault → Bool
+is_of_kind kind (Ok (command.PersistentReserveOut action scope_type n)) = kind action
+is_of_kind kind _ = true
+
+abbrev pub fits : (OutAction → Bool) → Operation → Bool
+fits kind (ChangeReservations action scope_type list) = kind action
+fits kind _ = true
+
+abbrev pub shows : Operation → Bool
+shows (ReturnReservations kind n) = true
+shows (ChangeReservations action scope_type list) = true
+shows _ = false
+
+-- the command is of that class, of each kind that the operation is of, and shows others where it does
+pub record Suits (command : Command) (operation : Operation) : Type 0 where
+  pub class : (class : Class) → class_for operation ≡ Some class → (layout command).class ≡ class
+  pub of_kind : (kind : OutAction → Bool) → is_of_kind kind (Ok command) ≡ true
+      → fits kind operation ≡ true
+  pub shown : shows_others (Ok command) ≡ shows operation
+
+abbrev SuitsIf : Command → Result Operation Refusal → Type 0
+SuitsIf command (Ok operation) = Suits command operation
+SuitsIf command (Err refusal) = Unit {0}
+
+sound-suits : {A : Type 0} (command : Command) (sound : Result A Refusal) (becomes : A → Operation)
+    → ((value : A) → Suits command (becomes value)) → SuitsIf command (when_sound sound becomes)
+sound-suits command (Ok value) becomes h = h value
+sound-suits command (Err refusal) becomes h = tt
+
+same-suits : (command : Command) → (layout command).class ≡ Writes
+    → shows_others (Ok command) ≡ false
+    → (is_unmapped : Bool) (extent : Extent) (block : List ℕ)
+    → Suits command (if is_unmapped then UnmapExtent extent else Fill extent block)
+same-suits command w s true extent block =
+    record { class = λ class h. cc; of_kind = λ kind k. refl; shown = s }
+same-suits command w s false extent block =
+    record { class = λ class h. cc; of_kind = λ kind k. refl; shown = s }
+
+pub suits : (blocks : ℕ) (command : Command) (data_out : List ℕ)
+    → SuitsIf command (demands blocks command data_out).operation
+suits blocks command.TestUnitReady data_out =
+    record { class = λ class h. cc; of_kind = λ kind k. refl; shown = refl }
+suits blocks (command.RequestSense desc n) data_out =
+    record { class = λ class h. cc; of_kind = λ kind k. refl; shown = refl }
+suits blocks (command.ModeSelect6 pf sp n) data_out =
+    record { class = λ class h. cc; of_kind = λ kind k. refl; shown = refl }
+suits blocks (command.ModeSelect10 pf sp n) data_out =
+    record { class = λ class h. cc; of_kind = λ kind k. refl; shown = refl }
+suits blocks (command.ModeSense6 dbd pc page subpage n) data_out =
+    record { class = λ class h. cc; of_kind = λ kind k. refl; shown = refl }
+suits blocks (command.ModeSense10 llbaa dbd pc page subpage n) data_out =
+    record { class = λ class h. cc; of_kind = λ kind k. refl; shown = refl }
+suits blocks (command.Read6 short) data_out =
+    record { class = λ class h. cc; of_kind = λ kind k. refl; shown = refl }
+suits blocks (command.Read10 lba n) data_out =
+    record { class = λ class h. cc; of_kind = λ kind k. refl; shown = refl }
+suits blocks (command.Read16 lba n) data_out =
+    record { class = λ class h. cc; of_kind = λ kind k. refl; shown = refl }
+suits blocks (command.Write6 short) data_out =
+    record { class = λ class h. cc; of_kind = λ kind k. refl; shown = refl }
+suits blocks (command.Write10 lba n) data_out =
+    record { class = λ class h. cc; of_kind = λ kind k. refl; shown = refl }
+suits blocks (command.Write16 lba n) data_out =
+    record { class = λ class h. cc; of_kind = λ kind k. refl; shown = refl }
+suits blocks command.ReadCapacity10 data_out =
+    record { class = λ class h. cc; of_kind = λ kind k. refl; shown = refl }
+suits blocks (command.ReadCapacity16 n) data_out =
+    record { class = λ class h. cc; of_kind = λ kind k. refl; shown = refl }
+suits blocks (command.SynchronizeCache10 lba n) data_out =
+    record { class = λ class h. cc; of_kind = λ kind k. refl; shown = refl }
+suits blocks (command.GetLbaStatus start n) data_out =
+    record { class = λ class h. cc; of_kind = λ kind k. refl; shown = refl }
+suits blocks (command.Inquiry evpd code n) data_out =
+    sound-suits (command.Inquiry evpd code n) (if_supported 2 (inquiry_page evpd code))
+    (λ page. ReturnInquiry page n)
+    (λ page. record { class = λ class h. cc; of_kind = λ kind k. refl; shown = refl })
+suits blocks (command.WriteSame10 anchor unmap lba n) data_out =
+    same-suits (command.WriteSame10 anchor unmap lba n) refl refl
+    (unmaps unmap (block_out data_out)) _ (block_out data_out)
+suits blocks (command.WriteSame16 anchor unmap lba n) data_out =
+    same-suits (command.WriteSame16 anchor unmap lba n) refl refl
+    (unmaps unmap (block_out data_out)) _ (block_out data_out)
+suits blocks (command.Unmap anchor group n) data_out =
+    sound-suits (command.Unmap anchor group n) (unmap_list (first_bytes n data_out)) Unmap
+    (λ extents. record { class = λ class h. cc; of_kind = λ kind k. refl; shown = refl })
+suits blocks (command.PersistentReserveIn action n) data_out =
+    sound-suits (command.PersistentReserveIn action n) (if_supported 1 (in_data_of action))
+    (λ kind. ReturnReservations kind n)
+    (λ kind. record { class = λ class h. cc; of_kind = λ kind k. refl; shown = refl })
+suits blocks (command.PersistentReserveOut action scope_type n) data_out =
+    sound-suits (command.PersistentReserveOut action scope_type n)
+    (fields_out (first_bytes n data_out)) (ChangeReservations action scope_type)
+    (λ list. record { class = λ class h. cc; of_kind = λ kind k. k; shown = refl })
+
+at-ok : (command : Command) (asked : Result Operation Refusal) (operation : Operation)
+    → SuitsIf command asked → asked ≡ Ok operation → Suits command operation
+at-ok command asked operation h e = subst (SuitsIf command) e h
+
+pub asked-suits : (blocks : ℕ) (command : Command) (data_out : List ℕ) (operation : Operation)
+    → (demands blocks command data_out).operation ≡ Ok operation → Suits command operation
+asked-suits blocks command data_out operation e =
+    at-ok command _ operation (suits blocks command data_out) e

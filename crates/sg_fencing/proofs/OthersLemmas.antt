@@ -1,0 +1,191 @@
+-- What the commands of others leave of the holder's view.
+use Rattle.std.proofs.Common.{◌≡◌, ℕ, true, false, List}
+use Rattle.std.proofs.Common.{Option, Some, None, Result, Ok, Err, refl, sym, ◌∙◌, subst}
+use Rattle.std.specs.Result.{result_map_both}
+use Rattle.sg_wire.specs.declared.command.Class.TheVariants.{Writes}
+use Rattle.sg_wire.specs.declared.command.out_action.OutAction.{OutAction}
+use Rattle.sg_units.specs.Access.{allows}
+use Rattle.sg_units.specs.Registrations.{key_of}
+use Rattle.sg_units.specs.ReserveOut.{Outcome, outcome, raised_by, raised_for}
+use Rattle.sg_wire.specs.declared.out_list.OutList.{OutList}
+use Rattle.sg_units.specs.declared.reservation_change.ReservationChange.{ReservationChange}
+use Rattle.sg_units.specs.declared.reservation_state.ReservationState.{ReservationState}
+use Rattle.sg_units.proofs.FencingLemmas.{IsLeftIfHolder, alone_in, held_alone, is_one_holder}
+use Rattle.sg_units.proofs.FencingLemmas.{outcome_leaves}
+use Rattle.sg_units.proofs.OutcomeLemmas.{EffectIs}
+use Rattle.sg_target.specs.Checks.{no_space}
+use Rattle.sg_target.specs.Effect.{Effect, returning_up_to, without_attention}
+use Rattle.sg_target.specs.ModeCommands.{mode_parameters}
+use Rattle.sg_target.specs.Refusal.{when_sound}
+use Rattle.sg_target.specs.ReservationCommands.{changing_reservations, out_refusal}
+use Rattle.sg_target.specs.ReservationCommands.{reservation_change}
+use Rattle.sg_target.specs.Semantics.{effect_of}
+use Rattle.sg_target.specs.State.{IsWithinLimits, State}
+use Rattle.sg_target.specs.Step.{Step, outcome as step_outcome, refused, step, unless_no_space}
+use Rattle.sg_target.specs.declared.operation.Operation.{Operation}
+use Rattle.sg_target.specs.declared.operation.Operation.TheVariants.{ReturnSense, ReturnModes}
+use Rattle.sg_target.specs.declared.operation.Operation.TheVariants.{ChangeModes, Write, Fill, Unmap}
+use Rattle.sg_target.specs.declared.operation.Operation.TheVariants.{UnmapExtent, ChangeReservations}
+use Rattle.sg_target.specs.declared.refusal.Reason.TheVariants.{UnitAttention as Attention}
+use Rattle.sg_target.specs.declared.refusal.Refusal.{Refusal}
+use Rattle.sg_target.specs.declared.refusal.Refusal.TheVariants.{Check}
+use Rattle.sg_target.proofs.LiftLemmas.{lifted}
+use Rattle.sg_target.proofs.LimitLemmas.{step-within}
+use Rattle.sg_fencing.specs.Fencing.{holds_alone, view_of}
+use Rattle.sg_fencing.proofs.AccessLemmas.{asked-is-allowed}
+use Rattle.sg_fencing.proofs.HolderLemmas.{HoldsAlone, alone, cleared-other, differ, one-holder}
+use Rattle.sg_fencing.proofs.HolderLemmas.{raised-none, raised-others, refuses-others, same-view}
+use Rattle.sg_fencing.proofs.OperationLemmas.{class_for}
+
+-- the view of i and the identity of the disk are as they were
+pub record Keeps (before after : State) (i : ℕ) : Type 0 where
+  pub identity : after.identity ≡ before.identity
+  pub view : view_of after i ≡ view_of before i
+
+same : (state : State) (i : ℕ) → Keeps state state i
+same state i = record { identity = refl; view = refl }
+
+refused-keeps : (state : State) (i j : ℕ) → (j ≡ i → ⊥) → (refusal : Refusal)
+    → Keeps state (refused state j refusal).state i
+refused-keeps state i j other (Check (Attention condition)) = record {
+  identity = refl;
+  view =
+      same-view (refused state j (Check (Attention condition))).state state i refl refl
+      (cleared-other state.attentions i j other) refl refl;
+}
+refused-keeps state i j other _ = same state i
+
+-- a change that leaves the key of i and the reservation, and raises nothing for i
+pub changed-keeps : (state : State) (i j : ℕ) → IsWithinLimits state → (change : ReservationChange)
+    → key_of change.registrations i ≡ key_of state.reservations.registrations i
+    → change.reservation ≡ state.reservations.reservation
+    → raised_for state.reservations.registrations j change i ≡ None
+    → Keeps state (changing_reservations state j change).after i
+unfolding raised_by
+changed-keeps state i j w change key reservation unraised =
+    let raised = raised_for state.reservations.registrations j change in
+    record {
+      identity = refl;
+      view =
+          same-view (changing_reservations state j change).after state i refl refl
+          (raised-others state.attentions (raised_by state.reservations.registrations j change) i
+          w.pending.one_for_each (raised-none raised i unraised))
+          key reservation;
+    }
+
+-- ---- The command
+
+-- A command of another initiator j, which the reservation does not allow to write. What PERSISTENT
+-- RESERVE OUT does is known to keep them, where a condition holds of the state afterwards.
+module _ (Where : State → Type 0) (state : State) (i j : ℕ) (other : j ≡ i → ⊥) where
+  abbrev pub KeepsWhere : State → Type 0
+  KeepsWhere after = Where after → Keeps state after i
+
+  abbrev pub EffectKeeps : Result Effect Refusal → Type 0
+  EffectKeeps (Ok effect) = KeepsWhere effect.after
+  EffectKeeps (Err refusal) = Unit {0}
+
+  sound-keeps : {A : Type 0} (sound : Result A Refusal) (becomes : A → Effect)
+      → ((value : A) → KeepsWhere (becomes value).after) → EffectKeeps (when_sound sound becomes)
+  sound-keeps (Ok value) becomes k = k value
+  sound-keeps (Err refusal) becomes k = tt
+
+  by-space : (effect : Effect) (refusal : Option Refusal) → KeepsWhere effect.after
+      → KeepsWhere (unless_no_space state j effect refusal).state
+  by-space effect None k = k
+  by-space effect (Some refusal) k = λ _. refused-keeps state i j other refusal
+
+  outcome-keeps : (effect : Result Effect Refusal) → EffectKeeps effect
+      → KeepsWhere (step_outcome state j effect).state
+  outcome-keeps (Ok effect) k = by-space effect (no_space effect.after.disk) k
+  outcome-keeps (Err refusal) k = λ _. refused-keeps state i j other refusal
+
+  module _ (no_writes : allows state.reservations j Writes ≡ false)
+      (reserving-keeps : (action : OutAction) (scope_type : ℕ) (list : OutList) → EffectKeeps
+      (when_sound (reservation_change state j action scope_type list) (changing_reservations state j))) where
+    operation-keeps : (operation : Operation) → (class_for operation ≡ Some Writes → ⊥)
+        → EffectKeeps (effect_of state j operation)
+    operation-keeps (ReturnSense format n) c = λ _. record {
+      identity = refl;
+      view =
+          same-view (without_attention state j) state i refl refl
+          (cleared-other state.attentions i j other) refl refl;
+    }
+    operation-keeps (ReturnModes request n) c =
+        sound-keeps (mode_parameters state.modes request) (returning_up_to state n)
+        (λ list _. same state i)
+    operation-keeps (ChangeModes ten sp list) c = absurd (c refl)
+    operation-keeps (Write out) c = absurd (c refl)
+    operation-keeps (Fill extent block) c = absurd (c refl)
+    operation-keeps (Unmap extents) c = absurd (c refl)
+    operation-keeps (UnmapExtent extent) c = absurd (c refl)
+    operation-keeps (ChangeReservations action scope_type list) c =
+        reserving-keeps action scope_type list
+    operation-keeps _ c = λ _. same state i
+
+    pub step-keeps : (cdb data_out : List ℕ) → KeepsWhere (step state j cdb data_out).state
+    step-keeps cdb data_out =
+        lifted state j cdb data_out (λ (done : Step). KeepsWhere done.state)
+        (λ refusal _. refused-keeps state i j other refusal)
+        (λ operation k. outcome-keeps (effect_of state j operation) (operation-keeps operation
+        (asked-is-allowed state j cdb data_out operation Writes k no_writes)))
+
+-- ---- Where i holds a reservation alone
+
+-- The command is of another initiator j than i, the one holder of a reservation.
+module _ (state : State) (i j : ℕ) (other : j ≡ i → ⊥) (h : HoldsAlone state.reservations i)
+    (w : IsWithinLimits state) where
+  -- i is the one holder afterwards
+  abbrev IsOneHolder : State → Type 0
+  IsOneHolder after = is_one_holder after.reservations.reservation i ≡ true
+
+  abbrev HolderKeeps : Result Effect Refusal → Type 0
+  HolderKeeps effect = EffectKeeps IsOneHolder state i j other effect
+
+  abbrev P : ReservationChange → Type 0
+  P = IsLeftIfHolder state.reservations.registrations (held_alone h.kind i) i j
+
+  changing-keeps : (o : Outcome) → EffectIs P o
+      → HolderKeeps (when_sound (result_map_both (λ change. change) out_refusal o)
+      (changing_reservations state j))
+  changing-keeps (Ok change) k = λ one.
+      let left = k.shown change refl one in
+      changed-keeps state i j w change left.key (left.reservation ∙ sym h.reservation_is) left.unraised
+  changing-keeps (Err fault) k = tt
+
+  out-leaves : (action : OutAction) (scope_type : ℕ) (list : OutList)
+      → EffectIs P (outcome state.reservations j action scope_type list)
+  out-leaves action scope_type list =
+      let rs = state.reservations.registrations in
+      let generation = state.reservations.generation in
+      let is : alone_in rs h.kind i generation ≡ state.reservations =
+      λ d. record {
+        registrations = rs;
+        reservation = sym h.reservation_is d;
+        generation = generation;
+      } in
+      subst (λ (r : ReservationState). EffectIs P (outcome r j action scope_type list)) is
+      (outcome_leaves rs h.kind generation i j action scope_type list h.registered
+      (differ i j other))
+
+  reserving-keeps : (action : OutAction) (scope_type : ℕ) (list : OutList)
+      → HolderKeeps (when_sound (reservation_change state j action scope_type list)
+      (changing_reservations state j))
+  unfolding reservation_change
+  reserving-keeps action scope_type list =
+      changing-keeps (outcome state.reservations j action scope_type list)
+      (out-leaves action scope_type list)
+
+-- a command of another, after which i still holds
+pub others-keep : (state : State) (i j : ℕ) (cdb data_out : List ℕ) → IsWithinLimits state
+    → (j ≡ i → ⊥) → holds_alone state i ≡ true
+    → holds_alone (step state j cdb data_out).state i ≡ true
+    → Keeps state (step state j cdb data_out).state i
+others-keep state i j cdb data_out w other before after =
+    let done = (step state j cdb data_out).state in
+    let still = alone done i (step-within state j cdb data_out w) after in
+    let h = alone state i w before in
+    step-keeps (IsOneHolder state i j other h w) state i j other
+    (refuses-others state.reservations i j other h).writes
+    (λ action scope_type list. reserving-keeps state i j other h w action scope_type list) cdb data_out
+    (one-holder done.reservations i still)

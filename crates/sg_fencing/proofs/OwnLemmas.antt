@@ -1,0 +1,247 @@
+-- The holder's own commands end alike where its views are equal.
+use Rattle.std.proofs.Common.{◌≡◌, ◌==◌, ℕ, Bool, true, false, not, ◌||◌, List}
+use Rattle.std.proofs.Common.{get_or, Option, Some, None, Result, Ok, Err, refl, sym, ap}
+use Rattle.std.proofs.Common.{◌∙◌}
+use Rattle.std.proofs.Common.{subst, arith}
+use Rattle.std.specs.Prelude.{if◌then◌else◌, is_some}
+use Rattle.std.specs.Result.{result_map_both}
+use Rattle.std.proofs.lemmas.Bool.{false≢true}
+use Rattle.std.proofs.lemmas.Bool.Decides.{nat_tests}
+use Rattle.sg_wire.specs.Layout.{command_of}
+use Rattle.sg_wire.specs.declared.command.CdbFault.{CdbFault}
+use Rattle.sg_wire.specs.declared.command.Command.{Command}
+use Rattle.sg_wire.specs.declared.command.out_action.OutAction.{OutAction}
+use Rattle.sg_units.specs.Attentions.{Pending, pending_for}
+use Rattle.sg_units.specs.Registrations.{is_registered, key_of}
+use Rattle.sg_units.specs.ReserveOut.{Outcome, outcome, raised_by, raised_for, state_after}
+use Rattle.sg_units.specs.declared.out_fault.OutFault.TheVariants as out_fault
+use Rattle.sg_wire.specs.declared.out_list.OutList.{OutList}
+use Rattle.sg_units.specs.declared.registrations.Registration.{Registration}
+use Rattle.sg_units.specs.declared.reservation_change.ReservationChange.{ReservationChange}
+use Rattle.sg_units.specs.declared.reservation_state.ReservationState.{ReservationState}
+use Rattle.sg_units.proofs.FencingLemmas.{alone_in, is_registered-key_of}
+use Rattle.sg_units.proofs.HolderLemmas.{Left, left_of, own_agrees}
+use Rattle.sg_target.specs.Checks.{checked_parse}
+use Rattle.sg_target.specs.Refusal.{first_some, when_sound}
+use Rattle.sg_target.specs.ReservationCommands.{changing_reservations, out_refusal}
+use Rattle.sg_target.specs.ReservationCommands.{reservation_change}
+use Rattle.sg_target.specs.State.{IsWithinLimits, State}
+use Rattle.sg_target.specs.Step.{Step, outcome as step_outcome, step, step_by, unless_no_space}
+use Rattle.sg_target.specs.declared.operation.Operation.{Operation}
+use Rattle.sg_target.specs.declared.operation.Operation.TheVariants.{ChangeReservations}
+use Rattle.sg_target.proofs.LiftLemmas.{lifted-both}
+use Rattle.sg_target.proofs.StepLemmas.{room}
+use Rattle.sg_fencing.specs.Fencing.{View, holds_alone, shows_others, view_of}
+use Rattle.sg_fencing.proofs.AlikeLemmas.{StepsAlike, cdb-checks-same, operation-alike}
+use Rattle.sg_fencing.proofs.AlikeLemmas.{refused-alike, with_others}
+use Rattle.sg_fencing.proofs.HolderLemmas.{HoldsAlone, alone, raised-none, raised-others}
+use Rattle.sg_fencing.proofs.OperationLemmas.{asked-suits, shows as shows_of}
+
+-- ---- PERSISTENT RESERVE OUT
+
+abbrev view_with : State → (initiator : ℕ) → Left → View
+view_with state i left = record {
+  disk = state.disk;
+  modes = state.modes;
+  attentions = pending_for state.attentions i;
+  key = left.0;
+  reservation = left.1;
+}
+
+-- a state after the command
+record Becomes (state : State) (i : ℕ) (left : Left) (after : State) : Type 0 where
+  identity : after.identity ≡ state.identity
+  view : view_of after i ≡ view_with state i left
+
+itself : (i : ℕ) → (i == i) ≡ true
+itself i = grind (arith, nat_tests)
+
+module _ (state : State) (i : ℕ) (w : IsWithinLimits state) where
+  abbrev rs : List Registration
+  rs = state.reservations.registrations
+
+  none-raised : (change : ReservationChange) → get_or (raised_by rs i change) i None ≡ None
+  unfolding raised_by
+  none-raised change =
+      let for_caller : raised_for rs i change i ≡ None =
+      ap
+      (λ (b : Bool).
+      if b || not (is_registered rs i) then None
+      else (if is_registered change.registrations i then change.for_remaining else change.for_removed))
+      (itself i) in
+      raised-none (raised_for rs i change) i for_caller
+
+  changed : (change : ReservationChange)
+      → Becomes state i (left_of (state_after state.reservations (Ok change)) i)
+      (changing_reservations state i change).after
+  changed change =
+      let attentions =
+      raised-others state.attentions (raised_by rs i change) i w.pending.one_for_each
+      (none-raised change) in
+      record {
+        identity = refl;
+        view =
+            λ d. record {
+              disk = state.disk;
+              modes = state.modes;
+              attentions = attentions d;
+              key = key_of change.registrations i;
+              reservation = change.reservation;
+            };
+      }
+
+  becomes : (o : Outcome)
+      → Becomes state i (left_of (state_after state.reservations o) i)
+      (step_outcome state i (when_sound (result_map_both (λ change. change) out_refusal o)
+      (changing_reservations state i))).state
+  becomes (Err out_fault.Conflict) = record { identity = refl; view = refl }
+  becomes (Err out_fault.NoRoom) = record { identity = refl; view = refl }
+  becomes (Err out_fault.BadRelease) = record { identity = refl; view = refl }
+  becomes (Err (out_fault.Field byte)) = record { identity = refl; view = refl }
+  becomes (Err out_fault.BadType) = record { identity = refl; view = refl }
+  becomes (Ok change) =
+      let effect = changing_reservations state i change in
+      let h = changed change in
+      let is : (step_outcome state i (Ok effect)).state ≡ effect.after =
+      ap (λ q. (unless_no_space state i effect q).state) (room state.disk w.mapped) in
+      record {
+        identity = ap (λ (x : State). x.identity) is ∙ h.identity;
+        view = ap (λ (x : State). view_of x i) is ∙ h.view;
+      }
+
+  out-becomes : (action : OutAction) (scope_type : ℕ) (list : OutList)
+      → Becomes state i
+      (left_of (state_after state.reservations
+      (outcome state.reservations i action scope_type list)) i)
+      (step_by state i (ChangeReservations action scope_type list)).state
+  unfolding reservation_change
+  out-becomes action scope_type list =
+      becomes (outcome state.reservations i action scope_type list)
+
+record HasKey (all : List Registration) (i : ℕ) : Type 0 where
+  key : ℕ
+  key_is : key_of all i ≡ Some key
+
+has-key : (all : List Registration) (i : ℕ) (o : Option ℕ) → key_of all i ≡ o → is_some o ≡ true
+    → HasKey all i
+has-key all i None e h = absurd (false≢true h)
+has-key all i (Some key) e h = record { key = key; key_is = e }
+
+-- ---- All commands
+
+module _ (s : State) (a : Pending) (r : ReservationState) (i : ℕ)
+    (attentions : pending_for s.attentions i ≡ pending_for a i)
+    (key : key_of s.reservations.registrations i ≡ key_of r.registrations i)
+    (reservation : s.reservations.reservation ≡ r.reservation)
+    (w : IsWithinLimits s) (w' : IsWithinLimits (with_others s a r))
+    (h : HoldsAlone s.reservations i) where
+  abbrev other : State
+  other = with_others s a r
+
+  own-left : (action : OutAction) (scope_type : ℕ) (list : OutList)
+      → left_of (state_after s.reservations
+      (outcome s.reservations i action scope_type list)) i
+      ≡ left_of (state_after r (outcome r i action scope_type list)) i
+  own-left action scope_type list =
+      let rs = s.reservations.registrations in
+      let k = has-key rs i (key_of rs i) refl (sym (is_registered-key_of rs i) ∙ h.registered) in
+      let first : s.reservations ≡ alone_in rs h.kind i s.reservations.generation =
+      λ d. record {
+        registrations = rs;
+        reservation = h.reservation_is d;
+        generation = s.reservations.generation;
+      } in
+      let held' = sym reservation ∙ h.reservation_is in
+      let second : r ≡ alone_in r.registrations h.kind i r.generation =
+      λ d. record {
+        registrations = r.registrations;
+        reservation = held' d;
+        generation = r.generation;
+      } in
+      let left = λ (x : ReservationState).
+      left_of (state_after x (outcome x i action scope_type list)) i in
+      ap left first
+      ∙ (own_agrees rs r.registrations h.kind s.reservations.generation r.generation i k.key action
+      scope_type list (w.registered.one_each i) k.key_is (w'.registered.one_each i)
+      (sym key ∙ k.key_is)
+      ∙ sym (ap left second))
+
+  out-alike : (action : OutAction) (scope_type : ℕ) (list : OutList)
+      → StepsAlike true i (step_by s i (ChangeReservations action scope_type list))
+      (step_by other i (ChangeReservations action scope_type list))
+  out-alike action scope_type list =
+      let first = out-becomes s i w action scope_type list in
+      let second = out-becomes other i w' action scope_type list in
+      let left = own-left action scope_type list in
+      let middle : view_with s i (left_of (state_after s.reservations
+      (outcome s.reservations i action scope_type list)) i)
+      ≡ view_with other i (left_of (state_after r (outcome r i action scope_type list)) i) =
+      λ d. record {
+        disk = s.disk;
+        modes = s.modes;
+        attentions = attentions d;
+        key = (left d).0;
+        reservation = (left d).1;
+      } in
+      record {
+        identity = first.identity ∙ sym second.identity;
+        view = first.view ∙ (middle ∙ sym second.view);
+        answer = λ shown. cc;
+      }
+
+  by-operation : (operation : Operation)
+      → StepsAlike (shows_of operation) i (step_by s i operation) (step_by other i operation)
+  by-operation (ChangeReservations action scope_type list) = out-alike action scope_type list
+  by-operation operation =
+      operation-alike s a r i attentions key reservation w.pending.one_for_each
+      w'.pending.one_for_each operation refl
+
+  parse-same : (data_out : List ℕ) (parsed : Result Command CdbFault)
+      → checked_parse s parsed data_out ≡ checked_parse other parsed data_out
+  parse-same data_out (Err fault) = refl
+  parse-same data_out (Ok command) = refl
+
+  step-alike : (cdb data_out : List ℕ)
+      → StepsAlike (shows_others (command_of cdb)) i (step s i cdb data_out)
+      (step other i cdb data_out)
+  step-alike cdb data_out =
+      let same =
+      ap (λ checks. first_some checks)
+      (cdb-checks-same s a r i attentions key reservation w.pending.one_for_each
+      w'.pending.one_for_each cdb) in
+      lifted-both s other i cdb data_out same (parse-same data_out)
+      (λ (first second : Step). StepsAlike (shows_others (command_of cdb)) i first second)
+      (refused-alike s a r i attentions key reservation w.pending.one_for_each
+      w'.pending.one_for_each (shows_others (command_of cdb)))
+      (λ operation k. subst
+      (λ (b : Bool). StepsAlike b i (step_by s i operation) (step_by other i operation))
+      (sym (ap shows_others k.command_is
+      ∙ (asked-suits s.disk.capacity k.command data_out operation k.operation_is).shown))
+      (by-operation operation))
+
+-- a command of the holder in two states of one disk where its views are equal
+pub own-alike : (first second : State) (i : ℕ) (cdb data_out : List ℕ) → IsWithinLimits first
+    → IsWithinLimits second → first.identity ≡ second.identity
+    → view_of first i ≡ view_of second i → holds_alone first i ≡ true
+    → StepsAlike (shows_others (command_of cdb)) i (step first i cdb data_out)
+    (step second i cdb data_out)
+own-alike first second i cdb data_out w w' identity view held =
+    let a = second.attentions in
+    let r = second.reservations in
+    let disk = ap (λ (v : View). v.disk) view in
+    let modes = ap (λ (v : View). v.modes) view in
+    let to : with_others first a r ≡ second =
+    λ d. record {
+      identity = identity d;
+      disk = disk d;
+      modes = modes d;
+      attentions = a;
+      reservations = r;
+    } in
+    subst
+    (λ (x : State). StepsAlike (shows_others (command_of cdb)) i (step first i cdb data_out)
+    (step x i cdb data_out))
+    to
+    (step-alike first a r i (ap (λ (v : View). v.attentions) view) (ap (λ (v : View). v.key) view)
+    (ap (λ (v : View). v.reservation) view) w
+    (subst IsWithinLimits (sym to) w') (alone first i w held) cdb data_out)

@@ -1,0 +1,226 @@
+-- PREEMPT and PREEMPT AND ABORT remove the registrations of others under their key.
+use Rattle.std.proofs.Common.{◌≡◌, ◌≤◌, ◌+◌, ◌==◌, ℕ, Bool, true, false, cond, not, ◌||◌, List}
+use Rattle.std.proofs.Common.{[], ◌∷◌, filter, length, Option, Some, None, Result, Ok, Err}
+use Rattle.std.proofs.Common.{refl, sym, ap, ◌∙◌, subst, arith}
+use Rattle.std.specs.Result.{result_map_both}
+use Rattle.std.proofs.lemmas.Bool.{false≢true}
+use Rattle.std.proofs.lemmas.Bool.Decides.{nat_tests}
+use Rattle.sg_wire.specs.CutAnswer.{first_bytes}
+use Rattle.sg_wire.specs.Layout.{command_of}
+use Rattle.sg_wire.specs.declared.command.CdbFault.{CdbFault}
+use Rattle.sg_wire.specs.declared.command.Command.{Command}
+use Rattle.sg_wire.specs.declared.command.Command.TheVariants.{PersistentReserveOut}
+use Rattle.sg_wire.specs.declared.command.out_action.OutAction.{OutAction}
+use Rattle.sg_wire.specs.declared.command.out_action.OutAction.TheVariants.{Preempt, PreemptAndAbort}
+use Rattle.sg_units.specs.UnsupportedFlags.{has_unsupported_flag}
+use Rattle.sg_wire.specs.OutList.{list_length, out_list}
+use Rattle.sg_units.specs.Registrations.{is_of, is_registered, is_under, key_of, registrations_of}
+use Rattle.sg_units.specs.ReservationType.{type_of}
+use Rattle.sg_units.specs.ReserveOut.{Outcome, accepts_key, action_outcome, outcome, preempt_cases}
+use Rattle.sg_units.specs.declared.out_fault.OutFault.TheVariants.{Conflict, Field}
+use Rattle.sg_wire.specs.declared.out_list.OutList.{OutList}
+use Rattle.sg_units.specs.declared.registrations.Registration.{Registration}
+use Rattle.sg_units.specs.declared.reservation_change.ReservationChange.{ReservationChange}
+use Rattle.sg_units.specs.declared.reservation_state.ReservationState.{ReservationState}
+use Rattle.sg_units.specs.declared.types.ReservationType.{ReservationType}
+use Rattle.sg_units.proofs.ConsistencyLemmas.{registrations_of-cons}
+use Rattle.sg_units.proofs.FencingLemmas.{key_of-cons}
+use Rattle.sg_units.proofs.OutcomeLemmas.{EffectIs, FirstIs, case_or, choice, effective, last_case}
+use Rattle.sg_units.proofs.OutcomeLemmas.{refused, taking}
+use Rattle.sg_target.specs.Checks.{no_space}
+use Rattle.sg_target.specs.Demands.{demands}
+use Rattle.sg_target.specs.Effect.{Effect}
+use Rattle.sg_target.specs.Refusal.{when_sound}
+use Rattle.sg_target.specs.ReservationCommands.{changing_reservations, out_refusal}
+use Rattle.sg_target.specs.ReservationCommands.{reservation_change}
+use Rattle.sg_target.specs.Semantics.{effect_of}
+use Rattle.sg_target.specs.State.{IsWithinLimits, State}
+use Rattle.sg_target.specs.Step.{Step, outcome as step_outcome, step, unless_no_space}
+use Rattle.sg_target.specs.declared.operation.Operation.{Operation}
+use Rattle.sg_target.specs.declared.operation.Operation.TheVariants.{ChangeReservations}
+use Rattle.sg_target.specs.declared.refusal.Reason.TheVariants.{ParameterListLengthError}
+use Rattle.sg_target.specs.declared.refusal.Refusal.{Refusal}
+use Rattle.sg_target.specs.declared.refusal.Refusal.TheVariants.{Check}
+use Rattle.sg_target.specs.declared.reply.Status.TheVariants.{Good}
+use Rattle.sg_target.proofs.LiftLemmas.{lifted}
+use Rattle.sg_fencing.specs.Registrants.{is_preempting, preempted_key}
+use Rattle.sg_fencing.proofs.AccessLemmas.{not_good}
+use Rattle.sg_fencing.proofs.HolderLemmas.{differ}
+use Rattle.sg_fencing.proofs.RegistrationLemmas.{none-kept, not-in-filter}
+
+-- ---- The one registration of an initiator
+
+not-counted : (b : Bool) (n : ℕ) (rest : Bool) → cond {A = ℕ} b 1 0 + n ≡ 0 → (n ≡ 0 → rest ≡ false)
+    → (b || rest) ≡ false
+not-counted true n rest h f = absurd (omega arith)
+not-counted false n rest h f = f (omega arith)
+
+none-counted : (rs : List Registration) (i : ℕ) → registrations_of rs i ≡ 0
+    → is_registered rs i ≡ false
+none-counted [] i h = refl
+none-counted (r ∷ rs) i h =
+    not-counted (is_of i r) (registrations_of rs i) (is_registered rs i)
+    (sym (registrations_of-cons r rs i) ∙ h) (none-counted rs i)
+
+under-it : (r : Registration) (key : ℕ) → r.key ≡ key → is_under key r ≡ true
+under-it r key h = grind (arith, nat_tests)
+
+module _ (keep : Registration → Bool) (i key : ℕ)
+    (drops : (r : Registration) → is_of i r ≡ true → is_under key r ≡ true → keep r ≡ false) where
+  removed-first : (r : Registration) (rs : List Registration) (b : Bool) → is_of i r ≡ b
+      → cond {A = ℕ} b 1 0 + registrations_of rs i ≤ 1
+      → (registrations_of rs i ≤ 1 → key_of rs i ≡ Some key
+      → is_registered (filter keep rs) i ≡ false)
+      → cond b (Some r.key) (key_of rs i) ≡ Some key
+      → is_registered (cond (keep r) (r ∷ filter keep rs) (filter keep rs)) i ≡ false
+  removed-first r rs true is few rest e =
+      let none : registrations_of rs i ≡ 0 = omega arith in
+      let same : r.key ≡ key = cc in
+      ap (λ k. is_registered (cond k (r ∷ filter keep rs) (filter keep rs)) i)
+      (drops r is (under-it r key same))
+      ∙ not-in-filter keep rs i (none-counted rs i none)
+  removed-first r rs false is few rest e =
+      none-kept (keep r) r (filter keep rs) i false (ap (λ b. b || false) is)
+      (λ _. rest (omega arith) e)
+
+  -- it is removed where it is under the key
+  removed : (rs : List Registration) → registrations_of rs i ≤ 1 → key_of rs i ≡ Some key
+      → is_registered (filter keep rs) i ≡ false
+  removed [] few e = refl
+  removed (r ∷ rs) few e =
+      let step = registrations_of-cons r rs i in
+      let most : cond {A = ℕ} (is_of i r) 1 0 + registrations_of rs i ≤ 1 = omega arith in
+      removed-first r rs (is_of i r) refl most (removed rs) (sym (key_of-cons r rs i) ∙ e)
+
+-- ---- The outcome
+
+not-of : (r : Registration) (i j : ℕ) → (j == i) ≡ false → is_of i r ≡ true → is_of j r ≡ false
+not-of r i j other is = grind (arith, nat_tests)
+
+neither : (a b : Bool) → a ≡ false → b ≡ true → (a || not b) ≡ false
+neither true b h e = h
+neither false b h e = ap not e
+
+module _ (state : ReservationState) (i j : ℕ) (other : (j == i) ≡ false) (list : OutList)
+    (one : registrations_of state.registrations i ≤ 1)
+    (here : key_of state.registrations i ≡ Some list.service_action_key) where
+  abbrev key : ℕ
+  key = list.service_action_key
+
+  abbrev pub IsRemoved : ReservationChange → Type 0
+  IsRemoved change = is_registered change.registrations i ≡ false
+
+  gone : (keep : Registration → Bool)
+      → ((r : Registration) → is_of i r ≡ true → is_under key r ≡ true → keep r ≡ false)
+      → is_registered (filter keep state.registrations) i ≡ false
+  gone keep drops = removed keep i key drops state.registrations one here
+
+  preempt-removes : (type : Option ReservationType) → FirstIs IsRemoved (preempt_cases state j type key)
+  unfolding preempt_cases
+  preempt-removes type =
+      let unless_own =
+      gone (λ r. is_of j r || not (is_under key r))
+      (λ r is under. neither (is_of j r) (is_under key r) (not-of r i j other is) under) in
+      let own = gone (is_of j) (λ r is under. not-of r i j other is) in
+      let under_key = gone (λ r. not (is_under key r)) (λ r is under. ap not under) in
+      case_or IsRemoved _ _ (λ _. refused IsRemoved _)
+      (λ _. case_or IsRemoved _ _
+      (λ _. taking IsRemoved state.reservation j type _ (λ type. effective IsRemoved _ unless_own))
+      (λ _. case_or IsRemoved _ _
+      (λ _. taking IsRemoved state.reservation j type _ (λ type. effective IsRemoved _ own))
+      (λ _. case_or IsRemoved _ _ (λ _. refused IsRemoved _)
+      (λ _. last_case IsRemoved _ _ refl (effective IsRemoved _ under_key)))))
+
+  action-removes : (action : OutAction) (type : Option ReservationType) → is_preempting action ≡ true
+      → EffectIs IsRemoved (action_outcome state j action type key)
+  action-removes Preempt type h = (preempt-removes type).first
+  action-removes PreemptAndAbort type h = (preempt-removes type).first
+  action-removes _ type h = absurd (false≢true h)
+
+  outcome-removes : (action : OutAction) (scope_type : ℕ) → is_preempting action ≡ true
+      → EffectIs IsRemoved (outcome state j action scope_type list)
+  unfolding outcome
+  outcome-removes action scope_type h =
+      let accepts = accepts_key state.registrations j action list.reservation_key in
+      choice IsRemoved (has_unsupported_flag action list) _ _ (λ _. refused IsRemoved (Field 20))
+      (λ _. choice IsRemoved (not accepts) _ _ (λ _. refused IsRemoved Conflict)
+      (λ _. action-removes action (type_of scope_type) h))
+
+-- ---- The command
+
+module _ (state : State) (i j : ℕ) where
+  abbrev IsGone : State → Type 0
+  IsGone after = is_registered after.reservations.registrations i ≡ false
+
+  abbrev EffectRemoves : Result Effect Refusal → Type 0
+  EffectRemoves (Ok effect) = IsGone effect.after
+  EffectRemoves (Err refusal) = Unit {0}
+
+  by-space : (effect : Effect) (refusal : Option Refusal) → IsGone effect.after
+      → (unless_no_space state j effect refusal).answer.status ≡ Good
+      → IsGone (unless_no_space state j effect refusal).state
+  by-space effect None h good = h
+  by-space effect (Some refusal) h good = absurd (not_good state j refusal good)
+
+  where-good : (effect : Result Effect Refusal) → EffectRemoves effect
+      → (step_outcome state j effect).answer.status ≡ Good → IsGone (step_outcome state j effect).state
+  where-good (Ok effect) h good = by-space effect (no_space effect.after.disk) h good
+  where-good (Err refusal) h good = absurd (not_good state j refusal good)
+
+  changing-removes : (o : Outcome)
+      → EffectIs (λ (change : ReservationChange). is_registered change.registrations i ≡ false) o
+      → EffectRemoves (when_sound (result_map_both (λ change. change) out_refusal o)
+      (changing_reservations state j))
+  changing-removes (Ok change) k = k.shown change refl
+  changing-removes (Err fault) k = tt
+
+  module _ (w : IsWithinLimits state) (other : j ≡ i → ⊥) where
+    reserving-removes : (action : OutAction) (scope_type : ℕ) (list : OutList)
+        → is_preempting action ≡ true
+        → key_of state.reservations.registrations i ≡ Some list.service_action_key
+        → EffectRemoves (effect_of state j (ChangeReservations action scope_type list))
+    unfolding reservation_change
+    reserving-removes action scope_type list h here =
+        changing-removes (outcome state.reservations j action scope_type list)
+        (outcome-removes state.reservations i j (differ i j other) list
+        (w.registered.one_each i) here action scope_type h)
+
+    preempting : (b : Bool) (own key : ℕ) → cond b (Some own) None ≡ Some key → (b ≡ true) × (own ≡ key)
+    preempting true own key h =
+        let same : own ≡ key = cc in
+        (refl, same)
+    preempting false own key h = cc
+
+    -- the fields of its list
+    listed : (action : OutAction) (scope_type : ℕ) (is_whole : Bool) (list : OutList)
+        (short : Refusal) (operation : Operation)
+        → when_sound (cond is_whole (Ok list) (Err short)) (ChangeReservations action scope_type)
+        ≡ Ok operation
+        → ChangeReservations action scope_type list ≡ operation
+    listed action scope_type true list short operation e = cc
+    listed action scope_type false list short operation e = cc
+
+    command-removes : (command : Command) (data_out : List ℕ) (operation : Operation) (key : ℕ)
+        → (demands state.disk.capacity command data_out).operation ≡ Ok operation
+        → preempted_key (Ok command) data_out ≡ Some key
+        → key_of state.reservations.registrations i ≡ Some key
+        → EffectRemoves (effect_of state j operation)
+    command-removes (PersistentReserveOut action scope_type n) data_out operation key e h here =
+        let list = first_bytes n data_out in
+        let parts = preempting (is_preempting action) (out_list list).service_action_key key h in
+        subst (λ (o : Operation). EffectRemoves (effect_of state j o))
+        (listed action scope_type (length list == list_length) (out_list list)
+        (Check ParameterListLengthError) operation e)
+        (reserving-removes action scope_type (out_list list) parts.0 (here ∙ ap Some (sym parts.1)))
+    command-removes _ data_out operation key e h here = cc
+
+    pub preempt-unregisters : (cdb data_out : List ℕ) (key : ℕ)
+        → preempted_key (command_of cdb) data_out ≡ Some key
+        → key_of state.reservations.registrations i ≡ Some key
+        → (step state j cdb data_out).answer.status ≡ Good → IsGone (step state j cdb data_out).state
+    preempt-unregisters cdb data_out key h here =
+        lifted state j cdb data_out (λ (done : Step). done.answer.status ≡ Good → IsGone done.state)
+        (λ refusal good. absurd (not_good state j refusal good))
+        (λ operation k. where-good (effect_of state j operation)
+        (command-removes k.command data_out operation key k.operation_is
+        (sym (ap (λ (p : Result Command CdbFault). preempted_key p data_out) k.command_is) ∙ h) here))

@@ -1,0 +1,204 @@
+-- What PERSISTENT RESERVE OUT does where an initiator is not registered: its own command leaves all
+-- but its own registration, and nobody else's registers it.
+use Rattle.std.proofs.Common.{◌≡◌, ◌==◌, ℕ, Bool, true, false, cond, not, ◌&&◌, ◌||◌, List}
+use Rattle.std.proofs.Common.{[], ◌∷◌, filter, Option, None, Ok, refl, sym, ap, ◌∙◌}
+use Rattle.std.specs.Prelude.{if◌then◌else◌, is_some}
+use Rattle.std.proofs.lemmas.Bool.{false≢true}
+use Rattle.sg_wire.specs.declared.command.out_action.OutAction.{OutAction}
+use Rattle.sg_wire.specs.declared.command.out_action.OutAction.TheVariants.{Register, Reserve}
+use Rattle.sg_wire.specs.declared.command.out_action.OutAction.TheVariants.{Release, Clear, Preempt}
+use Rattle.sg_wire.specs.declared.command.out_action.OutAction.TheVariants.{PreemptAndAbort}
+use Rattle.sg_wire.specs.declared.command.out_action.OutAction.TheVariants.{RegisterAndIgnoreExistingKey}
+use Rattle.sg_units.specs.UnsupportedFlags.{has_unsupported_flag}
+use Rattle.sg_units.specs.Registrations.{is_of, is_registered, is_registered_under, is_under, key_of}
+use Rattle.sg_units.specs.Registrations.{with_key_replaced, with_registration, without_initiator}
+use Rattle.sg_units.specs.ReservationType.{type_of}
+use Rattle.sg_units.specs.ReserveOut.{accepts_key, action_outcome, outcome, preempt_cases}
+use Rattle.sg_units.specs.ReserveOut.{register_cases, release_cases, reserve_cases}
+use Rattle.sg_units.specs.declared.out_fault.OutFault.TheVariants.{Conflict, Field}
+use Rattle.sg_wire.specs.declared.out_list.OutList.{OutList}
+use Rattle.sg_units.specs.declared.registrations.Registration.{Registration}
+use Rattle.sg_units.specs.declared.reservation_change.ReservationChange.{ReservationChange}
+use Rattle.sg_units.specs.declared.reservation_state.ReservationState.{ReservationState}
+use Rattle.sg_units.specs.declared.types.ReservationType.{ReservationType}
+use Rattle.sg_units.specs.declared.unit_attention.UnitAttention.{UnitAttention}
+use Rattle.sg_units.proofs.FencingLemmas.{IsLeft, is_registered-key_of, key_of-push, key_of-replaced}
+use Rattle.sg_units.proofs.FencingLemmas.{key_of-without}
+use Rattle.sg_units.proofs.OutcomeLemmas.{EffectIs, FirstIs, case_or, choice, effective, last_case}
+use Rattle.sg_units.proofs.OutcomeLemmas.{refused, taking, typed}
+use Rattle.sg_fencing.specs.Registrants.{is_registering}
+
+-- ---- Registrations of an initiator that has none
+
+none-under : (a b c d : Bool) → (a || c) ≡ false → (c ≡ false → d ≡ false) → ((a && b) || d) ≡ false
+none-under true b c d h f = absurd (false≢true (sym h))
+none-under false b c d h f = f h
+
+not-under : (rs : List Registration) (j key : ℕ) → is_registered rs j ≡ false
+    → is_registered_under rs j key ≡ false
+not-under [] j key h = refl
+not-under (r ∷ rs) j key h =
+    none-under (is_of j r) (is_under key r) (is_registered rs j) (is_registered_under rs j key) h
+    (not-under rs j key)
+
+pub none-kept : (keep : Bool) (r : Registration) (rs : List Registration) (i : ℕ) (b : Bool)
+    → (is_of i r || b) ≡ false → (b ≡ false → is_registered rs i ≡ false)
+    → is_registered (cond keep (r ∷ rs) rs) i ≡ false
+none-kept true r rs i b h f = either (is_of i r) h
+  where
+    either : (a : Bool) → (a || b) ≡ false → (a || is_registered rs i) ≡ false
+    either true h = absurd (false≢true (sym h))
+    either false h = f h
+none-kept false r rs i b h f = f (later (is_of i r) h)
+  where
+    later : (a : Bool) → (a || b) ≡ false → b ≡ false
+    later true h = absurd (false≢true (sym h))
+    later false h = h
+
+pub not-in-filter : (p : Registration → Bool) (rs : List Registration) (i : ℕ)
+    → is_registered rs i ≡ false → is_registered (filter p rs) i ≡ false
+not-in-filter p [] i h = refl
+not-in-filter p (r ∷ rs) i h =
+    none-kept (p r) r (filter p rs) i (is_registered rs i) h (not-in-filter p rs i)
+
+-- ---- The command of an initiator that is not registered
+
+nothing : (a b : Bool) (remaining removed : Option UnitAttention) → remaining ≡ None → removed ≡ None
+    → (if a then None else (if b then remaining else removed)) ≡ None
+nothing true b remaining removed e f = refl
+nothing false true remaining removed e f = e
+nothing false false remaining removed e f = f
+
+not_so : (b : Bool) → b ≡ false → not b ≡ false → ⊥
+not_so true h e = false≢true (sym h)
+not_so false h e = false≢true (sym e)
+
+accepted : (b : Bool) → not b ≡ false → b ≡ true
+accepted true e = refl
+accepted false e = absurd (false≢true (sym e))
+
+module _ (state : ReservationState) (i j : ℕ) (other : (j == i) ≡ false)
+    (unknown : is_registered state.registrations j ≡ false) where
+  abbrev pub Leaves : ReservationChange → Type 0
+  Leaves = IsLeft state.registrations state.reservation i j
+
+  left : (change : ReservationChange) → key_of change.registrations i ≡ key_of state.registrations i
+      → change.reservation ≡ state.reservation → change.for_remaining ≡ None
+      → change.for_removed ≡ None → EffectIs Leaves (Ok change)
+  left change key same remaining removed = effective Leaves change (record {
+    key = key;
+    reservation = same;
+    unraised =
+        nothing (i == j || not (is_registered state.registrations i))
+        (is_registered change.registrations i) change.for_remaining change.for_removed remaining removed;
+  })
+
+  register-leaves : (sark : ℕ) → FirstIs Leaves (register_cases state j sark)
+  unfolding register_cases
+  register-leaves sark =
+      case_or Leaves _ _ (λ _. left _ refl refl refl refl)
+      (λ _. case_or Leaves _ _ (λ _. refused Leaves _)
+      (λ _. case_or Leaves _ _
+      (λ _. left _ (key_of-push state.registrations i j sark other) refl refl refl)
+      (λ known. absurd (not_so (is_registered state.registrations j) unknown known))))
+
+  not-own : (key : ℕ) → is_registered_under state.registrations j key ≡ true → ⊥
+  not-own key h = false≢true (sym (not-under state.registrations j key unknown) ∙ h)
+
+  action-leaves : (action : OutAction) (type : Option ReservationType) (sark key : ℕ)
+      → accepts_key state.registrations j action key ≡ true
+      → EffectIs Leaves (action_outcome state j action type sark)
+  action-leaves Register type sark key h = (register-leaves sark).first
+  action-leaves RegisterAndIgnoreExistingKey type sark key h = (register-leaves sark).first
+  action-leaves Reserve type sark key h = absurd (not-own key h)
+  action-leaves Release type sark key h = absurd (not-own key h)
+  action-leaves Clear type sark key h = absurd (not-own key h)
+  action-leaves Preempt type sark key h = absurd (not-own key h)
+  action-leaves PreemptAndAbort type sark key h = absurd (not-own key h)
+
+  pub outcome-leaves : (action : OutAction) (scope_type : ℕ) (list : OutList)
+      → EffectIs Leaves (outcome state j action scope_type list)
+  unfolding outcome
+  outcome-leaves action scope_type list =
+      let accepts = accepts_key state.registrations j action list.reservation_key in
+      choice Leaves (has_unsupported_flag action list) _ _ (λ _. refused Leaves (Field 20))
+      (λ _. choice Leaves (not accepts) _ _ (λ _. refused Leaves Conflict)
+      (λ yes. action-leaves action (type_of scope_type) list.service_action_key list.reservation_key
+      (accepted accepts yes)))
+
+-- ---- An initiator stays unregistered
+
+-- i is not registered, and the command of j does not register i.
+module _ (state : ReservationState) (i j : ℕ) (unknown : is_registered state.registrations i ≡ false) where
+  abbrev pub IsUnknown : ReservationChange → Type 0
+  IsUnknown change = is_registered change.registrations i ≡ false
+
+  by-key : (rest : List Registration) → key_of rest i ≡ key_of state.registrations i
+      → is_registered rest i ≡ false
+  by-key rest e =
+      is_registered-key_of rest i
+      ∙ (ap is_some e ∙ (sym (is_registered-key_of state.registrations i) ∙ unknown))
+
+  stays : (change : ReservationChange) → IsUnknown change → EffectIs IsUnknown (Ok change)
+  stays change h = effective IsUnknown change h
+
+  registering-other : (sark : ℕ) → (j == i) ≡ false → FirstIs IsUnknown (register_cases state j sark)
+  unfolding register_cases
+  registering-other sark other =
+      let all = state.registrations in
+      let gone = by-key (without_initiator all j) (key_of-without all i j other) in
+      let pushed = by-key (with_registration all j sark) (key_of-push all i j sark other) in
+      let replaced = by-key (with_key_replaced all j sark) (key_of-replaced all i j sark other) in
+      case_or IsUnknown _ _ (λ _. stays _ unknown)
+      (λ _. case_or IsUnknown _ _ (λ _. refused IsUnknown _)
+      (λ _. case_or IsUnknown _ _ (λ _. stays _ pushed)
+      (λ _. case_or IsUnknown _ _ (λ _. stays _ replaced)
+      (λ _. last_case IsUnknown _ _ refl (stays _ gone)))))
+
+  reserving : (type : ReservationType) → FirstIs IsUnknown (reserve_cases state j type)
+  unfolding reserve_cases
+  reserving type =
+      case_or IsUnknown _ _ (λ _. stays _ unknown)
+      (λ _. case_or IsUnknown _ _ (λ _. stays _ unknown)
+      (λ _. last_case IsUnknown _ _ refl (refused IsUnknown _)))
+
+  releasing : (type : ReservationType) → FirstIs IsUnknown (release_cases state j type)
+  unfolding release_cases
+  releasing type =
+      case_or IsUnknown _ _ (λ _. stays _ unknown)
+      (λ _. case_or IsUnknown _ _ (λ _. refused IsUnknown _)
+      (λ _. last_case IsUnknown _ _ refl (stays _ unknown)))
+
+  preempting : (type : Option ReservationType) (sark : ℕ)
+      → FirstIs IsUnknown (preempt_cases state j type sark)
+  unfolding preempt_cases
+  preempting type sark =
+      let gone = λ (p : Registration → Bool). not-in-filter p state.registrations i unknown in
+      case_or IsUnknown _ _ (λ _. refused IsUnknown _)
+      (λ _. case_or IsUnknown _ _
+      (λ _. taking IsUnknown state.reservation j type _ (λ type. stays _ (gone _)))
+      (λ _. case_or IsUnknown _ _
+      (λ _. taking IsUnknown state.reservation j type _ (λ type. stays _ (gone _)))
+      (λ _. case_or IsUnknown _ _ (λ _. refused IsUnknown _)
+      (λ _. last_case IsUnknown _ _ refl (stays _ (gone _))))))
+
+  action-unknown : (action : OutAction) (type : Option ReservationType) (sark : ℕ)
+      → (is_registering action ≡ true → (j == i) ≡ false)
+      → EffectIs IsUnknown (action_outcome state j action type sark)
+  action-unknown Register type sark h = (registering-other sark (h refl)).first
+  action-unknown RegisterAndIgnoreExistingKey type sark h = (registering-other sark (h refl)).first
+  action-unknown Reserve type sark h = typed IsUnknown type _ (λ type. (reserving type).first)
+  action-unknown Release type sark h = typed IsUnknown type _ (λ type. (releasing type).first)
+  action-unknown Clear type sark h = stays _ refl
+  action-unknown Preempt type sark h = (preempting type sark).first
+  action-unknown PreemptAndAbort type sark h = (preempting type sark).first
+
+  pub outcome-unknown : (action : OutAction) (scope_type : ℕ) (list : OutList)
+      → (is_registering action ≡ true → (j == i) ≡ false)
+      → EffectIs IsUnknown (outcome state j action scope_type list)
+  unfolding outcome
+  outcome-unknown action scope_type list h =
+      let accepts = accepts_key state.registrations j action list.reservation_key in
+      choice IsUnknown (has_unsupported_flag action list) _ _ (λ _. refused IsUnknown (Field 20))
+      (λ _. choice IsUnknown (not accepts) _ _ (λ _. refused IsUnknown Conflict)
+      (λ _. action-unknown action (type_of scope_type) list.service_action_key h))

@@ -1,0 +1,184 @@
+-- What commands leave of registrations and reservation: those of others, but CLEAR and PREEMPT, leave
+-- a reservation as it was.
+use Rattle.std.proofs.Common.{◌≡◌, ℕ, Bool, true, false, not, List, ◌&&◌, ◌||◌}
+use Rattle.std.proofs.Common.{Option, Some, None, Result, Ok, Err, refl, sym, ap, ◌∙◌, subst}
+use Rattle.std.proofs.lemmas.Bool.{false≢true}
+use Rattle.std.specs.Option.{option_map_or}
+use Rattle.std.specs.Result.{result_map_both}
+use Rattle.sg_wire.specs.Layout.{command_of}
+use Rattle.sg_wire.specs.declared.command.CdbFault.{CdbFault}
+use Rattle.sg_wire.specs.declared.command.Command.{Command}
+use Rattle.sg_wire.specs.declared.command.Command.TheVariants.{PersistentReserveOut}
+use Rattle.sg_wire.specs.declared.command.out_action.OutAction.{OutAction}
+use Rattle.sg_units.specs.Laws.{ends_for_others}
+use Rattle.sg_units.specs.Registrations.{is_registered}
+use Rattle.sg_units.specs.Reservations.{has_type, holds}
+use Rattle.sg_units.specs.ReserveOut.{Outcome, outcome}
+use Rattle.sg_wire.specs.declared.out_list.OutList.{OutList}
+use Rattle.sg_units.specs.declared.reservation.Reservation.{Reservation}
+use Rattle.sg_units.specs.declared.reservation_change.ReservationChange.{ReservationChange}
+use Rattle.sg_units.specs.declared.reservation_state.ReservationState.{ReservationState}
+use Rattle.sg_units.specs.declared.types.ReservationType.TheVariants.{WriteExclusive, ExclusiveAccess}
+use Rattle.sg_units.proofs.FencingLemmas.{IsHeld, alone_in, held_alone, outcome_holds}
+use Rattle.sg_units.proofs.OutcomeLemmas.{EffectIs}
+use Rattle.sg_target.specs.Checks.{no_space}
+use Rattle.sg_target.specs.Effect.{Effect, returning_up_to}
+use Rattle.sg_target.specs.ModeCommands.{changing_modes, mode_parameters, selected_modes}
+use Rattle.sg_target.specs.Refusal.{when_sound}
+use Rattle.sg_target.specs.ReservationCommands.{changing_reservations, out_refusal}
+use Rattle.sg_target.specs.ReservationCommands.{reservation_change}
+use Rattle.sg_target.specs.Semantics.{effect_of}
+use Rattle.sg_target.specs.State.{State}
+use Rattle.sg_target.specs.Step.{Step, outcome as step_outcome, refused, step, unless_no_space}
+use Rattle.sg_target.specs.declared.operation.Operation.{Operation}
+use Rattle.sg_target.specs.declared.operation.Operation.TheVariants.{ReturnModes, ChangeModes}
+use Rattle.sg_target.specs.declared.operation.Operation.TheVariants.{ChangeReservations}
+use Rattle.sg_target.specs.declared.refusal.Reason.TheVariants.{UnitAttention as Attention}
+use Rattle.sg_target.specs.declared.refusal.Refusal.{Refusal}
+use Rattle.sg_target.specs.declared.refusal.Refusal.TheVariants.{Check}
+use Rattle.sg_target.proofs.LiftLemmas.{lifted}
+use Rattle.sg_fencing.specs.Fencing.{can_end_for_others, holds_alone}
+use Rattle.sg_fencing.proofs.HolderLemmas.{HoldsAlone, differ}
+use Rattle.sg_fencing.proofs.OperationLemmas.{asked-suits, fits, is_of_kind}
+
+-- What is true of the reservations, and of them after each PERSISTENT RESERVE OUT of some kind, is
+-- true after each command, but for PERSISTENT RESERVE OUT of another kind.
+module _ (Stands : ReservationState → Type 0) (state : State) (j : ℕ)
+    (same : Stands state.reservations) where
+  abbrev pub EffectStands : Result Effect Refusal → Type 0
+  EffectStands (Ok effect) = Stands effect.after.reservations
+  EffectStands (Err refusal) = Unit {0}
+
+  refused-stands : (refusal : Refusal) → Stands (refused state j refusal).state.reservations
+  refused-stands (Check (Attention condition)) = same
+  refused-stands _ = same
+
+  sound-stands : {A : Type 0} (sound : Result A Refusal) (becomes : A → Effect)
+      → ((value : A) → Stands (becomes value).after.reservations)
+      → EffectStands (when_sound sound becomes)
+  sound-stands (Ok value) becomes k = k value
+  sound-stands (Err refusal) becomes k = tt
+
+  by-space : (effect : Effect) (refusal : Option Refusal) → Stands effect.after.reservations
+      → Stands (unless_no_space state j effect refusal).state.reservations
+  by-space effect None k = k
+  by-space effect (Some refusal) k = refused-stands refusal
+
+  outcome-stands : (effect : Result Effect Refusal) → EffectStands effect
+      → Stands (step_outcome state j effect).state.reservations
+  outcome-stands (Ok effect) k = by-space effect (no_space effect.after.disk) k
+  outcome-stands (Err refusal) k = refused-stands refusal
+
+  module _ (kind : OutAction → Bool)
+      (reserving-stands : (action : OutAction) (scope_type : ℕ) (list : OutList) → kind action ≡ true
+      → EffectStands
+      (when_sound (reservation_change state j action scope_type list) (changing_reservations state j))) where
+    operation-stands : (operation : Operation) → fits kind operation ≡ true
+        → EffectStands (effect_of state j operation)
+    operation-stands (ReturnModes request n) k =
+        sound-stands (mode_parameters state.modes request) (returning_up_to state n) (λ list. same)
+    operation-stands (ChangeModes ten sp list) k =
+        sound-stands (selected_modes state ten sp list) (changing_modes state j) (λ modes. same)
+    operation-stands (ChangeReservations action scope_type list) k =
+        reserving-stands action scope_type list k
+    operation-stands _ k = same
+
+    pub step-stands : (cdb data_out : List ℕ) → is_of_kind kind (command_of cdb) ≡ true
+        → Stands (step state j cdb data_out).state.reservations
+    step-stands cdb data_out of_kind =
+        lifted state j cdb data_out (λ (done : Step). Stands done.state.reservations) refused-stands
+        (λ operation k. outcome-stands (effect_of state j operation) (operation-stands operation
+        ((asked-suits state.disk.capacity k.command data_out operation k.operation_is).of_kind kind
+        (sym (ap (is_of_kind kind) k.command_is) ∙ of_kind))))
+
+-- ---- Where i holds a reservation alone
+
+-- i is registered, and the reservation is as it was
+pub record StillHeld (before after : ReservationState) (i : ℕ) : Type 0 where
+  pub here : is_registered after.registrations i ≡ true
+  pub reservation : after.reservation ≡ before.reservation
+
+not_so : (b : Bool) → not b ≡ true → b ≡ false
+not_so true e = absurd (false≢true e)
+not_so false e = refl
+
+-- The command is of another initiator j than i, the one holder of a reservation.
+module _ (state : State) (i j : ℕ) (other : j ≡ i → ⊥) (h : HoldsAlone state.reservations i) where
+  abbrev Stays : ReservationState → Type 0
+  Stays after = StillHeld state.reservations after i
+
+  stays : Stays state.reservations
+  stays = record { here = h.registered; reservation = refl }
+
+  abbrev HolderStands : Result Effect Refusal → Type 0
+  HolderStands effect = EffectStands Stays state j stays effect
+
+  abbrev H : ReservationChange → Type 0
+  H = IsHeld (held_alone h.kind i) i
+
+  changing-stands : (o : Outcome) → EffectIs H o
+      → HolderStands
+      (when_sound (result_map_both (λ change. change) out_refusal o) (changing_reservations state j))
+  changing-stands (Ok change) k =
+      let held = k.shown change refl in
+      record { here = held.here; reservation = held.reservation ∙ sym h.reservation_is }
+  changing-stands (Err fault) k = tt
+
+  out-holds : (action : OutAction) (scope_type : ℕ) (list : OutList)
+      → ends_for_others action ≡ false
+      → EffectIs H (outcome state.reservations j action scope_type list)
+  out-holds action scope_type list mild =
+      let rs = state.reservations.registrations in
+      let generation = state.reservations.generation in
+      let is : alone_in rs h.kind i generation ≡ state.reservations =
+      λ d. record {
+        registrations = rs;
+        reservation = sym h.reservation_is d;
+        generation = generation;
+      } in
+      subst (λ (r : ReservationState). EffectIs H (outcome r j action scope_type list)) is
+      (outcome_holds rs h.kind generation i j action scope_type list mild h.registered
+      (differ i j other))
+
+  reserving-stands : (action : OutAction) (scope_type : ℕ) (list : OutList)
+      → not (ends_for_others action) ≡ true
+      → HolderStands (when_sound (reservation_change state j action scope_type list)
+      (changing_reservations state j))
+  unfolding reservation_change
+  reserving-stands action scope_type list mild =
+      changing-stands (outcome state.reservations j action scope_type list)
+      (out-holds action scope_type list (not_so (ends_for_others action) mild))
+
+  abbrev leaves_others : OutAction → Bool
+  leaves_others action = not (ends_for_others action)
+
+  of-kind : (parsed : Result Command CdbFault) → can_end_for_others parsed ≡ false
+      → is_of_kind leaves_others parsed ≡ true
+  of-kind (Ok (PersistentReserveOut action scope_type n)) mild = ap not mild
+  of-kind (Ok _) mild = refl
+  of-kind (Err fault) mild = refl
+
+-- that i holds a reservation of one of the two types shows in its registration and the reservation
+abbrev holds_by : (known : Bool) → Option Reservation → (i : ℕ) → Bool
+holds_by known held i =
+    let holder = option_map_or (λ (r : Reservation). known && holds r i) held false in
+    (holder && has_type held WriteExclusive) || (holder && has_type held ExclusiveAccess)
+
+shows : (state : State) (i : ℕ) (held : Option Reservation) → state.reservations.reservation ≡ held
+    → holds_alone state i ≡ holds_by (is_registered state.reservations.registrations i) held i
+shows state i None e = cc
+shows state i (Some r) e = cc
+
+pub stands-held : (state : State) (i j : ℕ) → (j ≡ i → ⊥) → HoldsAlone state.reservations i
+    → holds_alone state i ≡ true → (cdb data_out : List ℕ)
+    → can_end_for_others (command_of cdb) ≡ false
+    → holds_alone (step state j cdb data_out).state i ≡ true
+stands-held state i j other h held cdb data_out mild =
+    let after = (step state j cdb data_out).state in
+    let k = step-stands (Stays state i j other h) state j (stays state i j other h)
+    (leaves_others state i j other h) (reserving-stands state i j other h) cdb data_out
+    (of-kind state i j other h (command_of cdb) mild) in
+    let alone = Some (record { kind = h.kind; holder = Some i }) in
+    shows after i alone (k.reservation ∙ h.reservation_is)
+    ∙ (ap (λ known. holds_by known alone i) (k.here ∙ sym h.registered)
+    ∙ (sym (shows state i alone h.reservation_is) ∙ held))

@@ -1,0 +1,7 @@
+use Rattle.sg_fencing.proofs.OwnLemmas.{own-alike}
+use Rattle.sg_fencing.proofs.laws.equal_views_of_a_holder_end_alike.Goals as goal
+
+pub returns : goal.returns
+returns c first second holder cdb data_out w w' identity view held =
+    let h = own-alike first second holder cdb data_out w w' identity view held in
+    record { view = h.view; answer = h.answer }

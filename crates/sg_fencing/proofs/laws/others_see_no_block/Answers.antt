@@ -1,0 +1,12 @@
+use Rattle.sg_units.specs.declared.types.ReservationType.TheVariants.{WriteExclusive}
+use Rattle.sg_fencing.specs.Fencing.{holds_type}
+use Rattle.sg_fencing.proofs.HolderLemmas.{alone, is-exclusive, or_right, refuses-others}
+use Rattle.sg_fencing.proofs.UnseenLemmas.{unseen}
+use Rattle.sg_fencing.proofs.laws.others_see_no_block.Goals as goal
+
+pub returns : goal.returns
+returns c state contents holder other cdb data_out w fit differ exclusive =
+    let h = alone state holder w (or_right (holds_type state holder WriteExclusive) _ exclusive) in
+    let refused = refuses-others state.reservations holder other differ h in
+    unseen state contents other (refused.reads (is-exclusive state holder h exclusive)) refused.writes
+    w.mapped fit cdb data_out

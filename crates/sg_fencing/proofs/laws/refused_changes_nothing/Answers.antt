@@ -1,0 +1,38 @@
+use Rattle.std.proofs.Common.{◌≡◌, ℕ, Option, Some, None, Result, Ok, Err, refl, inl, inr}
+use Rattle.sg_target.specs.Checks.{no_space}
+use Rattle.sg_target.specs.Effect.{Effect}
+use Rattle.sg_target.specs.Semantics.{effect_of}
+use Rattle.sg_target.specs.State.{State}
+use Rattle.sg_target.specs.Step.{Step, outcome, refused, unless_no_space}
+use Rattle.sg_target.specs.declared.refusal.Reason.TheVariants.{UnitAttention as Attention}
+use Rattle.sg_target.specs.declared.refusal.Refusal.{Refusal}
+use Rattle.sg_target.specs.declared.refusal.Refusal.TheVariants.{Check}
+use Rattle.sg_target.specs.declared.reply.Status.TheVariants.{Good}
+use Rattle.sg_target.proofs.LiftLemmas.{lifted}
+use Rattle.sg_fencing.specs.Laws.{IsKept}
+use Rattle.sg_fencing.proofs.laws.refused_changes_nothing.Goals as goal
+
+refused-keeps : (state : State) (i : ℕ) (refusal : Refusal)
+    → IsKept state (refused state i refusal).state i
+refused-keeps state i (Check (Attention condition)) =
+    record { identity = refl; disk = refl; modes = refl; reservations = refl; attentions = inr refl }
+refused-keeps state i _ =
+    record { identity = refl; disk = refl; modes = refl; reservations = refl; attentions = inl refl }
+
+abbrev KeptUnlessGood : State → ℕ → Step → Type 0
+KeptUnlessGood state i done = (done.answer.status ≡ Good → ⊥) → IsKept state done.state i
+
+by-space : (state : State) (i : ℕ) (effect : Effect) (refusal : Option Refusal)
+    → KeptUnlessGood state i (unless_no_space state i effect refusal)
+by-space state i effect None h = absurd (h refl)
+by-space state i effect (Some refusal) h = refused-keeps state i refusal
+
+by-effect : (state : State) (i : ℕ) (effect : Result Effect Refusal)
+    → KeptUnlessGood state i (outcome state i effect)
+by-effect state i (Ok effect) h = by-space state i effect (no_space effect.after.disk) h
+by-effect state i (Err refusal) h = refused-keeps state i refusal
+
+pub returns : goal.returns
+returns c state i cdb data_out =
+    lifted state i cdb data_out (KeptUnlessGood state i) (λ refusal h. refused-keeps state i refusal)
+    (λ operation k. by-effect state i (effect_of state i operation))

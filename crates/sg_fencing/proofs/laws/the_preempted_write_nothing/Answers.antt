@@ -1,0 +1,12 @@
+use Rattle.sg_target.specs.Runs.{step_of}
+use Rattle.sg_fencing.proofs.OutsiderRunLemmas.{not-written}
+use Rattle.sg_fencing.proofs.PreemptLemmas.{preempt-unregisters}
+use Rattle.sg_fencing.proofs.laws.the_preempted_write_nothing.Goals as goal
+
+pub returns : goal.returns
+returns c state preempt initiator key calls n call answer w other preempts here good silent e f from
+    writes held ends =
+    not-written (step_of state preempt).state initiator calls n call answer
+    (preempt-unregisters state initiator preempt.initiator w other preempt.cdb.now
+    preempt.data_out.now key preempts here good)
+    silent e f from writes held ends

@@ -1,0 +1,6 @@
+use Rattle.sg_fencing.proofs.OutsiderRunLemmas.{nothing-changed}
+use Rattle.sg_fencing.proofs.laws.the_unregistered_change_nothing.Goals as goal
+
+pub returns : goal.returns
+returns c state initiator calls w held outside others =
+    nothing-changed state state initiator calls w held (λ j unknown. unknown) outside others

@@ -1,0 +1,6 @@
+use Rattle.sg_fencing.proofs.OutsiderLemmas.{outside, outsider-keeps}
+use Rattle.sg_fencing.proofs.laws.the_unregistered_leave_every_view.Goals as goal
+
+pub returns : goal.returns
+returns c state initiator other cdb data_out w differ fenced =
+    (outsider-keeps state initiator other differ (outside state other fenced) w cdb data_out).view

@@ -1,0 +1,8 @@
+use Rattle.sg_fencing.proofs.OutsiderLemmas.{outside, shut}
+use Rattle.sg_fencing.proofs.UnseenLemmas.{unseen}
+use Rattle.sg_fencing.proofs.laws.the_unregistered_see_no_block.Goals as goal
+
+pub returns : goal.returns
+returns c state contents initiator cdb data_out w fit fenced exclusive =
+    let no = shut state initiator (outside state initiator fenced) in
+    unseen state contents initiator (no.reads exclusive) no.writes w.mapped fit cdb data_out

@@ -1,0 +1,170 @@
+-- Fencing: what others can do to the initiator that holds a reservation of a type that nobody
+-- shares.
+use Rattle.std.specs.Prelude.{◌≡◌, ◌≤◌, ℕ, ◌==◌, Bool, true, false, ◌&&◌, ◌||◌, not, List, filter}
+use Rattle.std.specs.Prelude.{map, slice_get, take, Option, Some, Result, Ok}
+use Rattle.std.specs.FinMap.{len}
+use Rattle.std.specs.List.{zip}
+use Rattle.sg_wire.specs.Layout.{class_of, command_of}
+use Rattle.sg_wire.specs.declared.command.CdbFault.{CdbFault}
+use Rattle.sg_wire.specs.declared.command.Class.TheVariants.{Reads, Writes}
+use Rattle.sg_wire.specs.declared.command.Command.{Command}
+use Rattle.sg_wire.specs.declared.command.Command.TheVariants.{PersistentReserveIn}
+use Rattle.sg_wire.specs.declared.command.Command.TheVariants.{PersistentReserveOut}
+use Rattle.sg_store.specs.Disk.{Contents, Disk}
+use Rattle.sg_pages.specs.ModePage.{ModeState}
+use Rattle.sg_units.specs.Attentions.{pending_for}
+use Rattle.sg_units.specs.Laws.{ends_for_others}
+use Rattle.sg_units.specs.Registrations.{key_of}
+use Rattle.sg_units.specs.Reservations.{has_type, is_holder}
+use Rattle.sg_units.specs.declared.reservation.Reservation.{Reservation}
+use Rattle.sg_units.specs.declared.types.ReservationType.{ReservationType}
+use Rattle.sg_units.specs.declared.types.ReservationType.TheVariants.{WriteExclusive}
+use Rattle.sg_units.specs.declared.types.ReservationType.TheVariants.{ExclusiveAccess}
+use Rattle.sg_units.specs.declared.unit_attention.UnitAttention.{UnitAttention}
+use Rattle.sg_target.specs.Effect.{with_contents}
+use Rattle.sg_target.specs.Runs.{answers, state_after_all}
+use Rattle.sg_target.specs.State.{IsWithinLimits, State}
+use Rattle.sg_target.specs.Step.{Answer, Step, step}
+use Rattle.sg_target.specs.declared.call.Call.{Call}
+use Rattle.sg_target.specs.declared.reply.Status.TheVariants.{Good}
+
+-- ---- Words
+
+-- What an initiator sees of the disk: the blocks, the mode pages, the unit attentions that are
+-- pending for it, its reservation key, and the reservation.
+pub record View : Type 0 where
+  pub disk : Disk
+  pub modes : ModeState
+  pub attentions : List UnitAttention
+  pub key : Option ℕ
+  pub reservation : Option Reservation
+
+abbrev pub view_of : State → (initiator : ℕ) → View
+view_of state initiator = record {
+  disk = state.disk;
+  modes = state.modes;
+  attentions = pending_for state.attentions initiator;
+  key = key_of state.reservations.registrations initiator;
+  reservation = state.reservations.reservation;
+}
+
+-- An initiator holds a reservation of a type.
+abbrev pub holds_type : State → (initiator : ℕ) → ReservationType → Bool
+holds_type state initiator type =
+    is_holder state.reservations initiator && has_type state.reservations.reservation type
+
+-- It holds one of the types that nobody shares: write exclusive or exclusive access.
+abbrev pub holds_alone : State → (initiator : ℕ) → Bool
+holds_alone state initiator =
+    holds_type state initiator WriteExclusive || holds_type state initiator ExclusiveAccess
+
+-- PERSISTENT RESERVE IN and PERSISTENT RESERVE OUT, which show what others have registered.
+abbrev pub shows_others : Result Command CdbFault → Bool
+shows_others (Ok (PersistentReserveIn action n)) = true
+shows_others (Ok (PersistentReserveOut action scope_type n)) = true
+shows_others _ = false
+
+-- ---- One command
+
+-- A command of another initiator, after which the holder still holds such a reservation, leaves the
+-- holder's view as it was.
+abbrev pub OthersLeaveTheView : Type 0
+OthersLeaveTheView =
+    (state : State) (holder other : ℕ) (cdb data_out : List ℕ) → IsWithinLimits state
+    → (other ≡ holder → ⊥) → holds_alone state holder ≡ true
+    → holds_alone (step state other cdb data_out).state holder ≡ true
+    → view_of (step state other cdb data_out).state holder ≡ view_of state holder
+
+-- A command of the holder ends with equal views in two states of one disk where its views are
+-- equal, and with equal answers, but to PERSISTENT RESERVE IN and PERSISTENT RESERVE OUT.
+pub record EndAlike (holder : ℕ) (cdb : List ℕ) (first second : Step) : Type 0 where
+  pub view : view_of first.state holder ≡ view_of second.state holder
+  pub answer : shows_others (command_of cdb) ≡ false → first.answer ≡ second.answer
+
+abbrev pub EqualViewsEndAlike : Type 0
+EqualViewsEndAlike =
+    (first second : State) (holder : ℕ) (cdb data_out : List ℕ)
+    → IsWithinLimits first → IsWithinLimits second → first.identity ≡ second.identity
+    → view_of first holder ≡ view_of second holder → holds_alone first holder ≡ true
+    → EndAlike holder cdb (step first holder cdb data_out) (step second holder cdb data_out)
+
+-- No command of another initiator that writes ends with GOOD, and under exclusive access none that
+-- reads, such as READ.
+pub record IsShutOut (state : State) (holder other : ℕ) (cdb data_out : List ℕ) : Type 0 where
+  pub writes : class_of cdb ≡ Some Writes
+      → (step state other cdb data_out).answer.status ≡ Good → ⊥
+  pub reads : class_of cdb ≡ Some Reads → holds_type state holder ExclusiveAccess ≡ true
+      → (step state other cdb data_out).answer.status ≡ Good → ⊥
+
+abbrev pub OthersAreShutOut : Type 0
+OthersAreShutOut =
+    (state : State) (holder other : ℕ) (cdb data_out : List ℕ) → IsWithinLimits state
+    → (other ≡ holder → ⊥) → holds_alone state holder ≡ true
+    → IsShutOut state holder other cdb data_out
+
+-- PERSISTENT RESERVE OUT with CLEAR, PREEMPT or PREEMPT AND ABORT.
+abbrev pub can_end_for_others : Result Command CdbFault → Bool
+can_end_for_others (Ok (PersistentReserveOut action scope_type n)) = ends_for_others action
+can_end_for_others _ = false
+
+-- No other command of another initiator ends the reservation.
+abbrev pub OnlyPreemptionEnds : Type 0
+OnlyPreemptionEnds =
+    (state : State) (holder other : ℕ) (cdb data_out : List ℕ) → IsWithinLimits state
+    → (other ≡ holder → ⊥) → holds_alone state holder ≡ true
+    → can_end_for_others (command_of cdb) ≡ false
+    → holds_alone (step state other cdb data_out).state holder ≡ true
+
+-- Under exclusive access the answer to a command of another initiator is the same whatever the
+-- blocks are, and whichever are mapped. So it is for each command, of whichever class.
+abbrev pub OthersSeeNoBlock : Type 0
+OthersSeeNoBlock =
+    (state : State) (contents : Contents) (holder other : ℕ) (cdb data_out : List ℕ)
+    → IsWithinLimits state → len contents ≤ state.disk.pool
+    → (other ≡ holder → ⊥) → holds_type state holder ExclusiveAccess ≡ true
+    → (step (with_contents state contents) other cdb data_out).answer
+    ≡ (step state other cdb data_out).answer
+
+-- ---- Lists of commands
+
+-- The calls of an initiator, in order.
+abbrev pub is_from : (initiator : ℕ) → Call → Bool
+is_from initiator call = call.initiator == initiator
+
+abbrev pub calls_of : (initiator : ℕ) → List Call → List Call
+calls_of initiator calls = filter (is_from initiator) calls
+
+-- The answers to them, in order, but to PERSISTENT RESERVE IN and PERSISTENT RESERVE OUT.
+abbrev pub is_compared : (initiator : ℕ) → Call × Answer → Bool
+is_compared initiator exchange =
+    is_from initiator exchange.0 && not (shows_others (command_of exchange.0.cdb.now))
+
+abbrev pub answers_to : (initiator : ℕ) → State → List Call → List Answer
+answers_to initiator state calls =
+    map (λ (exchange : Call × Answer). exchange.1)
+    (filter (is_compared initiator) (zip calls (answers state calls)))
+
+-- The view of an initiator in the end, and the answers to it, are those after its calls alone.
+pub record IsAsIfAlone (state : State) (initiator : ℕ) (calls : List Call) : Type 0 where
+  pub view : view_of (state_after_all state calls) initiator
+      ≡ view_of (state_after_all state (calls_of initiator calls)) initiator
+  pub answers : answers_to initiator state calls
+      ≡ answers_to initiator state (calls_of initiator calls)
+
+-- So it is where the initiator holds such a reservation before and after each call.
+abbrev pub HolderIsAsIfAlone : Type 0
+HolderIsAsIfAlone =
+    (state : State) (holder : ℕ) (calls : List Call) → IsWithinLimits state
+    → ((n : ℕ) → holds_alone (state_after_all state (take n calls)) holder ≡ true)
+    → IsAsIfAlone state holder calls
+
+-- While an initiator holds a reservation for exclusive access, no command of another that reads, such
+-- as READ, ends with GOOD.
+abbrev pub OthersReadNothing : Type 0
+OthersReadNothing =
+    (state : State) (holder : ℕ) (calls : List Call) (n : ℕ) (call : Call) (answer : Answer)
+    → IsWithinLimits state
+    → slice_get calls n ≡ Some call → slice_get (answers state calls) n ≡ Some answer
+    → (call.initiator ≡ holder → ⊥) → class_of call.cdb.now ≡ Some Reads
+    → holds_type (state_after_all state (take n calls)) holder ExclusiveAccess ≡ true
+    → answer.status ≡ Good → ⊥

@@ -1,0 +1,63 @@
+-- Laws of the definitions, in the subject's words.
+use Rattle.std.specs.Prelude.{◌≡◌, ◌⊎◌, ℕ, List, [], false, Some, None, Ok}
+use Rattle.sg_wire.specs.Layout.{class_of}
+use Rattle.sg_wire.specs.declared.command.Class.{Class}
+use Rattle.sg_units.specs.Access.{allows}
+use Rattle.sg_units.specs.Attentions.{oldest, without_oldest}
+use Rattle.sg_target.specs.Effect.{Effect}
+use Rattle.sg_target.specs.Semantics.{effect_of, medium_use}
+use Rattle.sg_target.specs.State.{State}
+use Rattle.sg_target.specs.Step.{step}
+use Rattle.sg_target.specs.declared.operation.Operation.{Operation}
+use Rattle.sg_target.specs.declared.reply.Status.TheVariants.{Good, ReservationConflict}
+
+-- An operation that does not write to the medium leaves the blocks as they are, whichever command
+-- asks for it.
+abbrev pub OnlyWritesChangeBlocks : Type 0
+OnlyWritesChangeBlocks =
+    (state : State) (initiator : ℕ) (operation : Operation) (effect : Effect)
+    → (medium_use operation).writes ≡ false
+    → effect_of state initiator operation ≡ Ok effect
+    → effect.after.disk ≡ state.disk
+
+-- Nothing has changed, but that the oldest unit attention of an initiator may have been cleared.
+-- The reservations of a state are its registrations, its reservation and PRGENERATION.
+pub record IsKept (before after : State) (initiator : ℕ) : Type 0 where
+  pub identity : after.identity ≡ before.identity
+  pub disk : after.disk ≡ before.disk
+  pub modes : after.modes ≡ before.modes
+  pub reservations : after.reservations ≡ before.reservations
+  pub attentions : (after.attentions ≡ before.attentions)
+      ⊎ (after.attentions ≡ without_oldest before.attentions initiator)
+
+-- A command that does not end with GOOD changes no block, mode page, registration or reservation,
+-- nor PRGENERATION.
+abbrev pub RefusedChangesNothing : Type 0
+RefusedChangesNothing =
+    (state : State) (initiator : ℕ) (cdb data_out : List ℕ)
+    → ((step state initiator cdb data_out).answer.status ≡ Good → ⊥)
+    → IsKept state (step state initiator cdb data_out).state initiator
+
+-- It returns no data-in either.
+abbrev pub RefusedReturnsNothing : Type 0
+RefusedReturnsNothing =
+    (state : State) (initiator : ℕ) (cdb data_out : List ℕ)
+    → ((step state initiator cdb data_out).answer.status ≡ Good → ⊥)
+    → (step state initiator cdb data_out).answer.data_in ≡ []
+
+-- A command that ends with RESERVATION CONFLICT leaves the unit attentions as they are too.
+abbrev pub ConflictChangesNothing : Type 0
+ConflictChangesNothing =
+    (state : State) (initiator : ℕ) (cdb data_out : List ℕ)
+    → (step state initiator cdb data_out).answer.status ≡ ReservationConflict
+    → (step state initiator cdb data_out).state ≡ state
+
+-- Where no unit attention is pending for an initiator, each of its commands of a class that the
+-- reservation does not allow it ends with RESERVATION CONFLICT, whatever else is wrong with it.
+abbrev pub RefusedByReservation : Type 0
+RefusedByReservation =
+    (state : State) (initiator : ℕ) (cdb data_out : List ℕ) (class : Class)
+    → class_of cdb ≡ Some class
+    → allows state.reservations initiator class ≡ false
+    → oldest state.attentions initiator ≡ None
+    → (step state initiator cdb data_out).answer.status ≡ ReservationConflict

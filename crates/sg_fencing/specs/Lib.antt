@@ -1,0 +1,4 @@
+-- What the laws cite, in the order in which it is read best.
+pub mod Laws
+pub mod Fencing
+pub mod Registrants

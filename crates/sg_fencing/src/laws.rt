@@ -1,0 +1,133 @@
+//! Laws of the definitions: each is the contract of a function that does nothing.
+ghost use Rattle.sg_fencing.specs.Fencing.{EqualViewsEndAlike, HolderIsAsIfAlone};
+ghost use Rattle.sg_fencing.specs.Fencing.{OthersAreShutOut, OthersLeaveTheView, OthersReadNothing};
+ghost use Rattle.sg_fencing.specs.Fencing.{OnlyPreemptionEnds, OthersSeeNoBlock};
+ghost use Rattle.sg_fencing.specs.Laws.{ConflictChangesNothing, OnlyWritesChangeBlocks};
+ghost use Rattle.sg_fencing.specs.Laws.{RefusedByReservation, RefusedChangesNothing};
+ghost use Rattle.sg_fencing.specs.Laws.{RefusedReturnsNothing};
+ghost use Rattle.sg_fencing.specs.Registrants.{FencedOffAreKeptOut, FencedOffLeaveTheView};
+ghost use Rattle.sg_fencing.specs.Registrants.{FencedOffSeeNoBlock, FencedOffWriteNothing};
+ghost use Rattle.sg_fencing.specs.Registrants.{OnlyRegisteringRegisters, OutsidersChangeNothing};
+ghost use Rattle.sg_fencing.specs.Registrants.{PreemptedAreUnregistered, PreemptedWriteNothing};
+
+/// An operation that does not write to the medium leaves the blocks as they are, so that write
+/// protection need not stop a command that asks for it.
+pub fn only_writes_change_blocks()
+    ensures { OnlyWritesChangeBlocks }
+{}
+
+/// A command that does not end with GOOD changes no block, mode page, registration or reservation,
+/// nor PRGENERATION. It may clear the unit attention that it reports.
+pub fn refused_changes_nothing()
+    ensures { RefusedChangesNothing }
+{}
+
+/// A command that does not end with GOOD returns no data-in.
+pub fn refused_returns_nothing()
+    ensures { RefusedReturnsNothing }
+{}
+
+/// A command that ends with RESERVATION CONFLICT changes nothing.
+pub fn conflict_changes_nothing()
+    ensures { ConflictChangesNothing }
+{}
+
+/// Where no unit attention is pending for an initiator, each of its commands of a class that the
+/// reservation does not allow it ends with RESERVATION CONFLICT.
+pub fn refused_by_reservation()
+    ensures { RefusedByReservation }
+{}
+
+/// Fencing. A command of another initiator leaves the view of an initiator that holds a write
+/// exclusive or an exclusive access reservation before it and after it: the blocks, the mode pages,
+/// its unit attentions, its reservation key and the reservation.
+pub fn others_leave_the_view_of_a_holder()
+    ensures { OthersLeaveTheView }
+{}
+
+/// Of the commands of other initiators only PERSISTENT RESERVE OUT with CLEAR, PREEMPT or PREEMPT
+/// AND ABORT ends such a reservation.
+pub fn only_preemption_ends_a_reservation()
+    ensures { OnlyPreemptionEnds }
+{}
+
+/// Where an initiator that holds such a reservation has equal views in two states of one disk, a
+/// command of it ends with equal views in both, and with equal answers, but to PERSISTENT RESERVE IN
+/// and PERSISTENT RESERVE OUT.
+pub fn equal_views_of_a_holder_end_alike()
+    ensures { EqualViewsEndAlike }
+{}
+
+/// Where such a reservation is held, no command of another initiator that writes ends with GOOD, and
+/// under exclusive access none that reads.
+pub fn others_are_shut_out()
+    ensures { OthersAreShutOut }
+{}
+
+/// Where an initiator holds an exclusive access reservation, the answer to a command of another is
+/// the same whatever the blocks are, and whichever are mapped.
+pub fn others_see_no_block()
+    ensures { OthersSeeNoBlock }
+{}
+
+/// Over a list of commands, where an initiator holds such a reservation before and after each: its
+/// view in the end, and the answers to its commands, but to PERSISTENT RESERVE IN and PERSISTENT
+/// RESERVE OUT, are those of a run of its own commands alone.
+pub fn a_holder_is_served_as_if_alone()
+    ensures { HolderIsAsIfAlone }
+{}
+
+/// Over a list of commands, while an initiator holds an exclusive access reservation, no command of
+/// another that reads ends with GOOD.
+pub fn others_read_nothing()
+    ensures { OthersReadNothing }
+{}
+
+/// Fencing by registration. While a reservation of any type is held, no command of an initiator
+/// that is not registered ends with GOOD where it writes, nor where it reads, under the exclusive
+/// access types.
+pub fn the_unregistered_are_kept_out()
+    ensures { FencedOffAreKeptOut }
+{}
+
+/// While a reservation of any type is held, a command of an initiator that is not registered leaves
+/// the view of every other initiator.
+pub fn the_unregistered_leave_every_view()
+    ensures { FencedOffLeaveTheView }
+{}
+
+/// While a reservation of an exclusive access type is held, the answer to an initiator that is not
+/// registered is the same whatever the blocks are.
+pub fn the_unregistered_see_no_block()
+    ensures { FencedOffSeeNoBlock }
+{}
+
+/// An initiator that is not registered becomes so by REGISTER or REGISTER AND IGNORE EXISTING KEY
+/// of its own alone.
+pub fn nobody_registers_another()
+    ensures { OnlyRegisteringRegisters }
+{}
+
+/// Over a list of commands, while a reservation of any type is held, no command that writes of an
+/// initiator that is not registered ends with GOOD until the initiator registers.
+pub fn the_unregistered_write_nothing()
+    ensures { FencedOffWriteNothing }
+{}
+
+/// While a reservation of any type is held, a list of commands of initiators that are not
+/// registered, none of which registers, leaves the view of every initiator that sends none of them.
+pub fn the_unregistered_change_nothing()
+    ensures { OutsidersChangeNothing }
+{}
+
+/// After a PREEMPT or a PREEMPT AND ABORT that ends with GOOD, no initiator but its sender is
+/// registered that was registered under its key.
+pub fn preemption_unregisters()
+    ensures { PreemptedAreUnregistered }
+{}
+
+/// After it, over a list of commands, while a reservation of any type is held, no command that
+/// writes of such an initiator ends with GOOD until the initiator registers again.
+pub fn the_preempted_write_nothing()
+    ensures { PreemptedWriteNothing }
+{}

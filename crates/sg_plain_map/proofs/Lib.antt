@@ -1,0 +1,5 @@
+pub mod RangeLemmas
+pub mod CursorLemmas
+pub mod EditingLemmas
+pub mod RemovalLemmas
+pub mod DescribedLemmas

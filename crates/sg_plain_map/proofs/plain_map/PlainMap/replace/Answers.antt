@@ -1,0 +1,53 @@
+use Rattle.std.proofs.Common.{◌≡◌, ◌-◌, arith, ap, sym, subst, ◌∙◌}
+use Rattle.sg_store.specs.Disk.{IsWellFormed}
+use Rattle.sg_plain_map.specs.Editing.{stored}
+use Rattle.sg_pool.specs.MappedRecords.{contents_of}
+use Rattle.sg_pool.specs.Source.{block_of}
+use Rattle.sg_table.specs.Table.{Table, probed}
+use Rattle.sg_store.proofs.WellFormedLemmas.{well_formed-replaced}
+use Rattle.sg_plain_map.proofs.RangeLemmas.{len-after, mapped_between}
+use Rattle.sg_plain_map.proofs.plain_map.PlainMap.replace.Goals as goal
+
+pub returns-then-count-free_count-clause-space : goal.returns-then-count-free_count-clause-space
+returns-then-count-free_count-clause-space c =
+    let s = c.args.self.now in
+    let to = rw (c.lower_bound-from.ensures.table, c.from.ensures) at c.lower_bound-to.ensures.index in
+    let e = len-after s.table.records s.pool.blocks s.pool.free s.table.room
+    c.lower_bound-from.result c.lower_bound-to.result c.args.lba c.args.count
+    (block_of c.args.source.now) s.consistent c.lower_bound-from.ensures.index to in
+    (λ _. omega (arith, c.if-count-free_count.true, c.free_count.ensures), λ _. cc)
+
+pub write_blocks-requires-clause-free : goal.write_blocks-requires-clause-free
+write_blocks-requires-clause-free c =
+    let s = c.args.self.now in
+    let to = rw (c.lower_bound-from.ensures.table, c.from.ensures) at c.lower_bound-to.ensures.index in
+    let e = mapped_between s.table.records s.pool.blocks c.lower_bound-from.result
+    c.lower_bound-to.result c.args.lba c.args.count s.consistent.sorted
+    c.lower_bound-from.ensures.index to in
+    rw (c.lower_bound-to.ensures.table, c.lower_bound-from.ensures.table)
+    (omega (arith, c.if-count-free_count.false, c.free_count.ensures))
+
+pub returns-clause-space : goal.returns-clause-space
+returns-clause-space c =
+    let s = c.args.self.now in
+    let to = rw (c.lower_bound-from.ensures.table, c.from.ensures) at c.lower_bound-to.ensures.index in
+    let e = len-after s.table.records s.pool.blocks s.pool.free s.table.room
+    c.lower_bound-from.result c.lower_bound-to.result c.args.lba c.args.count
+    (block_of c.args.source.now) s.consistent c.lower_bound-from.ensures.index to in
+    (λ wrong. cc, λ more. absurd (omega (arith, c.if-count-free_count.false, c.free_count.ensures, more)))
+
+-- what is replaced is on the disk, and by whole blocks
+pub invariant_of-self-2-clause-well_formed : goal.invariant_of-self-2-clause-well_formed
+invariant_of-self-2-clause-well_formed c =
+    let map = c.args.self.now in
+    let same : stored c.lower_bound-to.new.self map.pool ≡ stored map.table map.pool =
+    ap (λ (t : Table). contents_of t.records map.pool.blocks)
+    (c.lower_bound-to.ensures.table
+    ∙ ap
+    (λ (t : Table). probed t
+    (c.lower_bound-to.new.self.probes - c.lower_bound-from.new.self.probes))
+    c.lower_bound-from.ensures.table) in
+    let before = subst (IsWellFormed map.capacity) (sym same) map.well_formed in
+    subst (IsWellFormed map.capacity) (sym c.write_blocks.ensures.contents)
+    (well_formed-replaced map.capacity _ c.args.lba c.args.count
+    (block_of c.args.source.now) before c.requires.range c.requires.blocks)

@@ -1,0 +1,14 @@
+use Rattle.std.proofs.Common.{ap, sym, subst}
+use Rattle.sg_store.specs.Disk.{IsWellFormed}
+use Rattle.sg_pool.specs.MappedRecords.{contents_of}
+use Rattle.sg_table.specs.Table.{Table}
+use Rattle.sg_store.proofs.WellFormedLemmas.{well_formed-empty}
+use Rattle.sg_plain_map.proofs.plain_map.PlainMapStore.make.Goals as goal
+
+-- no address is mapped yet
+pub invariant_of-result-clause-well_formed : goal.invariant_of-result-clause-well_formed
+invariant_of-result-clause-well_formed c =
+    subst (IsWellFormed _)
+    (sym
+    (ap (λ (t : Table). contents_of t.records c.in_ok-new-2.field-0.blocks)
+    c.in_ok-new.ensures)) (well_formed-empty _)

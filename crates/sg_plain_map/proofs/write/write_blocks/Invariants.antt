@@ -1,0 +1,22 @@
+use Rattle.std.proofs.Common.{◌≡◌, ◌+◌, length}
+use Rattle.sg_store.specs.Disk.{replaced, mapped_among}
+use Rattle.sg_pool.specs.MappedRecords.{contents_of}
+use Rattle.sg_table.specs.Records.{ahead}
+use Rattle.sg_pool.specs.Source.{block_of}
+use Rattle.sg_table.specs.Table.{visited}
+use Rattle.sg_plain_map.specs.Editing.{IsEditing, edited_contents}
+use Rattle.sg_plain_map.proofs.write.write_blocks.Given as goal
+
+-- the blocks so far are replaced, and the cursor is at the next address
+abbrev pub invariant-loop-i : goal.invariant-loop-i
+invariant-loop-i l =
+    let t = l.fn.table in
+    let was = contents_of t.records l.fn.pool.blocks in
+    record {
+      editing : IsEditing t.records t.room l.pool l.draft l.cursor (l.lba + l.i);
+      contents : edited_contents t l.pool l.draft l.cursor ≡ replaced was l.lba l.i (block_of l.source);
+      draft : (l.draft.from ≡ l.from) × (length l.draft.records ≡ l.i) × (l.draft.room ≡ t.room);
+      index : l.cursor.index ≡ l.from + mapped_among was l.lba l.i;
+      free : length l.pool.free + l.i ≡ length l.fn.pool.free + mapped_among was l.lba l.i;
+      table : l.table ≡ visited t (mapped_among was l.lba l.i + ahead l.cursor.next);
+    }

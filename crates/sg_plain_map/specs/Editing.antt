@@ -1,0 +1,57 @@
+-- Reading and editing the table in the order of addresses.
+use Rattle.std.specs.Prelude.{◌≡◌, ℕ, ◌+◌, ◌≤◌, List, length}
+use Rattle.std.specs.List.{splice}
+use Rattle.sg_store.specs.Disk.{Contents}
+use Rattle.sg_plain_map.specs.PlainCost.{plain_least, plain_price}
+use Rattle.sg_table.specs.Records.{IsLowerBound, IsNext}
+use Rattle.sg_pool.specs.MappedRecords.{contents_of}
+use Rattle.sg_pool.specs.Slots.{Slots}
+use Rattle.sg_pool.specs.MappedRecords.{IsConsistent}
+use Rattle.sg_table.specs.Table.{Table}
+use Rattle.sg_table.specs.Draft.{Drafted}
+use Rattle.sg_table.specs.declared.run.Run.{Run}
+use Rattle.sg_table.specs.declared.cursor.Cursor.{Cursor}
+use Rattle.sg_store.specs.declared.store.TheConstants.{MAX_CAPACITY, MAX_COUNT, MAX_POOL}
+
+-- The contents that a table and slots stand for.
+abbrev pub stored : Table → Slots → Contents
+stored table slots = contents_of table.records slots.blocks
+
+-- The cursor is at the first record that is not before the address, which was visited if there is
+-- one.
+pub record IsAt (records : List Run) (cursor : Cursor) (lba : ℕ) : Type 0 where
+  pub index : IsLowerBound records cursor.index lba
+  pub next : IsNext records cursor.index cursor.next
+
+-- A range can be gone over: it begins at the index `from` of the table, it lies on the largest
+-- disk, table and pool are consistent and no larger than allowed, and the visits can be counted.
+pub record IsReady (table : Table) (slots : Slots) (from lba count : ℕ) : Type 0 where
+  pub index : IsLowerBound table.records from lba
+  pub range : lba + count ≤ MAX_CAPACITY
+  pub consistent : IsConsistent table.records slots.blocks slots.free table.room
+  pub table_size : table.room ≤ MAX_POOL
+  pub headroom : table.visits ≤ MAX_COUNT
+
+-- The visits to the records of a range lie between the bounds.
+pub record VisitsRange (contents : Contents) (lba count : ℕ) (before after : Table) : Type 0 where
+  pub least : before.total + plain_least contents lba count ≤ after.total
+  pub price : after.total ≤ before.total + plain_price contents lba count
+
+-- The table with the drafted records in place of those up to the cursor.
+abbrev pub edited : List Run → Drafted → Cursor → List Run
+edited records draft cursor = splice records draft.from cursor.index draft.records
+
+-- What the edited table and the slots stand for.
+abbrev pub edited_contents : Table → Slots → Drafted → Cursor → Contents
+edited_contents table slots draft cursor = contents_of (edited table.records draft cursor) slots.blocks
+
+-- The edited table and the slots are consistent, the next record to be drafted is that of the
+-- address or one past it, and a draft that has no more records than it replaces has the same.
+pub record IsEditing (records : List Run) (room : ℕ) (slots : Slots) (draft : Drafted) (cursor : Cursor)
+    (lba : ℕ) : Type 0 where
+  pub consistent : IsConsistent (edited records draft cursor) slots.blocks slots.free room
+  pub within : (draft.from ≤ cursor.index) × (cursor.index ≤ length records)
+  pub next : IsNext records cursor.index cursor.next
+  pub index : IsLowerBound (edited records draft cursor) (draft.from + length draft.records) lba
+  pub longer : cursor.index ≤ draft.from + length draft.records
+  pub same : draft.from + length draft.records ≡ cursor.index → edited records draft cursor ≡ records

@@ -1,0 +1,10 @@
+//! The reference store, for tests: each mapped block has a record of its own.
+#![tactic(auto)]
+
+mod plain_map;
+mod read;
+mod status;
+mod unmap;
+mod write;
+
+pub use plain_map::PlainMap;

@@ -1,0 +1,147 @@
+ghost use Rattle.std.specs.Prelude.{◌≡◌, ◌+◌, ◌≤◌, ◌↔◌, IsErr, OnOk, OnErr};
+ghost use Rattle.sg_store.specs.Disk.{IsWellFormed, IsOverfull, disk_replaced};
+ghost use Rattle.sg_store.specs.Meter.{HasHeadroom, ChargedOnOk};
+ghost use Rattle.sg_plain_map.specs.PlainCost.{plain_price, plain_price-within, plain_least};
+ghost use Rattle.sg_plain_map.specs.PlainCost.{plain_least-positive};
+ghost use Rattle.sg_plain_map.specs.Editing.{stored};
+ghost use Rattle.sg_pool.specs.MappedRecords.{IsConsistent};
+ghost use Rattle.sg_store.specs.declared.store.TheConstants.{MAX_CAPACITY, MAX_POOL};
+
+use crate::read::read_blocks;
+use crate::status::describe_from;
+use crate::unmap::unmap_records;
+use crate::write::write_blocks;
+use sg_pool::{Pool, Source};
+use sg_store::lba_status::write_status_data;
+use sg_store::{BLOCK_LENGTH, Counts, Space, Store};
+use sg_table::{Draft, RunTable};
+use sg_wire::Cut;
+use std::alloc::{AllocError, Global};
+
+/// A disk of which each mapped block has a record of its own (SBC-3, 4.7).
+///
+/// A call over a range visits the records of the mapped addresses in it, and at most one more.
+#[derive(Drop)]
+pub struct PlainMap {
+    capacity: u64,
+    table: RunTable,
+    pool: Pool,
+    draft: Draft,
+    ghost capacity_fits: { capacity ≤ MAX_CAPACITY },
+    ghost pool_fits: { table.room ≤ MAX_POOL },
+    ghost draft_fits: { draft.room ≡ table.room },
+    ghost well_formed: { IsWellFormed capacity (stored table pool) },
+    ghost consistent: { IsConsistent table.records pool.blocks pool.free table.room },
+}
+
+impl PlainMap {
+    ghost use Rattle.sg_pool.specs.Source.{HasBlocks, block_of};
+    ghost use Rattle.sg_plain_map.specs.State.{disk_of, meter_of};
+
+    /// Replaces the blocks from an address on by those of a source.
+    ///
+    /// # Errors
+    /// More addresses would be mapped than the pool has blocks. Nothing is replaced then.
+    fn replace(&mut self, lba: u64, count: u32, source: &Source) -> Result<(), Space>
+        requires range { lba + count ≤ (disk_of self.old).capacity }
+        requires blocks { HasBlocks source.now count }
+        requires headroom { HasHeadroom (meter_of self.old).counts }
+
+        // Either the pool has too few blocks and the disk stays as it is, or all blocks are
+        // replaced.
+        ensures space { IsErr result
+            ↔ IsOverfull (disk_replaced (disk_of self.old) lba count (block_of source.now)) }
+        ensures ok { OnOk result
+            (disk_of self.new ≡ disk_replaced (disk_of self.old) lba count (block_of source.now)) }
+        ensures err { OnErr result (disk_of self.new ≡ disk_of self.old) }
+
+        // What the call costs, and between which bounds its visits lie.
+        ensures costs { ChargedOnOk result (disk_of self.old).pool
+            (plain_price (disk_of self.old).contents lba count)
+            (plain_least (disk_of self.old).contents lba count)
+            (meter_of self.old) (meter_of self.new) }
+    {
+        let from = self.table.lower_bound(lba);
+        let to = self.table.lower_bound(lba + u64::from(count));
+        let mapped = to - from;
+        if count as usize > self.pool.free_count() + mapped {
+            return Err(Space);
+        }
+        write_blocks(
+            &mut self.table,
+            &mut self.pool,
+            &mut self.draft,
+            from,
+            lba,
+            count,
+            source,
+        );
+        Ok(())
+    }
+}
+
+impl Store for PlainMap {
+    ghost use Rattle.sg_plain_map.specs.State.{disk_of, meter_of};
+
+    ghost disk = { disk_of };
+
+    ghost meter = { meter_of };
+
+    ghost price = { plain_price };
+
+    ghost least = { plain_least };
+
+    fn make(alloc: Global, capacity: u64, pool: u32) -> Result<Self, AllocError> {
+        Ok(PlainMap {
+            capacity,
+            table: RunTable::new(alloc, pool)?,
+            pool: Pool::new(alloc, pool)?,
+            draft: Draft::new(alloc, pool)?,
+        })
+    }
+
+    fn read(&mut self, lba: u64, count: u32, bytes: &mut [u8]) {
+        let from = self.table.lower_bound(lba);
+        read_blocks(&mut self.table, &self.pool, from, lba, count, bytes);
+    }
+
+    fn write(&mut self, lba: u64, count: u32, bytes: &[u8]) -> Result<(), Space> {
+        self.replace(lba, count, &Source::Joined(bytes))
+    }
+
+    fn fill(&mut self, lba: u64, count: u32, block: &[u8; BLOCK_LENGTH]) -> Result<(), Space> {
+        self.replace(lba, count, &Source::Repeated(block))
+    }
+
+    fn unmap(&mut self, lba: u64, count: u32) {
+        let from = self.table.lower_bound(lba);
+        let to = self.table.lower_bound(lba + u64::from(count));
+        unmap_records(&mut self.table, &mut self.pool, from, to, lba, count);
+    }
+
+    fn status(&mut self, lba: u64, cut: &mut Cut) {
+        let from = self.table.lower_bound(lba);
+        let descriptors = describe_from(&mut self.table, from, lba, self.capacity);
+        write_status_data(&descriptors, cut);
+    }
+
+    fn mapped(&self) -> u32 {
+        self.table.count() as u32
+    }
+
+    fn counts(&self) -> Counts {
+        Counts {
+            visits: self.table.visits(),
+            probes: self.table.probes(),
+            links: 0,
+        }
+    }
+
+    fn restart_counts(&mut self) {
+        self.table.restart_counts();
+    }
+
+    ghost price_within = { plain_price-within };
+
+    ghost least_positive = { plain_least-positive };
+}

@@ -1,0 +1,103 @@
+ghost use Rattle.std.specs.Prelude.{◌≡◌, ℕ, ◌+◌, ◌-◌, ◌<◌, ◌≤◌, List, None};
+ghost use Rattle.sg_store.specs.LbaStatus.{covered, descriptor_at, descriptors_from};
+ghost use Rattle.sg_table.specs.Records.{IsLowerBound};
+ghost use Rattle.sg_pool.specs.MappedRecords.{contents_of};
+ghost use Rattle.sg_table.specs.Table.{visited};
+ghost use Rattle.sg_plain_map.specs.Editing.{IsAt, VisitsRange};
+ghost use Rattle.sg_table.specs.Records.{passed};
+ghost use Rattle.sg_table.specs.Records.{run_at};
+ghost use Rattle.sg_plain_map.specs.Status.{AreInRow, IsTableOf};
+
+use arrayvec::ArrayVec;
+use sg_store::lba_status::{MAX_ADDRESSES, MAX_DESCRIPTORS, ProvisioningStatus, StatusDescriptor};
+use sg_store::{MAX_CAPACITY, MAX_COUNT, MAX_POOL};
+use sg_table::{Cursor, RunTable};
+
+/// Goes past the records of mapped addresses in a row, of which the cursor's address is the first.
+fn pass_mapped(table: &mut RunTable, cursor: Cursor, lba: u64) -> Cursor
+    requires cursor { IsAt table.old.records cursor lba }
+    requires table { IsTableOf MAX_CAPACITY table.old.records }
+    requires headroom { table.old.visits + MAX_POOL < u64.MAX }
+
+    // Their addresses have no gap, and the one behind them is not mapped.
+    ensures order { cursor.index ≤ result.index }
+    ensures row { AreInRow table.old.records cursor.index result.index lba }
+    ensures cursor { IsAt table.old.records result (lba + (result.index - cursor.index)) }
+    ensures end { run_at result.next (lba + (result.index - cursor.index)) ≡ None }
+
+    // Only the visits on the way are counted.
+    ensures cost { visited table.new (passed cursor) ≡ visited table.old (passed result) }
+{
+    let mut end = cursor;
+    let mut next = lba;
+    while let Some(run) = end.run_at(next) {
+        end = Cursor::new(table, end.index + 1);
+        next = run.start + 1;
+    }
+    end
+}
+
+/// The descriptor that begins at the cursor's address, and the cursor where it ends.
+fn describe(
+    table: &mut RunTable,
+    cursor: Cursor,
+    lba: u64,
+    capacity: u64,
+) -> (StatusDescriptor, Cursor)
+    requires cursor { IsAt table.old.records cursor lba }
+    requires table { IsTableOf capacity table.old.records }
+    requires address { lba < capacity }
+    requires headroom { table.old.visits + MAX_POOL < u64.MAX }
+
+    // Which addresses are mapped does not depend on their blocks.
+    ensures descriptor { (blocks : List (List ℕ)) →
+        result.0 ≡ descriptor_at (contents_of table.old.records blocks) capacity lba }
+    ensures cursor { IsAt table.old.records result.1 (lba + result.0.count) }
+    ensures cost { visited table.new (passed cursor) ≡ visited table.old (passed result.1) }
+{
+    match cursor.run_at(lba) {
+        None => {
+            let count = cursor.count_unmapped(lba, capacity, MAX_ADDRESSES);
+            let status = ProvisioningStatus::Deallocated;
+            (StatusDescriptor { lba, count, status }, cursor)
+        }
+        Some(_) => {
+            let end = pass_mapped(table, cursor, lba);
+            let count = (end.index - cursor.index) as u32;
+            let status = ProvisioningStatus::Mapped;
+            (StatusDescriptor { lba, count, status }, end)
+        }
+    }
+}
+
+/// The descriptors from an address on, of which the records begin at an index.
+pub fn describe_from(
+    table: &mut RunTable,
+    from: usize,
+    lba: u64,
+    capacity: u64,
+) -> ArrayVec<StatusDescriptor, MAX_DESCRIPTORS>
+    requires index { IsLowerBound table.old.records from lba }
+    requires table { IsTableOf capacity table.old.records }
+    requires headroom { table.old.visits ≤ MAX_COUNT }
+
+    // Which addresses are mapped does not depend on their blocks.
+    ensures descriptors { (blocks : List (List ℕ)) → result.items
+        ≡ descriptors_from (contents_of table.old.records blocks) capacity lba MAX_DESCRIPTORS }
+
+    // The table changes by visits alone.
+    ensures table { table.new ≡ visited table.old (table.new.total - table.old.total) }
+    ensures visits { (blocks : List (List ℕ)) → VisitsRange
+        (contents_of table.old.records blocks) lba (covered result.items) table.old table.new }
+{
+    let mut descriptors = ArrayVec::new();
+    let mut cursor = Cursor::new(table, from);
+    let mut next = lba;
+    while next < capacity && !descriptors.is_full() {
+        let (descriptor, end) = describe(table, cursor, next, capacity);
+        descriptors.push(descriptor);
+        next += u64::from(descriptor.count);
+        cursor = end;
+    }
+    descriptors
+}

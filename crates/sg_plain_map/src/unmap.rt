@@ -1,0 +1,37 @@
+ghost use Rattle.std.specs.Prelude.{◌≡◌, ◌+◌, ◌-◌, ◌≤◌};
+ghost use Rattle.sg_store.specs.Disk.{unmapped};
+ghost use Rattle.sg_table.specs.Leaves.{move_bound};
+ghost use Rattle.sg_table.specs.Records.{IsLowerBound};
+ghost use Rattle.sg_pool.specs.MappedRecords.{IsConsistent};
+ghost use Rattle.sg_table.specs.Table.{visited};
+ghost use Rattle.sg_plain_map.specs.Editing.{IsReady, VisitsRange, stored};
+
+use sg_pool::Pool;
+use sg_table::RunTable;
+
+/// Frees the slots of a range, and removes its records, which are those from one index to another.
+pub fn unmap_records(
+    table: &mut RunTable,
+    pool: &mut Pool,
+    from: usize,
+    to: usize,
+    lba: u64,
+    count: u32,
+)
+    requires ready { IsReady table.old pool.old from lba count }
+    requires end { IsLowerBound table.old.records to (lba + count) }
+
+    // The addresses are unmapped, and the table changes by its records, their moves and its visits alone.
+    ensures contents { stored table.new pool.new ≡ unmapped (stored table.old pool.old) lba count }
+    ensures consistent { IsConsistent table.new.records pool.new.blocks pool.new.free table.new.room }
+    ensures table { let count = table.new.total - table.old.total in table.new
+        ≡ record (visited table.old count) { records = table.new.records; moved = table.new.moved } }
+    ensures moves { table.new.moved ≤ table.old.moved + move_bound }
+    ensures visits { VisitsRange (stored table.old pool.old) lba count table.old table.new }
+{
+    for index in from..to {
+        let run = table.visit(index);
+        pool.give(run.first);
+    }
+    table.splice(from, to, &[]);
+}

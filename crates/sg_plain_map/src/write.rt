@@ -1,0 +1,101 @@
+// The records of a write are drafted, and put into the table all at once.
+ghost use Rattle.std.specs.Prelude.{◌≡◌, ◌+◌, ◌-◌, ◌<◌, ◌≤◌, length};
+ghost use Rattle.std.specs.FinMap.{insert};
+ghost use Rattle.sg_store.specs.Disk.{replaced, mapped_among};
+ghost use Rattle.sg_table.specs.Leaves.{move_bound};
+ghost use Rattle.sg_store.specs.Disk.{mapped_at};
+ghost use Rattle.sg_pool.specs.MappedRecords.{IsConsistent};
+ghost use Rattle.sg_pool.specs.Source.{HasBlocks, block_of};
+ghost use Rattle.sg_table.specs.Table.{visited};
+ghost use Rattle.sg_plain_map.specs.Editing.{IsEditing, IsReady, VisitsRange, stored};
+ghost use Rattle.sg_table.specs.Records.{passed};
+ghost use Rattle.sg_plain_map.specs.Editing.{edited_contents};
+
+use sg_pool::{Pool, Source};
+use sg_store::{BLOCK_LENGTH, MAX_POOL};
+use sg_table::{Cursor, Draft, Run, RunTable};
+
+/// Writes the block at the cursor's address, drafts its record, and goes on to the next address. A
+/// block that is mapped is written over, and any other takes a free slot.
+fn put_block(
+    table: &mut RunTable,
+    pool: &mut Pool,
+    draft: &mut Draft,
+    cursor: Cursor,
+    lba: u64,
+    bytes: &[u8],
+) -> Cursor
+    // The edit has come to the address, and there is room for its record and its block.
+    requires editing { IsEditing table.old.records table.old.room pool.old draft.old cursor lba }
+    requires room { length draft.old.records < draft.old.room }
+    requires free { 0 < length pool.old.free
+        + mapped_at (edited_contents table.old pool.old draft.old cursor) lba }
+    requires table_size { length table.old.records ≤ MAX_POOL }
+
+    // The slice is a block long, and the visit can be counted.
+    requires byte_count { length bytes.now ≡ BLOCK_LENGTH }
+    requires headroom { table.old.visits < u64.MAX }
+
+    // The block is written, and the edit comes to the next address.
+    ensures contents { let before = edited_contents table.old pool.old draft.old cursor in
+        edited_contents table.old pool.new draft.new result ≡ insert before lba bytes.now }
+    ensures editing { IsEditing table.old.records table.old.room pool.new draft.new result (lba + 1) }
+    ensures from { draft.new.from ≡ draft.old.from }
+    ensures drafted { length draft.new.records ≡ length draft.old.records + 1 }
+    ensures room { draft.new.room ≡ draft.old.room }
+
+    // The cursor goes past the record of the address, if there is one, and else a slot is taken.
+    // Only the visits on its way are counted.
+    ensures index { result.index
+        ≡ cursor.index + mapped_at (edited_contents table.old pool.old draft.old cursor) lba }
+    ensures free { length pool.new.free + 1 + cursor.index ≡ length pool.old.free + result.index }
+    ensures cost { visited table.new (passed cursor) ≡ visited table.old (passed result) }
+{
+    let Some(run) = cursor.run_at(lba) else {
+        let slot = pool.take();
+        pool.set(slot, bytes);
+        draft.push(Run::single(lba, slot));
+        return cursor;
+    };
+    pool.set(run.first, bytes);
+    draft.push(run);
+    Cursor::new(table, cursor.index + 1)
+}
+
+/// Replaces the blocks from an address on, of which the records begin at an index. There have to be
+/// free slots for those that are not mapped.
+pub fn write_blocks(
+    table: &mut RunTable,
+    pool: &mut Pool,
+    draft: &mut Draft,
+    from: usize,
+    lba: u64,
+    count: u32,
+    source: &Source,
+)
+    requires ready { IsReady table.old pool.old from lba count }
+    requires blocks { HasBlocks source.now count }
+    requires free { count ≤ length pool.old.free + mapped_among (stored table.old pool.old) lba count }
+    requires room { (count ≤ draft.old.room) × (draft.old.room ≡ table.old.room) }
+
+    // The blocks are written, and the table changes by its records, their moves and its visits alone.
+    ensures contents { stored table.new pool.new
+        ≡ replaced (stored table.old pool.old) lba count (block_of source.now) }
+    ensures consistent { IsConsistent table.new.records pool.new.blocks pool.new.free table.new.room }
+    ensures table { let count = table.new.total - table.old.total in table.new
+        ≡ record (visited table.old count) { records = table.new.records; moved = table.new.moved } }
+    ensures moves { table.new.moved ≤ table.old.moved + move_bound + count }
+    ensures room { draft.new.room ≡ draft.old.room }
+    ensures visits { VisitsRange (stored table.old pool.old) lba count table.old table.new }
+{
+    draft.begin(from);
+    let mut cursor = Cursor::new(table, from);
+    for i in 0..count {
+        let block = source.block(i as usize);
+        cursor = put_block(table, pool, draft, cursor, lba + u64::from(i), block);
+    }
+    // Where each address was mapped, the drafted records are those of the table.
+    if cursor.index - from < count as usize {
+        table.splice(draft.from(), cursor.index, draft.records());
+    }
+}

@@ -1,0 +1,98 @@
+-- A table and a pool that are consistent, after a step.
+use Rattle.std.proofs.Common.{◌≡◌, ◌≢◌, ℕ, ◌+◌, ◌<◌, ◌≤◌, List, ◌∷◌, ◌++◌, length, get_or, set}
+use Rattle.std.proofs.Common.{arith, sym, ap, ◌∙◌, length-set}
+use Rattle.std.proofs.lemmas.List.Edits.{length-insert}
+use Rattle.std.specs.Prelude.{insert}
+use Rattle.std.specs.FinMap as map
+use Rattle.sg_table.specs.Records.{start_of, HaveSlots, IsLowerBound}
+use Rattle.sg_pool.specs.MappedRecords.{contents_of}
+use Rattle.sg_table.specs.Records.{slots_of}
+use Rattle.sg_table.specs.Occurrences.{one_if_equal, occurrences, IsEachOnce}
+use Rattle.sg_pool.specs.MappedRecords.{IsConsistent}
+use Rattle.sg_table.specs.declared.run.Run.{Run}
+use Rattle.sg_table.proofs.OccurrenceLemmas.{same_slot, occurrences-append, occurrences-more, occurrences-at}
+use Rattle.sg_table.proofs.OccurrenceLemmas.{occurrences-insert, once-le, below_count}
+use Rattle.sg_table.proofs.IndexLemmas.{sorted-insert}
+use Rattle.sg_pool.proofs.BlockLemmas.{added, overwritten}
+
+-- how often a slot occurs among those of the records and the free ones, of which one is taken
+pub parted : (t s : ℕ) (used free : List ℕ) → occurrences t (used ++ s ∷ free) ≡
+    occurrences t used + (one_if_equal t s + occurrences t free)
+parted t s used free = occurrences-append t used (s ∷ free)
+    ∙ ap (λ n. occurrences t used + n) (occurrences-more t s free)
+
+-- a slot that is taken is among the slots, and no record has it
+pub taken_below : (count : ℕ) (used free : List ℕ) (s : ℕ) → IsEachOnce count (used ++ s ∷ free) → s < count
+taken_below count used free s once = let p = parted s s used free in let one = same_slot s in
+    below_count count (used ++ s ∷ free) s once (omega arith)
+
+taken_unused : (count : ℕ) (used free : List ℕ) (s : ℕ) → IsEachOnce count (used ++ s ∷ free)
+    → occurrences s used ≡ 0
+taken_unused count used free s once =
+    let p = parted s s used free in let one = same_slot s in let e =
+    once-le count (used ++ s ∷ free) s once in omega arith
+
+taken_once : (count : ℕ) (rs : List Run) (free : List ℕ) (i : ℕ) (r : Run)
+    → IsEachOnce count (slots_of rs ++ r.first ∷ free)
+    → IsEachOnce count (slots_of (insert rs i r) ++ free)
+taken_once count rs free i r once = record {
+  each = λ t.
+      let p = parted t r.first (slots_of rs) free in let d =
+      occurrences-append t (slots_of (insert rs i r)) free in let e =
+      occurrences-insert t rs i r in
+      let same : occurrences t (slots_of (insert rs i r) ++ free) ≡
+      occurrences t (slots_of rs ++ r.first ∷ free) = omega arith in same ∙ once.each t;
+}
+
+used_once : (count : ℕ) (used free : List ℕ) (s : ℕ) → IsEachOnce count (used ++ free)
+    → occurrences s used ≤ 1
+used_once count used free s once = let a = occurrences-append s used free in let e =
+    once-le count (used ++ free) s once in omega arith
+
+-- the slots of the records are among all
+pub have_slots : (rs : List Run) (bs : List (List ℕ)) (free : List ℕ) (room : ℕ)
+    → IsConsistent rs bs free room → HaveSlots rs (length bs)
+have_slots rs bs free room consistent i r h e =
+    let some = occurrences-at rs i r h (sym e) in
+    let both = occurrences-append r.first (slots_of rs) free in
+    below_count (length bs) (slots_of rs ++ free) r.first consistent.once (omega arith)
+
+-- a block more
+pub consistent-added : (rs : List Run) (bs : List (List ℕ)) (free : List ℕ) (room i : ℕ) (r : Run)
+    (b : List ℕ) → IsConsistent rs bs (r.first ∷ free) room → IsLowerBound rs i r.start
+    → ((j : ℕ) → j < length rs → start_of rs j ≢ r.start)
+    → IsConsistent (insert rs i r) (set bs r.first b) free room
+consistent-added rs bs free room i r b consistent p none =
+    let len : length (insert rs i r) ≡ length rs + 1 = length-insert rs i r p.within in
+    record {
+      sorted = sorted-insert rs i r consistent.sorted p none;
+      once = rw length-set (taken_once (length bs) rs free i r consistent.once);
+      count = omega (arith, consistent.count);
+      pool = rw length-set consistent.pool;
+    }
+
+pub contents-added : (rs : List Run) (bs : List (List ℕ)) (free : List ℕ) (room i : ℕ) (r : Run)
+    (b : List ℕ) → IsConsistent rs bs (r.first ∷ free) room
+    → ((j : ℕ) → j < length rs → start_of rs j ≢ r.start)
+    → contents_of (insert rs i r) (set bs r.first b) ≡ map.insert (contents_of rs bs) r.start b
+contents-added rs bs free room i r b consistent none =
+    added rs bs i r b none (taken_below (length bs) (slots_of rs) free r.first consistent.once)
+    (taken_unused (length bs) (slots_of rs) free r.first consistent.once)
+
+-- a block written over
+pub consistent-over : (rs : List Run) (bs : List (List ℕ)) (free : List ℕ) (room s : ℕ) (b : List ℕ)
+    → IsConsistent rs bs free room → IsConsistent rs (set bs s b) free room
+consistent-over rs bs free room s b consistent = record {
+  sorted = consistent.sorted;
+  once = rw length-set consistent.once;
+  count = consistent.count;
+  pool = rw length-set consistent.pool;
+}
+
+pub contents-over : (rs : List Run) (bs : List (List ℕ)) (free : List ℕ) (room i : ℕ) (r : Run)
+    (b : List ℕ) → IsConsistent rs bs free room → i < length rs → r ≡ get_or rs i r
+    → contents_of rs (set bs r.first b) ≡ map.insert (contents_of rs bs) r.start b
+contents-over rs bs free room i r b consistent h e =
+    overwritten rs bs i r b consistent.sorted h e
+    (have_slots rs bs free room consistent i r h (sym e))
+    (used_once (length bs) (slots_of rs) free r.first consistent.once)

@@ -1,0 +1,9 @@
+-- For stores: chains of slots, and what the records of a table map.
+pub mod LinkLemmas
+pub mod SourceLemmas
+pub mod MappedLemmas
+pub mod BlockLemmas
+pub mod ConsistencyLemmas
+-- For the pool alone.
+pub mod PoolLemmas
+pub mod ChainLemmas

@@ -1,0 +1,36 @@
+use Rattle.std.proofs.Common.{length, length-set, ap, arith}
+use Rattle.sg_pool.specs.Slots.{Slots}
+use Rattle.sg_pool.proofs.ChainLemmas.{length-chain}
+use Rattle.sg_pool.proofs.LinkLemmas.{joined, joined-below}
+use Rattle.sg_pool.proofs.pool.Pool.give_chain.Goals as goal
+
+pub overflow_add-self : goal.overflow_add-self
+overflow_add-self c =
+    let p = c.self.inside in
+    let free = ap (λ (s : Slots). length s.free) c.self.view_is in
+    record {
+      fits = omega (
+        arith,
+        c.requires.room,
+        length-chain p.next.items p.first_free p.free_count,
+      );
+    }
+
+pub invariant_of-self : goal.invariant_of-self
+invariant_of-self c =
+    let p = c.self.inside in (
+      omega (arith, length-set p.next.items c.args.last p.first_free, c.self.invariant.0),
+      joined-below p.next.items c.args.self.now.next c.args.self.now.free c.args.first c.args.last
+          c.args.count p.first_free p.free_count (ap (λ (s : Slots). s.next) c.self.view_is)
+          (ap (λ (s : Slots). s.free) c.self.view_is)
+          c.requires.chain c.requires.last c.requires.once c.requires.slots c.self.invariant.1,
+      omega (arith, length-set p.next.items c.args.last p.first_free, c.self.invariant.2),
+    )
+
+pub returns-clause-free : goal.returns-clause-free
+returns-clause-free c =
+    let p = c.self.inside in
+    joined p.next.items c.args.self.now.next c.args.self.now.free c.args.first c.args.last
+    c.args.count p.first_free p.free_count (ap (λ (s : Slots). s.next) c.self.view_is)
+    (ap (λ (s : Slots). s.free) c.self.view_is)
+    c.requires.chain c.requires.last c.requires.once

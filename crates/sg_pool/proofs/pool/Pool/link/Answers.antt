@@ -1,0 +1,31 @@
+use Rattle.std.proofs.Common.{length-set, set, ap, ap₂, ◌∙◌, arith}
+use Rattle.sg_pool.specs.Slots.{Slots, zero_padded}
+use Rattle.sg_table.specs.Occurrences.{occurrences}
+use Rattle.sg_pool.proofs.ChainLemmas.{chain-set}
+use Rattle.sg_pool.proofs.pool.Pool.link.Goals as goal
+
+pub invariant_of-self : goal.invariant_of-self
+invariant_of-self c =
+    let p = c.self.inside in
+    let free = ap (λ (s : Slots). s.free) c.self.view_is in
+    let same = chain-set p.next.items c.args.slot c.args.next p.first_free p.free_count
+    (ap (occurrences c.args.slot) free ∙ c.requires.used) in (
+      omega (arith, length-set p.next.items c.args.slot c.args.next, c.self.invariant.0),
+      rw (same, length-set p.next.items c.args.slot c.args.next) c.self.invariant.1,
+      omega (arith, length-set p.next.items c.args.slot c.args.next, c.self.invariant.2),
+    )
+
+pub returns : goal.returns
+returns c =
+    let p = c.self.inside in
+    let free = ap (λ (s : Slots). s.free) c.self.view_is in
+    let same = chain-set p.next.items c.args.slot c.args.next p.first_free p.free_count
+    (ap (occurrences c.args.slot) free ∙ c.requires.used) in
+    let len = length-set p.next.items c.args.slot c.args.next in
+    ap₂ (λ n xs. record {
+      blocks = zero_padded p.blocks.items n;
+      next = set p.next.items c.args.slot c.args.next;
+      free = xs;
+      links = p.links;
+    }) len same
+    ∙ ap (λ (s : Slots). record s { next = set s.next c.args.slot c.args.next }) c.self.view_is

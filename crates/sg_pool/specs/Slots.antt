@@ -1,0 +1,20 @@
+-- The slots of the pool: each is free or has one record.
+use Rattle.std.specs.Prelude.{ℕ, ◌+◌, ◌-◌, List, ◌++◌}
+use Rattle.std.specs.Prelude.{length, replicate}
+use Rattle.sg_store.specs.Disk.{zero_block}
+
+-- The blocks of the slots, the link of each slot to the next one of its chain, the slots that are
+-- free, and the links that were followed since the last restart.
+pub record Slots : Type 0 where
+  pub blocks : List (List ℕ)
+  pub next : List ℕ
+  pub free : List ℕ
+  pub links : ℕ
+
+-- The blocks of `count` slots, of which the first ones are given. The others are zeros.
+abbrev pub zero_padded : List (List ℕ) → (count : ℕ) → List (List ℕ)
+zero_padded blocks count = blocks ++ replicate (count - length blocks) zero_block
+
+-- `count` links were followed.
+abbrev pub followed : Slots → (count : ℕ) → Slots
+followed slots count = record slots { links = slots.links + count }

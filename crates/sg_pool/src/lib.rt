@@ -1,0 +1,8 @@
+//! Slots of one block each, in chains, and the blocks that go into them.
+#![tactic(auto)]
+
+mod pool;
+mod source;
+
+pub use pool::Pool;
+pub use source::Source;

@@ -1,0 +1,209 @@
+// The blocks of the mapped addresses.
+ghost use Rattle.std.specs.Prelude.{◌≡◌, ◌<◌, ◌+◌, ◌-◌, ◌∷◌, ◌++◌, ◌≤◌, length, replicate, IfOk};
+ghost use Rattle.std.specs.Prelude.{slice_index, slice_index_or, slice_set, vec_capacity};
+ghost use Rattle.std.specs.List.{range_with_len};
+ghost use Rattle.sg_pool.specs.Chains.{chain, AreBelow, IsChain};
+ghost use Rattle.sg_store.specs.Disk.{zero_block};
+ghost use Rattle.sg_table.specs.Occurrences.{IsEachOnce, occurrences};
+ghost use Rattle.sg_pool.specs.Slots.{followed};
+
+use sg_store::{BLOCK_LENGTH, MAX_POOL};
+use std::alloc::{AllocError, Global};
+use std::marker::Model;
+
+const ZERO_BLOCK: [u8; BLOCK_LENGTH] = [0; BLOCK_LENGTH];
+
+/// Slots of one block each, with a link from each slot to the next one of its chain. The free slots
+/// are a chain.
+#[derive(Drop)]
+pub struct Pool {
+    /// The blocks of the first slots, as far as one was set. The others are zeros.
+    blocks: Vec<[u8; BLOCK_LENGTH]>,
+    next: Vec<u32>,
+    first_free: u32,
+    free_count: u32,
+    links: u64,
+}
+
+impl Model for Pool {
+    ghost use Rattle.std.specs.Prelude.{◌≤◌, length, vec_capacity};
+    ghost use Rattle.sg_pool.specs.Chains.{chain, AreBelow};
+    ghost use Rattle.sg_pool.specs.Slots.{Slots, zero_padded};
+
+    ghost Value = { Slots };
+
+    ghost view = { λ p. record {
+      blocks = zero_padded p.blocks.items (length p.next.items);
+      next = p.next.items;
+      free = chain p.next.items p.first_free p.free_count;
+      links = p.links;
+    } };
+
+    ghost invariant = { λ p. (length p.blocks.items ≤ length p.next.items)
+        × AreBelow (length p.next.items) (chain p.next.items p.first_free p.free_count)
+        × (length p.next.items ≤ vec_capacity p.blocks) };
+}
+
+/// The links of `count` slots, from each to the one after it.
+fn links(alloc: Global, count: u32) -> Result<Vec<u32>, AllocError>
+    requires { count ≤ MAX_POOL }
+    ensures { IfOk result (λ next. next.items ≡ range_with_len 1 count) }
+{
+    let mut next = Vec::with_capacity(alloc, count as usize)?;
+    for slot in 0..count {
+        next.push(slot + 1)?;
+    }
+    Ok(next)
+}
+
+/// Appends blocks of zeros as far as that of a slot, unless it is there.
+fn extend_to(blocks: &mut Vec<[u8; BLOCK_LENGTH]>, slot: u32)
+    requires { slot < vec_capacity blocks.old }
+    ensures blocks { blocks.new.items
+        ≡ blocks.old.items ++ replicate (slot + 1 - length blocks.old.items) zero_block }
+    ensures capacity { vec_capacity blocks.old ≤ vec_capacity blocks.new }
+{
+    let index = slot as usize;
+    if index < blocks.len() {
+        return;
+    }
+    let extended = blocks.resize(index + 1, ZERO_BLOCK);
+    prove!(extended.is_ok());
+    let _ = extended;
+}
+
+impl Pool {
+    /// `count` slots of zeros, each of them free.
+    ///
+    /// # Errors
+    /// Memory was refused.
+    pub fn new(alloc: Global, count: u32) -> Result<Pool, AllocError>
+        requires { count ≤ MAX_POOL }
+        ensures blocks { IfOk result (λ pool. length pool.blocks ≡ count) }
+        ensures zeros { IfOk result (λ pool. pool.blocks ≡ replicate count zero_block) }
+        ensures free_count { IfOk result (λ pool. length pool.free ≡ count) }
+        ensures free { IfOk result (λ pool. IsEachOnce count pool.free) }
+        ensures next { IfOk result (λ pool. length pool.next ≡ count) }
+        ensures links { IfOk result (λ pool. pool.links ≡ 0) }
+    {
+        Ok(Pool {
+            blocks: Vec::with_capacity(alloc, count as usize)?,
+            next: links(alloc, count)?,
+            first_free: 0,
+            free_count: count,
+            links: 0,
+        })
+    }
+
+    /// The block of a slot.
+    pub fn bytes(&self, slot: u32) -> &[u8; BLOCK_LENGTH]
+        requires { slot < length self.now.blocks }
+        ensures { result.now ≡ slice_index_or self.now.blocks slot zero_block }
+    {
+        self.blocks.get(slot as usize).unwrap_or(&ZERO_BLOCK)
+    }
+
+    /// How many slots are free.
+    pub fn free_count(&self) -> usize
+        ensures { result ≡ length self.now.free }
+    {
+        self.free_count as usize
+    }
+
+    /// Replaces the block of a slot.
+    pub fn set(&mut self, slot: u32, bytes: &[u8])
+        requires slot { slot < length self.old.blocks }
+        requires byte_count { length bytes.now ≡ BLOCK_LENGTH }
+        ensures { self.new ≡ record self.old { blocks = slice_set self.old.blocks slot bytes.now } }
+    {
+        extend_to(&mut self.blocks, slot);
+        self.blocks[slot as usize].copy_from_slice(bytes);
+    }
+
+    /// Takes a free slot. The link that is followed to the next one is not counted.
+    pub fn take(&mut self) -> u32
+        requires { 0 < length self.old.free }
+        ensures free { self.old.free ≡ result ∷ self.new.free }
+        ensures pool { self.new ≡ record self.old { free = self.new.free } }
+    {
+        let slot = self.first_free;
+        self.first_free = self.next[slot as usize];
+        self.free_count -= 1;
+        slot
+    }
+
+    /// Frees a slot, which is taken again before the others that are free.
+    pub fn give(&mut self, slot: u32)
+        requires slot { slot < length self.old.blocks }
+        requires used { occurrences slot self.old.free ≡ 0 }
+        requires room { length self.old.free < MAX_POOL }
+
+        // Only the link of the slot changes.
+        ensures free { self.new.free ≡ slot ∷ self.old.free }
+        ensures next { self.new.next ≡ slice_set self.old.next slot (slice_index self.new.next slot) }
+        ensures pool { self.new ≡ record self.old { next = self.new.next; free = self.new.free } }
+    {
+        self.next[slot as usize] = self.first_free;
+        self.first_free = slot;
+        self.free_count += 1;
+    }
+
+    /// Frees the slots of a chain, which are taken again before the others that are free.
+    pub fn give_chain(&mut self, first: u32, last: u32, count: u32)
+        requires chain { IsChain self.old.next first last count }
+        requires slots { AreBelow (length self.old.next) (chain self.old.next first count) }
+        requires last { last < length self.old.next }
+        requires once { occurrences last (chain self.old.next first count ++ self.old.free) ≡ 1 }
+        requires room { count + length self.old.free ≤ MAX_POOL }
+
+        // Only the link of the last slot changes.
+        ensures free { self.new.free ≡ chain self.old.next first count ++ self.old.free }
+        ensures next { self.new.next ≡ slice_set self.old.next last (slice_index self.new.next last) }
+        ensures pool { self.new ≡ record self.old { next = self.new.next; free = self.new.free } }
+    {
+        self.next[last as usize] = self.first_free;
+        self.first_free = first;
+        self.free_count += count;
+    }
+
+    /// Links a slot that is not free to the next one of its chain.
+    pub fn link(&mut self, slot: u32, next: u32)
+        requires slot { slot < length self.old.next }
+        requires used { occurrences slot self.old.free ≡ 0 }
+        ensures { self.new ≡ record self.old { next = slice_set self.old.next slot next } }
+    {
+        self.next[slot as usize] = next;
+    }
+
+    /// The slot after another in its chain, which counts as a link that was followed.
+    pub fn next(&mut self, slot: u32) -> u32
+        requires slot { slot < length self.old.next }
+        requires headroom { self.old.links < u64.MAX }
+        ensures value { result ≡ slice_index self.old.next slot }
+        ensures pool { self.new ≡ followed self.old 1 }
+    {
+        self.links += 1;
+        self.next[slot as usize]
+    }
+
+    /// How many slots there are.
+    pub fn count(&self) -> usize
+        ensures { result ≡ length self.now.blocks }
+    {
+        self.next.len()
+    }
+
+    /// How many links were followed since the last restart.
+    pub fn links(&self) -> u64
+        ensures { result ≡ self.now.links }
+    {
+        self.links
+    }
+
+    /// Counts from nothing.
+    pub fn restart_links(&mut self)
+        ensures { self.new ≡ record self.old { links = 0 } }
+    {
+        self.links = 0;
+    }
+}

@@ -1,0 +1,9 @@
+-- For stores: ranges of a disk, one block at a time, and the descriptors of an answer.
+pub mod DiskLemmas
+pub mod WellFormedLemmas
+pub mod DescriptorLemmas
+pub mod StatusLemmas
+pub mod UnmapLemmas
+-- For the laws.
+pub mod WriteLemmas
+pub mod ReportLemmas

@@ -1,0 +1,81 @@
+-- What the calls do and report, address by address.
+use Rattle.std.specs.Prelude.{◌≡◌, ◌≢◌, ℕ, ◌+◌, ◌-◌, ◌<◌, ◌≤◌, ◌&&◌, ◌||◌, not, if◌then◌else◌}
+use Rattle.std.specs.Prelude.{Bool, List, All, length, find, Option, Some, option_map}
+use Rattle.std.specs.FinMap.{contains_key}
+use Rattle.sg_store.specs.Disk.{Contents, Disk, block, block_at, zero_block, lies_in}
+use Rattle.sg_store.specs.Disk.{written, filled, unmapped}
+use Rattle.sg_store.specs.LbaStatus.{status_at, lba_status, covered}
+use Rattle.sg_store.specs.declared.lba_status.ProvisioningStatus.{ProvisioningStatus}
+use Rattle.sg_store.specs.declared.lba_status.StatusDescriptor.{StatusDescriptor}
+use Rattle.sg_store.specs.declared.lba_status.TheConstants.{MAX_ADDRESSES, MAX_DESCRIPTORS}
+
+-- After a write, the block at an address is the one given for it inside the range, and the old one
+-- outside.
+abbrev pub WritesEachBlock : Type 0
+WritesEachBlock = (contents : Contents) (lba count : ℕ) (bytes : List ℕ) (address : ℕ) →
+    block (written contents lba count bytes) address
+    ≡ (if lies_in lba count address then block_at bytes (address - lba) else block contents address)
+
+-- After a write, the addresses of the range are mapped, and outside it those that were.
+abbrev pub MapsEachAddress : Type 0
+MapsEachAddress = (contents : Contents) (lba count : ℕ) (bytes : List ℕ) (address : ℕ) →
+    contains_key (written contents lba count bytes) address
+    ≡ (lies_in lba count address || contains_key contents address)
+
+-- After a fill, the block at an address is the one that was given inside the range, and the old one
+-- outside.
+abbrev pub FillsEachBlock : Type 0
+FillsEachBlock = (contents : Contents) (lba count : ℕ) (given : List ℕ) (address : ℕ) →
+    block (filled contents lba count given) address
+    ≡ (if lies_in lba count address then given else block contents address)
+
+-- After a fill, the addresses of the range are mapped, and outside it those that were.
+abbrev pub FillMapsEachAddress : Type 0
+FillMapsEachAddress = (contents : Contents) (lba count : ℕ) (given : List ℕ) (address : ℕ) →
+    contains_key (filled contents lba count given) address
+    ≡ (lies_in lba count address || contains_key contents address)
+
+-- After an unmap, the block at an address is zeros inside the range, and the old one outside.
+abbrev pub UnmapsEachBlock : Type 0
+UnmapsEachBlock = (contents : Contents) (lba count address : ℕ) →
+    block (unmapped contents lba count) address
+    ≡ (if lies_in lba count address then zero_block else block contents address)
+
+-- After an unmap, no address of the range is mapped, and outside it those that were.
+abbrev pub UnmapsEachAddress : Type 0
+UnmapsEachAddress = (contents : Contents) (lba count address : ℕ) →
+    contains_key (unmapped contents lba count) address
+    ≡ (not (lies_in lba count address) && contains_key contents address)
+
+-- The status of an address by the first descriptor that covers it, if one does.
+abbrev pub covers : (address : ℕ) → StatusDescriptor → Bool
+covers address descriptor = lies_in descriptor.lba descriptor.count address
+
+abbrev pub status_of : StatusDescriptor → ProvisioningStatus
+status_of descriptor = descriptor.status
+
+abbrev pub status_reported : List StatusDescriptor → (address : ℕ) → Option ProvisioningStatus
+status_reported descriptors address = option_map status_of (find (covers address) descriptors)
+
+-- GET LBA STATUS reports the status of each address that it covers,
+abbrev pub ReportsEachStatus : Type 0
+ReportsEachStatus = (disk : Disk) (lba address : ℕ) →
+    lba ≤ address → address < lba + covered (lba_status disk lba) →
+    status_reported (lba_status disk lba) address ≡ Some (status_at disk.contents address)
+
+-- and covers the addresses up to the end of the disk, unless it has no room for more descriptors.
+abbrev pub CoversTheRest : Type 0
+CoversTheRest = (disk : Disk) (lba : ℕ) →
+    lba ≤ disk.capacity → length (lba_status disk lba) < MAX_DESCRIPTORS →
+    lba + covered (lba_status disk lba) ≡ disk.capacity
+
+-- A descriptor that covers fewer addresses than it could ends before one of another status.
+abbrev pub EndsAtAnotherStatus : Disk → StatusDescriptor → Type 0
+EndsAtAnotherStatus disk descriptor =
+    let next = descriptor.lba + descriptor.count in
+    descriptor.count < MAX_ADDRESSES → next < disk.capacity →
+    status_at disk.contents next ≢ descriptor.status
+
+-- So do all that GET LBA STATUS reports.
+abbrev pub CoversTheMost : Type 0
+CoversTheMost = (disk : Disk) (lba : ℕ) → All (EndsAtAnotherStatus disk) (lba_status disk lba)

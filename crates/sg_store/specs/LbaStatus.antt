@@ -1,0 +1,71 @@
+-- The provisioning status of a disk's addresses, as GET LBA STATUS returns it (SBC-3, 5.4).
+use Rattle.std.specs.Prelude.{ℕ, ◌+◌, ◌-◌, ◌*◌, zero, suc, if◌then◌else◌, ◌==◌, nat_lt, min}
+use Rattle.std.specs.Prelude.{List, [], ◌∷◌, ◌++◌, length, replicate, sum_by}
+use Rattle.std.specs.List.{flat_map, range_with_len, prefix_len}
+use Rattle.std.specs.FinMap.{contains_key}
+use Rattle.byteorder.specs.Endian.{big_bytes}
+use Rattle.sg_store.specs.Disk.{Contents, Disk}
+use Rattle.sg_store.specs.declared.lba_status.ProvisioningStatus.{ProvisioningStatus}
+use Rattle.sg_store.specs.declared.lba_status.ProvisioningStatus.TheVariants.{Mapped, Deallocated}
+use Rattle.sg_store.specs.declared.lba_status.StatusDescriptor.{StatusDescriptor}
+use Rattle.sg_store.specs.declared.lba_status.TheConstants.{MAX_ADDRESSES, MAX_DESCRIPTORS}
+
+-- ---- Which descriptors an answer has
+
+-- The status of an address, and its code.
+abbrev pub status_at : Contents → (lba : ℕ) → ProvisioningStatus
+status_at contents lba = if contains_key contents lba then Mapped else Deallocated
+
+abbrev pub code_of : ProvisioningStatus → ℕ
+code_of Mapped = 0
+code_of Deallocated = 1
+
+-- How many addresses from one on have its status, before one that has another. The count fits its
+-- field, and ends with the disk.
+unfoldable pub count_alike : Contents → (capacity lba : ℕ) → ℕ
+count_alike contents capacity lba =
+    prefix_len (λ address. code_of (status_at contents address) == code_of (status_at contents lba))
+    (range_with_len lba (min MAX_ADDRESSES (capacity - lba)))
+
+-- The descriptor that begins at an address.
+abbrev pub descriptor_at : Contents → (capacity lba : ℕ) → StatusDescriptor
+descriptor_at contents capacity lba = record {
+  lba = lba;
+  count = count_alike contents capacity lba;
+  status = status_at contents lba;
+}
+
+-- At most `most` descriptors, up to the end of the disk. The first begins at an address, and each
+-- next one where the one before ends.
+unfoldable pub descriptors_from : Contents → (capacity lba most : ℕ) → List StatusDescriptor
+descriptors_from contents capacity lba zero = []
+descriptors_from contents capacity lba (suc most) =
+    if nat_lt lba capacity
+    then descriptor_at contents capacity lba
+    ∷ descriptors_from contents capacity (lba + count_alike contents capacity lba) most
+    else []
+
+-- Those of an answer.
+abbrev pub lba_status : Disk → (lba : ℕ) → List StatusDescriptor
+lba_status disk lba = descriptors_from disk.contents disk.capacity lba MAX_DESCRIPTORS
+
+-- How many addresses they cover.
+abbrev pub covered : List StatusDescriptor → ℕ
+covered descriptors = sum_by (λ (descriptor : StatusDescriptor). descriptor.count) descriptors
+
+-- ---- The parameter data (SBC-3, 5.4.2)
+
+-- LOGICAL BLOCK ADDRESS, NUMBER OF LOGICAL BLOCKS, PROVISIONING STATUS and three reserved bytes.
+abbrev pub descriptor_bytes : StatusDescriptor → List ℕ
+descriptor_bytes descriptor =
+    big_bytes 8 descriptor.lba
+    ++ (big_bytes 4 descriptor.count ++ (code_of descriptor.status ∷ replicate 3 0))
+
+-- PARAMETER DATA LENGTH, that of all bytes behind it, and four reserved bytes.
+abbrev pub status_header : (count : ℕ) → List ℕ
+status_header count = big_bytes 4 (4 + 16 * count) ++ replicate 4 0
+
+-- The whole parameter data.
+unfoldable pub status_data : List StatusDescriptor → List ℕ
+status_data descriptors =
+    status_header (length descriptors) ++ flat_map descriptor_bytes descriptors

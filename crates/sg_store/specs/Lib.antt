@@ -1,0 +1,6 @@
+-- What public contracts cite: the disk, what the calls cost, the answer of GET LBA STATUS, and the
+-- laws.
+pub mod Disk
+pub mod Meter
+pub mod LbaStatus
+pub mod Laws

@@ -1,0 +1,56 @@
+//! What the calls of a store do and report, address by address: laws above the definitions that
+//! [`Store`](crate::Store) cites.
+ghost use Rattle.sg_store.specs.Laws.{WritesEachBlock, MapsEachAddress};
+ghost use Rattle.sg_store.specs.Laws.{FillsEachBlock, FillMapsEachAddress};
+ghost use Rattle.sg_store.specs.Laws.{UnmapsEachBlock, UnmapsEachAddress};
+ghost use Rattle.sg_store.specs.Laws.{ReportsEachStatus, CoversTheRest, CoversTheMost};
+
+/// After a write, the block at an address is the one given for it inside the range, and the old one
+/// outside.
+pub fn a_write_replaces_the_blocks_of_its_range()
+    ensures { WritesEachBlock }
+{}
+
+/// After a write, the addresses of the range are mapped, and outside it those that were.
+pub fn a_write_maps_the_addresses_of_its_range()
+    ensures { MapsEachAddress }
+{}
+
+/// After a fill, the block at an address is the one that was given inside the range, and the old one
+/// outside.
+pub fn a_fill_puts_one_block_at_each_address_of_its_range()
+    ensures { FillsEachBlock }
+{}
+
+/// After a fill, the addresses of the range are mapped, and outside it those that were.
+pub fn a_fill_maps_the_addresses_of_its_range()
+    ensures { FillMapsEachAddress }
+{}
+
+/// After an unmap, the block at an address is zeros inside the range, and the old one outside. So
+/// no call can read what was written there before.
+pub fn an_unmap_zeroes_the_blocks_of_its_range()
+    ensures { UnmapsEachBlock }
+{}
+
+/// After an unmap, no address of the range is mapped, and outside it those that were.
+pub fn an_unmap_leaves_no_address_of_its_range_mapped()
+    ensures { UnmapsEachAddress }
+{}
+
+/// GET LBA STATUS reports, for each address that it covers, whether the address is mapped.
+pub fn each_status_that_is_reported_is_that_of_the_address()
+    ensures { ReportsEachStatus }
+{}
+
+/// GET LBA STATUS covers the addresses up to the end of the disk, unless it has as many descriptors
+/// as an answer may have.
+pub fn an_answer_with_room_left_covers_the_rest_of_the_disk()
+    ensures { CoversTheRest }
+{}
+
+/// Each descriptor of GET LBA STATUS covers as many addresses as it can: it ends with the disk, at
+/// the most that its count can be, or before an address of another status.
+pub fn each_descriptor_covers_as_many_addresses_as_it_can()
+    ensures { CoversTheMost }
+{}

@@ -1,0 +1,176 @@
+// What every store does: its calls, each with its effect on the disk and its cost.
+ghost use Rattle.std.specs.Prelude.{◌≡◌, ℕ, ◌+◌, ◌*◌, ◌<◌, ◌≤◌, ◌↔◌, length};
+ghost use Rattle.std.specs.Prelude.{IfOk, OnOk, OnErr, IsErr};
+ghost use Rattle.std.specs.FinMap.{len};
+ghost use Rattle.sg_store.specs.Disk.{Contents, Disk, IsWellFormed, IsOverfull, empty_disk};
+ghost use Rattle.sg_store.specs.Disk.{blocks, mapped_among, disk_written, disk_filled, disk_unmapped};
+ghost use Rattle.sg_wire.specs.Cut.{Puts};
+ghost use Rattle.sg_store.specs.LbaStatus.{lba_status, covered, status_data};
+ghost use Rattle.sg_store.specs.Meter.{Meter, new_meter, restarted, HasHeadroom};
+ghost use Rattle.sg_store.specs.Meter.{Charged, ChargedOnOk};
+
+use sg_wire::Cut;
+use std::alloc::{AllocError, Global};
+
+/// The length of a block, in bytes.
+pub const BLOCK_LENGTH: usize = 512;
+
+/// The most addresses that a disk can have.
+pub const MAX_CAPACITY: u64 = 1 << 40;
+
+/// The most addresses that can be mapped at once.
+pub const MAX_POOL: u32 = 65_536;
+
+/// The most that a count may have reached before a call. What a call adds then fits beside it.
+pub const MAX_COUNT: u64 = 1 << 62;
+
+/// What a store did, counted since its last restart.
+#[derive(Clone, Copy, Debug, PartialEq, Default)]
+pub struct Counts {
+    /// Whole records of the map that were read.
+    pub visits: u64,
+    /// First addresses of records that were compared.
+    pub probes: u64,
+    /// Links from slot to slot that were followed to reach a mapped block. The link that leads from
+    /// a free slot to the next one is not counted when the slot is taken.
+    pub links: u64,
+}
+
+/// More addresses would be mapped than the pool has blocks.
+#[derive(Clone, Copy, Debug, PartialEq)]
+pub struct Space;
+
+/// A disk of blocks of 512 bytes, of which those that were written are mapped to the blocks of a
+/// pool (SBC-3, 4.7).
+///
+/// All memory is taken by [`Store::make`]; no other call can ask for more.
+pub trait Store: Drop {
+    /// The disk that is kept.
+    ghost disk: { Self → Disk };
+
+    /// What the calls cost so far.
+    ghost meter: { Self → Meter };
+
+    /// At most how many records a call over a range visits, by the contents of the disk, the
+    /// range's first address and its count.
+    ghost price: { Contents → ℕ → ℕ → ℕ };
+
+    /// At least how many records a call over a range visits, if it succeeds, by the same.
+    ghost least: { Contents → ℕ → ℕ → ℕ };
+
+    /// A disk of `capacity` addresses, none of them mapped, and a pool of `pool` blocks.
+    ///
+    /// # Errors
+    /// Memory was refused.
+    fn make(alloc: Global, capacity: u64, pool: u32) -> Result<Self, AllocError>
+        requires capacity { (1 ≤ capacity) × (capacity ≤ MAX_CAPACITY) }
+        requires pool { (1 ≤ pool) × (pool ≤ MAX_POOL) }
+        ensures disk { IfOk result (λ store. disk store ≡ empty_disk capacity pool) }
+        ensures meter { IfOk result (λ store. meter store ≡ new_meter) };
+
+    /// Reads the blocks from an address on, into a slice that is just as long as they are.
+    fn read(&mut self, lba: u64, count: u32, bytes: &mut [u8])
+        requires range { lba + count ≤ (disk self.old).capacity }
+        requires byte_count { length bytes.old ≡ BLOCK_LENGTH * count }
+        requires headroom { HasHeadroom (meter self.old).counts }
+
+        // The blocks are those of the disk, which stays as it is.
+        ensures bytes { bytes.new ≡ blocks (disk self.old).contents lba count }
+        ensures disk { disk self.new ≡ disk self.old }
+
+        // What the call costs, and between which bounds its visits lie.
+        ensures costs { Charged (disk self.old).pool (price (disk self.old).contents lba count)
+            (least (disk self.old).contents lba count) (meter self.old) (meter self.new) };
+
+    /// Replaces the blocks from an address on by those of a slice, which is just as long as they
+    /// are.
+    ///
+    /// # Errors
+    /// More addresses would be mapped than the pool has blocks. Nothing is written then.
+    fn write(&mut self, lba: u64, count: u32, bytes: &[u8]) -> Result<(), Space>
+        requires range { lba + count ≤ (disk self.old).capacity }
+        requires byte_count { length bytes.now ≡ BLOCK_LENGTH * count }
+        requires headroom { HasHeadroom (meter self.old).counts }
+
+        // Either the pool has too few blocks and the disk stays as it is, or all blocks are
+        // replaced.
+        ensures space { IsErr result ↔ IsOverfull (disk_written (disk self.old) lba count bytes.now) }
+        ensures ok { OnOk result (disk self.new ≡ disk_written (disk self.old) lba count bytes.now) }
+        ensures err { OnErr result (disk self.new ≡ disk self.old) }
+
+        // What the call costs, and between which bounds its visits lie.
+        ensures costs { ChargedOnOk result (disk self.old).pool
+            (price (disk self.old).contents lba count) (least (disk self.old).contents lba count)
+            (meter self.old) (meter self.new) };
+
+    /// Replaces each block from an address on by one block (SBC-3, 5.43).
+    ///
+    /// # Errors
+    /// More addresses would be mapped than the pool has blocks. Nothing is written then.
+    fn fill(&mut self, lba: u64, count: u32, block: &[u8; BLOCK_LENGTH]) -> Result<(), Space>
+        requires range { lba + count ≤ (disk self.old).capacity }
+        requires headroom { HasHeadroom (meter self.old).counts }
+
+        // Either the pool has too few blocks and the disk stays as it is, or all blocks are
+        // replaced.
+        ensures space { IsErr result ↔ IsOverfull (disk_filled (disk self.old) lba count block.now) }
+        ensures ok { OnOk result (disk self.new ≡ disk_filled (disk self.old) lba count block.now) }
+        ensures err { OnErr result (disk self.new ≡ disk self.old) }
+
+        // What the call costs, and between which bounds its visits lie.
+        ensures costs { ChargedOnOk result (disk self.old).pool
+            (price (disk self.old).contents lba count) (least (disk self.old).contents lba count)
+            (meter self.old) (meter self.new) };
+
+    /// Unmaps the addresses from one on: their blocks read as zeros from then on, and the pool has
+    /// room for as many others (SBC-3, 5.28).
+    fn unmap(&mut self, lba: u64, count: u32)
+        requires range { lba + count ≤ (disk self.old).capacity }
+        requires headroom { HasHeadroom (meter self.old).counts }
+
+        // The addresses are mapped no more.
+        ensures disk { disk self.new ≡ disk_unmapped (disk self.old) lba count }
+
+        // What the call costs, and between which bounds its visits lie.
+        ensures costs { Charged (disk self.old).pool (price (disk self.old).contents lba count)
+            (least (disk self.old).contents lba count) (meter self.old) (meter self.new) };
+
+    /// Writes the parameter data of GET LBA STATUS (SBC-3, 5.4.2): which addresses are mapped, from
+    /// one on to the end of the disk, in at most 512 descriptors.
+    fn status(&mut self, lba: u64, cut: &mut Cut)
+        requires address { lba < (disk self.old).capacity }
+        requires headroom { HasHeadroom (meter self.old).counts }
+
+        // All of it is put, and the disk stays as it is.
+        ensures data { Puts cut.old cut.new (status_data (lba_status (disk self.old) lba)) }
+        ensures disk { disk self.new ≡ disk self.old }
+
+        // What the call costs, and between which bounds its visits lie, over the addresses that
+        // the descriptors cover.
+        ensures costs { let count = covered (lba_status (disk self.old) lba) in
+            Charged (disk self.old).pool (price (disk self.old).contents lba count)
+            (least (disk self.old).contents lba count) (meter self.old) (meter self.new) };
+
+    /// How many addresses are mapped.
+    fn mapped(&self) -> u32
+        ensures value { result ≡ len (disk self.now).contents }
+        ensures within { result ≤ (disk self.now).pool }
+        ensures well_formed { IsWellFormed (disk self.now).capacity (disk self.now).contents };
+
+    /// What was counted since the last restart.
+    fn counts(&self) -> Counts
+        ensures { result ≡ (meter self.now).counts };
+
+    /// Counts from nothing. The total of visits stays, and the restart is counted.
+    fn restart_counts(&mut self)
+        ensures disk { disk self.new ≡ disk self.old }
+        ensures meter { meter self.new ≡ restarted (meter self.old) };
+
+    /// No call over a range visits more records than two more than it has addresses.
+    ghost price_within: { (contents : Contents) (lba count : ℕ) →
+        price contents lba count ≤ count + 2 };
+
+    /// A successful call over a range in which an address is mapped visits at least one record.
+    ghost least_positive: { (contents : Contents) (lba count : ℕ) →
+        0 < mapped_among contents lba count → 0 < least contents lba count };
+}

@@ -1,0 +1,17 @@
+-- For stores: records and their order, lists of slots, and what is counted.
+pub mod RecordLemmas
+pub mod IndexLemmas
+pub mod OccurrenceLemmas
+pub mod SpliceLemmas
+pub mod TableLemmas
+pub mod HalvingLemmas
+-- For the table alone: its leaves, and the search of them.
+pub mod GhostNumberSteps
+pub mod LeafListLemmas
+pub mod LeavesLemmas
+pub mod BalanceLemmas
+pub mod AppendLemmas
+pub mod CutLeavesLemmas
+pub mod PlaceLemmas
+pub mod SearchLemmas
+pub mod LeafSearchLemmas

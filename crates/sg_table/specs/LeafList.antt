@@ -1,0 +1,25 @@
+-- The leaves of the table in their slots.
+use Rattle.std.specs.Prelude.{◌≡◌, ◌≢◌, ℕ, ◌+◌, ◌<◌, List, [], ◌∷◌, ◌++◌, length, map}
+use Rattle.sg_table.specs.Leaves.{leaf_at}
+use Rattle.sg_table.specs.Occurrences.{IsEachOnce}
+use Rattle.sg_table.specs.declared.run.Run.{Run}
+
+-- The records of each leaf, in order, and for how many leaves there is room.
+pub record LeafRow : Type 0 where
+  pub leaves : List (List Run)
+  pub capacity : ℕ
+
+-- The leaves in some of the slots, in the order of those.
+abbrev pub leaves_in : (slots : List (List Run)) → (order : List ℕ) → List (List Run)
+leaves_in slots order = map (leaf_at slots) order
+
+-- Each slot has one place in the order, or is free.
+pub record AreSlots (slots : List (List Run)) (order free : List ℕ) : Type 0 where
+  pub once : IsEachOnce (length slots) (order ++ free)
+  pub count : length order + length free ≡ length slots
+
+-- A slot is no longer free, or is new. Its leaf has no records, and the others are as they were.
+pub record IsTaken (old new : List (List Run)) (free free' : List ℕ) (slot : ℕ) : Type 0 where
+  pub empty : leaf_at new slot ≡ []
+  pub others : (other : ℕ) → other < length old → other ≢ slot → leaf_at new other ≡ leaf_at old other
+  pub slots : (order : List ℕ) → AreSlots old order free → AreSlots new (slot ∷ order) free'

@@ -1,0 +1,59 @@
+-- The table of records. Where each maps one address to a slot, it stands for the contents of a disk.
+use Rattle.std.specs.Prelude.{◌≡◌, ℕ, ◌+◌, ◌<◌, ◌≤◌, zero, suc, List, [], ◌∷◌, length, slice_index_or}
+use Rattle.std.specs.Prelude.{Option, Some, None, if◌then◌else◌, ◌==◌}
+use Rattle.sg_table.specs.declared.cursor.Cursor.{Cursor}
+use Rattle.sg_table.specs.declared.run.Run.{Run}
+
+-- A record of one address.
+abbrev pub single : (start slot : ℕ) → Run
+single start slot = record { start = start; count = 1; first = slot; last = slot }
+
+-- The address of the record at an index.
+abbrev pub start_of : List Run → ℕ → ℕ
+start_of [] index = 0
+start_of (run ∷ records) zero = run.start
+start_of (run ∷ records) (suc index) = start_of records index
+
+-- The addresses rise from record to record.
+abbrev pub IsSorted : List Run → Type 0
+IsSorted records = (i j : ℕ) → i < j → j < length records → start_of records i < start_of records j
+
+-- The first slots of the records.
+abbrev pub slots_of : List Run → List ℕ
+slots_of [] = []
+slots_of (run ∷ records) = run.first ∷ slots_of records
+
+-- The slot of each record is below `count`.
+abbrev pub HaveSlots : List Run → (count : ℕ) → Type 0
+HaveSlots records count = (i : ℕ) (run : Run) →
+    i < length records → slice_index_or records i run ≡ run → run.first < count
+
+-- The index of the first record that is not before the address, or the end of the table.
+pub record IsLowerBound (records : List Run) (index lba : ℕ) : Type 0 where
+  pub within : index ≤ length records
+  pub before : (i : ℕ) → i < index → start_of records i < lba
+  pub after : (i : ℕ) → index ≤ i → i < length records → lba ≤ start_of records i
+
+-- The record at the index, or none at the end.
+abbrev pub IsNext : List Run → (index : ℕ) → Option Run → Type 0
+IsNext records index None = length records ≤ index
+IsNext records index (Some run) = (index < length records) × (slice_index_or records index run ≡ run)
+
+-- The record, if it is that of the address.
+abbrev pub run_at : Option Run → (lba : ℕ) → Option Run
+run_at None lba = None
+run_at (Some run) lba = if run.start == lba then Some run else None
+
+-- Where the addresses end that are not mapped: at the next record, or with the disk.
+abbrev pub end_of_gap : (next : Option Run) → (capacity : ℕ) → ℕ
+end_of_gap None capacity = capacity
+end_of_gap (Some run) capacity = run.start
+
+-- One where a record was visited before its address is reached.
+abbrev pub ahead : Option Run → ℕ
+ahead None = 0
+ahead (Some run) = 1
+
+-- How many records of the table were visited up to the cursor.
+abbrev pub passed : Cursor → ℕ
+passed cursor = cursor.index + ahead cursor.next

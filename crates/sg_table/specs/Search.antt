@@ -1,0 +1,35 @@
+-- Binary search of addresses that rise.
+use Rattle.std.specs.Prelude.{ℕ, ◌+◌, ◌*◌, ◌^◌, ◌<◌, ◌≤◌, List, length, slice_index_or}
+use Rattle.sg_table.specs.declared.leaf.TheConstants.{MAX_LEAF}
+
+-- The addresses that a search compares, and how many it compared so far.
+pub record ProbedStarts : Type 0 where
+  pub starts : List ℕ
+  pub probes : ℕ
+
+-- The address at an index.
+abbrev pub address_at : List ℕ → ℕ → ℕ
+address_at starts index = slice_index_or starts index 0
+
+-- Each address is past the one before.
+abbrev pub AreRising : List ℕ → Type 0
+AreRising starts = (i j : ℕ) → i < j → j < length starts → address_at starts i < address_at starts j
+
+-- The index of the first one that is not before an address, or the end of the list.
+pub record IsFirstFrom (starts : List ℕ) (index lba : ℕ) : Type 0 where
+  pub within : index ≤ length starts
+  pub before : (i : ℕ) → i < index → address_at starts i < lba
+  pub after : (i : ℕ) → index ≤ i → i < length starts → lba ≤ address_at starts i
+
+-- How many of `count` addresses a search compares that halves what is left: at most as many as
+-- `count` has binary digits.
+pub record CostsHalving (count probes : ℕ) : Type 0 where
+  pub most : 2 ^ probes ≤ 2 * count + 1
+  pub least : count + 2 ≤ 2 ^ (probes + 1)
+
+-- How many addresses of `count` records a search of leaves compares: at most one more than `count`
+-- has binary digits, and none more where there is one leaf.
+pub record CostsSearch (count probes : ℕ) : Type 0 where
+  pub most : 2 ^ probes ≤ 4 * count + 1
+  pub least : count + 2 ≤ 2 ^ (probes + 2)
+  pub one_leaf : count ≤ MAX_LEAF → CostsHalving count probes

@@ -1,0 +1,82 @@
+ghost use Rattle.std.specs.Prelude.{◌≡◌, ℕ, ◌+◌, ◌<◌, length, map};
+ghost use Rattle.sg_table.specs.Search.{address_at};
+
+use crate::run::Run;
+use std::marker::Model;
+
+/// What begins at an address.
+pub trait HasStart {
+    ghost start_of: { Self → ℕ };
+
+    /// The first address.
+    fn start(&self) -> u64
+        ensures { result ≡ start_of self.now };
+}
+
+impl HasStart for Run {
+    ghost start_of = { λ run. run.start };
+
+    fn start(&self) -> u64 {
+        self.start
+    }
+}
+
+/// An address stands for the record that begins there.
+impl HasStart for u64 {
+    ghost start_of = { λ lba. lba };
+
+    fn start(&self) -> u64 {
+        *self
+    }
+}
+
+/// Starts in a row for a search, with how many of them it compared. `Probed::start` alone reads
+/// one.
+#[derive(Drop)]
+pub struct Probed<'a, T: HasStart> {
+    items: &'a [T],
+    probes: u64,
+}
+
+impl<'a, T: HasStart> Model for Probed<'a, T> {
+    ghost use Rattle.std.specs.Prelude.{map};
+    ghost use Rattle.sg_table.specs.Search.{ProbedStarts};
+
+    ghost Value = { ProbedStarts };
+
+    ghost view = { λ p. record { starts = map T.start_of p.items.now; probes = p.probes } };
+}
+
+impl<'a, T: HasStart> Probed<'a, T> {
+    /// Starts of which none was compared.
+    pub fn new(items: &'a [T]) -> Probed<'a, T>
+        ensures { result ≡ record { starts = map T.start_of items.now; probes = 0 } }
+    {
+        Probed { items, probes: 0 }
+    }
+
+    /// How many starts there are.
+    pub fn len(&self) -> usize
+        ensures { result ≡ length self.now.starts }
+    {
+        self.items.len()
+    }
+
+    /// How many starts were compared.
+    pub fn probes(&self) -> u64
+        ensures { result ≡ self.now.probes }
+    {
+        self.probes
+    }
+
+    /// The start at an index, which counts as a probe.
+    pub fn start(&mut self, index: usize) -> u64
+        requires index { index < length self.old.starts }
+        requires headroom { self.old.probes < u64.MAX }
+        ensures value { result ≡ address_at self.old.starts index }
+        ensures probed { self.new ≡ record self.old { probes = self.old.probes + 1 } }
+    {
+        self.probes += 1;
+        self.items[index].start()
+    }
+}

@@ -1,0 +1,57 @@
+// Binary search of the table: for a leaf, by the first addresses of the leaves, and then in it.
+ghost use Rattle.std.specs.Prelude.{◌≡◌, ◌≤◌, length};
+ghost use Rattle.sg_table.specs.Leaves.{AreBalanced, joined};
+ghost use Rattle.sg_table.specs.Records.{IsSorted, IsLowerBound};
+ghost use Rattle.sg_table.specs.Search.{AreRising, CostsHalving, CostsSearch, IsFirstFrom};
+
+use crate::leaves::Leaves;
+use crate::leaves::probed::{HasStart, Probed};
+use crate::table::MAX_RECORDS;
+
+/// Where a search ended, and how many addresses it compared.
+#[derive(Clone, Copy)]
+pub struct Found {
+    pub index: usize,
+    pub probes: u64,
+}
+
+/// The index of the first record that is not before an address.
+pub fn lower_bound(leaves: &mut Leaves, lba: u64) -> Found
+    requires sorted { IsSorted (joined leaves.old.leaves) }
+    requires balanced { AreBalanced leaves.old.leaves }
+    requires count { length (joined leaves.old.leaves) ≤ MAX_RECORDS }
+    ensures index { IsLowerBound (joined leaves.old.leaves) result.index lba }
+    ensures search { CostsSearch (length (joined leaves.old.leaves)) result.probes }
+    ensures leaves { leaves.new ≡ leaves.old }
+{
+    let mut firsts = leaves.other_firsts();
+    let leaf = search(&mut firsts, lba);
+    let mut records = leaves.probed(leaf);
+    let offset = search(&mut records, lba);
+    let probes = firsts.probes() + records.probes();
+    let span = leaves.enter(leaf);
+    Found {
+        index: span.start + offset,
+        probes,
+    }
+}
+
+/// The index of the first start that is not before an address.
+fn search<T: HasStart>(starts: &mut Probed<'_, T>, lba: u64) -> usize
+    requires fresh { starts.old.probes ≡ 0 }
+    requires rising { AreRising starts.old.starts }
+    ensures index { IsFirstFrom starts.old.starts result lba }
+    ensures halving { CostsHalving (length starts.old.starts) starts.new.probes }
+{
+    let mut low = 0;
+    let mut high = starts.len();
+    while low < high {
+        let middle = low + (high - low) / 2;
+        if starts.start(middle) < lba {
+            low = middle + 1;
+        } else {
+            high = middle;
+        }
+    }
+    low
+}

@@ -1,0 +1,17 @@
+//! A table of records that is sorted by their addresses and kept in leaves, and counts what is read
+//! of it. It knows nothing of blocks.
+#![tactic(auto)]
+
+mod cursor;
+mod draft;
+mod ghost_number;
+mod leaf;
+mod leaf_list;
+mod leaves;
+mod run;
+mod table;
+
+pub use cursor::Cursor;
+pub use draft::Draft;
+pub use run::Run;
+pub use table::{MAX_RECORDS, RunTable};

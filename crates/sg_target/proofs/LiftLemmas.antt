@@ -1,0 +1,115 @@
+-- From the operation that a command asks for to its step.
+use Rattle.std.proofs.Common.{◌≡◌, ℕ, List, Option, Some, None, Result, Ok, Err, refl, subst}
+use Rattle.sg_wire.specs.Layout.{command_of}
+use Rattle.sg_wire.specs.declared.command.CdbFault.{CdbFault}
+use Rattle.sg_wire.specs.declared.command.Command.{Command}
+use Rattle.sg_target.specs.Checks.{cdb_checks, checked_cdb, checked_operation, checked_parse, requested}
+use Rattle.sg_target.specs.Checks.{medium_checks}
+use Rattle.sg_target.specs.Demands.{demands}
+use Rattle.sg_target.specs.Refusal.{checked_next, first_some, unless_refused}
+use Rattle.sg_target.specs.Semantics.{effect_of, medium_use}
+use Rattle.sg_target.specs.State.{State}
+use Rattle.sg_target.specs.Step.{Step, outcome, refused, step, step_by}
+use Rattle.sg_target.specs.declared.operation.Operation.{Operation}
+use Rattle.sg_target.specs.declared.refusal.Refusal.{Refusal}
+
+-- the command that asks for an operation, and the checks that it has passed
+pub record Asked (state : State) (i : ℕ) (cdb data_out : List ℕ) (operation : Operation) : Type 0 where
+  pub passed : first_some (cdb_checks state i cdb) ≡ None
+  pub command : Command
+  pub command_is : command_of cdb ≡ Ok command
+  pub operation_is : (demands state.disk.capacity command data_out).operation ≡ Ok operation
+
+record Passed {A : Type 0} (refusal : Option Refusal) (result : Result A Refusal) (value : A) : Type 0 where
+  none : refusal ≡ None
+  is : result ≡ Ok value
+
+unless-ok : {A : Type 0} (refusal : Option Refusal) (result : Result A Refusal) (value : A)
+    → unless_refused refusal result ≡ Ok value → Passed refusal result value
+unless-ok None result value e = record { none = refl; is = e }
+unless-ok (Some refusal) result value e = cc
+
+-- the request of a command that passes the checks of its use of the medium
+requested-ok : (state : State) (request : Result Operation Refusal) (operation : Operation)
+    → checked_next request (checked_operation state) ≡ Ok operation → request ≡ Ok operation
+requested-ok state (Err refusal) operation e = cc
+requested-ok state (Ok asked) operation e =
+    (unless-ok (first_some (medium_checks state (medium_use asked))) (Ok asked) operation e).is
+
+record Parsed (state : State) (parsed : Result Command CdbFault) (data_out : List ℕ)
+    (operation : Operation) : Type 0 where
+  command : Command
+  is : parsed ≡ Ok command
+  asks : (demands state.disk.capacity command data_out).operation ≡ Ok operation
+
+parsed-ok : (state : State) (parsed : Result Command CdbFault) (data_out : List ℕ)
+    (operation : Operation) → checked_parse state parsed data_out ≡ Ok operation
+    → Parsed state parsed data_out operation
+parsed-ok state (Err fault) data_out operation e = cc
+parsed-ok state (Ok command) data_out operation e =
+    let d = demands state.disk.capacity command data_out in
+    record {
+      command = command;
+      is = refl;
+      asks =
+          (unless-ok _ d.operation operation
+          (requested-ok state (requested d data_out) operation e)).is;
+    }
+
+module _ (state : State) (i : ℕ) (cdb data_out : List ℕ) where
+  asked : (operation : Operation) → checked_cdb state i cdb data_out ≡ Ok operation
+      → Asked state i cdb data_out operation
+  unfolding checked_cdb
+  asked operation e =
+      let passed = unless-ok (first_some (cdb_checks state i cdb)) _ operation e in
+      let parsed = parsed-ok state (command_of cdb) data_out operation passed.is in
+      record {
+        passed = passed.none;
+        command = parsed.command;
+        command_is = parsed.is;
+        operation_is = parsed.asks;
+      }
+
+  by-checked : (P : Step → Type 0) → ((refusal : Refusal) → P (refused state i refusal))
+      → ((operation : Operation) → Asked state i cdb data_out operation → P (step_by state i operation))
+      → (checked : Result Operation Refusal) → checked_cdb state i cdb data_out ≡ checked
+      → P (outcome state i (checked_next checked (effect_of state i)))
+  by-checked P r o (Err refusal) e = r refusal
+  by-checked P r o (Ok operation) e = o operation (asked operation e)
+
+  -- what is true of each refusal, and of the operation that the command asks for, is of the step
+  pub lifted : (P : Step → Type 0) → ((refusal : Refusal) → P (refused state i refusal))
+      → ((operation : Operation) → Asked state i cdb data_out operation → P (step_by state i operation))
+      → P (step state i cdb data_out)
+  lifted P r o = by-checked P r o (checked_cdb state i cdb data_out) refl
+
+-- so it is of a relation of two steps of states whose checks come to the same
+module _ (s t : State) (i : ℕ) (cdb data_out : List ℕ)
+    (same : first_some (cdb_checks s i cdb) ≡ first_some (cdb_checks t i cdb))
+    (alike : (parsed : Result Command CdbFault)
+    → checked_parse s parsed data_out ≡ checked_parse t parsed data_out) where
+  checked-same : checked_cdb s i cdb data_out ≡ checked_cdb t i cdb data_out
+  unfolding checked_cdb
+  checked-same = λ d. unless_refused (same d) (alike (command_of cdb) d)
+
+  by-both : (R : Step → Step → Type 0)
+      → ((refusal : Refusal) → R (refused s i refusal) (refused t i refusal))
+      → ((operation : Operation) → Asked s i cdb data_out operation
+      → R (step_by s i operation) (step_by t i operation))
+      → (checked : Result Operation Refusal) → checked_cdb s i cdb data_out ≡ checked
+      → R (outcome s i (checked_next checked (effect_of s i)))
+      (outcome t i (checked_next checked (effect_of t i)))
+  by-both R r o (Err refusal) e = r refusal
+  by-both R r o (Ok operation) e = o operation (asked s i cdb data_out operation e)
+
+  pub lifted-both : (R : Step → Step → Type 0)
+      → ((refusal : Refusal) → R (refused s i refusal) (refused t i refusal))
+      → ((operation : Operation) → Asked s i cdb data_out operation
+      → R (step_by s i operation) (step_by t i operation))
+      → R (step s i cdb data_out) (step t i cdb data_out)
+  lifted-both R r o =
+      subst
+      (λ (c : Result Operation Refusal). R (step s i cdb data_out)
+      (outcome t i (checked_next c (effect_of t i))))
+      checked-same
+      (by-both R r o (checked_cdb s i cdb data_out) refl)

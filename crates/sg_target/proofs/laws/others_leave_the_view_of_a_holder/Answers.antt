@@ -1,6 +1,0 @@
-use Rattle.sg_target.proofs.OthersLemmas.{others-keep}
-use Rattle.sg_target.proofs.laws.others_leave_the_view_of_a_holder.Goals as goal
-
-pub returns : goal.returns
-returns c state holder other cdb data_out w differ before after =
-    (others-keep state holder other cdb data_out w differ before after).view

@@ -1,0 +1,38 @@
+use Rattle.std.proofs.Common.{get_or, ap, arith, length-take}
+use Rattle.sg_store.specs.Disk.{Disk}
+use Rattle.sg_target.specs.declared.extent.Extent.{Extent}
+use Rattle.sg_target.proofs.ExtentLemmas.{on_disk-at}
+use Rattle.sg_target.proofs.UnmapLemmas.{counted-next, disk-next, has_headroom}
+use Rattle.sg_target.proofs.provisioning.unmap_in_turn.Goals as goal
+
+pub unmap-requires-clause-range : goal.unmap-requires-clause-range
+unmap-requires-clause-range g c =
+    let same = ap (λ (d : Disk). d.capacity) c.loop-extent.invariant.disk in
+    let first : Extent = record { lba = 0; count = 0 } in
+    let here = on_disk-at _ c.args.extents.now c.loop-extent.extent-index first
+    c.loop-extent-test.true c.requires.on_disk in
+    omega (arith, same, here)
+
+pub unmap-requires-clause-headroom : goal.unmap-requires-clause-headroom
+unmap-requires-clause-headroom g c =
+    has_headroom _ _ c.loop-extent.extent-index _ _ _ _ c.requires.pool (omega arith)
+    (omega (arith, length-take c.loop-extent.extent-index c.args.extents.now))
+    c.loop-extent.invariant.few c.loop-extent.invariant.counted
+
+pub loop-extent-preserved : goal.loop-extent-preserved
+loop-extent-preserved g c =
+    let inv = c.loop-extent.invariant in
+    let extents = c.args.extents.now in
+    let i = c.loop-extent.extent-index in
+    let here = c.loop-extent-test.true in
+    let e = c.unmap.ensures in
+    let first : Extent = record { lba = 0; count = 0 } in
+    let on_disk = on_disk-at _ extents i first here c.requires.on_disk in
+    let within = g.met.S.Store.price_within (g.S.Store.disk c.loop-extent.store).contents
+    (get_or extents i first).lba (get_or extents i first).count in
+    record {
+      disk = disk-next extents i first here _ _ _ inv.disk e.disk;
+      counted = counted-next extents i first here _ _ _ _ _ _ inv.disk inv.counted e.costs.cost
+          e.costs.price e.costs.least;
+      few = omega (arith, e.costs.cost.visits, e.costs.price, within, on_disk);
+    }

@@ -1,0 +1,15 @@
+use Rattle.std.proofs.Common.{rules, ap, ◌∙◌, arith}
+use Rattle.sg_wire.proofs.CutLemmas.{filled, filled-length}
+use Rattle.sg_target.specs.Target.{TargetFields}
+use Rattle.sg_target.proofs.StatusLemmas.{status-carried}
+use Rattle.sg_target.proofs.target.Target.return_lba_status.Goals as goal
+
+pub returns-clause-reply : goal.returns-clause-reply
+returns-clause-reply g c =
+    let begun = c.new-cut.ensures in
+    let done = c.status.ensures.data in
+    status-carried _ _ _ _ _ _ _ _ _ _ _ (omega arith) c.min-limit.ensures
+    (c.restart_counts.ensures.disk ∙ ap (λ (t : TargetFields). t.state.disk) c.self.view_is)
+    (c.written.ensures ∙ filled-length _ _ _ _ _ _ begun done)
+    (filled _ _ _ _ _ _ _ begun done (λ e. search rules))
+    c.good.ensures

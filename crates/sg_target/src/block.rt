@@ -1,0 +1,229 @@
+// READ, WRITE and READ CAPACITY (SBC-3, 5). SYNCHRONIZE CACHE has its blocks checked and nothing to
+// do, as there is no cache.
+ghost use Rattle.std.specs.Prelude.{◌≡◌, ◌≤◌, ◌+◌, ◌∷◌, [], length, Some, None, OnOk, OnErr};
+ghost use Rattle.std.specs.Prelude.{IfOk, IfErr};
+ghost use Rattle.sg_pages.specs.ProvisioningPages.{maximum_transfer_length};
+ghost use Rattle.sg_target.specs.BlockCommands.{bytes_of, reading, writing};
+ghost use Rattle.sg_target.specs.CapacityData.{capacity_10, capacity_16};
+ghost use Rattle.sg_target.specs.Checks.{requested, unsupported_value};
+ghost use Rattle.sg_target.specs.Demands.{read, too_long, write};
+ghost use Rattle.sg_target.specs.Effect.{range};
+ghost use Rattle.sg_target.specs.Ranges.{IsCharged, cost_bounds};
+ghost use Rattle.sg_target.specs.Reply.{Carries, executed_reply, refused_reply};
+ghost use Rattle.sg_target.specs.Step.{executed, executed_or_refused, sense_format};
+
+use crate::data_out::needed_data_out;
+use crate::extent::Extent;
+use crate::operation::Operation;
+use crate::refusal::{Reason, Refusal};
+use crate::reply::Reply;
+use crate::target::{BUFFER_LENGTH, Target};
+use byteorder::{BigEndian, ByteOrder};
+use sg_pages::MAXIMUM_TRANSFER_LENGTH;
+use sg_store::{BLOCK_LENGTH, Space, Store};
+use sg_wire::Initiator;
+use std::marker::Model;
+
+// Where TRANSFER LENGTH begins in a CDB of ten bytes, and in one of sixteen.
+pub(crate) const TRANSFER_LENGTH_10: u16 = 7;
+
+pub(crate) const TRANSFER_LENGTH_16: u16 = 10;
+
+// Refuses more blocks than the disk moves at once; TRANSFER LENGTH begins at the byte.
+fn check_transfer_length(extent: Extent, byte: u16) -> Result<(), Refusal>
+    ensures refused { IfErr result (λ refusal.
+        unsupported_value (too_long extent.count byte) ≡ Some refusal) }
+    ensures passed { IfOk result (λ _. too_long extent.count byte ≡ None) }
+    ensures at_most_256 { IfOk result (λ _. extent.count ≤ maximum_transfer_length) }
+{
+    if extent.count > MAXIMUM_TRANSFER_LENGTH {
+        return Err(Refusal::Check(Reason::InvalidFieldInCdb { byte }));
+    }
+    Ok(())
+}
+
+// ---- READ
+
+/// Blocks that a READ returns: no more than the disk moves at once.
+#[derive(Drop)]
+pub struct BlocksIn {
+    pub(crate) extent: Extent,
+}
+
+impl Model for BlocksIn {
+    ghost use Rattle.std.specs.Prelude.{◌≤◌};
+    ghost use Rattle.sg_pages.specs.ProvisioningPages.{maximum_transfer_length};
+    ghost use Rattle.sg_target.specs.declared.extent.Extent.{Extent};
+
+    ghost Value = { Extent };
+
+    ghost view = { λ b. b.extent };
+
+    ghost invariant = { λ b. b.extent.count ≤ maximum_transfer_length };
+}
+
+/// READ(6), whose layout names at most 256 blocks.
+pub(crate) fn check_read_6(extent: Extent) -> Operation<'static>
+    requires { extent.count ≤ maximum_transfer_length }
+    ensures { result ≡ Operation.Read extent }
+{
+    Operation::Read(BlocksIn { extent })
+}
+
+/// READ (10) and (16); TRANSFER LENGTH begins at the byte.
+pub(crate) fn check_read(extent: Extent, byte: u16) -> Result<Operation<'static>, Refusal>
+    ensures { result ≡ requested (read extent (too_long extent.count byte)) [] }
+{
+    check_transfer_length(extent, byte)?;
+    Ok(Operation::Read(BlocksIn { extent }))
+}
+
+impl<S: Store> Target<S> {
+    /// Returns the bytes of blocks.
+    pub(crate) fn read(&mut self, blocks: &BlocksIn, buf: &mut [u8]) -> Reply
+        requires on_disk { blocks.now.lba + blocks.now.count ≤ self.old.state.disk.capacity }
+        requires room { BUFFER_LENGTH ≤ length buf.old }
+        ensures reply { let done = executed (reading self.old.state blocks.now) in
+            Carries done.answer result buf.old buf.new }
+        ensures state { self.new.state ≡ self.old.state }
+        ensures charge { IsCharged (cost_bounds S.price S.least) self.old.state.disk.pool
+            (range self.old.state.disk.contents blocks.now ∷ [])
+            self.old.meter self.new.meter result }
+    {
+        let extent = blocks.extent;
+        let len = extent.byte_length() as usize;
+        self.store.restart_counts();
+        self.store.read(extent.lba, extent.count, &mut buf[..len]);
+        Reply::good(len, self.store.counts())
+    }
+}
+
+// ---- WRITE
+
+/// Blocks that a WRITE replaces, no more than the disk moves at once, and their bytes where they lie
+/// in data-out.
+#[derive(Drop)]
+pub struct BlocksOut<'a> {
+    pub(crate) extent: Extent,
+    bytes: &'a [u8],
+}
+
+impl<'a> Model for BlocksOut<'a> {
+    ghost use Rattle.std.specs.Prelude.{◌≡◌, ◌≤◌, length};
+    ghost use Rattle.sg_pages.specs.ProvisioningPages.{maximum_transfer_length};
+    ghost use Rattle.sg_target.specs.BlockCommands.{BlocksOutFields, bytes_of};
+
+    ghost Value = { BlocksOutFields };
+
+    ghost view = { λ b. record { extent = b.extent; bytes = b.bytes.now } };
+
+    ghost invariant = { λ b. (b.extent.count ≤ maximum_transfer_length)
+        × (length b.bytes.now ≡ bytes_of b.extent) };
+}
+
+/// WRITE(6), whose layout names at most 256 blocks.
+pub(crate) fn check_write_6(extent: Extent, data_out: &[u8]) -> Result<Operation<'_>, Refusal>
+    requires { extent.count ≤ maximum_transfer_length }
+    ensures { result ≡ requested (write extent None data_out.now) data_out.now }
+{
+    let bytes = needed_data_out(data_out, extent.byte_length() as usize)?;
+    Ok(Operation::Write(BlocksOut { extent, bytes }))
+}
+
+/// WRITE (10) and (16); TRANSFER LENGTH begins at the byte.
+pub(crate) fn check_write(
+    extent: Extent,
+    byte: u16,
+    data_out: &[u8],
+) -> Result<Operation<'_>, Refusal>
+    ensures { result
+        ≡ requested (write extent (too_long extent.count byte) data_out.now) data_out.now }
+{
+    check_transfer_length(extent, byte)?;
+    check_write_6(extent, data_out)
+}
+
+impl<S: Store> Target<S> {
+    /// Replaces the bytes of blocks, unless there is no space for them.
+    #[tactic(auto, unfolding(crate::specs::Checks::no_space))]
+    pub(crate) fn write(
+        &mut self,
+        initiator: Initiator,
+        blocks: &BlocksOut<'_>,
+        buf: &[u8],
+    ) -> Reply
+        requires on_disk { blocks.now.extent.lba + blocks.now.extent.count
+            ≤ self.old.state.disk.capacity }
+        ensures reply { let done = executed_or_refused self.old.state initiator
+            (writing self.old.state blocks.now) in
+            Carries done.answer result buf.now buf.now }
+        ensures state { self.new.state ≡ (executed_or_refused self.old.state initiator
+            (writing self.old.state blocks.now)).state }
+        ensures charge { IsCharged (cost_bounds S.price S.least) self.old.state.disk.pool
+            (range self.old.state.disk.contents blocks.now.extent ∷ [])
+            self.old.meter self.new.meter result }
+    {
+        let extent = blocks.extent;
+        self.store.restart_counts();
+        let written = self.store.write(extent.lba, extent.count, blocks.bytes);
+        self.reply_to_write(initiator, written)
+    }
+
+    // The reply to a command that writes blocks, or for which there is no space.
+    pub(crate) fn reply_to_write(
+        &mut self,
+        initiator: Initiator,
+        written: Result<(), Space>,
+    ) -> Reply
+        ensures done { OnOk written (result ≡ executed_reply 0 self.old.meter.counts) }
+        ensures refused { OnErr written (result ≡ refused_reply (sense_format self.old.state)
+            (Refusal.Check Reason.SpaceAllocationFailed) self.old.meter.counts) }
+        ensures state { self.new ≡ self.old }
+    {
+        let counts = self.store.counts();
+        match written {
+            Ok(()) => Reply::good(0, counts),
+            Err(Space) => self.refuse(
+                initiator,
+                Refusal::Check(Reason::SpaceAllocationFailed),
+                counts,
+            ),
+        }
+    }
+}
+
+// ---- READ CAPACITY
+
+/// The length of READ CAPACITY(10) parameter data, in bytes.
+pub(crate) const CAPACITY_10_LENGTH: usize = 8;
+
+/// The length of READ CAPACITY(16) parameter data, in bytes.
+pub(crate) const CAPACITY_16_LENGTH: usize = 32;
+
+// Logical block provisioning is enabled, and blocks that are not mapped read as zeros.
+const LBPME_LBPRZ: u8 = 0xC0;
+
+/// READ CAPACITY(10) parameter data (SBC-3, 5.15.2).
+#[tactic(auto, unfolding(crate::specs::CapacityData::capacity_10))]
+pub(crate) fn capacity_10(capacity: u64) -> [u8; CAPACITY_10_LENGTH]
+    requires { 1 ≤ capacity }
+    ensures { result ≡ capacity_10 capacity }
+{
+    let mut bytes = [0; CAPACITY_10_LENGTH];
+    BigEndian::write_u32(&mut bytes, (capacity - 1).min(0xFFFF_FFFF) as u32);
+    BigEndian::write_u32(&mut bytes[4..], BLOCK_LENGTH as u32);
+    bytes
+}
+
+/// READ CAPACITY(16) parameter data (SBC-3, 5.16.2).
+#[tactic(auto, unfolding(crate::specs::CapacityData::capacity_16))]
+pub(crate) fn capacity_16(capacity: u64) -> [u8; CAPACITY_16_LENGTH]
+    requires { 1 ≤ capacity }
+    ensures { result ≡ capacity_16 capacity }
+{
+    let mut bytes = [0; CAPACITY_16_LENGTH];
+    BigEndian::write_u64(&mut bytes, capacity - 1);
+    BigEndian::write_u32(&mut bytes[8..], BLOCK_LENGTH as u32);
+    bytes[14] = LBPME_LBPRZ;
+    bytes
+}

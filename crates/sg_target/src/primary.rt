@@ -1,0 +1,110 @@
+// REQUEST SENSE and INQUIRY (SPC-4, 6). TEST UNIT READY has nothing to check or to do.
+ghost use Rattle.std.specs.Prelude.{◌≡◌, ◌≤◌, [], length};
+ghost use Rattle.sg_wire.specs.Cut.{Puts};
+ghost use Rattle.sg_wire.specs.CutAnswer.{first_bytes};
+ghost use Rattle.sg_target.specs.Checks.{requested};
+ghost use Rattle.sg_target.specs.Demands.{inquiry};
+ghost use Rattle.sg_target.specs.Effect.{without_attention};
+ghost use Rattle.sg_target.specs.PrimaryCommands.{format_of, inquiry_data, inquiry_page};
+ghost use Rattle.sg_target.specs.PrimaryCommands.{returning_sense};
+ghost use Rattle.sg_target.specs.Reply.{ReturnsData};
+
+use crate::data_in::DataIn;
+use crate::operation::Operation;
+use crate::refusal::{Reason, Refusal};
+use crate::reply::{Reply, format_of};
+use crate::target::{BUFFER_LENGTH, Target};
+use sg_pages::{Identity, VpdPage, write_standard_inquiry, write_vpd_page};
+use sg_store::Store;
+use sg_wire::{Cut, Format, Initiator};
+
+// ---- REQUEST SENSE
+
+pub(crate) fn check_request_sense(desc: bool, allocation_length: u8) -> Operation<'static>
+    ensures { result ≡ Operation.ReturnSense (format_of desc) allocation_length }
+{
+    Operation::ReturnSense {
+        format: format_of(desc),
+        allocation_length,
+    }
+}
+
+impl<S: Store> Target<S> {
+    /// Returns the oldest unit attention as sense data, and clears it.
+    pub(crate) fn return_sense(
+        &mut self,
+        initiator: Initiator,
+        format: Format,
+        allocation_length: u8,
+        buf: &mut [u8],
+    ) -> Reply
+        requires { BUFFER_LENGTH ≤ length buf.old }
+        ensures reply { let done = returning_sense self.old.state initiator format allocation_length in
+            ReturnsData (first_bytes allocation_length done.data_in) result buf.old buf.new }
+        ensures state { self.new.state ≡ without_attention self.old.state initiator }
+        ensures meter { self.new.meter ≡ self.old.meter }
+    {
+        let condition = self.attentions.oldest(initiator);
+        self.attentions.clear_oldest(initiator);
+        let sense = DataIn::Sense { condition, format };
+        self.return_data(sense, usize::from(allocation_length), buf)
+    }
+}
+
+// ---- INQUIRY
+
+// Where PAGE CODE is in the CDB.
+const PAGE_CODE_BYTE: u16 = 2;
+
+/// The data that INQUIRY returns (SPC-4, 6.6).
+#[derive(Clone, Copy)]
+pub enum InquiryPage {
+    /// The standard INQUIRY data.
+    Standard,
+    /// A page of vital product data.
+    VitalProductData(VpdPage),
+}
+
+impl InquiryPage {
+    // The page that EVPD and PAGE CODE name, if the disk has it.
+    fn named(evpd: bool, page_code: u8) -> Option<InquiryPage>
+        ensures { result ≡ inquiry_page evpd page_code }
+    {
+        if evpd {
+            let page = VpdPage::with_code(page_code)?;
+            return Some(InquiryPage::VitalProductData(page));
+        }
+        match page_code {
+            0 => Some(InquiryPage::Standard),
+            _ => None,
+        }
+    }
+
+    /// Writes the data, whole.
+    pub(crate) fn write(self, identity: &Identity, cut: &mut Cut)
+        ensures { Puts cut.old cut.new (inquiry_data identity.now self) }
+    {
+        match self {
+            InquiryPage::Standard => write_standard_inquiry(identity, cut),
+            InquiryPage::VitalProductData(page) => write_vpd_page(page, identity, cut),
+        }
+    }
+}
+
+pub(crate) fn check_inquiry(
+    evpd: bool,
+    page_code: u8,
+    allocation_length: u16,
+) -> Result<Operation<'static>, Refusal>
+    ensures { result ≡ requested (inquiry evpd page_code allocation_length) [] }
+{
+    match InquiryPage::named(evpd, page_code) {
+        Some(page) => Ok(Operation::ReturnInquiry {
+            page,
+            allocation_length,
+        }),
+        None => Err(Refusal::Check(Reason::InvalidFieldInCdb {
+            byte: PAGE_CODE_BYTE,
+        })),
+    }
+}

@@ -1,0 +1,335 @@
+// UNMAP, WRITE SAME and GET LBA STATUS: logical block provisioning (SBC-3, 4.7 and 5).
+ghost use Rattle.std.specs.Prelude.{◌≡◌, ◌+◌, ◌*◌, ◌-◌, ◌≤◌, ◌<◌, ◌∷◌, ◌==◌, [], length, true};
+ghost use Rattle.std.specs.Prelude.{Some, None, Err, Ok, IfOk, IfErr, IfNone, if◌then◌else◌};
+ghost use Rattle.std.specs.List.{list_all};
+ghost use Rattle.std.specs.FinMap.{len};
+ghost use Rattle.sg_pages.specs.ProvisioningPages.{maximum_unmap_descriptors};
+ghost use Rattle.sg_store.specs.Meter.{no_counts};
+ghost use Rattle.sg_target.specs.Checks.{out_of_range, requested, unsupported_value};
+ghost use Rattle.sg_target.specs.Demands.{bad_count, unmap as demands_of_unmap, write_same};
+ghost use Rattle.sg_target.specs.Effect.{range};
+ghost use Rattle.sg_target.specs.Extents.{AreOnDisk};
+ghost use Rattle.sg_target.specs.ProvisioningCommands.{descriptor, descriptor_count, filling};
+ghost use Rattle.sg_target.specs.ProvisioningCommands.{ranges_in_turn, reporting_status};
+ghost use Rattle.sg_target.specs.ProvisioningCommands.{unmap_descriptor_length, unmap_header_length};
+ghost use Rattle.sg_target.specs.ProvisioningCommands.{unmap_list, unmapped_in_turn, unmapping};
+ghost use Rattle.sg_target.specs.ProvisioningCommands.{unmaps};
+ghost use Rattle.sg_target.specs.Ranges.{IsCharged, IsCounted, cost_bounds};
+ghost use Rattle.sg_target.specs.Reply.{Carries};
+ghost use Rattle.sg_target.specs.State.{IsWithinLimits};
+ghost use Rattle.sg_target.specs.Step.{executed, executed_or_refused, good};
+
+use crate::data_out::needed_data_out;
+use crate::extent::{Extent, first_past_capacity};
+use crate::extent_list::ExtentList;
+use crate::operation::Operation;
+use crate::refusal::{Reason, Refusal};
+use crate::reply::Reply;
+use crate::target::{BUFFER_LENGTH, Target};
+use byteorder::{BigEndian, ByteOrder};
+use sg_pages::{MAXIMUM_UNMAP_DESCRIPTORS, MAXIMUM_WRITE_SAME_LENGTH};
+use sg_store::{BLOCK_LENGTH, MAX_CAPACITY, MAX_POOL, Store};
+use sg_wire::{Cut, Initiator};
+use std::marker::Model;
+
+// Where ANCHOR is in the CDBs of UNMAP and WRITE SAME.
+const ANCHOR_BYTE: u16 = 1;
+
+// ---- The parameter list of UNMAP (SBC-3, 5.28.2)
+
+// In bytes: its header, and a descriptor.
+const HEADER_LENGTH: usize = 8;
+
+const DESCRIPTOR_LENGTH: usize = 16;
+
+// Where UNMAP BLOCK DESCRIPTOR DATA LENGTH begins.
+const DESCRIPTOR_DATA_LENGTH_BYTE: u16 = 2;
+
+/// The extents that a parameter list names. They are read where they lie, once as they are checked and
+/// once as they are unmapped, so that what is left to do of other commands stays small.
+#[derive(Drop)]
+pub struct ListedExtents<'a> {
+    list: &'a [u8],
+    count: usize,
+    ghost at_most: { count ≤ maximum_unmap_descriptors },
+    ghost whole: { unmap_descriptor_length * count ≤ length list.now - unmap_header_length },
+}
+
+impl<'a> Model for ListedExtents<'a> {
+    ghost use Rattle.std.specs.Prelude.{List};
+    ghost use Rattle.sg_target.specs.ProvisioningCommands.{first_descriptors};
+    ghost use Rattle.sg_target.specs.declared.extent.Extent.{Extent};
+
+    ghost Value = { List Extent };
+
+    ghost view = { λ e. first_descriptors e.list.now e.count };
+}
+
+impl<'a> ListedExtents<'a> {
+    /// Why the extents can't all be reached, on a disk of `capacity` blocks.
+    #[inline(never)]
+    pub(crate) fn out_of_range(&self, capacity: u64) -> Option<Refusal>
+        requires { capacity ≤ MAX_CAPACITY }
+        ensures value { result ≡ out_of_range capacity self.now }
+        ensures on_disk { IfNone result (AreOnDisk capacity self.now) }
+    {
+        first_past_capacity(capacity, self.read().as_slice())
+    }
+
+    // Reads each descriptor.
+    fn read(&self) -> ExtentList
+        ensures extents { result ≡ self.now }
+        ensures at_most { length result ≤ maximum_unmap_descriptors }
+    {
+        let mut extents = ExtentList::new();
+        for index in 0..self.count {
+            extents.push(descriptor(self.list, index));
+        }
+        extents
+    }
+}
+
+// The extents that a parameter list names.
+#[tactic(auto, unfolding(crate::specs::ProvisioningCommands::unmap_list))]
+fn extents_in(list: &[u8]) -> Result<ListedExtents<'_>, Refusal>
+    ensures refused { IfErr result (λ refusal. unmap_list list.now ≡ Err refusal) }
+    ensures passed { IfOk result (λ extents. unmap_list list.now ≡ Ok extents) }
+{
+    if list.is_empty() {
+        return Ok(ListedExtents { list, count: 0 });
+    }
+    if list.len() < HEADER_LENGTH {
+        return Err(Refusal::Check(Reason::ParameterListLengthError));
+    }
+    let count = descriptor_count(list);
+    if count > MAXIMUM_UNMAP_DESCRIPTORS as usize {
+        return Err(Refusal::Check(Reason::InvalidFieldInParameterList {
+            byte: DESCRIPTOR_DATA_LENGTH_BYTE,
+        }));
+    }
+    Ok(ListedExtents { list, count })
+}
+
+#[tactic(auto, unfolding(crate::specs::ProvisioningCommands::descriptor_count))]
+fn descriptor_count(list: &[u8]) -> usize
+    requires { HEADER_LENGTH ≤ length list.now }
+    ensures value { result ≡ descriptor_count list.now }
+    ensures whole { HEADER_LENGTH + DESCRIPTOR_LENGTH * result ≤ length list.now }
+{
+    let counted = usize::from(BigEndian::read_u16(&list[2..]));
+    counted.min(list.len() - HEADER_LENGTH) / DESCRIPTOR_LENGTH
+}
+
+#[tactic(auto, unfolding(crate::specs::ProvisioningCommands::descriptor))]
+fn descriptor(list: &[u8], index: usize) -> Extent
+    requires { HEADER_LENGTH + DESCRIPTOR_LENGTH * (index + 1) ≤ length list.now }
+    ensures { result ≡ descriptor list.now index }
+{
+    let byte = HEADER_LENGTH + DESCRIPTOR_LENGTH * index;
+    Extent {
+        lba: BigEndian::read_u64(&list[byte..]),
+        count: BigEndian::read_u32(&list[byte + 8..]),
+    }
+}
+
+// ---- UNMAP
+
+pub(crate) fn check_unmap(
+    anchor: bool,
+    list_length: u16,
+    data_out: &[u8],
+) -> Result<Operation<'_>, Refusal>
+    ensures { result ≡ requested (demands_of_unmap anchor list_length data_out.now) data_out.now }
+{
+    if anchor {
+        return Err(Refusal::Check(Reason::InvalidFieldInCdb { byte: ANCHOR_BYTE }));
+    }
+    let list = needed_data_out(data_out, usize::from(list_length))?;
+    Ok(Operation::Unmap(extents_in(list)?))
+}
+
+impl<S: Store> Target<S> {
+    /// Unmaps the extents of a parameter list. Room for their table would else be made for every
+    /// command.
+    #[inline(never)]
+    pub(crate) fn unmap_listed(&mut self, listed: &ListedExtents<'_>, buf: &[u8]) -> Reply
+        requires on_disk { AreOnDisk self.old.state.disk.capacity listed.now }
+        requires limits { IsWithinLimits self.old.state }
+        ensures reply { Carries (good []) result buf.now buf.now }
+        ensures state { self.new.state ≡ (unmapping self.old.state listed.now).after }
+        ensures mapped { len self.new.state.disk.contents ≤ self.new.state.disk.pool }
+        ensures charge { IsCharged (cost_bounds S.price S.least) self.old.state.disk.pool
+            (unmapping self.old.state listed.now).ranges self.old.meter self.new.meter result }
+    {
+        let extents = listed.read();
+        self.unmap(extents.as_slice(), buf)
+    }
+
+    /// Unmaps extents in turn.
+    pub(crate) fn unmap(&mut self, extents: &[Extent], buf: &[u8]) -> Reply
+        requires on_disk { AreOnDisk self.old.state.disk.capacity extents.now }
+        requires at_most { length extents.now ≤ maximum_unmap_descriptors }
+        requires limits { IsWithinLimits self.old.state }
+        ensures reply { Carries (good []) result buf.now buf.now }
+        ensures state { self.new.state ≡ (unmapping self.old.state extents.now).after }
+        ensures mapped { len self.new.state.disk.contents ≤ self.new.state.disk.pool }
+        ensures charge { IsCharged (cost_bounds S.price S.least) self.old.state.disk.pool
+            (unmapping self.old.state extents.now).ranges self.old.meter self.new.meter result }
+    {
+        if extents.is_empty() {
+            return Reply::without_blocks(0);
+        }
+        self.store.restart_counts();
+        unmap_in_turn(&mut self.store, extents);
+        // Its contract says that a store maps no more addresses than its pool has blocks.
+        let _ = self.store.mapped();
+        Reply::good(0, self.store.counts())
+    }
+}
+
+// Unmaps extents of a store that has counted nothing.
+fn unmap_in_turn<S: Store>(store: &mut S, extents: &[Extent])
+    requires on_disk { AreOnDisk (S.disk store.old).capacity extents.now }
+    requires at_most { length extents.now ≤ maximum_unmap_descriptors }
+    requires capacity { (S.disk store.old).capacity ≤ MAX_CAPACITY }
+    requires pool { (S.disk store.old).pool ≤ MAX_POOL }
+    requires nothing_counted { (S.meter store.old).counts ≡ no_counts }
+    ensures disk { S.disk store.new ≡ record (S.disk store.old)
+        { contents = unmapped_in_turn (S.disk store.old).contents extents.now } }
+    ensures counted { IsCounted (cost_bounds S.price S.least) (S.disk store.old).pool
+        (ranges_in_turn (S.disk store.old).contents extents.now)
+        (S.meter store.old) (S.meter store.new) }
+{
+    for extent in extents {
+        store.unmap(extent.lba, extent.count);
+    }
+}
+
+// ---- WRITE SAME
+
+// Where NUMBER OF LOGICAL BLOCKS begins in a CDB of ten bytes, and in one of sixteen.
+pub(crate) const NUMBER_OF_BLOCKS_10: u16 = 7;
+
+pub(crate) const NUMBER_OF_BLOCKS_16: u16 = 10;
+
+/// A logical block, where it lies in data-out.
+#[derive(Drop)]
+pub struct BlockOut<'a> {
+    bytes: &'a [u8],
+}
+
+impl<'a> Model for BlockOut<'a> {
+    ghost use Rattle.std.specs.Prelude.{◌≡◌, List, ℕ, length};
+    ghost use Rattle.sg_target.specs.CapacityData.{block_length};
+
+    ghost Value = { List ℕ };
+
+    ghost view = { λ b. b.bytes.now };
+
+    ghost invariant = { λ b. length b.bytes.now ≡ block_length };
+}
+
+/// WRITE SAME (10) and (16); NUMBER OF LOGICAL BLOCKS begins at the byte.
+pub(crate) fn check_write_same(
+    anchor: bool,
+    unmap: bool,
+    extent: Extent,
+    byte: u16,
+    data_out: &[u8],
+) -> Result<Operation<'_>, Refusal>
+    ensures { result ≡ requested (write_same anchor unmap extent byte data_out.now) data_out.now }
+{
+    if anchor {
+        return Err(Refusal::Check(Reason::InvalidFieldInCdb { byte: ANCHOR_BYTE }));
+    }
+    check_write_same_length(extent, byte)?;
+    let bytes = needed_data_out(data_out, BLOCK_LENGTH)?;
+    if unmaps(unmap, bytes) {
+        Ok(Operation::UnmapExtent(extent))
+    } else {
+        let block = BlockOut { bytes };
+        Ok(Operation::Fill { extent, block })
+    }
+}
+
+// Refuses no block, and more blocks than WRITE SAME writes.
+fn check_write_same_length(extent: Extent, byte: u16) -> Result<(), Refusal>
+    ensures refused { IfErr result (λ refusal.
+        unsupported_value (bad_count extent.count byte) ≡ Some refusal) }
+    ensures passed { IfOk result (λ _. bad_count extent.count byte ≡ None) }
+{
+    if !(1..=MAXIMUM_WRITE_SAME_LENGTH).contains(&extent.count) {
+        return Err(Refusal::Check(Reason::InvalidFieldInCdb { byte }));
+    }
+    Ok(())
+}
+
+// Whether WRITE SAME unmaps its blocks, which are read as zeros then.
+#[tactic(auto, unfolding(crate::specs::ProvisioningCommands::unmaps))]
+fn unmaps(unmap: bool, block: &[u8]) -> bool
+    ensures { result ≡ unmaps unmap block.now }
+{
+    unmap && is_zero(block)
+}
+
+fn is_zero(block: &[u8]) -> bool
+    ensures { result ≡ list_all (λ byte. byte == 0) block.now }
+{
+    block.iter().all(|byte| *byte == 0)
+}
+
+impl<S: Store> Target<S> {
+    /// Replaces each of its blocks by one block, unless there is no space for them.
+    #[tactic(auto, unfolding(crate::specs::Checks::no_space))]
+    pub(crate) fn fill(
+        &mut self,
+        initiator: Initiator,
+        extent: Extent,
+        block: &BlockOut<'_>,
+        buf: &[u8],
+    ) -> Reply
+        requires on_disk { extent.lba + extent.count ≤ self.old.state.disk.capacity }
+        ensures reply { let done = executed_or_refused self.old.state initiator
+            (filling self.old.state extent block.now) in
+            Carries done.answer result buf.now buf.now }
+        ensures state { self.new.state ≡ (executed_or_refused self.old.state initiator
+            (filling self.old.state extent block.now)).state }
+        ensures charge { IsCharged (cost_bounds S.price S.least) self.old.state.disk.pool
+            (range self.old.state.disk.contents extent ∷ []) self.old.meter self.new.meter result }
+    {
+        let mut bytes = [0; BLOCK_LENGTH];
+        bytes.copy_from_slice(block.bytes);
+        self.store.restart_counts();
+        let filled = self.store.fill(extent.lba, extent.count, &bytes);
+        self.reply_to_write(initiator, filled)
+    }
+}
+
+// ---- GET LBA STATUS
+
+impl<S: Store> Target<S> {
+    /// Returns which blocks are mapped, from an address on. A store may gather what it reports: room for
+    /// that would else be made for every command.
+    #[inline(never)]
+    pub(crate) fn return_lba_status(
+        &mut self,
+        start: u64,
+        allocation_length: u32,
+        buf: &mut [u8],
+    ) -> Reply
+        requires on_disk { start + 1 ≤ self.old.state.disk.capacity }
+        requires room { BUFFER_LENGTH ≤ length buf.old }
+        ensures reply { let done = executed (reporting_status self.old.state start allocation_length) in
+            Carries done.answer result buf.old buf.new }
+        ensures state { self.new.state ≡ self.old.state }
+        ensures charge { IsCharged (cost_bounds S.price S.least) self.old.state.disk.pool
+            (reporting_status self.old.state start allocation_length).ranges
+            self.old.meter self.new.meter result }
+    {
+        let limit = BUFFER_LENGTH.min(allocation_length as usize);
+        self.store.restart_counts();
+        let mut cut = Cut::new(buf, limit);
+        self.store.status(start, &mut cut);
+        Reply::good(cut.written(), self.store.counts())
+    }
+}

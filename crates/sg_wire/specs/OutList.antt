@@ -1,0 +1,39 @@
+-- The parameter list of PERSISTENT RESERVE OUT (SPC-4, 6.16.3).
+use Rattle.std.specs.Prelude.{ℕ, ◌+◌, List, ◌∷◌, ◌++◌, drop, replicate, slice_index}
+use Rattle.std.specs.Prelude.{if◌then◌else◌}
+use Rattle.byteorder.specs.Endian.{big_bytes, big_number}
+use Rattle.sg_wire.specs.Layout.{has_bit}
+use Rattle.sg_wire.specs.declared.out_list.OutList.{OutList}
+
+-- Its length in bytes.
+abbrev pub list_length : ℕ
+list_length = 24
+
+-- Where its fields are: the first bytes of the keys, and the byte of the flags.
+abbrev pub service_action_key_at : ℕ
+service_action_key_at = 8
+
+abbrev pub flags_at : ℕ
+flags_at = 20
+
+-- The list that bytes contain.
+abbrev pub out_list : List ℕ → OutList
+out_list bytes = record {
+  reservation_key = big_number 8 bytes;
+  service_action_key = big_number 8 (drop service_action_key_at bytes);
+  spec_i_pt = has_bit (slice_index bytes flags_at) 0x08;
+  all_tg_pt = has_bit (slice_index bytes flags_at) 0x04;
+  aptpl = has_bit (slice_index bytes flags_at) 0x01;
+}
+
+-- SPEC_I_PT, ALL_TG_PT and APTPL in one byte.
+abbrev pub flag_byte : OutList → ℕ
+flag_byte list =
+    (if list.spec_i_pt then 0x08 else 0) + (if list.all_tg_pt then 0x04 else 0)
+    + (if list.aptpl then 0x01 else 0)
+
+-- The bytes of a list: the keys, four bytes of zero, the flags, and three bytes of zero.
+abbrev pub out_list_bytes : OutList → List ℕ
+out_list_bytes list =
+    big_bytes 8 list.reservation_key ++ big_bytes 8 list.service_action_key
+    ++ replicate 4 0 ++ flag_byte list ∷ replicate 3 0

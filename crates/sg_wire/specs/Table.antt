@@ -1,0 +1,82 @@
+-- The code's table of commands: each row is that of the command's layout, and each CDB gets the row of
+-- its command.
+use Rattle.std.specs.Prelude.{ℕ, ◌≡◌, ◌≤◌, List, length, slice_index, Bool, true, false, Option, Some, None}
+use Rattle.std.specs.Prelude.{Err, bit_and, nat_lt, if◌then◌else◌}
+use Rattle.sg_wire.specs.Layout.{Layout, layout, masks, command_of}
+use Rattle.sg_wire.specs.declared.command.CdbFault.TheVariants.{Opcode, Short, Field as BadField}
+use Rattle.sg_wire.specs.declared.command.Command.{Command}
+use Rattle.sg_wire.specs.declared.command.Command.TheVariants as command
+use Rattle.sg_wire.specs.declared.command.in_action.InAction.TheVariants.{ReadKeys}
+use Rattle.sg_wire.specs.declared.command.out_action.OutAction.TheVariants.{Register}
+use Rattle.sg_wire.specs.declared.command.table.Row.{Row}
+use Rattle.sg_wire.specs.declared.command.Class.{Class}
+use Rattle.sg_wire.specs.declared.command.Class.TheVariants.{Always}
+use Rattle.sg_wire.specs.declared.command.table.Found.{Found}
+use Rattle.sg_wire.specs.declared.command.table.Found.TheVariants.{Row as FoundRow, NoServiceAction, NoOpcode}
+use Rattle.sg_wire.specs.declared.command.table.Name.{Name}
+use Rattle.sg_wire.specs.declared.command.table.Name.TheVariants as name
+
+-- A command of each name. Only the places of its fields matter here, not their values.
+abbrev pub command_named : Name → Command
+command_named name.TestUnitReady = command.TestUnitReady
+command_named name.RequestSense = command.RequestSense false 0
+command_named name.Inquiry = command.Inquiry false 0 0
+command_named name.ModeSelect6 = command.ModeSelect6 false false 0
+command_named name.ModeSelect10 = command.ModeSelect10 false false 0
+command_named name.ModeSense6 = command.ModeSense6 false 0 0 0 0
+command_named name.ModeSense10 = command.ModeSense10 false false 0 0 0 0
+command_named name.PersistentReserveIn = command.PersistentReserveIn ReadKeys 0
+command_named name.PersistentReserveOut = command.PersistentReserveOut Register 0 0
+command_named name.Read6 = command.Read6 (0, 1)
+command_named name.Read10 = command.Read10 0 0
+command_named name.Read16 = command.Read16 0 0
+command_named name.Write6 = command.Write6 (0, 1)
+command_named name.Write10 = command.Write10 0 0
+command_named name.Write16 = command.Write16 0 0
+command_named name.ReadCapacity10 = command.ReadCapacity10
+command_named name.ReadCapacity16 = command.ReadCapacity16 0
+command_named name.SynchronizeCache10 = command.SynchronizeCache10 0 0
+command_named name.WriteSame10 = command.WriteSame10 false false 0 0
+command_named name.WriteSame16 = command.WriteSame16 false false 0 0
+command_named name.Unmap = command.Unmap false 0 0
+command_named name.GetLbaStatus = command.GetLbaStatus 0 0
+
+-- The layout of each name.
+abbrev pub layout_of : Name → Layout
+layout_of named = layout (command_named named)
+
+-- A row of the code has what the command's layout says.
+abbrev pub IsRow : Row → Type 0
+IsRow row =
+    let l = layout_of row.name in
+    (row.opcode ≡ l.opcode) × (row.class ≡ l.class) × (row.is_blocked ≡ l.blocked_by_attention)
+    × (row.masks.now ≡ masks l)
+
+-- The CDB has the service action of a command that shares its operation code with others.
+abbrev pub HasAction : List ℕ → Name → Type 0
+HasAction cdb name.ReadCapacity16 = bit_and (slice_index cdb 1) 0x1F ≡ 0x10
+HasAction cdb name.GetLbaStatus = bit_and (slice_index cdb 1) 0x1F ≡ 0x12
+HasAction cdb named = Unit {0}
+
+-- The CDB has the operation code and the service action of a command.
+abbrev pub IsNamed : List ℕ → Name → Type 0
+IsNamed cdb named =
+    (1 ≤ length cdb) × (slice_index cdb 0 ≡ (layout_of named).opcode) × HasAction cdb named
+
+-- The reservation class, and whether a pending unit attention blocks the CDB, as the table has them.
+abbrev pub class_found : Found → Option Class
+class_found (FoundRow row) = Some row.now.class
+class_found NoServiceAction = Some Always
+class_found NoOpcode = None
+
+abbrev pub blocked_found : Found → Bool
+blocked_found (FoundRow row) = row.now.is_blocked
+blocked_found NoServiceAction = true
+blocked_found NoOpcode = true
+
+-- What the table has for a CDB is the row of its command, or says why the CDB is no command.
+abbrev pub IsFound : List ℕ → Found → Type 0
+IsFound cdb (FoundRow row) = IsNamed cdb row.now.name × IsRow row.now
+IsFound cdb NoServiceAction =
+    command_of cdb ≡ (if nat_lt (length cdb) 16 then Err (Short (length cdb)) else Err (BadField 1))
+IsFound cdb NoOpcode = 1 ≤ length cdb → command_of cdb ≡ Err Opcode
