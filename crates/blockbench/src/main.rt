@@ -10,7 +10,7 @@
 use sg_pages::Identity;
 use sg_plain_map::PlainMap;
 use sg_store::{BLOCK_LENGTH, Store};
-use sg_target::{Config, Status, Target};
+use sg_target::{BUFFER_LENGTH, Config, Status, Target};
 use sg_wire::{CdbBytes, Command, Initiator};
 use std::alloc::AllocError;
 use std::env;
@@ -26,9 +26,6 @@ const STRIDE: u64 = 1_000_003;
 
 // The blocks of each READ.
 const READ_BLOCKS: u32 = 8;
-
-// The bytes of the longest data-in.
-const LONGEST_TRANSFER: usize = 131_072;
 
 const BLOCK: [u8; BLOCK_LENGTH] = [0xAB; BLOCK_LENGTH];
 
@@ -57,7 +54,7 @@ fn send<S: Store>(
     target: &mut Target<S>,
     initiator: Initiator,
     cdb: &CdbBytes,
-    buf: &mut [u8; LONGEST_TRANSFER],
+    buf: &mut [u8; BUFFER_LENGTH],
     good: &mut u64,
 ) {
     let reply = target.execute(initiator, cdb.as_slice(), &BLOCK, buf);
@@ -96,7 +93,7 @@ fn read_load(rt: &HostRuntime) -> Option<Load> {
 fn run(rt: &HostRuntime, load: Load) -> Result<[u64; 3], AllocError> {
     let config = Config::new(BLOCKS, POOL, Identity::standard()).unwrap();
     let mut target: Target<PlainMap> = Target::new(rt.alloc(), config)?;
-    let mut buf = [0; LONGEST_TRANSFER];
+    let mut buf = [0; BUFFER_LENGTH];
     let mut good = [0; 3];
     let Some(initiator) = Initiator::new(0) else {
         return Ok(good);

@@ -17,10 +17,6 @@ longest_read_ahead = 131072
 abbrev pub word_limit : ℕ
 word_limit = 64
 
--- The most blocks that a line fills.
-abbrev pub fill_limit : ℕ
-fill_limit = 256
-
 -- The largest byte.
 abbrev pub largest_byte : ℕ
 largest_byte = 255

@@ -16,13 +16,13 @@ ghost use Rattle.sg_tools.specs.declared.show.Show.TheVariants.{Nothing};
 ghost use Rattle.sg_run.specs.Printed.{ExecutesLine, HasOutcome, HasOutcomeUnlessOutOfMemory};
 ghost use Rattle.sg_run.specs.RequestLines.{line_request, tool_request};
 
-use crate::buffers::{Buffers, LONGEST_TRANSFER};
+use crate::buffers::Buffers;
 use crate::request::{FilledBlocks, LineFault, Request, ToolLine, read_request};
 use crate::text::answer::print_answer;
 use crate::text::header::print_line_header;
 use crate::text::reply::print_reply;
 use sg_store::{BLOCK_LENGTH, Store};
-use sg_target::{Call, Target};
+use sg_target::{BUFFER_LENGTH, Call, Target};
 use sg_tools::{Show, exit_status};
 use sg_wire::{Printer, Sense, Watched};
 use std::alloc::Global;
@@ -107,7 +107,7 @@ fn print_shown<W: Write>(
         (line_header number (codes "SHOWN") ++ answer_text show bytes.now) }
     ensures status { result ≡ 0 }
 {
-    let (_, lines) = buffer.split_at_mut(LONGEST_TRANSFER);
+    let (_, lines) = buffer.split_at_mut(BUFFER_LENGTH);
     print_line_header(number, b"SHOWN", out);
     print_answer(show, bytes, lines, out);
     0
@@ -190,7 +190,7 @@ fn send<W: Write, S: Store>(
     ensures { let c = call.now in HasOutcome W.contents out.old out.new target.new.state result
         (reply_outcome number show (step target.old.state c.initiator c.cdb.now c.data_out.now)) }
 {
-    let (data_in, lines) = buffer.split_at_mut(LONGEST_TRANSFER);
+    let (data_in, lines) = buffer.split_at_mut(BUFFER_LENGTH);
     let reply = target.execute(call.initiator, call.cdb, call.data_out, data_in);
     let sense = Sense::read(reply.sense.as_slice());
     print_reply(
