@@ -4,9 +4,9 @@ use Rattle.std.proofs.Common.{drop, arith, refl, sym, ap, ◌∙◌, subst, inl,
 use Rattle.std.proofs.Math.Pow.{pow_mono}
 use Rattle.std.proofs.lemmas.Bool.{cases_lt}
 use Rattle.std.proofs.lemmas.Nat.{pow-add}
-use Rattle.std.proofs.lemmas.List.{length-map}
+use Rattle.std.proofs.lemmas.List.{length-map, nil_from_length}
 use Rattle.std.specs.FinMap as map
-use Rattle.std.specs.List.{count_by, sum_by}
+use Rattle.std.specs.List.{count_by, range_with_len, sum_by}
 use Rattle.sg_store.specs.Disk.{Contents, Disk, IsWellFormed, mapped_among, replaced}
 use Rattle.sg_table.specs.Draft.{Drafted}
 use Rattle.sg_store.specs.Meter.{Meter, Costs}
@@ -14,7 +14,6 @@ use Rattle.sg_pool.specs.MappedRecords.{contents_of}
 use Rattle.sg_table.specs.Records.{IsSorted}
 use Rattle.sg_table.specs.Search.{CostsSearch}
 use Rattle.sg_pool.specs.Slots.{Slots}
-use Rattle.sg_table.specs.Occurrences.{IsEachOnce}
 use Rattle.sg_table.specs.Table.{Table, visited, probed}
 use Rattle.sg_table.specs.declared.run.Run.{Run}
 use Rattle.sg_store.specs.declared.store.TheConstants.{MAX_POOL, MAX_CAPACITY}
@@ -26,6 +25,7 @@ use Rattle.sg_block_map.specs.State.{disk_at, meter_at}
 use Rattle.sg_block_map.specs.Walking.{AreAhead}
 use Rattle.sg_store.proofs.DiskLemmas.{len-replaced}
 use Rattle.sg_table.proofs.HalvingLemmas.{probes-le}
+use Rattle.sg_pool.proofs.ConsistencyLemmas.{consistent-empty}
 use Rattle.sg_pool.proofs.MappedLemmas.{len-contents_of}
 use Rattle.sg_store.proofs.WellFormedLemmas.{well_formed-empty}
 use Rattle.sg_block_map.proofs.BetweenLemmas.{maximal-sorted}
@@ -39,20 +39,32 @@ use Rattle.sg_block_map.proofs.OverlapLemmas.{mapped-overlap, mapped-gathered}
 pub runs-sorted : (rs : List Run) (slots : Slots) (room : ℕ) → AreRuns rs slots room → IsSorted rs
 runs-sorted rs slots room h = maximal-sorted rs 0 (MAX_CAPACITY + 1) h.maximal
 
--- a new disk
-pub no-runs : (slots : Slots) (room : ℕ) → length slots.blocks ≡ room → length slots.free ≡ room
-    → IsEachOnce room slots.free → length slots.next ≡ room → AreRuns [] slots room
-no-runs slots room blocks free once next = record {
+-- a disk without mapped blocks, whose slots are taken in ascending order
+pub no-runs : (slots : Slots) (room : ℕ) → length slots.blocks ≡ room
+    → slots.free ≡ range_with_len 0 room → length slots.next ≡ room → AreRuns [] slots room
+no-runs slots room blocks free next = record {
   maximal = omega arith;
   chained = tt;
-  consistent = rw (expanded-none slots.next) (record {
-    sorted = λ i j lt below. absurd (omega arith);
-    once = rw blocks once;
-    count = omega arith;
-    pool = blocks;
-  });
+  consistent = rw (expanded-none slots.next)
+      (consistent-empty slots.blocks slots.free room blocks free);
   links = next;
 }
+
+-- where no address is mapped, each slot is free
+none-mapped : (slots : Slots) (room : ℕ) → AreRuns [] slots room → length slots.free ≡ room
+none-mapped slots room h = omega (arith, h.consistent.count, ap length (expanded-none slots.next))
+
+pub all-free : (rs : List Run) (slots : Slots) (room : ℕ) → AreRuns rs slots room → length rs ≡ 0
+    → length slots.free ≡ length slots.next
+all-free rs slots room h none =
+    let e = nil_from_length rs none in omega (arith, none-mapped slots room (rw e at h), h.links)
+
+pub runs-renewed : (rs : List Run) (slots : Slots) (room : ℕ) → AreRuns rs slots room → length rs ≡ 0
+    → AreRuns rs (record slots { free = range_with_len 0 (length slots.next) }) room
+runs-renewed rs slots room h none =
+    let e = nil_from_length rs none in
+    rw (e, h.links)
+    (no-runs (record slots { free = range_with_len 0 room }) room h.consistent.pool refl h.links)
 
 pub no-contents : (capacity : ℕ) (slots : Slots) → IsWellFormed capacity (chained_contents [] slots)
 no-contents capacity slots = rw (expanded-none slots.next) (well_formed-empty capacity)

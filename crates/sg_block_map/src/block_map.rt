@@ -18,7 +18,7 @@ ghost use Rattle.sg_store.specs.declared.store.TheConstants.{MAX_CAPACITY, MAX_P
 use crate::gather::{gather, mapped_in};
 use crate::read::read_runs;
 use crate::status::{cursor_over, write_descriptors};
-use crate::unmap::unmap_runs;
+use crate::unmap::{renew_slots, unmap_runs};
 use crate::write::write_runs;
 use sg_pool::{Pool, Source};
 use sg_store::lba_status::header;
@@ -216,6 +216,7 @@ impl Store for BlockMap {
             lba,
             lba + u64::from(count),
         );
+        renew_slots(&self.table, &mut self.pool);
         self.gathered.clear();
         self.remaining.clear();
     }

@@ -125,3 +125,15 @@ pub fn unmap_runs(
     }
     put_runs(table, gathered, remaining.records());
 }
+
+/// Has the slots taken in ascending order again where no address is mapped: what was written and
+/// unmapped before has scattered them, and the blocks of a range lie side by side no more.
+pub fn renew_slots(table: &RunTable, pool: &mut Pool)
+    requires { AreRuns table.now.records pool.old table.now.room }
+    ensures runs { AreRuns table.now.records pool.new table.now.room }
+    ensures pool { pool.new ≡ record pool.old { free = pool.new.free } }
+{
+    if table.count() == 0 {
+        pool.renew();
+    }
+}

@@ -33,21 +33,6 @@ unfolding chain AreBelow
 rest-below next first zero count some below = absurd (omega arith)
 rest-below next first (suc n) count some below = let e : suc n - 1 ≡ n = omega arith in rw e below.1
 
--- where each slot is followed by the one after it
-pub chain-range : (count first n : ℕ) → first + n ≤ count → chain (range_with_len 1 count) first n ≡
-    range_with_len first n
-unfolding chain
-chain-range count first zero within = refl
-chain-range count first (suc n) within =
-    let after : slice_index (range_with_len 1 count) first ≡ first + 1 =
-    get_or-range_with_len 1 count first 0 (omega arith) ∙ omega arith in
-    rw after (ap (λ xs. first ∷ xs) (chain-range count (first + 1) n (omega arith)))
-
-pub range-below : (count first n : ℕ) → first + n ≤ count → AreBelow count (range_with_len first n)
-unfolding AreBelow
-range-below count first zero within = tt
-range-below count first (suc n) within = (omega arith, range-below count (first + 1) n (omega arith))
-
 -- the link of a slot that the chain does not have
 pub chain-set : (next : List ℕ) (slot after first n : ℕ) → occurrences slot (chain next first n) ≡ 0
     → chain (set next slot after) first n ≡ chain next first n

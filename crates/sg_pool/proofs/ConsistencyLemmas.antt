@@ -1,7 +1,9 @@
 -- A table and a pool that are consistent, after a step.
-use Rattle.std.proofs.Common.{◌≡◌, ◌≢◌, ℕ, ◌+◌, ◌<◌, ◌≤◌, List, ◌∷◌, ◌++◌, length, get_or, set}
+use Rattle.std.proofs.Common.{◌≡◌, ◌≢◌, ℕ, ◌+◌, ◌<◌, ◌≤◌, List, [], ◌∷◌, ◌++◌, length, get_or, set}
 use Rattle.std.proofs.Common.{arith, sym, ap, ◌∙◌, length-set}
 use Rattle.std.proofs.lemmas.List.Edits.{length-insert}
+use Rattle.std.proofs.lemmas.List.FromFn.{length-range_with_len}
+use Rattle.std.specs.List.{range_with_len}
 use Rattle.std.specs.Prelude.{insert}
 use Rattle.std.specs.FinMap as map
 use Rattle.sg_table.specs.Records.{start_of, HaveSlots, IsLowerBound}
@@ -11,7 +13,7 @@ use Rattle.sg_table.specs.Occurrences.{one_if_equal, occurrences, IsEachOnce}
 use Rattle.sg_pool.specs.MappedRecords.{IsConsistent}
 use Rattle.sg_table.specs.declared.run.Run.{Run}
 use Rattle.sg_table.proofs.OccurrenceLemmas.{same_slot, occurrences-append, occurrences-more, occurrences-at}
-use Rattle.sg_table.proofs.OccurrenceLemmas.{occurrences-insert, once-le, below_count}
+use Rattle.sg_table.proofs.OccurrenceLemmas.{occurrences-insert, once-le, once-range, below_count}
 use Rattle.sg_table.proofs.IndexLemmas.{sorted-insert}
 use Rattle.sg_pool.proofs.BlockLemmas.{added, overwritten}
 
@@ -96,3 +98,13 @@ contents-over rs bs free room i r b consistent h e =
     overwritten rs bs i r b consistent.sorted h e
     (have_slots rs bs free room consistent i r h (sym e))
     (used_once (length bs) (slots_of rs) free r.first consistent.once)
+
+-- no record, and each slot free
+pub consistent-empty : (blocks : List (List ℕ)) (free : List ℕ) (room : ℕ) → length blocks ≡ room
+    → free ≡ range_with_len 0 room → IsConsistent [] blocks free room
+consistent-empty blocks free room all order = record {
+  sorted = λ i j lt below. absurd (omega arith);
+  once = rw (all, order) (once-range room);
+  count = omega (arith, ap length order, length-range_with_len 0 room);
+  pool = all;
+}

@@ -7,3 +7,4 @@ pub mod ConsistencyLemmas
 -- For the pool alone.
 pub mod PoolLemmas
 pub mod ChainLemmas
+pub mod FreeLemmas

@@ -162,28 +162,6 @@ chain-joined next first last count to m is low once =
     let one = same_slot last in
     rw e at (chain-linked next last to first n m is.ends low (omega arith) (omega arith))
 
--- the same where the links are those of a pool
-pub joined : (inner next free : List ℕ) (first last count to m : ℕ) → inner ≡ next
-    → chain inner to m ≡ free → IsChain next first last count → last < length next
-    → occurrences last (chain next first count ++ free) ≡ 1
-    → chain (set inner last to) first (m + count) ≡ chain next first count ++ free
-joined inner next free first last count to m e f is low once =
-    let g : free ≡ chain next to m = sym f ∙ ap (λ xs. chain xs to m) e in
-    let h : m + count ≡ count + m = omega arith in
-    rw (e, h, g) (chain-joined next first last count to m is low
-    (ap (λ xs. occurrences last (chain next first count ++ xs)) (sym g) ∙ once))
-
-pub joined-below : (inner next free : List ℕ) (first last count to m : ℕ) → inner ≡ next
-    → chain inner to m ≡ free → IsChain next first last count → last < length next
-    → occurrences last (chain next first count ++ free) ≡ 1
-    → AreBelow (length next) (chain next first count) → AreBelow (length inner) (chain inner to m)
-    → AreBelow (length (set inner last to)) (chain (set inner last to) first (m + count))
-joined-below inner next free first last count to m e f is low once below free_below =
-    let len : length (set inner last to) ≡ length next = length-set inner last to ∙ ap length e in
-    let rest : AreBelow (length next) free = rw (sym f, sym e) free_below in
-    rw (len, joined inner next free first last count to m e f is low once)
-    (below-append (length next) (chain next first count) free below rest)
-
 one_test : (b : Bool) → 0 < cond b 1 0 → b ≡ true
 one_test true h = refl
 one_test false h = absurd (omega arith)

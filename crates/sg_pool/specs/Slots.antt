@@ -1,6 +1,8 @@
 -- The slots of the pool: each is free or has one record.
 use Rattle.std.specs.Prelude.{ℕ, ◌+◌, ◌-◌, List, ◌++◌}
 use Rattle.std.specs.Prelude.{length, replicate}
+use Rattle.std.specs.List.{range_with_len}
+use Rattle.sg_pool.specs.Chains.{chain}
 use Rattle.sg_store.specs.Disk.{zero_block}
 
 -- The blocks of the slots, the link of each slot to the next one of its chain, the slots that are
@@ -18,3 +20,8 @@ zero_padded blocks count = blocks ++ replicate (count - length blocks) zero_bloc
 -- `count` links were followed.
 abbrev pub followed : Slots → (count : ℕ) → Slots
 followed slots count = record slots { links = slots.links + count }
+
+-- The slots that are free: a chain of those that were given back, and then all from `fresh` on.
+abbrev pub free_slots : (next : List ℕ) → (first given fresh : ℕ) → List ℕ
+free_slots next first given fresh =
+    chain next first given ++ range_with_len fresh (length next - fresh)

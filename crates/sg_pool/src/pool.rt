@@ -14,46 +14,41 @@ use std::marker::Model;
 const ZERO_BLOCK: [u8; BLOCK_LENGTH] = [0; BLOCK_LENGTH];
 
 /// Slots of one block each, with a link from each slot to the next one of its chain. The free slots
-/// are a chain.
+/// are a chain of those that were given back, and all from one slot on, which were not taken since
+/// each slot was free.
 #[derive(Drop)]
 pub struct Pool {
     /// The blocks of the first slots, as far as one was set. The others are zeros.
     blocks: Vec<[u8; BLOCK_LENGTH]>,
     next: Vec<u32>,
-    first_free: u32,
-    free_count: u32,
+    /// The first slot that was given back.
+    first_given: u32,
+    given_count: u32,
+    /// The first slot that was not taken.
+    fresh: u32,
     links: u64,
 }
 
 impl Model for Pool {
     ghost use Rattle.std.specs.Prelude.{◌≤◌, length, vec_capacity};
     ghost use Rattle.sg_pool.specs.Chains.{chain, AreBelow};
-    ghost use Rattle.sg_pool.specs.Slots.{Slots, zero_padded};
+    ghost use Rattle.sg_pool.specs.Slots.{Slots, free_slots, zero_padded};
+    ghost use Rattle.sg_store.specs.declared.store.TheConstants.{MAX_POOL};
 
     ghost Value = { Slots };
 
     ghost view = { λ p. record {
       blocks = zero_padded p.blocks.items (length p.next.items);
       next = p.next.items;
-      free = chain p.next.items p.first_free p.free_count;
+      free = free_slots p.next.items p.first_given p.given_count p.fresh;
       links = p.links;
     } };
 
     ghost invariant = { λ p. (length p.blocks.items ≤ length p.next.items)
-        × AreBelow (length p.next.items) (chain p.next.items p.first_free p.free_count)
-        × (length p.next.items ≤ vec_capacity p.blocks) };
-}
-
-/// The links of `count` slots, from each to the one after it.
-fn links(alloc: Global, count: u32) -> Result<Vec<u32>, AllocError>
-    requires { count ≤ MAX_POOL }
-    ensures { IfOk result (λ next. next.items ≡ range_with_len 1 count) }
-{
-    let mut next = Vec::with_capacity(alloc, count as usize)?;
-    for slot in 0..count {
-        next.push(slot + 1)?;
-    }
-    Ok(next)
+        × AreBelow (length p.next.items) (chain p.next.items p.first_given p.given_count)
+        × (length p.next.items ≤ vec_capacity p.blocks)
+        × (p.fresh ≤ length p.next.items)
+        × (length p.next.items ≤ MAX_POOL) };
 }
 
 /// Appends blocks of zeros as far as that of a slot, unless it is there.
@@ -81,16 +76,16 @@ impl Pool {
         requires { count ≤ MAX_POOL }
         ensures blocks { IfOk result (λ pool. length pool.blocks ≡ count) }
         ensures zeros { IfOk result (λ pool. pool.blocks ≡ replicate count zero_block) }
-        ensures free_count { IfOk result (λ pool. length pool.free ≡ count) }
-        ensures free { IfOk result (λ pool. IsEachOnce count pool.free) }
+        ensures free { IfOk result (λ pool. pool.free ≡ range_with_len 0 count) }
         ensures next { IfOk result (λ pool. length pool.next ≡ count) }
         ensures links { IfOk result (λ pool. pool.links ≡ 0) }
     {
         Ok(Pool {
             blocks: Vec::with_capacity(alloc, count as usize)?,
-            next: links(alloc, count)?,
-            first_free: 0,
-            free_count: count,
+            next: vec![in alloc; 0; count as usize]?,
+            first_given: 0,
+            given_count: 0,
+            fresh: 0,
             links: 0,
         })
     }
@@ -107,7 +102,7 @@ impl Pool {
     pub fn free_count(&self) -> usize
         ensures { result ≡ length self.now.free }
     {
-        self.free_count as usize
+        self.given_count as usize + (self.next.len() - self.fresh as usize)
     }
 
     /// Replaces the block of a slot.
@@ -126,10 +121,24 @@ impl Pool {
         ensures free { self.old.free ≡ result ∷ self.new.free }
         ensures pool { self.new ≡ record self.old { free = self.new.free } }
     {
-        let slot = self.first_free;
-        self.first_free = self.next[slot as usize];
-        self.free_count -= 1;
+        if self.given_count == 0 {
+            let slot = self.fresh;
+            self.fresh += 1;
+            return slot;
+        }
+        let slot = self.first_given;
+        self.first_given = self.next[slot as usize];
+        self.given_count -= 1;
         slot
+    }
+
+    /// Has the slots taken in ascending order from now on, where each of them is free.
+    pub fn renew(&mut self)
+        requires { length self.old.free ≡ length self.old.next }
+        ensures { self.new ≡ record self.old { free = range_with_len 0 (length self.old.next) } }
+    {
+        self.given_count = 0;
+        self.fresh = 0;
     }
 
     /// Frees a slot, which is taken again before the others that are free.
@@ -143,9 +152,9 @@ impl Pool {
         ensures next { self.new.next ≡ slice_set self.old.next slot (slice_index self.new.next slot) }
         ensures pool { self.new ≡ record self.old { next = self.new.next; free = self.new.free } }
     {
-        self.next[slot as usize] = self.first_free;
-        self.first_free = slot;
-        self.free_count += 1;
+        self.next[slot as usize] = self.first_given;
+        self.first_given = slot;
+        self.given_count += 1;
     }
 
     /// Frees the slots of a chain, which are taken again before the others that are free.
@@ -161,9 +170,9 @@ impl Pool {
         ensures next { self.new.next ≡ slice_set self.old.next last (slice_index self.new.next last) }
         ensures pool { self.new ≡ record self.old { next = self.new.next; free = self.new.free } }
     {
-        self.next[last as usize] = self.first_free;
-        self.first_free = first;
-        self.free_count += count;
+        self.next[last as usize] = self.first_given;
+        self.first_given = first;
+        self.given_count += count;
     }
 
     /// Links a slot that is not free to the next one of its chain.

@@ -4,6 +4,7 @@ use Rattle.std.specs.Prelude.{map}
 use Rattle.sg_store.specs.Disk.{Contents, IsWellFormed, unmapped}
 use Rattle.sg_store.specs.Meter.{Meter}
 use Rattle.sg_pool.specs.MappedRecords.{contents_of}
+use Rattle.sg_pool.specs.Slots.{Slots}
 use Rattle.sg_table.specs.Table.{Table}
 use Rattle.sg_block_map.specs.RunCost.{CostsRange}
 use Rattle.sg_block_map.specs.Runs.{expanded, chained_contents}
@@ -54,9 +55,10 @@ invariant_of-self-clause-well_formed c =
     let lba = c.args.lba in
     let count = c.args.count in
     let after = c.unmap_runs.new in
-    let is : chained_contents after.table.records after.pool ≡
+    let is : chained_contents after.table.records c.renew_slots.new.pool ≡
     unmapped (chained_contents rs s.pool) lba count =
-    ap (contents_of (expanded after.pool.next after.table.records)) c.unmap_runs.ensures.blocks
+    ap (chained_contents after.table.records) c.renew_slots.ensures.pool
+    ∙ ap (contents_of (expanded after.pool.next after.table.records)) c.unmap_runs.ensures.blocks
     ∙ c.unmap_runs.ensures.contents s.pool.blocks
     ∙ ap (λ (t : Table). unmapped (chained_contents t.records s.pool) lba
     (lba + c.from.result - lba)) c.gather.ensures.table
@@ -71,9 +73,10 @@ returns-clause-disk c =
     let lba = c.args.lba in
     let count = c.args.count in
     let after = c.unmap_runs.new in
-    let is : chained_contents after.table.records after.pool ≡
+    let is : chained_contents after.table.records c.renew_slots.new.pool ≡
     unmapped (chained_contents rs s.pool) lba count =
-    ap (contents_of (expanded after.pool.next after.table.records)) c.unmap_runs.ensures.blocks
+    ap (chained_contents after.table.records) c.renew_slots.ensures.pool
+    ∙ ap (contents_of (expanded after.pool.next after.table.records)) c.unmap_runs.ensures.blocks
     ∙ c.unmap_runs.ensures.contents s.pool.blocks
     ∙ ap (λ (t : Table). unmapped (chained_contents t.records s.pool) lba
     (lba + c.from.result - lba)) c.gather.ensures.table
@@ -89,7 +92,10 @@ returns-clause-keeps c =
     let numbers = map (λ slot. slot ∷ []) (range_with_len 0 s.table.room) in
     let room = ap (λ (t : Table). t.room) c.unmap_runs.ensures.table
     ∙ ap (λ (t : Table). t.room) c.gather.ensures.table in
-    rw room (c.unmap_runs.ensures.contents numbers
+    let after = c.unmap_runs.new in
+    let links = ap (λ (p : Slots). contents_of (expanded p.next after.table.records) numbers)
+    c.renew_slots.ensures.pool in
+    rw room (links ∙ c.unmap_runs.ensures.contents numbers
     ∙ ap (λ (t : Table). unmapped (contents_of (expanded s.pool.next t.records) numbers) lba
     (lba + c.from.result - lba)) c.gather.ensures.table
     ∙ ap (unmapped (contents_of (expanded s.pool.next s.table.records) numbers) lba)
@@ -101,7 +107,8 @@ returns-clause-costs c =
     let e = c.gather.ensures in
     let pool = c.unmap_runs.new.pool in
     subst (λ (m : Meter). CostsRange (disk_of s) c.args.lba c.args.count (meter_at s.table s.pool) m)
-    (sym (ap (λ t. meter_at t pool) c.unmap_runs.ensures.table))
+    (sym (ap (λ p. meter_at c.unmap_runs.new.table p) c.renew_slots.ensures.pool
+    ∙ ap (λ t. meter_at t pool) c.unmap_runs.ensures.table))
     (gathered-range s.table c.gather.new.table s.pool pool s.capacity c.args.lba c.args.count
     c.gather.new.gathered s.runs e.gathered s.pool_fits e.table e.rise e.search e.least e.most
     c.unmap_runs.ensures.rise c.unmap_runs.ensures.links)

@@ -1,8 +1,16 @@
-use Rattle.std.proofs.Common.{length, ap, sym, ◌∙◌}
+use Rattle.std.proofs.Common.{length, ap, arith}
 use Rattle.sg_pool.specs.Slots.{Slots}
-use Rattle.sg_pool.proofs.ChainLemmas.{length-chain}
+use Rattle.sg_pool.proofs.FreeLemmas.{length-free}
 use Rattle.sg_pool.proofs.pool.Pool.free_count.Goals as goal
 
 pub returns : goal.returns
-returns c = let p = c.self.inside in sym (length-chain p.next.items p.first_free p.free_count)
-    ∙ ap (λ (s : Slots). length s.free) c.self.view_is
+returns c =
+    let p = c.self.inside in
+    let free = ap (λ (s : Slots). length s.free) c.self.view_is in
+    omega (
+      arith,
+      free,
+      c.len.ensures,
+      p.next.ok.0,
+      length-free p.next.items p.first_given p.given_count p.fresh c.self.invariant.3,
+    )

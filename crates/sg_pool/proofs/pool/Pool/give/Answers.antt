@@ -1,7 +1,8 @@
 use Rattle.std.proofs.Common.{◌∷◌, length, length-set, ap, ◌∙◌, arith}
 use Rattle.sg_pool.specs.Slots.{Slots}
 use Rattle.sg_table.specs.Occurrences.{occurrences}
-use Rattle.sg_pool.proofs.ChainLemmas.{length-chain, chain-given, given-below}
+use Rattle.sg_pool.proofs.ChainLemmas.{chain-given, given-below}
+use Rattle.sg_pool.proofs.FreeLemmas.{length-free, free-more, given-none}
 use Rattle.sg_pool.proofs.PoolLemmas.{length-padded}
 use Rattle.sg_pool.proofs.pool.Pool.give.Goals as goal
 
@@ -13,7 +14,8 @@ overflow_add-self c =
       fits = omega (
         arith,
         c.requires.room,
-        length-chain p.next.items p.first_free p.free_count,
+        free,
+        length-free p.next.items p.first_given p.given_count p.fresh c.self.invariant.3,
       );
     }
 
@@ -23,16 +25,20 @@ invariant_of-self c =
     let slot = c.args.slot in
     let low = ap (λ (s : Slots). length s.blocks) c.self.view_is in
     let len = length-padded p.blocks.items (length p.next.items) c.self.invariant.0 in
-    let none = ap (λ (s : Slots). occurrences slot s.free) c.self.view_is ∙ c.requires.used in (
-      omega (arith, length-set p.next.items slot p.first_free, c.self.invariant.0),
+    let none = given-none p.next.items p.first_given p.given_count p.fresh slot
+    (ap (λ (s : Slots). occurrences slot s.free) c.self.view_is ∙ c.requires.used) in
+    let linked = length-set p.next.items slot p.first_given in (
+      omega (arith, linked, c.self.invariant.0),
       rw (
-        length-set p.next.items slot p.first_free,
-        chain-given p.next.items slot p.first_free p.free_count
+        linked,
+        chain-given p.next.items slot p.first_given p.given_count
             (omega (arith, low, len, c.requires.slot)) none,
       )
           (given-below (length p.next.items) slot _
           (omega (arith, low, len, c.requires.slot)) c.self.invariant.1),
-      omega (arith, length-set p.next.items slot p.first_free, c.self.invariant.2),
+      omega (arith, linked, c.self.invariant.2),
+      omega (arith, linked, c.self.invariant.3),
+      omega (arith, linked, c.self.invariant.4),
     )
 
 pub returns-clause-free : goal.returns-clause-free
@@ -41,7 +47,7 @@ returns-clause-free c =
     let slot = c.args.slot in
     let low = ap (λ (s : Slots). length s.blocks) c.self.view_is in
     let len = length-padded p.blocks.items (length p.next.items) c.self.invariant.0 in
-    let none = ap (λ (s : Slots). occurrences slot s.free) c.self.view_is ∙ c.requires.used in
-    chain-given p.next.items slot p.first_free p.free_count
-    (omega (arith, low, len, c.requires.slot)) none
+    free-more p.next.items slot p.first_given p.given_count p.fresh
+    (omega (arith, low, len, c.requires.slot))
+    (ap (λ (s : Slots). occurrences slot s.free) c.self.view_is ∙ c.requires.used)
     ∙ ap (λ (s : Slots). slot ∷ s.free) c.self.view_is

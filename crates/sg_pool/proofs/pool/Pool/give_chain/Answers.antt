@@ -1,7 +1,6 @@
 use Rattle.std.proofs.Common.{length, length-set, ap, arith}
 use Rattle.sg_pool.specs.Slots.{Slots}
-use Rattle.sg_pool.proofs.ChainLemmas.{length-chain}
-use Rattle.sg_pool.proofs.LinkLemmas.{joined, joined-below}
+use Rattle.sg_pool.proofs.FreeLemmas.{length-free, joined, joined-below}
 use Rattle.sg_pool.proofs.pool.Pool.give_chain.Goals as goal
 
 pub overflow_add-self : goal.overflow_add-self
@@ -12,25 +11,29 @@ overflow_add-self c =
       fits = omega (
         arith,
         c.requires.room,
-        length-chain p.next.items p.first_free p.free_count,
+        free,
+        length-free p.next.items p.first_given p.given_count p.fresh c.self.invariant.3,
       );
     }
 
 pub invariant_of-self : goal.invariant_of-self
 invariant_of-self c =
-    let p = c.self.inside in (
-      omega (arith, length-set p.next.items c.args.last p.first_free, c.self.invariant.0),
+    let p = c.self.inside in
+    let linked = length-set p.next.items c.args.last p.first_given in (
+      omega (arith, linked, c.self.invariant.0),
       joined-below p.next.items c.args.self.now.next c.args.self.now.free c.args.first c.args.last
-          c.args.count p.first_free p.free_count (ap (λ (s : Slots). s.next) c.self.view_is)
+          c.args.count p.first_given p.given_count p.fresh (ap (λ (s : Slots). s.next) c.self.view_is)
           (ap (λ (s : Slots). s.free) c.self.view_is)
           c.requires.chain c.requires.last c.requires.once c.requires.slots c.self.invariant.1,
-      omega (arith, length-set p.next.items c.args.last p.first_free, c.self.invariant.2),
+      omega (arith, linked, c.self.invariant.2),
+      omega (arith, linked, c.self.invariant.3),
+      omega (arith, linked, c.self.invariant.4),
     )
 
 pub returns-clause-free : goal.returns-clause-free
 returns-clause-free c =
     let p = c.self.inside in
     joined p.next.items c.args.self.now.next c.args.self.now.free c.args.first c.args.last
-    c.args.count p.first_free p.free_count (ap (λ (s : Slots). s.next) c.self.view_is)
+    c.args.count p.first_given p.given_count p.fresh (ap (λ (s : Slots). s.next) c.self.view_is)
     (ap (λ (s : Slots). s.free) c.self.view_is)
     c.requires.chain c.requires.last c.requires.once

@@ -2,24 +2,29 @@ use Rattle.std.proofs.Common.{length-set, set, ap, ap₂, ◌∙◌, arith}
 use Rattle.sg_pool.specs.Slots.{Slots, zero_padded}
 use Rattle.sg_table.specs.Occurrences.{occurrences}
 use Rattle.sg_pool.proofs.ChainLemmas.{chain-set}
+use Rattle.sg_pool.proofs.FreeLemmas.{free-set, given-none}
 use Rattle.sg_pool.proofs.pool.Pool.link.Goals as goal
 
 pub invariant_of-self : goal.invariant_of-self
 invariant_of-self c =
     let p = c.self.inside in
     let free = ap (λ (s : Slots). s.free) c.self.view_is in
-    let same = chain-set p.next.items c.args.slot c.args.next p.first_free p.free_count
-    (ap (occurrences c.args.slot) free ∙ c.requires.used) in (
-      omega (arith, length-set p.next.items c.args.slot c.args.next, c.self.invariant.0),
-      rw (same, length-set p.next.items c.args.slot c.args.next) c.self.invariant.1,
-      omega (arith, length-set p.next.items c.args.slot c.args.next, c.self.invariant.2),
+    let same = chain-set p.next.items c.args.slot c.args.next p.first_given p.given_count
+    (given-none p.next.items p.first_given p.given_count p.fresh c.args.slot
+    (ap (occurrences c.args.slot) free ∙ c.requires.used)) in
+    let linked = length-set p.next.items c.args.slot c.args.next in (
+      omega (arith, linked, c.self.invariant.0),
+      rw (same, linked) c.self.invariant.1,
+      omega (arith, linked, c.self.invariant.2),
+      omega (arith, linked, c.self.invariant.3),
+      omega (arith, linked, c.self.invariant.4),
     )
 
 pub returns : goal.returns
 returns c =
     let p = c.self.inside in
     let free = ap (λ (s : Slots). s.free) c.self.view_is in
-    let same = chain-set p.next.items c.args.slot c.args.next p.first_free p.free_count
+    let same = free-set p.next.items c.args.slot c.args.next p.first_given p.given_count p.fresh
     (ap (occurrences c.args.slot) free ∙ c.requires.used) in
     let len = length-set p.next.items c.args.slot c.args.next in
     ap₂ (λ n xs. record {

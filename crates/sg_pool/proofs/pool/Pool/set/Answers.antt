@@ -1,8 +1,7 @@
 use Rattle.std.proofs.Common.{◌+◌, ◌-◌, ◌<◌, length, length-append, replicate, set, ap, ap₂, ◌∙◌, arith}
 use Rattle.std.proofs.lemmas.List.{length-replicate}
 use Rattle.sg_store.specs.Disk.{zero_block}
-use Rattle.sg_pool.specs.Slots.{Slots, zero_padded}
-use Rattle.sg_pool.specs.Chains.{chain}
+use Rattle.sg_pool.specs.Slots.{Slots, free_slots, zero_padded}
 use Rattle.sg_pool.proofs.PoolLemmas.{length-padded, padded-more, padded-set}
 use Rattle.sg_pool.proofs.pool.Pool.set.Goals as goal
 
@@ -33,7 +32,7 @@ returns c =
     ap (λ xs. record {
       blocks = xs;
       next = p.next.items;
-      free = chain p.next.items p.first_free p.free_count;
+      free = free_slots p.next.items p.first_given p.given_count p.fresh;
       links = p.links;
     }) blocks
     ∙ ap (λ (s : Slots). record s { blocks = set s.blocks slot c.args.bytes.now }) c.self.view_is
