@@ -1,10 +1,9 @@
 -- The descriptors of runs, and the visits that they take.
 use Rattle.std.proofs.Common.{◌≡◌, ℕ, ◌+◌, ◌-◌, ◌<◌, ◌≤◌, zero, suc, List, [], ◌∷◌, length}
-use Rattle.std.proofs.Common.{get_or, take, drop, length-drop, arith, refl, sym, ap, ◌∙◌, ◌⊎◌, inl}
+use Rattle.std.proofs.Common.{arith, refl, sym, ap, ◌∙◌, ◌⊎◌, inl}
 use Rattle.std.proofs.Common.{inr, cond, Bool, true, false, Option, Some, None}
 use Rattle.std.proofs.lemmas.Bool.{cases_lt}
 use Rattle.std.proofs.lemmas.Bool.Decides.{nat_tests}
-use Rattle.std.proofs.lemmas.List.{take_all}
 use Rattle.std.proofs.lemmas.List.Sums.{sum_by-cons}
 use Rattle.std.specs.FinMap.{get, contains_key}
 use Rattle.std.specs.Prelude.{slice_index_or, unwrap_or, min}
@@ -280,20 +279,6 @@ cursor-at rs capacity index lba cursor t p before is next = record {
 -- the table is sorted
 pub run_table-sorted : (capacity : ℕ) (rs : List Run) → IsRunTable capacity rs → IsSorted rs
 run_table-sorted capacity rs t = maximal-sorted rs 0 (capacity + 1) t.maximal
-
--- the descriptors, one after the other
-pub next-of : (all rest : List StatusDescriptor) (n : ℕ) (d e : StatusDescriptor)
-    → drop n all ≡ d ∷ rest → (n < length all) × (get_or all n e ≡ d) × (drop (n + 1) all ≡ rest)
-next-of [] rest zero d e is = let wrong = is in cc
-next-of [] rest (suc n) d e is = let wrong = is in cc
-next-of (x ∷ all) rest zero d e is = (omega arith, ap (λ xs. get_or xs 0 e) is, ap (drop 1) is)
-next-of (x ∷ all) rest (suc n) d e is = let more = next-of all rest n d e is in
-    let on : suc n + 1 ≡ suc (n + 1) = omega arith in (omega (arith, more.0), more.1, rw on more.2)
-
-pub all-of : (all : List StatusDescriptor) (n : ℕ) → drop n all ≡ [] → n ≤ length all
-    → (take n all ≡ all) × (n ≡ length all)
-all-of all n none le = let len = ap length none in let rest = length-drop n all in
-    (take_all n all (omega arith), omega arith)
 
 -- visits that are counted in turn
 pub visited-trade : (t u v : Table) (a b c : ℕ) → visited v b ≡ visited u c

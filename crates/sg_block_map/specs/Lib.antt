@@ -5,9 +5,10 @@ pub mod RunCost
 pub mod RunCostLaws
 pub mod State
 pub mod Parts
--- What only private contracts cite: runs over chains of slots, and how they are gathered, split,
--- walked over, cut and joined.
+-- What only private contracts cite: runs over chains of slots, how they are gathered, split, walked
+-- over, cut and joined, and what each step counts.
 pub mod Runs
+pub mod Metering
 pub mod RunsProps
 pub mod Gathering
 pub mod Splitting

@@ -10,8 +10,7 @@ use Rattle.sg_block_map.specs.Gathering.{end_at}
 use Rattle.sg_block_map.specs.MaximalRuns.{meets}
 use Rattle.sg_block_map.specs.Runs.{AreMaximal, extent_of}
 
--- The table of a disk: its runs are maximal, each has an address, and none has more than the
--- largest
+-- The table of a disk: its runs are maximal, each has an address, and none has more than the largest
 -- pool has blocks. None lies past the end of the disk.
 pub record IsRunTable (capacity : ℕ) (records : List Run) : Type 0 where
   pub maximal : AreMaximal 0 (capacity + 1) records
@@ -20,7 +19,7 @@ pub record IsRunTable (capacity : ℕ) (records : List Run) : Type 0 where
   pub table_size : length records ≤ MAX_POOL
   pub capacity_fits : capacity ≤ MAX_CAPACITY
 
--- The cursor is at the first run that has the address or one past it. It was visited if there is
+-- The cursor is at the first run that has the address or one past it, which was visited if there is
 -- one.
 pub record IsOver (records : List Run) (cursor : Cursor) (lba : ℕ) : Type 0 where
   pub within : cursor.index ≤ length records
@@ -41,6 +40,14 @@ AreMet records from to low high = (i : ℕ) → from ≤ i → i < to
 -- and each from an index on begins at an address or past it.
 abbrev pub AreFrom : List Run → (from lba : ℕ) → Type 0
 AreFrom records from lba = (i : ℕ) → from ≤ i → i < length records → lba ≤ start_of records i
+
+-- The runs from one index to another have addresses of a range, which is not empty, and those behind
+-- them have none.
+pub record MeetsRange (records : List Run) (from to lba count : ℕ) : Type 0 where
+  pub not_empty : 0 < count
+  pub order : from ≤ to
+  pub met : AreMet records from to lba (lba + count)
+  pub rest : AreFrom records to (lba + count)
 
 -- How many runs have an address in common with a range.
 abbrev pub records_met : List Run → (lba count : ℕ) → ℕ

@@ -21,7 +21,7 @@ use crate::status::{cursor_over, write_descriptors};
 use crate::unmap::{renew_slots, unmap_runs};
 use crate::write::write_runs;
 use sg_pool::{Pool, Source};
-use sg_store::lba_status::header;
+use sg_store::lba_status::status_header;
 use sg_store::{BLOCK_LENGTH, Counts, MAX_CAPACITY, MAX_POOL, Space, Store};
 use sg_table::{Draft, RunTable};
 use sg_wire::Cut;
@@ -235,11 +235,11 @@ impl Store for BlockMap {
             CostsRange (disk_of self.old) lba count (meter_of self.old) (meter_of self.new) }
     {
         let at = cut.written();
-        cut.put(&header(0));
+        cut.put(&status_header(0));
         let cursor = cursor_over(&mut self.table, lba);
         let count = write_descriptors(&mut self.table, cursor, lba, self.capacity, cut);
         // The length is known only now. It is written over the one that was put first.
-        cut.replace(at, &header(count));
+        cut.replace(at, &status_header(count));
     }
 
     fn mapped(&self) -> u32 {

@@ -1,15 +1,15 @@
+// GET LBA STATUS over a table of runs: where the runs of a range begin, and the descriptors one by
+// one. It knows no slot and no block: which addresses are mapped is in the table.
 ghost use Rattle.std.specs.Prelude.{◌≡◌, ◌+◌, ◌-◌, ◌<◌, ◌≤◌, ℕ, length};
-ghost use Rattle.std.specs.List.{flat_map};
-ghost use Rattle.sg_store.specs.LbaStatus.{covered, descriptor_at, descriptor_bytes};
-ghost use Rattle.sg_store.specs.LbaStatus.{descriptors_from};
+ghost use Rattle.sg_store.specs.LbaStatus.{covered, descriptor_at, descriptors_from};
+ghost use Rattle.sg_store.specs.LbaStatus.{PutsDescriptors};
 ghost use Rattle.sg_table.specs.Records.{ahead};
 ghost use Rattle.sg_pool.specs.Slots.{Slots};
-ghost use Rattle.sg_table.specs.Search.{CostsSearch};
-ghost use Rattle.sg_table.specs.Table.{visited, probed};
+ghost use Rattle.sg_table.specs.Table.{visited};
 ghost use Rattle.sg_table.specs.Records.{passed};
-ghost use Rattle.sg_wire.specs.Cut.{Puts};
+ghost use Rattle.sg_block_map.specs.Metering.{VisitsBetween, SearchesAndVisits};
 ghost use Rattle.sg_block_map.specs.Runs.{chained_contents};
-ghost use Rattle.sg_block_map.specs.Status.{AreFrom, AreMet, IsOver, IsRunTable};
+ghost use Rattle.sg_block_map.specs.Status.{IsOver, IsRunTable, MeetsRange};
 ghost use Rattle.sg_block_map.specs.Status.{records_met, run_over};
 
 use sg_store::lba_status::{MAX_ADDRESSES, MAX_DESCRIPTORS, ProvisioningStatus, StatusDescriptor};
@@ -23,14 +23,9 @@ pub fn cursor_over(table: &mut RunTable, lba: u64) -> Cursor
     requires headroom { (table.old.probes ≤ MAX_COUNT) × (table.old.visits ≤ MAX_COUNT) }
     ensures cursor { IsOver table.old.records result lba }
 
-    // Only probes and visits are counted: the probes of one binary search, the visit of the run,
-    // and at most one more.
-    ensures table { table.new ≡ visited (probed table.old (table.new.probes - table.old.probes))
-        (table.new.total - table.old.total) }
-    ensures rise { table.old.probes ≤ table.new.probes }
-    ensures search { CostsSearch (length table.old.records) (table.new.probes - table.old.probes) }
-    ensures least { table.old.total + ahead result.next ≤ table.new.total }
-    ensures most { table.new.total ≤ table.old.total + ahead result.next + 1 }
+    // The run is visited, and at most one more.
+    ensures visits { SearchesAndVisits (ahead result.next) (ahead result.next + 1)
+        table.old table.new }
 {
     let index = table.lower_bound(lba);
     if index == 0 {
@@ -70,13 +65,10 @@ fn describe(
     // Which addresses are mapped does not depend on their slots.
     ensures descriptor { (slots : Slots) →
         result.0 ≡ descriptor_at (chained_contents table.old.records slots) capacity lba }
-    ensures not_empty { 0 < result.0.count }
     ensures cursor { IsOver table.old.records result.1 (lba + result.0.count) }
 
     // The runs that the cursor goes past have addresses of the descriptor, and no others have.
-    ensures order { cursor.index ≤ result.1.index }
-    ensures met { AreMet table.old.records cursor.index result.1.index lba (lba + result.0.count) }
-    ensures rest { AreFrom table.old.records result.1.index (lba + result.0.count) }
+    ensures met { MeetsRange table.old.records cursor.index result.1.index lba result.0.count }
     ensures cost { visited table.new (passed cursor) ≡ visited table.old (passed result.1) }
 {
     let Some(run) = run_over(cursor, lba) else {
@@ -103,25 +95,18 @@ pub fn write_descriptors(
     requires headroom { table.old.visits ≤ MAX_COUNT + MAX_POOL }
 
     // Which addresses are mapped does not depend on their slots.
-    ensures data { (slots : Slots) → Puts cut.old cut.new (flat_map descriptor_bytes
-        (descriptors_from (chained_contents table.old.records slots) capacity lba MAX_DESCRIPTORS)) }
-    ensures count { (slots : Slots) → result ≡ length
-        (descriptors_from (chained_contents table.old.records slots) capacity lba MAX_DESCRIPTORS) }
+    ensures descriptors { (slots : Slots) → PutsDescriptors
+        (chained_contents table.old.records slots) capacity lba cut.old cut.new result }
     ensures at_most { result ≤ MAX_DESCRIPTORS }
 
-    // The runs that have addresses of the descriptors are visited, and at most one more.
+    // The runs that have addresses of the descriptors are visited, and at most one more. The one at
+    // the cursor was visited before.
     ensures table { table.new ≡ visited table.old (table.new.total - table.old.total) }
-    ensures rise { table.old.total ≤ table.new.total }
-    ensures least { (slots : Slots) →
+    ensures visits { (slots : Slots) →
         let contents = chained_contents table.old.records slots in
         let count = covered (descriptors_from contents capacity lba MAX_DESCRIPTORS) in
-        table.old.total + records_met table.old.records lba count
-        ≤ table.new.total + ahead cursor.next }
-    ensures most { (slots : Slots) →
-        let contents = chained_contents table.old.records slots in
-        let count = covered (descriptors_from contents capacity lba MAX_DESCRIPTORS) in
-        table.new.total + ahead cursor.next
-        ≤ table.old.total + records_met table.old.records lba count + 1 }
+        let met = records_met table.old.records lba count in
+        VisitsBetween (met - ahead cursor.next) (met + 1 - ahead cursor.next) table.old table.new }
 {
     let mut cursor = cursor;
     let mut next = lba;

@@ -1,10 +1,9 @@
 -- The descriptors of addresses in a row, by the records of a table.
 use Rattle.std.proofs.Common.{◌≡◌, ◌≢◌, ℕ, ◌+◌, ◌-◌, ◌<◌, ◌≤◌, List}
 use Rattle.std.proofs.Common.{length, arith, sym, ap, ◌∙◌}
-use Rattle.std.proofs.Common.{inl, inr, Bool, true, false, Option, Some, None}
+use Rattle.std.proofs.Common.{inl, inr, true, false, Option, Some, None}
 use Rattle.std.proofs.lemmas.Bool.{cases_lt}
-use Rattle.std.proofs.lemmas.Bool.Decides.{nat_tests}
-use Rattle.std.specs.Prelude.{min, ◌==◌}
+use Rattle.std.specs.Prelude.{min}
 use Rattle.std.specs.FinMap.{contains_key, get}
 use Rattle.sg_store.specs.Disk.{IsWellFormed}
 use Rattle.sg_store.specs.LbaStatus.{descriptor_at}
@@ -146,14 +145,6 @@ module _ (rs : List Run) (capacity a k i : ℕ) (next : Option Run) (t : IsTable
       let high = gap-high capacity i rs next t at in
       described (contents_of rs bs) capacity a k false (gap-here bs) (omega arith) (gap-none bs)
       (gap-stop capacity a k i rs bs next t at is low)
-
--- whether there is room for another one
-pub is-full : (full : Bool) (count most : ℕ) → full ≡ (count == most) → full ≡ true → most ≤ count
-is-full full count most is on = grind (arith, nat_tests)
-
-pub not-full : (full : Bool) (count most : ℕ) → full ≡ (count == most) → full ≡ false → count ≤ most
-    → count < most
-not-full full count most is off room = grind (arith, nat_tests)
 
 -- the visits to the records of the addresses so far, and to the one behind them
 pub visits-so_far : (rs : List Run) (bs : List (List ℕ)) (from a k : ℕ) (cursor : Cursor) (next : ℕ)

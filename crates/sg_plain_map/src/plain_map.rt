@@ -8,11 +8,11 @@ ghost use Rattle.sg_pool.specs.MappedRecords.{IsConsistent};
 ghost use Rattle.sg_store.specs.declared.store.TheConstants.{MAX_CAPACITY, MAX_POOL};
 
 use crate::read::read_blocks;
-use crate::status::describe_from;
+use crate::status::write_descriptors;
 use crate::unmap::unmap_records;
 use crate::write::write_blocks;
 use sg_pool::{Pool, Source};
-use sg_store::lba_status::write_status_data;
+use sg_store::lba_status::status_header;
 use sg_store::{BLOCK_LENGTH, Counts, Space, Store};
 use sg_table::{Draft, RunTable};
 use sg_wire::Cut;
@@ -120,9 +120,12 @@ impl Store for PlainMap {
     }
 
     fn status(&mut self, lba: u64, cut: &mut Cut) {
+        let at = cut.written();
+        cut.put(&status_header(0));
         let from = self.table.lower_bound(lba);
-        let descriptors = describe_from(&mut self.table, from, lba, self.capacity);
-        write_status_data(&descriptors, cut);
+        let count = write_descriptors(&mut self.table, from, lba, self.capacity, cut);
+        // Their number is known only now. The header with it is written over the one that was put.
+        cut.replace(at, &status_header(count));
     }
 
     fn mapped(&self) -> u32 {

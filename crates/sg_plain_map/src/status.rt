@@ -1,5 +1,6 @@
 ghost use Rattle.std.specs.Prelude.{◌≡◌, ℕ, ◌+◌, ◌-◌, ◌<◌, ◌≤◌, List, None};
 ghost use Rattle.sg_store.specs.LbaStatus.{covered, descriptor_at, descriptors_from};
+ghost use Rattle.sg_store.specs.LbaStatus.{PutsDescriptors};
 ghost use Rattle.sg_table.specs.Records.{IsLowerBound};
 ghost use Rattle.sg_pool.specs.MappedRecords.{contents_of};
 ghost use Rattle.sg_table.specs.Table.{visited};
@@ -8,10 +9,10 @@ ghost use Rattle.sg_table.specs.Records.{passed};
 ghost use Rattle.sg_table.specs.Records.{run_at};
 ghost use Rattle.sg_plain_map.specs.Status.{AreInRow, IsTableOf};
 
-use arrayvec::ArrayVec;
 use sg_store::lba_status::{MAX_ADDRESSES, MAX_DESCRIPTORS, ProvisioningStatus, StatusDescriptor};
 use sg_store::{MAX_CAPACITY, MAX_COUNT, MAX_POOL};
 use sg_table::{Cursor, RunTable};
+use sg_wire::Cut;
 
 /// Goes past the records of mapped addresses in a row, of which the cursor's address is the first.
 fn pass_mapped(table: &mut RunTable, cursor: Cursor, lba: u64) -> Cursor
@@ -70,34 +71,40 @@ fn describe(
     }
 }
 
-/// The descriptors from an address on, of which the records begin at an index.
-pub fn describe_from(
+/// Writes the descriptors from an address on as they are found, and returns how many there are. The
+/// records from that address on begin at an index.
+pub fn write_descriptors(
     table: &mut RunTable,
     from: usize,
     lba: u64,
     capacity: u64,
-) -> ArrayVec<StatusDescriptor, MAX_DESCRIPTORS>
+    cut: &mut Cut,
+) -> usize
     requires index { IsLowerBound table.old.records from lba }
     requires table { IsTableOf capacity table.old.records }
     requires headroom { table.old.visits ≤ MAX_COUNT }
 
     // Which addresses are mapped does not depend on their blocks.
-    ensures descriptors { (blocks : List (List ℕ)) → result.items
-        ≡ descriptors_from (contents_of table.old.records blocks) capacity lba MAX_DESCRIPTORS }
+    ensures descriptors { (blocks : List (List ℕ)) → PutsDescriptors
+        (contents_of table.old.records blocks) capacity lba cut.old cut.new result }
+    ensures at_most { result ≤ MAX_DESCRIPTORS }
 
     // The table changes by visits alone.
     ensures table { table.new ≡ visited table.old (table.new.total - table.old.total) }
-    ensures visits { (blocks : List (List ℕ)) → VisitsRange
-        (contents_of table.old.records blocks) lba (covered result.items) table.old table.new }
+    ensures visits { (blocks : List (List ℕ)) →
+        let contents = contents_of table.old.records blocks in
+        let count = covered (descriptors_from contents capacity lba MAX_DESCRIPTORS) in
+        VisitsRange contents lba count table.old table.new }
 {
-    let mut descriptors = ArrayVec::new();
     let mut cursor = Cursor::new(table, from);
     let mut next = lba;
-    while next < capacity && !descriptors.is_full() {
+    let mut count = 0;
+    while next < capacity && count < MAX_DESCRIPTORS {
         let (descriptor, end) = describe(table, cursor, next, capacity);
-        descriptors.push(descriptor);
+        cut.put(&descriptor.bytes());
         next += u64::from(descriptor.count);
         cursor = end;
+        count += 1;
     }
-    descriptors
+    count
 }

@@ -1,9 +1,8 @@
 -- Addresses in a row that have one provisioning status, and the descriptors of them.
 use Rattle.std.proofs.Common.{◌≡◌, ℕ, ◌+◌, ◌-◌, ◌<◌, ◌≤◌, zero, suc, List, [], ◌∷◌, ◌++◌}
-use Rattle.std.proofs.Common.{length, arith, refl, sym, ap, ap₂, ◌∙◌, append_assoc, length-append}
-use Rattle.std.proofs.Common.{◌⊎◌, inl, inr, cond, Bool, true, false}
+use Rattle.std.proofs.Common.{arith, refl, sym, ap, ap₂, ◌∙◌}
+use Rattle.std.proofs.Common.{cond, Bool, true, false}
 use Rattle.std.proofs.lemmas.Bool.Decides.{nat_tests}
-use Rattle.std.proofs.lemmas.List.{append-nil}
 use Rattle.std.proofs.lemmas.List.Sums.{sum_by-append}
 use Rattle.std.specs.List.{prefix_len, range_with_len}
 use Rattle.std.specs.Prelude.{not, min, nat_lt, ◌==◌}
@@ -87,34 +86,6 @@ unfolding descriptors_from
 descriptors-end m capacity a zero past = refl
 descriptors-end m capacity a (suc n) past = let no : nat_lt a capacity ≡ false =
     grind (arith, nat_tests) in rw no refl
-
-module _ (m : Contents) (capacity a most : ℕ) (all items : List StatusDescriptor)
-    (so_far : all ≡ items ++ descriptors_from m capacity a (most - length items)) where
-  pub one-described : (d : StatusDescriptor) → a < capacity → length items < most → d ≡
-      descriptor_at m capacity a
-      → all ≡ (items ++ d ∷ []) ++ descriptors_from m capacity (a + d.count) (most - length (items ++ d ∷ []))
-  one-described d below room is =
-      let len : most - length items - 1 ≡ most - length (items ++ d ∷ []) =
-      omega (arith, length-append items (d ∷ [])) in
-      let more = descriptors-more m capacity a (most - length items) below (omega arith) in
-      let next : descriptors_from m capacity (a + count_alike m capacity a)
-      (most - length items - 1) ≡ descriptors_from m capacity (a + d.count)
-      (most - length (items ++ d ∷ []))
-      = ap₂ (λ n k. descriptors_from m capacity (a + n) k)
-      (ap (λ (x : StatusDescriptor). x.count) (sym is)) len in
-      so_far ∙ ap (λ xs. items ++ xs) (more ∙ ap₂ (λ x xs. x ∷ xs) (sym is) next)
-      ∙ sym (append_assoc items (d ∷ []) _)
-
-  pub all-described : (capacity ≤ a) ⊎ (most ≤ length items) → items ≡ all
-  all-described (inl past) = sym
-      (so_far ∙ ap (λ xs. items ++ xs) (descriptors-end m capacity a (most - length items) past)
-      ∙ append-nil items)
-  all-described (inr full) =
-      let none : most - length items ≡ 0 = omega arith in
-      sym
-      (so_far ∙ ap (λ xs. items ++ xs)
-      (ap (descriptors_from m capacity a) none ∙ descriptors-none m capacity a)
-      ∙ append-nil items)
 
 pub covered-more : (items : List StatusDescriptor) (d : StatusDescriptor)
     → covered (items ++ d ∷ []) ≡ covered items + d.count

@@ -1,9 +1,12 @@
 -- The provisioning status of a disk's addresses, as GET LBA STATUS returns it (SBC-3, 5.4).
-use Rattle.std.specs.Prelude.{ℕ, ◌+◌, ◌-◌, ◌*◌, zero, suc, if◌then◌else◌, ◌==◌, nat_lt, min}
+use Rattle.std.specs.Prelude.{◌≡◌, ℕ, ◌+◌, ◌-◌, ◌*◌, zero, suc, if◌then◌else◌, ◌==◌}
+use Rattle.std.specs.Prelude.{nat_lt, min}
 use Rattle.std.specs.Prelude.{List, [], ◌∷◌, ◌++◌, length, replicate, sum_by}
 use Rattle.std.specs.List.{flat_map, range_with_len, prefix_len}
 use Rattle.std.specs.FinMap.{contains_key}
 use Rattle.byteorder.specs.Endian.{big_bytes}
+use Rattle.sg_wire.specs.Cut.{Puts}
+use Rattle.sg_wire.specs.declared.cut.Cut.{Cut}
 use Rattle.sg_store.specs.Disk.{Contents, Disk}
 use Rattle.sg_store.specs.declared.lba_status.ProvisioningStatus.{ProvisioningStatus}
 use Rattle.sg_store.specs.declared.lba_status.ProvisioningStatus.TheVariants.{Mapped, Deallocated}
@@ -69,3 +72,10 @@ status_header count = big_bytes 4 (4 + 16 * count) ++ replicate 4 0
 unfoldable pub status_data : List StatusDescriptor → List ℕ
 status_data descriptors =
     status_header (length descriptors) ++ flat_map descriptor_bytes descriptors
+
+-- The descriptors from an address on are put, `count` of them.
+pub record PutsDescriptors (contents : Contents) (capacity lba : ℕ) (old new : Cut) (count : ℕ) :
+    Type 0 where
+  pub bytes : Puts old new
+      (flat_map descriptor_bytes (descriptors_from contents capacity lba MAX_DESCRIPTORS))
+  pub count_is : count ≡ length (descriptors_from contents capacity lba MAX_DESCRIPTORS)

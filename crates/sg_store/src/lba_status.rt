@@ -1,10 +1,9 @@
-// The provisioning status of addresses, as GET LBA STATUS returns it.
-ghost use Rattle.std.specs.Prelude.{◌≡◌, ◌≤◌, length};
-ghost use Rattle.sg_wire.specs.Cut.{Puts};
-ghost use Rattle.sg_store.specs.LbaStatus.{code_of, descriptor_bytes, status_data, status_header};
+//! The parameter data of GET LBA STATUS, part by part: a header and descriptors. Which descriptors
+//! there are is a store's to find, and how many of their bytes are returned a `Cut`'s.
+ghost use Rattle.std.specs.Prelude.{◌≡◌, ◌≤◌};
+ghost use Rattle.sg_store.specs.LbaStatus.{code_of, descriptor_bytes, status_header};
 
 use byteorder::{BigEndian, ByteOrder};
-use sg_wire::Cut;
 
 /// The most descriptors that an answer has.
 pub const MAX_DESCRIPTORS: usize = 512;
@@ -28,6 +27,7 @@ pub enum ProvisioningStatus {
 }
 
 impl ProvisioningStatus {
+    // PROVISIONING STATUS.
     fn code(self) -> u8
         ensures { result ≡ code_of self }
     {
@@ -42,11 +42,12 @@ pub struct StatusDescriptor {
     pub lba: u64,
     /// The number of addresses, `MAX_ADDRESSES` at most.
     pub count: u32,
+    /// Their provisioning status.
     pub status: ProvisioningStatus,
 }
 
 impl StatusDescriptor {
-    /// The bytes of the descriptor.
+    /// The bytes of the descriptor, big-endian.
     pub fn bytes(&self) -> [u8; DESCRIPTOR_LENGTH]
         ensures { result ≡ descriptor_bytes self.now }
     {
@@ -58,19 +59,9 @@ impl StatusDescriptor {
     }
 }
 
-/// Writes the parameter data of GET LBA STATUS (SBC-3, 5.4.2) with these descriptors.
-pub fn write_status_data(descriptors: &[StatusDescriptor], cut: &mut Cut)
-    requires { length descriptors.now ≤ MAX_DESCRIPTORS }
-    ensures { Puts cut.old cut.new (status_data descriptors.now) }
-{
-    cut.put(&header(descriptors.len()));
-    for descriptor in descriptors {
-        cut.put(&descriptor.bytes());
-    }
-}
-
-/// What the parameter data of `count` descriptors begins with.
-pub fn header(count: usize) -> [u8; HEADER_LENGTH]
+/// What the parameter data of `count` descriptors begins with (SBC-3, 5.4.2). A store that finds
+/// the descriptors one by one puts it first with a count of 0, and replaces it at the end.
+pub fn status_header(count: usize) -> [u8; HEADER_LENGTH]
     requires { count ≤ MAX_DESCRIPTORS }
     ensures { result ≡ status_header count }
 {

@@ -1,4 +1,5 @@
-use Rattle.std.proofs.Common.{◌+◌, ◌-◌, sym, ◌∙◌, arith}
+use Rattle.std.proofs.Common.{◌≡◌, ◌+◌, ◌-◌, sym, ◌∙◌, arith}
+use Rattle.sg_block_map.specs.Runs.{end_of}
 use Rattle.sg_block_map.proofs.StatusLemmas.{gap-low, gap-described, gap-rest, gap-on, over-high}
 use Rattle.sg_block_map.proofs.StatusLemmas.{over-described, over-met, over-rest, over-on}
 use Rattle.sg_block_map.proofs.status.describe.Goals as goal
@@ -27,19 +28,20 @@ returns-in_default-clause-cursor c =
     c.requires.table c.requires.cursor (sym c.run_over.ensures ∙ c.in_default.is) c.requires.address
     c.count_unmapped-count.ensures
 
-pub returns-in_default-clause-rest : goal.returns-in_default-clause-rest
-returns-in_default-clause-rest c =
-    gap-rest c.args.table.now.records c.args.capacity c.args.lba c.count_unmapped-count.result
-    c.args.cursor
-    c.requires.table c.requires.cursor (sym c.run_over.ensures ∙ c.in_default.is) c.requires.address
-    c.count_unmapped-count.ensures
-
-pub returns-in_default-clause-not_empty : goal.returns-in_default-clause-not_empty
-returns-in_default-clause-not_empty c =
+pub returns-in_default-clause-met : goal.returns-in_default-clause-met
+returns-in_default-clause-met c =
     let low = gap-low c.args.table.now.records c.args.capacity c.args.lba c.args.lba c.args.cursor
     c.requires.table c.requires.cursor
     (sym c.run_over.ensures ∙ c.in_default.is) c.requires.address in
-    omega (arith, low, c.count_unmapped-count.ensures)
+    record {
+      not_empty = omega (arith, low, c.count_unmapped-count.ensures);
+      order = omega arith;
+      met = λ i ge lt. absurd (omega arith);
+      rest = gap-rest c.args.table.now.records c.args.capacity c.args.lba
+          c.count_unmapped-count.result c.args.cursor c.requires.table c.requires.cursor
+          (sym c.run_over.ensures ∙ c.in_default.is) c.requires.address
+          c.count_unmapped-count.ensures;
+    }
 
 -- the address is mapped
 pub overflow_sub-count : goal.overflow_sub-count
@@ -77,25 +79,15 @@ returns-clause-met c =
     let is = sym c.run_over.ensures ∙ c.in-Some.is in
     let high = over-high rs c.args.capacity c.args.lba c.args.cursor c.requires.table
     c.requires.cursor c.in-Some.run' is in
-    rw c.new-end.ensures.index
-    (over-met rs c.args.capacity c.args.lba c.args.cursor c.requires.table c.requires.cursor
-    c.in-Some.run' is
-    (c.in-Some.run'.start + c.from.result - c.args.lba) (omega (arith, high, c.from.ensures)))
-
-pub returns-clause-rest : goal.returns-clause-rest
-returns-clause-rest c =
-    let rs = c.args.table.now.records in
-    let is = sym c.run_over.ensures ∙ c.in-Some.is in
-    let high = over-high rs c.args.capacity c.args.lba c.args.cursor c.requires.table
-    c.requires.cursor c.in-Some.run' is in
-    rw c.new-end.ensures.index
-    (over-rest rs c.args.capacity c.args.lba c.args.cursor c.requires.table c.requires.cursor
-    c.in-Some.run' is
-    (c.in-Some.run'.start + c.from.result - c.args.lba) (omega (arith, high, c.from.ensures)))
-
-pub returns-clause-not_empty : goal.returns-clause-not_empty
-returns-clause-not_empty c =
-    let high = over-high c.args.table.now.records c.args.capacity c.args.lba c.args.cursor
-    c.requires.table c.requires.cursor
-    c.in-Some.run' (sym c.run_over.ensures ∙ c.in-Some.is) in
-    omega (arith, high, c.from.ensures)
+    let count = c.in-Some.run'.start + c.from.result - c.args.lba in
+    let long : c.args.lba + count ≡ end_of c.in-Some.run' = omega (arith, high, c.from.ensures) in
+    record {
+      not_empty = omega (arith, high, c.from.ensures);
+      order = omega (arith, c.new-end.ensures.index);
+      met = rw c.new-end.ensures.index
+          (over-met rs c.args.capacity c.args.lba c.args.cursor c.requires.table
+          c.requires.cursor c.in-Some.run' is count long);
+      rest = rw c.new-end.ensures.index
+          (over-rest rs c.args.capacity c.args.lba c.args.cursor c.requires.table
+          c.requires.cursor c.in-Some.run' is count long);
+    }
