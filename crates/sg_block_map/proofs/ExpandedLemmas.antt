@@ -124,13 +124,13 @@ pub is_chain-set : (next : List ℕ) (t to first last count : ℕ)
     → occurrences t (chain next first count) ≡ 0 → IsChain next first last count
     → IsChain (set next t to) first last count
 is_chain-set next t to first last count none is =
-    let some = is.some in
+    let some = is.not_empty in
     let e : count - 1 + 1 ≡ count = omega arith in
     let parts = rw e at (chain-append next first (count - 1) 1) in
     let both = ap (occurrences t) parts ∙ occurrences-append t (chain next first (count - 1))
     (chain next (slot_after next first (count - 1)) 1) in
     record {
-      some = is.some;
+      not_empty = is.not_empty;
       ends = is.ends ∙ sym
           (slot_after-set next t to first (count - 1) (omega arith));
     }
@@ -165,7 +165,7 @@ pub runs-le : (next : List ℕ) (runs : List Run) → AreChained next runs
     → length runs ≤ length (expanded next runs)
 runs-le next [] h = omega arith
 runs-le next (run ∷ runs) h =
-    let some = h.0.some in
+    let some = h.0.not_empty in
     let rest = runs-le next runs h.1 in
     let len = ap length (expanded-more next run runs)
     ∙ length-append (singles_of next run) (expanded next runs) in
@@ -175,5 +175,5 @@ runs-le next (run ∷ runs) h =
 -- the last slot of a chain is in it
 pub last-in : (next : List ℕ) (first last count : ℕ) → IsChain next first last count
     → 1 ≤ occurrences last (chain next first count)
-last-in next first last count is = let some = is.some in
+last-in next first last count is = let some = is.not_empty in
     rw is.ends (slot_after-in next first (count - 1) count (omega arith))

@@ -189,7 +189,7 @@ module _ (before after runs : List Run) (done result : Run) (run : Option Run) (
         w'.chained_before w'.chained_after.0 w'.chained_after.1
 
     some_count : 0 < (joined done found).count
-    some_count = let some = w'.chained_after.0.some in omega arith
+    some_count = let some = w'.chained_after.0.not_empty in omega arith
 
     pub found-runs : length new.next ≡ room → AreRuns (before ++ result ∷ after) new room
     found-runs len = rw f'.0 (rw f'.1 (written-runs before after (joined done found)

@@ -11,9 +11,13 @@ use Rattle.std.specs.List.{count_by, splice}
 use Rattle.std.specs.Prelude.{nat_lt, nat_le, ◌&&◌}
 use Rattle.sg_table.specs.Draft.{Drafted}
 use Rattle.sg_table.specs.Records.{start_of, IsLowerBound}
+use Rattle.sg_table.specs.Search.{CostsSearch}
+use Rattle.sg_table.specs.Table.{Table, visited, probed}
 use Rattle.sg_table.specs.declared.run.Run.{Run}
+use Rattle.sg_table.proofs.TableLemmas.{visited-more}
 use Rattle.sg_block_map.specs.Gathering.{end_at, AreNear, starts_in, end_index, AreGathered}
-use Rattle.sg_block_map.specs.Gathering.{AreBegun}
+use Rattle.sg_block_map.specs.Gathering.{AreBegun, AreGatheredOn}
+use Rattle.sg_block_map.specs.Metering.{Visits, SearchesAndVisits}
 use Rattle.sg_block_map.specs.Runs.{end_of, AreMaximal}
 use Rattle.sg_table.proofs.SpliceLemmas.{same-splice, front_of}
 use Rattle.sg_block_map.proofs.BetweenLemmas.{start_of-left, maximal-le}
@@ -268,3 +272,52 @@ pub end-within : (rs : List Run) (a b i : ℕ) (d : Run) → AreMaximal a b rs �
 end-within [] a b i d h lt = absurd (omega arith)
 end-within (x ∷ rs) a b zero d h lt = let le = maximal-le rs (end_of x + 1) b h.1 in omega arith
 end-within (x ∷ rs) a b (suc i) d h lt = end-within rs (end_of x + 1) b i d h.1 (omega arith)
+
+-- what was gathered up to an index, and on from it
+pub gathered-on : (rs : List Run) (old now : Drafted) (index at high : ℕ) → now.from ≡ old.from
+    → index ≤ at → end_index now ≡ at → at ≤ length rs
+    → splice rs now.from at now.records ≡ rs
+    → ((i : ℕ) → index ≤ i → i < at → start_of rs i ≤ high)
+    → (at < length rs → high < start_of rs at) → AreGatheredOn rs old now index high
+gathered-on rs old now index at high from order reached within same near after = record {
+  from = from;
+  order = omega (arith, order, reached);
+  within = omega (arith, within, reached);
+  same = rw reached same;
+  near = rw reached near;
+  after = rw reached after;
+}
+
+-- records that were visited
+pub visits-of : (t u : Table) (n at_least at_most : ℕ) → u ≡ visited t n → at_least ≤ n
+    → n ≤ at_most → Visits at_least at_most t u
+visits-of t u n at_least at_most is low high =
+    let total = ap (λ (x : Table). x.total) is in
+    let count : n ≡ u.total - t.total = omega (arith, total) in
+    record {
+      table = is ∙ ap (visited t) count;
+      fewest_visits = omega (arith, total, low);
+      most_visits = omega (arith, total, high);
+    }
+
+-- visits after a search
+pub searched-visits : (s t u v : Table) (a b a' b' : ℕ) → t ≡ probed s (t.probes - s.probes)
+    → s.probes ≤ t.probes → CostsSearch (length s.records) (t.probes - s.probes)
+    → Visits a b t u → Visits a' b' u v → SearchesAndVisits (a + a') (b + b') s v
+searched-visits s t u v a b a' b' is rise search first more =
+    let start : t.total ≡ s.total = ap (λ (x : Table). x.total) is in
+    let probes : v.probes ≡ t.probes = ap (λ (x : Table). x.probes) more.table
+    ∙ ap (λ (x : Table). x.probes) first.table in
+    let n = u.total - t.total in
+    let m = v.total - u.total in
+    let all : n + m ≡ v.total - s.total =
+    omega (arith, start, first.fewest_visits, more.fewest_visits) in
+    record {
+      table = more.table ∙ ap (λ x. visited x m) first.table ∙ visited-more t n m
+          ∙ ap (visited t) all ∙ ap (λ x. visited x (v.total - s.total)) is
+          ∙ ap (λ k. visited (probed s (k - s.probes)) (v.total - s.total)) (sym probes);
+      probes_rise = omega (arith, rise, probes);
+      search = rw probes search;
+      fewest_visits = omega (arith, start, first.fewest_visits, more.fewest_visits);
+      most_visits = omega (arith, start, first.most_visits, more.most_visits);
+    }

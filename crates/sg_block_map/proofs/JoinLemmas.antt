@@ -152,7 +152,7 @@ join_chain next done other (suc n) e so is low once =
     let other_none : occurrences done.last (chain next other.first other.count) ≡ 0
     = let some = last-in next done.first done.last done.count (is pos) in omega arith in
     let now : List ℕ = set next done.last other.first in
-    let some = so.some in
+    let some = so.not_empty in
     let k : n + 1 ≡ done.count = omega (arith, e) in
     let m : done.count + (other.count - 1) ≡ done.count + other.count - 1 = omega arith in
     let on : slot_after now done.first done.count ≡ other.first =
@@ -160,7 +160,7 @@ join_chain next done other (suc n) e so is low once =
     let kept = is_chain-set next done.last other.first other.first other.last other.count other_none
     so in
     rw (a_link next done other.first n e, a_first done other n e) (record {
-      some = omega arith;
+      not_empty = omega arith;
       ends = kept.ends ∙ ap (λ f. slot_after now f (other.count - 1)) (sym on)
           ∙ sym (slot_after-add now done.first done.count (other.count - 1))
           ∙ ap (slot_after now done.first) m;

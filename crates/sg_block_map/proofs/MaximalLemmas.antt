@@ -98,7 +98,7 @@ runs-expanded next [] a b h k = ap (λ xs. runs_of (map (λ (x : Run). x.start) 
     (expanded-none next)
 runs-expanded next (run ∷ rs) a b h k =
     let rest = runs-expanded next rs (end_of run + 1) b h.1 k.1 in
-    let some = k.0.some in
+    let some = k.0.not_empty in
     let e : run.count ≡ suc (run.count - 1) = omega arith in
     let later : ArePast (end_of run + 1) (runs_of (map (λ (x : Run). x.start) (expanded next rs))) =
     rw rest (past-extents rs (end_of run + 1) b h.1) in
@@ -129,7 +129,7 @@ starts-le next [] lba count k = omega arith
 starts-le next (run ∷ rs) lba count k =
     omega (
       arith,
-      starts_meets lba count run.start run.count k.0.some,
+      starts_meets lba count run.start run.count k.0.not_empty,
       starts-le next rs lba count k.1,
       count-more (starts_in lba (lba + count)) run rs,
       count-more (meets lba count) (extent_of run) (map extent_of rs),

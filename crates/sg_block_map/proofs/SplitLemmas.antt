@@ -59,7 +59,7 @@ pub rest-chain : (next : List ℕ) (run : Run) (n : ℕ) → n < run.count
 rest-chain next run n lt is =
     let e : n + (run.count - n - 1) ≡ run.count - 1 = omega arith in
     record {
-      some = omega arith;
+      not_empty = omega arith;
       ends = is.ends ∙ ap (slot_after next run.first) (sym e)
           ∙ slot_after-add next run.first n (run.count - n - 1);
     }
@@ -93,7 +93,7 @@ is_split-both next run lba l r is =
           ∙ ap (λ xs. singles_of next (front_of next run n) ++ xs)
           (expanded-one next (rest_of next run n)) ∙ split-parts next run n (omega arith);
       chained = (
-        record { some = omega arith; ends = refl },
+        record { not_empty = omega arith; ends = refl },
         (rest-chain next run n (omega arith) is, tt),
       );
       before = (refl, omega arith, omega arith);

@@ -302,7 +302,7 @@ ahead-is rs i (Some r) n le = omega (arith, n.0)
 chained-filled : (next : List ℕ) (rs : List Run) (i : ℕ) → AreChained next rs → i < length rs
     → start_of rs i < end_at rs i
 chained-filled next [] i h lt = absurd (omega arith)
-chained-filled next (x ∷ rs) zero h lt = omega (arith, h.0.some)
+chained-filled next (x ∷ rs) zero h lt = omega (arith, h.0.not_empty)
 chained-filled next (x ∷ rs) (suc i) h lt = chained-filled next rs i h.1 (omega arith)
 
 short-by : (rs : List Run) (i : ℕ) → i < length rs → end_at rs i ≤ start_of rs i + blocks_of rs

@@ -17,6 +17,7 @@ use Rattle.sg_pool.specs.Slots.{Slots}
 use Rattle.sg_table.specs.Table.{Table, visited, probed}
 use Rattle.sg_table.specs.declared.run.Run.{Run}
 use Rattle.sg_store.specs.declared.store.TheConstants.{MAX_POOL, MAX_CAPACITY}
+use Rattle.sg_block_map.specs.Metering.{SearchesAndVisits}
 use Rattle.sg_block_map.specs.Gathering.{starts_in, overlap, AreGathered, end_index}
 use Rattle.sg_block_map.specs.MaximalRuns.{runs, meet, blocks_near}
 use Rattle.sg_block_map.specs.RunCost.{block_price, CostsRuns, CostsRange}
@@ -122,7 +123,7 @@ searched : (probes count digits : ℕ) → CostsSearch count probes → count < 
 searched probes count digits is lt = elim (cases_lt (digits + 1) probes) [
   | inl more ↦
       let rises : 2 ^ (digits + 2) ≤ 2 ^ probes = pow_mono (omega (arith, more)) in
-      let most = is.most in
+      let most = is.most_probes in
       absurd (omega (arith, rises, pow-add 2 digits 2))
   | inr le ↦ le
 ]
@@ -142,7 +143,7 @@ module _ (rs : List Run) (slots after_slots : Slots) (room lba count : ℕ) (bef
       let restarts = ap (λ (t : Table). t.restarts) table in
       let fit = runs-fit rs slots room h in
       let len = ap length same in
-      let probes = probes-le (after.probes - before.probes) (length before.records) search.most
+      let probes = probes-le (after.probes - before.probes) (length before.records) search.most_probes
       (omega arith) in
       record {
         visits = omega arith;
@@ -195,17 +196,21 @@ pub gathered-range : (before after : Table) (slots after_slots : Slots) (capacit
     (gathered : Drafted) → AreRuns before.records slots before.room
     → AreGathered before.records gathered lba (lba + count) (MAX_CAPACITY + 1)
     → before.room ≤ MAX_POOL
-    → after ≡ visited (probed before (after.probes - before.probes)) (after.total - before.total)
-    → before.probes ≤ after.probes
-    → CostsSearch (length before.records) (after.probes - before.probes)
-    → before.total + length gathered.records ≤ after.total
-    → after.total ≤ before.total + count_by (starts_in lba (lba + count)) before.records + 2
+    → SearchesAndVisits (length gathered.records)
+    (count_by (starts_in lba (lba + count)) before.records + 2) before after
     → slots.links ≤ after_slots.links
     → after_slots.links ≤ slots.links + blocks_of gathered.records
     → CostsRange (disk_at capacity before slots) lba count
     (meter_at before slots) (meter_at after after_slots)
-gathered-range before after slots after_slots capacity lba count gathered h g small is rise search
-    least most links_rise links =
+gathered-range before after slots after_slots capacity lba count gathered h g small counted
+    links_rise links =
+    let is = counted.table in
+    let rise = counted.probes_rise in
+    let search = counted.search in
+    let least = counted.fewest_visits in
+    let most : after.total
+    ≤ before.total + count_by (starts_in lba (lba + count)) before.records + 2 =
+    omega (arith, counted.most_visits) in
     let rs = before.records in
     let room = before.room in
     let total : before.total ≤ after.total = omega (arith, least) in

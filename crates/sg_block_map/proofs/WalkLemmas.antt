@@ -98,7 +98,7 @@ pub passed-ahead : (next : List ℕ) (count lba : ℕ) (run : Run) (more : List 
     → AreAhead next count lba (run ∷ more) → run.start ≡ lba
     → AreAhead next count (lba + 1) (passed next run more)
 passed-ahead next count lba run more h at =
-    let some = h.chained.0.some in
+    let some = h.chained.0.not_empty in
     let below = rw (ap slots_of (passed-expanded next run more some)) at h.below in
     record {
       maximal = passed-by (AreMaximal (lba + 1) (MAX_CAPACITY + 1)) next run more some
@@ -133,7 +133,7 @@ pub ahead-first : (next : List ℕ) (count lba : ℕ) (run : Run) (more : List R
     → AreBelow count (chain next run.first run.count) × (end_of run ≤ MAX_CAPACITY)
     × (run.count ≤ length (expanded next (run ∷ more))) × (run.first < count)
 ahead-first next count lba run more h =
-    let some = h.chained.0.some in
+    let some = h.chained.0.not_empty in
     let slots : slots_of (expanded next (run ∷ more)) ≡
     chain next run.first run.count ++ slots_of (expanded next more)
     = ap slots_of (expanded-more next run more)
@@ -291,7 +291,7 @@ module _ (next : List ℕ) (count lba at : ℕ) (runs : List Run) (run : Option 
       let t = there run lba found is in
       ap (λ o. block (contents_of (expanded next (ahead_of runs o at)) bs) lba) t.0
       ∙ ap (λ xs. block (contents_of xs bs) lba)
-      (passed-expanded next found (drop at runs) first-there.chained.0.some)
+      (passed-expanded next found (drop at runs) first-there.chained.0.not_empty)
       ∙ ap (λ q. block (contents_of (single found.start found.first ∷ expanded next
       (passed next found (drop at runs))) bs) q) (sym t.1)
       ∙ block-first bs (single found.start found.first)
@@ -309,7 +309,7 @@ module _ (next : List ℕ) (count lba at : ℕ) (runs : List Run) (run : Option 
       let other : q ≢ found.start = λ same. let at = t.1 in absurd (omega arith) in
       sym (ap (λ o. map.get (contents_of (expanded next (ahead_of runs o at)) bs) q) t.0
       ∙ ap (λ xs. map.get (contents_of xs bs) q)
-      (passed-expanded next found (drop at runs) first-there.chained.0.some)
+      (passed-expanded next found (drop at runs) first-there.chained.0.not_empty)
       ∙ get-later bs (single found.start found.first)
       (expanded next (passed next found (drop at runs))) q other)
 
@@ -317,7 +317,7 @@ module _ (next : List ℕ) (count lba at : ℕ) (runs : List Run) (run : Option 
       length (expanded next (passed next found (drop at runs))) + 1
   first-length =
       let t = there run lba found is in
-      let e = ap length (passed-expanded next found (drop at runs) first-there.chained.0.some) in
+      let e = ap length (passed-expanded next found (drop at runs) first-there.chained.0.not_empty) in
       ap (λ o. length (expanded next (ahead_of runs o at))) t.0 ∙ omega arith
 
 -- no run is there

@@ -42,7 +42,7 @@ insert-seam : (xs ys : List Run) (r : Run) → insert (xs ++ ys) (length xs) r �
 insert-seam xs ys r = ap₂ (λ a b. a ++ r ∷ b) (take-append_seam xs ys) (drop-append_seam xs ys)
 
 one-chain : (next : List ℕ) (slot : ℕ) → IsChain next slot slot 1
-one-chain next slot = record { some = omega arith; ends = sym (slot_after-none next slot) }
+one-chain next slot = record { not_empty = omega arith; ends = sym (slot_after-none next slot) }
 
 single-more : (next : List ℕ) (lba slot : ℕ) (rest : List Run)
     → expanded next (single lba slot ∷ rest) ≡ single lba slot ∷ expanded next rest
@@ -174,7 +174,7 @@ module _ (before : List Run) (done run : Run) (tail : List Run) (slots : Slots) 
   ys' = expanded slots.next rest'
 
   some' : 0 < run.count
-  some' = h.chained_after.0.some
+  some' = h.chained_after.0.not_empty
 
   was' : expanded slots.next (before ++ done ∷ (run ∷ tail)) ≡ xs' ++ single lba run.first ∷ ys'
   was' = parted slots.next before done (run ∷ tail)
@@ -304,7 +304,7 @@ pub slot-there : (before : List Run) (done run : Run) (tail : List Run) (slots :
 slot-there before done run tail slots lba h =
     let all : List Run = expanded slots.next (before ++ done ∷ (run ∷ tail)) in
     let c = h.chained_after.0 in
-    let some = c.some in
+    let some = c.not_empty in
     let first = rw (slot_after-none slots.next run.first) at
     (slot_after-in slots.next run.first 0 run.count some) in
     let both = occurrences-append run.first (slots_of all) slots.free in

@@ -3,7 +3,10 @@ use Rattle.std.specs.Prelude.{◌≡◌, ℕ, ◌+◌, ◌-◌, ◌<◌, ◌≤�
 use Rattle.std.specs.Prelude.{nat_le, nat_lt, ◌&&◌, min, max, length, take, drop}
 use Rattle.std.specs.List.{splice}
 use Rattle.sg_table.specs.Draft.{Drafted}
+use Rattle.sg_table.specs.Records.{start_of}
+use Rattle.sg_table.specs.Table.{Table}
 use Rattle.sg_table.specs.declared.run.Run.{Run}
+use Rattle.sg_store.specs.declared.store.TheConstants.{MAX_POOL}
 use Rattle.sg_block_map.specs.Runs.{end_of, AreMaximal}
 
 -- The address past the run at an index.
@@ -25,6 +28,12 @@ starts_in low high run = nat_le low run.start && nat_lt run.start high
 abbrev pub end_index : Drafted → ℕ
 end_index gathered = gathered.from + length gathered.records
 
+-- A table that is no larger than allowed, and a list of runs with room for all of its records.
+pub record HaveRoom (table : Table) (gathered : Drafted) : Type 0 where
+  pub fits : length table.records ≤ table.room
+  pub table_size : table.room ≤ MAX_POOL
+  pub room : gathered.room ≡ table.room
+
 -- All runs near a range were gathered from the table, and no other.
 pub record AreGathered (records : List Run) (gathered : Drafted) (low high bound : ℕ) : Type 0 where
   pub within : end_index gathered ≤ length records
@@ -40,6 +49,21 @@ pub record AreBegun (records : List Run) (gathered : Drafted) (index low : ℕ) 
   pub one : index ≤ gathered.from + 1
   pub reach : (i : ℕ) → gathered.from ≤ i → i < index → low ≤ end_at records i
   pub before : gathered.from ≡ index → 0 < index → end_at records (index - 1) < low
+
+-- Records up to an index were gathered.
+pub record AreGatheredTo (records : List Run) (gathered : Drafted) (index : ℕ) : Type 0 where
+  pub reached : end_index gathered ≡ index
+  pub within : index ≤ length records
+  pub same : splice records gathered.from index gathered.records ≡ records
+
+-- From an index on, the records that begin no later than an address were gathered besides.
+pub record AreGatheredOn (records : List Run) (old new : Drafted) (index high : ℕ) : Type 0 where
+  pub from : new.from ≡ old.from
+  pub order : index ≤ end_index new
+  pub within : end_index new ≤ length records
+  pub same : splice records new.from (end_index new) new.records ≡ records
+  pub near : (i : ℕ) → index ≤ i → i < end_index new → start_of records i ≤ high
+  pub after : end_index new < length records → high < start_of records (end_index new)
 
 -- How many addresses of a run lie between two others.
 abbrev pub overlap : (low high : ℕ) → Run → ℕ

@@ -1,24 +1,36 @@
 -- What the steps of a call count: records that are visited, and links that are followed.
 use Rattle.std.specs.Prelude.{◌≡◌, ℕ, ◌+◌, ◌-◌, ◌≤◌, length}
+use Rattle.sg_pool.specs.Slots.{Slots}
 use Rattle.sg_table.specs.Search.{CostsSearch}
 use Rattle.sg_table.specs.Table.{Table, visited, probed}
 
--- Records are visited, from `fewest_visits` to `most_visits` of them.
-pub record VisitsBetween (fewest_visits most_visits : ℕ) (before after : Table) : Type 0 where
-  pub fewest : before.total + fewest_visits ≤ after.total
-  pub most : after.total ≤ before.total + most_visits
+-- Records are visited, from `at_least` to `at_most` of them.
+pub record VisitsBetween (at_least at_most : ℕ) (before after : Table) : Type 0 where
+  pub fewest_visits : before.total + at_least ≤ after.total
+  pub most_visits : after.total ≤ before.total + at_most
 
 -- Records are visited, and nothing else of the table changes.
-pub record Visits (fewest_visits most_visits : ℕ) (before after : Table) : Type 0 where
+pub record Visits (at_least at_most : ℕ) (before after : Table) : Type 0 where
   pub table : after ≡ visited before (after.total - before.total)
-  pub fewest : before.total + fewest_visits ≤ after.total
-  pub most : after.total ≤ before.total + most_visits
+  pub fewest_visits : before.total + at_least ≤ after.total
+  pub most_visits : after.total ≤ before.total + at_most
 
 -- Addresses are compared by one binary search of the table, and then records are visited.
-pub record SearchesAndVisits (fewest_visits most_visits : ℕ) (before after : Table) : Type 0 where
+pub record SearchesAndVisits (at_least at_most : ℕ) (before after : Table) : Type 0 where
   pub table : after
       ≡ visited (probed before (after.probes - before.probes)) (after.total - before.total)
   pub probes_rise : before.probes ≤ after.probes
   pub search : CostsSearch (length before.records) (after.probes - before.probes)
-  pub fewest : before.total + fewest_visits ≤ after.total
-  pub most : after.total ≤ before.total + most_visits
+  pub fewest_visits : before.total + at_least ≤ after.total
+  pub most_visits : after.total ≤ before.total + at_most
+
+-- Links are followed, at most `at_most` of them.
+pub record FollowsLinks (at_most : ℕ) (before after : Slots) : Type 0 where
+  pub links_rise : before.links ≤ after.links
+  pub most_links : after.links ≤ before.links + at_most
+
+-- A link is followed only where a mapped address is passed: `ahead` of them were ahead, and
+-- `still_ahead` are.
+pub record FollowsPassed (ahead still_ahead : ℕ) (before after : Slots) : Type 0 where
+  pub links_rise : before.links ≤ after.links
+  pub most_links : after.links + still_ahead ≤ before.links + ahead

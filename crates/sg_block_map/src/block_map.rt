@@ -1,3 +1,5 @@
+// The store itself: a record for each maximal run of mapped addresses, in a table, and the blocks of a
+// run in a chain of slots. What its calls do to the runs is in the other files.
 ghost use Rattle.std.specs.Prelude.{◌≡◌, ◌+◌, ◌*◌, ◌<◌, ◌≤◌, ◌↔◌, length};
 ghost use Rattle.std.specs.Prelude.{IsErr, OnOk, OnErr};
 ghost use Rattle.std.proofs.Props.{props};
@@ -15,7 +17,7 @@ ghost use Rattle.sg_block_map.specs.RunsProps.{AreMaximal-IsProp, AreChained-IsP
 ghost use Rattle.sg_table.specs.Draft.{empty_draft};
 ghost use Rattle.sg_store.specs.declared.store.TheConstants.{MAX_CAPACITY, MAX_POOL};
 
-use crate::gather::{gather, mapped_in};
+use crate::gather::{Gathered, gather, mapped_in};
 use crate::read::read_runs;
 use crate::status::{cursor_over, write_descriptors};
 use crate::unmap::{renew_slots, unmap_runs};
@@ -37,7 +39,7 @@ pub struct BlockMap {
     table: RunTable,
     pool: Pool,
     /// The runs near a range, and what remains of them. Both are empty between calls.
-    gathered: Draft,
+    gathered: Gathered,
     remaining: Draft,
     ghost capacity_fits: { capacity ≤ MAX_CAPACITY },
     ghost pool_fits: { table.room ≤ MAX_POOL },
@@ -61,10 +63,10 @@ impl BlockMap {
         self.table.count()
     }
 
-    /// Replaces the blocks from an address on by those of a source.
-    ///
-    /// # Errors
-    /// More addresses would be mapped than the pool has blocks. Nothing is replaced then.
+    // Replaces the blocks from an address on by those of a source.
+    //
+    // # Errors
+    // More addresses would be mapped than the pool has blocks. Nothing is replaced then.
     fn replace(&mut self, lba: u64, count: u32, source: &Source) -> Result<(), Space>
         requires range { lba + count ≤ (disk_of self.old).capacity }
         requires blocks { HasBlocks source.now count }
@@ -123,7 +125,7 @@ impl Store for BlockMap {
             capacity,
             table: RunTable::new(alloc, pool)?,
             pool: Pool::new(alloc, pool)?,
-            gathered: Draft::new(alloc, pool)?,
+            gathered: Gathered::new(alloc, pool)?,
             remaining: Draft::new(alloc, pool)?,
         })
     }

@@ -1,22 +1,24 @@
-// Gathering the runs near a range from the table.
-ghost use Rattle.std.specs.Prelude.{◌≡◌, ◌+◌, ◌-◌, ◌<◌, ◌≤◌, ℕ, length, drop, nat_lt};
-ghost use Rattle.std.specs.List.{count_by, splice, sum_by};
-ghost use Rattle.sg_table.specs.Records.{IsLowerBound, start_of};
-ghost use Rattle.sg_table.specs.Search.{CostsSearch};
-ghost use Rattle.sg_table.specs.Table.{visited, probed};
-ghost use Rattle.sg_block_map.specs.Gathering.{AreGathered, AreBegun, end_index, overlap};
-ghost use Rattle.sg_block_map.specs.Gathering.{starts_in};
+// Gathering the runs near a range from the table: the only place that reads records for a command
+// over blocks. It knows neither slots nor blocks.
+ghost use Rattle.std.specs.Prelude.{◌≡◌, ◌+◌, ◌-◌, ◌≤◌, length, drop, nat_lt};
+ghost use Rattle.std.specs.List.{count_by, sum_by};
+ghost use Rattle.sg_table.specs.Records.{IsLowerBound};
+ghost use Rattle.sg_block_map.specs.Gathering.{AreBegun, AreGathered, AreGatheredOn, AreGatheredTo};
+ghost use Rattle.sg_block_map.specs.Gathering.{HaveRoom, end_index, overlap, starts_in};
+ghost use Rattle.sg_block_map.specs.Metering.{Visits, SearchesAndVisits};
 ghost use Rattle.sg_block_map.specs.Runs.{AreMaximal, blocks_of};
 
 use sg_store::{MAX_CAPACITY, MAX_COUNT, MAX_POOL};
 use sg_table::{Draft, Run, RunTable};
 
-/// Begins at the index of an address, with the run before it if that reaches the address.
-fn gather_before(table: &mut RunTable, gathered: &mut Draft, index: usize, low: u64)
+/// The runs near a range as the table has them, with the index of the first. Nothing is changed by
+/// changing these.
+pub(crate) type Gathered = Draft;
+
+// Begins at the index of an address, with the run before it if that reaches the address.
+fn gather_before(table: &mut RunTable, gathered: &mut Gathered, index: usize, low: u64)
     requires index { IsLowerBound table.old.records index low }
-    requires fits { length table.old.records ≤ table.old.room }
-    requires table_size { table.old.room ≤ MAX_POOL }
-    requires room { gathered.old.room ≡ table.old.room }
+    requires room { HaveRoom table.old gathered.old }
     requires range { low ≤ MAX_CAPACITY }
     requires headroom { table.old.visits ≤ MAX_COUNT }
 
@@ -24,9 +26,7 @@ fn gather_before(table: &mut RunTable, gathered: &mut Draft, index: usize, low: 
     ensures room { gathered.new.room ≡ gathered.old.room }
 
     // The record before the index is visited, if there is one.
-    ensures table { table.new ≡ visited table.old (table.new.total - table.old.total) }
-    ensures least { table.old.total + length gathered.new.records ≤ table.new.total }
-    ensures most { table.new.total ≤ table.old.total + 1 }
+    ensures visits { Visits (length gathered.new.records) 1 table.old table.new }
 {
     gathered.begin(index);
     if index == 0 {
@@ -39,37 +39,20 @@ fn gather_before(table: &mut RunTable, gathered: &mut Draft, index: usize, low: 
     }
 }
 
-/// Goes on from an index, up to the first run that begins past an address.
-fn gather_from(table: &mut RunTable, gathered: &mut Draft, index: usize, high: u64)
+// Goes on from an index, up to the first run that begins past an address.
+fn gather_from(table: &mut RunTable, gathered: &mut Gathered, index: usize, high: u64)
     requires runs { AreMaximal 0 (MAX_CAPACITY + 1) table.old.records }
-    requires reached { end_index gathered.old ≡ index }
-    requires within { index ≤ length table.old.records }
-    requires same { splice table.old.records gathered.old.from index gathered.old.records
-        ≡ table.old.records }
-    requires fits { length table.old.records ≤ table.old.room }
-    requires table_size { table.old.room ≤ MAX_POOL }
-    requires room { gathered.old.room ≡ table.old.room }
+    requires gathered { AreGatheredTo table.old.records gathered.old index }
+    requires room { HaveRoom table.old gathered.old }
     requires headroom { table.old.visits ≤ MAX_COUNT + 1 }
 
-    // The records are those of the table.
-    ensures from { (gathered.new.from ≡ gathered.old.from)
-        × (gathered.new.room ≡ gathered.old.room) }
-    ensures grows { (index ≤ end_index gathered.new)
-        × (end_index gathered.new ≤ length table.old.records) }
-    ensures same { splice table.old.records gathered.new.from (end_index gathered.new)
-        gathered.new.records ≡ table.old.records }
-
-    // Those that begin past the address are left out.
-    ensures near { (i : ℕ) → index ≤ i → i < end_index gathered.new
-        → start_of table.old.records i ≤ high }
-    ensures after { end_index gathered.new < length table.old.records
-        → high < start_of table.old.records (end_index gathered.new) }
+    ensures gathered { AreGatheredOn table.old.records gathered.old gathered.new index high }
+    ensures room { gathered.new.room ≡ gathered.old.room }
 
     // The gathered records are visited, and at most one more.
-    ensures table { table.new ≡ visited table.old (table.new.total - table.old.total) }
-    ensures least { table.old.total + end_index gathered.new ≤ table.new.total + index }
-    ensures most { table.new.total ≤ table.old.total
-        + count_by (λ run. nat_lt run.start high) (drop index table.old.records) + 1 }
+    ensures visits { Visits (end_index gathered.new - index)
+        (count_by (λ run. nat_lt run.start high) (drop index table.old.records) + 1)
+        table.old table.new }
 {
     for at in index..table.count() {
         let run = table.visit(at);
@@ -85,11 +68,9 @@ fn gather_from(table: &mut RunTable, gathered: &mut Draft, index: usize, high: u
 }
 
 /// Gathers the runs that meet or touch the range from an address on.
-pub fn gather(table: &mut RunTable, gathered: &mut Draft, lba: u64, count: u32)
+pub(crate) fn gather(table: &mut RunTable, gathered: &mut Gathered, lba: u64, count: u32)
     requires runs { AreMaximal 0 (MAX_CAPACITY + 1) table.old.records }
-    requires fits { length table.old.records ≤ table.old.room }
-    requires table_size { table.old.room ≤ MAX_POOL }
-    requires room { gathered.old.room ≡ table.old.room }
+    requires room { HaveRoom table.old gathered.old }
     requires range { lba + count ≤ MAX_CAPACITY }
     requires headroom { (table.old.probes ≤ MAX_COUNT) × (table.old.visits ≤ MAX_COUNT) }
 
@@ -97,15 +78,9 @@ pub fn gather(table: &mut RunTable, gathered: &mut Draft, lba: u64, count: u32)
         (MAX_CAPACITY + 1) }
     ensures room { gathered.new.room ≡ gathered.old.room }
 
-    // Only probes and visits are counted: the probes of one binary search, the visits of the
-    // gathered records, and at most two more than the runs that begin in the range.
-    ensures table { table.new ≡ visited (probed table.old (table.new.probes - table.old.probes))
-        (table.new.total - table.old.total) }
-    ensures rise { table.old.probes ≤ table.new.probes }
-    ensures search { CostsSearch (length table.old.records) (table.new.probes - table.old.probes) }
-    ensures least { table.old.total + length gathered.new.records ≤ table.new.total }
-    ensures most { table.new.total
-        ≤ table.old.total + count_by (starts_in lba (lba + count)) table.old.records + 2 }
+    // The gathered records are visited, and at most two more than the runs that begin in the range.
+    ensures visits { SearchesAndVisits (length gathered.new.records)
+        (count_by (starts_in lba (lba + count)) table.old.records + 2) table.old table.new }
 {
     let index = table.lower_bound(lba);
     gather_before(table, gathered, index, lba);
@@ -113,7 +88,7 @@ pub fn gather(table: &mut RunTable, gathered: &mut Draft, lba: u64, count: u32)
 }
 
 /// How many of the addresses from one on the runs have.
-pub fn mapped_in(runs: &[Run], lba: u64, count: u32) -> u64
+pub(crate) fn mapped_in(runs: &[Run], lba: u64, count: u32) -> u64
     requires fits { blocks_of runs.now ≤ MAX_POOL }
     requires runs { AreMaximal 0 (MAX_CAPACITY + 1) runs.now }
     requires range { lba + count ≤ MAX_CAPACITY }

@@ -1,4 +1,5 @@
-// Writing a range that lies inside one run: each block goes to the slot that its address has.
+// Writing a range that lies inside one run: each block goes to the slot that its address has. It knows
+// no table, as no record changes.
 ghost use Rattle.std.specs.Prelude.{◌≡◌, ◌+◌, ◌<◌, ◌≤◌, ◌++◌, ◌∷◌, List, length, drop, IfSome};
 ghost use Rattle.sg_pool.specs.Chains.{chain, AreBelow};
 ghost use Rattle.sg_store.specs.Disk.{replaced};
@@ -12,7 +13,7 @@ use sg_store::MAX_CAPACITY;
 use sg_table::Run;
 
 /// The first of some runs, if it has all addresses of a range.
-pub fn covering(runs: &[Run], lba: u64, count: u32) -> Option<Run>
+pub(crate) fn covering(runs: &[Run], lba: u64, count: u32) -> Option<Run>
     requires range { lba + count ≤ MAX_CAPACITY }
     ensures first { IfSome result (λ run. runs.now ≡ run ∷ drop 1 runs.now) }
     ensures covers { IfSome result (λ run. (run.start ≤ lba) × (lba + count ≤ end_of run)) }
@@ -23,7 +24,7 @@ pub fn covering(runs: &[Run], lba: u64, count: u32) -> Option<Run>
 }
 
 /// Replaces the blocks of addresses that a run has. No slot is taken, and no link is changed.
-pub fn overwrite(pool: &mut Pool, run: Run, lba: u64, count: u32, source: &Source)
+pub(crate) fn overwrite(pool: &mut Pool, run: Run, lba: u64, count: u32, source: &Source)
     requires covers { (run.start ≤ lba) × (lba + count ≤ end_of run) }
     requires not_empty { 0 < count }
     requires below { AreBelow (length pool.old.next) (chain pool.old.next run.first run.count) }

@@ -1,16 +1,18 @@
-// Putting runs in the place of the gathered ones.
+// Putting runs in the place of the gathered ones: the only place that changes records. What the runs
+// stand for is for its callers to know.
 ghost use Rattle.std.specs.Prelude.{◌≡◌, ◌+◌, ◌≤◌, length};
 ghost use Rattle.std.specs.List.{splice};
 ghost use Rattle.sg_table.specs.Leaves.{move_bound};
 ghost use Rattle.sg_table.specs.Table.{spliced};
 ghost use Rattle.sg_block_map.specs.Gathering.{end_index};
 
+use crate::gather::Gathered;
 use sg_store::MAX_POOL;
-use sg_table::{Draft, Run, RunTable};
+use sg_table::{Run, RunTable};
 
 /// Replaces the gathered runs in the table by others.
 // A table that has these already is left alone: a splice costs far more than to compare them.
-pub fn put_runs(table: &mut RunTable, gathered: &Draft, runs: &[Run])
+pub(crate) fn put_runs(table: &mut RunTable, gathered: &Gathered, runs: &[Run])
     requires table_size { length table.old.records ≤ MAX_POOL }
     requires within { end_index gathered.now ≤ length table.old.records }
     requires same { splice table.old.records gathered.now.from (end_index gathered.now)

@@ -1,3 +1,4 @@
+// Reading a range from the runs near it. It follows links of the pool and knows no table.
 ghost use Rattle.std.specs.Prelude.{◌≡◌, ◌+◌, ◌-◌, ◌*◌, ◌<◌, ◌≤◌, ℕ, length};
 ghost use Rattle.std.specs.FinMap.{get};
 ghost use Rattle.sg_store.specs.Disk.{block, blocks};
@@ -11,7 +12,7 @@ use sg_pool::Pool;
 use sg_store::{BLOCK_LENGTH, MAX_CAPACITY};
 use sg_table::Run;
 
-/// Reads the block at an address, and goes on to the next one.
+// Reads the block at an address, and goes on to the next one.
 fn read_address(pool: &mut Pool, runs: &[Run], walk: Walk, lba: u64, bytes: &mut [u8]) -> Walk
     requires ahead { AreAhead pool.old.next (length pool.old.next) lba
         (ahead_of runs.now walk.run walk.at) }
@@ -45,7 +46,7 @@ fn read_address(pool: &mut Pool, runs: &[Run], walk: Walk, lba: u64, bytes: &mut
 }
 
 /// Reads the blocks from an address on. The runs are those that meet or touch the range.
-pub fn read_runs(pool: &mut Pool, runs: &[Run], lba: u64, count: u32, bytes: &mut [u8])
+pub(crate) fn read_runs(pool: &mut Pool, runs: &[Run], lba: u64, count: u32, bytes: &mut [u8])
     requires ahead { AreAhead pool.old.next (length pool.old.next) 0 runs.now }
     requires near { AreNear lba (lba + count) runs.now }
     requires pool { length pool.old.blocks ≡ length pool.old.next }

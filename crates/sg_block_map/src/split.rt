@@ -1,4 +1,5 @@
-// Splitting a run in two. No block is moved and no link is changed: the parts share the chain.
+// Splitting a run in two, by following its chain. No block is moved and no link is changed: the parts
+// share the chain.
 ghost use Rattle.std.specs.Prelude.{◌≡◌, ◌+◌, ◌-◌, ◌<◌, ◌≤◌, length, option_to_list};
 ghost use Rattle.sg_pool.specs.Chains.{chain, slot_after, AreBelow, IsChain};
 ghost use Rattle.sg_pool.specs.Slots.{followed};
@@ -10,7 +11,7 @@ use sg_store::MAX_CAPACITY;
 use sg_table::Run;
 
 /// The slot that is `count` links after one.
-pub fn follow(pool: &mut Pool, first: u32, count: u32) -> u32
+pub(crate) fn follow(pool: &mut Pool, first: u32, count: u32) -> u32
     requires below { AreBelow (length pool.old.next) (chain pool.old.next first count) }
     requires headroom { pool.old.links + count ≤ u64.MAX }
     ensures value { result ≡ slot_after pool.old.next first count }
@@ -23,7 +24,7 @@ pub fn follow(pool: &mut Pool, first: u32, count: u32) -> u32
     slot
 }
 
-/// The first `count` addresses of a run, and those behind them.
+// The first `count` addresses of a run, and those behind them.
 fn split(pool: &mut Pool, run: Run, count: u32) -> (Run, Run)
     requires within { (0 < count) × (count < run.count) }
     requires below { AreBelow (length pool.old.next) (chain pool.old.next run.first count) }
@@ -51,7 +52,7 @@ fn split(pool: &mut Pool, run: Run, count: u32) -> (Run, Run)
 }
 
 /// The part of a run before an address, and the part from it on.
-pub fn split_at(pool: &mut Pool, run: Run, lba: u64) -> (Option<Run>, Option<Run>)
+pub(crate) fn split_at(pool: &mut Pool, run: Run, lba: u64) -> (Option<Run>, Option<Run>)
     requires chain { IsChain pool.old.next run.first run.last run.count }
     requires below { AreBelow (length pool.old.next) (chain pool.old.next run.first run.count) }
     requires range { run.start + run.count ≤ MAX_CAPACITY }

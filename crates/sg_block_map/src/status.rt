@@ -18,7 +18,7 @@ use sg_table::{Cursor, Run, RunTable};
 use sg_wire::Cut;
 
 /// The cursor at the first run that has an address or one past it.
-pub fn cursor_over(table: &mut RunTable, lba: u64) -> Cursor
+pub(crate) fn cursor_over(table: &mut RunTable, lba: u64) -> Cursor
     requires table { (capacity : ℕ) × IsRunTable capacity table.old.records }
     requires headroom { (table.old.probes ≤ MAX_COUNT) × (table.old.visits ≤ MAX_COUNT) }
     ensures cursor { IsOver table.old.records result lba }
@@ -42,7 +42,7 @@ pub fn cursor_over(table: &mut RunTable, lba: u64) -> Cursor
     Cursor::new(table, index)
 }
 
-/// The cursor's run, if it has the address or one before it.
+// The cursor's run, if it has the address or one before it.
 fn run_over(cursor: Cursor, lba: u64) -> Option<Run>
     ensures { result ≡ run_over cursor.next lba }
 {
@@ -50,7 +50,7 @@ fn run_over(cursor: Cursor, lba: u64) -> Option<Run>
     if run.start <= lba { Some(run) } else { None }
 }
 
-/// The descriptor that begins at an address, and the cursor where it ends.
+// The descriptor that begins at an address, and the cursor where it ends.
 fn describe(
     table: &mut RunTable,
     cursor: Cursor,
@@ -83,7 +83,7 @@ fn describe(
 }
 
 /// Writes the descriptors from an address on as they are found, and returns how many there are.
-pub fn write_descriptors(
+pub(crate) fn write_descriptors(
     table: &mut RunTable,
     cursor: Cursor,
     lba: u64,

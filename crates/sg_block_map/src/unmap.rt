@@ -1,3 +1,5 @@
+// Unmapping a range: the slots of its addresses are freed chain by chain, and the parts of runs before
+// and behind it remain. No block is touched.
 ghost use Rattle.std.specs.Prelude.{◌≡◌, ◌+◌, ◌-◌, ◌<◌, ◌≤◌, ◌++◌, ℕ, List, length};
 ghost use Rattle.std.specs.Prelude.{option_to_list, IfSome};
 ghost use Rattle.sg_pool.specs.Chains.{chain, AreBelow, IsChain};
@@ -9,13 +11,14 @@ ghost use Rattle.sg_block_map.specs.Cutting.{AreDistinct, StaysBut, IsCut};
 ghost use Rattle.sg_block_map.specs.Gathering.{AreGathered};
 ghost use Rattle.sg_block_map.specs.Runs.{expanded, AreRuns, blocks_of};
 
+use crate::gather::Gathered;
 use crate::put::put_runs;
 use crate::split::split_at;
 use sg_pool::Pool;
 use sg_store::{MAX_CAPACITY, MAX_COUNT, MAX_POOL};
 use sg_table::{Draft, Run, RunTable};
 
-/// Keeps a part of a run, if there is one.
+// Keeps a part of a run, if there is one.
 fn keep(remaining: &mut Draft, part: Option<Run>)
     requires { length remaining.old.records + length (option_to_list part) ≤ remaining.old.room }
     ensures { remaining.new
@@ -26,7 +29,7 @@ fn keep(remaining: &mut Draft, part: Option<Run>)
     }
 }
 
-/// Frees the slots of a part of a run, if there is one.
+// Frees the slots of a part of a run, if there is one.
 fn give(pool: &mut Pool, part: Option<Run>)
     requires chain { IfSome part (λ run. IsChain pool.old.next run.first run.last run.count) }
     requires below { AreBelow (length pool.old.next)
@@ -49,7 +52,7 @@ fn give(pool: &mut Pool, part: Option<Run>)
     }
 }
 
-/// Frees the slots of a run's addresses in a range, and keeps its other parts.
+// Frees the slots of a run's addresses in a range, and keeps its other parts.
 fn unmap_run(pool: &mut Pool, remaining: &mut Draft, run: Run, low: u64, high: u64)
     // The slots of the run are a chain, and none of them is free.
     requires chain { IsChain pool.old.next run.first run.last run.count }
@@ -82,10 +85,10 @@ fn unmap_run(pool: &mut Pool, remaining: &mut Draft, run: Run, low: u64, high: u
 
 /// Unmaps the addresses from one to another in the runs that were gathered, and replaces these in
 /// the table by what remains of them.
-pub fn unmap_runs(
+pub(crate) fn unmap_runs(
     table: &mut RunTable,
     pool: &mut Pool,
-    gathered: &Draft,
+    gathered: &Gathered,
     remaining: &mut Draft,
     low: u64,
     high: u64,

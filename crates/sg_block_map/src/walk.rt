@@ -1,4 +1,5 @@
-// Going over the addresses of runs in a row.
+// Going over the addresses of runs in a row, one link of the pool for each. It knows a list of runs, and
+// not the table.
 ghost use Rattle.std.specs.Prelude.{◌≡◌, ◌+◌, ◌-◌, ◌<◌, ◌≤◌, length, drop, option_to_list};
 ghost use Rattle.sg_table.specs.Records.{run_at};
 ghost use Rattle.sg_pool.specs.Slots.{followed};
@@ -12,16 +13,16 @@ use sg_table::Run;
 
 /// The addresses that are ahead in a list of runs.
 #[derive(Clone, Copy)]
-pub struct Walk {
+pub(crate) struct Walk {
     /// Those of a run of which the first ones may have been passed. None at the end of the list.
-    pub run: Option<Run>,
+    pub(crate) run: Option<Run>,
     /// The index of the next run.
-    pub at: usize,
+    pub(crate) at: usize,
 }
 
 impl Walk {
     /// The runs from an index on are ahead.
-    pub fn new(runs: &[Run], at: usize) -> Walk
+    pub(crate) fn new(runs: &[Run], at: usize) -> Walk
         ensures { ahead_of runs.now result.run result.at ≡ drop at runs.now }
     {
         if at < runs.len() {
@@ -34,7 +35,7 @@ impl Walk {
     }
 
     /// The run that begins at an address, if it is the first one ahead.
-    pub fn run_at(self, lba: u64) -> Option<Run>
+    pub(crate) fn run_at(self, lba: u64) -> Option<Run>
         ensures { result ≡ run_at self.run lba }
     {
         let run = self.run?;
@@ -42,7 +43,7 @@ impl Walk {
     }
 
     /// Passes the first address of the run, which is the first one ahead.
-    pub fn pass(self, pool: &mut Pool, runs: &[Run], run: Run) -> Walk
+    pub(crate) fn pass(self, pool: &mut Pool, runs: &[Run], run: Run) -> Walk
         requires not_empty { 0 < run.count }
         requires range { run.start < MAX_CAPACITY }
         requires slot { run.first < length pool.old.next }
@@ -73,7 +74,7 @@ impl Walk {
 }
 
 /// The walk over the runs from an address on, and the part of the first run before the address.
-pub fn walk_from(pool: &mut Pool, runs: &[Run], lba: u64) -> (Option<Run>, Walk)
+pub(crate) fn walk_from(pool: &mut Pool, runs: &[Run], lba: u64) -> (Option<Run>, Walk)
     requires ahead { AreAhead pool.old.next (length pool.old.next) 0 runs.now }
     requires headroom { pool.old.links + length (expanded pool.old.next runs.now) ≤ u64.MAX }
     ensures walk { IsWalkFrom pool.old.next runs.now lba result.0

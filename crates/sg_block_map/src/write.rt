@@ -1,4 +1,5 @@
-// Writing a range: the runs near it and its addresses become one run.
+// Writing a range: the runs near it and its addresses become one run. That there are slots enough is for
+// the store to know, and which runs are near is for `gather`.
 ghost use Rattle.std.specs.Prelude.{◌≡◌, ◌+◌, ◌-◌, ◌^◌, ◌<◌, ◌≤◌, ◌++◌, ◌∷◌, ℕ, List, length};
 ghost use Rattle.std.specs.Prelude.{None, Option, option_to_list, unwrap_or, IfSome};
 ghost use Rattle.std.specs.FinMap.{insert};
@@ -15,12 +16,13 @@ ghost use Rattle.sg_block_map.specs.Runs.{expanded, AreMaximal, AreRuns, chained
 ghost use Rattle.sg_block_map.specs.Runs.{blocks_of};
 ghost use Rattle.sg_block_map.specs.Walking.{ahead_of, AreAhead, IsWalkFrom};
 
+use crate::gather::Gathered;
 use crate::overwrite::{covering, overwrite};
 use crate::put::put_runs;
 use crate::walk::{Walk, walk_from};
 use sg_pool::{Pool, Source};
 use sg_store::{BLOCK_LENGTH, MAX_CAPACITY, MAX_COUNT, MAX_POOL};
-use sg_table::{Draft, Run, RunTable};
+use sg_table::{Run, RunTable};
 
 /// How far a range is written.
 #[derive(Clone, Copy)]
@@ -32,7 +34,7 @@ struct Progress {
     walk: Walk,
 }
 
-/// Joins a run to the end of another, which may have no address yet.
+// Joins a run to the end of another, which may have no address yet.
 fn join(pool: &mut Pool, done: Run, other: Run) -> Run
     requires slot { 0 < done.count → done.last < length pool.old.next }
     requires used { 0 < done.count → occurrences done.last pool.old.free ≡ 0 }
@@ -55,8 +57,8 @@ fn join(pool: &mut Pool, done: Run, other: Run) -> Run
     }
 }
 
-/// Writes the block at the address where the run ends, and joins the address to the run. A block
-/// that is mapped is written over in its slot, and any other takes a free one.
+// Writes the block at the address where the run ends, and joins the address to the run. A block
+// that is mapped is written over in its slot, and any other takes a free one.
 fn put_address(
     pool: &mut Pool,
     runs: &[Run],
@@ -124,7 +126,7 @@ fn put_address(
     Progress { done, walk }
 }
 
-/// Splits the runs at the first address of a range: the part before it is to be joined.
+// Splits the runs at the first address of a range: the part before it is to be joined.
 fn begin(pool: &mut Pool, runs: &[Run], lba: u64) -> Progress
     requires ahead { AreAhead pool.old.next (length pool.old.next) 0 runs.now }
     requires headroom { pool.old.links + length (expanded pool.old.next runs.now) ≤ u64.MAX }
@@ -150,7 +152,7 @@ fn begin(pool: &mut Pool, runs: &[Run], lba: u64) -> Progress
     }
 }
 
-/// Joins the run that is ahead, which meets or touches the end of the range.
+// Joins the run that is ahead, which meets or touches the end of the range.
 fn finish(pool: &mut Pool, progress: Progress) -> Run
     requires slot { 0 < progress.done.count → progress.done.last < length pool.old.next }
     requires used { 0 < progress.done.count → occurrences progress.done.last pool.old.free ≡ 0 }
@@ -166,10 +168,10 @@ fn finish(pool: &mut Pool, progress: Progress) -> Run
 /// Replaces the blocks from an address on by those of a source. The runs near the range and its
 /// addresses become one run of the table. There have to be free slots for the addresses that are
 /// not mapped.
-pub fn write_runs(
+pub(crate) fn write_runs(
     table: &mut RunTable,
     pool: &mut Pool,
-    gathered: &Draft,
+    gathered: &Gathered,
     lba: u64,
     count: u32,
     source: &Source,

@@ -1,3 +1,5 @@
+// The store itself: a record for each mapped block, in a table, and its block in a slot of a pool. What
+// its calls do to the records is in the other files.
 ghost use Rattle.std.specs.Prelude.{◌≡◌, ◌+◌, ◌≤◌, ◌↔◌, IsErr, OnOk, OnErr};
 ghost use Rattle.sg_store.specs.Disk.{IsWellFormed, IsOverfull, disk_replaced};
 ghost use Rattle.sg_store.specs.Meter.{HasHeadroom, ChargedOnOk};
@@ -38,10 +40,10 @@ impl PlainMap {
     ghost use Rattle.sg_pool.specs.Source.{HasBlocks, block_of};
     ghost use Rattle.sg_plain_map.specs.State.{disk_of, meter_of};
 
-    /// Replaces the blocks from an address on by those of a source.
-    ///
-    /// # Errors
-    /// More addresses would be mapped than the pool has blocks. Nothing is replaced then.
+    // Replaces the blocks from an address on by those of a source.
+    //
+    // # Errors
+    // More addresses would be mapped than the pool has blocks. Nothing is replaced then.
     fn replace(&mut self, lba: u64, count: u32, source: &Source) -> Result<(), Space>
         requires range { lba + count ≤ (disk_of self.old).capacity }
         requires blocks { HasBlocks source.now count }

@@ -1,3 +1,5 @@
+// Reading a range: the records are passed in the order of addresses, and where one is missing the block
+// is zeros.
 ghost use Rattle.std.specs.Prelude.{◌≡◌, ◌+◌, ◌-◌, ◌*◌, ◌<◌, ◌≤◌, length};
 ghost use Rattle.sg_store.specs.Disk.{block, blocks};
 ghost use Rattle.sg_table.specs.Records.{IsSorted, HaveSlots};
@@ -10,8 +12,8 @@ use sg_pool::Pool;
 use sg_store::{BLOCK_LENGTH, MAX_POOL};
 use sg_table::{Cursor, RunTable};
 
-/// Reads the block at the cursor's address, and goes on to the next address. Each record that the
-/// cursor passes was visited, and the one where it is.
+// Reads the block at the cursor's address, and goes on to the next address. Each record that the
+// cursor passes was visited, and the one where it is.
 fn read_block(
     table: &mut RunTable,
     pool: &Pool,
@@ -47,7 +49,7 @@ fn read_block(
 }
 
 /// Reads the blocks from an address on, of which the records begin at an index.
-pub fn read_blocks(
+pub(crate) fn read_blocks(
     table: &mut RunTable,
     pool: &Pool,
     from: usize,

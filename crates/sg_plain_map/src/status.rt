@@ -1,3 +1,5 @@
+// The descriptors of GET LBA STATUS one by one: records of addresses in a row, and the gaps between
+// them. It knows no slot and no block.
 ghost use Rattle.std.specs.Prelude.{◌≡◌, ℕ, ◌+◌, ◌-◌, ◌<◌, ◌≤◌, List, None};
 ghost use Rattle.sg_store.specs.LbaStatus.{covered, descriptor_at, descriptors_from};
 ghost use Rattle.sg_store.specs.LbaStatus.{PutsDescriptors};
@@ -14,7 +16,7 @@ use sg_store::{MAX_CAPACITY, MAX_COUNT, MAX_POOL};
 use sg_table::{Cursor, RunTable};
 use sg_wire::Cut;
 
-/// Goes past the records of mapped addresses in a row, of which the cursor's address is the first.
+// Goes past the records of mapped addresses in a row, of which the cursor's address is the first.
 fn pass_mapped(table: &mut RunTable, cursor: Cursor, lba: u64) -> Cursor
     requires cursor { IsAt table.old.records cursor lba }
     requires table { IsTableOf MAX_CAPACITY table.old.records }
@@ -38,7 +40,7 @@ fn pass_mapped(table: &mut RunTable, cursor: Cursor, lba: u64) -> Cursor
     end
 }
 
-/// The descriptor that begins at the cursor's address, and the cursor where it ends.
+// The descriptor that begins at the cursor's address, and the cursor where it ends.
 fn describe(
     table: &mut RunTable,
     cursor: Cursor,
@@ -73,7 +75,7 @@ fn describe(
 
 /// Writes the descriptors from an address on as they are found, and returns how many there are. The
 /// records from that address on begin at an index.
-pub fn write_descriptors(
+pub(crate) fn write_descriptors(
     table: &mut RunTable,
     from: usize,
     lba: u64,

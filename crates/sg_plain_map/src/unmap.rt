@@ -1,3 +1,4 @@
+// Unmapping a range: its slots are freed one by one, and its records removed at once.
 ghost use Rattle.std.specs.Prelude.{◌≡◌, ◌+◌, ◌-◌, ◌≤◌};
 ghost use Rattle.sg_store.specs.Disk.{unmapped};
 ghost use Rattle.sg_table.specs.Leaves.{move_bound};
@@ -10,7 +11,7 @@ use sg_pool::Pool;
 use sg_table::RunTable;
 
 /// Frees the slots of a range, and removes its records, which are those from one index to another.
-pub fn unmap_records(
+pub(crate) fn unmap_records(
     table: &mut RunTable,
     pool: &mut Pool,
     from: usize,

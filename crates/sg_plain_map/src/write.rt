@@ -1,4 +1,5 @@
-// The records of a write are drafted, and put into the table all at once.
+// Writing a range: the records that it is to have are drafted, and put into the table all at once. That
+// there are slots enough is for the store to know.
 ghost use Rattle.std.specs.Prelude.{◌≡◌, ◌+◌, ◌-◌, ◌<◌, ◌≤◌, length};
 ghost use Rattle.std.specs.FinMap.{insert};
 ghost use Rattle.sg_store.specs.Disk.{replaced, mapped_among};
@@ -15,8 +16,8 @@ use sg_pool::{Pool, Source};
 use sg_store::{BLOCK_LENGTH, MAX_POOL};
 use sg_table::{Cursor, Draft, Run, RunTable};
 
-/// Writes the block at the cursor's address, drafts its record, and goes on to the next address. A
-/// block that is mapped is written over, and any other takes a free slot.
+// Writes the block at the cursor's address, drafts its record, and goes on to the next address. A
+// block that is mapped is written over, and any other takes a free slot.
 fn put_block(
     table: &mut RunTable,
     pool: &mut Pool,
@@ -64,7 +65,7 @@ fn put_block(
 
 /// Replaces the blocks from an address on, of which the records begin at an index. There have to be
 /// free slots for those that are not mapped.
-pub fn write_blocks(
+pub(crate) fn write_blocks(
     table: &mut RunTable,
     pool: &mut Pool,
     draft: &mut Draft,

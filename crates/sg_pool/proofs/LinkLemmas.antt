@@ -149,7 +149,7 @@ pub chain-joined : (next : List ℕ) (first last count to m : ℕ) → IsChain n
     → chain (set next last to) first (count + m) ≡ chain next first count ++ chain next to m
 chain-joined next first last count to m is low once =
     let n = count - 1 in
-    let some = is.some in
+    let some = is.not_empty in
     let e : n + 1 ≡ count = omega arith in
     let a = occurrences-append last (chain next first count) (chain next to m) in
     let b : occurrences last (chain next first count) ≡

@@ -1,4 +1,5 @@
-// The blocks of the mapped addresses.
+// The slots of 512 bytes and the links between them. It knows no address: which slot belongs to which
+// is in the table.
 ghost use Rattle.std.specs.Prelude.{◌≡◌, ◌<◌, ◌+◌, ◌-◌, ◌∷◌, ◌++◌, ◌≤◌, length, replicate, IfOk};
 ghost use Rattle.std.specs.Prelude.{slice_index, slice_index_or, slice_set, vec_capacity};
 ghost use Rattle.std.specs.List.{range_with_len};
@@ -51,7 +52,7 @@ impl Model for Pool {
         × (length p.next.items ≤ MAX_POOL) };
 }
 
-/// Appends blocks of zeros as far as that of a slot, unless it is there.
+// Appends blocks of zeros as far as that of a slot, unless it is there.
 fn extend_to(blocks: &mut Vec<[u8; BLOCK_LENGTH]>, slot: u32)
     requires { slot < vec_capacity blocks.old }
     ensures blocks { blocks.new.items

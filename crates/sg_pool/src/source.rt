@@ -1,4 +1,5 @@
-// The blocks that a range of addresses is to have.
+// The blocks that a range of addresses is to have, as one address after the other asks for its own. It
+// knows no slot.
 ghost use Rattle.std.specs.Prelude.{◌≡◌, length};
 ghost use Rattle.sg_pool.specs.Source.{block_of};
 

@@ -38,14 +38,14 @@ descriptor_at contents capacity lba = record {
   status = status_at contents lba;
 }
 
--- At most `most` descriptors, up to the end of the disk. The first begins at an address, and each
+-- At most `limit` descriptors, up to the end of the disk. The first begins at an address, and each
 -- next one where the one before ends.
-unfoldable pub descriptors_from : Contents → (capacity lba most : ℕ) → List StatusDescriptor
+unfoldable pub descriptors_from : Contents → (capacity lba limit : ℕ) → List StatusDescriptor
 descriptors_from contents capacity lba zero = []
-descriptors_from contents capacity lba (suc most) =
+descriptors_from contents capacity lba (suc limit) =
     if nat_lt lba capacity
     then descriptor_at contents capacity lba
-    ∷ descriptors_from contents capacity (lba + count_alike contents capacity lba) most
+    ∷ descriptors_from contents capacity (lba + count_alike contents capacity lba) limit
     else []
 
 -- Those of an answer.

@@ -1,4 +1,5 @@
-// What every store does: its calls, each with its effect on the disk and its cost.
+// What every store does: its calls, each with its effect on a disk of blocks and its cost. It knows
+// neither commands nor how the blocks are kept.
 ghost use Rattle.std.specs.Prelude.{◌≡◌, ℕ, ◌+◌, ◌*◌, ◌<◌, ◌≤◌, ◌↔◌, length};
 ghost use Rattle.std.specs.Prelude.{IfOk, OnOk, OnErr, IsErr};
 ghost use Rattle.std.specs.FinMap.{len};

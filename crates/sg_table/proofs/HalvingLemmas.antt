@@ -41,17 +41,17 @@ halvings-fit s c h small = elim (cases_lt s 66)
 -- one leaf, which has all records
 pub search-one : (p c : ℕ) → CostsHalving c p → CostsSearch c p
 search-one p c is =
-    let most = is.most in
-    let least = is.least in
+    let most = is.most_probes in
+    let least = is.fewest_probes in
     let order : p + 1 ≤ p + 2 = omega arith in
     let more : 2 ^ (p + 1) ≤ 2 ^ (p + 2) = pow_mono order in
-    record { most = omega arith; least = omega arith; one_leaf = λ _. is }
+    record { most_probes = omega arith; fewest_probes = omega arith; one_leaf = λ _. is }
 
 -- a leaf takes seven or eight probes
 eight : (p c : ℕ) → CostsHalving c p → MIN_LEAF ≤ c → c ≤ MAX_LEAF → (7 ≤ p) × (p ≤ 8)
 eight p c is enough fits =
-    let most = is.most in
-    let least = is.least in (
+    let most = is.most_probes in
+    let least = is.fewest_probes in (
       elim (cases_lt p 7) [
         | inl lt ↦ let le : p + 1 ≤ 7 = omega arith in
             let few : 2 ^ (p + 1) ≤ 2 ^ 7 = pow_mono le in absurd (omega arith)
@@ -73,10 +73,10 @@ search-leaves q p leaves leaf c first is some enough fits filled full =
     let more : q + 1 + 8 ≤ q + p + 2 = omega (arith, bounds.0) in
     let top : 2 ^ (q + p) ≤ 2 ^ (q + 8) = pow_mono less in
     let bottom : 2 ^ (q + 1 + 8) ≤ 2 ^ (q + p + 2) = pow_mono more in
-    let most = first.most in
-    let least = first.least in
+    let most = first.most_probes in
+    let least = first.fewest_probes in
     record {
-      most = omega (arith, pow-add 2 q 8);
-      least = omega (arith, pow-add 2 (q + 1) 8);
+      most_probes = omega (arith, pow-add 2 q 8);
+      fewest_probes = omega (arith, pow-add 2 (q + 1) 8);
       one_leaf = λ small. absurd (omega arith);
     }

@@ -243,7 +243,7 @@ module _ (ls : List (List Run)) (sorted : IsSorted (joined ls)) (balanced : AreB
               ap (count_before ls) one,
               ap (λ n. count_before ls (suc n)) first_leaf,
             ) in
-            let top = leaves_is.most in
+            let top = leaves_is.most_probes in
             let free : q ≡ 0 = elim (cases_lt 0 q) [
               | inl pos ↦ let le : 1 ≤ q = pos in
                   let twice : 2 ^ 1 ≤ 2 ^ q = pow_mono le in absurd (omega arith)

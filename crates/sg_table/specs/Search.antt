@@ -24,12 +24,12 @@ pub record IsFirstFrom (starts : List ℕ) (index lba : ℕ) : Type 0 where
 -- How many of `count` addresses a search compares that halves what is left: at most as many as
 -- `count` has binary digits.
 pub record CostsHalving (count probes : ℕ) : Type 0 where
-  pub most : 2 ^ probes ≤ 2 * count + 1
-  pub least : count + 2 ≤ 2 ^ (probes + 1)
+  pub most_probes : 2 ^ probes ≤ 2 * count + 1
+  pub fewest_probes : count + 2 ≤ 2 ^ (probes + 1)
 
 -- How many addresses of `count` records a search of leaves compares: at most one more than `count`
 -- has binary digits, and none more where there is one leaf.
 pub record CostsSearch (count probes : ℕ) : Type 0 where
-  pub most : 2 ^ probes ≤ 4 * count + 1
-  pub least : count + 2 ≤ 2 ^ (probes + 2)
+  pub most_probes : 2 ^ probes ≤ 4 * count + 1
+  pub fewest_probes : count + 2 ≤ 2 ^ (probes + 2)
   pub one_leaf : count ≤ MAX_LEAF → CostsHalving count probes

@@ -1,4 +1,5 @@
-// Going through the table from an index on.
+// Going through the table from an index on, one visit for each record. It knows addresses, and neither
+// slots nor blocks.
 ghost use Rattle.std.specs.Prelude.{◌≡◌, ◌-◌, ◌<◌, ◌≤◌, length, min};
 ghost use Rattle.sg_table.specs.Records.{IsNext, ahead, end_of_gap};
 ghost use Rattle.sg_table.specs.Table.{visited};

@@ -1,4 +1,5 @@
-// Records that are prepared for the table.
+// A list of records beside the table, with the index where they belong: those that were read there, or
+// those that are to be put there. It visits no record and changes no table.
 ghost use Rattle.std.specs.Prelude.{◌≡◌, ◌<◌, [], length, IfOk};
 ghost use Rattle.sg_table.specs.Draft.{empty_draft, pushed};
 

@@ -6,7 +6,7 @@ use std::marker::Model;
 
 /// A number without bound, on which no code depends.
 #[derive(Drop)]
-pub struct GhostNumber {
+pub(crate) struct GhostNumber {
     pub ghost value: { ℕ },
 }
 
@@ -15,20 +15,20 @@ impl Model for GhostNumber {
 }
 
 impl GhostNumber {
-    pub fn zero() -> GhostNumber
+    pub(crate) fn zero() -> GhostNumber
         ensures { result.value ≡ 0 }
     {
         GhostNumber {}
     }
 
-    pub fn of(number: u64) -> GhostNumber
+    pub(crate) fn of(number: u64) -> GhostNumber
         ensures { result.value ≡ number }
     {
         let _ = number;
         GhostNumber {}
     }
 
-    pub fn increased(&self, count: usize) -> GhostNumber
+    pub(crate) fn increased(&self, count: usize) -> GhostNumber
         ensures { result.value ≡ self.now.value + count }
     {
         let _ = count;

@@ -1,3 +1,4 @@
+// A few records in a row, which are moved as one. A leaf knows no other, and nothing is counted.
 ghost use Rattle.std.specs.Prelude.{◌≡◌, ◌+◌, ◌-◌, ◌<◌, ◌≤◌, [], length, slice_index_or};
 ghost use Rattle.std.specs.List.{splice};
 ghost use Rattle.sg_table.specs.Leaves.{rotated_left, rotated_right};
@@ -8,11 +9,11 @@ use arrayvec::ArrayVec;
 use std::marker::Model;
 
 /// The most records of a leaf.
-pub const MAX_LEAF: usize = 255;
+pub(crate) const MAX_LEAF: usize = 255;
 
 /// Some of the records of a table, in a row.
 #[derive(Drop)]
-pub struct Leaf {
+pub(crate) struct Leaf {
     records: ArrayVec<Run, MAX_LEAF>,
 }
 
@@ -27,7 +28,7 @@ impl Model for Leaf {
 
 impl Leaf {
     /// A leaf without records.
-    pub fn new() -> Leaf
+    pub(crate) fn new() -> Leaf
         ensures { result ≡ [] }
     {
         Leaf {
@@ -36,7 +37,7 @@ impl Leaf {
     }
 
     /// How many records there are.
-    pub fn len(&self) -> usize
+    pub(crate) fn len(&self) -> usize
         ensures value { result ≡ length self.now }
         ensures fits { result ≤ MAX_LEAF }
     {
@@ -44,7 +45,7 @@ impl Leaf {
     }
 
     /// The records.
-    pub fn records(&self) -> &[Run]
+    pub(crate) fn records(&self) -> &[Run]
         ensures value { result.now ≡ self.now }
         ensures fits { length result.now ≤ MAX_LEAF }
     {
@@ -52,7 +53,7 @@ impl Leaf {
     }
 
     /// The record at an offset.
-    pub fn record(&self, offset: usize) -> Run
+    pub(crate) fn record(&self, offset: usize) -> Run
         requires { offset < length self.now }
         ensures { slice_index_or self.now offset result ≡ result }
     {
@@ -60,7 +61,7 @@ impl Leaf {
     }
 
     /// The address of the first record, or 0 where there is none.
-    pub fn start(&self) -> u64
+    pub(crate) fn start(&self) -> u64
         ensures { result ≡ start_of self.now 0 }
     {
         match self.records.as_slice().first() {
@@ -70,14 +71,14 @@ impl Leaf {
     }
 
     /// Removes all records.
-    pub fn clear(&mut self)
+    pub(crate) fn clear(&mut self)
         ensures { self.new ≡ [] }
     {
         self.records.clear();
     }
 
     /// Replaces the records from one offset to another.
-    pub fn splice(&mut self, from: usize, to: usize, runs: &[Run])
+    pub(crate) fn splice(&mut self, from: usize, to: usize, runs: &[Run])
         requires range { (from ≤ to) × (to ≤ length self.old) }
         requires room { length self.old + length runs.now ≤ MAX_LEAF + (to - from) }
         ensures { self.new ≡ splice self.old from to runs.now }
@@ -92,7 +93,7 @@ impl Leaf {
     }
 }
 
-/// Moves the first `count` of the records from an index on to the end.
+// Moves the first `count` of the records from an index on to the end.
 fn rotate_left(records: &mut [Run], from: usize, count: usize)
     requires { from + count ≤ length records.old }
     ensures { records.new ≡ rotated_left records.old from count }
@@ -100,7 +101,7 @@ fn rotate_left(records: &mut [Run], from: usize, count: usize)
     records[from..].rotate_left(count);
 }
 
-/// Moves the last `count` records to an index.
+// Moves the last `count` records to an index.
 fn rotate_right(records: &mut [Run], from: usize, count: usize)
     requires { from + count ≤ length records.old }
     ensures { records.new ≡ rotated_right records.old from count }

@@ -1,3 +1,5 @@
+// The memory of the leaves: which slot each leaf has, and which slots are free. It knows nothing of the
+// order or the number of their records.
 ghost use Rattle.std.specs.Prelude.{◌≡◌, ◌+◌, ◌-◌, ◌<◌, ◌≤◌, [], length, slice_set, insert, remove};
 ghost use Rattle.std.specs.Prelude.{vec_capacity, IfOk};
 ghost use Rattle.std.specs.List.{All};
@@ -14,7 +16,7 @@ use std::marker::Model;
 /// The leaves of a table, in slots of memory that is taken at once. A leaf keeps its slot while
 /// others are added before it or removed, and a slot is not touched before a leaf needs it.
 #[derive(Drop)]
-pub struct LeafList {
+pub(crate) struct LeafList {
     /// A leaf for each slot that has been in use.
     slots: Vec<Leaf>,
     /// The slots that are in use, in the order of their leaves.
@@ -41,7 +43,7 @@ impl Model for LeafList {
         × (vec_capacity l.slots ≤ MAX_LEAVES) };
 }
 
-/// Takes a free slot, or a new one where none is free. Its leaf has no records.
+// Takes a free slot, or a new one where none is free. Its leaf has no records.
 fn take_slot(slots: &mut Vec<Leaf>, free: &mut Vec<u16>) -> u16
     requires free { All (λ slot. slot < length slots.old.items) free.old.items }
     requires room { length slots.old.items < vec_capacity slots.old + length free.old.items }
@@ -64,7 +66,7 @@ impl LeafList {
     ///
     /// # Errors
     /// Memory was refused.
-    pub fn new(alloc: Global, count: usize) -> Result<LeafList, AllocError>
+    pub(crate) fn new(alloc: Global, count: usize) -> Result<LeafList, AllocError>
         requires { count ≤ MAX_LEAVES }
         ensures { IfOk result (λ list. list ≡ record { leaves = []; capacity = count }) }
     {
@@ -76,7 +78,7 @@ impl LeafList {
     }
 
     /// The leaf at an index.
-    pub fn leaf(&self, index: usize) -> &Leaf
+    pub(crate) fn leaf(&self, index: usize) -> &Leaf
         requires { index < length self.now.leaves }
         ensures { result.now ≡ leaf_at self.now.leaves index }
     {
@@ -84,7 +86,7 @@ impl LeafList {
     }
 
     /// Replaces the records of a leaf from one offset to another.
-    pub fn splice(&mut self, index: usize, from: usize, to: usize, runs: &[Run])
+    pub(crate) fn splice(&mut self, index: usize, from: usize, to: usize, runs: &[Run])
         requires leaf { index < length self.old.leaves }
         requires range { (from ≤ to) × (to ≤ length (leaf_at self.old.leaves index)) }
         requires room { length (leaf_at self.old.leaves index) + length runs.now ≤ MAX_LEAF + (to - from) }
@@ -98,7 +100,7 @@ impl LeafList {
     }
 
     /// Adds a leaf without records at an index.
-    pub fn open(&mut self, index: usize)
+    pub(crate) fn open(&mut self, index: usize)
         requires index { index ≤ length self.old.leaves }
         requires room { length self.old.leaves < self.old.capacity }
         ensures { self.new ≡ record self.old { leaves = insert self.old.leaves index [] } }
@@ -110,7 +112,7 @@ impl LeafList {
     }
 
     /// Removes a leaf with its records.
-    pub fn close(&mut self, index: usize)
+    pub(crate) fn close(&mut self, index: usize)
         requires { index < length self.old.leaves }
         ensures { self.new ≡ record self.old { leaves = remove self.old.leaves index } }
     {

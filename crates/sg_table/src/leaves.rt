@@ -1,3 +1,5 @@
+// The records of a table in leaves, by index and by address, and how many of them were moved. Visits
+// and probes are for the table to count.
 mod probed;
 mod searching;
 mod splicing;
@@ -16,33 +18,33 @@ use crate::leaf_list::LeafList;
 use crate::run::Run;
 use arrayvec::ArrayVec;
 use probed::Probed;
-pub use searching::lower_bound;
-pub use splicing::splice;
+pub(crate) use searching::lower_bound;
+pub(crate) use splicing::splice;
 use std::alloc::{AllocError, Global};
 use std::marker::Model;
 
 /// The fewest records of a leaf, unless it is the only one.
-pub const MIN_LEAF: usize = 128;
+pub(crate) const MIN_LEAF: usize = 128;
 
 /// The most leaves of a table.
-pub const MAX_LEAVES: usize = 513;
+pub(crate) const MAX_LEAVES: usize = 513;
 
 /// The most records of two leaves.
-pub const TWO_LEAVES: usize = 2 * MAX_LEAF;
+pub(crate) const TWO_LEAVES: usize = 2 * MAX_LEAF;
 
 /// A leaf, by its index, and an offset in it.
 #[derive(Clone, Copy)]
-pub struct Place {
-    pub leaf: usize,
-    pub offset: usize,
+pub(crate) struct Place {
+    pub(crate) leaf: usize,
+    pub(crate) offset: usize,
 }
 
 /// A leaf, with the indexes from that of its first record to the one behind its last.
 #[derive(Clone, Copy)]
-pub struct Span {
-    pub leaf: usize,
-    pub start: usize,
-    pub end: usize,
+pub(crate) struct Span {
+    pub(crate) leaf: usize,
+    pub(crate) start: usize,
+    pub(crate) end: usize,
 }
 
 // No index is in it.
@@ -53,7 +55,7 @@ const NO_SPAN: Span = Span {
 };
 
 impl Span {
-    /// The place of an index in the leaf.
+    // The place of an index in the leaf.
     fn place(self, index: usize) -> Place
         requires { self.start ≤ index }
         ensures { result ≡ record { leaf = self.leaf; offset = index - self.start } }
@@ -67,7 +69,7 @@ impl Span {
 
 /// The records of a table in leaves, with a directory of where each leaf begins.
 #[derive(Drop)]
-pub struct Leaves {
+pub(crate) struct Leaves {
     leaves: LeafList,
     /// The index of the first record of each leaf, and the number of records.
     starts: Vec<u32>,
@@ -102,7 +104,7 @@ impl Model for Leaves {
         × (l.recent.start < l.recent.end → IsSpan l.leaves.leaves l.recent) };
 }
 
-/// The directory of one leaf without records, with room for `count` leaves.
+// The directory of one leaf without records, with room for `count` leaves.
 fn empty_directory(alloc: Global, count: usize) -> Result<Vec<u32>, AllocError>
     requires { count ≤ MAX_LEAVES }
     ensures starts { IfOk result (λ starts. starts.items ≡ 0 ∷ 0 ∷ []) }
@@ -114,7 +116,7 @@ fn empty_directory(alloc: Global, count: usize) -> Result<Vec<u32>, AllocError>
     Ok(starts)
 }
 
-/// Adds `more` to the numbers from an index on, and takes `less` off.
+// Adds `more` to the numbers from an index on, and takes `less` off.
 fn shift(starts: &mut [u32], from: usize, less: u32, more: u32)
     requires from { from ≤ length starts.old }
     requires less { All (λ start. less ≤ start) (drop from starts.old) }
@@ -135,7 +137,7 @@ impl Leaves {
     ///
     /// # Errors
     /// Memory was refused.
-    pub fn new(alloc: Global, count: usize) -> Result<Leaves, AllocError>
+    pub(crate) fn new(alloc: Global, count: usize) -> Result<Leaves, AllocError>
         requires { (1 ≤ count) × (count ≤ MAX_LEAVES) }
         ensures { IfOk result (λ l. l ≡ record { leaves = [] ∷ []; capacity = count; moved = 0 }) }
     {
@@ -154,14 +156,14 @@ impl Leaves {
     }
 
     /// How many records there are.
-    pub fn count(&self) -> usize
+    pub(crate) fn count(&self) -> usize
         ensures { result ≡ length (joined self.now.leaves) }
     {
         self.starts[self.starts.len() - 1] as usize
     }
 
     /// How many leaves there are.
-    pub fn used(&self) -> usize
+    pub(crate) fn used(&self) -> usize
         ensures value { result ≡ length self.now.leaves }
         ensures not_empty { 0 < result }
         ensures capacity { result ≤ self.now.capacity }
@@ -170,7 +172,7 @@ impl Leaves {
     }
 
     /// How many records a leaf has.
-    pub fn len(&self, leaf: usize) -> usize
+    pub(crate) fn len(&self, leaf: usize) -> usize
         requires { leaf < length self.now.leaves }
         ensures value { result ≡ length (leaf_at self.now.leaves leaf) }
         ensures fits { result ≤ MAX_LEAF }
@@ -179,7 +181,7 @@ impl Leaves {
         self.leaves.leaf(leaf).len()
     }
 
-    /// The first addresses of all leaves but the first, for a search.
+    // The first addresses of all leaves but the first, for a search.
     fn other_firsts(&self) -> Probed<'_, u64>
         ensures starts { result.starts ≡ drop 1 (first_addresses self.now.leaves) }
         ensures fresh { result.probes ≡ 0 }
@@ -189,7 +191,7 @@ impl Leaves {
         Probed::new(&self.firsts[1..])
     }
 
-    /// The records of a leaf, for a search.
+    // The records of a leaf, for a search.
     fn probed(&self, leaf: usize) -> Probed<'_, Run>
         requires { leaf < length self.now.leaves }
         ensures starts { result.starts ≡ addresses (leaf_at self.now.leaves leaf) }
@@ -199,7 +201,7 @@ impl Leaves {
     }
 
     /// The record at a place.
-    pub fn record(&self, place: Place) -> Run
+    pub(crate) fn record(&self, place: Place) -> Run
         requires leaf { place.leaf < length self.now.leaves }
         requires offset { place.offset < length (leaf_at self.now.leaves place.leaf) }
         ensures { slice_index_or (leaf_at self.now.leaves place.leaf) place.offset result ≡ result }
@@ -207,7 +209,7 @@ impl Leaves {
         self.leaves.leaf(place.leaf).record(place.offset)
     }
 
-    /// The leaf of the record at an index, or the last leaf, found by binary search.
+    // The leaf of the record at an index, or the last leaf, found by binary search.
     fn leaf_of(&self, index: usize) -> usize
         requires { index ≤ length (joined self.now.leaves) }
         ensures { IsLeafOf self.now.leaves index result }
@@ -224,7 +226,7 @@ impl Leaves {
         low
     }
 
-    /// A leaf with its indexes.
+    // A leaf with its indexes.
     fn span(&self, leaf: usize) -> Span
         requires { leaf < length self.now.leaves }
         ensures span { IsSpan self.now.leaves result }
@@ -237,7 +239,7 @@ impl Leaves {
         }
     }
 
-    /// A leaf with its indexes. The calls that follow will mostly look for records of it.
+    // A leaf with its indexes. The calls that follow will mostly look for records of it.
     fn enter(&mut self, leaf: usize) -> Span
         requires { leaf < length self.old.leaves }
         ensures span { IsSpan self.old.leaves result }
@@ -249,7 +251,7 @@ impl Leaves {
     }
 
     /// The place of the record at an index, or the end of the last leaf.
-    pub fn locate(&mut self, index: usize) -> Place
+    pub(crate) fn locate(&mut self, index: usize) -> Place
         requires { index ≤ length (joined self.old.leaves) }
         ensures place { IsPlace self.old.leaves index result }
         ensures within { index < length (joined self.old.leaves)
@@ -265,7 +267,7 @@ impl Leaves {
     }
 
     /// The place of an index, where a record may end, in the first leaf from one on where it can be.
-    pub fn locate_end(&self, leaf: usize, index: usize) -> Place
+    pub(crate) fn locate_end(&self, leaf: usize, index: usize) -> Place
         requires leaf { leaf < length self.now.leaves }
         requires start { count_before self.now.leaves leaf ≤ index }
         requires end { index ≤ length (joined self.now.leaves) }
@@ -283,7 +285,7 @@ impl Leaves {
     }
 
     /// Replaces the records of a leaf from one offset to another.
-    pub fn edit(&mut self, leaf: usize, from: usize, to: usize, runs: &[Run])
+    pub(crate) fn edit(&mut self, leaf: usize, from: usize, to: usize, runs: &[Run])
         requires leaf { leaf < length self.old.leaves }
         requires range { (from ≤ to) × (to ≤ length (leaf_at self.old.leaves leaf)) }
         requires room { length (leaf_at self.old.leaves leaf) + length runs.now ≤ MAX_LEAF + (to - from) }
@@ -305,7 +307,7 @@ impl Leaves {
     }
 
     /// Adds a leaf without records at an index.
-    pub fn open(&mut self, leaf: usize)
+    pub(crate) fn open(&mut self, leaf: usize)
         requires leaf { leaf ≤ length self.old.leaves }
         requires room { length self.old.leaves < self.old.capacity }
         ensures { self.new ≡ record self.old { leaves = insert self.old.leaves leaf [] } }
@@ -322,7 +324,7 @@ impl Leaves {
     }
 
     /// Removes a leaf with its records.
-    pub fn close(&mut self, leaf: usize)
+    pub(crate) fn close(&mut self, leaf: usize)
         requires leaf { leaf < length self.old.leaves }
         requires others { 1 < length self.old.leaves }
         requires count { length (joined self.old.leaves) < 2 ^ 32 }
@@ -337,7 +339,7 @@ impl Leaves {
     }
 
     /// Appends the records of a leaf from an offset on to a list.
-    pub fn copy(&mut self, leaf: usize, from: usize, copied: &mut ArrayVec<Run, TWO_LEAVES>)
+    pub(crate) fn copy(&mut self, leaf: usize, from: usize, copied: &mut ArrayVec<Run, TWO_LEAVES>)
         requires leaf { leaf < length self.old.leaves }
         requires offset { from ≤ length (leaf_at self.old.leaves leaf) }
         requires room { length copied.old.items + MAX_LEAF ≤ TWO_LEAVES }

@@ -1,3 +1,5 @@
+// A record of the table: addresses in a row. It knows no order, and of its slots no more than their
+// numbers.
 ghost use Rattle.std.specs.Prelude.{◌≡◌};
 ghost use Rattle.sg_table.specs.Records.{single};
 

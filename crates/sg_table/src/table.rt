@@ -1,3 +1,5 @@
+// The table of records: what is read of it is counted here, and nowhere else. Where its records lie is
+// for the leaves to know.
 ghost use Rattle.std.specs.Prelude.{◌≡◌, ◌+◌, ◌-◌, ◌<◌, ◌≤◌, length, slice_index_or, IfOk};
 ghost use Rattle.sg_table.specs.Records.{start_of, IsSorted, IsLowerBound};
 ghost use Rattle.sg_table.specs.Search.{CostsSearch};
@@ -125,7 +127,7 @@ impl RunTable {
         self.record(index).start
     }
 
-    /// The record at an index. The callers count it.
+    // The record at an index. The callers count it.
     fn record(&mut self, index: usize) -> Run
         requires { index < length self.old.records }
         ensures value { slice_index_or self.old.records index result ≡ result }

@@ -1,3 +1,4 @@
+// Addresses that can be compared only by a call that counts it. It knows neither leaf nor table.
 ghost use Rattle.std.specs.Prelude.{◌≡◌, ℕ, ◌+◌, ◌<◌, length, map};
 ghost use Rattle.sg_table.specs.Search.{address_at};
 
@@ -5,7 +6,7 @@ use crate::run::Run;
 use std::marker::Model;
 
 /// What begins at an address.
-pub trait HasStart {
+pub(crate) trait HasStart {
     ghost start_of: { Self → ℕ };
 
     /// The first address.
@@ -33,7 +34,7 @@ impl HasStart for u64 {
 /// Starts in a row for a search, with how many of them it compared. `Probed::start` alone reads
 /// one.
 #[derive(Drop)]
-pub struct Probed<'a, T: HasStart> {
+pub(crate) struct Probed<'a, T: HasStart> {
     items: &'a [T],
     probes: u64,
 }
@@ -49,28 +50,28 @@ impl<'a, T: HasStart> Model for Probed<'a, T> {
 
 impl<'a, T: HasStart> Probed<'a, T> {
     /// Starts of which none was compared.
-    pub fn new(items: &'a [T]) -> Probed<'a, T>
+    pub(crate) fn new(items: &'a [T]) -> Probed<'a, T>
         ensures { result ≡ record { starts = map T.start_of items.now; probes = 0 } }
     {
         Probed { items, probes: 0 }
     }
 
     /// How many starts there are.
-    pub fn len(&self) -> usize
+    pub(crate) fn len(&self) -> usize
         ensures { result ≡ length self.now.starts }
     {
         self.items.len()
     }
 
     /// How many starts were compared.
-    pub fn probes(&self) -> u64
+    pub(crate) fn probes(&self) -> u64
         ensures { result ≡ self.now.probes }
     {
         self.probes
     }
 
     /// The start at an index, which counts as a probe.
-    pub fn start(&mut self, index: usize) -> u64
+    pub(crate) fn start(&mut self, index: usize) -> u64
         requires index { index < length self.old.starts }
         requires headroom { self.old.probes < u64.MAX }
         ensures value { result ≡ address_at self.old.starts index }

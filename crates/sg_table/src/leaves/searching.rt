@@ -1,4 +1,5 @@
-// Binary search of the table: for a leaf, by the first addresses of the leaves, and then in it.
+// The search for an address: by the first addresses for its leaf, and then in the leaf. It reads
+// addresses through `Probed` alone.
 ghost use Rattle.std.specs.Prelude.{◌≡◌, ◌≤◌, length};
 ghost use Rattle.sg_table.specs.Leaves.{AreBalanced, joined};
 ghost use Rattle.sg_table.specs.Records.{IsSorted, IsLowerBound};
@@ -10,13 +11,13 @@ use crate::table::MAX_RECORDS;
 
 /// Where a search ended, and how many addresses it compared.
 #[derive(Clone, Copy)]
-pub struct Found {
+pub(crate) struct Found {
     pub index: usize,
     pub probes: u64,
 }
 
 /// The index of the first record that is not before an address.
-pub fn lower_bound(leaves: &mut Leaves, lba: u64) -> Found
+pub(crate) fn lower_bound(leaves: &mut Leaves, lba: u64) -> Found
     requires sorted { IsSorted (joined leaves.old.leaves) }
     requires balanced { AreBalanced leaves.old.leaves }
     requires count { length (joined leaves.old.leaves) ≤ MAX_RECORDS }
@@ -36,7 +37,7 @@ pub fn lower_bound(leaves: &mut Leaves, lba: u64) -> Found
     }
 }
 
-/// The index of the first start that is not before an address.
+// The index of the first start that is not before an address.
 fn search<T: HasStart>(starts: &mut Probed<'_, T>, lba: u64) -> usize
     requires fresh { starts.old.probes ≡ 0 }
     requires rising { AreRising starts.old.starts }

@@ -1,4 +1,5 @@
-// Records of the table are replaced, and the leaves are kept in balance.
+// Replacing records: leaves are cut, filled and balanced. It moves few records, whatever the size of
+// the table, and knows nothing of addresses.
 ghost use Rattle.std.specs.Prelude.{◌≡◌, ◌+◌, ◌-◌, ◌*◌, ◌/◌, ◌<◌, ◌≤◌, ◌++◌, [], ◌∷◌, length, take, drop};
 ghost use Rattle.std.specs.List.{All};
 ghost use Rattle.std.specs.List.{splice as splice_list};
@@ -13,7 +14,7 @@ use crate::table::MAX_RECORDS;
 use arrayvec::ArrayVec;
 
 /// Replaces the records from one index to another.
-pub fn splice(leaves: &mut Leaves, from: usize, to: usize, runs: &[Run])
+pub(crate) fn splice(leaves: &mut Leaves, from: usize, to: usize, runs: &[Run])
     requires range { (from ≤ to) × (to ≤ length (joined leaves.old.leaves)) }
     requires balanced { AreBalanced leaves.old.leaves }
 
@@ -37,7 +38,7 @@ pub fn splice(leaves: &mut Leaves, from: usize, to: usize, runs: &[Run])
     }
 }
 
-/// Replaces the records from one place to another, with the leaves between.
+// Replaces the records from one place to another, with the leaves between.
 fn replace(leaves: &mut Leaves, from: Place, to: Place, runs: &[Run])
     requires leaves { (from.leaf ≤ to.leaf) × (to.leaf < length leaves.old.leaves) }
     requires from { from.offset ≤ length (leaf_at leaves.old.leaves from.leaf) }
@@ -56,8 +57,8 @@ fn replace(leaves: &mut Leaves, from: Place, to: Place, runs: &[Run])
     balance(leaves, last);
 }
 
-/// Removes the records from a place on to the end of a leaf. Those of that leaf that are behind
-/// another place are copied to a list first.
+// Removes the records from a place on to the end of a leaf. Those of that leaf that are behind
+// another place are copied to a list first.
 fn cut(leaves: &mut Leaves, from: Place, to: Place, rest: &mut ArrayVec<Run, TWO_LEAVES>)
     requires leaves { (from.leaf ≤ to.leaf) × (to.leaf < length leaves.old.leaves) }
     requires from { from.offset ≤ length (leaf_at leaves.old.leaves from.leaf) }
@@ -76,7 +77,7 @@ fn cut(leaves: &mut Leaves, from: Place, to: Place, rest: &mut ArrayVec<Run, TWO
     leaves.edit(from.leaf, from.offset, len, &[]);
 }
 
-/// Removes the leaves behind one up to another.
+// Removes the leaves behind one up to another.
 fn close_behind(leaves: &mut Leaves, first: usize, last: usize)
     requires leaves { (first ≤ last) × (last < length leaves.old.leaves) }
     requires count { length (joined leaves.old.leaves) ≤ MAX_RECORDS }
@@ -89,8 +90,8 @@ fn close_behind(leaves: &mut Leaves, first: usize, last: usize)
     }
 }
 
-/// Appends records to a leaf, and to new leaves behind it where it is full. The last leaf that was
-/// written is returned.
+// Appends records to a leaf, and to new leaves behind it where it is full. The last leaf that was
+// written is returned.
 fn append(leaves: &mut Leaves, leaf: usize, runs: &[Run]) -> usize
     requires leaf { leaf < length leaves.old.leaves }
     requires filled { AreFilledBut leaves.old.leaves leaf }
@@ -111,7 +112,7 @@ fn append(leaves: &mut Leaves, leaf: usize, runs: &[Run]) -> usize
     last
 }
 
-/// A leaf, or a new one behind it where it is full.
+// A leaf, or a new one behind it where it is full.
 fn with_room(leaves: &mut Leaves, leaf: usize) -> usize
     requires leaf { leaf < length leaves.old.leaves }
     requires filled { AreFilledBut leaves.old.leaves leaf }
@@ -126,7 +127,7 @@ fn with_room(leaves: &mut Leaves, leaf: usize) -> usize
     leaf + 1
 }
 
-/// Takes a leaf together with its neighbour where it has too few records.
+// Takes a leaf together with its neighbour where it has too few records.
 fn balance(leaves: &mut Leaves, leaf: usize)
     requires leaf { leaf < length leaves.old.leaves }
     requires filled { AreFilledBut leaves.old.leaves leaf }
@@ -146,7 +147,7 @@ fn balance(leaves: &mut Leaves, leaf: usize)
     level(leaves, leaf.saturating_sub(1));
 }
 
-/// Gives all records of two neighbours to the first one, or half of them where they are too many.
+// Gives all records of two neighbours to the first one, or half of them where they are too many.
 fn level(leaves: &mut Leaves, leaf: usize)
     requires leaf { leaf + 1 < length leaves.old.leaves }
     requires pair { MIN_LEAF
@@ -169,7 +170,7 @@ fn level(leaves: &mut Leaves, leaf: usize)
     }
 }
 
-/// Copies the records of two neighbours to a list.
+// Copies the records of two neighbours to a list.
 fn gather(leaves: &mut Leaves, leaf: usize, records: &mut ArrayVec<Run, TWO_LEAVES>)
     requires leaf { leaf + 1 < length leaves.old.leaves }
     requires empty { records.old.items ≡ [] }
@@ -182,7 +183,7 @@ fn gather(leaves: &mut Leaves, leaf: usize, records: &mut ArrayVec<Run, TWO_LEAV
     leaves.copy(leaf + 1, 0, records);
 }
 
-/// Makes one leaf of two neighbours, whose records are given.
+// Makes one leaf of two neighbours, whose records are given.
 fn merge(leaves: &mut Leaves, leaf: usize, records: &[Run])
     requires leaf { leaf + 1 < length leaves.old.leaves }
     requires records { records.now ≡ pair_at leaves.old.leaves leaf }
@@ -199,7 +200,7 @@ fn merge(leaves: &mut Leaves, leaf: usize, records: &[Run])
     leaves.close(leaf + 1);
 }
 
-/// Gives half of the records of two neighbours to each of them. The records are given.
+// Gives half of the records of two neighbours to each of them. The records are given.
 fn halve(leaves: &mut Leaves, leaf: usize, records: &[Run])
     requires leaf { leaf + 1 < length leaves.old.leaves }
     requires records { records.now ≡ pair_at leaves.old.leaves leaf }

@@ -2,7 +2,7 @@ use Rattle.std.proofs.Common.{◌≡◌, ◌+◌, ap, ◌∙◌, arith}
 use Rattle.sg_table.specs.Table.{Table}
 use Rattle.sg_store.specs.declared.store.TheConstants.{MAX_CAPACITY}
 use Rattle.sg_block_map.proofs.BetweenLemmas.{maximal-sorted}
-use Rattle.sg_block_map.proofs.GatheringLemmas.{all-gathered, count-starts}
+use Rattle.sg_block_map.proofs.GatheringLemmas.{all-gathered, count-starts, searched-visits}
 use Rattle.sg_block_map.proofs.gather.gather.Goals as goal
 
 pub lower_bound-index-requires-clause-sorted : goal.lower_bound-index-requires-clause-sorted
@@ -11,9 +11,21 @@ lower_bound-index-requires-clause-sorted c = maximal-sorted c.args.table.now.rec
 
 pub gather_from-requires-clause-runs : goal.gather_from-requires-clause-runs
 gather_from-requires-clause-runs c =
-    let same = ap (λ (t : Table). t.records) c.gather_before.ensures.table
+    let same = ap (λ (t : Table). t.records) c.gather_before.ensures.visits.table
     ∙ ap (λ (t : Table). t.records) c.lower_bound-index.ensures.table in
     rw same c.requires.runs
+
+pub gather_from-requires-clause-gathered : goal.gather_from-requires-clause-gathered
+gather_from-requires-clause-gathered c =
+    let b = c.gather_before.ensures.gathered in
+    let same = ap (λ (t : Table). t.records) c.gather_before.ensures.visits.table in
+    let one = ap (λ (t : Table). t.records) c.lower_bound-index.ensures.table in
+    let within = c.lower_bound-index.ensures.index.within in
+    record {
+      reached = b.reached;
+      within = rw (same, one) within;
+      same = rw same b.same;
+    }
 
 pub returns-clause-gathered : goal.returns-clause-gathered
 returns-clause-gathered c =
@@ -21,32 +33,39 @@ returns-clause-gathered c =
     let index = c.lower_bound-index.ensures.index in
     let one = ap (λ (t : Table). t.records) c.lower_bound-index.ensures.table in
     let two : c.gather_before.new.table.records ≡ rs =
-    ap (λ (t : Table). t.records) c.gather_before.ensures.table ∙ one in
+    ap (λ (t : Table). t.records) c.gather_before.ensures.visits.table ∙ one in
     let begun = rw one at c.gather_before.ensures.gathered in
-    let e = c.gather_from.ensures in
     let high : c.args.lba + c.from.result ≡ c.args.lba + c.args.count =
     ap (λ x. c.args.lba + x) c.from.ensures in
+    let on = rw (two, high) at c.gather_from.ensures.gathered in
     all-gathered rs c.gather_before.new.gathered c.gather_from.new.gathered
     c.lower_bound-index.result c.args.lba (c.args.lba + c.args.count) (MAX_CAPACITY + 1) begun index
-    (omega arith) e.from.0 e.grows.0 (rw two at e.grows.1) (rw two at e.same)
-    (rw (two, high) at e.near) (rw (two, high) at e.after) c.requires.runs
+    (omega arith) on.from on.order on.within on.same on.near on.after c.requires.runs
     (omega (arith, c.requires.range))
 
-pub returns-clause-most : goal.returns-clause-most
-returns-clause-most c =
+pub returns-clause-visits : goal.returns-clause-visits
+returns-clause-visits c =
     let rs = c.args.table.now.records in
-    let one = ap (λ (t : Table). t.records) c.lower_bound-index.ensures.table in
+    let e = c.lower_bound-index.ensures in
+    let index = c.lower_bound-index.result in
+    let one = ap (λ (t : Table). t.records) e.table in
     let two : c.gather_before.new.table.records ≡ rs =
-    ap (λ (t : Table). t.records) c.gather_before.ensures.table ∙ one in
+    ap (λ (t : Table). t.records) c.gather_before.ensures.visits.table ∙ one in
     let high : c.args.lba + c.from.result ≡ c.args.lba + c.args.count =
     ap (λ x. c.args.lba + x) c.from.ensures in
-    let starts = count-starts rs c.lower_bound-index.result c.args.lba
-    (c.args.lba + c.args.count) c.lower_bound-index.ensures.index.after in
-    let most = rw (two, high) at c.gather_from.ensures.most in
-    omega (
-      arith,
-      starts,
-      most,
-      c.gather_before.ensures.most,
-      ap (λ (t : Table). t.total) c.lower_bound-index.ensures.table,
-    )
+    let starts = count-starts rs index c.args.lba (c.args.lba + c.args.count) e.index.after in
+    let all = searched-visits c.args.table.now c.lower_bound-index.new.self
+    c.gather_before.new.table c.gather_from.new.table _ _ _ _ e.table e.probes_rise e.search
+    c.gather_before.ensures.visits c.gather_from.ensures.visits in
+    let most = rw (two, high) at all.most_visits in
+    let on = c.gather_from.ensures.gathered in
+    let begun = c.gather_before.ensures.gathered in
+    let from = on.from in
+    let order = on.order in
+    record {
+      table = all.table;
+      probes_rise = all.probes_rise;
+      search = all.search;
+      fewest_visits = omega (arith, all.fewest_visits, begun.reached, from, order);
+      most_visits = omega (arith, starts, most);
+    }

@@ -13,6 +13,7 @@ use Rattle.sg_table.proofs.SpliceLemmas.{same-splice}
 use Rattle.sg_table.proofs.TableLemmas.{visited-more}
 use Rattle.sg_block_map.proofs.AddressLemmas.{maximal-order, ends-below}
 use Rattle.sg_block_map.proofs.GatheringLemmas.{count-begun, near-more, begun-more, end_at-read}
+use Rattle.sg_block_map.proofs.GatheringLemmas.{gathered-on, visits-of}
 use Rattle.sg_block_map.proofs.gather.gather_from.Goals as goal
 
 -- the run that is visited is the one at the index
@@ -26,27 +27,29 @@ pushed_past : (gathered : Drafted) (run : Run) (now : Drafted) (at : ℕ) → no
 pushed_past gathered run now at e is = ap end_index e
     ∙ omega (arith, length_push gathered.records run)
 
-pub returns-then-run-high-clause-after : goal.returns-then-run-high-clause-after
-returns-then-run-high-clause-after c =
+pub returns-then-run-high-clause-gathered : goal.returns-then-run-high-clause-gathered
+returns-then-run-high-clause-gathered c =
     let rs = c.args.table.now.records in
     let inv = c.loop-at.invariant in
     let same = ap (λ (t : Table). t.records) inv.table in
     let start = start_here rs c.loop-at.table.records c.loop-at.at c.visit-run.result same
     (omega (arith, c.loop-at-test.true, c.count-at-end.ensures.value)) c.visit-run.ensures.value
     in
-    λ low. rw inv.reached (omega (arith, c.if-run-high.true, start))
+    gathered-on rs c.args.gathered.now c.loop-at.gathered c.args.index c.loop-at.at c.args.high
+    inv.from.0 (omega arith) inv.reached inv.within inv.same
+    (λ i ge lt. omega (arith, inv.near i ge lt))
+    (λ low. omega (arith, c.if-run-high.true, start))
 
-pub returns-then-run-high-clause-most : goal.returns-then-run-high-clause-most
-returns-then-run-high-clause-most c =
+pub returns-then-run-high-clause-visits : goal.returns-then-run-high-clause-visits
+returns-then-run-high-clause-visits c =
     let inv = c.loop-at.invariant in
-    let begun = count-begun c.args.table.now.records c.args.index c.loop-at.at c.args.high inv.near
+    let t = c.args.table.now in
+    let n = c.loop-at.at - c.args.index in
+    let begun = count-begun t.records c.args.index c.loop-at.at c.args.high inv.near
     (omega arith) inv.within in
-    omega (
-      arith,
-      begun,
-      ap (λ (t : Table). t.total) inv.table,
-      ap (λ (t : Table). t.total) c.visit-run.ensures.table,
-    )
+    visits-of t c.visit-run.new.self (n + 1) _ _
+    (c.visit-run.ensures.table ∙ ap (λ x. visited x 1) inv.table ∙ visited-more t n 1)
+    (omega (arith, inv.reached)) (omega (arith, begun))
 
 -- the end of a run
 end_here : (rs now : List Run) (at : ℕ) (run : Run) → now ≡ rs → at < length rs
@@ -72,31 +75,27 @@ overflow_add-run c =
       );
     }
 
-pub returns-then-run-from-clause-near : goal.returns-then-run-from-clause-near
-returns-then-run-from-clause-near c =
-    let rs = c.args.table.now.records in
-    let inv = c.loop-at.invariant in
-    let same = ap (λ (t : Table). t.records) inv.table in
-    let start = start_here rs c.loop-at.table.records c.loop-at.at c.visit-run.result same
-    (omega (arith, c.loop-at-test.true, c.count-at-end.ensures.value)) c.visit-run.ensures.value
-    in
-    let on = pushed_past c.loop-at.gathered c.visit-run.result c.push.new.self c.loop-at.at
-    c.push.ensures inv.reached in
-    rw on (near-more rs c.args.index c.loop-at.at c.args.high c.visit-run.result.start inv.near
-    start (omega (arith, c.if-run-high.false)))
-
-pub returns-then-run-from-clause-after : goal.returns-then-run-from-clause-after
-returns-then-run-from-clause-after c =
+pub returns-then-run-from-clause-gathered : goal.returns-then-run-from-clause-gathered
+returns-then-run-from-clause-gathered c =
     let rs = c.args.table.now.records in
     let inv = c.loop-at.invariant in
     let at = c.loop-at.at in
+    let run = c.visit-run.result in
     let same = ap (λ (t : Table). t.records) inv.table in
     let low : at < length rs = omega (arith, c.loop-at-test.true, c.count-at-end.ensures.value) in
-    let end = end_here rs c.loop-at.table.records at c.visit-run.result same low
-    c.visit-run.ensures.value in
-    let on = pushed_past c.loop-at.gathered c.visit-run.result c.push.new.self at
-    c.push.ensures inv.reached in
-    rw on (λ next. omega (
+    let read : run ≡ slice_index_or rs at run = sym c.visit-run.ensures.value
+    ∙ ap (λ xs. slice_index_or xs at run) same in
+    let start = start_here rs c.loop-at.table.records at run same low c.visit-run.ensures.value in
+    let end = end_here rs c.loop-at.table.records at run same low c.visit-run.ensures.value in
+    gathered-on rs c.args.gathered.now c.push.new.self c.args.index (at + 1) c.args.high
+    (rw c.push.ensures inv.from.0) (omega arith)
+    (pushed_past c.loop-at.gathered run c.push.new.self at c.push.ensures inv.reached)
+    (omega (arith, low))
+    (rw c.push.ensures (same-splice rs c.loop-at.gathered.records c.loop-at.gathered.from at
+    run low read ∙ inv.same))
+    (near-more rs c.args.index at c.args.high run.start inv.near start
+    (omega (arith, c.if-run-high.false)))
+    (λ next. omega (
       arith,
       c.if-run-from.true,
       c.from.ensures,
@@ -104,17 +103,18 @@ returns-then-run-from-clause-after c =
       maximal-order rs 0 (MAX_CAPACITY + 1) at (at + 1) c.requires.runs (omega arith) next,
     ))
 
-pub returns-then-run-from-clause-most : goal.returns-then-run-from-clause-most
-returns-then-run-from-clause-most c =
+pub returns-then-run-from-clause-visits : goal.returns-then-run-from-clause-visits
+returns-then-run-from-clause-visits c =
     let inv = c.loop-at.invariant in
-    let begun = count-begun c.args.table.now.records c.args.index c.loop-at.at c.args.high inv.near
+    let t = c.args.table.now in
+    let n = c.loop-at.at - c.args.index in
+    let begun = count-begun t.records c.args.index c.loop-at.at c.args.high inv.near
     (omega arith) inv.within in
-    omega (
-      arith,
-      begun,
-      ap (λ (t : Table). t.total) inv.table,
-      ap (λ (t : Table). t.total) c.visit-run.ensures.table,
-    )
+    let on = pushed_past c.loop-at.gathered c.visit-run.result c.push.new.self c.loop-at.at
+    c.push.ensures inv.reached in
+    visits-of t c.visit-run.new.self (n + 1) _ _
+    (c.visit-run.ensures.table ∙ ap (λ x. visited x 1) inv.table ∙ visited-more t n 1)
+    (omega (arith, on)) (omega (arith, begun))
 
 pub loop-at-preserved : goal.loop-at-preserved
 loop-at-preserved c =
@@ -140,9 +140,24 @@ loop-at-preserved c =
           ∙ visited-more c.args.table.now (at - c.args.index) 1 ∙ ap (visited c.args.table.now) on;
     }
 
-pub returns-clause-most : goal.returns-clause-most
-returns-clause-most c =
+pub returns-clause-gathered : goal.returns-clause-gathered
+returns-clause-gathered c =
+    let inv = c.loop-at.invariant in
+    gathered-on c.args.table.now.records c.args.gathered.now c.loop-at.gathered c.args.index
+    c.loop-at.at c.args.high inv.from.0 (omega arith) inv.reached inv.within inv.same
+    (λ i ge lt. omega (arith, inv.near i ge lt))
+    (λ low. absurd (omega (
+      arith,
+      c.loop-at-test.false,
+      c.count-at-end.ensures.value,
+      low,
+      c.loop-at.auto.at-end,
+    )))
+
+pub returns-clause-visits : goal.returns-clause-visits
+returns-clause-visits c =
     let inv = c.loop-at.invariant in
     let begun = count-begun c.args.table.now.records c.args.index c.loop-at.at c.args.high inv.near
     (omega arith) inv.within in
-    omega (arith, begun, ap (λ (t : Table). t.total) inv.table)
+    visits-of c.args.table.now c.loop-at.table (c.loop-at.at - c.args.index) _ _ inv.table
+    (omega (arith, inv.reached)) (omega (arith, begun))

@@ -97,8 +97,8 @@ met-visits rs capacity lba next n cursor end t u table from to order met rest is
     let rises = only-more rs cursor.index end.index cursor.next end.next from.next from.within
     to.next to.within order in
     record {
-      fewest = omega (arith, count, total, order, rises);
-      most = omega (arith, count, total, order, rises, one, one_more);
+      fewest_visits = omega (arith, count, total, order, rises);
+      most_visits = omega (arith, count, total, order, rises, one, one_more);
     }
 
 pub returns-else-count-lt-MAX_DESCRIPTORS-clause-descriptors :

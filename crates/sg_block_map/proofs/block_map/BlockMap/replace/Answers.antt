@@ -8,6 +8,7 @@ use Rattle.sg_pool.specs.MappedRecords.{contents_of}
 use Rattle.sg_pool.specs.Source.{block_of}
 use Rattle.sg_table.specs.Table.{Table}
 use Rattle.sg_store.specs.declared.store.TheConstants.{MAX_CAPACITY}
+use Rattle.sg_table.specs.Draft.{Drafted}
 use Rattle.sg_block_map.specs.RunCost.{CostsRange}
 use Rattle.sg_block_map.specs.Runs.{expanded, chained_contents}
 use Rattle.sg_block_map.specs.State.{disk_of, meter_at, slot_map}
@@ -44,9 +45,14 @@ returns-then-count-eq0-clause-costs c =
     let s = c.args.self.now in
     nothing-costs (disk_of s) c.args.lba c.args.count (meter_at s.table s.pool) c.if-count-eq0.true
 
-pub gather-requires-clause-fits : goal.gather-requires-clause-fits
-gather-requires-clause-fits c = let s = c.args.self.now in
-    runs-fit s.table.records s.pool s.table.room s.runs
+pub gather-requires-clause-room : goal.gather-requires-clause-room
+gather-requires-clause-room c =
+    let s = c.args.self.now in
+    record {
+      fits = runs-fit s.table.records s.pool s.table.room s.runs;
+      table_size = s.pool_fits;
+      room = ap (λ (d : Drafted). d.room) s.gathered_empty;
+    }
 
 pub mapped_in-mapped-requires-clause-fits : goal.mapped_in-mapped-requires-clause-fits
 mapped_in-mapped-requires-clause-fits c =
@@ -78,22 +84,22 @@ returns-then-from-free_count-clause-space c =
 pub returns-then-from-free_count-clause-keeps : goal.returns-then-from-free_count-clause-keeps
 returns-then-from-free_count-clause-keeps c =
     let s = c.args.self.now in
-    λ q slot e. ap (λ (t : Table). map'.get (slot_map t s.pool) q) c.gather.ensures.table ∙ e
+    λ q slot e. ap (λ (t : Table). map'.get (slot_map t s.pool) q) c.gather.ensures.visits.table ∙ e
 
 pub returns-then-from-free_count-clause-costs : goal.returns-then-from-free_count-clause-costs
 returns-then-from-free_count-clause-costs c =
     let s = c.args.self.now in
     let e = c.gather.ensures in
     gathered-range s.table c.gather.new.table s.pool s.pool s.capacity c.args.lba c.args.count
-    c.gather.new.gathered s.runs e.gathered s.pool_fits e.table e.rise e.search e.least e.most
+    c.gather.new.gathered s.runs e.gathered s.pool_fits e.visits
     (omega arith) (omega arith)
 
 -- there are enough
 pub write_runs-requires-clause-runs : goal.write_runs-requires-clause-runs
-write_runs-requires-clause-runs c = let s = c.args.self.now in rw c.gather.ensures.table s.runs
+write_runs-requires-clause-runs c = let s = c.args.self.now in rw c.gather.ensures.visits.table s.runs
 
 pub write_runs-requires-clause-gathered : goal.write_runs-requires-clause-gathered
-write_runs-requires-clause-gathered c = rw c.gather.ensures.table c.gather.ensures.gathered
+write_runs-requires-clause-gathered c = rw c.gather.ensures.visits.table c.gather.ensures.gathered
 
 pub write_runs-requires-clause-free : goal.write_runs-requires-clause-free
 write_runs-requires-clause-free c =
@@ -104,7 +110,7 @@ write_runs-requires-clause-free c =
     s.runs c.gather.ensures.gathered in
     let value = rw c.records.ensures at c.mapped_in-mapped.ensures.value in
     let same = ap (λ (t : Table). mapped_among (chained_contents t.records s.pool) lba count)
-    c.gather.ensures.table in
+    c.gather.ensures.visits.table in
     omega arith
 
 pub invariant_of-self-2-clause-well_formed : goal.invariant_of-self-2-clause-well_formed
@@ -112,7 +118,7 @@ invariant_of-self-2-clause-well_formed c =
     let s = c.args.self.now in
     let same : chained_contents c.gather.new.table.records s.pool ≡
     chained_contents s.table.records s.pool =
-    ap (λ (t : Table). chained_contents t.records s.pool) c.gather.ensures.table in
+    ap (λ (t : Table). chained_contents t.records s.pool) c.gather.ensures.visits.table in
     let before = subst (IsWellFormed s.capacity) (sym same) s.well_formed in
     subst (IsWellFormed s.capacity) (sym c.write_runs.ensures.contents)
     (well_formed-replaced s.capacity _ c.args.lba c.args.count
@@ -133,10 +139,10 @@ returns-clause-keeps c =
     let s = c.args.self.now in
     let numbers = map (λ slot. slot ∷ []) (range_with_len 0 s.table.room) in
     let room = ap (λ (t : Table). t.room) c.write_runs.ensures.table
-    ∙ ap (λ (t : Table). t.room) c.gather.ensures.table in
+    ∙ ap (λ (t : Table). t.room) c.gather.ensures.visits.table in
     λ q slot e. rw room (c.write_runs.ensures.keeps numbers q slot
     (ap (λ (t : Table). map'.get (contents_of (expanded s.pool.next t.records) numbers) q)
-    c.gather.ensures.table ∙ e))
+    c.gather.ensures.visits.table ∙ e))
 
 pub returns-clause-costs : goal.returns-clause-costs
 returns-clause-costs c =
@@ -146,5 +152,5 @@ returns-clause-costs c =
     subst (λ (m : Meter). CostsRange (disk_of s) c.args.lba c.args.count (meter_at s.table s.pool) m)
     (sym (ap (λ t. meter_at t pool) c.write_runs.ensures.table))
     (gathered-range s.table c.gather.new.table s.pool pool s.capacity c.args.lba c.args.count
-    c.gather.new.gathered s.runs e.gathered s.pool_fits e.table e.rise e.search e.least e.most
+    c.gather.new.gathered s.runs e.gathered s.pool_fits e.visits
     c.write_runs.ensures.rise c.write_runs.ensures.links)

@@ -1,6 +1,7 @@
 use Rattle.std.proofs.Common.{◌+◌, length, ap, ap₂, sym, ◌∙◌, arith}
 use Rattle.sg_store.specs.Disk.{blocks}
 use Rattle.sg_store.specs.declared.store.TheConstants.{MAX_CAPACITY}
+use Rattle.sg_table.specs.Draft.{Drafted}
 use Rattle.sg_block_map.specs.Runs.{expanded, chained_contents}
 use Rattle.sg_block_map.specs.State.{slot_map}
 use Rattle.sg_block_map.proofs.CutRunsLemmas.{runs-fit, length-expanded}
@@ -9,9 +10,14 @@ use Rattle.sg_block_map.proofs.StoreLemmas.{runs-ahead, gathered-length}
 use Rattle.sg_block_map.proofs.StoreLemmas.{gathered-range}
 use Rattle.sg_block_map.proofs.block_map.BlockMapStore.read.Goals as goal
 
-pub gather-requires-clause-fits : goal.gather-requires-clause-fits
-gather-requires-clause-fits c = let s = c.args.self.now in
-    runs-fit s.table.records s.pool s.table.room s.runs
+pub gather-requires-clause-room : goal.gather-requires-clause-room
+gather-requires-clause-room c =
+    let s = c.args.self.now in
+    record {
+      fits = runs-fit s.table.records s.pool s.table.room s.runs;
+      table_size = s.pool_fits;
+      room = ap (λ (d : Drafted). d.room) s.gathered_empty;
+    }
 
 pub read_runs-requires-clause-ahead : goal.read_runs-requires-clause-ahead
 read_runs-requires-clause-ahead c =
@@ -41,7 +47,7 @@ returns-clause-bytes c =
     c.gather.ensures.gathered)
 
 pub returns-clause-keeps : goal.returns-clause-keeps
-returns-clause-keeps c = ap₂ slot_map c.gather.ensures.table c.read_runs.ensures.pool
+returns-clause-keeps c = ap₂ slot_map c.gather.ensures.visits.table c.read_runs.ensures.pool
 
 pub returns-clause-costs : goal.returns-clause-costs
 returns-clause-costs c =
@@ -51,5 +57,5 @@ returns-clause-costs c =
     let links = ap (λ zs. length (expanded s.pool.next zs)) c.records.ensures
     ∙ length-expanded s.pool.next gathered.records in
     gathered-range s.table c.gather.new.table s.pool c.read_runs.new.pool s.capacity c.args.lba
-    c.args.count gathered s.runs e.gathered s.pool_fits e.table e.rise e.search e.least e.most
+    c.args.count gathered s.runs e.gathered s.pool_fits e.visits
     c.read_runs.ensures.rise (omega (arith, c.read_runs.ensures.links, links))

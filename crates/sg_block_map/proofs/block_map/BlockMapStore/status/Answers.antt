@@ -53,20 +53,20 @@ returns-clause-costs c =
     let u = c.write_descriptors-count.new.table in
     let same = ap (λ (x : Table). x.records) e.table in
     let f = c.write_descriptors-count.ensures in
-    let fewest = rw same at (f.visits s.pool).fewest in
-    let most = rw same at (f.visits s.pool).most in
+    let fewest = rw same at (f.visits s.pool).fewest_visits in
+    let most = rw same at (f.visits s.pool).most_visits in
     let probes = ap (λ (x : Table). x.probes) f.table in
-    let total : s.table.total ≤ u.total = omega (arith, e.fewest, fewest) in
+    let total : s.table.total ≤ u.total = omega (arith, e.fewest_visits, fewest) in
     let rise : s.table.probes ≤ u.probes = omega (arith, probes, e.probes_rise) in
-    let joined = visits-joined s.table t u e.table f.table (omega (arith, e.fewest))
+    let joined = visits-joined s.table t u e.table f.table (omega (arith, e.fewest_visits))
     (omega (arith, fewest)) in
     let met = meet-records s.table.records s.pool s.table.room lba count s.runs in
     let one = ahead-le c.cursor_over-cursor.result.next in
     record {
       cost = gathered-costs s.table.records s.pool s.pool s.table.room lba count s.table u s.runs
           refl joined rise (rw probes e.search) total s.pool_fits (omega arith) (omega arith);
-      price = omega (arith, most, e.most, met, one);
-      least = omega (arith, fewest, e.fewest, met, one);
+      price = omega (arith, most, e.most_visits, met, one);
+      least = omega (arith, fewest, e.fewest_visits, met, one);
       runs = gathered-runs s.table.records s.pool s.pool s.table.room lba count s.table u s.runs
           refl joined rise (rw probes e.search) total (omega arith);
     }

@@ -6,6 +6,7 @@ use Rattle.sg_store.specs.Meter.{Meter}
 use Rattle.sg_pool.specs.MappedRecords.{contents_of}
 use Rattle.sg_pool.specs.Slots.{Slots}
 use Rattle.sg_table.specs.Table.{Table}
+use Rattle.sg_table.specs.Draft.{Drafted}
 use Rattle.sg_block_map.specs.RunCost.{CostsRange}
 use Rattle.sg_block_map.specs.Runs.{expanded, chained_contents}
 use Rattle.sg_block_map.specs.State.{disk_of, meter_at, slot_map}
@@ -34,17 +35,22 @@ returns-then-count-eq0-clause-costs c =
     let s = c.args.self.now in
     nothing-costs (disk_of s) c.args.lba c.args.count (meter_at s.table s.pool) c.if-count-eq0.true
 
-pub gather-requires-clause-fits : goal.gather-requires-clause-fits
-gather-requires-clause-fits c = let s = c.args.self.now in
-    runs-fit s.table.records s.pool s.table.room s.runs
+pub gather-requires-clause-room : goal.gather-requires-clause-room
+gather-requires-clause-room c =
+    let s = c.args.self.now in
+    record {
+      fits = runs-fit s.table.records s.pool s.table.room s.runs;
+      table_size = s.pool_fits;
+      room = ap (λ (d : Drafted). d.room) s.gathered_empty;
+    }
 
 -- the runs are cut
 pub unmap_runs-requires-clause-runs : goal.unmap_runs-requires-clause-runs
-unmap_runs-requires-clause-runs c = let s = c.args.self.now in rw c.gather.ensures.table s.runs
+unmap_runs-requires-clause-runs c = let s = c.args.self.now in rw c.gather.ensures.visits.table s.runs
 
 pub unmap_runs-requires-clause-gathered : goal.unmap_runs-requires-clause-gathered
 unmap_runs-requires-clause-gathered c = rw (
-  c.gather.ensures.table,
+  c.gather.ensures.visits.table,
   c.from.ensures,
 ) c.gather.ensures.gathered
 
@@ -61,7 +67,7 @@ invariant_of-self-clause-well_formed c =
     ∙ ap (contents_of (expanded after.pool.next after.table.records)) c.unmap_runs.ensures.blocks
     ∙ c.unmap_runs.ensures.contents s.pool.blocks
     ∙ ap (λ (t : Table). unmapped (chained_contents t.records s.pool) lba
-    (lba + c.from.result - lba)) c.gather.ensures.table
+    (lba + c.from.result - lba)) c.gather.ensures.visits.table
     ∙ ap (unmapped (chained_contents rs s.pool) lba) (omega (arith, c.from.ensures)) in
     subst (IsWellFormed s.capacity) (sym is) (well_formed-unmapped s.capacity
     (chained_contents rs s.pool) lba count s.well_formed)
@@ -79,10 +85,10 @@ returns-clause-disk c =
     ∙ ap (contents_of (expanded after.pool.next after.table.records)) c.unmap_runs.ensures.blocks
     ∙ c.unmap_runs.ensures.contents s.pool.blocks
     ∙ ap (λ (t : Table). unmapped (chained_contents t.records s.pool) lba
-    (lba + c.from.result - lba)) c.gather.ensures.table
+    (lba + c.from.result - lba)) c.gather.ensures.visits.table
     ∙ ap (unmapped (chained_contents rs s.pool) lba) (omega (arith, c.from.ensures)) in
     let room = ap (λ (t : Table). t.room) c.unmap_runs.ensures.table
-    ∙ ap (λ (t : Table). t.room) c.gather.ensures.table in
+    ∙ ap (λ (t : Table). t.room) c.gather.ensures.visits.table in
     ap₂ (λ r m. record { capacity = s.capacity; pool = r; contents = m }) room is
 
 pub returns-clause-keeps : goal.returns-clause-keeps
@@ -91,13 +97,13 @@ returns-clause-keeps c =
     let lba = c.args.lba in
     let numbers = map (λ slot. slot ∷ []) (range_with_len 0 s.table.room) in
     let room = ap (λ (t : Table). t.room) c.unmap_runs.ensures.table
-    ∙ ap (λ (t : Table). t.room) c.gather.ensures.table in
+    ∙ ap (λ (t : Table). t.room) c.gather.ensures.visits.table in
     let after = c.unmap_runs.new in
     let links = ap (λ (p : Slots). contents_of (expanded p.next after.table.records) numbers)
     c.renew_slots.ensures.pool in
     rw room (links ∙ c.unmap_runs.ensures.contents numbers
     ∙ ap (λ (t : Table). unmapped (contents_of (expanded s.pool.next t.records) numbers) lba
-    (lba + c.from.result - lba)) c.gather.ensures.table
+    (lba + c.from.result - lba)) c.gather.ensures.visits.table
     ∙ ap (unmapped (contents_of (expanded s.pool.next s.table.records) numbers) lba)
     (omega (arith, c.from.ensures)))
 
@@ -110,5 +116,5 @@ returns-clause-costs c =
     (sym (ap (λ p. meter_at c.unmap_runs.new.table p) c.renew_slots.ensures.pool
     ∙ ap (λ t. meter_at t pool) c.unmap_runs.ensures.table))
     (gathered-range s.table c.gather.new.table s.pool pool s.capacity c.args.lba c.args.count
-    c.gather.new.gathered s.runs e.gathered s.pool_fits e.table e.rise e.search e.least e.most
+    c.gather.new.gathered s.runs e.gathered s.pool_fits e.visits
     c.unmap_runs.ensures.rise c.unmap_runs.ensures.links)

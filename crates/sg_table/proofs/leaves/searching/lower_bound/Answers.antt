@@ -26,7 +26,7 @@ overflow_add-probes c =
     c.probes.result c.probes-2.result c.args.lba (rw f.starts at c.search-leaf.ensures.index) f.fits
     (rw (f.starts, sym c.probes.ensures) at c.search-leaf.ensures.halving)
     (rw (c.probed-records.ensures.starts, sym c.probes-2.ensures) at c.search-offset.ensures.halving) in
-    omega (arith, probes-le _ _ cost.most r.count)
+    omega (arith, probes-le _ _ cost.most_probes r.count)
 
 pub overflow_add-result : goal.overflow_add-result
 overflow_add-result c =
