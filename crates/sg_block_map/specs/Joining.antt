@@ -1,14 +1,18 @@
 -- A run to which others are joined.
-use Rattle.std.specs.Prelude.{◌≡◌, ℕ, ◌+◌, ◌<◌, List, ◌∷◌, ◌++◌, length, slice_set}
+use Rattle.std.specs.Prelude.{◌≡◌, ℕ, ◌+◌, ◌<◌, ◌≤◌, List, ◌∷◌, ◌++◌, length, slice_set}
 use Rattle.std.specs.Prelude.{if◌then◌else◌, ◌==◌, Option, Some, None}
-use Rattle.std.specs.FinMap.{get}
+use Rattle.std.specs.FinMap.{get, insert}
 use Rattle.sg_pool.specs.Chains.{IsChain}
 use Rattle.sg_pool.specs.MappedRecords.{contents_of}
 use Rattle.sg_pool.specs.Slots.{Slots}
 use Rattle.sg_pool.specs.MappedRecords.{IsConsistent}
+use Rattle.sg_table.specs.Draft.{Drafted}
+use Rattle.sg_table.specs.Table.{Table}
 use Rattle.sg_table.specs.declared.run.Run.{Run}
-use Rattle.sg_store.specs.declared.store.TheConstants.{MAX_CAPACITY}
-use Rattle.sg_block_map.specs.Runs.{end_of, expanded, AreChained, AreMaximal}
+use Rattle.sg_store.specs.declared.store.TheConstants.{MAX_CAPACITY, MAX_COUNT, MAX_POOL}
+use Rattle.sg_block_map.specs.Gathering.{AreGathered, AreNear}
+use Rattle.sg_block_map.specs.Runs.{end_of, expanded, AreChained, AreMaximal, AreRuns}
+use Rattle.sg_block_map.specs.Runs.{chained_contents}
 
 -- Two runs as one. The first may have no address yet.
 abbrev pub joined : Run → Run → Run
@@ -42,6 +46,45 @@ abbrev pub KeepSlots : (next : List ℕ) → List Run → (next' : List ℕ) →
 KeepSlots next runs next' runs' = (blocks : List (List ℕ)) (lba : ℕ) (block : List ℕ)
     → get (contents_of (expanded next runs) blocks) lba ≡ Some block
     → get (contents_of (expanded next' runs') blocks) lba ≡ Some block
+
+-- The block at an address was put, whatever runs are before and after: the write has come to the next
+-- address, the contents have the block, and each mapped address has its slot.
+pub record IsPut (before : List Run) (done done' : Run) (rest rest' : List Run) (old new : Slots)
+    (lba : ℕ) (block : List ℕ) : Type 0 where
+  pub writing : IsWriting before done' rest' new (lba + 1)
+  pub contents : chained_contents (before ++ done' ∷ rest') new
+      ≡ insert (chained_contents (before ++ done ∷ rest) old) lba block
+  pub keeps : KeepSlots old.next (before ++ done ∷ rest) new.next (before ++ done' ∷ rest')
+
+abbrev pub PutsAddress : (done done' : Run) → (ahead ahead' : List Run) → (old new : Slots)
+    → (lba : ℕ) → (block : List ℕ) → Type 0
+PutsAddress done done' ahead ahead' old new lba block = (before after : List Run)
+    → IsWriting before done (ahead ++ after) old lba
+    → AreMaximal (lba + 1) (MAX_CAPACITY + 1) after
+    → IsPut before done done' (ahead ++ after) (ahead' ++ after) old new lba block
+
+-- The run that takes up the range has one address more, and the runs ahead are as near as before.
+pub record GoesOn (done done' : Run) (ahead ahead' : List Run) (old new : Slots) (lba : ℕ) : Type 0
+  where
+    pub start : done'.start ≡ done.start
+    pub count : done'.count ≡ done.count + 1
+    pub near : (high : ℕ) → lba < high → AreNear 0 high ahead → AreNear 0 high ahead'
+    pub slots : length new.next ≡ length old.next
+
+-- A table of runs over a pool, no larger than allowed, with the runs near a range gathered. The links
+-- of those can be counted.
+pub record IsReadyFor (table : Table) (slots : Slots) (gathered : Drafted) (low high : ℕ) : Type 0
+  where
+    pub runs : AreRuns table.records slots table.room
+    pub gathered_runs : AreGathered table.records gathered low high (MAX_CAPACITY + 1)
+    pub table_size : table.room ≤ MAX_POOL
+    pub headroom : slots.links ≤ MAX_COUNT
+
+-- The table has other runs over the pool, and no more than `most_moves` records were moved.
+pub record ChangesRuns (most_moves : ℕ) (before after : Table) (slots : Slots) : Type 0 where
+  pub runs : AreRuns after.records slots after.room
+  pub table : after ≡ record before { records = after.records; moved = after.moved }
+  pub moves : after.moved ≤ before.moved + most_moves
 
 -- A run that is to begin at an address, and has none yet.
 abbrev pub no_run : (lba : ℕ) → Run

@@ -2,17 +2,16 @@
 // the store to know, and which runs are near is for `gather`.
 ghost use Rattle.std.specs.Prelude.{◌≡◌, ◌+◌, ◌-◌, ◌^◌, ◌<◌, ◌≤◌, ◌++◌, ◌∷◌, ℕ, List, length};
 ghost use Rattle.std.specs.Prelude.{None, Option, option_to_list, unwrap_or, IfSome};
-ghost use Rattle.std.specs.FinMap.{insert};
 ghost use Rattle.sg_store.specs.Disk.{replaced, mapped_among};
 ghost use Rattle.sg_table.specs.Leaves.{move_bound};
 ghost use Rattle.sg_table.specs.Records.{run_at};
 ghost use Rattle.sg_table.specs.Occurrences.{occurrences};
 ghost use Rattle.sg_pool.specs.Slots.{followed};
 ghost use Rattle.sg_pool.specs.Source.{HasBlocks, block_of};
-ghost use Rattle.sg_block_map.specs.Gathering.{AreNear, AreGathered};
 ghost use Rattle.sg_block_map.specs.Joining.{joined, linked, no_run, IsWriting, IsFinished};
-ghost use Rattle.sg_block_map.specs.Joining.{KeepSlots};
-ghost use Rattle.sg_block_map.specs.Runs.{expanded, AreMaximal, AreRuns, chained_contents};
+ghost use Rattle.sg_block_map.specs.Joining.{ChangesRuns, GoesOn, IsReadyFor, KeepSlots, PutsAddress};
+ghost use Rattle.sg_block_map.specs.Metering.{FollowsLinks, FollowsPassed};
+ghost use Rattle.sg_block_map.specs.Runs.{expanded, chained_contents};
 ghost use Rattle.sg_block_map.specs.Runs.{blocks_of};
 ghost use Rattle.sg_block_map.specs.Walking.{ahead_of, AreAhead, IsWalkFrom};
 
@@ -21,7 +20,7 @@ use crate::overwrite::{covering, overwrite};
 use crate::put::put_runs;
 use crate::walk::{Walk, walk_from};
 use sg_pool::{Pool, Source};
-use sg_store::{BLOCK_LENGTH, MAX_CAPACITY, MAX_COUNT, MAX_POOL};
+use sg_store::{BLOCK_LENGTH, MAX_CAPACITY};
 use sg_table::{Run, RunTable};
 
 /// How far a range is written.
@@ -57,8 +56,8 @@ fn join(pool: &mut Pool, done: Run, other: Run) -> Run
     }
 }
 
-// Writes the block at the address where the run ends, and joins the address to the run. A block
-// that is mapped is written over in its slot, and any other takes a free one.
+// Writes the block at the address where the run ends, and joins the address to the run. A block that
+// is mapped is written over in its slot, and any other takes a free one.
 fn put_address(
     pool: &mut Pool,
     runs: &[Run],
@@ -71,45 +70,17 @@ fn put_address(
     requires free { run_at progress.walk.run lba ≡ None → 0 < length pool.old.free }
     requires range { lba < MAX_CAPACITY }
     requires byte_count { length bytes.now ≡ BLOCK_LENGTH }
-    requires fits { progress.done.count < u32.MAX }
-    requires headroom { pool.old.links < u64.MAX }
+    requires headroom { (progress.done.count < u32.MAX) × (pool.old.links < u64.MAX) }
 
-    // Whatever runs are before and after, the write comes to the next address.
-    ensures step { (before after : List Run)
-        → IsWriting before progress.done
-        (ahead_of runs.now progress.walk.run progress.walk.at ++ after) pool.old lba
-        → AreMaximal (lba + 1) (MAX_CAPACITY + 1) after
-        → IsWriting before result.done
-        (ahead_of runs.now result.walk.run result.walk.at ++ after) pool.new (lba + 1) }
-    ensures contents { (before after : List Run)
-        → IsWriting before progress.done
-        (ahead_of runs.now progress.walk.run progress.walk.at ++ after) pool.old lba
-        → AreMaximal (lba + 1) (MAX_CAPACITY + 1) after
-        → chained_contents
-        (before ++ result.done ∷ (ahead_of runs.now result.walk.run result.walk.at ++ after))
-        pool.new
-        ≡ insert (chained_contents
-        (before ++ progress.done ∷ (ahead_of runs.now progress.walk.run progress.walk.at ++ after))
-        pool.old) lba bytes.now }
-    ensures keeps { (before after : List Run)
-        → IsWriting before progress.done
-        (ahead_of runs.now progress.walk.run progress.walk.at ++ after) pool.old lba
-        → AreMaximal (lba + 1) (MAX_CAPACITY + 1) after
-        → KeepSlots pool.old.next
-        (before ++ progress.done ∷ (ahead_of runs.now progress.walk.run progress.walk.at ++ after))
-        pool.new.next
-        (before ++ result.done ∷ (ahead_of runs.now result.walk.run result.walk.at ++ after)) }
-    ensures near { (high : ℕ) → lba < high
-        → AreNear 0 high (ahead_of runs.now progress.walk.run progress.walk.at)
-        → AreNear 0 high (ahead_of runs.now result.walk.run result.walk.at) }
-    ensures done { (result.done.start ≡ progress.done.start)
-        × (result.done.count ≡ progress.done.count + 1) }
-    ensures length { length pool.new.next ≡ length pool.old.next }
-
-    // A link is followed only where a mapped address is passed.
-    ensures rise { pool.old.links ≤ pool.new.links }
-    ensures links { pool.new.links + blocks_of (ahead_of runs.now result.walk.run result.walk.at)
-        ≤ pool.old.links + blocks_of (ahead_of runs.now progress.walk.run progress.walk.at) }
+    // The write comes to the next address.
+    ensures puts { PutsAddress progress.done result.done
+        (ahead_of runs.now progress.walk.run progress.walk.at)
+        (ahead_of runs.now result.walk.run result.walk.at) pool.old pool.new lba bytes.now }
+    ensures goes_on { GoesOn progress.done result.done
+        (ahead_of runs.now progress.walk.run progress.walk.at)
+        (ahead_of runs.now result.walk.run result.walk.at) pool.old pool.new lba }
+    ensures links { FollowsPassed (blocks_of (ahead_of runs.now progress.walk.run progress.walk.at))
+        (blocks_of (ahead_of runs.now result.walk.run result.walk.at)) pool.old pool.new }
 {
     let Some(run) = progress.walk.run_at(lba) else {
         let slot = pool.take();
@@ -176,29 +147,20 @@ pub(crate) fn write_runs(
     count: u32,
     source: &Source,
 )
-    requires runs { AreRuns table.old.records pool.old table.old.room }
-    requires gathered { AreGathered table.old.records gathered.now lba (lba + count)
-        (MAX_CAPACITY + 1) }
-    requires not_empty { 0 < count }
-    requires range { lba + count ≤ MAX_CAPACITY }
+    requires ready { IsReadyFor table.old pool.old gathered.now lba (lba + count) }
+    requires range { (0 < count) × (lba + count ≤ MAX_CAPACITY) }
     requires blocks { HasBlocks source.now count }
-    requires room { table.old.room ≤ MAX_POOL }
     requires free { count ≤ length pool.old.free
         + mapped_among (chained_contents table.old.records pool.old) lba count }
-    requires headroom { pool.old.links ≤ MAX_COUNT }
 
     // The blocks are replaced, and each mapped address keeps its slot.
     ensures contents { chained_contents table.new.records pool.new
         ≡ replaced (chained_contents table.old.records pool.old) lba count (block_of source.now) }
-    ensures runs { AreRuns table.new.records pool.new table.new.room }
     ensures keeps { KeepSlots pool.old.next table.old.records pool.new.next table.new.records }
-    ensures table { table.new
-        ≡ record table.old { records = table.new.records; moved = table.new.moved } }
-    ensures moves { table.new.moved ≤ table.old.moved + move_bound + 1 }
+    ensures table { ChangesRuns (move_bound + 1) table.old table.new pool.new }
 
     // At most as many links are followed as the gathered runs have blocks.
-    ensures rise { pool.old.links ≤ pool.new.links }
-    ensures links { pool.new.links ≤ pool.old.links + blocks_of gathered.now.records }
+    ensures links { FollowsLinks (blocks_of gathered.now.records) pool.old pool.new }
 {
     let runs = gathered.records();
     if let Some(run) = covering(runs, lba, count) {

@@ -49,69 +49,8 @@ join-done-requires-clause-used c =
     ∙ occurrences-more done.last c.take-slot.result c.take-slot.new.self.free in
     rw free (omega arith)
 
-pub returns-in_default-clause-step : goal.returns-in_default-clause-step
-returns-in_default-clause-step c =
-    let p = c.args.pool.now in
-    let done = c.args.progress.done in
-    let w = c.args.progress.walk in
-    let lba = c.args.lba in
-    let slot = c.take-slot.result in
-    let run_is : c.join-done.result ≡ joined done (single lba slot) = c.join-done.ensures.run
-    ∙ ap (joined done) c.single.ensures in
-    let set_is : c.set.new.self ≡ record p {
-      blocks = set p.blocks slot c.args.bytes.now;
-      free =
-          c.take-slot.new.self.free;
-    } = c.set.ensures
-    ∙ ap (λ (s : Slots). record s { blocks = set s.blocks slot c.args.bytes.now })
-    c.take-slot.ensures.pool in
-    let pool_is : c.join-done.new.pool ≡ record p {
-      blocks = set p.blocks slot c.args.bytes.now;
-      free = c.take-slot.new.self.free;
-      next = linked p.next done slot;
-    }
-    = c.join-done.ensures.pool
-    ∙ ap₂ (λ (s : Slots) (o : Run). record s { next = linked s.next done o.first }) set_is
-    c.single.ensures in
-    λ before after h k. rw (run_is, pool_is) (new-writing before done
-    (ahead_of c.args.runs.now w.run w.at ++ after) p lba slot c.take-slot.new.self.free
-    c.args.bytes.now h c.take-slot.ensures.free
-    (skip-maximal c.args.runs.now after w.run w.at lba h.after k (sym c.run_at.ensures
-    ∙ c.in_default.is)))
-
-pub returns-in_default-clause-contents : goal.returns-in_default-clause-contents
-returns-in_default-clause-contents c =
-    let p = c.args.pool.now in
-    let done = c.args.progress.done in
-    let w = c.args.progress.walk in
-    let lba = c.args.lba in
-    let slot = c.take-slot.result in
-    let run_is : c.join-done.result ≡ joined done (single lba slot) = c.join-done.ensures.run
-    ∙ ap (joined done) c.single.ensures in
-    let set_is : c.set.new.self ≡ record p {
-      blocks = set p.blocks slot c.args.bytes.now;
-      free =
-          c.take-slot.new.self.free;
-    } = c.set.ensures
-    ∙ ap (λ (s : Slots). record s { blocks = set s.blocks slot c.args.bytes.now })
-    c.take-slot.ensures.pool in
-    let pool_is : c.join-done.new.pool ≡ record p {
-      blocks = set p.blocks slot c.args.bytes.now;
-      free = c.take-slot.new.self.free;
-      next = linked p.next done slot;
-    }
-    = c.join-done.ensures.pool
-    ∙ ap₂ (λ (s : Slots) (o : Run). record s { next = linked s.next done o.first }) set_is
-    c.single.ensures in
-    λ before after h k. ap₂ (λ (r : Run) (s : Slots). chained_contents
-    (before ++ r ∷ (ahead_of c.args.runs.now w.run w.at ++ after)) s) run_is pool_is
-    ∙ new-contents before done (ahead_of c.args.runs.now w.run w.at ++ after) p lba slot
-    c.take-slot.new.self.free c.args.bytes.now h c.take-slot.ensures.free
-    (skip-maximal c.args.runs.now after w.run w.at lba h.after k (sym c.run_at.ensures
-    ∙ c.in_default.is))
-
-pub returns-in_default-clause-keeps : goal.returns-in_default-clause-keeps
-returns-in_default-clause-keeps c =
+pub returns-in_default-clause-puts : goal.returns-in_default-clause-puts
+returns-in_default-clause-puts c =
     let p = c.args.pool.now in
     let done = c.args.progress.done in
     let w = c.args.progress.walk in
@@ -136,13 +75,22 @@ returns-in_default-clause-keeps c =
     c.single.ensures in
     λ before after h k.
     let rest : List Run = ahead_of c.args.runs.now w.run w.at ++ after in
-    subst (λ (r : Run). KeepSlots p.next (before ++ done ∷ rest) c.join-done.new.pool.next
-    (before ++ r ∷ rest)) (sym run_is)
-    (subst (λ (s : Slots). KeepSlots p.next (before ++ done ∷ rest) s.next
-    (before ++ joined done (single lba slot) ∷ rest)) (sym pool_is)
-    (new-keeps before done rest p lba slot c.take-slot.new.self.free c.args.bytes.now h
-    c.take-slot.ensures.free (skip-maximal c.args.runs.now after w.run w.at lba h.after k
-    (sym c.run_at.ensures ∙ c.in_default.is))))
+    let skipped = skip-maximal c.args.runs.now after w.run w.at lba h.after k
+    (sym c.run_at.ensures ∙ c.in_default.is) in
+    record {
+      writing = rw (run_is, pool_is) (new-writing before done rest p lba slot
+          c.take-slot.new.self.free c.args.bytes.now h c.take-slot.ensures.free skipped);
+      contents = ap₂ (λ (r : Run) (s : Slots). chained_contents (before ++ r ∷ rest) s) run_is
+          pool_is
+          ∙ new-contents before done rest p lba slot c.take-slot.new.self.free c.args.bytes.now h
+          c.take-slot.ensures.free skipped;
+      keeps = subst (λ (r : Run). KeepSlots p.next (before ++ done ∷ rest)
+          c.join-done.new.pool.next (before ++ r ∷ rest)) (sym run_is)
+          (subst (λ (s : Slots). KeepSlots p.next (before ++ done ∷ rest) s.next
+          (before ++ joined done (single lba slot) ∷ rest)) (sym pool_is)
+          (new-keeps before done rest p lba slot c.take-slot.new.self.free c.args.bytes.now h
+          c.take-slot.ensures.free skipped));
+    }
 
 -- the address is mapped
 here : (runs after : List Run) (run : Option Run) (found : Run) (at : ℕ) → run ≡ Some found
@@ -192,60 +140,8 @@ join-done-requires-2-clause-used c =
     λ pos. rw free ((done-last x.0 c.args.progress.done
     (ahead_of c.args.runs.now w.run w.at ++ x.1) p c.args.lba x.2 pos).1)
 
-pub returns-clause-step : goal.returns-clause-step
-returns-clause-step c =
-    let p = c.args.pool.now in
-    let done = c.args.progress.done in
-    let w = c.args.progress.walk in
-    let lba = c.args.lba in
-    let runs = c.args.runs.now in
-    let found = c.in-Some.run' in
-    let now = c.pass-walk.new.pool in
-    let more : List Run = ahead_of runs c.pass-walk.result.run c.pass-walk.result.at in
-    let is = sym c.run_at.ensures ∙ c.in-Some.is in
-    let run_is : c.join-done-2.result ≡ joined done (single lba found.first) =
-    c.join-done-2.ensures.run ∙ ap (joined done) c.single-2.ensures in
-    let pool_is : c.join-done-2.new.pool ≡ record now {
-      blocks =
-          set now.blocks found.first c.args.bytes.now;
-      next = linked now.next done found.first;
-    }
-    = c.join-done-2.ensures.pool
-    ∙ ap₂ (λ (s : Slots) (o : Run). record s { next = linked s.next done o.first })
-    c.set-2.ensures c.single-2.ensures in
-    λ before after h k. rw (run_is, pool_is)
-    (walked-writing before after runs more done found w.run w.at p now lba
-    (now.links - p.links) c.args.bytes.now h is c.pass-walk.ensures.pool
-    c.pass-walk.ensures.ahead)
-
-pub returns-clause-contents : goal.returns-clause-contents
-returns-clause-contents c =
-    let p = c.args.pool.now in
-    let done = c.args.progress.done in
-    let w = c.args.progress.walk in
-    let lba = c.args.lba in
-    let runs = c.args.runs.now in
-    let found = c.in-Some.run' in
-    let now = c.pass-walk.new.pool in
-    let more : List Run = ahead_of runs c.pass-walk.result.run c.pass-walk.result.at in
-    let is = sym c.run_at.ensures ∙ c.in-Some.is in
-    let run_is : c.join-done-2.result ≡ joined done (single lba found.first) =
-    c.join-done-2.ensures.run ∙ ap (joined done) c.single-2.ensures in
-    let pool_is : c.join-done-2.new.pool ≡ record now {
-      blocks =
-          set now.blocks found.first c.args.bytes.now;
-      next = linked now.next done found.first;
-    }
-    = c.join-done-2.ensures.pool
-    ∙ ap₂ (λ (s : Slots) (o : Run). record s { next = linked s.next done o.first })
-    c.set-2.ensures c.single-2.ensures in
-    λ before after h k. ap₂ (λ (r : Run) (s : Slots). chained_contents
-    (before ++ r ∷ (more ++ after)) s) run_is pool_is
-    ∙ walked-contents before after runs more done found w.run w.at p now lba
-    (now.links - p.links) c.args.bytes.now h is c.pass-walk.ensures.pool c.pass-walk.ensures.ahead
-
-pub returns-clause-keeps : goal.returns-clause-keeps
-returns-clause-keeps c =
+pub returns-clause-puts : goal.returns-clause-puts
+returns-clause-puts c =
     let p = c.args.pool.now in
     let done = c.args.progress.done in
     let w = c.args.progress.walk in
@@ -267,9 +163,21 @@ returns-clause-keeps c =
     c.set-2.ensures c.single-2.ensures in
     λ before after h k.
     let rest : List Run = ahead_of runs w.run w.at ++ after in
-    subst (λ (r : Run). KeepSlots p.next (before ++ done ∷ rest) c.join-done-2.new.pool.next
-    (before ++ r ∷ (more ++ after))) (sym run_is)
-    (subst (λ (s : Slots). KeepSlots p.next (before ++ done ∷ rest) s.next
-    (before ++ joined done (single lba found.first) ∷ (more ++ after))) (sym pool_is)
-    (walked-keeps before after runs more done found w.run w.at p now lba
-    (now.links - p.links) c.args.bytes.now h is c.pass-walk.ensures.pool c.pass-walk.ensures.ahead))
+    record {
+      writing = rw (run_is, pool_is)
+          (walked-writing before after runs more done found w.run w.at p now lba
+          (now.links - p.links) c.args.bytes.now h is c.pass-walk.ensures.pool
+          c.pass-walk.ensures.ahead);
+      contents = ap₂ (λ (r : Run) (s : Slots). chained_contents
+          (before ++ r ∷ (more ++ after)) s) run_is pool_is
+          ∙ walked-contents before after runs more done found w.run w.at p now lba
+          (now.links - p.links) c.args.bytes.now h is c.pass-walk.ensures.pool
+          c.pass-walk.ensures.ahead;
+      keeps = subst (λ (r : Run). KeepSlots p.next (before ++ done ∷ rest)
+          c.join-done-2.new.pool.next (before ++ r ∷ (more ++ after))) (sym run_is)
+          (subst (λ (s : Slots). KeepSlots p.next (before ++ done ∷ rest) s.next
+          (before ++ joined done (single lba found.first) ∷ (more ++ after))) (sym pool_is)
+          (walked-keeps before after runs more done found w.run w.at p now lba
+          (now.links - p.links) c.args.bytes.now h is c.pass-walk.ensures.pool
+          c.pass-walk.ensures.ahead));
+    }

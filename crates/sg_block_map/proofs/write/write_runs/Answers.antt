@@ -32,7 +32,7 @@ overwrite-requires-clause-below c =
     let run = c.in-Some.run' in
     let first = rw c.records-runs.ensures at c.in-Some.ensures.first in
     first-below c.args.table.now.records gathered c.args.pool.now c.args.table.now.room c.args.lba
-    (c.args.lba + c.args.count) run (drop 1 gathered.records) c.requires.runs c.requires.gathered
+    (c.args.lba + c.args.count) run (drop 1 gathered.records) c.requires.ready.runs c.requires.ready.gathered_runs
     first
 
 pub begin-progress-requires-clause-ahead : goal.begin-progress-requires-clause-ahead
@@ -40,23 +40,23 @@ begin-progress-requires-clause-ahead c =
     let rs = c.args.table.now.records in
     let gathered = c.args.gathered.now in
     let p = c.args.pool.now in
-    let g = c.requires.gathered in
+    let g = c.requires.ready.gathered_runs in
     rw c.records-runs.ensures (gathered-ahead (take gathered.from rs) gathered.records
     (drop (end_index gathered) rs) p c.args.table.now.room
-    (subst (λ zs. AreRuns zs p c.args.table.now.room) (sym g.same) c.requires.runs))
+    (subst (λ zs. AreRuns zs p c.args.table.now.room) (sym g.same) c.requires.ready.runs))
 
 pub begin-progress-requires-clause-headroom : goal.begin-progress-requires-clause-headroom
 begin-progress-requires-clause-headroom c =
     let p = c.args.pool.now in
     let few = gathered-blocks c.args.table.now.records c.args.gathered.now p c.args.table.now.room
     c.args.lba (c.args.lba + c.args.count)
-    (MAX_CAPACITY + 1) c.requires.runs c.requires.gathered in
+    (MAX_CAPACITY + 1) c.requires.ready.runs c.requires.ready.gathered_runs in
     rw c.records-runs.ensures (omega (
       arith,
       few,
       length-expanded p.next c.args.gathered.now.records,
-      c.requires.headroom,
-      c.requires.room,
+      c.requires.ready.headroom,
+      c.requires.ready.table_size,
     ))
 
 pub loop-i-init : goal.loop-i-init
@@ -67,14 +67,14 @@ loop-i-init c =
     let room = c.args.table.now.room in
     let lba = c.args.lba in
     let high = lba + c.args.count in
-    let g = c.requires.gathered in
+    let g = c.requires.ready.gathered_runs in
     let before : List Run = take gathered.from rs in
     let after : List Run = drop (end_index gathered) rs in
     let progress = c.begin-progress.result in
     let t = rw c.records-runs.ensures at c.begin-progress.ensures.front in
     let front = t.0 in
     let more : List Run = ahead_of gathered.records progress.walk.run progress.walk.at in
-    let all = subst (λ zs. AreRuns zs p room) (sym g.same) c.requires.runs in
+    let all = subst (λ zs. AreRuns zs p room) (sym g.same) c.requires.ready.runs in
     let up = maximal-weaker after (high + 1) (MAX_CAPACITY + 1) lba (MAX_CAPACITY + 1) (omega arith)
     (omega arith) g.after in
     let now = c.begin-progress.new.pool in
@@ -107,7 +107,7 @@ put_address-progress-requires-clause-free c =
     let inv = c.loop-i.invariant in
     let i = c.loop-i.i in
     let high = c.args.lba + c.args.count in
-    let g = c.requires.gathered in
+    let g = c.requires.ready.gathered_runs in
     let after : List Run = drop (end_index gathered) rs in
     let w = c.loop-i.progress.walk in
     let here : c.args.lba + c.from.result ≡ c.args.lba + i =
@@ -115,26 +115,23 @@ put_address-progress-requires-clause-free c =
     let up = maximal-weaker after (high + 1) (MAX_CAPACITY + 1) (c.args.lba + i + 1)
     (MAX_CAPACITY + 1) (omega arith) (omega arith) g.after in
     let len : c.args.table.now.room ≡ length c.loop-i.pool.next =
-    sym (inv.length ∙ c.requires.runs.links) in
-    let consistent = rw len at c.requires.runs.consistent in
+    sym (inv.length ∙ c.requires.ready.runs.links) in
+    let consistent = rw len at c.requires.ready.runs.consistent in
     rw here (λ none. free-there (take gathered.from rs) after gathered.records
     c.loop-i.progress.done w.run w.at c.args.lba i c.args.count p c.loop-i.pool rs
     (block_of c.args.source.now) inv.writing up none consistent inv.contents c.loop-i-test.true
     c.requires.free)
 
-pub put_address-progress-requires-clause-fits : goal.put_address-progress-requires-clause-fits
-put_address-progress-requires-clause-fits c =
-    let inv = c.loop-i.invariant in
-    let fits = done-fits _ _ _ _ _ inv.writing in
-    omega (arith, fits, inv.length, c.requires.runs.links, c.requires.room)
-
 pub put_address-progress-requires-clause-headroom : goal.put_address-progress-requires-clause-headroom
 put_address-progress-requires-clause-headroom c =
     let inv = c.loop-i.invariant in
+    let fits = done-fits _ _ _ _ _ inv.writing in
     let few = gathered-blocks c.args.table.now.records c.args.gathered.now c.args.pool.now
     c.args.table.now.room c.args.lba (c.args.lba + c.args.count)
-    (MAX_CAPACITY + 1) c.requires.runs c.requires.gathered in
-    omega (arith, few, inv.links, c.requires.headroom, c.requires.room)
+    (MAX_CAPACITY + 1) c.requires.ready.runs c.requires.ready.gathered_runs in (
+      omega (arith, fits, inv.length, c.requires.ready.runs.links, c.requires.ready.table_size),
+      omega (arith, few, inv.links, c.requires.ready.headroom, c.requires.ready.table_size),
+    )
 
 pub loop-i-preserved : goal.loop-i-preserved
 loop-i-preserved c =
@@ -145,7 +142,7 @@ loop-i-preserved c =
     let i = c.loop-i.i in
     let lba = c.args.lba in
     let high = lba + c.args.count in
-    let g = c.requires.gathered in
+    let g = c.requires.ready.gathered_runs in
     let before : List Run = take gathered.from rs in
     let after : List Run = drop (end_index gathered) rs in
     let e = c.put_address-progress.ensures in
@@ -153,23 +150,22 @@ loop-i-preserved c =
     let on : lba + i + 1 ≡ lba + (i + 1) = omega arith in
     let up = maximal-weaker after (high + 1) (MAX_CAPACITY + 1) (lba + i + 1) (MAX_CAPACITY + 1)
     (omega arith) (omega arith) g.after in
-    let step = rw (c.records-runs.ensures, here) at e.step in
-    let contents = rw (c.records-runs.ensures, here) at e.contents in
-    let keeps = rw (c.records-runs.ensures, here) at e.keeps in
-    let near = rw (c.records-runs.ensures, here) at e.near in
+    let puts = rw (c.records-runs.ensures, here) at e.puts in
+    let put = puts before after inv.writing up in
+    let goes = rw (c.records-runs.ensures, here) at e.goes_on in
     let links = rw c.records-runs.ensures at e.links in
     record {
-      writing = rw on at (step before after inv.writing up);
-      contents = contents before after inv.writing up
+      writing = rw on at put.writing;
+      contents = put.contents
           ∙ rw (inv.contents, c.block-block.ensures)
           (sym (replaced-more (chained_contents rs p) lba i (block_of c.args.source.now)));
-      keeps = λ blocks q block f. keeps before after inv.writing up blocks q block
+      keeps = λ blocks q block f. put.keeps blocks q block
           (inv.keeps blocks q block f);
-      near = near high (omega arith) inv.near;
-      start = omega (arith, inv.start, e.done.0);
-      length = e.length ∙ inv.length;
-      rise = omega (arith, inv.rise, e.rise);
-      links = omega (arith, inv.links, links);
+      near = goes.near high (omega arith) inv.near;
+      start = omega (arith, inv.start, goes.start);
+      length = goes.slots ∙ inv.length;
+      rise = omega (arith, inv.rise, links.links_rise);
+      links = omega (arith, inv.links, links.most_links);
     }
 
 pub finish-run-requires-clause-slot : goal.finish-run-requires-clause-slot
@@ -186,13 +182,13 @@ finish-run-requires-clause-fits c =
     let w = c.loop-i.progress.walk in
     ahead-fits (take gathered.from rs) (drop (end_index gathered) rs) gathered.records
     c.loop-i.progress.done w.run w.at (c.args.lba + c.loop-i.i) c.loop-i.pool inv.writing
-    (omega (arith, inv.length, c.requires.runs.links, c.requires.room))
+    (omega (arith, inv.length, c.requires.ready.runs.links, c.requires.ready.table_size))
 
 pub put_runs-requires-clause-table_size : goal.put_runs-requires-clause-table_size
 put_runs-requires-clause-table_size c =
     let fit = runs-fit c.args.table.now.records c.args.pool.now c.args.table.now.room
-    c.requires.runs in
-    omega (arith, fit, c.requires.room)
+    c.requires.ready.runs in
+    omega (arith, fit, c.requires.ready.table_size)
 
 pub put_runs-requires-clause-room : goal.put_runs-requires-clause-room
 put_runs-requires-clause-room c =
@@ -200,7 +196,7 @@ put_runs-requires-clause-room c =
     let gathered = c.args.gathered.now in
     let p = c.args.pool.now in
     let inv = c.loop-i.invariant in
-    let g = c.requires.gathered in
+    let g = c.requires.ready.gathered_runs in
     let room = c.args.table.now.room in
     let high = c.args.lba + c.args.count in
     let before : List Run = take gathered.from rs in
@@ -209,10 +205,10 @@ put_runs-requires-clause-room c =
     let done = c.loop-i.progress.done in
     let all : c.loop-i.i ≡ c.args.count = omega (arith, c.loop-i-test.false, c.loop-i.auto.i-end) in
     let writing = rw all at inv.writing in
-    let some : 0 < done.count = omega (arith, writing.ends, inv.start, c.requires.not_empty) in
+    let some : 0 < done.count = omega (arith, writing.ends, inv.start, c.requires.range.0) in
     let final = finished-runs before after gathered.records done c.finish-run.result w.run w.at high
     room c.loop-i.pool c.finish-run.new.pool writing inv.near c.finish-run.ensures some g.after
-    (inv.length ∙ c.requires.runs.links) in
+    (inv.length ∙ c.requires.ready.runs.links) in
     let fit = runs-fit (before ++ c.finish-run.result ∷ after) c.finish-run.new.pool room final in
     let a = length-append before (c.finish-run.result ∷ after) in
     let within = g.within in
@@ -227,7 +223,7 @@ returns-clause-contents c =
     let gathered = c.args.gathered.now in
     let p = c.args.pool.now in
     let inv = c.loop-i.invariant in
-    let g = c.requires.gathered in
+    let g = c.requires.ready.gathered_runs in
     let room = c.args.table.now.room in
     let high = c.args.lba + c.args.count in
     let before : List Run = take gathered.from rs in
@@ -236,7 +232,7 @@ returns-clause-contents c =
     let done = c.loop-i.progress.done in
     let all : c.loop-i.i ≡ c.args.count = omega (arith, c.loop-i-test.false, c.loop-i.auto.i-end) in
     let writing = rw all at inv.writing in
-    let some : 0 < done.count = omega (arith, writing.ends, inv.start, c.requires.not_empty) in
+    let some : 0 < done.count = omega (arith, writing.ends, inv.start, c.requires.range.0) in
     let is : c.put_runs.new.table.records ≡ before ++ c.finish-run.result ∷ after =
     ap (λ (t : Table). t.records) c.put_runs.ensures.table in
     let contents = rw all at inv.contents in
@@ -247,13 +243,13 @@ returns-clause-contents c =
     c.finish-run.ensures)
     ∙ contents
 
-pub returns-clause-runs : goal.returns-clause-runs
-returns-clause-runs c =
+pub returns-clause-table : goal.returns-clause-table
+returns-clause-table c =
     let rs = c.args.table.now.records in
     let gathered = c.args.gathered.now in
     let p = c.args.pool.now in
     let inv = c.loop-i.invariant in
-    let g = c.requires.gathered in
+    let g = c.requires.ready.gathered_runs in
     let room = c.args.table.now.room in
     let high = c.args.lba + c.args.count in
     let before : List Run = take gathered.from rs in
@@ -262,14 +258,22 @@ returns-clause-runs c =
     let done = c.loop-i.progress.done in
     let all : c.loop-i.i ≡ c.args.count = omega (arith, c.loop-i-test.false, c.loop-i.auto.i-end) in
     let writing = rw all at inv.writing in
-    let some : 0 < done.count = omega (arith, writing.ends, inv.start, c.requires.not_empty) in
+    let some : 0 < done.count = omega (arith, writing.ends, inv.start, c.requires.range.0) in
     let final = finished-runs before after gathered.records done c.finish-run.result w.run w.at high
     room c.loop-i.pool c.finish-run.new.pool writing inv.near c.finish-run.ensures some g.after
-    (inv.length ∙ c.requires.runs.links) in
+    (inv.length ∙ c.requires.ready.runs.links) in
     let is : c.put_runs.new.table.records ≡ before ++ c.finish-run.result ∷ after =
     ap (λ (t : Table). t.records) c.put_runs.ensures.table in
     let same = ap (λ (t : Table). t.room) c.put_runs.ensures.table in
-    rw (is, same) final
+    record {
+      runs = rw (is, same) final;
+      table = c.put_runs.ensures.table
+          ∙ ap (λ (xs : List Run). record c.args.table.now {
+            records = xs;
+            moved = c.put_runs.new.table.moved;
+          }) (sym (ap (λ (t : Table). t.records) c.put_runs.ensures.table));
+      moves = omega (arith, c.put_runs.ensures.moves);
+    }
 
 pub returns-clause-keeps : goal.returns-clause-keeps
 returns-clause-keeps c =
@@ -277,7 +281,7 @@ returns-clause-keeps c =
     let gathered = c.args.gathered.now in
     let p = c.args.pool.now in
     let inv = c.loop-i.invariant in
-    let g = c.requires.gathered in
+    let g = c.requires.ready.gathered_runs in
     let room = c.args.table.now.room in
     let high = c.args.lba + c.args.count in
     let before : List Run = take gathered.from rs in
@@ -286,7 +290,7 @@ returns-clause-keeps c =
     let done = c.loop-i.progress.done in
     let all : c.loop-i.i ≡ c.args.count = omega (arith, c.loop-i-test.false, c.loop-i.auto.i-end) in
     let writing = rw all at inv.writing in
-    let some : 0 < done.count = omega (arith, writing.ends, inv.start, c.requires.not_empty) in
+    let some : 0 < done.count = omega (arith, writing.ends, inv.start, c.requires.range.0) in
     let is : c.put_runs.new.table.records ≡ before ++ c.finish-run.result ∷ after =
     ap (λ (t : Table). t.records) c.put_runs.ensures.table in
     λ blocks q block f. ap (λ zs. map.get (contents_of

@@ -95,11 +95,16 @@ returns-then-from-free_count-clause-costs c =
     (omega arith) (omega arith)
 
 -- there are enough
-pub write_runs-requires-clause-runs : goal.write_runs-requires-clause-runs
-write_runs-requires-clause-runs c = let s = c.args.self.now in rw c.gather.ensures.visits.table s.runs
-
-pub write_runs-requires-clause-gathered : goal.write_runs-requires-clause-gathered
-write_runs-requires-clause-gathered c = rw c.gather.ensures.visits.table c.gather.ensures.gathered
+pub write_runs-requires-clause-ready : goal.write_runs-requires-clause-ready
+write_runs-requires-clause-ready c =
+    let s = c.args.self.now in
+    let table = c.gather.ensures.visits.table in
+    record {
+      runs = rw table s.runs;
+      gathered_runs = rw table c.gather.ensures.gathered;
+      table_size = omega (arith, ap (λ (t : Table). t.room) table, s.pool_fits);
+      headroom = c.requires.headroom.links;
+    }
 
 pub write_runs-requires-clause-free : goal.write_runs-requires-clause-free
 write_runs-requires-clause-free c =
@@ -138,7 +143,7 @@ pub returns-clause-keeps : goal.returns-clause-keeps
 returns-clause-keeps c =
     let s = c.args.self.now in
     let numbers = map (λ slot. slot ∷ []) (range_with_len 0 s.table.room) in
-    let room = ap (λ (t : Table). t.room) c.write_runs.ensures.table
+    let room = ap (λ (t : Table). t.room) c.write_runs.ensures.table.table
     ∙ ap (λ (t : Table). t.room) c.gather.ensures.visits.table in
     λ q slot e. rw room (c.write_runs.ensures.keeps numbers q slot
     (ap (λ (t : Table). map'.get (contents_of (expanded s.pool.next t.records) numbers) q)
@@ -150,7 +155,7 @@ returns-clause-costs c =
     let e = c.gather.ensures in
     let pool = c.write_runs.new.pool in
     subst (λ (m : Meter). CostsRange (disk_of s) c.args.lba c.args.count (meter_at s.table s.pool) m)
-    (sym (ap (λ t. meter_at t pool) c.write_runs.ensures.table))
+    (sym (ap (λ t. meter_at t pool) c.write_runs.ensures.table.table))
     (gathered-range s.table c.gather.new.table s.pool pool s.capacity c.args.lba c.args.count
     c.gather.new.gathered s.runs e.gathered s.pool_fits e.visits
-    c.write_runs.ensures.rise c.write_runs.ensures.links)
+    c.write_runs.ensures.links.links_rise c.write_runs.ensures.links.most_links)
