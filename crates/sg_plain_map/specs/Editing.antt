@@ -1,7 +1,7 @@
 -- Reading and editing the table in the order of addresses.
-use Rattle.std.specs.Prelude.{◌≡◌, ℕ, ◌+◌, ◌≤◌, List, length}
+use Rattle.std.specs.Prelude.{◌≡◌, ℕ, ◌+◌, ◌<◌, ◌≤◌, List, length}
 use Rattle.std.specs.List.{splice}
-use Rattle.sg_store.specs.Disk.{Contents}
+use Rattle.sg_store.specs.Disk.{Contents, mapped_at}
 use Rattle.sg_plain_map.specs.PlainCost.{plain_least, plain_price}
 use Rattle.sg_table.specs.Records.{IsLowerBound, IsNext}
 use Rattle.sg_pool.specs.MappedRecords.{contents_of}
@@ -55,3 +55,21 @@ pub record IsEditing (records : List Run) (room : ℕ) (slots : Slots) (draft : 
   pub index : IsLowerBound (edited records draft cursor) (draft.from + length draft.records) lba
   pub longer : cursor.index ≤ draft.from + length draft.records
   pub same : draft.from + length draft.records ≡ cursor.index → edited records draft cursor ≡ records
+
+-- There is room for one more record and one more block, unless the address has one, and the table is no
+-- larger than allowed.
+pub record HasRoom (table : Table) (slots : Slots) (draft : Drafted) (cursor : Cursor) (lba : ℕ) :
+    Type 0 where
+  pub draft_room : length draft.records < draft.room
+  pub free : 0 < length slots.free + mapped_at (edited_contents table slots draft cursor) lba
+  pub table_size : length table.records ≤ MAX_POOL
+
+-- An address is passed, which is mapped or not, and its record drafted: the cursor goes past the record
+-- that it has, and else a slot is taken.
+pub record Drafts (mapped : ℕ) (cursor cursor' : Cursor) (slots slots' : Slots)
+    (draft draft' : Drafted) : Type 0 where
+  pub index : cursor'.index ≡ cursor.index + mapped
+  pub free : length slots'.free + 1 + cursor.index ≡ length slots.free + cursor'.index
+  pub from : draft'.from ≡ draft.from
+  pub drafted : length draft'.records ≡ length draft.records + 1
+  pub room : draft'.room ≡ draft.room

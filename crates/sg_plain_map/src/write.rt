@@ -8,12 +8,12 @@ ghost use Rattle.sg_store.specs.Disk.{mapped_at};
 ghost use Rattle.sg_pool.specs.MappedRecords.{IsConsistent};
 ghost use Rattle.sg_pool.specs.Source.{HasBlocks, block_of};
 ghost use Rattle.sg_table.specs.Table.{visited};
-ghost use Rattle.sg_plain_map.specs.Editing.{IsEditing, IsReady, VisitsRange, stored};
+ghost use Rattle.sg_plain_map.specs.Editing.{Drafts, HasRoom, IsEditing, IsReady, VisitsRange, stored};
 ghost use Rattle.sg_table.specs.Records.{passed};
 ghost use Rattle.sg_plain_map.specs.Editing.{edited_contents};
 
 use sg_pool::{Pool, Source};
-use sg_store::{BLOCK_LENGTH, MAX_POOL};
+use sg_store::BLOCK_LENGTH;
 use sg_table::{Cursor, Draft, Run, RunTable};
 
 // Writes the block at the cursor's address, drafts its record, and goes on to the next address. A
@@ -28,12 +28,7 @@ fn put_block(
 ) -> Cursor
     // The edit has come to the address, and there is room for its record and its block.
     requires editing { IsEditing table.old.records table.old.room pool.old draft.old cursor lba }
-    requires room { length draft.old.records < draft.old.room }
-    requires free { 0 < length pool.old.free
-        + mapped_at (edited_contents table.old pool.old draft.old cursor) lba }
-    requires table_size { length table.old.records ≤ MAX_POOL }
-
-    // The slice is a block long, and the visit can be counted.
+    requires room { HasRoom table.old pool.old draft.old cursor lba }
     requires byte_count { length bytes.now ≡ BLOCK_LENGTH }
     requires headroom { table.old.visits < u64.MAX }
 
@@ -41,15 +36,10 @@ fn put_block(
     ensures contents { let before = edited_contents table.old pool.old draft.old cursor in
         edited_contents table.old pool.new draft.new result ≡ insert before lba bytes.now }
     ensures editing { IsEditing table.old.records table.old.room pool.new draft.new result (lba + 1) }
-    ensures from { draft.new.from ≡ draft.old.from }
-    ensures drafted { length draft.new.records ≡ length draft.old.records + 1 }
-    ensures room { draft.new.room ≡ draft.old.room }
+    ensures drafts { let before = edited_contents table.old pool.old draft.old cursor in
+        Drafts (mapped_at before lba) cursor result pool.old pool.new draft.old draft.new }
 
-    // The cursor goes past the record of the address, if there is one, and else a slot is taken.
-    // Only the visits on its way are counted.
-    ensures index { result.index
-        ≡ cursor.index + mapped_at (edited_contents table.old pool.old draft.old cursor) lba }
-    ensures free { length pool.new.free + 1 + cursor.index ≡ length pool.old.free + result.index }
+    // Only the visits on the cursor's way are counted.
     ensures cost { visited table.new (passed cursor) ≡ visited table.old (passed result) }
 {
     let Some(run) = cursor.run_at(lba) else {

@@ -1,6 +1,7 @@
 use Rattle.std.proofs.Common.{◌+◌, length, ap, sym, ◌∙◌, arith, refl}
 use Rattle.sg_table.specs.Records.{ahead}
-use Rattle.sg_table.specs.Draft.{pushed}
+use Rattle.std.proofs.lemmas.List.{length_push}
+use Rattle.sg_table.specs.Draft.{Drafted, pushed}
 use Rattle.sg_table.specs.Records.{single}
 use Rattle.sg_pool.specs.Slots.{Slots}
 use Rattle.sg_table.specs.Table.{visited}
@@ -17,7 +18,7 @@ pub take-slot-requires : goal.take-slot-requires
 take-slot-requires c =
     omega (
       arith,
-      c.requires.free,
+      c.requires.room.free,
       unmapped-there c.requires.editing (sym c.run_at.ensures
           ∙ c.in_default.is),
     )
@@ -48,14 +49,21 @@ returns-in_default-clause-editing c =
     added-editing c.requires.editing (sym c.run_at.ensures ∙ c.in_default.is) c.set.new.self
     c.push.new.self run c.args.bytes.now taken put refl pushed
 
-pub returns-in_default-clause-index : goal.returns-in_default-clause-index
-returns-in_default-clause-index c =
-    omega (arith, unmapped-there c.requires.editing (sym c.run_at.ensures ∙ c.in_default.is))
-
-pub returns-in_default-clause-free : goal.returns-in_default-clause-free
-returns-in_default-clause-free c =
-    rw (ap (λ (s : Slots). s.free) c.set.ensures)
-    (omega (arith, ap length c.take-slot.ensures.free))
+pub returns-in_default-clause-drafts : goal.returns-in_default-clause-drafts
+returns-in_default-clause-drafts c =
+    let run : Run = c.single.result in
+    record {
+      index = omega (
+        arith,
+        unmapped-there c.requires.editing (sym c.run_at.ensures ∙ c.in_default.is),
+      );
+      free = rw (ap (λ (s : Slots). s.free) c.set.ensures)
+          (omega (arith, ap length c.take-slot.ensures.free));
+      from = ap (λ (d : Drafted). d.from) c.push.ensures;
+      drafted = ap (λ (d : Drafted). length d.records) c.push.ensures
+          ∙ length_push c.args.draft.now.records run;
+      room = ap (λ (d : Drafted). d.room) c.push.ensures;
+    }
 
 -- the address is mapped
 pub set-requires-2-clause-slot : goal.set-requires-2-clause-slot
@@ -77,17 +85,19 @@ returns-clause-editing c =
     (ap (λ (s : Slots). s.blocks) c.set-2.ensures) c.push-2.ensures c.new.ensures.index
     (rw c.new.ensures.index c.new.ensures.next)
 
-pub returns-clause-index : goal.returns-clause-index
-returns-clause-index c =
-    omega (
-      arith,
-      c.new.ensures.index,
-      mapped-there c.requires.editing c.in-Some.run'
-          (sym c.run_at.ensures ∙ c.in-Some.is),
-    )
-
-pub returns-clause-free : goal.returns-clause-free
-returns-clause-free c = rw (ap (λ (s : Slots). s.free) c.set-2.ensures) (omega (arith, c.new.ensures.index))
+pub returns-clause-drafts : goal.returns-clause-drafts
+returns-clause-drafts c = record {
+  index = omega (
+    arith,
+    c.new.ensures.index,
+    mapped-there c.requires.editing c.in-Some.run' (sym c.run_at.ensures ∙ c.in-Some.is),
+  );
+  free = rw (ap (λ (s : Slots). s.free) c.set-2.ensures) (omega (arith, c.new.ensures.index));
+  from = ap (λ (d : Drafted). d.from) c.push-2.ensures;
+  drafted = ap (λ (d : Drafted). length d.records) c.push-2.ensures
+      ∙ length_push c.args.draft.now.records c.in-Some.run';
+  room = ap (λ (d : Drafted). d.room) c.push-2.ensures;
+}
 
 pub returns-clause-cost : goal.returns-clause-cost
 returns-clause-cost c =

@@ -39,8 +39,8 @@ loop-i-init c =
       table = e.table ∙ ap (visited t) (omega (arith, none));
     }
 
-pub put_block-cursor-requires-clause-free : goal.put_block-cursor-requires-clause-free
-put_block-cursor-requires-clause-free c =
+pub put_block-cursor-requires-clause-room : goal.put_block-cursor-requires-clause-room
+put_block-cursor-requires-clause-room c =
     let t = c.args.table.now in
     let contents = contents_of t.records c.args.pool.now.blocks in
     let inv = c.loop-i.invariant in
@@ -50,7 +50,20 @@ put_block-cursor-requires-clause-free c =
     ∙ mapped_at-past contents c.args.lba i (block_of c.args.source.now) in
     let on : i + 1 + (c.args.count - (i + 1)) ≡ c.args.count = omega arith in
     let rest = rw on at (mapped_among-rest contents c.args.lba (i + 1) (c.args.count - (i + 1))) in
-    rw (inv.table, same) (omega (arith, inv.free, c.requires.free, mapped_among-more contents c.args.lba i))
+    record {
+      draft_room = omega (arith, inv.draft, c.requires.room);
+      free = rw (inv.table, same) (omega (
+        arith,
+        inv.free,
+        c.requires.free,
+        mapped_among-more contents c.args.lba i,
+      ));
+      table_size = rw inv.table (omega (
+        arith,
+        c.requires.ready.consistent.count,
+        c.requires.ready.table_size,
+      ));
+    }
 
 pub loop-i-preserved : goal.loop-i-preserved
 loop-i-preserved c =
@@ -63,7 +76,8 @@ loop-i-preserved c =
     let on : c.args.lba + i + 1 ≡ c.args.lba + (i + 1) = omega arith in
     let same = ap₂ mapped_at inv.contents here
     ∙ mapped_at-past contents c.args.lba i (block_of c.args.source.now) in
-    let index = rw (inv.table, same) at e.index in
+    let drafts = rw (inv.table, same) at e.drafts in
+    let index = drafts.index in
     let before = mapped_among contents c.args.lba i + ahead c.loop-i.cursor.next in
     let passed = c.loop-i.cursor.index + ahead c.loop-i.cursor.next in
     let after = c.put_block-cursor.result.index + ahead c.put_block-cursor.result.next in
@@ -75,9 +89,13 @@ loop-i-preserved c =
       contents = rw inv.table at e.contents
           ∙ rw (inv.contents, here, c.block-block.ensures)
           (sym (replaced-more contents c.args.lba i (block_of c.args.source.now)));
-      draft = (e.from ∙ inv.draft.0, omega (arith, e.drafted, inv.draft.1), e.room ∙ inv.draft.2);
+      draft = (
+        drafts.from ∙ inv.draft.0,
+        omega (arith, drafts.drafted, inv.draft.1),
+        drafts.room ∙ inv.draft.2,
+      );
       index = omega (arith, index, inv.index, more);
-      free = omega (arith, e.free, index, inv.free, more);
+      free = omega (arith, drafts.free, index, inv.free, more);
       table = visited-less c.put_block-cursor.new.table t passed (before + after) _ paid
           (omega (arith, index, more));
     }
