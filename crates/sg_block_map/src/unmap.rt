@@ -131,7 +131,7 @@ pub(crate) fn unmap_runs(
 
 /// Has the slots taken in ascending order again where no address is mapped: what was written and
 /// unmapped before has scattered them, and the blocks of a range lie side by side no more.
-pub fn renew_slots(table: &RunTable, pool: &mut Pool)
+pub(crate) fn renew_slots(table: &RunTable, pool: &mut Pool)
     requires { AreRuns table.now.records pool.old table.now.room }
     ensures runs { AreRuns table.now.records pool.new table.now.room }
     ensures pool { pool.new ≡ record pool.old { free = pool.new.free } }
