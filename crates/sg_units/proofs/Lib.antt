@@ -1,6 +1,6 @@
 mod Lemmas
 pub mod AttentionLemmas
-pub mod KeyLemmas
+pub mod PartLemmas
 pub mod OutcomeLemmas
 pub mod ConsistencyLemmas
 pub mod LawLemmas

@@ -9,4 +9,5 @@ pub mod Access
 pub mod UnsupportedFlags
 pub mod ReserveOut
 pub mod ReserveIn
+pub mod FullStatus
 pub mod Laws

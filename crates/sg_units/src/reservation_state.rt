@@ -2,6 +2,7 @@
 mod persistent_reserve_in;
 mod persistent_reserve_out;
 mod preempt;
+mod read_full_status;
 mod register;
 mod reserve;
 

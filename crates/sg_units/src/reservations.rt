@@ -25,6 +25,7 @@ impl Model for Reservations {
 ghost use Rattle.std.specs.Prelude.{◌≡◌, Ok, IfOk};
 ghost use Rattle.sg_wire.specs.Cut.{Puts};
 ghost use Rattle.sg_units.specs.Access.{allows};
+ghost use Rattle.sg_units.specs.FullStatus.{full_status_data};
 ghost use Rattle.sg_units.specs.ReserveIn.{capabilities_data, keys_data};
 ghost use Rattle.sg_units.specs.ReserveIn.{reservation_data};
 ghost use Rattle.sg_units.specs.ReserveOut.{IsConsistentChange, generation_after, outcome};
@@ -119,6 +120,15 @@ impl Reservations {
         ensures { Puts cut.old cut.new (reservation_data self.now) }
     {
         self.state.read_reservation(cut);
+    }
+
+    /// Writes the data-in of READ FULL STATUS: PRGENERATION, and of each registration its key,
+    /// whether it holds the reservation, its target port and the TransportID of its initiator
+    /// (SPC-4, 6.15.5).
+    pub fn read_full_status(&self, cut: &mut Cut)
+        ensures { Puts cut.old cut.new (full_status_data self.now) }
+    {
+        self.state.read_full_status(cut);
     }
 
     /// Writes the data-in of REPORT CAPABILITIES (SPC-4).

@@ -70,7 +70,7 @@ fn put_keys(registrations: &[Registration], cut: &mut Cut)
 }
 
 // PRGENERATION, and how many bytes follow.
-fn header(generation: u32, additional_length: u32) -> [u8; 8]
+pub(super) fn header(generation: u32, additional_length: u32) -> [u8; 8]
     ensures { result ≡ header generation additional_length }
 {
     let mut bytes = [0; 8];

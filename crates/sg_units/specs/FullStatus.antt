@@ -1,0 +1,82 @@
+-- READ FULL STATUS (SPC-4, 6.15.5).
+use Rattle.std.specs.Prelude.{ℕ, ◌+◌, ◌*◌, List, [], ◌∷◌, ◌++◌, length, if◌then◌else◌}
+use Rattle.std.specs.Prelude.{Option, Some, None}
+use Rattle.std.specs.List.{flat_map}
+use Rattle.byteorder.specs.Endian.{big_bytes}
+use Rattle.sg_units.specs.Reservations.{holds}
+use Rattle.sg_units.specs.ReservationType.{code_of}
+use Rattle.sg_units.specs.ReserveIn.{header}
+use Rattle.sg_units.specs.declared.registrations.Registration.{Registration}
+use Rattle.sg_units.specs.declared.reservation.Reservation.{Reservation}
+use Rattle.sg_units.specs.declared.reservation_state.ReservationState.{ReservationState}
+
+-- A field of some bytes, with its value.
+pub record Field : Type 0 where
+  pub size : ℕ
+  pub value : ℕ
+
+abbrev field : (size value : ℕ) → Field
+field size value = record { size = size; value = value }
+
+abbrev pub fields_bytes : List Field → List ℕ
+fields_bytes fields = flat_map (λ (f : Field). big_bytes f.size f.value) fields
+
+-- ---- A TransportID (SPC-4, 7.6.4)
+
+-- The initiators are SAS ports with locally assigned names (NAA 3h), so that their numbers show.
+abbrev pub sas_address : (initiator : ℕ) → ℕ
+sas_address initiator = 0x3000000000000100 + initiator
+
+-- FORMAT CODE 0h and PROTOCOL IDENTIFIER 6h, three reserved bytes, SAS ADDRESS, and twelve
+-- reserved bytes.
+abbrev pub transport_id : (initiator : ℕ) → List Field
+transport_id initiator =
+    field 1 0x06 ∷ field 3 0 ∷ field 8 (sas_address initiator) ∷ field 12 0 ∷ []
+
+abbrev pub transport_id_length : ℕ
+transport_id_length = 24
+
+-- ---- A full status descriptor
+
+-- The one port of the disk.
+abbrev pub relative_target_port : ℕ
+relative_target_port = 1
+
+-- R_HOLDER: whether a registrant holds the reservation, if any is held. Under an all registrants
+-- type each of them does.
+abbrev pub holder_flag : Option Reservation → (registrant : ℕ) → ℕ
+holder_flag None registrant = 0
+holder_flag (Some reservation) registrant = if holds reservation registrant then 1 else 0
+
+-- SCOPE and TYPE of the reservation that a registrant holds, and zeros where it holds none.
+abbrev pub held_type : Option Reservation → (registrant : ℕ) → ℕ
+held_type None registrant = 0
+held_type (Some reservation) registrant =
+    if holds reservation registrant then code_of reservation.kind else 0
+
+-- RESERVATION KEY, four reserved bytes, ALL_TG_PT 0 with R_HOLDER, SCOPE with TYPE, four reserved
+-- bytes, RELATIVE TARGET PORT IDENTIFIER, ADDITIONAL DESCRIPTOR LENGTH, and the TransportID.
+abbrev pub full_status_fields : Option Reservation → Registration → List Field
+full_status_fields reservation r =
+    field 8 r.key
+    ∷ field 4 0
+    ∷ field 1 (holder_flag reservation r.initiator)
+    ∷ field 1 (held_type reservation r.initiator)
+    ∷ field 4 0
+    ∷ field 2 relative_target_port
+    ∷ field 4 transport_id_length
+    ∷ transport_id r.initiator
+
+unfoldable pub full_status_descriptor : Option Reservation → Registration → List ℕ
+full_status_descriptor reservation r = fields_bytes (full_status_fields reservation r)
+
+abbrev pub full_status_length : ℕ
+full_status_length = 48
+
+-- ---- The data
+
+-- A descriptor for each registration, in their order.
+unfoldable pub full_status_data : ReservationState → List ℕ
+full_status_data state =
+    header state.generation (full_status_length * length state.registrations)
+    ++ flat_map (full_status_descriptor state.reservation) state.registrations

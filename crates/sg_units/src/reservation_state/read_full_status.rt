@@ -1,0 +1,98 @@
+// READ FULL STATUS.
+ghost use Rattle.std.specs.Prelude.{◌≡◌};
+ghost use Rattle.std.specs.List.{flat_map};
+ghost use Rattle.sg_wire.specs.Cut.{Puts};
+ghost use Rattle.sg_units.specs.FullStatus.{full_status_data, full_status_descriptor};
+ghost use Rattle.sg_units.specs.FullStatus.{held_type, holder_flag, sas_address};
+
+use super::ReservationState;
+use super::persistent_reserve_in::header;
+use crate::{Registration, Reservation};
+use byteorder::{BigEndian, ByteOrder};
+use sg_wire::{Cut, Initiator};
+
+// Lengths in bytes: of a full status descriptor, and of the TransportID that it ends with.
+const FULL_STATUS_LENGTH: usize = 48;
+
+const TRANSPORT_ID_LENGTH: u32 = 24;
+
+// RELATIVE TARGET PORT IDENTIFIER of the one port of the disk.
+const RELATIVE_TARGET_PORT: u16 = 1;
+
+// PROTOCOL IDENTIFIER of a SAS initiator port, with FORMAT CODE 0h.
+const SAS: u8 = 0x06;
+
+// The locally assigned SAS ADDRESS of initiator 0.
+const FIRST_SAS_ADDRESS: u64 = 0x3000_0000_0000_0100;
+
+impl ReservationState {
+    pub(crate) fn read_full_status(&self, cut: &mut Cut)
+        ensures { Puts cut.old cut.new (full_status_data self.now) }
+    {
+        put_full_status(self, cut);
+    }
+}
+
+#[tactic(auto, using(crate::proofs::Lemmas::parts), unfolding(crate::specs::FullStatus::full_status_data))]
+fn put_full_status(state: &ReservationState, cut: &mut Cut)
+    ensures { Puts cut.old cut.new (full_status_data state.now) }
+{
+    let registrations = state.registrations.as_slice();
+    let length = (FULL_STATUS_LENGTH * registrations.len()) as u32;
+    cut.put(&header(state.generation, length));
+    put_descriptors(&state.reservation, registrations, cut);
+}
+
+fn put_descriptors(reservation: &Option<Reservation>, registrations: &[Registration], cut: &mut Cut)
+    ensures { Puts cut.old cut.new
+        (flat_map (full_status_descriptor reservation.now) registrations.now) }
+{
+    for registration in registrations {
+        cut.put(&full_status_descriptor(reservation, registration));
+    }
+}
+
+#[tactic(auto, unfolding(crate::specs::FullStatus::full_status_descriptor))]
+fn full_status_descriptor(
+    reservation: &Option<Reservation>,
+    registration: &Registration,
+) -> [u8; FULL_STATUS_LENGTH]
+    ensures { result ≡ full_status_descriptor reservation.now registration.now }
+{
+    let initiator = registration.initiator;
+    let mut bytes = [0; FULL_STATUS_LENGTH];
+    BigEndian::write_u64(&mut bytes, registration.key);
+    bytes[12] = holder_flag(reservation, initiator);
+    bytes[13] = held_type(reservation, initiator);
+    BigEndian::write_u16(&mut bytes[18..], RELATIVE_TARGET_PORT);
+    BigEndian::write_u32(&mut bytes[20..], TRANSPORT_ID_LENGTH);
+    bytes[24] = SAS;
+    BigEndian::write_u64(&mut bytes[28..], sas_address(initiator));
+    bytes
+}
+
+// R_HOLDER.
+fn holder_flag(reservation: &Option<Reservation>, registrant: Initiator) -> u8
+    ensures { result ≡ holder_flag reservation.now registrant }
+{
+    match reservation {
+        Some(reservation) if reservation.is_held_by(registrant) => 1,
+        _ => 0,
+    }
+}
+
+// SCOPE and TYPE of the reservation that a registrant holds, and zeros where it holds none.
+fn held_type(reservation: &Option<Reservation>, registrant: Initiator) -> u8
+    ensures { result ≡ held_type reservation.now registrant }
+{
+    match reservation {
+        Some(reservation) if reservation.is_held_by(registrant) => reservation.kind.code(),
+        _ => 0,
+    }
+}
+
+fn sas_address(initiator: Initiator) -> u64
+    ensures { result ≡ sas_address initiator }
+{
+    FIRST_SAS_ADDRESS + u64::from(initiator.number())
+}
