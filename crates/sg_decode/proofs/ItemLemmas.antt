@@ -12,7 +12,7 @@ use Rattle.sg_decode.specs.declared.value.Field.{Field}
 use Rattle.sg_decode.specs.declared.entry.EntryKind.{EntryKind}
 use Rattle.sg_decode.specs.declared.entry.EntryKind.TheVariants.{SupportedPages, Designators}
 use Rattle.sg_decode.specs.declared.entry.EntryKind.TheVariants.{ModePages, LbaStatusDescriptors}
-use Rattle.sg_decode.specs.declared.entry.EntryKind.TheVariants.{ReservationKeys}
+use Rattle.sg_decode.specs.declared.entry.EntryKind.TheVariants.{ReservationKeys, FullStatusDescriptors}
 use Rattle.sg_decode.specs.Lines.{Line, line_of, lines_of, line_text, line_end, lines_end}
 use Rattle.sg_decode.specs.Entries.{entry_of}
 use Rattle.sg_decode.proofs.LineLemmas.{and_first, and_second}
@@ -201,6 +201,7 @@ header_own ModePages (x ∷ xs) zero some = absurd (omega arith)
 header_own ModePages (x ∷ xs) (suc n) some = refl
 header_own LbaStatusDescriptors rest n some = refl
 header_own ReservationKeys rest n some = refl
+header_own FullStatusDescriptors rest n some = refl
 
 -- an entry in one line
 pub one_line : (a b : Printing) (line : Line) (own : List ℕ) → Prints a b (line_text line own)

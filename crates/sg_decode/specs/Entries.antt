@@ -11,6 +11,7 @@ use Rattle.sg_decode.specs.declared.entry.EntryKind.{EntryKind}
 use Rattle.sg_decode.specs.declared.entry.EntryKind.TheVariants.{SupportedPages, Designators}
 use Rattle.sg_decode.specs.declared.entry.EntryKind.TheVariants.{ModePages, ReservationKeys}
 use Rattle.sg_decode.specs.declared.entry.EntryKind.TheVariants.{LbaStatusDescriptors}
+use Rattle.sg_decode.specs.declared.entry.EntryKind.TheVariants.{FullStatusDescriptors}
 
 -- An entry of a fixed size, in one line.
 abbrev fixed_entry : (size : ℕ) → Line → Entry
@@ -114,6 +115,17 @@ lba_status_descriptor =
 abbrev reservation_key : Line
 reservation_key = part (codes "  key: ") (Address 0) ∷ []
 
+-- A full status descriptor of READ FULL STATUS, with its TransportID (SPC-4, 6.15.5).
+abbrev full_status_descriptor : Line
+full_status_descriptor =
+    part (codes "  key: ") (Address 0)
+    ∷ part (codes ", holder: ") (Bits 12 0 0)
+    ∷ part (codes ", scope: ") (Bits 13 7 4)
+    ∷ part (codes ", type: ") (Bits 13 3 0)
+    ∷ part (codes ", port: ") (Number 18 2)
+    ∷ part (codes ", transport: ") (HexFrom 24)
+    ∷ []
+
 -- ---- All kinds
 
 abbrev pub entry_of : EntryKind → Entry
@@ -130,3 +142,8 @@ entry_of ModePages = record {
 }
 entry_of LbaStatusDescriptors = fixed_entry 16 lba_status_descriptor
 entry_of ReservationKeys = fixed_entry 8 reservation_key
+entry_of FullStatusDescriptors = record {
+  header = λ bytes. 24;
+  following = λ bytes. big_number 4 (drop 20 bytes);
+  lines = λ own. full_status_descriptor ∷ [];
+}

@@ -4,7 +4,9 @@ use Rattle.byteorder.specs.Endian.{big_number}
 use Rattle.sg_decode.specs.Lines.{Line, part}
 use Rattle.sg_decode.specs.Items.{Decoder, Item, item, line_items, entries_from}
 use Rattle.sg_decode.specs.Entries.{entry_of}
+use Rattle.sg_decode.specs.declared.entry.EntryKind.{EntryKind}
 use Rattle.sg_decode.specs.declared.entry.EntryKind.TheVariants.{ReservationKeys}
+use Rattle.sg_decode.specs.declared.entry.EntryKind.TheVariants.{FullStatusDescriptors}
 use Rattle.sg_decode.specs.declared.value.Value.TheVariants.{Bits, Number, Address}
 use Rattle.sg_decode.specs.declared.value.Value.TheVariants.{ReservationTypes}
 
@@ -18,13 +20,21 @@ generation_lines =
 abbrev pub additional_length : List ℕ → ℕ
 additional_length bytes = big_number 4 (drop 4 bytes)
 
--- READ KEYS.
-abbrev pub keys : Decoder
-keys = record {
+-- Entries of a kind behind the header.
+abbrev pub list_of : EntryKind → Decoder
+list_of kind = record {
   header = line_items generation_lines;
   reported_end = λ bytes. 8 + additional_length bytes;
-  body = λ bytes end. entries_from (entry_of ReservationKeys) 8 bytes;
+  body = λ bytes end. entries_from (entry_of kind) 8 bytes;
 }
+
+-- READ KEYS.
+abbrev pub keys : Decoder
+keys = list_of ReservationKeys
+
+-- READ FULL STATUS (SPC-4, 6.15.5).
+abbrev pub full_status : Decoder
+full_status = list_of FullStatusDescriptors
 
 -- READ RESERVATION.
 abbrev pub reservation_lines : List Line

@@ -9,7 +9,7 @@ ghost use Rattle.sg_decode.specs.Entries.{parameter_lines, shown_parameters};
 ghost use Rattle.sg_decode.specs.Lines.{is_sound_line, line_end, line_of, line_text};
 
 use crate::line::{line_end, put_line};
-use crate::value::{Field, Value, bits, number_of_two};
+use crate::value::{Field, Value, bits, number_of_four, number_of_two};
 use sg_wire::Printer;
 use std::io::Write;
 
@@ -26,6 +26,8 @@ pub(crate) enum EntryKind {
     LbaStatusDescriptors,
     /// Reservation keys of eight bytes.
     ReservationKeys,
+    /// Full status descriptors: 24 bytes and the TransportID (SPC-4, 6.15.5).
+    FullStatusDescriptors,
 }
 
 const SUPPORTED_PAGE: &[Field] = &[Field(b"  supported: ", Value::Code(0, 7, 0))];
@@ -86,6 +88,15 @@ const LBA_STATUS: &[Field] = &[
 
 const RESERVATION_KEY: &[Field] = &[Field(b"  key: ", Value::Address(0))];
 
+const FULL_STATUS: &[Field] = &[
+    Field(b"  key: ", Value::Address(0)),
+    Field(b", holder: ", Value::Bits(12, 0, 0)),
+    Field(b", scope: ", Value::Bits(13, 7, 4)),
+    Field(b", type: ", Value::Bits(13, 3, 0)),
+    Field(b", port: ", Value::Number(18, 2)),
+    Field(b", transport: ", Value::HexFrom(24)),
+];
+
 impl EntryKind {
     /// The size of the first entry of some bytes. One whose header is not all present has the size
     /// of its header.
@@ -114,6 +125,7 @@ impl EntryKind {
             EntryKind::ModePages => if has_subpage(bytes) { 4 } else { 2 },
             EntryKind::LbaStatusDescriptors => 16,
             EntryKind::ReservationKeys => 8,
+            EntryKind::FullStatusDescriptors => 24,
         }
     }
 
@@ -129,6 +141,7 @@ impl EntryKind {
             | EntryKind::ReservationKeys => 0,
             EntryKind::Designators => usize::from(bytes[3]),
             EntryKind::ModePages => parameter_length(bytes),
+            EntryKind::FullStatusDescriptors => number_of_four(20, bytes),
         }
     }
 
@@ -143,6 +156,7 @@ impl EntryKind {
             EntryKind::ModePages => put_mode_page(bytes, out),
             EntryKind::LbaStatusDescriptors => put_line(LBA_STATUS, bytes, out),
             EntryKind::ReservationKeys => put_line(RESERVATION_KEY, bytes, out),
+            EntryKind::FullStatusDescriptors => put_line(FULL_STATUS, bytes, out),
         }
     }
 }

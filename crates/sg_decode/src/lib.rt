@@ -22,13 +22,13 @@ mod vital_product_data;
 
 pub use hex_lines::{GATHERED_TEXT, put_hex, put_hex_lines};
 pub use inquiry::put_inquiry;
-pub use lba_status::put_lba_status;
+pub use lba_status::{next_start, put_lba_status};
 pub use mode_parameters::put_modes;
 pub use number_text::put_number;
-pub use persistent_reservation::{put_capabilities, put_keys, put_reservation};
+pub use persistent_reservation::{put_capabilities, put_full_status, put_keys, put_reservation};
 pub use print::{
-    print_capabilities, print_hex, print_inquiry, print_keys, print_lba_status, print_modes,
-    print_reservation, print_sense, print_vpd,
+    print_capabilities, print_full_status, print_hex, print_inquiry, print_keys, print_lba_status,
+    print_modes, print_reservation, print_sense, print_vpd,
 };
 pub use sense::{put_read_sense, put_sense};
 pub use vital_product_data::put_vpd;

@@ -2,7 +2,8 @@
 ghost use Rattle.std.specs.Prelude.{◌≤◌, ◌<◌, ◌+◌, ◌^◌, Some, length};
 ghost use Rattle.sg_wire.specs.Printer.{PrintsText};
 ghost use Rattle.sg_decode.specs.Items.{decoded, shown};
-ghost use Rattle.sg_decode.specs.PersistentReservation.{capabilities, keys, reservation};
+ghost use Rattle.sg_decode.specs.PersistentReservation.{capabilities, full_status, keys};
+ghost use Rattle.sg_decode.specs.PersistentReservation.{list_of, reservation};
 ghost use Rattle.sg_decode.specs.PersistentReservation.{reservation_items};
 
 use crate::entry::EntryKind;
@@ -39,9 +40,23 @@ const CAPABILITIES: [&[Field]; 3] = [
 pub fn put_keys<W: Write>(bytes: &[u8], out: &mut Printer<'_, W>)
     ensures { PrintsText W.contents out.old out.new (decoded keys bytes.now) }
 {
+    put_list(EntryKind::ReservationKeys, bytes, out);
+}
+
+/// Prints the parameter data of PERSISTENT RESERVE IN, READ FULL STATUS (SPC-4, 6.15.5).
+pub fn put_full_status<W: Write>(bytes: &[u8], out: &mut Printer<'_, W>)
+    ensures { PrintsText W.contents out.old out.new (decoded full_status bytes.now) }
+{
+    put_list(EntryKind::FullStatusDescriptors, bytes, out);
+}
+
+// Prints the header, and the entries of a kind behind it.
+fn put_list<W: Write>(kind: EntryKind, bytes: &[u8], out: &mut Printer<'_, W>)
+    ensures { PrintsText W.contents out.old out.new (decoded (list_of kind) bytes.now) }
+{
     if show_lines(&GENERATION, None, bytes, out) {
         let end = 8 + number_of_four(4, bytes);
-        show_entries(EntryKind::ReservationKeys, 8, end, bytes, out);
+        show_entries(kind, 8, end, bytes, out);
     }
 }
 

@@ -8,13 +8,14 @@ ghost use Rattle.sg_decode.specs.Inquiry.{inquiry};
 ghost use Rattle.sg_decode.specs.VitalProductData.{vital_product_data};
 ghost use Rattle.sg_decode.specs.ModeParameters.{mode_parameters};
 ghost use Rattle.sg_decode.specs.LbaStatus.{lba_status};
-ghost use Rattle.sg_decode.specs.PersistentReservation.{capabilities, keys, reservation};
+ghost use Rattle.sg_decode.specs.PersistentReservation.{capabilities, full_status, keys};
+ghost use Rattle.sg_decode.specs.PersistentReservation.{reservation};
 
 use crate::hex_lines::put_hex;
 use crate::inquiry::put_inquiry;
 use crate::lba_status::put_lba_status;
 use crate::mode_parameters::put_modes;
-use crate::persistent_reservation::{put_capabilities, put_keys, put_reservation};
+use crate::persistent_reservation::{put_capabilities, put_full_status, put_keys, put_reservation};
 use crate::sense::put_sense;
 use crate::vital_product_data::put_vpd;
 use sg_wire::{Printer, Watched};
@@ -119,6 +120,21 @@ pub fn print_reservation<W: Write>(bytes: &[u8], writer: &mut Watched<W>) -> io:
     let mut buffer = [0; GATHERED];
     let mut out = Printer::new(writer, &mut buffer);
     put_reservation(bytes, &mut out);
+    out.finish()
+}
+
+/// Prints the parameter data of PERSISTENT RESERVE IN, READ FULL STATUS (SPC-4, 6.15.5).
+///
+/// # Errors
+///
+/// The writer failed: a proper prefix of the text has been written.
+pub fn print_full_status<W: Write>(bytes: &[u8], writer: &mut Watched<W>) -> io::Result<()>
+    requires { has_failed writer.old ≡ false }
+    ensures { SendsText W.contents writer.old writer.new result (decoded full_status bytes.now) }
+{
+    let mut buffer = [0; GATHERED];
+    let mut out = Printer::new(writer, &mut buffer);
+    put_full_status(bytes, &mut out);
     out.finish()
 }
 

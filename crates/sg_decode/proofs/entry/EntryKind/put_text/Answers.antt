@@ -16,3 +16,8 @@ returns-in-LbaStatusDescriptors g c =
 pub returns-in-ReservationKeys : goal.returns-in-ReservationKeys
 returns-in-ReservationKeys g c =
     rw c.in-ReservationKeys.is (one_line _ _ _ _ c.put_line-in-ReservationKeys.ensures)
+
+pub returns-in-FullStatusDescriptors : goal.returns-in-FullStatusDescriptors
+returns-in-FullStatusDescriptors g c =
+    rw c.in-FullStatusDescriptors.is
+    (one_line _ _ _ _ c.put_line-in-FullStatusDescriptors.ensures)

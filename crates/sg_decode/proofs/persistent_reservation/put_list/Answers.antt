@@ -1,13 +1,13 @@
-use Rattle.sg_decode.specs.PersistentReservation.{keys}
+use Rattle.sg_decode.specs.PersistentReservation.{list_of}
 use Rattle.sg_decode.proofs.DecoderLemmas.{header_ends, goes_on}
-use Rattle.sg_decode.proofs.persistent_reservation.put_keys.Goals as goal
+use Rattle.sg_decode.proofs.persistent_reservation.put_list.Goals as goal
 
 pub returns-then-show_lines : goal.returns-then-show_lines
 returns-then-show_lines g c =
-    goes_on keys _ _ _ _ _ c.show_lines.ensures.verdict c.if-show_lines.true
+    goes_on (list_of c.args.kind) _ _ _ _ _ c.show_lines.ensures.verdict c.if-show_lines.true
     c.show_lines.ensures.text (rw c.number_of_four-end.ensures.value at c.show_entries.ensures)
 
 pub returns-else-show_lines : goal.returns-else-show_lines
 returns-else-show_lines g c =
-    header_ends keys _ _ _ _ c.show_lines.ensures.verdict c.if-show_lines.false
+    header_ends (list_of c.args.kind) _ _ _ _ c.show_lines.ensures.verdict c.if-show_lines.false
     c.show_lines.ensures.text
