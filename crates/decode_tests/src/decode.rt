@@ -2,6 +2,7 @@
 // standards lay them out, with values of other targets than ours.
 mod inquiry;
 mod mode_parameters;
+mod next_start;
 mod provisioning;
 mod reservations;
 mod sense;
@@ -10,11 +11,11 @@ mod unusual;
 use inquiry::{DESIGNATORS, INQUIRY, SUPPORTED_PAGES};
 use mode_parameters::{MODES_6, MODES_10};
 use provisioning::{BLOCK_LIMITS, LBA_STATUS, LOGICAL_BLOCK_PROVISIONING};
-use reservations::{CAPABILITIES, KEYS, RESERVATION};
+use reservations::{CAPABILITIES, FULL_STATUS, KEYS, RESERVATION};
 use sense::SENSE;
 use sg_decode::{
-    print_capabilities, print_hex, print_inquiry, print_keys, print_lba_status, print_modes,
-    print_reservation, print_sense, print_vpd,
+    print_capabilities, print_full_status, print_hex, print_inquiry, print_keys, print_lba_status,
+    print_modes, print_reservation, print_sense, print_vpd,
 };
 use sg_wire::Watched;
 use std::alloc::Global;
@@ -34,6 +35,7 @@ enum Kind {
     Keys,
     Reservation,
     Capabilities,
+    FullStatus,
     Sense,
     Hex,
 }
@@ -46,7 +48,7 @@ struct Answer {
     lines: &'static [(usize, &'static str)],
 }
 
-const ANSWERS: [&Answer; 11] = [
+const ANSWERS: [&Answer; 12] = [
     &INQUIRY,
     &SUPPORTED_PAGES,
     &DESIGNATORS,
@@ -58,6 +60,7 @@ const ANSWERS: [&Answer; 11] = [
     &KEYS,
     &RESERVATION,
     &CAPABILITIES,
+    &FULL_STATUS,
 ];
 
 fn text_of(alloc: Global, kind: Kind, bytes: &[u8]) -> io::Result<Vec<u8>> {
@@ -73,6 +76,7 @@ fn text_of(alloc: Global, kind: Kind, bytes: &[u8]) -> io::Result<Vec<u8>> {
         Kind::Keys => print_keys(bytes, &mut writer)?,
         Kind::Reservation => print_reservation(bytes, &mut writer)?,
         Kind::Capabilities => print_capabilities(bytes, &mut writer)?,
+        Kind::FullStatus => print_full_status(bytes, &mut writer)?,
         Kind::Sense => print_sense(bytes, &mut writer)?,
         Kind::Hex => print_hex(bytes, &mut writer)?,
     }

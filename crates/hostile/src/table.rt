@@ -1,6 +1,6 @@
 // The CDBs of the commands, as SPC-4, SBC-3 and docs/PROFILE.md have them. The table of the disk is
 // another one: the two are compared.
-use crate::ending::Ending::{self, Conflict, Good, InvalidField};
+use crate::ending::Ending::{self, Conflict, Good};
 
 /// A command.
 #[derive(Clone, Copy)]
@@ -151,7 +151,7 @@ pub(crate) const COMMANDS: [Row; 31] = [
         cdb: &[0x5E, 0x03, 0x00, 0x00, 0x00, 0x00, 0x00, 0x00, 0xFF, 0x00],
         named: &[0xFF, 0x1F, 0x00, 0x00, 0x00, 0x00, 0x00, 0xFF, 0xFF, 0x00],
         data_out: 0,
-        ending: InvalidField(1),
+        ending: Good,
     },
     Row {
         name: "register",

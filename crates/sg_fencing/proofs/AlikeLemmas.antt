@@ -231,9 +231,9 @@ module _ (s : State) (a : Pending) (r : ReservationState) (i : ℕ)
       (unmapping s (extent ∷ [])).after refl refl refl refl refl
   operation-alike (ReturnLbaStatus start n) c =
       read-alike (reporting_status s start n) (reporting_status t start n) refl refl refl
-  operation-alike (ReturnReservations kind n) c =
-      effect-alike true (reporting s kind n) (reporting t kind n)
-      (same true (reporting s kind n) (reporting t kind n) refl refl (λ shown. cc))
+  operation-alike (ReturnReservations action n) c =
+      effect-alike true (reporting s action n) (reporting t action n)
+      (same true (reporting s action n) (reporting t action n) refl refl (λ shown. cc))
   operation-alike (ChangeReservations action scope_type list) c = cc
 
   -- ---- The checks of a CDB

@@ -15,7 +15,7 @@ use Rattle.sg_target.specs.Demands.{demands}
 use Rattle.sg_target.specs.PrimaryCommands.{inquiry_page}
 use Rattle.sg_target.specs.ProvisioningCommands.{block_out, unmap_list, unmaps}
 use Rattle.sg_target.specs.Refusal.{if_supported, when_sound}
-use Rattle.sg_target.specs.ReservationCommands.{fields_out, in_data_of}
+use Rattle.sg_target.specs.ReservationCommands.{fields_out}
 use Rattle.sg_target.specs.declared.extent.Extent.{Extent}
 use Rattle.sg_target.specs.declared.operation.Operation.{Operation}
 use Rattle.sg_target.specs.declared.operation.Operation.TheVariants.{ChangeModes, Read, Write, Fill}
@@ -47,7 +47,7 @@ fits kind (ChangeReservations action scope_type list) = kind action
 fits kind _ = true
 
 abbrev pub shows : Operation → Bool
-shows (ReturnReservations kind n) = true
+shows (ReturnReservations action n) = true
 shows (ChangeReservations action scope_type list) = true
 shows _ = false
 
@@ -124,9 +124,7 @@ suits blocks (command.Unmap anchor group n) data_out =
     sound-suits (command.Unmap anchor group n) (unmap_list (first_bytes n data_out)) Unmap
     (λ extents. record { class = λ class h. cc; of_kind = λ kind k. refl; shown = refl })
 suits blocks (command.PersistentReserveIn action n) data_out =
-    sound-suits (command.PersistentReserveIn action n) (if_supported 1 (in_data_of action))
-    (λ kind. ReturnReservations kind n)
-    (λ kind. record { class = λ class h. cc; of_kind = λ kind k. refl; shown = refl })
+    record { class = λ class h. cc; of_kind = λ kind k. refl; shown = refl }
 suits blocks (command.PersistentReserveOut action scope_type n) data_out =
     sound-suits (command.PersistentReserveOut action scope_type n)
     (fields_out (first_bytes n data_out)) (ChangeReservations action scope_type)

@@ -110,8 +110,8 @@ module _ (s : State) (x : Contents) (j : ℕ) (fit : len s.disk.contents ≤ s.d
   operation-alike (ReturnCapacity16 n) r w =
       effect-alike (read_capacity_16 s n) (read_capacity_16 t n) refl refl refl
   operation-alike (Synchronize extent) r w = effect-alike (no_effect s) (no_effect t) refl refl refl
-  operation-alike (ReturnReservations kind n) r w =
-      effect-alike (reporting s kind n) (reporting t kind n) refl refl refl
+  operation-alike (ReturnReservations action n) r w =
+      effect-alike (reporting s action n) (reporting t action n) refl refl refl
 
   parse-same : (data_out : List ℕ) (parsed : Result Command CdbFault)
       → checked_parse s parsed data_out ≡ checked_parse t parsed data_out

@@ -5,7 +5,8 @@ use Rattle.sg_decode.specs.Inquiry.{inquiry}
 use Rattle.sg_decode.specs.Items.{decoded}
 use Rattle.sg_decode.specs.LbaStatus.{lba_status}
 use Rattle.sg_decode.specs.ModeParameters.{mode_parameters}
-use Rattle.sg_decode.specs.PersistentReservation.{capabilities, keys, reservation}
+use Rattle.sg_decode.specs.PersistentReservation.{capabilities, full_status, keys}
+use Rattle.sg_decode.specs.PersistentReservation.{reservation}
 use Rattle.sg_decode.specs.SenseText.{sense_line}
 use Rattle.sg_decode.specs.VitalProductData.{vital_product_data}
 use Rattle.sg_tools.specs.declared.show.Show.{Show}
@@ -23,4 +24,5 @@ answer_text show.LbaStatusBrief data_in = decoded (lba_status true) data_in
 answer_text show.Keys data_in = decoded keys data_in
 answer_text show.Reservation data_in = decoded reservation data_in
 answer_text show.Capabilities data_in = decoded capabilities data_in
+answer_text show.FullStatus data_in = decoded full_status data_in
 answer_text show.Sense data_in = sense_line data_in

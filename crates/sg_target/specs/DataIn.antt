@@ -16,6 +16,6 @@ abbrev pub data_of : IdentityFields → (capacity : ℕ) → ReservationState �
 data_of identity capacity reservations (Sense condition format) =
     sense_data format (pending_sense condition)
 data_of identity capacity reservations (Inquiry page) = inquiry_data identity page
-data_of identity capacity reservations (Reservations kind) = reserve_in_data reservations kind
+data_of identity capacity reservations (Reservations action) = reserve_in_data reservations action
 data_of identity capacity reservations Capacity10 = capacity_10 capacity
 data_of identity capacity reservations Capacity16 = capacity_16 capacity

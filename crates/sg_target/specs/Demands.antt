@@ -4,7 +4,6 @@ use Rattle.std.specs.Prelude.{ℕ, List, Bool, true, false, ◌&&◌, Option, So
 use Rattle.std.specs.Prelude.{nat_le, nat_lt, if◌then◌else◌}
 use Rattle.sg_wire.specs.declared.command.Command.{Command}
 use Rattle.sg_wire.specs.declared.command.Command.TheVariants as command
-use Rattle.sg_wire.specs.declared.command.in_action.InAction.{InAction}
 use Rattle.sg_wire.specs.declared.command.out_action.OutAction.{OutAction}
 use Rattle.sg_wire.specs.CutAnswer.{first_bytes}
 use Rattle.sg_pages.specs.ProvisioningPages.{maximum_transfer_length, maximum_write_same_length}
@@ -14,7 +13,7 @@ use Rattle.sg_target.specs.ModeCommands.{mode_sense_request, unless_page_format}
 use Rattle.sg_target.specs.PrimaryCommands.{format_of, inquiry_page}
 use Rattle.sg_target.specs.ProvisioningCommands.{block_out, unmap_list, unmaps}
 use Rattle.sg_target.specs.Refusal.{if_supported, when_sound}
-use Rattle.sg_target.specs.ReservationCommands.{fields_out, in_data_of, unless_type}
+use Rattle.sg_target.specs.ReservationCommands.{fields_out, unless_type}
 use Rattle.sg_target.specs.declared.extent.Extent.{Extent}
 use Rattle.sg_target.specs.declared.operation.Operation.{Operation}
 use Rattle.sg_target.specs.declared.operation.Operation.TheVariants as operation
@@ -53,12 +52,6 @@ inquiry evpd page_code n =
 abbrev pub mode_select : (ten pf sp : Bool) (list_length : ℕ) (data_out : List ℕ) → Demands
 mode_select ten pf sp n data_out =
     takes n (unless_page_format pf) (Ok (operation.ChangeModes ten sp (first_bytes n data_out)))
-
--- PERSISTENT RESERVE IN asks for a service action that the disk supports: it is in byte 1.
-abbrev pub reserve_in : InAction → (allocation_length : ℕ) → Demands
-reserve_in action n =
-    takes_no_data None
-    (when_sound (if_supported 1 (in_data_of action)) (λ kind. operation.ReturnReservations kind n))
 
 abbrev pub reserve_out : OutAction → (scope_type list_length : ℕ) (data_out : List ℕ) → Demands
 reserve_out action scope_type n data_out =
@@ -138,6 +131,7 @@ demands blocks (command.WriteSame16 anchor unmap lba n) data_out =
     write_same anchor unmap (extent lba n) 10 data_out
 demands blocks (command.Unmap anchor group n) data_out = unmap anchor n data_out
 demands blocks (command.GetLbaStatus start n) data_out = asks (operation.ReturnLbaStatus start n)
-demands blocks (command.PersistentReserveIn action n) data_out = reserve_in action n
+demands blocks (command.PersistentReserveIn action n) data_out =
+    asks (operation.ReturnReservations action n)
 demands blocks (command.PersistentReserveOut action scope_type n) data_out =
     reserve_out action scope_type n data_out

@@ -11,6 +11,7 @@ use Rattle.sg_wire.specs.declared.command.out_action.OutAction.TheVariants.{Rese
 use Rattle.sg_wire.specs.OutList.{list_length, out_list}
 use Rattle.sg_units.specs.Raised.{raised_for_each}
 use Rattle.sg_units.specs.ReservationType.{type_of}
+use Rattle.sg_units.specs.FullStatus.{full_status_data}
 use Rattle.sg_units.specs.ReserveIn.{capabilities_data, keys_data, reservation_data}
 use Rattle.sg_units.specs.ReserveOut.{outcome, raised_by, state_after}
 use Rattle.sg_units.specs.declared.out_fault.OutFault.{OutFault}
@@ -27,26 +28,18 @@ use Rattle.sg_target.specs.declared.refusal.Reason.TheVariants.{InvalidRelease}
 use Rattle.sg_target.specs.declared.refusal.Reason.TheVariants.{ParameterListLengthError}
 use Rattle.sg_target.specs.declared.refusal.Refusal.{Refusal}
 use Rattle.sg_target.specs.declared.refusal.Refusal.TheVariants.{Conflict, Check}
-use Rattle.sg_target.specs.declared.reservation.ReserveInData.{ReserveInData}
-use Rattle.sg_target.specs.declared.reservation.ReserveInData.TheVariants.{Keys, Reservation}
-use Rattle.sg_target.specs.declared.reservation.ReserveInData.TheVariants.{Capabilities}
 
 -- ---- PERSISTENT RESERVE IN
 
--- What a service action returns. READ FULL STATUS is not supported.
-abbrev pub in_data_of : InAction → Option ReserveInData
-in_data_of ReadKeys = Some Keys
-in_data_of ReadReservation = Some Reservation
-in_data_of ReportCapabilities = Some Capabilities
-in_data_of ReadFullStatus = None
+-- What a service action returns.
+abbrev pub reserve_in_data : ReservationState → InAction → List ℕ
+reserve_in_data reservations ReadKeys = keys_data reservations
+reserve_in_data reservations ReadReservation = reservation_data reservations
+reserve_in_data reservations ReportCapabilities = capabilities_data
+reserve_in_data reservations ReadFullStatus = full_status_data reservations
 
-abbrev pub reserve_in_data : ReservationState → ReserveInData → List ℕ
-reserve_in_data reservations Keys = keys_data reservations
-reserve_in_data reservations Reservation = reservation_data reservations
-reserve_in_data reservations Capabilities = capabilities_data
-
-abbrev pub reporting : State → ReserveInData → (allocation_length : ℕ) → Effect
-reporting state kind n = returning_up_to state n (reserve_in_data state.reservations kind)
+abbrev pub reporting : State → InAction → (allocation_length : ℕ) → Effect
+reporting state action n = returning_up_to state n (reserve_in_data state.reservations action)
 
 -- ---- PERSISTENT RESERVE OUT
 

@@ -67,6 +67,6 @@ effect_of state i (Fill extent block) = Ok (filling state extent block)
 effect_of state i (Unmap extents) = Ok (unmapping state extents)
 effect_of state i (UnmapExtent extent) = Ok (unmapping state (extent ∷ []))
 effect_of state i (ReturnLbaStatus start n) = Ok (reporting_status state start n)
-effect_of state i (ReturnReservations kind n) = Ok (reporting state kind n)
+effect_of state i (ReturnReservations action n) = Ok (reporting state action n)
 effect_of state i (ChangeReservations action scope_type list) =
     when_sound (reservation_change state i action scope_type list) (changing_reservations state i)

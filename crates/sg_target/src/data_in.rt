@@ -10,11 +10,11 @@ use crate::config::Config;
 use crate::primary::InquiryPage;
 use crate::refusal::pending_sense;
 use crate::reply::Reply;
-use crate::reservation::ReserveInData;
+use crate::reservation::write_reserve_in_data;
 use crate::target::Target;
 use sg_store::Store;
 use sg_units::{Reservations, UnitAttention};
-use sg_wire::{Cut, Format};
+use sg_wire::{Cut, Format, InAction};
 
 /// The data-in of a command that can't be refused any more and goes over no blocks.
 #[derive(Clone, Copy)]
@@ -26,8 +26,8 @@ pub(crate) enum DataIn {
         format: Format,
     },
     Inquiry(InquiryPage),
-    /// What PERSISTENT RESERVE IN returns.
-    Reservations(ReserveInData),
+    /// What a service action of PERSISTENT RESERVE IN returns.
+    Reservations(InAction),
     Capacity10,
     Capacity16,
 }
@@ -60,7 +60,7 @@ impl DataIn {
         match self {
             DataIn::Sense { condition, format } => pending_sense(condition).write(format, cut),
             DataIn::Inquiry(page) => page.write(config.identity(), cut),
-            DataIn::Reservations(kind) => kind.write(reservations, cut),
+            DataIn::Reservations(action) => write_reserve_in_data(action, reservations, cut),
             DataIn::Capacity10 => cut.put(&capacity_10(config.blocks())),
             DataIn::Capacity16 => cut.put(&capacity_16(config.blocks())),
         }

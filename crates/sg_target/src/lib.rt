@@ -30,6 +30,5 @@ pub use primary::InquiryPage;
 pub use provisioning::{BlockOut, ListedExtents};
 pub use refusal::{Reason, Refusal};
 pub use reply::{Reply, SenseBytes, Status};
-pub use reservation::ReserveInData;
 pub use run::Sink;
 pub use target::{BUFFER_LENGTH, Target};

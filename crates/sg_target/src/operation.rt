@@ -23,11 +23,11 @@ use crate::provisioning::{
 };
 use crate::refusal::Refusal;
 use crate::reply::Reply;
-use crate::reservation::{ReserveInData, check_reserve_in, check_reserve_out};
+use crate::reservation::check_reserve_out;
 use crate::target::{BUFFER_LENGTH, Target};
 use sg_store::{MAX_CAPACITY, Store};
 use sg_units::OutList;
-use sg_wire::{Command, Format, Initiator, OutAction};
+use sg_wire::{Command, Format, InAction, Initiator, OutAction};
 
 /// What a command asks for, with all that it takes: its fields and its data-out are sound. Blocks past
 /// the last one and want of space can still refuse it. So can the disk's mode pages and reservations,
@@ -86,7 +86,7 @@ pub enum Operation<'a> {
         allocation_length: u32,
     },
     ReturnReservations {
-        kind: ReserveInData,
+        action: InAction,
         /// In bytes.
         allocation_length: u16,
     },
@@ -273,7 +273,10 @@ pub(crate) fn operation_of<'a>(
         Command::PersistentReserveIn {
             action,
             allocation_length,
-        } => check_reserve_in(action, allocation_length),
+        } => Ok(Operation::ReturnReservations {
+            action,
+            allocation_length,
+        }),
         Command::PersistentReserveOut {
             action,
             scope_type,
@@ -335,10 +338,10 @@ impl<S: Store> Target<S> {
                 allocation_length,
             } => self.return_lba_status(start, allocation_length, buf),
             Operation::ReturnReservations {
-                kind,
+                action,
                 allocation_length,
             } => {
-                let data_in = DataIn::Reservations(kind);
+                let data_in = DataIn::Reservations(action);
                 self.return_data(data_in, usize::from(allocation_length), buf)
             }
             Operation::ChangeReservations {

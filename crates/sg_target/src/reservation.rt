@@ -1,11 +1,11 @@
 // PERSISTENT RESERVE IN and PERSISTENT RESERVE OUT (SPC-4, 5.13).
-ghost use Rattle.std.specs.Prelude.{◌≡◌, [], Some, None};
+ghost use Rattle.std.specs.Prelude.{◌≡◌};
 ghost use Rattle.sg_wire.specs.Cut.{Puts};
 ghost use Rattle.sg_target.specs.Checks.{requested};
-ghost use Rattle.sg_target.specs.Demands.{reserve_in, reserve_out};
+ghost use Rattle.sg_target.specs.Demands.{reserve_out};
 ghost use Rattle.sg_target.specs.Ranges.{IsCharged, cost_bounds, ranges_in};
 ghost use Rattle.sg_target.specs.Reply.{Carries};
-ghost use Rattle.sg_target.specs.ReservationCommands.{always_needs_type, in_data_of, out_refusal};
+ghost use Rattle.sg_target.specs.ReservationCommands.{always_needs_type, out_refusal};
 ghost use Rattle.sg_target.specs.ReservationCommands.{reserve_in_data};
 ghost use Rattle.sg_target.specs.Semantics.{effect_of};
 ghost use Rattle.sg_target.specs.State.{IsWithinLimits};
@@ -20,63 +20,20 @@ use sg_store::{Counts, Store};
 use sg_units::{OutFault, OutList, ReservationType, Reservations};
 use sg_wire::{Cut, InAction, Initiator, OutAction};
 
-// Where SERVICE ACTION is in the CDBs, and SCOPE and TYPE in that of PERSISTENT RESERVE OUT.
-const SERVICE_ACTION_BYTE: u16 = 1;
-
+// Where SCOPE and TYPE are in the CDB of PERSISTENT RESERVE OUT.
 const SCOPE_TYPE_BYTE: u16 = 2;
 
 // ---- PERSISTENT RESERVE IN
 
-/// What PERSISTENT RESERVE IN returns.
-#[derive(Clone, Copy)]
-pub enum ReserveInData {
-    /// The reservation keys of all registrants.
-    Keys,
-    /// The reservation that is held, if any.
-    Reservation,
-    /// What the disk supports of persistent reservations.
-    Capabilities,
-}
-
-impl ReserveInData {
-    // What a service action returns, if the disk supports it.
-    fn of(action: InAction) -> Option<ReserveInData>
-        ensures { result ≡ in_data_of action }
-    {
-        match action {
-            InAction::ReadKeys => Some(ReserveInData::Keys),
-            InAction::ReadReservation => Some(ReserveInData::Reservation),
-            InAction::ReportCapabilities => Some(ReserveInData::Capabilities),
-            InAction::ReadFullStatus => None,
-        }
-    }
-
-    /// Writes it, whole.
-    pub(crate) fn write(self, reservations: &Reservations, cut: &mut Cut)
-        ensures { Puts cut.old cut.new (reserve_in_data reservations.now self) }
-    {
-        match self {
-            ReserveInData::Keys => reservations.read_keys(cut),
-            ReserveInData::Reservation => reservations.read_reservation(cut),
-            ReserveInData::Capabilities => reservations.report_capabilities(cut),
-        }
-    }
-}
-
-pub(crate) fn check_reserve_in(
-    action: InAction,
-    allocation_length: u16,
-) -> Result<Operation<'static>, Refusal>
-    ensures { result ≡ requested (reserve_in action allocation_length) [] }
+/// Writes what a service action of PERSISTENT RESERVE IN returns, whole.
+pub(crate) fn write_reserve_in_data(action: InAction, reservations: &Reservations, cut: &mut Cut)
+    ensures { Puts cut.old cut.new (reserve_in_data reservations.now action) }
 {
-    match ReserveInData::of(action) {
-        Some(kind) => Ok(Operation::ReturnReservations {
-            kind,
-            allocation_length,
-        }),
-        None => Err(Refusal::Check(Reason::InvalidFieldInCdb {
-            byte: SERVICE_ACTION_BYTE,
-        })),
+    match action {
+        InAction::ReadKeys => reservations.read_keys(cut),
+        InAction::ReadReservation => reservations.read_reservation(cut),
+        InAction::ReportCapabilities => reservations.report_capabilities(cut),
+        InAction::ReadFullStatus => reservations.read_full_status(cut),
     }
 }
 

@@ -214,7 +214,7 @@ abbrev pub reserve_in_show : InAction → Show
 reserve_in_show ReadKeys = show.Keys
 reserve_in_show ReadReservation = show.Reservation
 reserve_in_show ReportCapabilities = show.Capabilities
-reserve_in_show ReadFullStatus = show.Hex
+reserve_in_show ReadFullStatus = show.FullStatus
 
 abbrev pub reserve_in : InAction → Request
 reserve_in action = asks (command.PersistentReserveIn action 8192) (reserve_in_show action)

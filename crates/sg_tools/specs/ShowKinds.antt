@@ -4,7 +4,8 @@ use Rattle.std.specs.Str.{bytes_eq}
 use Rattle.clap.specs.Words.{Text}
 use Rattle.sg_tools.specs.declared.show.Show.{Show}
 use Rattle.sg_tools.specs.declared.show.Show.TheVariants.{Inquiry, Vpd, Modes6, Modes10, LbaStatus}
-use Rattle.sg_tools.specs.declared.show.Show.TheVariants.{Keys, Reservation, Capabilities, Sense}
+use Rattle.sg_tools.specs.declared.show.Show.TheVariants.{Keys, Reservation, Capabilities}
+use Rattle.sg_tools.specs.declared.show.Show.TheVariants.{FullStatus, Sense}
 
 pub record ShowKind : Type 0 where
   pub name : Text
@@ -23,6 +24,7 @@ show_kinds =
     ∷ kind (codes "keys") Keys
     ∷ kind (codes "resv") Reservation
     ∷ kind (codes "caps") Capabilities
+    ∷ kind (codes "full") FullStatus
     ∷ kind (codes "sense") Sense
     ∷ []
 

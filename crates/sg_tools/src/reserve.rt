@@ -72,7 +72,7 @@ fn reserve_in_show(action: InAction) -> Show
         InAction::ReadKeys => Show::Keys,
         InAction::ReadReservation => Show::Reservation,
         InAction::ReportCapabilities => Show::Capabilities,
-        InAction::ReadFullStatus => Show::Hex,
+        InAction::ReadFullStatus => Show::FullStatus,
     }
 }
 

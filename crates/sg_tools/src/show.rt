@@ -27,6 +27,8 @@ pub enum Show {
     Reservation,
     /// As the parameter data of REPORT CAPABILITIES.
     Capabilities,
+    /// As the parameter data of READ FULL STATUS.
+    FullStatus,
     /// As sense data.
     Sense,
 }
@@ -45,6 +47,7 @@ impl Show {
             "keys" => Show::Keys,
             "resv" => Show::Reservation,
             "caps" => Show::Capabilities,
+            "full" => Show::FullStatus,
             "sense" => Show::Sense,
             _ => return None,
         })

@@ -36,3 +36,31 @@ pub(super) const CAPABILITIES: Answer = Answer {
         (6, "  types: WE WE-RO WE-AR EA-AR\n"),
     ],
 };
+
+// A holder through all target ports, by Fibre Channel, and a registrant by iSCSI, whose TransportID
+// has another length.
+pub(super) const FULL_STATUS: Answer = Answer {
+    kind: Kind::FullStatus,
+    bytes: b"\x00\x00\x00\x07\x00\x00\x00\x5c\
+        \x12\x34\x56\x78\x9a\xbc\xde\xf0\x00\x00\x00\x00\x03\x05\x00\x00\
+        \x00\x00\x00\x00\x00\x00\x00\x18\
+        \x00\x00\x00\x00\x00\x00\x00\x00\x21\x00\x00\x24\xff\x31\x5a\x0c\
+        \x00\x00\x00\x00\x00\x00\x00\x00\
+        \x00\x00\x00\x00\x00\x00\x00\xb2\x00\x00\x00\x00\x00\x00\x00\x00\
+        \x00\x00\x01\x02\x00\x00\x00\x14\
+        \x05\x00\x00\x10iqn.2003-01a\x00\x00\x00\x00",
+    lines: &[
+        (4, "  generation: 7\n"),
+        (8, "  additional length: 92\n"),
+        (
+            56,
+            "  key: 0x123456789abcdef0, holder: 1, scope: 0, type: 5, port: 0, transport: \
+            000000000000000021000024ff315a0c0000000000000000\n",
+        ),
+        (
+            100,
+            "  key: 0x00000000000000b2, holder: 0, scope: 0, type: 0, port: 258, transport: \
+            0500001069716e2e323030332d30316100000000\n",
+        ),
+    ],
+};

@@ -5,8 +5,8 @@ ghost use Rattle.sg_decode.specs.HexText.{gathered_text};
 ghost use Rattle.sg_run.specs.AnswerText.{answer_text};
 
 use sg_decode::{
-    put_capabilities, put_hex_lines, put_inquiry, put_keys, put_lba_status, put_modes,
-    put_reservation, put_sense, put_vpd,
+    put_capabilities, put_full_status, put_hex_lines, put_inquiry, put_keys, put_lba_status,
+    put_modes, put_reservation, put_sense, put_vpd,
 };
 use sg_tools::Show;
 use sg_wire::Printer;
@@ -34,6 +34,7 @@ pub(crate) fn print_answer<W: Write>(
         Show::Keys => put_keys(data_in, out),
         Show::Reservation => put_reservation(data_in, out),
         Show::Capabilities => put_capabilities(data_in, out),
+        Show::FullStatus => put_full_status(data_in, out),
         Show::Sense => put_sense(data_in, out),
     }
 }
