@@ -117,6 +117,10 @@ pub record ModeState : Type 0 where
 abbrev pub initial_state : ModeState
 initial_state = record { current = default_values; saved = default_values }
 
+-- A power cycle: the saved values become the current ones (SPC-4, 7.5).
+abbrev pub after_power_on : ModeState → ModeState
+after_power_on state = record { current = state.saved; saved = state.saved }
+
 -- A byte, by its number in the page.
 abbrev pub byte_2 : List ℕ → ℕ
 byte_2 values = slice_index values 0

@@ -33,7 +33,8 @@ impl Model for ModePages {
 }
 
 ghost use Rattle.std.specs.Prelude.{◌≡◌};
-ghost use Rattle.sg_pages.specs.ModePage.{descriptor_sense, initial_state, write_protected};
+ghost use Rattle.sg_pages.specs.ModePage.{after_power_on, descriptor_sense, initial_state};
+ghost use Rattle.sg_pages.specs.ModePage.{write_protected};
 
 impl ModePages {
     /// The pages of a new disk: the current and the saved values are the default ones.
@@ -44,6 +45,13 @@ impl ModePages {
             current: DEFAULT,
             saved: DEFAULT,
         }
+    }
+
+    /// A power cycle: the saved values become the current ones (SPC-4, 7.5).
+    pub fn power_on(&mut self)
+        ensures { self.new ≡ after_power_on self.old }
+    {
+        self.current = self.saved;
     }
 
     /// D_SENSE: sense data is in descriptor format (SPC-4, Control mode page).
