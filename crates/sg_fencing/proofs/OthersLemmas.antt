@@ -157,15 +157,10 @@ module _ (state : State) (i j : ℕ) (other : j ≡ i → ⊥) (h : HoldsAlone s
       → EffectIs P (outcome state.reservations j action scope_type list)
   out-leaves action scope_type list =
       let rs = state.reservations.registrations in
-      let generation = state.reservations.generation in
-      let is : alone_in rs h.kind i generation ≡ state.reservations =
-      λ d. record {
-        registrations = rs;
-        reservation = sym h.reservation_is d;
-        generation = generation;
-      } in
+      let is : alone_in rs h.kind i state.reservations ≡ state.reservations =
+      λ d. record state.reservations { reservation = sym h.reservation_is d } in
       subst (λ (r : ReservationState). EffectIs P (outcome r j action scope_type list)) is
-      (outcome_leaves rs h.kind generation i j action scope_type list h.registered
+      (outcome_leaves rs h.kind state.reservations i j action scope_type list h.registered
       (differ i j other))
 
   reserving-keeps : (action : OutAction) (scope_type : ℕ) (list : OutList)

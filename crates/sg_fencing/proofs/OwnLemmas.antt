@@ -145,24 +145,16 @@ module _ (s : State) (a : Pending) (r : ReservationState) (i : ℕ)
   own-left action scope_type list =
       let rs = s.reservations.registrations in
       let k = has-key rs i (key_of rs i) refl (sym (is_registered-key_of rs i) ∙ h.registered) in
-      let first : s.reservations ≡ alone_in rs h.kind i s.reservations.generation =
-      λ d. record {
-        registrations = rs;
-        reservation = h.reservation_is d;
-        generation = s.reservations.generation;
-      } in
+      let first : s.reservations ≡ alone_in rs h.kind i s.reservations =
+      λ d. record s.reservations { reservation = h.reservation_is d } in
       let held' = sym reservation ∙ h.reservation_is in
-      let second : r ≡ alone_in r.registrations h.kind i r.generation =
-      λ d. record {
-        registrations = r.registrations;
-        reservation = held' d;
-        generation = r.generation;
-      } in
+      let second : r ≡ alone_in r.registrations h.kind i r =
+      λ d. record r { reservation = held' d } in
       let left = λ (x : ReservationState).
       left_of (state_after x (outcome x i action scope_type list)) i in
       ap left first
-      ∙ (own_agrees rs r.registrations h.kind s.reservations.generation r.generation i k.key action
-      scope_type list (w.registered.one_each i) k.key_is (w'.registered.one_each i)
+      ∙ (own_agrees rs r.registrations h.kind s.reservations r i k.key action scope_type list
+      (w.registered.one_each i) k.key_is (w'.registered.one_each i)
       (sym key ∙ k.key_is)
       ∙ sym (ap left second))
 

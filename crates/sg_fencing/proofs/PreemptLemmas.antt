@@ -131,11 +131,12 @@ module _ (state : ReservationState) (i j : ℕ) (other : (j == i) ≡ false) (li
       (λ _. case_or IsRemoved _ _ (λ _. refused IsRemoved _)
       (λ _. last_case IsRemoved _ _ refl (effective IsRemoved _ under_key)))))
 
-  action-removes : (action : OutAction) (type : Option ReservationType) → is_preempting action ≡ true
-      → EffectIs IsRemoved (action_outcome state j action type key)
-  action-removes Preempt type h = (preempt-removes type).first
-  action-removes PreemptAndAbort type h = (preempt-removes type).first
-  action-removes _ type h = absurd (false≢true h)
+  action-removes : (action : OutAction) (type : Option ReservationType) (aptpl : Bool)
+      → is_preempting action ≡ true
+      → EffectIs IsRemoved (action_outcome state j action type key aptpl)
+  action-removes Preempt type aptpl h = (preempt-removes type).first
+  action-removes PreemptAndAbort type aptpl h = (preempt-removes type).first
+  action-removes _ type aptpl h = absurd (false≢true h)
 
   outcome-removes : (action : OutAction) (scope_type : ℕ) → is_preempting action ≡ true
       → EffectIs IsRemoved (outcome state j action scope_type list)
@@ -144,7 +145,7 @@ module _ (state : ReservationState) (i j : ℕ) (other : (j == i) ≡ false) (li
       let accepts = accepts_key state.registrations j action list.reservation_key in
       choice IsRemoved (has_unsupported_flag action list) _ _ (λ _. refused IsRemoved (Field 20))
       (λ _. choice IsRemoved (not accepts) _ _ (λ _. refused IsRemoved Conflict)
-      (λ _. action-removes action (type_of scope_type) h))
+      (λ _. action-removes action (type_of scope_type) list.aptpl h))
 
 -- ---- The command
 

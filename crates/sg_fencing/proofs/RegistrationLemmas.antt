@@ -93,9 +93,9 @@ module _ (state : ReservationState) (i j : ℕ) (other : (j == i) ≡ false)
         (is_registered change.registrations i) change.for_remaining change.for_removed remaining removed;
   })
 
-  register-leaves : (sark : ℕ) → FirstIs Leaves (register_cases state j sark)
+  register-leaves : (sark : ℕ) (aptpl : Bool) → FirstIs Leaves (register_cases state j sark aptpl)
   unfolding register_cases
-  register-leaves sark =
+  register-leaves sark aptpl =
       case_or Leaves _ _ (λ _. left _ refl refl refl refl)
       (λ _. case_or Leaves _ _ (λ _. refused Leaves _)
       (λ _. case_or Leaves _ _
@@ -105,16 +105,17 @@ module _ (state : ReservationState) (i j : ℕ) (other : (j == i) ≡ false)
   not-own : (key : ℕ) → is_registered_under state.registrations j key ≡ true → ⊥
   not-own key h = false≢true (sym (not-under state.registrations j key unknown) ∙ h)
 
-  action-leaves : (action : OutAction) (type : Option ReservationType) (sark key : ℕ)
+  action-leaves : (action : OutAction) (type : Option ReservationType) (sark : ℕ) (aptpl : Bool)
+      (key : ℕ)
       → accepts_key state.registrations j action key ≡ true
-      → EffectIs Leaves (action_outcome state j action type sark)
-  action-leaves Register type sark key h = (register-leaves sark).first
-  action-leaves RegisterAndIgnoreExistingKey type sark key h = (register-leaves sark).first
-  action-leaves Reserve type sark key h = absurd (not-own key h)
-  action-leaves Release type sark key h = absurd (not-own key h)
-  action-leaves Clear type sark key h = absurd (not-own key h)
-  action-leaves Preempt type sark key h = absurd (not-own key h)
-  action-leaves PreemptAndAbort type sark key h = absurd (not-own key h)
+      → EffectIs Leaves (action_outcome state j action type sark aptpl)
+  action-leaves Register type sark aptpl key h = (register-leaves sark aptpl).first
+  action-leaves RegisterAndIgnoreExistingKey type sark aptpl key h = (register-leaves sark aptpl).first
+  action-leaves Reserve type sark aptpl key h = absurd (not-own key h)
+  action-leaves Release type sark aptpl key h = absurd (not-own key h)
+  action-leaves Clear type sark aptpl key h = absurd (not-own key h)
+  action-leaves Preempt type sark aptpl key h = absurd (not-own key h)
+  action-leaves PreemptAndAbort type sark aptpl key h = absurd (not-own key h)
 
   pub outcome-leaves : (action : OutAction) (scope_type : ℕ) (list : OutList)
       → EffectIs Leaves (outcome state j action scope_type list)
@@ -123,8 +124,8 @@ module _ (state : ReservationState) (i j : ℕ) (other : (j == i) ≡ false)
       let accepts = accepts_key state.registrations j action list.reservation_key in
       choice Leaves (has_unsupported_flag action list) _ _ (λ _. refused Leaves (Field 20))
       (λ _. choice Leaves (not accepts) _ _ (λ _. refused Leaves Conflict)
-      (λ yes. action-leaves action (type_of scope_type) list.service_action_key list.reservation_key
-      (accepted accepts yes)))
+      (λ yes. action-leaves action (type_of scope_type) list.service_action_key list.aptpl
+      list.reservation_key (accepted accepts yes)))
 
 -- ---- An initiator stays unregistered
 
@@ -142,9 +143,10 @@ module _ (state : ReservationState) (i j : ℕ) (unknown : is_registered state.r
   stays : (change : ReservationChange) → IsUnknown change → EffectIs IsUnknown (Ok change)
   stays change h = effective IsUnknown change h
 
-  registering-other : (sark : ℕ) → (j == i) ≡ false → FirstIs IsUnknown (register_cases state j sark)
+  registering-other : (sark : ℕ) (aptpl : Bool) → (j == i) ≡ false
+      → FirstIs IsUnknown (register_cases state j sark aptpl)
   unfolding register_cases
-  registering-other sark other =
+  registering-other sark aptpl other =
       let all = state.registrations in
       let gone = by-key (without_initiator all j) (key_of-without all i j other) in
       let pushed = by-key (with_registration all j sark) (key_of-push all i j sark other) in
@@ -182,16 +184,16 @@ module _ (state : ReservationState) (i j : ℕ) (unknown : is_registered state.r
       (λ _. case_or IsUnknown _ _ (λ _. refused IsUnknown _)
       (λ _. last_case IsUnknown _ _ refl (stays _ (gone _))))))
 
-  action-unknown : (action : OutAction) (type : Option ReservationType) (sark : ℕ)
+  action-unknown : (action : OutAction) (type : Option ReservationType) (sark : ℕ) (aptpl : Bool)
       → (is_registering action ≡ true → (j == i) ≡ false)
-      → EffectIs IsUnknown (action_outcome state j action type sark)
-  action-unknown Register type sark h = (registering-other sark (h refl)).first
-  action-unknown RegisterAndIgnoreExistingKey type sark h = (registering-other sark (h refl)).first
-  action-unknown Reserve type sark h = typed IsUnknown type _ (λ type. (reserving type).first)
-  action-unknown Release type sark h = typed IsUnknown type _ (λ type. (releasing type).first)
-  action-unknown Clear type sark h = stays _ refl
-  action-unknown Preempt type sark h = (preempting type sark).first
-  action-unknown PreemptAndAbort type sark h = (preempting type sark).first
+      → EffectIs IsUnknown (action_outcome state j action type sark aptpl)
+  action-unknown Register type sark aptpl h = (registering-other sark aptpl (h refl)).first
+  action-unknown RegisterAndIgnoreExistingKey type sark aptpl h = (registering-other sark aptpl (h refl)).first
+  action-unknown Reserve type sark aptpl h = typed IsUnknown type _ (λ type. (reserving type).first)
+  action-unknown Release type sark aptpl h = typed IsUnknown type _ (λ type. (releasing type).first)
+  action-unknown Clear type sark aptpl h = stays _ refl
+  action-unknown Preempt type sark aptpl h = (preempting type sark).first
+  action-unknown PreemptAndAbort type sark aptpl h = (preempting type sark).first
 
   pub outcome-unknown : (action : OutAction) (scope_type : ℕ) (list : OutList)
       → (is_registering action ≡ true → (j == i) ≡ false)
@@ -201,4 +203,4 @@ module _ (state : ReservationState) (i j : ℕ) (unknown : is_registered state.r
       let accepts = accepts_key state.registrations j action list.reservation_key in
       choice IsUnknown (has_unsupported_flag action list) _ _ (λ _. refused IsUnknown (Field 20))
       (λ _. choice IsUnknown (not accepts) _ _ (λ _. refused IsUnknown Conflict)
-      (λ _. action-unknown action (type_of scope_type) list.service_action_key h))
+      (λ _. action-unknown action (type_of scope_type) list.service_action_key list.aptpl h))

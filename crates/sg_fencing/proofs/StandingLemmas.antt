@@ -129,15 +129,10 @@ module _ (state : State) (i j : ℕ) (other : j ≡ i → ⊥) (h : HoldsAlone s
       → EffectIs H (outcome state.reservations j action scope_type list)
   out-holds action scope_type list mild =
       let rs = state.reservations.registrations in
-      let generation = state.reservations.generation in
-      let is : alone_in rs h.kind i generation ≡ state.reservations =
-      λ d. record {
-        registrations = rs;
-        reservation = sym h.reservation_is d;
-        generation = generation;
-      } in
+      let is : alone_in rs h.kind i state.reservations ≡ state.reservations =
+      λ d. record state.reservations { reservation = sym h.reservation_is d } in
       subst (λ (r : ReservationState). EffectIs H (outcome r j action scope_type list)) is
-      (outcome_holds rs h.kind generation i j action scope_type list mild h.registered
+      (outcome_holds rs h.kind state.reservations i j action scope_type list mild h.registered
       (differ i j other))
 
   reserving-stands : (action : OutAction) (scope_type : ℕ) (list : OutList)

@@ -306,10 +306,10 @@ consistent-none = record {
 
 -- ---- Outcomes
 
-consistent-register : (state : ReservationState) (i sark : ℕ) → IsConsistent state
-    → FirstIs IsConsistentChange (register_cases state i sark)
+consistent-register : (state : ReservationState) (i sark : ℕ) (aptpl : Bool) → IsConsistent state
+    → FirstIs IsConsistentChange (register_cases state i sark aptpl)
 unfolding register_cases
-consistent-register state i sark h =
+consistent-register state i sark aptpl h =
     let all = state.registrations in
     let held = state.reservation in
     let others = λ (r : Registration). not (is_of i r) in
@@ -379,25 +379,25 @@ consistent-preempt state i type sark here h =
 
 -- a caller whose key is accepted is registered, unless it registers
 consistent-action : (state : ReservationState) (i : ℕ) (action : OutAction)
-    (type : Option ReservationType) (key sark : ℕ)
+    (type : Option ReservationType) (key sark : ℕ) (aptpl : Bool)
     → accepts_key state.registrations i action key ≡ true → IsConsistent state
-    → EffectIs IsConsistentChange (action_outcome state i action type sark)
-consistent-action state i Register type key sark a h =
-    (consistent-register state i sark h).first
-consistent-action state i Reserve type key sark a h =
+    → EffectIs IsConsistentChange (action_outcome state i action type sark aptpl)
+consistent-action state i Register type key sark aptpl a h =
+    (consistent-register state i sark aptpl h).first
+consistent-action state i Reserve type key sark aptpl a h =
     let here = is_registered-under state.registrations i key a in
     typed IsConsistentChange type _ (λ type. (consistent-reserve state i type here h).first)
-consistent-action state i Release type key sark a h =
+consistent-action state i Release type key sark aptpl a h =
     typed IsConsistentChange type _ (λ type. (consistent-release state i type h).first)
-consistent-action state i Clear type key sark a h = effective IsConsistentChange _ consistent-none
-consistent-action state i Preempt type key sark a h =
+consistent-action state i Clear type key sark aptpl a h = effective IsConsistentChange _ consistent-none
+consistent-action state i Preempt type key sark aptpl a h =
     let here = is_registered-under state.registrations i key a in
     (consistent-preempt state i type sark here h).first
-consistent-action state i PreemptAndAbort type key sark a h =
+consistent-action state i PreemptAndAbort type key sark aptpl a h =
     let here = is_registered-under state.registrations i key a in
     (consistent-preempt state i type sark here h).first
-consistent-action state i RegisterAndIgnoreExistingKey type key sark a h =
-    (consistent-register state i sark h).first
+consistent-action state i RegisterAndIgnoreExistingKey type key sark aptpl a h =
+    (consistent-register state i sark aptpl h).first
 
 pub consistent-outcome : (state : ReservationState) (i : ℕ) (action : OutAction) (scope_type : ℕ)
     (list : OutList) → IsConsistent state
@@ -410,7 +410,8 @@ consistent-outcome state i action scope_type list h =
     choice IsConsistentChange (has_unsupported_flag action list) _ _
     (λ _. refused IsConsistentChange (Field 20))
     (λ _. choice IsConsistentChange (not accepts) _ _ (λ _. refused IsConsistentChange Conflict)
-    (λ a. consistent-action state i action (type_of scope_type) key sark (not_false accepts a) h))
+    (λ a. consistent-action state i action (type_of scope_type) key sark list.aptpl
+    (not_false accepts a) h))
 
 pub consistent-state_after : (state : ReservationState) (o : Outcome) → IsConsistent state
     → EffectIs IsConsistentChange o → IsConsistent (state_after state o)

@@ -147,9 +147,11 @@ is_one_holder held i =
     option_map_or (λ (r : Reservation). option_map_or (λ holder. holder == i) r.holder false) held
     false
 
-abbrev pub alone_in : List Registration → ReservationType → (holder generation : ℕ) → ReservationState
-alone_in all kind i generation =
-    record { registrations = all; reservation = held_alone kind i; generation = generation }
+-- the other fields are those of a state
+abbrev pub alone_in : List Registration → ReservationType → (holder : ℕ) → ReservationState
+    → ReservationState
+alone_in all kind i state =
+    record state { registrations = all; reservation = held_alone kind i }
 
 pub while_held-alone : (kind : ReservationType) (i : ℕ) (rest : List Registration)
     → is_registered rest i ≡ true → while_held (held_alone kind i) rest ≡ held_alone kind i
@@ -216,14 +218,14 @@ took all held i j type rest h =
     (λ type. ends all held i j _ (taken_if type (is_all_registrants type) i j h))
 
 -- The caller j is another initiator than i, which is registered and the one holder.
-module _ (all : List Registration) (kind : ReservationType) (generation i j : ℕ) where
+module _ (all : List Registration) (kind : ReservationType) (before : ReservationState) (i j : ℕ) where
   abbrev P : ReservationChange → Type 0
   P = IsLeftIfHolder all (held_alone kind i) i j
 
-  register_leaves : (sark : ℕ) → is_registered all i ≡ true → (j == i) ≡ false
-      → FirstIs P (register_cases (alone_in all kind i generation) j sark)
+  register_leaves : (sark : ℕ) (aptpl : Bool) → is_registered all i ≡ true → (j == i) ≡ false
+      → FirstIs P (register_cases (alone_in all kind i before) j sark aptpl)
   unfolding register_cases
-  register_leaves sark here other =
+  register_leaves sark aptpl here other =
       let held = held_alone kind i in
       let gone = key_of-without all i j other in
       let left = stays_registered all (without_initiator all j) i gone here in
@@ -235,7 +237,7 @@ module _ (all : List Registration) (kind : ReservationType) (generation i j : �
       (stays all held i j _ here gone (while_held-alone kind i _ left) (released-alone kind i _ left))))))
 
   reserve_leaves : (new : ReservationType) → is_registered all i ≡ true
-      → FirstIs P (reserve_cases (alone_in all kind i generation) j new)
+      → FirstIs P (reserve_cases (alone_in all kind i before) j new)
   unfolding reserve_cases
   reserve_leaves new here =
       case_or P _ _ (λ no. absurd (false≢true no))
@@ -243,7 +245,7 @@ module _ (all : List Registration) (kind : ReservationType) (generation i j : �
       (λ _. last_case P _ _ refl (refused P _)))
 
   release_leaves : (new : ReservationType) → is_registered all i ≡ true
-      → FirstIs P (release_cases (alone_in all kind i generation) j new)
+      → FirstIs P (release_cases (alone_in all kind i before) j new)
   unfolding release_cases
   release_leaves new here =
       case_or P _ _ (λ _. stays all (held_alone kind i) i j _ here refl refl refl)
@@ -251,7 +253,7 @@ module _ (all : List Registration) (kind : ReservationType) (generation i j : �
       (λ _. last_case P _ _ refl (ends all (held_alone kind i) i j _ refl)))
 
   preempt_leaves : (type : Option ReservationType) (sark : ℕ) → is_registered all i ≡ true
-      → (j == i) ≡ false → FirstIs P (preempt_cases (alone_in all kind i generation) j type sark)
+      → (j == i) ≡ false → FirstIs P (preempt_cases (alone_in all kind i before) j type sark)
   unfolding preempt_cases
   preempt_leaves type sark here other =
       let held = held_alone kind i in
@@ -264,29 +266,30 @@ module _ (all : List Registration) (kind : ReservationType) (generation i j : �
       let left = stays_registered all (without_key all sark) i gone here in
       last_case P _ _ refl (stays all held i j _ here gone (while_held-alone kind i _ left) refl)))))
 
-  action_leaves : (action : OutAction) (type : Option ReservationType) (sark : ℕ)
+  action_leaves : (action : OutAction) (type : Option ReservationType) (sark : ℕ) (aptpl : Bool)
       → is_registered all i ≡ true → (j == i) ≡ false
-      → EffectIs P (action_outcome (alone_in all kind i generation) j action type sark)
-  action_leaves Register type sark here other = (register_leaves sark here other).first
-  action_leaves Reserve type sark here other =
+      → EffectIs P (action_outcome (alone_in all kind i before) j action type sark aptpl)
+  action_leaves Register type sark aptpl here other = (register_leaves sark aptpl here other).first
+  action_leaves Reserve type sark aptpl here other =
       typed P type _ (λ new. (reserve_leaves new here).first)
-  action_leaves Release type sark here other =
+  action_leaves Release type sark aptpl here other =
       typed P type _ (λ new. (release_leaves new here).first)
-  action_leaves Clear type sark here other = ends all (held_alone kind i) i j _ refl
-  action_leaves Preempt type sark here other = (preempt_leaves type sark here other).first
-  action_leaves PreemptAndAbort type sark here other = (preempt_leaves type sark here other).first
-  action_leaves RegisterAndIgnoreExistingKey type sark here other =
-      (register_leaves sark here other).first
+  action_leaves Clear type sark aptpl here other = ends all (held_alone kind i) i j _ refl
+  action_leaves Preempt type sark aptpl here other = (preempt_leaves type sark here other).first
+  action_leaves PreemptAndAbort type sark aptpl here other = (preempt_leaves type sark here other).first
+  action_leaves RegisterAndIgnoreExistingKey type sark aptpl here other =
+      (register_leaves sark aptpl here other).first
 
   pub outcome_leaves : (action : OutAction) (scope_type : ℕ) (list : OutList)
       → is_registered all i ≡ true → (j == i) ≡ false
-      → EffectIs P (outcome (alone_in all kind i generation) j action scope_type list)
+      → EffectIs P (outcome (alone_in all kind i before) j action scope_type list)
   unfolding outcome
   outcome_leaves action scope_type list here other =
       let accepts = accepts_key all j action list.reservation_key in
       choice P (has_unsupported_flag action list) _ _ (λ _. refused P (Field 20))
       (λ _. choice P (not accepts) _ _ (λ _. refused P Conflict)
-      (λ _. action_leaves action (type_of scope_type) list.service_action_key here other))
+      (λ _. action_leaves action (type_of scope_type) list.service_action_key list.aptpl here
+      other))
 
 -- ---- The command of another initiator that can't end the reservation
 
@@ -305,14 +308,14 @@ no_holder : (known b : Bool) → b ≡ false → not (known && b) ≡ false → 
 no_holder true b h e = false≢true (sym e ∙ ap not h)
 no_holder false b h e = false≢true (sym e)
 
-module _ (all : List Registration) (kind : ReservationType) (generation i j : ℕ) where
+module _ (all : List Registration) (kind : ReservationType) (before : ReservationState) (i j : ℕ) where
   abbrev H : ReservationChange → Type 0
   H = IsHeld (held_alone kind i) i
 
-  register_holds : (sark : ℕ) → is_registered all i ≡ true → (j == i) ≡ false
-      → FirstIs H (register_cases (alone_in all kind i generation) j sark)
+  register_holds : (sark : ℕ) (aptpl : Bool) → is_registered all i ≡ true → (j == i) ≡ false
+      → FirstIs H (register_cases (alone_in all kind i before) j sark aptpl)
   unfolding register_cases
-  register_holds sark here other =
+  register_holds sark aptpl here other =
       let held = held_alone kind i in
       let gone = key_of-without all i j other in
       let left = stays_registered all (without_initiator all j) i gone here in
@@ -327,7 +330,7 @@ module _ (all : List Registration) (kind : ReservationType) (generation i j : �
       (λ _. last_case H _ _ refl (stands held i _ left (while_held-alone kind i _ left))))))
 
   reserve_holds : (new : ReservationType) → is_registered all i ≡ true
-      → FirstIs H (reserve_cases (alone_in all kind i generation) j new)
+      → FirstIs H (reserve_cases (alone_in all kind i before) j new)
   unfolding reserve_cases
   reserve_holds new here =
       case_or H _ _ (λ no. absurd (false≢true no))
@@ -335,32 +338,33 @@ module _ (all : List Registration) (kind : ReservationType) (generation i j : �
       (λ _. last_case H _ _ refl (refused H _)))
 
   release_holds : (new : ReservationType) → is_registered all i ≡ true → (j == i) ≡ false
-      → FirstIs H (release_cases (alone_in all kind i generation) j new)
+      → FirstIs H (release_cases (alone_in all kind i before) j new)
   unfolding release_cases
   release_holds new here other =
       case_or H _ _ (λ _. stands (held_alone kind i) i _ here refl)
       (λ is. absurd (no_holder (is_registered all j) (j == i) other is))
 
-  action_holds : (action : OutAction) (type : Option ReservationType) (sark : ℕ)
+  action_holds : (action : OutAction) (type : Option ReservationType) (sark : ℕ) (aptpl : Bool)
       → ends_for_others action ≡ false → is_registered all i ≡ true → (j == i) ≡ false
-      → EffectIs H (action_outcome (alone_in all kind i generation) j action type sark)
-  action_holds Register type sark mild here other = (register_holds sark here other).first
-  action_holds Reserve type sark mild here other =
+      → EffectIs H (action_outcome (alone_in all kind i before) j action type sark aptpl)
+  action_holds Register type sark aptpl mild here other = (register_holds sark aptpl here other).first
+  action_holds Reserve type sark aptpl mild here other =
       typed H type _ (λ new. (reserve_holds new here).first)
-  action_holds Release type sark mild here other =
+  action_holds Release type sark aptpl mild here other =
       typed H type _ (λ new. (release_holds new here other).first)
-  action_holds RegisterAndIgnoreExistingKey type sark mild here other =
-      (register_holds sark here other).first
-  action_holds Clear type sark mild here other = absurd (false≢true (sym mild))
-  action_holds Preempt type sark mild here other = absurd (false≢true (sym mild))
-  action_holds PreemptAndAbort type sark mild here other = absurd (false≢true (sym mild))
+  action_holds RegisterAndIgnoreExistingKey type sark aptpl mild here other =
+      (register_holds sark aptpl here other).first
+  action_holds Clear type sark aptpl mild here other = absurd (false≢true (sym mild))
+  action_holds Preempt type sark aptpl mild here other = absurd (false≢true (sym mild))
+  action_holds PreemptAndAbort type sark aptpl mild here other = absurd (false≢true (sym mild))
 
   pub outcome_holds : (action : OutAction) (scope_type : ℕ) (list : OutList)
       → ends_for_others action ≡ false → is_registered all i ≡ true → (j == i) ≡ false
-      → EffectIs H (outcome (alone_in all kind i generation) j action scope_type list)
+      → EffectIs H (outcome (alone_in all kind i before) j action scope_type list)
   unfolding outcome
   outcome_holds action scope_type list mild here other =
       let accepts = accepts_key all j action list.reservation_key in
       choice H (has_unsupported_flag action list) _ _ (λ _. refused H (Field 20))
       (λ _. choice H (not accepts) _ _ (λ _. refused H Conflict)
-      (λ _. action_holds action (type_of scope_type) list.service_action_key mild here other))
+      (λ _. action_holds action (type_of scope_type) list.service_action_key list.aptpl mild here
+      other))

@@ -171,9 +171,9 @@ not_so true h = absurd (false≢true h)
 not_so false h = refl
 
 -- i is registered under k, and the one holder of a reservation
-module _ (all : List Registration) (kind : ReservationType) (generation i k : ℕ) where
+module _ (all : List Registration) (kind : ReservationType) (before : ReservationState) (i k : ℕ) where
   abbrev state : ReservationState
-  state = alone_in all kind i generation
+  state = alone_in all kind i before
 
   abbrev held : Option Reservation
   held = held_alone kind i
@@ -204,10 +204,10 @@ module _ (all : List Registration) (kind : ReservationType) (generation i k : �
       is_registered-key_of rest i ∙ ap is_some (key_of-unregistered all i) in
       ap (λ b. if b then held else None) gone
 
-  register_leaves : (sark : ℕ) → key_of all i ≡ Some k
-      → CasesLeave state i (register_left sark) (register_cases state i sark)
+  register_leaves : (sark : ℕ) (aptpl : Bool) → key_of all i ≡ Some k
+      → CasesLeave state i (register_left sark) (register_cases state i sark aptpl)
   unfolding register_cases
-  register_leaves sark key =
+  register_leaves sark aptpl key =
       let v = register_left sark in
       let known = is_registered all i in
       let is = here key in
@@ -306,18 +306,18 @@ module _ (all : List Registration) (kind : ReservationType) (generation i k : �
   action_left PreemptAndAbort type sark = preempt_or (sark == 0) (k == sark) type
   action_left RegisterAndIgnoreExistingKey type sark = register_left sark
 
-  action_leaves : (action : OutAction) (type : Option ReservationType) (sark : ℕ)
+  action_leaves : (action : OutAction) (type : Option ReservationType) (sark : ℕ) (aptpl : Bool)
       → registrations_of all i ≤ 1 → key_of all i ≡ Some k
-      → Leaves state i (action_left action type sark) (action_outcome state i action type sark)
-  action_leaves Register type sark one key = (register_leaves sark key).first
-  action_leaves Reserve type sark one key =
+      → Leaves state i (action_left action type sark) (action_outcome state i action type sark aptpl)
+  action_leaves Register type sark aptpl one key = (register_leaves sark aptpl key).first
+  action_leaves Reserve type sark aptpl one key =
       typed type _ (λ new. as_before) key (λ new. (reserve_leaves new key).first)
-  action_leaves Release type sark one key =
+  action_leaves Release type sark aptpl one key =
       typed type _ (λ new. release_or (has_type held new)) key (λ new. (release_leaves new key).first)
-  action_leaves Clear type sark one key = leaves _ (None, None) refl refl
-  action_leaves Preempt type sark one key = (preempt_leaves type sark one key).first
-  action_leaves PreemptAndAbort type sark one key = (preempt_leaves type sark one key).first
-  action_leaves RegisterAndIgnoreExistingKey type sark one key = (register_leaves sark key).first
+  action_leaves Clear type sark aptpl one key = leaves _ (None, None) refl refl
+  action_leaves Preempt type sark aptpl one key = (preempt_leaves type sark one key).first
+  action_leaves PreemptAndAbort type sark aptpl one key = (preempt_leaves type sark one key).first
+  action_leaves RegisterAndIgnoreExistingKey type sark aptpl one key = (register_leaves sark aptpl key).first
 
   abbrev accepts : OutAction → (key : ℕ) → Bool
   accepts RegisterAndIgnoreExistingKey key = true
@@ -362,11 +362,11 @@ module _ (all : List Registration) (kind : ReservationType) (generation i k : �
       (refuses _ key))
       (λ accepted. at state i v left _
       (ap (λ b. left_or b not_own left) no ∙ ap (λ b. left_or false b left) (sym is_own ∙ accepted))
-      (action_leaves action (type_of scope_type) list.service_action_key one key)))
+      (action_leaves action (type_of scope_type) list.service_action_key list.aptpl one key)))
 
 -- So it leaves the same of two tables in which i has the same key.
-pub own_agrees : (all rest : List Registration) (kind : ReservationType) (first second i k : ℕ)
-    (action : OutAction) (scope_type : ℕ) (list : OutList)
+pub own_agrees : (all rest : List Registration) (kind : ReservationType)
+    (first second : ReservationState) (i k : ℕ) (action : OutAction) (scope_type : ℕ) (list : OutList)
     → registrations_of all i ≤ 1 → key_of all i ≡ Some k
     → registrations_of rest i ≤ 1 → key_of rest i ≡ Some k →
     (let a = alone_in all kind i first in
@@ -380,10 +380,11 @@ own_agrees all rest kind first second i k action scope_type list one key one' ke
 -- ---- Access
 
 -- What i is allowed follows from whether it is registered and from the reservation.
-standing-by : (held : Option Reservation) (all rest : List Registration) (first second i : ℕ)
+standing-by : (held : Option Reservation) (all rest : List Registration) (first second : ReservationState)
+    (i : ℕ)
     → is_registered all i ≡ is_registered rest i
-    → standing_of (record { registrations = all; reservation = held; generation = first }) i
-    ≡ standing_of (record { registrations = rest; reservation = held; generation = second }) i
+    → standing_of (record first { registrations = all; reservation = held }) i
+    ≡ standing_of (record second { registrations = rest; reservation = held }) i
 standing-by None all rest first second i e =
     ap (λ (b : Bool). cond {A = Standing} b Registrant Other) e
 standing-by (Some reservation) all rest first second i e =
@@ -401,6 +402,6 @@ allows-same first second i class key reservation =
     let moved : ReservationState = record second { reservation = first.reservation } in
     let to : moved ≡ second = λ d. record second { reservation = reservation d } in
     ap (λ s. allowed first.reservation s class)
-    (standing-by first.reservation first.registrations second.registrations first.generation
-    second.generation i registered)
+    (standing-by first.reservation first.registrations second.registrations first second i
+    registered)
     ∙ ap (λ (r : ReservationState). allows r i class) to

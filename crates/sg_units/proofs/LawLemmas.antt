@@ -12,7 +12,7 @@ use Rattle.sg_units.specs.Access.{access_of, allowed, allows, highest_class, is_
 use Rattle.sg_units.specs.Laws.{CountsChanges, HasOneHolder, IsHeldByAll, IsRefused}
 use Rattle.sg_units.specs.UnsupportedFlags.{has_unsupported_flag}
 use Rattle.sg_units.specs.ReserveOut.{Outcome, accepts_key, action_outcome}
-use Rattle.sg_units.specs.ReserveOut.{generation_after, next_generation, outcome}
+use Rattle.sg_units.specs.ReserveOut.{generation_after, next_generation, outcome, registered}
 use Rattle.sg_units.specs.ReserveOut.{preempt_cases, register_cases, release_cases}
 use Rattle.sg_units.specs.ReserveOut.{reserve_cases, same_generation, state_after}
 use Rattle.sg_units.specs.Registrations.{is_of, is_registered, is_registered_under, is_under}
@@ -314,16 +314,22 @@ counts : (state : ReservationState) (rs : List Registration) (held : Option Rese
 counts state rs held removed remaining =
     effective (Counted state) _ (λ e. absurd (false≢true (sym e)))
 
-counted-register : (state : ReservationState) (i sark : ℕ)
-    → FirstIs (Counted state) (register_cases state i sark)
+registers : (state : ReservationState) (rs : List Registration) (held : Option Reservation)
+    (remaining : Option UnitAttention) (aptpl : Bool)
+    → EffectIs (Counted state) (registered rs held remaining aptpl)
+registers state rs held remaining aptpl =
+    effective (Counted state) _ (λ e. absurd (false≢true (sym e)))
+
+counted-register : (state : ReservationState) (i sark : ℕ) (aptpl : Bool)
+    → FirstIs (Counted state) (register_cases state i sark aptpl)
 unfolding register_cases
-counted-register state i sark =
+counted-register state i sark aptpl =
     let P = Counted state in
     case_or P _ _ (λ _. stays state _ _)
     (λ _. case_or P _ _ (λ _. refused P _)
-    (λ _. case_or P _ _ (λ _. counts state _ _ _ _)
-    (λ _. case_or P _ _ (λ _. counts state _ _ _ _)
-    (λ _. last_case P _ _ refl (counts state _ _ _ _)))))
+    (λ _. case_or P _ _ (λ _. registers state _ _ _ _)
+    (λ _. case_or P _ _ (λ _. registers state _ _ _ _)
+    (λ _. last_case P _ _ refl (registers state _ _ _ _)))))
 
 counted-reserve : (state : ReservationState) (i : ℕ) (type : ReservationType)
     → FirstIs (Counted state) (reserve_cases state i type)
@@ -354,18 +360,18 @@ counted-preempt state i type sark =
     (λ _. last_case P _ _ refl (counts state _ _ _ _)))))
 
 counted-action : (state : ReservationState) (i : ℕ) (action : OutAction)
-    (type : Option ReservationType) (sark : ℕ)
-    → EffectIs (Counted state) (action_outcome state i action type sark)
-counted-action state i Register type sark = (counted-register state i sark).first
-counted-action state i Reserve type sark =
+    (type : Option ReservationType) (sark : ℕ) (aptpl : Bool)
+    → EffectIs (Counted state) (action_outcome state i action type sark aptpl)
+counted-action state i Register type sark aptpl = (counted-register state i sark aptpl).first
+counted-action state i Reserve type sark aptpl =
     typed (Counted state) type _ (λ type. (counted-reserve state i type).first)
-counted-action state i Release type sark =
+counted-action state i Release type sark aptpl =
     typed (Counted state) type _ (λ type. (counted-release state i type).first)
-counted-action state i Clear type sark = counts state _ _ _ _
-counted-action state i Preempt type sark = (counted-preempt state i type sark).first
-counted-action state i PreemptAndAbort type sark = (counted-preempt state i type sark).first
-counted-action state i RegisterAndIgnoreExistingKey type sark =
-    (counted-register state i sark).first
+counted-action state i Clear type sark aptpl = counts state _ _ _ _
+counted-action state i Preempt type sark aptpl = (counted-preempt state i type sark).first
+counted-action state i PreemptAndAbort type sark aptpl = (counted-preempt state i type sark).first
+counted-action state i RegisterAndIgnoreExistingKey type sark aptpl =
+    (counted-register state i sark aptpl).first
 
 counted-outcome : (state : ReservationState) (i : ℕ) (action : OutAction) (scope_type : ℕ)
     (list : OutList) → EffectIs (Counted state) (outcome state i action scope_type list)
@@ -375,7 +381,7 @@ counted-outcome state i action scope_type list =
     let accepts = accepts_key state.registrations i action list.reservation_key in
     choice P (has_unsupported_flag action list) _ _ (λ _. refused P (Field 20))
     (λ _. choice P (not accepts) _ _ (λ _. refused P Conflict)
-    (λ _. counted-action state i action (type_of scope_type) list.service_action_key))
+    (λ _. counted-action state i action (type_of scope_type) list.service_action_key list.aptpl))
 
 same_or_next : (increments : Bool) (n : ℕ)
     → (generation_after increments n ≡ n) ⊎ (generation_after increments n ≡ (n + 1) % 2 ^ 32)

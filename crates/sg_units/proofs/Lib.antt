@@ -4,5 +4,6 @@ pub mod PartLemmas
 pub mod OutcomeLemmas
 pub mod ConsistencyLemmas
 pub mod LawLemmas
+pub mod PowerLemmas
 pub mod FencingLemmas
 pub mod HolderLemmas

@@ -10,4 +10,5 @@ pub mod UnsupportedFlags
 pub mod ReserveOut
 pub mod ReserveIn
 pub mod FullStatus
+pub mod PowerOn
 pub mod Laws

@@ -12,7 +12,12 @@ use Rattle.sg_units.specs.declared.reservation_state.ReservationState.{Reservati
 use Rattle.sg_units.specs.declared.types.ReservationType.{ReservationType}
 
 abbrev pub empty_state : ReservationState
-empty_state = record { registrations = []; reservation = None; generation = 0 }
+empty_state = record {
+  registrations = [];
+  reservation = None;
+  generation = 0;
+  persists_through_power_loss = false;
+}
 
 -- ---- Holders
 

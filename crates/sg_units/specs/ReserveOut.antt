@@ -1,7 +1,7 @@
 -- PERSISTENT RESERVE OUT (SPC-4, 5.13).
 use Rattle.std.specs.Prelude.{ℕ, ◌+◌, ◌%◌, ◌^◌, ◌==◌, Bool, true, false, not, ◌&&◌, ◌||◌}
 use Rattle.std.specs.Prelude.{if◌then◌else◌, List, [], ◌∷◌, length, map, Result, Ok, Err}
-use Rattle.std.specs.Prelude.{Option, Some, None, is_some, is_none}
+use Rattle.std.specs.Prelude.{Option, Some, None, is_some, is_none, unwrap_or}
 use Rattle.std.specs.List.{range_with_len}
 use Rattle.std.specs.Option.{option_map_or}
 use Rattle.sg_units.specs.Attentions.{initiator_count}
@@ -51,6 +51,7 @@ same_generation registrations reservation for_remaining = Ok (record {
   for_removed = None;
   for_remaining = for_remaining;
   increments_generation = false;
+  aptpl = None;
 })
 
 -- The registrations and the reservation afterwards, and the conditions that are raised for each
@@ -64,6 +65,20 @@ next_generation registrations reservation for_removed for_remaining = Ok (record
   for_removed = for_removed;
   for_remaining = for_remaining;
   increments_generation = true;
+  aptpl = None;
+})
+
+-- So it is where an initiator registers or unregisters, and APTPL of its parameter list says from
+-- then on whether registrations and reservation persist through a power loss.
+abbrev pub registered : List Registration → Option Reservation
+    → (for_remaining : Option UnitAttention) → (aptpl : Bool) → Outcome
+registered registrations reservation for_remaining aptpl = Ok (record {
+  registrations = registrations;
+  reservation = reservation;
+  for_removed = None;
+  for_remaining = for_remaining;
+  increments_generation = true;
+  aptpl = Some aptpl;
 })
 
 -- Of the cases of a service action the first that applies decides.
@@ -100,17 +115,17 @@ released_unless_type held type = if has_type held type then None else Some Reser
 -- ---- The service actions. SARK is the SERVICE ACTION RESERVATION KEY
 
 -- REGISTER and REGISTER AND IGNORE EXISTING KEY (SPC-4, 5.13, registering and unregistering).
-unfoldable pub register_cases : ReservationState → (caller sark : ℕ) → List Case
-register_cases state caller sark =
+unfoldable pub register_cases : ReservationState → (caller sark : ℕ) → (aptpl : Bool) → List Case
+register_cases state caller sark aptpl =
     let all = state.registrations in
     let held = state.reservation in
     let known = is_registered all caller in
     let rest = without_initiator all caller in
     when (not known && sark == 0) (same_generation all held None)
     ∷ when (not known && length all == max_registrations) (Err NoRoom)
-    ∷ when (not known) (next_generation (with_registration all caller sark) held None None)
-    ∷ when (not (sark == 0)) (next_generation (with_key_replaced all caller sark) held None None)
-    ∷ otherwise (next_generation rest (while_held held rest) None (released_unless_held held rest))
+    ∷ when (not known) (registered (with_registration all caller sark) held None aptpl)
+    ∷ when (not (sark == 0)) (registered (with_key_replaced all caller sark) held None aptpl)
+    ∷ otherwise (registered rest (while_held held rest) (released_unless_held held rest) aptpl)
     ∷ []
 
 -- RESERVE (SPC-4, 5.13, reserving).
@@ -183,17 +198,18 @@ with_type None outcome = Err BadType
 with_type (Some type) outcome = outcome type
 
 abbrev pub action_outcome : ReservationState → (caller : ℕ) → OutAction → Option ReservationType
-    → (sark : ℕ) → Outcome
-action_outcome state i Register type sark = first_case (register_cases state i sark)
-action_outcome state i Reserve type sark =
+    → (sark : ℕ) → (aptpl : Bool) → Outcome
+action_outcome state i Register type sark aptpl = first_case (register_cases state i sark aptpl)
+action_outcome state i Reserve type sark aptpl =
     with_type type (λ type. first_case (reserve_cases state i type))
-action_outcome state i Release type sark =
+action_outcome state i Release type sark aptpl =
     with_type type (λ type. first_case (release_cases state i type))
-action_outcome state i Clear type sark = cleared
-action_outcome state i Preempt type sark = first_case (preempt_cases state i type sark)
-action_outcome state i PreemptAndAbort type sark = first_case (preempt_cases state i type sark)
-action_outcome state i RegisterAndIgnoreExistingKey type sark =
-    first_case (register_cases state i sark)
+action_outcome state i Clear type sark aptpl = cleared
+action_outcome state i Preempt type sark aptpl = first_case (preempt_cases state i type sark)
+action_outcome state i PreemptAndAbort type sark aptpl =
+    first_case (preempt_cases state i type sark)
+action_outcome state i RegisterAndIgnoreExistingKey type sark aptpl =
+    first_case (register_cases state i sark aptpl)
 
 -- The RESERVATION KEY has to be the caller's. To register for the first time it has to be 0, and
 -- REGISTER AND IGNORE EXISTING KEY ignores it.
@@ -211,7 +227,7 @@ outcome state caller action scope_type list =
     first_case (
     when (has_unsupported_flag action list) (Err (Field flags_at))
     ∷ when (not accepts) (Err Conflict)
-    ∷ otherwise (action_outcome state caller action type list.service_action_key)
+    ∷ otherwise (action_outcome state caller action type list.service_action_key list.aptpl)
     ∷ [])
 
 -- ---- What it leaves
@@ -241,11 +257,13 @@ abbrev pub generation_after : (increments : Bool) → (generation : ℕ) → ℕ
 generation_after increments generation =
     if increments then (generation + 1) % 2 ^ 32 else generation
 
--- A command that is refused changes nothing.
+-- Only a command that registers or unregisters decides on what a power loss leaves. A command that
+-- is refused changes nothing.
 abbrev pub state_after : ReservationState → Outcome → ReservationState
 state_after state (Ok change) = record {
   registrations = change.registrations;
   reservation = change.reservation;
   generation = generation_after change.increments_generation state.generation;
+  persists_through_power_loss = unwrap_or change.aptpl state.persists_through_power_loss;
 }
 state_after state (Err fault) = state

@@ -15,4 +15,6 @@ pub struct ReservationChange {
     pub(crate) for_remaining: Option<UnitAttention>,
     // Whether PRGENERATION is incremented.
     pub(crate) increments_generation: bool,
+    // APTPL of a command that registers or unregisters.
+    pub(crate) aptpl: Option<bool>,
 }

@@ -8,7 +8,7 @@ mod reserve;
 
 ghost use Rattle.std.specs.Prelude.{◌≡◌, Ok, None};
 ghost use Rattle.sg_units.specs.Access.{allows, standing_of};
-ghost use Rattle.sg_units.specs.ReserveOut.{next_generation, same_generation};
+ghost use Rattle.sg_units.specs.ReserveOut.{registered, same_generation};
 ghost use Rattle.sg_units.specs.Reservations.{empty_state, has_type, is_holder, while_held};
 
 use crate::access::{Standing, highest_class, is_within};
@@ -17,12 +17,14 @@ use crate::reservation_change::ReservationChange;
 use crate::{Reservation, ReservationType};
 use sg_wire::{Class, Initiator};
 
-// The registrations, the reservation that is held, and PRGENERATION.
+// The registrations, the reservation that is held, PRGENERATION, and whether a power loss leaves
+// registrations and reservation.
 #[derive(Drop)]
 pub(crate) struct ReservationState {
     pub(crate) registrations: Registrations,
     pub(crate) reservation: Option<Reservation>,
     pub(crate) generation: u32,
+    pub(crate) persists_through_power_loss: bool,
 }
 
 impl ReservationState {
@@ -33,6 +35,7 @@ impl ReservationState {
             registrations: Registrations::new(),
             reservation: None,
             generation: 0,
+            persists_through_power_loss: false,
         }
     }
 
@@ -103,12 +106,13 @@ impl ReservationState {
             for_removed: None,
             for_remaining: None,
             increments_generation: false,
+            aptpl: None,
         }
     }
 
-    // The registrations change, the reservation stays, and nothing is raised.
-    fn with_registrations(&self, registrations: Registrations) -> ReservationChange
-        ensures { Ok result ≡ next_generation registrations self.now.reservation None None }
+    // An initiator registers: the reservation stays, and nothing is raised.
+    fn with_registrations(&self, registrations: Registrations, aptpl: bool) -> ReservationChange
+        ensures { Ok result ≡ registered registrations self.now.reservation None aptpl }
     {
         ReservationChange {
             registrations,
@@ -116,6 +120,7 @@ impl ReservationState {
             for_removed: None,
             for_remaining: None,
             increments_generation: true,
+            aptpl: Some(aptpl),
         }
     }
 }

@@ -4,8 +4,8 @@ use crate::{OutFault, OutList, Raised, ReservationChange};
 use sg_wire::{Class, Cut, Initiator, OutAction};
 use std::marker::Model;
 
-/// Which initiators are registered, under which keys, who holds a persistent reservation, and
-/// PRGENERATION (SPC-4, 5.13).
+/// Which initiators are registered, under which keys, who holds a persistent reservation,
+/// PRGENERATION, and whether a power loss leaves these (SPC-4, 5.13).
 #[derive(Drop)]
 pub struct Reservations {
     state: ReservationState,
@@ -26,6 +26,7 @@ ghost use Rattle.std.specs.Prelude.{◌≡◌, Ok, IfOk};
 ghost use Rattle.sg_wire.specs.Cut.{Puts};
 ghost use Rattle.sg_units.specs.Access.{allows};
 ghost use Rattle.sg_units.specs.FullStatus.{full_status_data};
+ghost use Rattle.sg_units.specs.PowerOn.{after_power_on};
 ghost use Rattle.sg_units.specs.ReserveIn.{capabilities_data, keys_data};
 ghost use Rattle.sg_units.specs.ReserveIn.{reservation_data};
 ghost use Rattle.sg_units.specs.ReserveOut.{IsConsistentChange, generation_after, outcome};
@@ -74,6 +75,9 @@ impl Reservations {
             generation: generation_after(change.increments_generation, self.state.generation),
             registrations: change.registrations,
             reservation: change.reservation,
+            persists_through_power_loss: change
+                .aptpl
+                .unwrap_or(self.state.persists_through_power_loss),
         };
         raised
     }
@@ -98,6 +102,19 @@ impl Reservations {
         let _ = &self.state;
         let change = self.change(caller, action, scope_type, list)?;
         Ok(self.apply(caller, change))
+    }
+
+    /// A power cycle: PRGENERATION is 0 after it, and registrations and reservation are as they were
+    /// where they persist through a power loss, and gone where not (SPC-4, 5.13).
+    pub fn power_on(&mut self)
+        ensures state { self.new ≡ after_power_on self.old }
+        ensures consistent { IsConsistent self.new }
+    {
+        if self.state.persists_through_power_loss {
+            self.state.generation = 0;
+        } else {
+            self.state = ReservationState::new();
+        }
     }
 
     /// Whether the reservation that is held, if any, allows an initiator's command of a class.

@@ -27,7 +27,7 @@ impl ReservationState {
             return Err(OutFault::Conflict);
         }
         let kind = ReservationType::with_scope_and_type(scope_type);
-        self.action_outcome(caller, action, kind, list.service_action_key)
+        self.action_outcome(caller, action, kind, list)
     }
 
     // Whether a key is the caller's, or it needs none.
@@ -53,18 +53,20 @@ impl ReservationState {
         caller: Initiator,
         action: OutAction,
         kind: Option<ReservationType>,
-        sark: u64,
+        list: &OutList,
     ) -> Result<ReservationChange, OutFault>
-        ensures { result ≡ action_outcome self.now caller action kind sark }
+        ensures { result ≡ action_outcome self.now caller action kind
+            list.now.service_action_key list.now.aptpl }
     {
+        let sark = list.service_action_key;
         match action {
-            OutAction::Register => self.register(caller, sark),
+            OutAction::Register => self.register(caller, sark, list.aptpl),
             OutAction::Reserve => { self.reserve(caller, kind.ok_or(OutFault::BadType)?) }
             OutAction::Release => { self.release(caller, kind.ok_or(OutFault::BadType)?) }
             OutAction::Clear => Ok(self.clear()),
             OutAction::Preempt => self.preempt(caller, kind, sark),
             OutAction::PreemptAndAbort => self.preempt(caller, kind, sark),
-            OutAction::RegisterAndIgnoreExistingKey => self.register(caller, sark),
+            OutAction::RegisterAndIgnoreExistingKey => self.register(caller, sark, list.aptpl),
         }
     }
 }

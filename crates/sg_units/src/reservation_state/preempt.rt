@@ -64,6 +64,7 @@ impl ReservationState {
             for_removed: Some(UnitAttention::RegistrationsPreempted),
             for_remaining,
             increments_generation: true,
+            aptpl: None,
         })
     }
 
@@ -80,6 +81,7 @@ impl ReservationState {
             for_removed: Some(UnitAttention::RegistrationsPreempted),
             for_remaining: None,
             increments_generation: true,
+            aptpl: None,
         }
     }
 

@@ -1,6 +1,6 @@
 // REGISTER and REGISTER AND IGNORE EXISTING KEY.
-ghost use Rattle.std.specs.Prelude.{◌≡◌, Ok, None};
-ghost use Rattle.sg_units.specs.ReserveOut.{first_case, next_generation, register_cases};
+ghost use Rattle.std.specs.Prelude.{◌≡◌, Ok};
+ghost use Rattle.sg_units.specs.ReserveOut.{first_case, register_cases, registered};
 ghost use Rattle.sg_units.specs.ReserveOut.{released_unless_held};
 ghost use Rattle.sg_units.specs.Registrations.{without_initiator};
 ghost use Rattle.sg_units.specs.Reservations.{while_held};
@@ -12,20 +12,22 @@ use crate::{OutFault, Reservation, UnitAttention};
 use sg_wire::Initiator;
 
 impl ReservationState {
-    // Registers an initiator, replaces its key, or with key 0 unregisters it.
+    // Registers an initiator, replaces its key, or with key 0 unregisters it. From then on APTPL
+    // decides what a power loss leaves.
     #[tactic(auto, unfolding(crate::specs::ReserveOut::register_cases))]
     pub(super) fn register(
         &self,
         caller: Initiator,
         sark: u64,
+        aptpl: bool,
     ) -> Result<ReservationChange, OutFault>
-        ensures { result ≡ first_case (register_cases self.now caller sark) }
+        ensures { result ≡ first_case (register_cases self.now caller sark aptpl) }
     {
         if self.registrations.has(caller) {
             return Ok(if sark == 0 {
-                self.unregistered(caller)
+                self.unregistered(caller, aptpl)
             } else {
-                self.with_registrations(self.registrations.with_key_replaced(caller, sark))
+                self.with_registrations(self.registrations.with_key_replaced(caller, sark), aptpl)
             });
         }
         if sark == 0 {
@@ -36,14 +38,14 @@ impl ReservationState {
         }
         let mut registrations = self.registrations.copied();
         registrations.register(caller, sark);
-        Ok(self.with_registrations(registrations))
+        Ok(self.with_registrations(registrations, aptpl))
     }
 
     // An initiator is unregistered. The reservation ends where no registrant holds it any more.
-    fn unregistered(&self, caller: Initiator) -> ReservationChange
+    fn unregistered(&self, caller: Initiator, aptpl: bool) -> ReservationChange
         ensures { let rest = without_initiator self.now.registrations caller in
-            Ok result ≡ next_generation rest (while_held self.now.reservation rest) None
-            (released_unless_held self.now.reservation rest) }
+            Ok result ≡ registered rest (while_held self.now.reservation rest)
+            (released_unless_held self.now.reservation rest) aptpl }
     {
         let mut registrations = self.registrations.copied();
         registrations.remove(caller);
@@ -55,6 +57,7 @@ impl ReservationState {
             for_removed: None,
             for_remaining,
             increments_generation: true,
+            aptpl: Some(aptpl),
         }
     }
 

@@ -63,6 +63,7 @@ impl ReservationState {
             for_removed: Some(UnitAttention::ReservationsPreempted),
             for_remaining: None,
             increments_generation: true,
+            aptpl: None,
         }
     }
 }
