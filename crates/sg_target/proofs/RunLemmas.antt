@@ -1,33 +1,56 @@
--- A list of commands goes on by one.
-use Rattle.std.proofs.Common.{◌≡◌, ℕ, zero, suc, List, [], ◌∷◌, ◌++◌, length, take, drop, refl, sym}
+-- A list of events goes on by one.
+use Rattle.std.proofs.Common.{◌≡◌, ◌<◌, ◌+◌, ℕ, zero, suc, List, [], ◌∷◌, ◌++◌, length, map, take}
+use Rattle.std.proofs.Common.{drop, get_or, refl, sym}
 use Rattle.std.proofs.Common.{ap, subst, ◌∙◌, append_assoc, Result, Ok, Err}
 use Rattle.std.specs.Prelude.{OnErr}
 use Rattle.std.proofs.Math.Seq.{take-append_seam}
-use Rattle.std.proofs.lemmas.List.{map-append}
+use Rattle.std.proofs.lemmas.List.{map-append, map_more}
 use Rattle.sg_store.specs.Meter.{Meter}
+use Rattle.sg_units.proofs.AttentionLemmas.{ArePending-power_on}
+use Rattle.sg_units.proofs.PowerLemmas.{consistent-power_on}
+use Rattle.sg_target.specs.PowerCycle.{after_power_cycle}
 use Rattle.sg_target.specs.Ranges.{CostBounds, IsCharged}
 use Rattle.sg_target.specs.Reply.{Carries}
-use Rattle.sg_target.specs.Runs.{step_of, ranges_of_call, state_after_all, answers, Exchange}
+use Rattle.sg_target.specs.Runs.{step_of, ranges_of_call, state_after_event, state_after_events}
+use Rattle.sg_target.specs.Runs.{answers_to_events, Exchange}
 use Rattle.sg_target.specs.Runs.{exchange, answer_in, AreCharged, HaveSizes, Exchanged}
 use Rattle.sg_target.specs.State.{State, IsWithinLimits}
 use Rattle.sg_target.specs.Step.{Answer}
 use Rattle.sg_target.specs.declared.call.Call.{Call}
+use Rattle.sg_target.specs.declared.event.Event.{Event}
+use Rattle.sg_target.specs.declared.event.Event.TheVariants as event
 use Rattle.sg_target.specs.declared.reply.Reply.{Reply}
 use Rattle.sg_target.proofs.LimitLemmas.{step-within}
 
-pub state-more : (state : State) (calls : List Call) (call : Call)
-    → state_after_all state (calls ++ call ∷ []) ≡
-    (step_of (state_after_all state calls) call).state
-state-more state [] call = refl
-state-more state (first ∷ calls) call = state-more (step_of state first).state calls call
+pub state-more : (state : State) (events : List Event) (last : Event)
+    → state_after_events state (events ++ last ∷ []) ≡
+    state_after_event (state_after_events state events) last
+state-more state [] last = refl
+state-more state (first ∷ events) last = state-more (state_after_event state first) events last
 
-answers-more : (state : State) (calls : List Call) (call : Call)
-    → answers state (calls ++ call ∷ []) ≡
-    answers state calls ++ (step_of (state_after_all state calls) call).answer ∷ []
+answers-more : (state : State) (events : List Event) (call : Call)
+    → answers_to_events state (events ++ event.Call call ∷ []) ≡
+    answers_to_events state events ++ (step_of (state_after_events state events) call).answer ∷ []
 answers-more state [] call = refl
-answers-more state (first ∷ calls) call =
+answers-more state (event.Call first ∷ events) call =
     ap (λ (xs : List Answer). (step_of state first).answer ∷ xs)
-    (answers-more (step_of state first).state calls call)
+    (answers-more (step_of state first).state events call)
+answers-more state (event.Power ∷ events) call = answers-more (after_power_cycle state) events call
+
+answers-power : (state : State) (events : List Event)
+    → answers_to_events state (events ++ event.Power ∷ []) ≡ answers_to_events state events
+answers-power state [] = refl
+answers-power state (event.Call first ∷ events) =
+    ap (λ (xs : List Answer). (step_of state first).answer ∷ xs)
+    (answers-power (step_of state first).state events)
+answers-power state (event.Power ∷ events) = answers-power (after_power_cycle state) events
+
+-- the events of a list, one item further
+pub events-more : {X : Type 0} (f : X → Event) (xs : List X) (i : ℕ) (x : X) (last : Event)
+    → i < length xs → x ≡ get_or xs i x → f x ≡ last
+    → map f (take (i + 1) xs) ≡ map f (take i xs) ++ last ∷ []
+events-more f xs i x last here is e =
+    map_more f xs i x here ∙ ap (λ y. map f (take i xs) ++ y ∷ []) (ap f (sym is) ∙ e)
 
 sizes-more : (delivered : List Exchange) (last : Exchange) → HaveSizes delivered
     → last.reply.data_in ≡ length last.data_in → HaveSizes (delivered ++ last ∷ [])
@@ -35,12 +58,12 @@ sizes-more [] last sizes size = (size, tt)
 sizes-more (first ∷ delivered) last sizes size = (sizes.0, sizes-more delivered last sizes.1 size)
 
 module _ (bounds : CostBounds) where
-  charged-more : (state : State) (calls : List Call) (delivered : List Exchange) (call : Call)
+  charged-more : (state : State) (events : List Event) (delivered : List Exchange) (call : Call)
       (last : Exchange) (before between after : Meter)
-      → AreCharged bounds state calls delivered before between
-      → IsCharged bounds (state_after_all state calls).disk.pool
-      (ranges_of_call (state_after_all state calls) call) between after last.reply
-      → AreCharged bounds state (calls ++ call ∷ []) (delivered ++ last ∷ []) before after
+      → AreCharged bounds state events delivered before between
+      → IsCharged bounds (state_after_events state events).disk.pool
+      (ranges_of_call (state_after_events state events) call) between after last.reply
+      → AreCharged bounds state (events ++ event.Call call ∷ []) (delivered ++ last ∷ []) before after
   charged-more state [] [] call last before between after so_far h = (
     after,
     subst (λ (m : Meter). IsCharged bounds state.disk.pool
@@ -48,30 +71,60 @@ module _ (bounds : CostBounds) where
     refl,
   )
   charged-more state [] (u ∷ delivered) call last before between after so_far h = absurd so_far
-  charged-more state (first ∷ calls) [] call last before between after so_far h = absurd so_far
-  charged-more state (first ∷ calls) (u ∷ delivered) call last before between after so_far h = (
+  charged-more state (event.Call first ∷ events) [] call last before between after so_far h =
+      absurd so_far
+  charged-more state (event.Call first ∷ events) (u ∷ delivered) call last before between after
+      so_far h = (
+        so_far.0,
+        so_far.1,
+        charged-more (step_of state first).state events delivered call last
+            so_far.0 between after so_far.2 h,
+      )
+  charged-more state (event.Power ∷ events) delivered call last before between after so_far h =
+      charged-more (after_power_cycle state) events delivered call last before between after so_far h
+
+  charged-power : (state : State) (events : List Event) (delivered : List Exchange)
+      (before after : Meter) → AreCharged bounds state events delivered before after
+      → AreCharged bounds state (events ++ event.Power ∷ []) delivered before after
+  charged-power state [] [] before after so_far = so_far
+  charged-power state [] (u ∷ delivered) before after so_far = absurd so_far
+  charged-power state (event.Call first ∷ events) [] before after so_far = absurd so_far
+  charged-power state (event.Call first ∷ events) (u ∷ delivered) before after so_far = (
     so_far.0,
     so_far.1,
-    charged-more (step_of state first).state calls delivered call last
-        so_far.0 between after so_far.2 h,
+    charged-power (step_of state first).state events delivered so_far.0 after so_far.2,
   )
+  charged-power state (event.Power ∷ events) delivered before after so_far =
+      charged-power (after_power_cycle state) events delivered before after so_far
 
-  pub exchanged-more : (state : State) (calls : List Call) (before after : List Exchange)
+  pub exchanged-more : (state : State) (events : List Event) (before after : List Exchange)
       (meter meter' meter'' : Meter) (call : Call) (last : Exchange)
-      → Exchanged bounds state calls before after meter meter'
-      → answer_in last ≡ (step_of (state_after_all state calls) call).answer
+      → Exchanged bounds state events before after meter meter'
+      → answer_in last ≡ (step_of (state_after_events state events) call).answer
       → last.reply.data_in ≡ length last.data_in
-      → IsCharged bounds (state_after_all state calls).disk.pool
-      (ranges_of_call (state_after_all state calls) call) meter' meter'' last.reply
-      → Exchanged bounds state (calls ++ call ∷ []) before (after ++ last ∷ []) meter meter''
-  exchanged-more state calls before after meter meter' meter'' call last so_far is size h = record {
+      → IsCharged bounds (state_after_events state events).disk.pool
+      (ranges_of_call (state_after_events state events) call) meter' meter'' last.reply
+      → Exchanged bounds state (events ++ event.Call call ∷ []) before (after ++ last ∷ [])
+      meter meter''
+  exchanged-more state events before after meter meter' meter'' call last so_far is size h = record {
     delivered = so_far.delivered ++ last ∷ [];
     adds = ap (λ xs. xs ++ last ∷ []) so_far.adds ∙ append_assoc before so_far.delivered (last ∷ []);
     answered = map-append answer_in so_far.delivered (last ∷ [])
         ∙ ap (λ xs. xs ++ answer_in last ∷ []) so_far.answered
-        ∙ ap (λ a. answers state calls ++ a ∷ []) is ∙ sym (answers-more state calls call);
+        ∙ ap (λ a. answers_to_events state events ++ a ∷ []) is ∙ sym (answers-more state events call);
     sizes = sizes-more so_far.delivered last so_far.sizes size;
-    charged = charged-more state calls so_far.delivered call last meter meter' meter'' so_far.charged h;
+    charged = charged-more state events so_far.delivered call last meter meter' meter'' so_far.charged h;
+  }
+
+  pub exchanged-power : (state : State) (events : List Event) (before after : List Exchange)
+      (meter meter' : Meter) → Exchanged bounds state events before after meter meter'
+      → Exchanged bounds state (events ++ event.Power ∷ []) before after meter meter'
+  exchanged-power state events before after meter meter' so_far = record {
+    delivered = so_far.delivered;
+    adds = so_far.adds;
+    answered = so_far.answered ∙ sym (answers-power state events);
+    sizes = so_far.sizes;
+    charged = charged-power state events so_far.delivered meter meter' so_far.charged;
   }
 
 -- what holds anyhow holds on an error
@@ -79,14 +132,24 @@ pub on-err : {T E : Type 0} (r : Result T E) (P : Type 0) → P → OnErr r P
 on-err (Ok x) P p = tt
 on-err (Err e) P p = p
 
--- no table passes its limit on the way
-pub all-within : (state : State) (calls : List Call) (n : ℕ) → IsWithinLimits state
-    → IsWithinLimits (state_after_all state (take n calls))
-all-within state calls zero h = h
+-- no table passes its limit in a power cycle
+pub cycle-within : (state : State) → IsWithinLimits state → IsWithinLimits (after_power_cycle state)
+cycle-within state h = record {
+  mapped = h.mapped;
+  pending = ArePending-power_on;
+  registered = consistent-power_on state.reservations h.registered;
+}
+
+-- nor on the way
+pub all-within : (state : State) (events : List Event) (n : ℕ) → IsWithinLimits state
+    → IsWithinLimits (state_after_events state (take n events))
+all-within state events zero h = h
 all-within state [] (suc n) h = h
-all-within state (call ∷ calls) (suc n) h =
-    all-within (step_of state call).state calls n
+all-within state (event.Call call ∷ events) (suc n) h =
+    all-within (step_of state call).state events n
     (step-within state call.initiator call.cdb.now call.data_out.now h)
+all-within state (event.Power ∷ events) (suc n) h =
+    all-within (after_power_cycle state) events n (cycle-within state h)
 
 -- the data-in of a reply is at the beginning of the buffer
 pub answer-carried : (answer : Answer) (reply : Reply) (before after : List ℕ)

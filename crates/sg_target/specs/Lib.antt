@@ -16,6 +16,7 @@ pub mod Status
 pub mod Step
 pub mod Reply
 pub mod Ranges
+pub mod PowerCycle
 pub mod Runs
 pub mod Target
 -- What private contracts cite alone.

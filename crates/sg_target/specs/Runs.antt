@@ -1,12 +1,17 @@
--- What a list of commands does: one step after another.
+-- What a list of events does: one after another.
 use Rattle.std.specs.Prelude.{◌≡◌, ◌<◌, ℕ, ◌+◌, List, [], ◌∷◌, ◌++◌, length, map, take}
 use Rattle.sg_store.specs.Meter.{Meter}
 use Rattle.sg_target.specs.Effect.{Range}
+use Rattle.sg_target.specs.PowerCycle.{after_power_cycle}
 use Rattle.sg_target.specs.Ranges.{CostBounds, IsCharged, ranges}
 use Rattle.sg_target.specs.State.{State}
 use Rattle.sg_target.specs.Step.{Answer, Step, step}
 use Rattle.sg_target.specs.declared.call.Call.{Call}
+use Rattle.sg_target.specs.declared.event.Event.{Event}
+use Rattle.sg_target.specs.declared.event.Event.TheVariants as event
 use Rattle.sg_target.specs.declared.reply.Reply.{Reply}
+
+-- ---- Events
 
 abbrev pub step_of : State → Call → Step
 step_of state call = step state call.initiator call.cdb.now call.data_out.now
@@ -14,15 +19,36 @@ step_of state call = step state call.initiator call.cdb.now call.data_out.now
 abbrev pub ranges_of_call : State → Call → List Range
 ranges_of_call state call = ranges state call.initiator call.cdb.now call.data_out.now
 
--- The state after all of them.
-abbrev pub state_after_all : State → List Call → State
-state_after_all state [] = state
-state_after_all state (call ∷ calls) = state_after_all (step_of state call).state calls
+abbrev pub state_after_event : State → Event → State
+state_after_event state (event.Call call) = (step_of state call).state
+state_after_event state event.Power = after_power_cycle state
 
--- The answers, in order.
+-- The state after all of them.
+abbrev pub state_after_events : State → List Event → State
+state_after_events state [] = state
+state_after_events state (first ∷ events) =
+    state_after_events (state_after_event state first) events
+
+-- The answers to the commands among them, in order.
+abbrev pub answers_to_events : State → List Event → List Answer
+answers_to_events state [] = []
+answers_to_events state (event.Call call ∷ events) =
+    (step_of state call).answer ∷ answers_to_events (step_of state call).state events
+answers_to_events state (event.Power ∷ events) =
+    answers_to_events (after_power_cycle state) events
+
+-- ---- Commands alone
+
+abbrev pub all_calls : List Call → List Event
+all_calls calls = map (λ call. event.Call call) calls
+
+abbrev pub state_after_all : State → List Call → State
+state_after_all state calls = state_after_events state (all_calls calls)
+
 abbrev pub answers : State → List Call → List Answer
-answers state [] = []
-answers state (call ∷ calls) = (step_of state call).answer ∷ answers (step_of state call).state calls
+answers state calls = answers_to_events state (all_calls calls)
+
+-- ---- Replies
 
 -- A reply that was delivered to a sink, with its data-in.
 pub record Exchange : Type 0 where
@@ -38,41 +64,43 @@ answer_in e = record { status = e.reply.status; sense = e.reply.sense; data_in =
 
 -- Each reply is charged for its command's ranges, from the meter that the one before it left: so
 -- the store counts nothing but what replies contain, and its counts are restarted for a command
--- alone.
-abbrev pub AreCharged : CostBounds → State → List Call → List Exchange → (before after : Meter) → Type 0
+-- alone. A power cycle has no reply and leaves the meter.
+abbrev pub AreCharged : CostBounds → State → List Event → List Exchange → (before after : Meter) → Type 0
 AreCharged bounds state [] [] before after = after ≡ before
-AreCharged bounds state (call ∷ calls) (e ∷ rest) before after =
+AreCharged bounds state [] (e ∷ rest) before after = ⊥
+AreCharged bounds state (event.Call call ∷ events) (e ∷ rest) before after =
     (between : Meter)
     × IsCharged bounds state.disk.pool (ranges_of_call state call) before between e.reply
-    × AreCharged bounds (step_of state call).state calls rest between after
-AreCharged bounds state [] (e ∷ rest) before after = ⊥
-AreCharged bounds state (call ∷ calls) [] before after = ⊥
+    × AreCharged bounds (step_of state call).state events rest between after
+AreCharged bounds state (event.Call call ∷ events) [] before after = ⊥
+AreCharged bounds state (event.Power ∷ events) delivered before after =
+    AreCharged bounds (after_power_cycle state) events delivered before after
 
 -- Each reply has the number of bytes of data-in that it is delivered with.
 abbrev pub HaveSizes : List Exchange → Type 0
 HaveSizes [] = Unit {0}
 HaveSizes (e ∷ rest) = (e.reply.data_in ≡ length e.data_in) × HaveSizes rest
 
--- Calls were exchanged for replies that a sink has taken: their answers in order, each charged to
--- the store's meter.
-pub record Exchanged (bounds : CostBounds) (state : State) (calls : List Call)
+-- Events happened, and their commands were exchanged for replies that a sink has taken: their
+-- answers in order, each charged to the store's meter.
+pub record Exchanged (bounds : CostBounds) (state : State) (events : List Event)
     (before after : List Exchange) (meter meter' : Meter) : Type 0 where
   pub delivered : List Exchange
   pub adds : after ≡ before ++ delivered
-  pub answered : map answer_in delivered ≡ answers state calls
+  pub answered : map answer_in delivered ≡ answers_to_events state events
   pub sizes : HaveSizes delivered
-  pub charged : AreCharged bounds state calls delivered meter meter'
+  pub charged : AreCharged bounds state events delivered meter meter'
 
--- A sink has refused the reply to the call at an index. It has taken those to the calls before;
--- with the refused one it would have taken those up to that call, and the state is the one after
+-- A sink has refused the reply to the event at an index. It has taken those to the events before;
+-- with the refused one it would have taken those up to that event, and the state is the one after
 -- it.
-pub record Stopped (bounds : CostBounds) (state : State) (calls : List Call)
+pub record Stopped (bounds : CostBounds) (state : State) (events : List Event)
     (before after : List Exchange) (meter meter' : Meter) (state' : State) : Type 0 where
   pub index : ℕ
-  pub in_range : index < length calls
+  pub in_range : index < length events
   pub between : Meter
-  pub took : Exchanged bounds state (take index calls) before after meter between
+  pub took : Exchanged bounds state (take index events) before after meter between
   pub refused : Exchange
-  pub with_refused : Exchanged bounds state (take (index + 1) calls)
+  pub with_refused : Exchanged bounds state (take (index + 1) events)
       before (after ++ refused ∷ []) meter meter'
-  pub state_is : state' ≡ state_after_all state (take (index + 1) calls)
+  pub state_is : state' ≡ state_after_events state (take (index + 1) events)

@@ -1,10 +1,13 @@
-// Executes lists of commands.
-ghost use Rattle.std.specs.Prelude.{◌≡◌, ℕ, ◌+◌, ◌≤◌, List, [], ◌∷◌, ◌++◌, length, take, OnOk, OnErr};
+// Executes lists of commands, with power cycles among them.
+ghost use Rattle.std.specs.Prelude.{◌≡◌, ℕ, ◌+◌, ◌≤◌, List, [], ◌∷◌, ◌++◌, length, map, take};
+ghost use Rattle.std.specs.Prelude.{OnOk, OnErr};
 ghost use Rattle.sg_target.specs.Ranges.{cost_bounds};
-ghost use Rattle.sg_target.specs.Runs.{Exchange, Exchanged, Stopped, exchange, state_after_all};
+ghost use Rattle.sg_target.specs.Runs.{Exchange, Exchanged, Stopped, all_calls, exchange};
+ghost use Rattle.sg_target.specs.Runs.{state_after_all, state_after_events};
 ghost use Rattle.sg_target.specs.State.{IsWithinLimits};
 
 use crate::call::Call;
+use crate::event::{Event, ToEvent};
 use crate::reply::Reply;
 use crate::target::{BUFFER_LENGTH, Target};
 use sg_store::Store;
@@ -48,25 +51,81 @@ impl<S: Store> Target<S> {
 
         // The sink has taken the replies to all calls, each charged to the store, and the state is
         // the one after them.
-        ensures took { OnOk result (Exchanged (cost_bounds S.price S.least) self.old.state calls.now
+        ensures took { OnOk result (Exchanged (cost_bounds S.price S.least) self.old.state (all_calls calls.now)
             (K.taken sink.old) (K.taken sink.new) self.old.meter self.new.meter) }
         ensures state { OnOk result (self.new.state ≡ state_after_all self.old.state calls.now) }
         ensures sound { OnOk result (K.faults sink.new ≡ K.faults sink.old) }
 
         // Or it has refused one.
-        ensures stopped { OnErr result (Stopped (cost_bounds S.price S.least) self.old.state calls.now
+        ensures stopped { OnErr result (Stopped (cost_bounds S.price S.least) self.old.state (all_calls calls.now)
             (K.taken sink.old) (K.taken sink.new) self.old.meter self.new.meter self.new.state) }
         ensures fault { OnErr result (K.faults sink.new ≡ K.faults sink.old + 1) }
 
         // No table passes its limit on the way.
-        ensures limits { (n : ℕ) → IsWithinLimits (state_after_all self.old.state (take n calls.now)) }
+        ensures limits { (n : ℕ) → IsWithinLimits (state_after_events self.old.state (take n (all_calls calls.now))) }
+    {
+        self.run_list(calls, buf, sink)
+    }
+
+    /// Lets events happen in turn: executes commands as [`Target::run`] does, and power cycles
+    /// between them. A power cycle delivers nothing to the sink.
+    ///
+    /// # Errors
+    /// The sink refused a reply. The events up to that one have happened, and none after it.
+    pub fn run_events<K: Sink>(
+        &mut self,
+        events: &[Event<'_>],
+        buf: &mut [u8],
+        sink: &mut K,
+    ) -> Result<(), K::Fault>
+        requires { BUFFER_LENGTH ≤ length buf.old }
+
+        // The sink has taken the replies to all commands, each charged to the store, and the state
+        // is the one after the events.
+        ensures took { OnOk result (Exchanged (cost_bounds S.price S.least) self.old.state events.now
+            (K.taken sink.old) (K.taken sink.new) self.old.meter self.new.meter) }
+        ensures state { OnOk result (self.new.state ≡ state_after_events self.old.state events.now) }
+        ensures sound { OnOk result (K.faults sink.new ≡ K.faults sink.old) }
+
+        // Or it has refused one.
+        ensures stopped { OnErr result (Stopped (cost_bounds S.price S.least) self.old.state events.now
+            (K.taken sink.old) (K.taken sink.new) self.old.meter self.new.meter self.new.state) }
+        ensures fault { OnErr result (K.faults sink.new ≡ K.faults sink.old + 1) }
+
+        // No table passes its limit on the way.
+        ensures limits { (n : ℕ) → IsWithinLimits (state_after_events self.old.state (take n events.now)) }
+    {
+        self.run_list(events, buf, sink)
+    }
+
+    // What both do.
+    fn run_list<E: ToEvent, K: Sink>(
+        &mut self,
+        list: &[E],
+        buf: &mut [u8],
+        sink: &mut K,
+    ) -> Result<(), K::Fault>
+        requires { BUFFER_LENGTH ≤ length buf.old }
+        ensures took { OnOk result (Exchanged (cost_bounds S.price S.least) self.old.state (map E.event list.now)
+            (K.taken sink.old) (K.taken sink.new) self.old.meter self.new.meter) }
+        ensures state { OnOk result (self.new.state ≡ state_after_events self.old.state (map E.event list.now)) }
+        ensures sound { OnOk result (K.faults sink.new ≡ K.faults sink.old) }
+        ensures stopped { OnErr result (Stopped (cost_bounds S.price S.least) self.old.state (map E.event list.now)
+            (K.taken sink.old) (K.taken sink.new) self.old.meter self.new.meter self.new.state) }
+        ensures fault { OnErr result (K.faults sink.new ≡ K.faults sink.old + 1) }
+        ensures limits { (n : ℕ) → IsWithinLimits (state_after_events self.old.state (take n (map E.event list.now))) }
     {
         // The type's invariant is known where a field is used: the tables are within their limits
         // before the first command.
         let _ = &self.store;
-        for call in calls {
-            let reply = self.execute(call.initiator, call.cdb, call.data_out, buf);
-            sink.take(&reply, &buf[..reply.data_in])?;
+        for item in list {
+            match item.to_event() {
+                Event::Call(call) => {
+                    let reply = self.execute(call.initiator, call.cdb, call.data_out, buf);
+                    sink.take(&reply, &buf[..reply.data_in])?;
+                }
+                Event::Power => self.power_cycle(),
+            }
         }
         Ok(())
     }

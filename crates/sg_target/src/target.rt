@@ -57,6 +57,7 @@ impl<S: Store> Model for Target<S> {
 ghost use Rattle.std.specs.Prelude.{◌≡◌, ◌≤◌, length, IfOk};
 ghost use Rattle.sg_store.specs.Meter.{new_meter};
 ghost use Rattle.sg_target.specs.Reply.{Carries, refused_reply};
+ghost use Rattle.sg_target.specs.PowerCycle.{after_power_cycle};
 ghost use Rattle.sg_target.specs.Ranges.{IsCharged, cost_bounds, ranges, visit_bound};
 ghost use Rattle.sg_target.specs.State.{IsWithinLimits, powered_on};
 ghost use Rattle.sg_target.specs.Step.{after_refusal, sense_format, step};
@@ -113,6 +114,19 @@ impl<S: Store> Target<S> {
             Ok(operation) => self.execute_checked(initiator, operation, buf),
             Err(refusal) => self.refuse(initiator, refusal, Counts::default()),
         }
+    }
+
+    /// A power cycle. The blocks are as they were, and the saved mode pages are the current ones.
+    /// Registrations and reservation are as they were where they persist through a power loss, and
+    /// gone where not; PRGENERATION is 0. POWER ON alone is pending for each initiator.
+    pub fn power_cycle(&mut self)
+        ensures state { self.new.state ≡ after_power_cycle self.old.state }
+        ensures meter { self.new.meter ≡ self.old.meter }
+        ensures limits { IsWithinLimits self.new.state }
+    {
+        self.modes.power_on();
+        self.attentions.clear_to_power_on();
+        self.reservations.power_on();
     }
 
     // The reply to a command that is refused. A unit attention that it reports is cleared.

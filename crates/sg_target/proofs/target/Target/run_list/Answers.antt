@@ -1,0 +1,110 @@
+use Rattle.std.proofs.Common.{◌≡◌, ℕ, ◌+◌, ◌<◌, length, List, ◌++◌, ◌∷◌, [], map, take, arith, ap}
+use Rattle.std.proofs.Common.{sym, subst, ◌∙◌}
+use Rattle.std.proofs.lemmas.List.{length-map, take-map}
+use Rattle.sg_target.specs.Ranges.{IsCharged, cost_bounds}
+use Rattle.sg_target.specs.Runs.{step_of, ranges_of_call, exchange, state_after_event, Stopped}
+use Rattle.sg_target.specs.State.{State, IsWithinLimits}
+use Rattle.sg_target.specs.Target.{TargetFields}
+use Rattle.sg_target.specs.declared.event.Event.{Event}
+use Rattle.sg_target.specs.declared.event.Event.TheVariants as event
+use Rattle.sg_target.proofs.RunLemmas.{events-more, exchanged-more, exchanged-power, state-more}
+use Rattle.sg_target.proofs.RunLemmas.{all-within, answer-carried, on-err, size-carried}
+use Rattle.sg_target.proofs.target.Target.run_list.Goals as goal
+use Rattle.sg_target.proofs.target.Target.run_list.Goals.{in-Call+in_ok-take-in-Call, in-Power}
+
+pub returns-in_err-take-in-Call-clause-stopped : goal.returns-in_err-take-in-Call-clause-stopped
+returns-in_err-take-in-Call-clause-stopped g c =
+    let state = c.args.self.now.state in
+    let list = c.args.list.now in
+    let i = c.loop-item.item-index in
+    let call = c.in-Call.call in
+    let here : i < length list = omega arith in
+    let before : List Event = map g.E.ToEvent.event (take i list) in
+    let first : take i (map g.E.ToEvent.event list) ≡ before = take-map g.E.ToEvent.event i list in
+    let next : take (i + 1) (map g.E.ToEvent.event list) ≡ before ++ event.Call call ∷ [] =
+    take-map g.E.ToEvent.event (i + 1) list
+    ∙ events-more g.E.ToEvent.event list i c.item-item.result (event.Call call) here c.item-item.is
+    (sym c.to_event.ensures ∙ c.in-Call.is) in
+    let so_far = c.loop-item.invariant.state in
+    let answered = answer-carried _ c.execute-reply.result _ _ c.execute-reply.ensures.reply
+    ∙ ap (λ s. (step_of s call).answer) so_far in
+    let size = size-carried _ c.execute-reply.result _ _ c.execute-reply.ensures.reply in
+    let charged =
+    subst (λ (s : State). IsCharged (cost_bounds g.S.Store.price g.S.Store.least) s.disk.pool
+    (ranges_of_call s call) c.loop-item.self.meter c.execute-reply.new.self.meter
+    c.execute-reply.result) so_far c.execute-reply.ensures.charge in
+    let stopped : Stopped (cost_bounds g.S.Store.price g.S.Store.least) state
+    (map g.E.ToEvent.event list)
+    (g.K.Sink.taken c.args.sink.now) (g.K.Sink.taken c.take.new.self) c.args.self.now.meter
+    c.execute-reply.new.self.meter c.execute-reply.new.self.state = record {
+      index = i;
+      in_range = omega (arith, here, length-map list g.E.ToEvent.event);
+      between = c.loop-item.self.meter;
+      took = rw (first, c.in_err-take-in-Call.ensures.refused) c.loop-item.invariant.took;
+      refused = exchange c.execute-reply.result (take c.execute-reply.result.data_in c.execute-reply.new.buf);
+      with_refused = rw (next, c.in_err-take-in-Call.ensures.refused)
+          (exchanged-more (cost_bounds g.S.Store.price g.S.Store.least) state
+          before _ _ _ _ _ call _ c.loop-item.invariant.took answered size charged);
+      state_is =
+          rw next (c.execute-reply.ensures.state
+          ∙ ap (λ s. (step_of s call).state) so_far
+          ∙ sym (state-more state before (event.Call call)));
+    } in
+    on-err c.from_residual.result _ stopped
+
+pub returns-in_err-take-in-Call-clause-limits : goal.returns-in_err-take-in-Call-clause-limits
+returns-in_err-take-in-Call-clause-limits g c n =
+    all-within _ (map g.E.ToEvent.event c.args.list.now) n
+    (subst (λ (t : TargetFields). IsWithinLimits t.state) c.self.view_is
+    (record { mapped = c.self.invariant.1; pending = c.self.invariant.2; registered = c.self.invariant.3 }))
+
+pub loop-item-preserved : goal.loop-item-preserved
+loop-item-preserved g c =
+    let state = c.args.self.now.state in
+    let list = c.args.list.now in
+    let i = c.loop-item.item-index in
+    let here : i < length list = omega arith in
+    let before : List Event = map g.E.ToEvent.event (take i list) in
+    let more = λ (last : Event) (e : g.E.ToEvent.event c.item-item.result ≡ last).
+    events-more g.E.ToEvent.event list i c.item-item.result last here c.item-item.is e in
+    let so_far = c.loop-item.invariant.state in
+    elim c.match-to_event.branch [
+      | in-Call+in_ok-take-in-Call w ↦
+          let call = w.in-Call.call in
+          let next = more (event.Call call) (sym c.to_event.ensures ∙ w.in-Call.is) in
+          let answered = answer-carried _ w.execute-reply.result _ _ w.execute-reply.ensures.reply
+          ∙ ap (λ s. (step_of s call).answer) so_far in
+          let size = size-carried _ w.execute-reply.result _ _ w.execute-reply.ensures.reply in
+          let charged =
+          subst (λ (s : State). IsCharged (cost_bounds g.S.Store.price g.S.Store.least) s.disk.pool
+          (ranges_of_call s call) c.loop-item.self.meter w.execute-reply.new.self.meter
+          w.execute-reply.result) so_far w.execute-reply.ensures.charge in
+          record {
+            took = rw (next, w.self-is, w.sink-is, w.in_ok-take-in-Call.ensures.taken)
+                (exchanged-more (cost_bounds g.S.Store.price g.S.Store.least) state
+                before _ _ _ _ _ call _ c.loop-item.invariant.took answered size charged);
+            state =
+                rw (next, w.self-is) (w.execute-reply.ensures.state
+                ∙ ap (λ s. (step_of s call).state) so_far
+                ∙ sym (state-more state before (event.Call call)));
+            sound = rw w.sink-is (w.in_ok-take-in-Call.ensures.sound ∙ c.loop-item.invariant.sound);
+          }
+      | in-Power w ↦
+          let next = more event.Power (sym c.to_event.ensures ∙ w.in-Power.is) in
+          record {
+            took = rw (next, w.self-is, w.sink-is, w.power_cycle.ensures.meter)
+                (exchanged-power (cost_bounds g.S.Store.price g.S.Store.least) state
+                before _ _ _ _ c.loop-item.invariant.took);
+            state =
+                rw (next, w.self-is) (w.power_cycle.ensures.state
+                ∙ ap (λ s. state_after_event s event.Power) so_far
+                ∙ sym (state-more state before event.Power));
+            sound = rw w.sink-is c.loop-item.invariant.sound;
+          }
+    ]
+
+pub returns-clause-limits : goal.returns-clause-limits
+returns-clause-limits g c n =
+    all-within _ (map g.E.ToEvent.event c.args.list.now) n
+    (subst (λ (t : TargetFields). IsWithinLimits t.state) c.self.view_is
+    (record { mapped = c.self.invariant.1; pending = c.self.invariant.2; registered = c.self.invariant.3 }))

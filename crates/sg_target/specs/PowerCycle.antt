@@ -1,0 +1,16 @@
+-- What a power cycle leaves of a disk.
+use Rattle.sg_pages.specs.ModePage.{after_power_on as pages_after_power_on}
+use Rattle.sg_units.specs.Attentions.{power_on_pending}
+use Rattle.sg_units.specs.PowerOn.{after_power_on as reservations_after_power_on}
+use Rattle.sg_target.specs.State.{State}
+
+-- The blocks are as they were. The saved mode pages are the current ones (SPC-4, 7.5). Registrations
+-- and reservation are as they were where they persist, and gone where not (SPC-4, 5.13). Each
+-- initiator has one unit attention, POWER ON, and none of those that were pending (SAM-5, 6.2).
+abbrev pub after_power_cycle : State → State
+after_power_cycle state =
+    record state {
+      modes = pages_after_power_on state.modes;
+      attentions = power_on_pending;
+      reservations = reservations_after_power_on state.reservations;
+    }

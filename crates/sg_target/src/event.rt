@@ -1,0 +1,48 @@
+// What happens to a disk, in a list.
+ghost use Rattle.std.specs.Prelude.{◌≡◌};
+
+use crate::call::Call;
+
+/// What happens to a disk.
+#[derive(Clone, Copy)]
+pub enum Event<'a> {
+    /// An initiator sends a command.
+    Call(Call<'a>),
+    /// Power is lost, and is on again.
+    Power,
+}
+
+// What a list of calls has, as a list of events does.
+pub(crate) trait ToEvent {
+    ghost use Rattle.sg_target.specs.declared.event.Event.{Event};
+
+    ghost event: { Self → Event };
+
+    fn to_event(&self) -> Event<'_>
+        ensures { result ≡ event self.now };
+}
+
+impl ToEvent for Event<'_> {
+    ghost event = { λ e. e };
+
+    fn to_event(&self) -> Event<'_> {
+        match self {
+            Event::Call(call) => call.to_event(),
+            Event::Power => Event::Power,
+        }
+    }
+}
+
+impl ToEvent for Call<'_> {
+    ghost use Rattle.sg_target.specs.declared.event.Event.{Event};
+
+    ghost event = { λ call. Event.Call call };
+
+    fn to_event(&self) -> Event<'_> {
+        Event::Call(Call {
+            initiator: self.initiator,
+            cdb: self.cdb,
+            data_out: self.data_out,
+        })
+    }
+}
