@@ -10,6 +10,7 @@ pub mod JoinLemmas
 pub mod OverwriteLemmas
 pub mod WriteLemmas
 pub mod FinishLemmas
+pub mod RunLawLemmas
 pub mod MaximalLemmas
 pub mod OverlapLemmas
 pub mod AddressLemmas

@@ -1,6 +1,7 @@
 -- What public contracts cite: the maximal runs, what a call costs by them, and what a `BlockMap`
 -- keeps.
 pub mod MaximalRuns
+pub mod RunLaws
 pub mod RunCost
 pub mod RunCostLaws
 pub mod State

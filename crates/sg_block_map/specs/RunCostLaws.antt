@@ -81,7 +81,7 @@ runs_meet lba count (x ∷ xs) = omega (
 )
 
 -- addresses that rise
-abbrev AreRising : ℕ → List ℕ → Type 0
+abbrev pub AreRising : ℕ → List ℕ → Type 0
 AreRising low [] = Unit
 AreRising low (x ∷ xs) = (low ≤ x) × AreRising (x + 1) xs
 
@@ -127,7 +127,7 @@ abbrev head_or : List (ℕ × List ℕ) → ℕ → ℕ
 head_or [] x = x
 head_or (e ∷ es) x = e.0
 
-rising : (low : ℕ) (es : List (ℕ × List ℕ)) → T (is_sorted nat_cmp es)
+pub rising : (low : ℕ) (es : List (ℕ × List ℕ)) → T (is_sorted nat_cmp es)
     → ((e : ℕ × List ℕ) (more : List (ℕ × List ℕ)) → es ≡ e ∷ more → low ≤ e.0)
     → AreRising low (map (λ (e : ℕ × List ℕ). e.0) es)
 rising low [] h first = tt

@@ -3,6 +3,7 @@
 ghost use Rattle.std.specs.Prelude.{◌≡◌, ◌+◌, ◌*◌, ◌<◌, ◌≤◌, ◌↔◌, length};
 ghost use Rattle.std.specs.Prelude.{IsErr, OnOk, OnErr};
 ghost use Rattle.std.proofs.Props.{props};
+ghost use Rattle.std.specs.FinMap.{len};
 ghost use Rattle.sg_store.specs.Disk.{IsWellFormed, IsOverfull, blocks};
 ghost use Rattle.sg_store.specs.Disk.{disk_replaced, disk_written, disk_filled, disk_unmapped};
 ghost use Rattle.sg_store.specs.Disk.{unmapped};
@@ -110,7 +111,8 @@ impl BlockMap {
 }
 
 impl Store for BlockMap {
-    ghost use Rattle.sg_block_map.specs.State.{disk_of, meter_of, slots_by_address, Keeps};
+    ghost use Rattle.sg_block_map.specs.State.{disk_of, meter_of, records_of, slots_by_address};
+    ghost use Rattle.sg_block_map.specs.State.{Keeps};
 
     ghost disk = { disk_of };
 
@@ -244,7 +246,14 @@ impl Store for BlockMap {
         cut.replace(at, &status_header(count));
     }
 
-    fn mapped(&self) -> u32 {
+    fn mapped(&self) -> u32
+        ensures value { result ≡ len (disk_of self.now).contents }
+        ensures within { result ≤ (disk_of self.now).pool }
+        ensures well_formed { IsWellFormed (disk_of self.now).capacity (disk_of self.now).contents }
+
+        // The table has one record for each maximal run, and no others.
+        ensures records { records_of self.now ≡ runs (disk_of self.now).contents }
+    {
         (self.pool.count() - self.pool.free_count()) as u32
     }
 

@@ -1,8 +1,21 @@
 //! What holds of every [`BlockMap`](crate::BlockMap).
 ghost use Rattle.sg_block_map.specs.Parts.{IsMadeOfParts};
+ghost use Rattle.sg_block_map.specs.RunLaws.{HasExactlyTheMaximalRuns, RunsRise};
 
 /// A [`BlockMap`](crate::BlockMap) is made of its capacity, its table and its pool. So it keeps no
 /// record but those of the table, which are counted when they are read.
 pub fn a_block_map_is_made_of_its_parts()
     ensures { IsMadeOfParts }
+{}
+
+/// The maximal runs, which the records of a [`BlockMap`](crate::BlockMap) are, have a first address
+/// with a count exactly where as many addresses from it on are mapped, one at least, while neither
+/// the address before them nor the one behind them is.
+pub fn the_runs_are_those_that_no_mapped_address_touches()
+    ensures { HasExactlyTheMaximalRuns }
+{}
+
+/// The maximal runs rise, and each of them is there once.
+pub fn the_runs_rise()
+    ensures { RunsRise }
 {}

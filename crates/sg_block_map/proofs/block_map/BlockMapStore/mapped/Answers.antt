@@ -1,4 +1,6 @@
-use Rattle.std.proofs.Common.{arith}
+use Rattle.std.proofs.Common.{◌+◌, sym, arith}
+use Rattle.sg_store.specs.declared.store.TheConstants.{MAX_CAPACITY}
+use Rattle.sg_block_map.proofs.MaximalLemmas.{runs-extents}
 use Rattle.sg_block_map.proofs.StoreLemmas.{size}
 use Rattle.sg_block_map.proofs.block_map.BlockMapStore.mapped.Goals as goal
 
@@ -7,3 +9,9 @@ returns-clause-value c =
     let s = c.args.self.now in
     let all = size s.table.records s.pool s.table.room s.runs in
     omega (arith, c.count.ensures, c.free_count.ensures, s.runs.consistent.pool)
+
+pub returns-clause-records : goal.returns-clause-records
+returns-clause-records c =
+    let s = c.args.self.now in
+    sym (runs-extents s.pool.next s.table.records s.pool.blocks 0
+    (MAX_CAPACITY + 1) s.runs.maximal s.runs.chained)
