@@ -32,7 +32,8 @@ overwrite-requires-clause-below c =
     let run = c.in-Some.run' in
     let first = rw c.records-runs.ensures at c.in-Some.ensures.first in
     first-below c.args.table.now.records gathered c.args.pool.now c.args.table.now.room c.args.lba
-    (c.args.lba + c.args.count) run (drop 1 gathered.records) c.requires.ready.runs c.requires.ready.gathered_runs
+    (c.args.lba + c.args.count) run (drop 1 gathered.records)
+    c.requires.ready.runs c.requires.ready.gathered_runs
     first
 
 pub begin-progress-requires-clause-ahead : goal.begin-progress-requires-clause-ahead
