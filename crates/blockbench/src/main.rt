@@ -11,7 +11,7 @@ use sg_pages::Identity;
 use sg_plain_map::PlainMap;
 use sg_store::{BLOCK_LENGTH, Store};
 use sg_target::{BUFFER_LENGTH, Config, Status, Target};
-use sg_wire::{CdbBytes, Command, Initiator};
+use sg_wire::{CdbBytes, Command, Extent16, Initiator};
 use std::alloc::AllocError;
 use std::env;
 use std::process::ExitCode;
@@ -64,18 +64,15 @@ fn send<S: Store>(
 }
 
 fn write_block(lba: u64) -> CdbBytes {
-    let command = Command::Write16 {
-        lba,
-        transfer_length: 1,
-    };
+    let command = Command::Write16(Extent16 { lba, count: 1 });
     command.write()
 }
 
 fn read_blocks(lba: u64) -> CdbBytes {
-    let command = Command::Read16 {
+    let command = Command::Read16(Extent16 {
         lba,
-        transfer_length: READ_BLOCKS,
-    };
+        count: READ_BLOCKS,
+    });
     command.write()
 }
 

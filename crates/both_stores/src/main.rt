@@ -10,7 +10,10 @@ use sg_pages::Identity;
 use sg_plain_map::PlainMap;
 use sg_store::BLOCK_LENGTH;
 use sg_target::{BUFFER_LENGTH, Config, Status, Target};
-use sg_wire::{Command, GroupNumber, Initiator, OutAction};
+use sg_wire::{
+    Command, Extent10, GetLbaStatus, GroupNumber, Initiator, OutAction, PersistentReserveOut,
+    Unmap, WriteSame16,
+};
 use std::alloc::Global;
 use std::process::ExitCode;
 use std::rt::Runtime;
@@ -122,49 +125,49 @@ fn next_command(
 }
 
 fn write(lba: u32, count: u8) -> Command {
-    Command::Write10 {
+    Command::Write10(Extent10 {
         lba,
-        transfer_length: u16::from(count),
-    }
+        count: u16::from(count),
+    })
 }
 
 fn read(lba: u32, count: u8) -> Command {
-    Command::Read10 {
+    Command::Read10(Extent10 {
         lba,
-        transfer_length: u16::from(count),
-    }
+        count: u16::from(count),
+    })
 }
 
 fn write_same(random: &mut Random, lba: u32, count: u8) -> Command {
-    Command::WriteSame16 {
+    Command::WriteSame16(WriteSame16 {
         anchor: false,
         unmap: random.byte() < 128,
         lba: u64::from(lba),
         count: u32::from(count),
-    }
+    })
 }
 
 fn unmap() -> Option<Command> {
-    Some(Command::Unmap {
+    Some(Command::Unmap(Unmap {
         anchor: false,
         group: GroupNumber::new(0)?,
         list_length: EXTENT_LIST as u16,
-    })
+    }))
 }
 
 fn status(random: &mut Random, lba: u32) -> Command {
-    Command::GetLbaStatus {
+    Command::GetLbaStatus(GetLbaStatus {
         start: u64::from(lba),
         allocation_length: u32::from(random.byte()),
-    }
+    })
 }
 
 fn reserve_out(random: &mut Random) -> Option<Command> {
-    Some(Command::PersistentReserveOut {
+    Some(Command::PersistentReserveOut(PersistentReserveOut {
         action: OutAction::with_code(random.byte() % 7)?,
         scope_type: random.byte() % 9,
         list_length: KEY_LIST as u32,
-    })
+    }))
 }
 
 /// The parameter list of UNMAP with one descriptor (SBC-3, 5.28.2).

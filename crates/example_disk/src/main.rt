@@ -4,7 +4,7 @@
 use sg_blocks::{BLOCK_LENGTH, BlockMap};
 use sg_pages::Identity;
 use sg_target::{BUFFER_LENGTH, Config, Reply, Target};
-use sg_wire::{CdbBytes, Command, Initiator, Sense};
+use sg_wire::{CdbBytes, Command, Extent10, Initiator, Sense};
 use std::alloc::AllocError;
 use std::process::ExitCode;
 use std::rt::Runtime;
@@ -17,18 +17,12 @@ const POOL: u32 = 4;
 const BLOCK: [u8; BLOCK_LENGTH] = [0xAB; BLOCK_LENGTH];
 
 fn write_block(lba: u32) -> CdbBytes {
-    let command = Command::Write10 {
-        lba,
-        transfer_length: 1,
-    };
+    let command = Command::Write10(Extent10 { lba, count: 1 });
     command.write()
 }
 
 fn read_block(lba: u32) -> CdbBytes {
-    let command = Command::Read10 {
-        lba,
-        transfer_length: 1,
-    };
+    let command = Command::Read10(Extent10 { lba, count: 1 });
     command.write()
 }
 

@@ -39,7 +39,7 @@ class_for _ = None
 
 -- another command than PERSISTENT RESERVE OUT, or that with an action of a kind
 abbrev pub is_of_kind : (OutAction → Bool) → Result Command CdbFault → Bool
-is_of_kind kind (Ok (command.PersistentReserveOut action scope_type n)) = kind action
+is_of_kind kind (Ok (command.PersistentReserveOut c)) = kind c.action
 is_of_kind kind _ = true
 
 abbrev pub fits : (OutAction → Bool) → Operation → Bool
@@ -80,54 +80,54 @@ pub suits : (blocks : ℕ) (command : Command) (data_out : List ℕ)
     → SuitsIf command (demands blocks command data_out).operation
 suits blocks command.TestUnitReady data_out =
     record { class = λ class h. cc; of_kind = λ kind k. refl; shown = refl }
-suits blocks (command.RequestSense desc n) data_out =
+suits blocks (command.RequestSense c) data_out =
     record { class = λ class h. cc; of_kind = λ kind k. refl; shown = refl }
-suits blocks (command.ModeSelect6 pf sp n) data_out =
+suits blocks (command.ModeSelect6 c) data_out =
     record { class = λ class h. cc; of_kind = λ kind k. refl; shown = refl }
-suits blocks (command.ModeSelect10 pf sp n) data_out =
+suits blocks (command.ModeSelect10 c) data_out =
     record { class = λ class h. cc; of_kind = λ kind k. refl; shown = refl }
-suits blocks (command.ModeSense6 dbd pc page subpage n) data_out =
+suits blocks (command.ModeSense6 c) data_out =
     record { class = λ class h. cc; of_kind = λ kind k. refl; shown = refl }
-suits blocks (command.ModeSense10 llbaa dbd pc page subpage n) data_out =
+suits blocks (command.ModeSense10 c) data_out =
     record { class = λ class h. cc; of_kind = λ kind k. refl; shown = refl }
-suits blocks (command.Read6 short) data_out =
+suits blocks (command.Read6 c) data_out =
     record { class = λ class h. cc; of_kind = λ kind k. refl; shown = refl }
-suits blocks (command.Read10 lba n) data_out =
+suits blocks (command.Read10 c) data_out =
     record { class = λ class h. cc; of_kind = λ kind k. refl; shown = refl }
-suits blocks (command.Read16 lba n) data_out =
+suits blocks (command.Read16 c) data_out =
     record { class = λ class h. cc; of_kind = λ kind k. refl; shown = refl }
-suits blocks (command.Write6 short) data_out =
+suits blocks (command.Write6 c) data_out =
     record { class = λ class h. cc; of_kind = λ kind k. refl; shown = refl }
-suits blocks (command.Write10 lba n) data_out =
+suits blocks (command.Write10 c) data_out =
     record { class = λ class h. cc; of_kind = λ kind k. refl; shown = refl }
-suits blocks (command.Write16 lba n) data_out =
+suits blocks (command.Write16 c) data_out =
     record { class = λ class h. cc; of_kind = λ kind k. refl; shown = refl }
 suits blocks command.ReadCapacity10 data_out =
     record { class = λ class h. cc; of_kind = λ kind k. refl; shown = refl }
-suits blocks (command.ReadCapacity16 n) data_out =
+suits blocks (command.ReadCapacity16 c) data_out =
     record { class = λ class h. cc; of_kind = λ kind k. refl; shown = refl }
-suits blocks (command.SynchronizeCache10 lba n) data_out =
+suits blocks (command.SynchronizeCache10 c) data_out =
     record { class = λ class h. cc; of_kind = λ kind k. refl; shown = refl }
-suits blocks (command.GetLbaStatus start n) data_out =
+suits blocks (command.GetLbaStatus c) data_out =
     record { class = λ class h. cc; of_kind = λ kind k. refl; shown = refl }
-suits blocks (command.Inquiry evpd code n) data_out =
-    sound-suits (command.Inquiry evpd code n) (if_supported 2 (inquiry_page evpd code))
-    (λ page. ReturnInquiry page n)
+suits blocks (command.Inquiry c) data_out =
+    sound-suits (command.Inquiry c) (if_supported 2 (inquiry_page c.evpd c.page_code))
+    (λ page. ReturnInquiry page c.allocation_length)
     (λ page. record { class = λ class h. cc; of_kind = λ kind k. refl; shown = refl })
-suits blocks (command.WriteSame10 anchor unmap lba n) data_out =
-    same-suits (command.WriteSame10 anchor unmap lba n) refl refl
-    (unmaps unmap (block_out data_out)) _ (block_out data_out)
-suits blocks (command.WriteSame16 anchor unmap lba n) data_out =
-    same-suits (command.WriteSame16 anchor unmap lba n) refl refl
-    (unmaps unmap (block_out data_out)) _ (block_out data_out)
-suits blocks (command.Unmap anchor group n) data_out =
-    sound-suits (command.Unmap anchor group n) (unmap_list (first_bytes n data_out)) Unmap
+suits blocks (command.WriteSame10 c) data_out =
+    same-suits (command.WriteSame10 c) refl refl
+    (unmaps c.unmap (block_out data_out)) _ (block_out data_out)
+suits blocks (command.WriteSame16 c) data_out =
+    same-suits (command.WriteSame16 c) refl refl
+    (unmaps c.unmap (block_out data_out)) _ (block_out data_out)
+suits blocks (command.Unmap c) data_out =
+    sound-suits (command.Unmap c) (unmap_list (first_bytes c.list_length data_out)) Unmap
     (λ extents. record { class = λ class h. cc; of_kind = λ kind k. refl; shown = refl })
-suits blocks (command.PersistentReserveIn action n) data_out =
+suits blocks (command.PersistentReserveIn c) data_out =
     record { class = λ class h. cc; of_kind = λ kind k. refl; shown = refl }
-suits blocks (command.PersistentReserveOut action scope_type n) data_out =
-    sound-suits (command.PersistentReserveOut action scope_type n)
-    (fields_out (first_bytes n data_out)) (ChangeReservations action scope_type)
+suits blocks (command.PersistentReserveOut c) data_out =
+    sound-suits (command.PersistentReserveOut c)
+    (fields_out (first_bytes c.list_length data_out)) (ChangeReservations c.action c.scope_type)
     (λ list. record { class = λ class h. cc; of_kind = λ kind k. k; shown = refl })
 
 at-ok : (command : Command) (asked : Result Operation Refusal) (operation : Operation)

@@ -150,8 +150,8 @@ module _ (state : State) (i j : ℕ)
 
   of-kind : (parsed : Result Command CdbFault) → (j ≡ i → registers parsed ≡ false)
       → is_of_kind spares parsed ≡ true
-  of-kind (Ok (PersistentReserveOut action scope_type n)) h =
-      spared (is_registering action) (j == i) (λ e. h (equal j i e))
+  of-kind (Ok (PersistentReserveOut c)) h =
+      spared (is_registering c.action) (j == i) (λ e. h (equal j i e))
   of-kind (Ok _) h = refl
   of-kind (Err fault) h = refl
 

@@ -206,13 +206,14 @@ module _ (state : State) (i j : ℕ) where
         → preempted_key (Ok command) data_out ≡ Some key
         → key_of state.reservations.registrations i ≡ Some key
         → EffectRemoves (effect_of state j operation)
-    command-removes (PersistentReserveOut action scope_type n) data_out operation key e h here =
-        let list = first_bytes n data_out in
-        let parts = preempting (is_preempting action) (out_list list).service_action_key key h in
+    command-removes (PersistentReserveOut c) data_out operation key e h here =
+        let list = first_bytes c.list_length data_out in
+        let parts = preempting (is_preempting c.action) (out_list list).service_action_key key h in
         subst (λ (o : Operation). EffectRemoves (effect_of state j o))
-        (listed action scope_type (length list == list_length) (out_list list)
+        (listed c.action c.scope_type (length list == list_length) (out_list list)
         (Check ParameterListLengthError) operation e)
-        (reserving-removes action scope_type (out_list list) parts.0 (here ∙ ap Some (sym parts.1)))
+        (reserving-removes c.action c.scope_type (out_list list) parts.0
+        (here ∙ ap Some (sym parts.1)))
     command-removes _ data_out operation key e h here = cc
 
     pub preempt-unregisters : (cdb data_out : List ℕ) (key : ℕ)

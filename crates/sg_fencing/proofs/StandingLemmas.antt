@@ -149,7 +149,7 @@ module _ (state : State) (i j : ℕ) (other : j ≡ i → ⊥) (h : HoldsAlone s
 
   of-kind : (parsed : Result Command CdbFault) → can_end_for_others parsed ≡ false
       → is_of_kind leaves_others parsed ≡ true
-  of-kind (Ok (PersistentReserveOut action scope_type n)) mild = ap not mild
+  of-kind (Ok (PersistentReserveOut c)) mild = ap not mild
   of-kind (Ok _) mild = refl
   of-kind (Err fault) mild = refl
 

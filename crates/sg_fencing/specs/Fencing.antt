@@ -60,8 +60,8 @@ holds_alone state initiator =
 
 -- PERSISTENT RESERVE IN and PERSISTENT RESERVE OUT, which show what others have registered.
 abbrev pub shows_others : Result Command CdbFault → Bool
-shows_others (Ok (PersistentReserveIn action n)) = true
-shows_others (Ok (PersistentReserveOut action scope_type n)) = true
+shows_others (Ok (PersistentReserveIn c)) = true
+shows_others (Ok (PersistentReserveOut c)) = true
 shows_others _ = false
 
 -- ---- One command
@@ -104,7 +104,7 @@ OthersAreShutOut =
 
 -- PERSISTENT RESERVE OUT with CLEAR, PREEMPT or PREEMPT AND ABORT.
 abbrev pub can_end_for_others : Result Command CdbFault → Bool
-can_end_for_others (Ok (PersistentReserveOut action scope_type n)) = ends_for_others action
+can_end_for_others (Ok (PersistentReserveOut c)) = ends_for_others c.action
 can_end_for_others _ = false
 
 -- No other command of another initiator ends the reservation.

@@ -55,7 +55,7 @@ is_registering RegisterAndIgnoreExistingKey = true
 is_registering _ = false
 
 abbrev pub registers : Result Command CdbFault → Bool
-registers (Ok (PersistentReserveOut action scope_type n)) = is_registering action
+registers (Ok (PersistentReserveOut c)) = is_registering c.action
 registers _ = false
 
 -- The key of the registrations that a PREEMPT or a PREEMPT AND ABORT is to remove.
@@ -65,9 +65,9 @@ is_preempting PreemptAndAbort = true
 is_preempting _ = false
 
 abbrev pub preempted_key : Result Command CdbFault → (data_out : List ℕ) → Option ℕ
-preempted_key (Ok (PersistentReserveOut action scope_type n)) data_out =
-    if is_preempting action
-    then Some (out_list (first_bytes n data_out)).service_action_key
+preempted_key (Ok (PersistentReserveOut c)) data_out =
+    if is_preempting c.action
+    then Some (out_list (first_bytes c.list_length data_out)).service_action_key
     else None
 preempted_key _ data_out = None
 

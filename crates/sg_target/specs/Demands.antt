@@ -4,7 +4,15 @@ use Rattle.std.specs.Prelude.{ℕ, List, Bool, true, false, ◌&&◌, Option, So
 use Rattle.std.specs.Prelude.{nat_le, nat_lt, if◌then◌else◌}
 use Rattle.sg_wire.specs.declared.command.Command.{Command}
 use Rattle.sg_wire.specs.declared.command.Command.TheVariants as command
-use Rattle.sg_wire.specs.declared.command.out_action.OutAction.{OutAction}
+use Rattle.sg_wire.specs.declared.command.mode.ModeSelect10.{ModeSelect10}
+use Rattle.sg_wire.specs.declared.command.mode.ModeSelect6.{ModeSelect6}
+use Rattle.sg_wire.specs.declared.command.mode.ModeSense10.{ModeSense10}
+use Rattle.sg_wire.specs.declared.command.mode.ModeSense6.{ModeSense6}
+use Rattle.sg_wire.specs.declared.command.primary.Inquiry.{Inquiry}
+use Rattle.sg_wire.specs.declared.command.provisioning.Unmap.{Unmap}
+use Rattle.sg_wire.specs.declared.command.provisioning.WriteSame10.{WriteSame10}
+use Rattle.sg_wire.specs.declared.command.provisioning.WriteSame16.{WriteSame16}
+use Rattle.sg_wire.specs.declared.command.reservation.PersistentReserveOut.{PersistentReserveOut}
 use Rattle.sg_wire.specs.CutAnswer.{first_bytes}
 use Rattle.sg_pages.specs.ProvisioningPages.{maximum_transfer_length, maximum_write_same_length}
 use Rattle.sg_target.specs.BlockCommands.{blocks_out, bytes_of}
@@ -44,19 +52,40 @@ asks operation = takes_no_data None (Ok operation)
 -- ---- Primary commands (SPC-4, 6)
 
 -- INQUIRY asks for a page that the disk has: PAGE CODE is byte 2.
-abbrev pub inquiry : (evpd : Bool) (page_code allocation_length : ℕ) → Demands
-inquiry evpd page_code n =
+abbrev pub inquiry : Inquiry → Demands
+inquiry c =
     takes_no_data None
-    (when_sound (if_supported 2 (inquiry_page evpd page_code)) (λ page. operation.ReturnInquiry page n))
+    (when_sound (if_supported 2 (inquiry_page c.evpd c.page_code))
+    (λ page. operation.ReturnInquiry page c.allocation_length))
 
 abbrev pub mode_select : (ten pf sp : Bool) (list_length : ℕ) (data_out : List ℕ) → Demands
 mode_select ten pf sp n data_out =
     takes n (unless_page_format pf) (Ok (operation.ChangeModes ten sp (first_bytes n data_out)))
 
-abbrev pub reserve_out : OutAction → (scope_type list_length : ℕ) (data_out : List ℕ) → Demands
-reserve_out action scope_type n data_out =
-    takes n (unless_type action scope_type)
-    (when_sound (fields_out (first_bytes n data_out)) (operation.ChangeReservations action scope_type))
+abbrev pub mode_select_6 : ModeSelect6 → (data_out : List ℕ) → Demands
+mode_select_6 c data_out = mode_select false c.pf c.sp c.list_length data_out
+
+abbrev pub mode_select_10 : ModeSelect10 → (data_out : List ℕ) → Demands
+mode_select_10 c data_out = mode_select true c.pf c.sp c.list_length data_out
+
+-- MODE SENSE asks for pages of a disk of some blocks; the CDB of six bytes has no LLBAA.
+abbrev pub mode_sense_6 : (blocks : ℕ) → ModeSense6 → Operation
+mode_sense_6 blocks c =
+    let request =
+    mode_sense_request blocks false false c.dbd c.page_control c.page_code c.subpage_code in
+    operation.ReturnModes request c.allocation_length
+
+abbrev pub mode_sense_10 : (blocks : ℕ) → ModeSense10 → Operation
+mode_sense_10 blocks c =
+    let request =
+    mode_sense_request blocks true c.llbaa c.dbd c.page_control c.page_code c.subpage_code in
+    operation.ReturnModes request c.allocation_length
+
+abbrev pub reserve_out : PersistentReserveOut → (data_out : List ℕ) → Demands
+reserve_out c data_out =
+    takes c.list_length (unless_type c.action c.scope_type)
+    (when_sound (fields_out (first_bytes c.list_length data_out))
+    (operation.ChangeReservations c.action c.scope_type))
 
 -- ---- Block commands (SBC-3, 5)
 
@@ -97,41 +126,48 @@ write_same anchor unmap extent byte data_out =
     takes block_length (unless_anchor anchor (bad_count extent.count byte))
     (Ok (unmap_or_fill unmap extent (block_out data_out)))
 
+abbrev pub write_same_10 : WriteSame10 → (data_out : List ℕ) → Demands
+write_same_10 c data_out = write_same c.anchor c.unmap (extent c.lba c.count) 7 data_out
+
+abbrev pub write_same_16 : WriteSame16 → (data_out : List ℕ) → Demands
+write_same_16 c data_out = write_same c.anchor c.unmap (extent c.lba c.count) 10 data_out
+
 -- UNMAP takes a list of extents.
-abbrev pub unmap : (anchor : Bool) → (list_length : ℕ) → (data_out : List ℕ) → Demands
-unmap anchor n data_out =
-    takes n (unless_anchor anchor None)
-    (when_sound (unmap_list (first_bytes n data_out)) operation.Unmap)
+abbrev pub unmap : Unmap → (data_out : List ℕ) → Demands
+unmap c data_out =
+    takes c.list_length (unless_anchor c.anchor None)
+    (when_sound (unmap_list (first_bytes c.list_length data_out)) operation.Unmap)
 
 -- ---- The row of each command, on a disk with a number of blocks, with its data-out
 
 -- READ(6) and WRITE(6) name at most 256 blocks by their layout.
 abbrev pub demands : (blocks : ℕ) → Command → (data_out : List ℕ) → Demands
 demands blocks command.TestUnitReady data_out = asks operation.Nothing
-demands blocks (command.RequestSense desc n) data_out = asks (operation.ReturnSense (format_of desc) n)
-demands blocks (command.Inquiry evpd code n) data_out = inquiry evpd code n
-demands blocks (command.ModeSelect6 pf sp n) data_out = mode_select false pf sp n data_out
-demands blocks (command.ModeSelect10 pf sp n) data_out = mode_select true pf sp n data_out
-demands blocks (command.ModeSense6 dbd pc page subpage n) data_out =
-    asks (operation.ReturnModes (mode_sense_request blocks false false dbd pc page subpage) n)
-demands blocks (command.ModeSense10 llbaa dbd pc page subpage n) data_out =
-    asks (operation.ReturnModes (mode_sense_request blocks true llbaa dbd pc page subpage) n)
+demands blocks (command.RequestSense c) data_out =
+    asks (operation.ReturnSense (format_of c.desc) c.allocation_length)
+demands blocks (command.Inquiry c) data_out = inquiry c
+demands blocks (command.ModeSelect6 c) data_out = mode_select_6 c data_out
+demands blocks (command.ModeSelect10 c) data_out = mode_select_10 c data_out
+demands blocks (command.ModeSense6 c) data_out = asks (mode_sense_6 blocks c)
+demands blocks (command.ModeSense10 c) data_out = asks (mode_sense_10 blocks c)
 demands blocks (command.Read6 short) data_out = read (extent short.0 short.1) None
-demands blocks (command.Read10 lba n) data_out = read (extent lba n) (too_long n 7)
-demands blocks (command.Read16 lba n) data_out = read (extent lba n) (too_long n 10)
+demands blocks (command.Read10 c) data_out = read (extent c.lba c.count) (too_long c.count 7)
+demands blocks (command.Read16 c) data_out = read (extent c.lba c.count) (too_long c.count 10)
 demands blocks (command.Write6 short) data_out = write (extent short.0 short.1) None data_out
-demands blocks (command.Write10 lba n) data_out = write (extent lba n) (too_long n 7) data_out
-demands blocks (command.Write16 lba n) data_out = write (extent lba n) (too_long n 10) data_out
+demands blocks (command.Write10 c) data_out =
+    write (extent c.lba c.count) (too_long c.count 7) data_out
+demands blocks (command.Write16 c) data_out =
+    write (extent c.lba c.count) (too_long c.count 10) data_out
 demands blocks command.ReadCapacity10 data_out = asks operation.ReturnCapacity10
-demands blocks (command.ReadCapacity16 n) data_out = asks (operation.ReturnCapacity16 n)
-demands blocks (command.SynchronizeCache10 lba n) data_out = asks (operation.Synchronize (extent lba n))
-demands blocks (command.WriteSame10 anchor unmap lba n) data_out =
-    write_same anchor unmap (extent lba n) 7 data_out
-demands blocks (command.WriteSame16 anchor unmap lba n) data_out =
-    write_same anchor unmap (extent lba n) 10 data_out
-demands blocks (command.Unmap anchor group n) data_out = unmap anchor n data_out
-demands blocks (command.GetLbaStatus start n) data_out = asks (operation.ReturnLbaStatus start n)
-demands blocks (command.PersistentReserveIn action n) data_out =
-    asks (operation.ReturnReservations action n)
-demands blocks (command.PersistentReserveOut action scope_type n) data_out =
-    reserve_out action scope_type n data_out
+demands blocks (command.ReadCapacity16 c) data_out =
+    asks (operation.ReturnCapacity16 c.allocation_length)
+demands blocks (command.SynchronizeCache10 c) data_out =
+    asks (operation.Synchronize (extent c.lba c.count))
+demands blocks (command.WriteSame10 c) data_out = write_same_10 c data_out
+demands blocks (command.WriteSame16 c) data_out = write_same_16 c data_out
+demands blocks (command.Unmap c) data_out = unmap c data_out
+demands blocks (command.GetLbaStatus c) data_out =
+    asks (operation.ReturnLbaStatus c.start c.allocation_length)
+demands blocks (command.PersistentReserveIn c) data_out =
+    asks (operation.ReturnReservations c.action c.allocation_length)
+demands blocks (command.PersistentReserveOut c) data_out = reserve_out c data_out

@@ -3,15 +3,17 @@
 ghost use Rattle.std.specs.Prelude.{◌≡◌, ◌≤◌, ◌+◌, ◌∷◌, [], length, Some, None, OnOk, OnErr};
 ghost use Rattle.std.specs.Prelude.{IfOk, IfErr};
 ghost use Rattle.sg_pages.specs.ProvisioningPages.{maximum_transfer_length};
+ghost use Rattle.sg_wire.specs.CutAnswer.{first_bytes};
 ghost use Rattle.sg_target.specs.BlockCommands.{bytes_of, reading, writing};
 ghost use Rattle.sg_target.specs.CapacityData.{capacity_10, capacity_16};
 ghost use Rattle.sg_target.specs.Checks.{requested, unsupported_value};
 ghost use Rattle.sg_target.specs.Demands.{read, too_long, write};
 ghost use Rattle.sg_target.specs.Effect.{range};
 ghost use Rattle.sg_target.specs.Ranges.{IsCharged, cost_bounds};
-ghost use Rattle.sg_target.specs.Reply.{Carries, executed_reply, refused_reply};
+ghost use Rattle.sg_target.specs.Reply.{Carries, ReturnsData, executed_reply, refused_reply};
 ghost use Rattle.sg_target.specs.Step.{executed, executed_or_refused, sense_format};
 
+use crate::data_in::DataIn;
 use crate::data_out::needed_data_out;
 use crate::extent::Extent;
 use crate::operation::Operation;
@@ -194,11 +196,11 @@ impl<S: Store> Target<S> {
 
 // ---- READ CAPACITY
 
-/// The length of READ CAPACITY(10) parameter data, in bytes.
-pub(crate) const CAPACITY_10_LENGTH: usize = 8;
+// The length of READ CAPACITY(10) parameter data, in bytes.
+const CAPACITY_10_LENGTH: usize = 8;
 
-/// The length of READ CAPACITY(16) parameter data, in bytes.
-pub(crate) const CAPACITY_16_LENGTH: usize = 32;
+// The length of READ CAPACITY(16) parameter data, in bytes.
+const CAPACITY_16_LENGTH: usize = 32;
 
 // Logical block provisioning is enabled, and blocks that are not mapped read as zeros.
 const LBPME_LBPRZ: u8 = 0xC0;
@@ -226,4 +228,26 @@ pub(crate) fn capacity_16(capacity: u64) -> [u8; CAPACITY_16_LENGTH]
     BigEndian::write_u32(&mut bytes[8..], BLOCK_LENGTH as u32);
     bytes[14] = LBPME_LBPRZ;
     bytes
+}
+
+impl<S: Store> Target<S> {
+    /// Returns READ CAPACITY(10) parameter data.
+    #[tactic(auto, using(crate::proofs::CapacityLemmas::capacity_lengths))]
+    pub(crate) fn return_capacity_10(&self, buf: &mut [u8]) -> Reply
+        requires { BUFFER_LENGTH ≤ length buf.old }
+        ensures { ReturnsData (capacity_10 self.now.state.disk.capacity) result buf.old buf.new }
+    {
+        self.return_data(DataIn::Capacity10, CAPACITY_10_LENGTH, buf)
+    }
+
+    /// Returns READ CAPACITY(16) parameter data.
+    #[tactic(auto, using(crate::proofs::CapacityLemmas::capacity_lengths))]
+    pub(crate) fn return_capacity_16(&self, allocation_length: u32, buf: &mut [u8]) -> Reply
+        requires { BUFFER_LENGTH ≤ length buf.old }
+        ensures { let full = capacity_16 self.now.state.disk.capacity in
+            ReturnsData (first_bytes allocation_length full) result buf.old buf.new }
+    {
+        let limit = CAPACITY_16_LENGTH.min(allocation_length as usize);
+        self.return_data(DataIn::Capacity16, limit, buf)
+    }
 }

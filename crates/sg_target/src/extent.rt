@@ -1,7 +1,7 @@
 // Logical blocks that lie together, and whether the disk has them.
 use crate::refusal::{Reason, Refusal};
 use sg_store::{BLOCK_LENGTH, MAX_CAPACITY};
-use sg_wire::ShortExtent;
+use sg_wire::{Extent10, Extent16, ShortExtent};
 
 /// Logical blocks from an address on.
 #[derive(Clone, Copy, Default)]
@@ -18,16 +18,6 @@ ghost use Rattle.sg_target.specs.Checks.{out_of_range, past_capacity};
 ghost use Rattle.sg_target.specs.Extents.{AreOnDisk};
 
 impl Extent {
-    /// The blocks that a command of ten bytes names.
-    pub(crate) fn of_ten_bytes(lba: u32, count: u16) -> Extent
-        ensures { result ≡ record { lba = lba; count = count } }
-    {
-        Extent {
-            lba: u64::from(lba),
-            count: u32::from(count),
-        }
-    }
-
     /// The length of the blocks, in bytes.
     pub(crate) fn byte_length(self) -> u64
         ensures { result ≡ bytes_of self }
@@ -74,6 +64,29 @@ impl From<ShortExtent> for Extent {
         Extent {
             lba: u64::from(extent.lba()),
             count: u32::from(extent.count()),
+        }
+    }
+}
+
+impl From<Extent10> for Extent {
+    ghost from_gives = { λ ten extent. extent ≡ record { lba = ten.lba; count = ten.count } };
+
+    fn from(extent: Extent10) -> Extent {
+        Extent {
+            lba: u64::from(extent.lba),
+            count: u32::from(extent.count),
+        }
+    }
+}
+
+impl From<Extent16> for Extent {
+    ghost from_gives = { λ sixteen extent.
+        extent ≡ record { lba = sixteen.lba; count = sixteen.count } };
+
+    fn from(extent: Extent16) -> Extent {
+        Extent {
+            lba: extent.lba,
+            count: extent.count,
         }
     }
 }

@@ -1,7 +1,8 @@
 // MODE SENSE and MODE SELECT (SPC-4, 6).
 ghost use Rattle.std.specs.Prelude.{◌≡◌, ◌≤◌, ◌<◌, ◌^◌, length, IsTrue};
 ghost use Rattle.sg_target.specs.Checks.{requested};
-ghost use Rattle.sg_target.specs.Demands.{mode_select};
+ghost use Rattle.sg_target.specs.Demands.{mode_select, mode_select_6, mode_select_10};
+ghost use Rattle.sg_target.specs.Demands.{mode_sense_6, mode_sense_10};
 ghost use Rattle.sg_target.specs.ModeCommands.{attentions_after, mode_sense_request, page_control_of};
 ghost use Rattle.sg_target.specs.ModeCommands.{select_refusal, sense_refusal};
 ghost use Rattle.sg_target.specs.Ranges.{IsCharged, cost_bounds, ranges_in};
@@ -18,7 +19,9 @@ use crate::target::{BUFFER_LENGTH, Target};
 use sg_pages::{Changed, ModeSelectFault, ModeSenseFault, ModeSenseRequest, PageControl};
 use sg_store::{Counts, Store};
 use sg_units::{Raised, UnitAttention};
-use sg_wire::{Cut, Initiator, PageCode, PageControlField};
+use sg_wire::{
+    Cut, Initiator, ModeSelect6, ModeSelect10, ModeSense6, ModeSense10, PageCode, PageControlField,
+};
 use std::marker::Model;
 
 // Where fields are in the CDBs: PF of MODE SELECT, and PAGE CODE and SUBPAGE CODE of MODE SENSE.
@@ -44,9 +47,35 @@ impl Model for RequestedModes {
     ghost view = { λ r. fields_of r.request };
 }
 
-/// What a MODE SENSE requests of a disk of `blocks` blocks: by the CDB of ten bytes, or by that of six,
-/// which has no LLBAA.
-pub(crate) fn mode_sense_request(
+/// MODE SENSE(6), of a disk of `blocks` blocks.
+pub(crate) fn check_mode_sense_6(blocks: u64, fields: ModeSense6) -> Operation<'static>
+    ensures { result ≡ mode_sense_6 blocks fields }
+{
+    let (dbd, pc) = (fields.dbd, fields.page_control);
+    let (page, subpage) = (fields.page_code, fields.subpage_code);
+    let request = mode_sense_request(blocks, false, false, dbd, pc, page, subpage);
+    Operation::ReturnModes {
+        request,
+        allocation_length: u16::from(fields.allocation_length),
+    }
+}
+
+/// MODE SENSE(10), of a disk of `blocks` blocks.
+pub(crate) fn check_mode_sense_10(blocks: u64, fields: ModeSense10) -> Operation<'static>
+    ensures { result ≡ mode_sense_10 blocks fields }
+{
+    let (llbaa, dbd, pc) = (fields.llbaa, fields.dbd, fields.page_control);
+    let (page, subpage) = (fields.page_code, fields.subpage_code);
+    let request = mode_sense_request(blocks, true, llbaa, dbd, pc, page, subpage);
+    Operation::ReturnModes {
+        request,
+        allocation_length: fields.allocation_length,
+    }
+}
+
+// What a MODE SENSE requests of a disk of `blocks` blocks: by the CDB of ten bytes, or by that of six,
+// which has no LLBAA.
+fn mode_sense_request(
     blocks: u64,
     ten: bool,
     llbaa: bool,
@@ -145,7 +174,28 @@ impl<'a> Model for ModeList<'a> {
     ghost invariant = { λ l. length l.bytes.now < 2 ^ 16 };
 }
 
-pub(crate) fn check_mode_select(
+/// MODE SELECT(6).
+pub(crate) fn check_mode_select_6(
+    fields: ModeSelect6,
+    data_out: &[u8],
+) -> Result<Operation<'_>, Refusal>
+    ensures { result ≡ requested (mode_select_6 fields data_out.now) data_out.now }
+{
+    let list_length = u16::from(fields.list_length);
+    check_mode_select(false, fields.pf, fields.sp, list_length, data_out)
+}
+
+/// MODE SELECT(10).
+pub(crate) fn check_mode_select_10(
+    fields: ModeSelect10,
+    data_out: &[u8],
+) -> Result<Operation<'_>, Refusal>
+    ensures { result ≡ requested (mode_select_10 fields data_out.now) data_out.now }
+{
+    check_mode_select(true, fields.pf, fields.sp, fields.list_length, data_out)
+}
+
+fn check_mode_select(
     ten: bool,
     pf: bool,
     sp: bool,

@@ -10,20 +10,22 @@ ghost use Rattle.sg_target.specs.State.{IsWithinLimits};
 ghost use Rattle.sg_target.specs.Step.{step_by};
 
 use crate::block::{
-    BlocksIn, BlocksOut, CAPACITY_10_LENGTH, CAPACITY_16_LENGTH, TRANSFER_LENGTH_10,
-    TRANSFER_LENGTH_16, check_read, check_read_6, check_write, check_write_6,
+    BlocksIn, BlocksOut, TRANSFER_LENGTH_10, TRANSFER_LENGTH_16, check_read, check_read_6,
+    check_write, check_write_6,
 };
 use crate::data_in::DataIn;
 use crate::extent::Extent;
-use crate::mode::{ModeList, RequestedModes, check_mode_select, mode_sense_request};
+use crate::mode::{
+    ModeList, RequestedModes, check_mode_select_6, check_mode_select_10, check_mode_sense_6,
+    check_mode_sense_10,
+};
 use crate::primary::{InquiryPage, check_inquiry, check_request_sense};
 use crate::provisioning::{
-    BlockOut, ListedExtents, NUMBER_OF_BLOCKS_10, NUMBER_OF_BLOCKS_16, check_unmap,
-    check_write_same,
+    BlockOut, ListedExtents, check_unmap, check_write_same_10, check_write_same_16,
 };
 use crate::refusal::Refusal;
 use crate::reply::Reply;
-use crate::reservation::check_reserve_out;
+use crate::reservation::{check_reserve_in, check_reserve_out};
 use crate::target::{BUFFER_LENGTH, Target};
 use sg_store::{MAX_CAPACITY, Store};
 use sg_units::OutList;
@@ -161,133 +163,38 @@ pub(crate) fn operation_of<'a>(
 {
     match *command {
         Command::TestUnitReady => Ok(Operation::Nothing),
-        Command::RequestSense {
-            desc,
-            allocation_length,
-        } => Ok(check_request_sense(desc, allocation_length)),
-        Command::Inquiry {
-            evpd,
-            page_code,
-            allocation_length,
-        } => check_inquiry(evpd, page_code, allocation_length),
-        Command::ModeSelect6 {
-            pf,
-            sp,
-            list_length,
-        } => check_mode_select(false, pf, sp, u16::from(list_length), data_out),
-        Command::ModeSelect10 {
-            pf,
-            sp,
-            list_length,
-        } => check_mode_select(true, pf, sp, list_length, data_out),
-        Command::ModeSense6 {
-            dbd,
-            page_control: pc,
-            page_code: page,
-            subpage_code: subpage,
-            allocation_length,
-        } => {
-            let request = mode_sense_request(blocks, false, false, dbd, pc, page, subpage);
-            let allocation_length = u16::from(allocation_length);
-            Ok(Operation::ReturnModes {
-                request,
-                allocation_length,
-            })
-        }
-        Command::ModeSense10 {
-            llbaa,
-            dbd,
-            page_control: pc,
-            page_code: page,
-            subpage_code: subpage,
-            allocation_length,
-        } => {
-            let request = mode_sense_request(blocks, true, llbaa, dbd, pc, page, subpage);
-            Ok(Operation::ReturnModes {
-                request,
-                allocation_length,
-            })
-        }
+        Command::RequestSense(fields) => Ok(check_request_sense(fields)),
+        Command::Inquiry(fields) => check_inquiry(fields),
+        Command::ModeSelect6(fields) => check_mode_select_6(fields, data_out),
+        Command::ModeSelect10(fields) => check_mode_select_10(fields, data_out),
+        Command::ModeSense6(fields) => Ok(check_mode_sense_6(blocks, fields)),
+        Command::ModeSense10(fields) => Ok(check_mode_sense_10(blocks, fields)),
         Command::Read6(extent) => Ok(check_read_6(Extent::from(extent))),
-        Command::Read10 {
-            lba,
-            transfer_length,
-        } => check_read(
-            Extent::of_ten_bytes(lba, transfer_length),
-            TRANSFER_LENGTH_10,
-        ),
-        Command::Read16 {
-            lba,
-            transfer_length: count,
-        } => check_read(Extent { lba, count }, TRANSFER_LENGTH_16),
+        Command::Read10(extent) => check_read(Extent::from(extent), TRANSFER_LENGTH_10),
+        Command::Read16(extent) => check_read(Extent::from(extent), TRANSFER_LENGTH_16),
         Command::Write6(extent) => check_write_6(Extent::from(extent), data_out),
-        Command::Write10 {
-            lba,
-            transfer_length,
-        } => check_write(
-            Extent::of_ten_bytes(lba, transfer_length),
-            TRANSFER_LENGTH_10,
-            data_out,
-        ),
-        Command::Write16 {
-            lba,
-            transfer_length: count,
-        } => check_write(Extent { lba, count }, TRANSFER_LENGTH_16, data_out),
+        Command::Write10(extent) => check_write(Extent::from(extent), TRANSFER_LENGTH_10, data_out),
+        Command::Write16(extent) => check_write(Extent::from(extent), TRANSFER_LENGTH_16, data_out),
         Command::ReadCapacity10 => Ok(Operation::ReturnCapacity10),
-        Command::ReadCapacity16 { allocation_length } => {
-            Ok(Operation::ReturnCapacity16 { allocation_length })
-        }
-        Command::SynchronizeCache10 { lba, count } => {
-            Ok(Operation::Synchronize(Extent::of_ten_bytes(lba, count)))
-        }
-        Command::WriteSame10 {
-            anchor,
-            unmap,
-            lba,
-            count,
-        } => {
-            let extent = Extent::of_ten_bytes(lba, count);
-            check_write_same(anchor, unmap, extent, NUMBER_OF_BLOCKS_10, data_out)
-        }
-        Command::WriteSame16 {
-            anchor,
-            unmap,
-            lba,
-            count,
-        } => {
-            let extent = Extent { lba, count };
-            check_write_same(anchor, unmap, extent, NUMBER_OF_BLOCKS_16, data_out)
-        },
-        Command::Unmap {
-            anchor,
-            list_length,
-            ..
-        } => check_unmap(anchor, list_length, data_out),
-        Command::GetLbaStatus {
-            start,
-            allocation_length,
-        } => Ok(Operation::ReturnLbaStatus {
-            start,
-            allocation_length,
+        Command::ReadCapacity16(fields) => Ok(Operation::ReturnCapacity16 {
+            allocation_length: fields.allocation_length,
         }),
-        Command::PersistentReserveIn {
-            action,
-            allocation_length,
-        } => Ok(Operation::ReturnReservations {
-            action,
-            allocation_length,
+        Command::SynchronizeCache10(extent) => Ok(Operation::Synchronize(Extent::from(extent))),
+        Command::WriteSame10(fields) => check_write_same_10(fields, data_out),
+        Command::WriteSame16(fields) => check_write_same_16(fields, data_out),
+        Command::Unmap(fields) => check_unmap(fields, data_out),
+        Command::GetLbaStatus(fields) => Ok(Operation::ReturnLbaStatus {
+            start: fields.start,
+            allocation_length: fields.allocation_length,
         }),
-        Command::PersistentReserveOut {
-            action,
-            scope_type,
-            list_length: length,
-        } => check_reserve_out(action, scope_type, length, data_out),
+        Command::PersistentReserveIn(fields) => Ok(check_reserve_in(fields)),
+        Command::PersistentReserveOut(fields) => check_reserve_out(fields, data_out),
     }
 }
 
 impl<S: Store> Target<S> {
     /// Executes an operation, unless the disk's state refuses it.
-    #[tactic(auto, using(crate::proofs::StepLemmas::has_room, crate::proofs::CapacityLemmas::capacity_lengths))]
+    #[tactic(auto, using(crate::proofs::StepLemmas::has_room))]
     pub(crate) fn execute_checked(
         &mut self,
         initiator: Initiator,
@@ -321,12 +228,9 @@ impl<S: Store> Target<S> {
             Operation::ChangeModes { ten, sp, list } => {
                 self.change_modes(initiator, ten, sp, &list, buf)
             }
-            Operation::ReturnCapacity10 => {
-                self.return_data(DataIn::Capacity10, CAPACITY_10_LENGTH, buf)
-            }
+            Operation::ReturnCapacity10 => self.return_capacity_10(buf),
             Operation::ReturnCapacity16 { allocation_length } => {
-                let limit = CAPACITY_16_LENGTH.min(allocation_length as usize);
-                self.return_data(DataIn::Capacity16, limit, buf)
+                self.return_capacity_16(allocation_length, buf)
             }
             Operation::Read(blocks) => self.read(&blocks, buf),
             Operation::Write(blocks) => self.write(initiator, &blocks, buf),
@@ -340,10 +244,7 @@ impl<S: Store> Target<S> {
             Operation::ReturnReservations {
                 action,
                 allocation_length,
-            } => {
-                let data_in = DataIn::Reservations(action);
-                self.return_data(data_in, usize::from(allocation_length), buf)
-            }
+            } => self.return_reservations(action, allocation_length, buf),
             Operation::ChangeReservations {
                 action,
                 scope_type,

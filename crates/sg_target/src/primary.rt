@@ -16,16 +16,16 @@ use crate::reply::{Reply, format_of};
 use crate::target::{BUFFER_LENGTH, Target};
 use sg_pages::{Identity, VpdPage, write_standard_inquiry, write_vpd_page};
 use sg_store::Store;
-use sg_wire::{Cut, Format, Initiator};
+use sg_wire::{Cut, Format, Initiator, Inquiry, RequestSense};
 
 // ---- REQUEST SENSE
 
-pub(crate) fn check_request_sense(desc: bool, allocation_length: u8) -> Operation<'static>
-    ensures { result ≡ Operation.ReturnSense (format_of desc) allocation_length }
+pub(crate) fn check_request_sense(fields: RequestSense) -> Operation<'static>
+    ensures { result ≡ Operation.ReturnSense (format_of fields.desc) fields.allocation_length }
 {
     Operation::ReturnSense {
-        format: format_of(desc),
-        allocation_length,
+        format: format_of(fields.desc),
+        allocation_length: fields.allocation_length,
     }
 }
 
@@ -91,17 +91,13 @@ impl InquiryPage {
     }
 }
 
-pub(crate) fn check_inquiry(
-    evpd: bool,
-    page_code: u8,
-    allocation_length: u16,
-) -> Result<Operation<'static>, Refusal>
-    ensures { result ≡ requested (inquiry evpd page_code allocation_length) [] }
+pub(crate) fn check_inquiry(fields: Inquiry) -> Result<Operation<'static>, Refusal>
+    ensures { result ≡ requested (inquiry fields) [] }
 {
-    match InquiryPage::named(evpd, page_code) {
+    match InquiryPage::named(fields.evpd, fields.page_code) {
         Some(page) => Ok(Operation::ReturnInquiry {
             page,
-            allocation_length,
+            allocation_length: fields.allocation_length,
         }),
         None => Err(Refusal::Check(Reason::InvalidFieldInCdb {
             byte: PAGE_CODE_BYTE,

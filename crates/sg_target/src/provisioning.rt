@@ -7,6 +7,7 @@ ghost use Rattle.sg_pages.specs.ProvisioningPages.{maximum_unmap_descriptors};
 ghost use Rattle.sg_store.specs.Meter.{no_counts};
 ghost use Rattle.sg_target.specs.Checks.{out_of_range, requested, unsupported_value};
 ghost use Rattle.sg_target.specs.Demands.{bad_count, unmap as demands_of_unmap, write_same};
+ghost use Rattle.sg_target.specs.Demands.{write_same_10, write_same_16};
 ghost use Rattle.sg_target.specs.Effect.{range};
 ghost use Rattle.sg_target.specs.Extents.{AreOnDisk};
 ghost use Rattle.sg_target.specs.ProvisioningCommands.{descriptor, descriptor_count, filling};
@@ -29,7 +30,7 @@ use crate::target::{BUFFER_LENGTH, Target};
 use byteorder::{BigEndian, ByteOrder};
 use sg_pages::{MAXIMUM_UNMAP_DESCRIPTORS, MAXIMUM_WRITE_SAME_LENGTH};
 use sg_store::{BLOCK_LENGTH, MAX_CAPACITY, MAX_POOL, Store};
-use sg_wire::{Cut, Initiator};
+use sg_wire::{Cut, Initiator, Unmap, WriteSame10, WriteSame16};
 use std::marker::Model;
 
 // Where ANCHOR is in the CDBs of UNMAP and WRITE SAME.
@@ -134,17 +135,13 @@ fn descriptor(list: &[u8], index: usize) -> Extent
 
 // ---- UNMAP
 
-pub(crate) fn check_unmap(
-    anchor: bool,
-    list_length: u16,
-    data_out: &[u8],
-) -> Result<Operation<'_>, Refusal>
-    ensures { result ≡ requested (demands_of_unmap anchor list_length data_out.now) data_out.now }
+pub(crate) fn check_unmap(fields: Unmap, data_out: &[u8]) -> Result<Operation<'_>, Refusal>
+    ensures { result ≡ requested (demands_of_unmap fields data_out.now) data_out.now }
 {
-    if anchor {
+    if fields.anchor {
         return Err(Refusal::Check(Reason::InvalidFieldInCdb { byte: ANCHOR_BYTE }));
     }
-    let list = needed_data_out(data_out, usize::from(list_length))?;
+    let list = needed_data_out(data_out, usize::from(fields.list_length))?;
     Ok(Operation::Unmap(extents_in(list)?))
 }
 
@@ -208,9 +205,9 @@ fn unmap_in_turn<S: Store>(store: &mut S, extents: &[Extent])
 // ---- WRITE SAME
 
 // Where NUMBER OF LOGICAL BLOCKS begins in a CDB of ten bytes, and in one of sixteen.
-pub(crate) const NUMBER_OF_BLOCKS_10: u16 = 7;
+const NUMBER_OF_BLOCKS_10: u16 = 7;
 
-pub(crate) const NUMBER_OF_BLOCKS_16: u16 = 10;
+const NUMBER_OF_BLOCKS_16: u16 = 10;
 
 /// A logical block, where it lies in data-out.
 #[derive(Drop)]
@@ -229,8 +226,48 @@ impl<'a> Model for BlockOut<'a> {
     ghost invariant = { λ b. length b.bytes.now ≡ block_length };
 }
 
-/// WRITE SAME (10) and (16); NUMBER OF LOGICAL BLOCKS begins at the byte.
-pub(crate) fn check_write_same(
+/// WRITE SAME(10).
+pub(crate) fn check_write_same_10(
+    fields: WriteSame10,
+    data_out: &[u8],
+) -> Result<Operation<'_>, Refusal>
+    ensures { result ≡ requested (write_same_10 fields data_out.now) data_out.now }
+{
+    let extent = Extent {
+        lba: u64::from(fields.lba),
+        count: u32::from(fields.count),
+    };
+    check_write_same(
+        fields.anchor,
+        fields.unmap,
+        extent,
+        NUMBER_OF_BLOCKS_10,
+        data_out,
+    )
+}
+
+/// WRITE SAME(16).
+pub(crate) fn check_write_same_16(
+    fields: WriteSame16,
+    data_out: &[u8],
+) -> Result<Operation<'_>, Refusal>
+    ensures { result ≡ requested (write_same_16 fields data_out.now) data_out.now }
+{
+    let extent = Extent {
+        lba: fields.lba,
+        count: fields.count,
+    };
+    check_write_same(
+        fields.anchor,
+        fields.unmap,
+        extent,
+        NUMBER_OF_BLOCKS_16,
+        data_out,
+    )
+}
+
+// NUMBER OF LOGICAL BLOCKS begins at the byte.
+fn check_write_same(
     anchor: bool,
     unmap: bool,
     extent: Extent,

@@ -1,24 +1,26 @@
 // PERSISTENT RESERVE IN and PERSISTENT RESERVE OUT (SPC-4, 5.13).
-ghost use Rattle.std.specs.Prelude.{◌≡◌};
+ghost use Rattle.std.specs.Prelude.{◌≡◌, ◌≤◌, length};
 ghost use Rattle.sg_wire.specs.Cut.{Puts};
+ghost use Rattle.sg_wire.specs.CutAnswer.{first_bytes};
 ghost use Rattle.sg_target.specs.Checks.{requested};
 ghost use Rattle.sg_target.specs.Demands.{reserve_out};
 ghost use Rattle.sg_target.specs.Ranges.{IsCharged, cost_bounds, ranges_in};
-ghost use Rattle.sg_target.specs.Reply.{Carries};
+ghost use Rattle.sg_target.specs.Reply.{Carries, ReturnsData};
 ghost use Rattle.sg_target.specs.ReservationCommands.{always_needs_type, out_refusal};
 ghost use Rattle.sg_target.specs.ReservationCommands.{reserve_in_data};
 ghost use Rattle.sg_target.specs.Semantics.{effect_of};
 ghost use Rattle.sg_target.specs.State.{IsWithinLimits};
 ghost use Rattle.sg_target.specs.Step.{step_by};
 
+use crate::data_in::DataIn;
 use crate::data_out::needed_data_out;
 use crate::operation::Operation;
 use crate::refusal::{Reason, Refusal};
 use crate::reply::Reply;
-use crate::target::Target;
+use crate::target::{BUFFER_LENGTH, Target};
 use sg_store::{Counts, Store};
 use sg_units::{OutFault, OutList, ReservationType, Reservations};
-use sg_wire::{Cut, InAction, Initiator, OutAction};
+use sg_wire::{Cut, InAction, Initiator, OutAction, PersistentReserveIn, PersistentReserveOut};
 
 // Where SCOPE and TYPE are in the CDB of PERSISTENT RESERVE OUT.
 const SCOPE_TYPE_BYTE: u16 = 2;
@@ -34,6 +36,33 @@ pub(crate) fn write_reserve_in_data(action: InAction, reservations: &Reservation
         InAction::ReadReservation => reservations.read_reservation(cut),
         InAction::ReportCapabilities => reservations.report_capabilities(cut),
         InAction::ReadFullStatus => reservations.read_full_status(cut),
+    }
+}
+
+/// What PERSISTENT RESERVE IN asks for: the disk supports each of its service actions.
+pub(crate) fn check_reserve_in(fields: PersistentReserveIn) -> Operation<'static>
+    ensures { result ≡ Operation.ReturnReservations fields.action fields.allocation_length }
+{
+    Operation::ReturnReservations {
+        action: fields.action,
+        allocation_length: fields.allocation_length,
+    }
+}
+
+impl<S: Store> Target<S> {
+    /// Returns what PERSISTENT RESERVE IN asks for.
+    pub(crate) fn return_reservations(
+        &self,
+        action: InAction,
+        allocation_length: u16,
+        buf: &mut [u8],
+    ) -> Reply
+        requires { BUFFER_LENGTH ≤ length buf.old }
+        ensures { let full = reserve_in_data self.now.state.reservations action in
+            ReturnsData (first_bytes allocation_length full) result buf.old buf.new }
+    {
+        let data_in = DataIn::Reservations(action);
+        self.return_data(data_in, usize::from(allocation_length), buf)
     }
 }
 
@@ -68,14 +97,16 @@ fn always_needs_type(action: OutAction) -> bool
 
 #[tactic(auto, unfolding(crate::specs::ReservationCommands::unless_type))]
 pub(crate) fn check_reserve_out(
-    action: OutAction,
-    scope_type: u8,
-    list_length: u32,
+    fields: PersistentReserveOut,
     data_out: &[u8],
 ) -> Result<Operation<'static>, Refusal>
-    ensures { result
-        ≡ requested (reserve_out action scope_type list_length data_out.now) data_out.now }
+    ensures { result ≡ requested (reserve_out fields data_out.now) data_out.now }
 {
+    let PersistentReserveOut {
+        action,
+        scope_type,
+        list_length,
+    } = fields;
     if always_needs_type(action) && ReservationType::with_scope_and_type(scope_type).is_none() {
         return Err(Refusal::Check(Reason::InvalidFieldInCdb {
             byte: SCOPE_TYPE_BYTE,

@@ -26,7 +26,7 @@ use Rattle.sg_tools.specs.declared.tool_name.ToolName.{ToolName}
 use Rattle.sg_tools.specs.declared.tool_name.ToolName.TheVariants.{SgInq, SgVpd, SgModes, SgUnmap}
 use Rattle.sg_tools.specs.declared.tool_name.ToolName.TheVariants.{SgGetLbaStatus, SgPersist}
 use Rattle.sg_wire.specs.declared.command.Command.{Command}
-use Rattle.sg_wire.specs.declared.command.Command.TheVariants as command
+use Rattle.sg_wire.specs.Commands as command
 use Rattle.sg_wire.specs.declared.command.in_action.InAction.{InAction}
 use Rattle.sg_wire.specs.declared.command.in_action.InAction.TheVariants.{ReadKeys, ReadReservation}
 use Rattle.sg_wire.specs.declared.command.in_action.InAction.TheVariants.{ReportCapabilities}
@@ -72,7 +72,7 @@ inquiry_show evpd hex = if hex then show.Hex else (if evpd then show.Vpd else sh
 abbrev pub inquiry : (evpd : Bool) (page length : Option ℕ) (hex : Bool) → Request
 inquiry evpd page length hex =
     with_value page (λ page. with_value length (λ length.
-    asks (command.Inquiry evpd page (inquiry_length evpd length)) (inquiry_show evpd hex)))
+    asks (command.inquiry evpd page (inquiry_length evpd length)) (inquiry_show evpd hex)))
 
 abbrev pub page_or : (default : ℕ) → Option Text → Option ℕ
 page_or default text = value_or default vpd_page text
@@ -103,8 +103,8 @@ sg_vpd rows =
 
 abbrev pub mode_sense : (six llbaa dbd : Bool) (pc : ℕ) (page : ℕ × ℕ) → Command
 mode_sense six llbaa dbd pc page =
-    if six then command.ModeSense6 dbd pc page.0 page.1 252
-    else command.ModeSense10 llbaa dbd pc page.0 page.1 1024
+    if six then command.mode_sense_6 dbd pc page.0 page.1 252
+    else command.mode_sense_10 llbaa dbd pc page.0 page.1 1024
 
 abbrev pub modes_show : (six hex : Bool) → Show
 modes_show six hex =
@@ -134,7 +134,7 @@ paired (lba ∷ lbas) (count ∷ counts) = record { lba = lba; count = count } �
 
 abbrev pub unmap : (anchor : Bool) (group : ℕ) → List Extent → Request
 unmap anchor group extents =
-    sends (command.Unmap anchor group (unmap_list_length (length extents)))
+    sends (command.unmap anchor group (unmap_list_length (length extents)))
     (parameters.Unmap extents) show.Nothing
 
 abbrev pub unmap_each : (anchor : Bool) (group : ℕ) (lbas counts : List ℕ) → Request
@@ -170,7 +170,7 @@ sg_get_lba_status rows =
     unless_exclusive (brief && hex)
     (with_value (number_or 0 (2 ^ 64 - 1) (text_of (codes "lba") rows)) (λ start.
     with_value (number_or 24 (2 ^ 32 - 1) (text_of (codes "maxlen") rows)) (λ length.
-    asks (command.GetLbaStatus start length) (lba_status_show brief hex))))
+    asks (command.get_lba_status start length) (lba_status_show brief hex))))
 
 -- ---- sg_persist: PERSISTENT RESERVE IN and PERSISTENT RESERVE OUT
 
@@ -217,12 +217,12 @@ reserve_in_show ReportCapabilities = show.Capabilities
 reserve_in_show ReadFullStatus = show.FullStatus
 
 abbrev pub reserve_in : InAction → Request
-reserve_in action = asks (command.PersistentReserveIn action 8192) (reserve_in_show action)
+reserve_in action = asks (command.reserve_in action 8192) (reserve_in_show action)
 
 -- The SCOPE is that of a logical unit, 0h.
 abbrev pub reserve_out : OutAction → (type : ℕ) → OutList → Request
 reserve_out action type list =
-    sends (command.PersistentReserveOut action type list_length)
+    sends (command.reserve_out action type list_length)
     (parameters.ReserveOut list) show.Nothing
 
 -- READ KEYS where no service action is given, and --out neither.

@@ -8,7 +8,7 @@ use crate::number::read_number_up_to;
 use crate::show::Show;
 use crate::tool::Tool;
 use crate::tool_fault::ToolFault;
-use sg_wire::Command;
+use sg_wire::{Command, Inquiry};
 
 // Pages of vital product data that are asked for by default (SPC-4).
 const SUPPORTED_PAGES: u8 = 0x00;
@@ -62,11 +62,11 @@ fn inquiry(evpd: bool, page: Option<u8>, length: Option<u16>, hex: bool) -> Resu
     let (Some(page_code), Some(length)) = (page, length) else {
         return Err(ToolFault::Number);
     };
-    let command = Command::Inquiry {
+    let command = Command::Inquiry(Inquiry {
         evpd,
         page_code,
         allocation_length: inquiry_length(evpd, length),
-    };
+    });
     Ok(Tool::without_parameters(command, inquiry_show(evpd, hex)))
 }
 

@@ -7,7 +7,7 @@ use crate::option_text::number_or;
 use crate::show::Show;
 use crate::tool::Tool;
 use crate::tool_fault::ToolFault;
-use sg_wire::Command;
+use sg_wire::{Command, GetLbaStatus};
 
 // The allocation length that is sent by default, of one descriptor.
 const DEFAULT_LENGTH: u64 = 24;
@@ -26,10 +26,10 @@ pub(crate) fn sg_get_lba_status(options: &GivenOptions) -> Result<Tool, ToolFaul
     let (Some(start), Some(length)) = (start, length) else {
         return Err(ToolFault::Number);
     };
-    let command = Command::GetLbaStatus {
+    let command = Command::GetLbaStatus(GetLbaStatus {
         start,
         allocation_length: length as u32,
-    };
+    });
     Ok(Tool::without_parameters(command, lba_status_show(brief, hex)))
 }
 

@@ -10,7 +10,7 @@ use crate::option_text::number_or;
 use crate::show::Show;
 use crate::tool::Tool;
 use crate::tool_fault::ToolFault;
-use sg_wire::{Command, PageCode, PageControlField};
+use sg_wire::{Command, ModeSense6, ModeSense10, PageCode, PageControlField};
 
 // The page that stands for all pages (SPC-4).
 const ALL_PAGES: u64 = 0x3f;
@@ -45,22 +45,22 @@ fn mode_sense(
 {
     let (page_code, subpage_code) = page;
     if six {
-        Command::ModeSense6 {
+        Command::ModeSense6(ModeSense6 {
             dbd,
             page_control,
             page_code,
             subpage_code,
             allocation_length: 252,
-        }
+        })
     } else {
-        Command::ModeSense10 {
+        Command::ModeSense10(ModeSense10 {
             llbaa,
             dbd,
             page_control,
             page_code,
             subpage_code,
             allocation_length: 1024,
-        }
+        })
     }
 }
 

@@ -11,7 +11,7 @@ use crate::service_action::{ServiceAction, are_exclusive, given_actions};
 use crate::show::Show;
 use crate::tool::Tool;
 use crate::tool_fault::ToolFault;
-use sg_wire::{Command, InAction, OutAction, OutList};
+use sg_wire::{Command, InAction, OutAction, OutList, PersistentReserveIn, PersistentReserveOut};
 
 // What the options of sg_persist ask for.
 pub(crate) fn sg_persist(options: &GivenOptions) -> Result<Tool, ToolFault>
@@ -58,10 +58,10 @@ fn reserve(
 fn reserve_in(action: InAction) -> Tool
     ensures { Ok result ≡ reserve_in action }
 {
-    let command = Command::PersistentReserveIn {
+    let command = Command::PersistentReserveIn(PersistentReserveIn {
         action,
         allocation_length: 8192,
-    };
+    });
     Tool::without_parameters(command, reserve_in_show(action))
 }
 
@@ -80,11 +80,11 @@ fn reserve_out(action: OutAction, type_code: u8, list: OutList) -> Tool
     ensures { Ok result ≡ reserve_out action type_code list }
 {
     Tool {
-        command: Command::PersistentReserveOut {
+        command: Command::PersistentReserveOut(PersistentReserveOut {
             action,
             scope_type: type_code,
             list_length: OutList::LENGTH as u32,
-        },
+        }),
         parameters: Parameters::ReserveOut(list),
         show: Show::Nothing,
     }

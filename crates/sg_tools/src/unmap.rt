@@ -11,7 +11,7 @@ use crate::parameters::{Parameters, unmap_list_length};
 use crate::show::Show;
 use crate::tool::Tool;
 use crate::tool_fault::ToolFault;
-use sg_wire::{Command, GroupNumber};
+use sg_wire::{Command, GroupNumber, Unmap};
 
 // What the options of sg_unmap ask for.
 pub(crate) fn sg_unmap(options: &GivenOptions) -> Result<Tool, ToolFault>
@@ -37,11 +37,11 @@ fn unmap(anchor: bool, group: GroupNumber, extents: Extents) -> Tool
     ensures { Ok result ≡ unmap anchor group extents }
 {
     Tool {
-        command: Command::Unmap {
+        command: Command::Unmap(Unmap {
             anchor,
             group,
             list_length: unmap_list_length(extents.as_slice().len()) as u16,
-        },
+        }),
         parameters: Parameters::Unmap(extents),
         show: Show::Nothing,
     }

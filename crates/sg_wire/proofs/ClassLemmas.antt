@@ -13,44 +13,35 @@ use Rattle.sg_wire.specs.declared.command.CdbFault.TheVariants.{Short}
 use Rattle.sg_wire.specs.declared.command.Class.{Class}
 use Rattle.sg_wire.specs.declared.command.Class.TheVariants.{Always}
 use Rattle.sg_wire.specs.declared.command.Command.{Command}
-use Rattle.sg_wire.specs.declared.command.Command.TheVariants.{ModeSelect6, ModeSelect10}
-use Rattle.sg_wire.specs.declared.command.Command.TheVariants.{ModeSense6, ModeSense10}
-use Rattle.sg_wire.specs.declared.command.Command.TheVariants.{TestUnitReady, RequestSense, Inquiry}
-use Rattle.sg_wire.specs.declared.command.Command.TheVariants.{Read6, Read10, Read16, Write6}
-use Rattle.sg_wire.specs.declared.command.Command.TheVariants.{Write10, Write16, ReadCapacity10}
-use Rattle.sg_wire.specs.declared.command.Command.TheVariants.{ReadCapacity16, SynchronizeCache10}
-use Rattle.sg_wire.specs.declared.command.Command.TheVariants.{WriteSame10, WriteSame16, Unmap}
-use Rattle.sg_wire.specs.declared.command.Command.TheVariants.{GetLbaStatus}
-use Rattle.sg_wire.specs.declared.command.Command.TheVariants.{PersistentReserveIn}
-use Rattle.sg_wire.specs.declared.command.Command.TheVariants.{PersistentReserveOut}
+use Rattle.sg_wire.specs.declared.command.Command.TheVariants as command
 
 -- a row makes commands of its class
 abbrev Makes : Layout → Type 0
 Makes l = (cdb : List ℕ) → (layout (make_from cdb l.fields l.make)).class ≡ l.class
 
 makes : (command : Command) → Makes (layout command)
-makes TestUnitReady cdb = refl
-makes (RequestSense desc n) cdb = refl
-makes (Inquiry evpd page n) cdb = refl
-makes (ModeSelect6 pf sp n) cdb = refl
-makes (ModeSelect10 pf sp n) cdb = refl
-makes (ModeSense6 dbd pc page subpage n) cdb = refl
-makes (ModeSense10 llbaa dbd pc page subpage n) cdb = refl
-makes (Read6 extent) cdb = refl
-makes (Read10 lba n) cdb = refl
-makes (Read16 lba n) cdb = refl
-makes (Write6 extent) cdb = refl
-makes (Write10 lba n) cdb = refl
-makes (Write16 lba n) cdb = refl
-makes ReadCapacity10 cdb = refl
-makes (ReadCapacity16 n) cdb = refl
-makes (SynchronizeCache10 lba n) cdb = refl
-makes (WriteSame10 anchor unmap lba n) cdb = refl
-makes (WriteSame16 anchor unmap lba n) cdb = refl
-makes (Unmap anchor group n) cdb = refl
-makes (GetLbaStatus start n) cdb = refl
-makes (PersistentReserveIn action n) cdb = refl
-makes (PersistentReserveOut action scope_type n) cdb = refl
+makes command.TestUnitReady cdb = refl
+makes (command.RequestSense c) cdb = refl
+makes (command.Inquiry c) cdb = refl
+makes (command.ModeSelect6 c) cdb = refl
+makes (command.ModeSelect10 c) cdb = refl
+makes (command.ModeSense6 c) cdb = refl
+makes (command.ModeSense10 c) cdb = refl
+makes (command.Read6 c) cdb = refl
+makes (command.Read10 c) cdb = refl
+makes (command.Read16 c) cdb = refl
+makes (command.Write6 c) cdb = refl
+makes (command.Write10 c) cdb = refl
+makes (command.Write16 c) cdb = refl
+makes command.ReadCapacity10 cdb = refl
+makes (command.ReadCapacity16 c) cdb = refl
+makes (command.SynchronizeCache10 c) cdb = refl
+makes (command.WriteSame10 c) cdb = refl
+makes (command.WriteSame16 c) cdb = refl
+makes (command.Unmap c) cdb = refl
+makes (command.GetLbaStatus c) cdb = refl
+makes (command.PersistentReserveIn c) cdb = refl
+makes (command.PersistentReserveOut c) cdb = refl
 
 abbrev AllMake : List Layout → Type 0
 AllMake [] = Unit {0}

@@ -9,14 +9,12 @@ use Rattle.std.proofs.lemmas.Nat.{and_mask}
 use Rattle.std.proofs.Math.Nat.{mod-eq_of_lt}
 use Rattle.byteorder.specs.Endian.{big_bytes, big_number}
 use Rattle.byteorder.specs.Numbers.{big_from-bytes}
-use Rattle.sg_wire.specs.declared.command.Command.TheVariants.{ModeSelect6, ModeSelect10}
-use Rattle.sg_wire.specs.declared.command.Command.TheVariants.{ModeSense6, ModeSense10}
-use Rattle.sg_wire.specs.declared.command.Command.TheVariants.{TestUnitReady, RequestSense, Inquiry}
-use Rattle.sg_wire.specs.declared.command.Command.TheVariants.{Read6, Read10, Read16, Write6}
-use Rattle.sg_wire.specs.declared.command.Command.TheVariants.{Write10, Write16, ReadCapacity10}
-use Rattle.sg_wire.specs.declared.command.Command.TheVariants.{ReadCapacity16, SynchronizeCache10}
-use Rattle.sg_wire.specs.declared.command.Command.TheVariants.{WriteSame10, WriteSame16, Unmap}
-use Rattle.sg_wire.specs.declared.command.Command.TheVariants.{GetLbaStatus}
+use Rattle.sg_wire.specs.declared.command.Command.TheVariants.{TestUnitReady, Read6, Write6}
+use Rattle.sg_wire.specs.declared.command.Command.TheVariants.{ReadCapacity10}
+use Rattle.sg_wire.specs.Commands.{request_sense, inquiry, mode_select_6, mode_select_10}
+use Rattle.sg_wire.specs.Commands.{mode_sense_6, mode_sense_10, read_10, read_16, write_10, write_16}
+use Rattle.sg_wire.specs.Commands.{read_capacity_16, synchronize_cache_10, write_same_10}
+use Rattle.sg_wire.specs.Commands.{write_same_16, unmap, get_lba_status}
 use Rattle.sg_wire.specs.declared.command.CdbFault.TheVariants.{Short}
 use Rattle.sg_wire.specs.declared.command.Class.TheVariants.{Always}
 use Rattle.std.specs.Option.{option_map_or}
@@ -62,8 +60,8 @@ abbrev action_of : List ℕ → ℕ
 action_of bytes = bit_and (get_or bytes 1 0) 0x1F
 
 abbrev row_with : (is_capacity is_status : Bool) → Option Layout
-row_with is_capacity is_status = cond is_capacity (Some (layout (ReadCapacity16 0)))
-    (cond is_status (Some (layout (GetLbaStatus 0 0))) None)
+row_with is_capacity is_status = cond is_capacity (Some (layout (read_capacity_16 0)))
+    (cond is_status (Some (layout (get_lba_status 0 0))) None)
 
 -- what the bytes have where their first is the operation code of SERVICE ACTION IN(16)
 module _ (Has : List ℕ → Type 0) (h : (rest : List ℕ) → Has (0x9E ∷ rest)) where
@@ -118,16 +116,16 @@ unfolding command_of command_with cdb_of
 reads_back-test_unit_ready = refl
 
 pub reads_back-request_sense : (desc : Bool) (allocation_length : ℕ) → allocation_length < 256
-    → command_of (cdb_of (RequestSense desc allocation_length))
-    ≡ Ok (RequestSense desc allocation_length)
+    → command_of (cdb_of (request_sense desc allocation_length))
+    ≡ Ok (request_sense desc allocation_length)
 unfolding command_of command_with cdb_of
 reads_back-request_sense true allocation_length a = simp (is_whole allocation_length a)
 reads_back-request_sense false allocation_length a = simp (is_whole allocation_length a)
 
 pub reads_back-inquiry : (evpd : Bool) (page_code allocation_length : ℕ) → page_code < 256
     → allocation_length < 2 ^ 16 →
-    command_of (cdb_of (Inquiry evpd page_code allocation_length))
-    ≡ Ok (Inquiry evpd page_code allocation_length)
+    command_of (cdb_of (inquiry evpd page_code allocation_length))
+    ≡ Ok (inquiry evpd page_code allocation_length)
 unfolding command_of command_with cdb_of
 reads_back-inquiry true page_code allocation_length p a =
     let f = number_again 2 allocation_length [] a in simp (is_whole page_code p, is_whole-mod) cc
@@ -139,7 +137,7 @@ unfolding command_of command_with cdb_of
 reads_back-read_capacity_10 = refl
 
 pub reads_back-read_capacity_16 : (allocation_length : ℕ) → allocation_length < 2 ^ 32
-    → command_of (cdb_of (ReadCapacity16 allocation_length)) ≡ Ok (ReadCapacity16 allocation_length)
+    → command_of (cdb_of (read_capacity_16 allocation_length)) ≡ Ok (read_capacity_16 allocation_length)
 unfolding command_of command_with cdb_of
 reads_back-read_capacity_16 allocation_length a = let f = number_again 4 allocation_length [] a in
     simp is_whole-mod cc
@@ -166,9 +164,9 @@ reads_back-extent_6 lba count l some most =
 
 -- READ(10), WRITE(10) and SYNCHRONIZE CACHE(10)
 pub reads_back-extent_10 : (lba count : ℕ) → lba < 2 ^ 32 → count < 2 ^ 16 →
-    (command_of (cdb_of (Read10 lba count)) ≡ Ok (Read10 lba count))
-    × (command_of (cdb_of (Write10 lba count)) ≡ Ok (Write10 lba count))
-    × (command_of (cdb_of (SynchronizeCache10 lba count)) ≡ Ok (SynchronizeCache10 lba count))
+    (command_of (cdb_of (read_10 lba count)) ≡ Ok (read_10 lba count))
+    × (command_of (cdb_of (write_10 lba count)) ≡ Ok (write_10 lba count))
+    × (command_of (cdb_of (synchronize_cache_10 lba count)) ≡ Ok (synchronize_cache_10 lba count))
 unfolding command_of command_with cdb_of
 reads_back-extent_10 lba count l n =
     let e = number_again 4 lba [] l in
@@ -177,8 +175,8 @@ reads_back-extent_10 lba count l n =
 
 -- READ(16) and WRITE(16)
 pub reads_back-extent_16 : (lba count : ℕ) → lba < 2 ^ 64 → count < 2 ^ 32 →
-    (command_of (cdb_of (Read16 lba count)) ≡ Ok (Read16 lba count))
-    × (command_of (cdb_of (Write16 lba count)) ≡ Ok (Write16 lba count))
+    (command_of (cdb_of (read_16 lba count)) ≡ Ok (read_16 lba count))
+    × (command_of (cdb_of (write_16 lba count)) ≡ Ok (write_16 lba count))
 unfolding command_of command_with cdb_of
 reads_back-extent_16 lba count l n =
     let e = number_again 8 lba [] l in
@@ -186,8 +184,8 @@ reads_back-extent_16 lba count l n =
     (simp is_whole-mod cc, simp is_whole-mod cc)
 
 pub reads_back-write_same_10 : (anchor unmap : Bool) (lba count : ℕ) → lba < 2 ^ 32 → count < 2 ^ 16
-    → command_of (cdb_of (WriteSame10 anchor unmap lba count))
-    ≡ Ok (WriteSame10 anchor unmap lba count)
+    → command_of (cdb_of (write_same_10 anchor unmap lba count))
+    ≡ Ok (write_same_10 anchor unmap lba count)
 unfolding command_of command_with cdb_of
 reads_back-write_same_10 true true lba count l n =
     let e = number_again 4 lba [] l in
@@ -203,8 +201,8 @@ reads_back-write_same_10 false false lba count l n =
     let f = number_again 2 count [] n in simp is_whole-mod cc
 
 pub reads_back-write_same_16 : (anchor unmap : Bool) (lba count : ℕ) → lba < 2 ^ 64 → count < 2 ^ 32
-    → command_of (cdb_of (WriteSame16 anchor unmap lba count))
-    ≡ Ok (WriteSame16 anchor unmap lba count)
+    → command_of (cdb_of (write_same_16 anchor unmap lba count))
+    ≡ Ok (write_same_16 anchor unmap lba count)
 unfolding command_of command_with cdb_of
 reads_back-write_same_16 true true lba count l n =
     let e = number_again 8 lba [] l in
@@ -227,7 +225,7 @@ is_group : (group : ℕ) → group < 32 → (bit_and group 31 == group) ≡ true
 is_group group g = ap (λ y. y == group) (five_bits group g) ∙ eq-eqb group group refl
 
 pub reads_back-unmap : (anchor : Bool) (group list_length : ℕ) → group < 32 → list_length < 2 ^ 16
-    → command_of (cdb_of (Unmap anchor group list_length)) ≡ Ok (Unmap anchor group list_length)
+    → command_of (cdb_of (unmap anchor group list_length)) ≡ Ok (unmap anchor group list_length)
 unfolding command_of command_with cdb_of
 reads_back-unmap true group list_length g n =
     let e = five_bits group g in
@@ -238,15 +236,15 @@ reads_back-unmap false group list_length g n =
 
 pub reads_back-get_lba_status : (start allocation_length : ℕ) → start < 2 ^ 64
     → allocation_length < 2 ^ 32
-    → command_of (cdb_of (GetLbaStatus start allocation_length))
-    ≡ Ok (GetLbaStatus start allocation_length)
+    → command_of (cdb_of (get_lba_status start allocation_length))
+    ≡ Ok (get_lba_status start allocation_length)
 unfolding command_of command_with cdb_of
 reads_back-get_lba_status start allocation_length l n =
     let e = number_again 8 start [] l in
     let f = number_again 4 allocation_length [] n in simp is_whole-mod cc
 
 pub reads_back-mode_select_6 : (pf sp : Bool) (list_length : ℕ) → list_length < 256
-    → command_of (cdb_of (ModeSelect6 pf sp list_length)) ≡ Ok (ModeSelect6 pf sp list_length)
+    → command_of (cdb_of (mode_select_6 pf sp list_length)) ≡ Ok (mode_select_6 pf sp list_length)
 unfolding command_of command_with cdb_of
 reads_back-mode_select_6 true true list_length n = simp (is_whole list_length n)
 reads_back-mode_select_6 true false list_length n = simp (is_whole list_length n)
@@ -254,7 +252,7 @@ reads_back-mode_select_6 false true list_length n = simp (is_whole list_length n
 reads_back-mode_select_6 false false list_length n = simp (is_whole list_length n)
 
 pub reads_back-mode_select_10 : (pf sp : Bool) (list_length : ℕ) → list_length < 2 ^ 16
-    → command_of (cdb_of (ModeSelect10 pf sp list_length)) ≡ Ok (ModeSelect10 pf sp list_length)
+    → command_of (cdb_of (mode_select_10 pf sp list_length)) ≡ Ok (mode_select_10 pf sp list_length)
 unfolding command_of command_with cdb_of
 reads_back-mode_select_10 true true list_length n = let f = number_again 2 list_length [] n in
     simp is_whole-mod cc
@@ -274,8 +272,8 @@ page_again pc page p q = and_mask (pc * 64 + page) 6 ∙ omega arith
 
 pub reads_back-mode_sense_6 : (dbd : Bool) (pc page subpage allocation_length : ℕ) → pc < 4 → page < 64
     → subpage < 256 → allocation_length < 256
-    → command_of (cdb_of (ModeSense6 dbd pc page subpage allocation_length))
-    ≡ Ok (ModeSense6 dbd pc page subpage allocation_length)
+    → command_of (cdb_of (mode_sense_6 dbd pc page subpage allocation_length))
+    ≡ Ok (mode_sense_6 dbd pc page subpage allocation_length)
 unfolding command_of command_with cdb_of
 reads_back-mode_sense_6 true pc page subpage n p q s a =
     let e = pc_again pc page p q in
@@ -288,8 +286,8 @@ reads_back-mode_sense_6 false pc page subpage n p q s a =
 
 module _ (pc page subpage n : ℕ) (p : pc < 4) (q : page < 64) (s : subpage < 256) (a : n < 2 ^ 16) where
   pub reads_back-mode_sense_10 : (llbaa dbd : Bool)
-      → command_of (cdb_of (ModeSense10 llbaa dbd pc page subpage n))
-      ≡ Ok (ModeSense10 llbaa dbd pc page subpage n)
+      → command_of (cdb_of (mode_sense_10 llbaa dbd pc page subpage n))
+      ≡ Ok (mode_sense_10 llbaa dbd pc page subpage n)
   unfolding command_of command_with cdb_of
   reads_back-mode_sense_10 true true =
       let e = pc_again pc page p q in

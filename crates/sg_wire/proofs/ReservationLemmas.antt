@@ -13,7 +13,7 @@ use Rattle.sg_wire.specs.declared.command.out_action.OutAction.TheVariants.{Regi
 use Rattle.sg_wire.specs.declared.command.out_action.OutAction.TheVariants.{Release, Clear, Preempt}
 use Rattle.sg_wire.specs.declared.command.out_action.OutAction.TheVariants.{PreemptAndAbort}
 use Rattle.sg_wire.specs.declared.command.out_action.OutAction.TheVariants.{RegisterAndIgnoreExistingKey}
-use Rattle.sg_wire.specs.declared.command.Command.TheVariants.{PersistentReserveIn, PersistentReserveOut}
+use Rattle.sg_wire.specs.Commands.{reserve_in, reserve_out}
 use Rattle.sg_wire.specs.declared.command.CdbFault.{CdbFault}
 use Rattle.sg_wire.specs.declared.command.CdbFault.TheVariants.{Short}
 use Rattle.sg_wire.specs.Layout.{Layout, layout, has_action_of, command_of, command_by_row}
@@ -22,7 +22,7 @@ use Rattle.sg_wire.specs.ReservationAction.{out_code, each_out_action, out_actio
 use Rattle.sg_wire.proofs.LayoutLemmas.{is_whole, is_whole-mod, number_again}
 
 abbrev out_row : OutAction → Layout
-out_row action = layout (PersistentReserveOut action 0 0)
+out_row action = layout (reserve_out action 0 0)
 
 mapped-cond : (action : OutAction) (other : Option OutAction) (is_found : Bool)
     → cond is_found (Some (out_row action)) (option_map out_row other)
@@ -70,27 +70,27 @@ pub reserve_out-refused : (cdb : List ℕ) (action : OutAction) (fault : CdbFaul
 unfolding fits_masks
 reserve_out-refused cdb action fault whole known refused =
     reserve_out-known cdb action whole known
-    ∙ unless_bad-refused (PersistentReserveOut action (get_or cdb 2 0) (big_number 4 (drop 5 cdb)))
+    ∙ unless_bad-refused (reserve_out action (get_or cdb 2 0) (big_number 4 (drop 5 cdb)))
     (nat_lt (length cdb) 10) (length cdb) (first_bad 0 (masks (out_row action)) cdb) fault
     (long_enough (length cdb) whole) refused
 
 pub reserve_out-fits : (cdb : List ℕ) (action : OutAction) → 10 ≤ length cdb
     → out_action_with (bit_and (get_or cdb 1 0) 0x1F) ≡ Some action
     → fits_masks (masks (out_row action)) cdb ≡ Ok tt → command_with 0x5F cdb
-    ≡ Ok (PersistentReserveOut action (get_or cdb 2 0) (big_number 4 (drop 5 cdb)))
+    ≡ Ok (reserve_out action (get_or cdb 2 0) (big_number 4 (drop 5 cdb)))
 unfolding fits_masks
 reserve_out-fits cdb action whole known fits =
     let bits = masks (out_row action) in
     reserve_out-known cdb action whole known
-    ∙ unless_bad-fit (PersistentReserveOut action (get_or cdb 2 0) (big_number 4 (drop 5 cdb)))
+    ∙ unless_bad-fit (reserve_out action (get_or cdb 2 0) (big_number 4 (drop 5 cdb)))
     (nat_lt (length cdb) (length bits)) (length cdb) (first_bad 0 bits cdb) fits
 
 -- ---- the CDB of each command is decoded as it again
 
 module _ (allocation_length : ℕ) (n : allocation_length < 2 ^ 16) where
   pub reads_back-reserve_in : (action : InAction)
-      → command_of (cdb_of (PersistentReserveIn action allocation_length))
-      ≡ Ok (PersistentReserveIn action allocation_length)
+      → command_of (cdb_of (reserve_in action allocation_length))
+      ≡ Ok (reserve_in action allocation_length)
   unfolding command_of command_with cdb_of
   reads_back-reserve_in ReadKeys =
       let f = number_again 2 allocation_length [] n in simp is_whole-mod cc
@@ -103,8 +103,8 @@ module _ (allocation_length : ℕ) (n : allocation_length < 2 ^ 16) where
 
 module _ (scope_type list_length : ℕ) (s : scope_type < 256) (n : list_length < 2 ^ 32) where
   pub reads_back-reserve_out : (action : OutAction)
-      → command_of (cdb_of (PersistentReserveOut action scope_type list_length))
-      ≡ Ok (PersistentReserveOut action scope_type list_length)
+      → command_of (cdb_of (reserve_out action scope_type list_length))
+      ≡ Ok (reserve_out action scope_type list_length)
   unfolding command_of command_with cdb_of
   reads_back-reserve_out Register =
       let f = number_again 4 list_length [] n in simp (is_whole scope_type s, is_whole-mod) cc

@@ -9,18 +9,25 @@ use Rattle.byteorder.specs.Endian.{big_bytes, big_number}
 use Rattle.sg_wire.specs.declared.command.Class.{Class}
 use Rattle.sg_wire.specs.declared.command.Class.TheVariants.{Always, Reads, Writes}
 use Rattle.sg_wire.specs.declared.command.Command.{Command}
-use Rattle.sg_wire.specs.declared.command.Command.TheVariants.{ModeSelect6, ModeSelect10}
-use Rattle.sg_wire.specs.declared.command.Command.TheVariants.{ModeSense6, ModeSense10}
-use Rattle.sg_wire.specs.declared.command.Command.TheVariants.{TestUnitReady, RequestSense, Inquiry}
-use Rattle.sg_wire.specs.declared.command.Command.TheVariants.{Read6, Read10, Read16, Write6}
-use Rattle.sg_wire.specs.declared.command.Command.TheVariants.{Write10, Write16, ReadCapacity10}
-use Rattle.sg_wire.specs.declared.command.Command.TheVariants.{ReadCapacity16, SynchronizeCache10}
-use Rattle.sg_wire.specs.declared.command.Command.TheVariants.{WriteSame10, WriteSame16, Unmap}
-use Rattle.sg_wire.specs.declared.command.Command.TheVariants.{GetLbaStatus}
-use Rattle.sg_wire.specs.declared.command.Command.TheVariants.{PersistentReserveIn}
-use Rattle.sg_wire.specs.declared.command.Command.TheVariants.{PersistentReserveOut}
+use Rattle.sg_wire.specs.declared.command.Command.TheVariants as command
+use Rattle.sg_wire.specs.declared.command.block.Extent10.{Extent10}
+use Rattle.sg_wire.specs.declared.command.block.Extent16.{Extent16}
+use Rattle.sg_wire.specs.declared.command.block.ReadCapacity16.{ReadCapacity16}
+use Rattle.sg_wire.specs.declared.command.mode.ModeSelect10.{ModeSelect10}
+use Rattle.sg_wire.specs.declared.command.mode.ModeSelect6.{ModeSelect6}
+use Rattle.sg_wire.specs.declared.command.mode.ModeSense10.{ModeSense10}
+use Rattle.sg_wire.specs.declared.command.mode.ModeSense6.{ModeSense6}
+use Rattle.sg_wire.specs.declared.command.primary.Inquiry.{Inquiry}
+use Rattle.sg_wire.specs.declared.command.primary.RequestSense.{RequestSense}
+use Rattle.sg_wire.specs.declared.command.provisioning.GetLbaStatus.{GetLbaStatus}
+use Rattle.sg_wire.specs.declared.command.provisioning.Unmap.{Unmap}
+use Rattle.sg_wire.specs.declared.command.provisioning.WriteSame10.{WriteSame10}
+use Rattle.sg_wire.specs.declared.command.provisioning.WriteSame16.{WriteSame16}
+use Rattle.sg_wire.specs.declared.command.reservation.PersistentReserveIn.{PersistentReserveIn}
+use Rattle.sg_wire.specs.declared.command.reservation.PersistentReserveOut.{PersistentReserveOut}
 use Rattle.sg_wire.specs.declared.command.CdbFault.{CdbFault}
 use Rattle.sg_wire.specs.declared.command.CdbFault.TheVariants.{Empty, Opcode, Short, Field as BadField}
+use Rattle.sg_wire.specs.Commands as make
 use Rattle.sg_wire.specs.ReservationAction.{in_code, out_code, each_in_action, each_out_action}
 
 -- ---- Fields
@@ -96,83 +103,82 @@ abbrev unblocked : Bool
 unblocked = false
 
 -- DESC and ALLOCATION LENGTH.
-abbrev request_sense : (desc : Bool) (allocation_length : ℕ) → List Field
-request_sense desc allocation_length = field (bit 1 0) desc ∷ field (bytes 4 4) allocation_length ∷ []
+abbrev request_sense : RequestSense → List Field
+request_sense c = field (bit 1 0) c.desc ∷ field (bytes 4 4) c.allocation_length ∷ []
 
 -- EVPD, PAGE CODE and ALLOCATION LENGTH.
-abbrev inquiry : (evpd : Bool) (page_code allocation_length : ℕ) → List Field
-inquiry evpd page_code allocation_length =
-    field (bit 1 0) evpd ∷ field (bytes 2 2) page_code ∷ field (bytes 3 4) allocation_length ∷ []
+abbrev inquiry : Inquiry → List Field
+inquiry c =
+    field (bit 1 0) c.evpd ∷ field (bytes 2 2) c.page_code ∷ field (bytes 3 4) c.allocation_length ∷ []
 
--- PF and SP of MODE SELECT.
+-- PF, SP and PARAMETER LIST LENGTH of MODE SELECT.
 abbrev select_bits : (pf sp : Bool) → List Field
 select_bits pf sp = field (bit 1 4) pf ∷ field (bit 1 0) sp ∷ []
 
--- And PARAMETER LIST LENGTH.
-abbrev mode_select_6 : (pf sp : Bool) (list_length : ℕ) → List Field
-mode_select_6 pf sp list_length = select_bits pf sp ++ field (bytes 4 4) list_length ∷ []
+abbrev mode_select_6 : ModeSelect6 → List Field
+mode_select_6 c = select_bits c.pf c.sp ++ field (bytes 4 4) c.list_length ∷ []
 
-abbrev mode_select_10 : (pf sp : Bool) (list_length : ℕ) → List Field
-mode_select_10 pf sp list_length = select_bits pf sp ++ field (bytes 7 8) list_length ∷ []
+abbrev mode_select_10 : ModeSelect10 → List Field
+mode_select_10 c = select_bits c.pf c.sp ++ field (bytes 7 8) c.list_length ∷ []
 
--- DBD, PC, PAGE CODE and SUBPAGE CODE of MODE SENSE.
-abbrev sense_fields : (dbd : Bool) (pc page subpage : ℕ) → List Field
-sense_fields dbd pc page subpage =
-    field (bit 1 3) dbd ∷ field (bits 2 7 6) pc ∷ field (bits 2 5 0) page ∷ field (bytes 3 3) subpage ∷ []
+-- DBD, PC, PAGE CODE, SUBPAGE CODE and ALLOCATION LENGTH of MODE SENSE, and LLBAA in the CDB of 10
+-- bytes.
+abbrev mode_sense_6 : ModeSense6 → List Field
+mode_sense_6 c =
+    field (bit 1 3) c.dbd ∷ field (bits 2 7 6) c.page_control ∷ field (bits 2 5 0) c.page_code
+    ∷ field (bytes 3 3) c.subpage_code ∷ field (bytes 4 4) c.allocation_length ∷ []
 
--- And ALLOCATION LENGTH, and LLBAA in the CDB of 10 bytes.
-abbrev mode_sense_6 : (dbd : Bool) (pc page subpage allocation_length : ℕ) → List Field
-mode_sense_6 dbd pc page subpage allocation_length =
-    sense_fields dbd pc page subpage ++ field (bytes 4 4) allocation_length ∷ []
-
-abbrev mode_sense_10 : (llbaa dbd : Bool) (pc page subpage allocation_length : ℕ) → List Field
-mode_sense_10 llbaa dbd pc page subpage allocation_length =
-    field (bit 1 4) llbaa ∷ sense_fields dbd pc page subpage
-    ++ field (bytes 7 8) allocation_length ∷ []
+abbrev mode_sense_10 : ModeSense10 → List Field
+mode_sense_10 c =
+    field (bit 1 4) c.llbaa ∷ field (bit 1 3) c.dbd ∷ field (bits 2 7 6) c.page_control
+    ∷ field (bits 2 5 0) c.page_code ∷ field (bytes 3 3) c.subpage_code
+    ∷ field (bytes 7 8) c.allocation_length ∷ []
 
 -- LOGICAL BLOCK ADDRESS and TRANSFER LENGTH, or NUMBER OF LOGICAL BLOCKS, in CDBs of 6, 10 and 16
 -- bytes.
 abbrev extent_6 : ℕ × ℕ → List Field
 extent_6 extent = field short_extent extent ∷ []
 
-abbrev extent_10 : (lba count : ℕ) → List Field
-extent_10 lba count = field (bytes 2 5) lba ∷ field (bytes 7 8) count ∷ []
+abbrev extent_10 : Extent10 → List Field
+extent_10 c = field (bytes 2 5) c.lba ∷ field (bytes 7 8) c.count ∷ []
 
-abbrev extent_16 : (lba count : ℕ) → List Field
-extent_16 lba count = field (bytes 2 9) lba ∷ field (bytes 10 13) count ∷ []
+abbrev extent_16 : Extent16 → List Field
+extent_16 c = field (bytes 2 9) c.lba ∷ field (bytes 10 13) c.count ∷ []
 
--- ALLOCATION LENGTH of READ CAPACITY(16).
-abbrev allocation_16 : ℕ → List Field
-allocation_16 allocation_length = field (bytes 10 13) allocation_length ∷ []
+-- ALLOCATION LENGTH.
+abbrev read_capacity_16 : ReadCapacity16 → List Field
+read_capacity_16 c = field (bytes 10 13) c.allocation_length ∷ []
 
--- ANCHOR and UNMAP of WRITE SAME.
+-- ANCHOR, UNMAP, LOGICAL BLOCK ADDRESS and NUMBER OF LOGICAL BLOCKS of WRITE SAME.
 abbrev write_same_bits : (anchor unmap : Bool) → List Field
 write_same_bits anchor unmap = field (bit 1 4) anchor ∷ field (bit 1 3) unmap ∷ []
 
-abbrev write_same_10 : (anchor unmap : Bool) (lba count : ℕ) → List Field
-write_same_10 anchor unmap lba count = write_same_bits anchor unmap ++ extent_10 lba count
+abbrev write_same_10 : WriteSame10 → List Field
+write_same_10 c =
+    write_same_bits c.anchor c.unmap
+    ++ field (bytes 2 5) c.lba ∷ field (bytes 7 8) c.count ∷ []
 
-abbrev write_same_16 : (anchor unmap : Bool) (lba count : ℕ) → List Field
-write_same_16 anchor unmap lba count = write_same_bits anchor unmap ++ extent_16 lba count
+abbrev write_same_16 : WriteSame16 → List Field
+write_same_16 c =
+    write_same_bits c.anchor c.unmap
+    ++ field (bytes 2 9) c.lba ∷ field (bytes 10 13) c.count ∷ []
 
 -- ANCHOR, GROUP NUMBER and PARAMETER LIST LENGTH.
-abbrev unmap_fields : (anchor : Bool) (group list_length : ℕ) → List Field
-unmap_fields anchor group list_length =
-    field (bit 1 0) anchor ∷ field (bits 6 4 0) group ∷ field (bytes 7 8) list_length ∷ []
+abbrev unmap : Unmap → List Field
+unmap c =
+    field (bit 1 0) c.anchor ∷ field (bits 6 4 0) c.group ∷ field (bytes 7 8) c.list_length ∷ []
 
 -- STARTING LOGICAL BLOCK ADDRESS and ALLOCATION LENGTH.
-abbrev lba_status : (start allocation_length : ℕ) → List Field
-lba_status start allocation_length =
-    field (bytes 2 9) start ∷ field (bytes 10 13) allocation_length ∷ []
+abbrev get_lba_status : GetLbaStatus → List Field
+get_lba_status c = field (bytes 2 9) c.start ∷ field (bytes 10 13) c.allocation_length ∷ []
 
--- ALLOCATION LENGTH of PERSISTENT RESERVE IN.
-abbrev reserve_in : ℕ → List Field
-reserve_in allocation_length = field (bytes 7 8) allocation_length ∷ []
+-- ALLOCATION LENGTH. The service action is in the row.
+abbrev reserve_in : PersistentReserveIn → List Field
+reserve_in c = field (bytes 7 8) c.allocation_length ∷ []
 
 -- SCOPE and TYPE, which share a byte, and PARAMETER LIST LENGTH.
-abbrev reserve_out : (scope_type list_length : ℕ) → List Field
-reserve_out scope_type list_length =
-    field (bytes 2 2) scope_type ∷ field (bytes 5 8) list_length ∷ []
+abbrev reserve_out : PersistentReserveOut → List Field
+reserve_out c = field (bytes 2 2) c.scope_type ∷ field (bytes 5 8) c.list_length ∷ []
 
 -- The disk has no cache and groups no blocks. So of READ and WRITE it ignores DPO, FUA, the
 -- obsolete bit 1 and the GROUP NUMBER, and of SYNCHRONIZE CACHE the obsolete bit 2, IMMED and the
@@ -190,64 +196,64 @@ group_number byte = bits byte 4 0 ∷ []
 -- places, and the command itself. The commands of SPC-4, 6, and then those of SBC-3, 5 (READ(6) and
 -- WRITE(6) of SBC-2).
 abbrev pub layout : Command → Layout
-layout TestUnitReady = row 0x00 none Always blocked [] [] TestUnitReady
-layout (RequestSense desc n) = row 0x03 none Always unblocked (request_sense desc n) [] RequestSense
-layout (Inquiry evpd page n) = row 0x12 none Always unblocked (inquiry evpd page n) [] Inquiry
-layout (ModeSelect6 pf sp n) = row 0x15 none Writes blocked (mode_select_6 pf sp n) [] ModeSelect6
-layout (ModeSelect10 pf sp n) = row 0x55 none Writes blocked (mode_select_10 pf sp n) [] ModeSelect10
-layout (ModeSense6 dbd pc page subpage n) =
-    row 0x1A none Reads blocked (mode_sense_6 dbd pc page subpage n) [] ModeSense6
-layout (ModeSense10 llbaa dbd pc page subpage n) =
-    row 0x5A none Reads blocked (mode_sense_10 llbaa dbd pc page subpage n) [] ModeSense10
-layout (Read6 extent) = row 0x08 none Reads blocked (extent_6 extent) [] Read6
-layout (Read10 lba n) = row 0x28 none Reads blocked (extent_10 lba n) (cache_bits 6) Read10
-layout (Read16 lba n) = row 0x88 none Reads blocked (extent_16 lba n) (cache_bits 14) Read16
-layout (Write6 extent) = row 0x0A none Writes blocked (extent_6 extent) [] Write6
-layout (Write10 lba n) = row 0x2A none Writes blocked (extent_10 lba n) (cache_bits 6) Write10
-layout (Write16 lba n) = row 0x8A none Writes blocked (extent_16 lba n) (cache_bits 14) Write16
-layout ReadCapacity10 = row 0x25 none Always blocked [] [] ReadCapacity10
-layout (ReadCapacity16 n) = row 0x9E (named 0x10) Always blocked (allocation_16 n) [] ReadCapacity16
-layout (SynchronizeCache10 lba n) =
-    row 0x35 none Writes blocked (extent_10 lba n) immed_bits SynchronizeCache10
-layout (WriteSame10 anchor unmap lba n) =
-    row 0x41 none Writes blocked (write_same_10 anchor unmap lba n) (group_number 6) WriteSame10
-layout (WriteSame16 anchor unmap lba n) =
-    row 0x93 none Writes blocked (write_same_16 anchor unmap lba n) (group_number 14) WriteSame16
-layout (Unmap anchor group n) = row 0x42 none Writes blocked (unmap_fields anchor group n) [] Unmap
-layout (GetLbaStatus start n) =
-    row 0x9E (named 0x12) Reads blocked (lba_status start n) [] GetLbaStatus
-layout (PersistentReserveIn action n) =
-    row 0x5E (named (in_code action)) Always blocked (reserve_in n) [] (PersistentReserveIn action)
-layout (PersistentReserveOut action scope_type n) =
-    row 0x5F (named (out_code action)) Always blocked (reserve_out scope_type n) []
-    (PersistentReserveOut action)
+layout command.TestUnitReady = row 0x00 none Always blocked [] [] command.TestUnitReady
+layout (command.RequestSense c) =
+    row 0x03 none Always unblocked (request_sense c) [] make.request_sense
+layout (command.Inquiry c) = row 0x12 none Always unblocked (inquiry c) [] make.inquiry
+layout (command.ModeSelect6 c) = row 0x15 none Writes blocked (mode_select_6 c) [] make.mode_select_6
+layout (command.ModeSelect10 c) =
+    row 0x55 none Writes blocked (mode_select_10 c) [] make.mode_select_10
+layout (command.ModeSense6 c) = row 0x1A none Reads blocked (mode_sense_6 c) [] make.mode_sense_6
+layout (command.ModeSense10 c) = row 0x5A none Reads blocked (mode_sense_10 c) [] make.mode_sense_10
+layout (command.Read6 c) = row 0x08 none Reads blocked (extent_6 c) [] command.Read6
+layout (command.Read10 c) = row 0x28 none Reads blocked (extent_10 c) (cache_bits 6) make.read_10
+layout (command.Read16 c) = row 0x88 none Reads blocked (extent_16 c) (cache_bits 14) make.read_16
+layout (command.Write6 c) = row 0x0A none Writes blocked (extent_6 c) [] command.Write6
+layout (command.Write10 c) = row 0x2A none Writes blocked (extent_10 c) (cache_bits 6) make.write_10
+layout (command.Write16 c) = row 0x8A none Writes blocked (extent_16 c) (cache_bits 14) make.write_16
+layout command.ReadCapacity10 = row 0x25 none Always blocked [] [] command.ReadCapacity10
+layout (command.ReadCapacity16 c) =
+    row 0x9E (named 0x10) Always blocked (read_capacity_16 c) [] make.read_capacity_16
+layout (command.SynchronizeCache10 c) =
+    row 0x35 none Writes blocked (extent_10 c) immed_bits make.synchronize_cache_10
+layout (command.WriteSame10 c) =
+    row 0x41 none Writes blocked (write_same_10 c) (group_number 6) make.write_same_10
+layout (command.WriteSame16 c) =
+    row 0x93 none Writes blocked (write_same_16 c) (group_number 14) make.write_same_16
+layout (command.Unmap c) = row 0x42 none Writes blocked (unmap c) [] make.unmap
+layout (command.GetLbaStatus c) =
+    row 0x9E (named 0x12) Reads blocked (get_lba_status c) [] make.get_lba_status
+layout (command.PersistentReserveIn c) =
+    row 0x5E (named (in_code c.action)) Always blocked (reserve_in c) [] (make.reserve_in c.action)
+layout (command.PersistentReserveOut c) =
+    row 0x5F (named (out_code c.action)) Always blocked (reserve_out c) [] (make.reserve_out c.action)
 
 -- Each command once, and where its service action is a value of it, once with each. Only the places
 -- of its fields matter here, not their values.
 abbrev pub each_command : List Command
 each_command =
-    TestUnitReady
-    ∷ RequestSense false 0
-    ∷ Inquiry false 0 0
-    ∷ ModeSelect6 false false 0
-    ∷ ModeSelect10 false false 0
-    ∷ ModeSense6 false 0 0 0 0
-    ∷ ModeSense10 false false 0 0 0 0
-    ∷ Read6 (0, 1)
-    ∷ Read10 0 0
-    ∷ Read16 0 0
-    ∷ Write6 (0, 1)
-    ∷ Write10 0 0
-    ∷ Write16 0 0
-    ∷ ReadCapacity10
-    ∷ ReadCapacity16 0
-    ∷ SynchronizeCache10 0 0
-    ∷ WriteSame10 false false 0 0
-    ∷ WriteSame16 false false 0 0
-    ∷ Unmap false 0 0
-    ∷ GetLbaStatus 0 0
-    ∷ map (λ action. PersistentReserveIn action 0) each_in_action
-    ++ map (λ action. PersistentReserveOut action 0 0) each_out_action
+    command.TestUnitReady
+    ∷ make.request_sense false 0
+    ∷ make.inquiry false 0 0
+    ∷ make.mode_select_6 false false 0
+    ∷ make.mode_select_10 false false 0
+    ∷ make.mode_sense_6 false 0 0 0 0
+    ∷ make.mode_sense_10 false false 0 0 0 0
+    ∷ command.Read6 (0, 1)
+    ∷ make.read_10 0 0
+    ∷ make.read_16 0 0
+    ∷ command.Write6 (0, 1)
+    ∷ make.write_10 0 0
+    ∷ make.write_16 0 0
+    ∷ command.ReadCapacity10
+    ∷ make.read_capacity_16 0
+    ∷ make.synchronize_cache_10 0 0
+    ∷ make.write_same_10 false false 0 0
+    ∷ make.write_same_16 false false 0 0
+    ∷ make.unmap false 0 0
+    ∷ make.get_lba_status 0 0
+    ∷ map (λ action. make.reserve_in action 0) each_in_action
+    ++ map (λ action. make.reserve_out action 0 0) each_out_action
 
 abbrev pub table : List Layout
 table = map layout each_command

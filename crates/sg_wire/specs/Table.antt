@@ -2,6 +2,7 @@
 -- its command.
 use Rattle.std.specs.Prelude.{ℕ, ◌≡◌, ◌≤◌, List, length, slice_index, Bool, true, false, Option, Some, None}
 use Rattle.std.specs.Prelude.{Err, bit_and, nat_lt, if◌then◌else◌}
+use Rattle.sg_wire.specs.Commands as make
 use Rattle.sg_wire.specs.Layout.{Layout, layout, masks, command_of}
 use Rattle.sg_wire.specs.declared.command.CdbFault.TheVariants.{Opcode, Short, Field as BadField}
 use Rattle.sg_wire.specs.declared.command.Command.{Command}
@@ -19,27 +20,27 @@ use Rattle.sg_wire.specs.declared.command.table.Name.TheVariants as name
 -- A command of each name. Only the places of its fields matter here, not their values.
 abbrev pub command_named : Name → Command
 command_named name.TestUnitReady = command.TestUnitReady
-command_named name.RequestSense = command.RequestSense false 0
-command_named name.Inquiry = command.Inquiry false 0 0
-command_named name.ModeSelect6 = command.ModeSelect6 false false 0
-command_named name.ModeSelect10 = command.ModeSelect10 false false 0
-command_named name.ModeSense6 = command.ModeSense6 false 0 0 0 0
-command_named name.ModeSense10 = command.ModeSense10 false false 0 0 0 0
-command_named name.PersistentReserveIn = command.PersistentReserveIn ReadKeys 0
-command_named name.PersistentReserveOut = command.PersistentReserveOut Register 0 0
+command_named name.RequestSense = make.request_sense false 0
+command_named name.Inquiry = make.inquiry false 0 0
+command_named name.ModeSelect6 = make.mode_select_6 false false 0
+command_named name.ModeSelect10 = make.mode_select_10 false false 0
+command_named name.ModeSense6 = make.mode_sense_6 false 0 0 0 0
+command_named name.ModeSense10 = make.mode_sense_10 false false 0 0 0 0
+command_named name.PersistentReserveIn = make.reserve_in ReadKeys 0
+command_named name.PersistentReserveOut = make.reserve_out Register 0 0
 command_named name.Read6 = command.Read6 (0, 1)
-command_named name.Read10 = command.Read10 0 0
-command_named name.Read16 = command.Read16 0 0
+command_named name.Read10 = make.read_10 0 0
+command_named name.Read16 = make.read_16 0 0
 command_named name.Write6 = command.Write6 (0, 1)
-command_named name.Write10 = command.Write10 0 0
-command_named name.Write16 = command.Write16 0 0
+command_named name.Write10 = make.write_10 0 0
+command_named name.Write16 = make.write_16 0 0
 command_named name.ReadCapacity10 = command.ReadCapacity10
-command_named name.ReadCapacity16 = command.ReadCapacity16 0
-command_named name.SynchronizeCache10 = command.SynchronizeCache10 0 0
-command_named name.WriteSame10 = command.WriteSame10 false false 0 0
-command_named name.WriteSame16 = command.WriteSame16 false false 0 0
-command_named name.Unmap = command.Unmap false 0 0
-command_named name.GetLbaStatus = command.GetLbaStatus 0 0
+command_named name.ReadCapacity16 = make.read_capacity_16 0
+command_named name.SynchronizeCache10 = make.synchronize_cache_10 0 0
+command_named name.WriteSame10 = make.write_same_10 false false 0 0
+command_named name.WriteSame16 = make.write_same_16 false false 0 0
+command_named name.Unmap = make.unmap false 0 0
+command_named name.GetLbaStatus = make.get_lba_status 0 0
 
 -- The layout of each name.
 abbrev pub layout_of : Name → Layout

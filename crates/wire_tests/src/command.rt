@@ -1,110 +1,114 @@
 // CDBs as SPC-4 and SBC-3 lay them out. Their faults and their ignored bits are worked rows.
-use sg_wire::{Class, Command, InAction, OutAction, ShortExtent};
+use sg_wire::{
+    Class, Command, Extent10, Extent16, GetLbaStatus, InAction, Inquiry, OutAction,
+    PersistentReserveIn, PersistentReserveOut, ReadCapacity16, RequestSense, ShortExtent,
+    WriteSame10, WriteSame16,
+};
 use std::test::Fail;
 
 const READY: Command = Command::TestUnitReady;
 
 // INQUIRY for the standard data, for the unit serial number page, and with the largest values.
-const STANDARD: Command = Command::Inquiry {
+const STANDARD: Command = Command::Inquiry(Inquiry {
     evpd: false,
     page_code: 0x00,
     allocation_length: 36,
-};
+});
 
-const SERIAL_NUMBER: Command = Command::Inquiry {
+const SERIAL_NUMBER: Command = Command::Inquiry(Inquiry {
     evpd: true,
     page_code: 0x80,
     allocation_length: 255,
-};
+});
 
-const LARGEST: Command = Command::Inquiry {
+const LARGEST: Command = Command::Inquiry(Inquiry {
     evpd: true,
     page_code: 0xFF,
     allocation_length: 0xFFFE,
-};
+});
 
 // REQUEST SENSE in fixed and in descriptor format.
-const FIXED: Command = Command::RequestSense {
+const FIXED: Command = Command::RequestSense(RequestSense {
     desc: false,
     allocation_length: 18,
-};
+});
 
-const DESCRIPTOR: Command = Command::RequestSense {
+const DESCRIPTOR: Command = Command::RequestSense(RequestSense {
     desc: true,
     allocation_length: 252,
-};
+});
 
 // Each field from its first byte to its last.
-const READ_10: Command = Command::Read10 {
-    lba: 0x0102_0304,
-    transfer_length: 0x0506,
-};
-
-const WRITE_10: Command = Command::Write10 {
-    lba: 0xFFFF_FFFE,
-    transfer_length: 256,
-};
-
-const READ_16: Command = Command::Read16 {
-    lba: 0x0102_0304_0506_0708,
-    transfer_length: 0x090A_0B0C,
-};
-
-const WRITE_16: Command = Command::Write16 {
-    lba: 1 << 40,
-    transfer_length: 1,
-};
-
-const SYNCHRONIZE: Command = Command::SynchronizeCache10 {
-    lba: 0x1000,
-    count: 0xFFFF,
-};
-
-const CAPACITY_16: Command = Command::ReadCapacity16 {
-    allocation_length: 0x0102_0304,
-};
-
-const WRITE_SAME_10: Command = Command::WriteSame10 {
-    anchor: true,
-    unmap: false,
+const READ_10: Command = Command::Read10(Extent10 {
     lba: 0x0102_0304,
     count: 0x0506,
-};
+});
 
-const WRITE_SAME_16: Command = Command::WriteSame16 {
-    anchor: false,
-    unmap: true,
+const WRITE_10: Command = Command::Write10(Extent10 {
+    lba: 0xFFFF_FFFE,
+    count: 256,
+});
+
+const READ_16: Command = Command::Read16(Extent16 {
     lba: 0x0102_0304_0506_0708,
     count: 0x090A_0B0C,
-};
+});
 
-const GET_LBA_STATUS: Command = Command::GetLbaStatus {
+const WRITE_16: Command = Command::Write16(Extent16 {
+    lba: 1 << 40,
+    count: 1,
+});
+
+const SYNCHRONIZE: Command = Command::SynchronizeCache10(Extent10 {
+    lba: 0x1000,
+    count: 0xFFFF,
+});
+
+const CAPACITY_16: Command = Command::ReadCapacity16(ReadCapacity16 {
+    allocation_length: 0x0102_0304,
+});
+
+const WRITE_SAME_10: Command = Command::WriteSame10(WriteSame10 {
+    lba: 0x0102_0304,
+    count: 0x0506,
+    anchor: true,
+    unmap: false,
+});
+
+const WRITE_SAME_16: Command = Command::WriteSame16(WriteSame16 {
+    lba: 0x0102_0304_0506_0708,
+    count: 0x090A_0B0C,
+    anchor: false,
+    unmap: true,
+});
+
+const GET_LBA_STATUS: Command = Command::GetLbaStatus(GetLbaStatus {
     start: 0x0102_0304_0506_0708,
     allocation_length: 0x090A_0B0C,
-};
+});
 
 // PERSISTENT RESERVE IN, and PERSISTENT RESERVE OUT with a scope that no logical unit has.
-const READ_RESERVATION: Command = Command::PersistentReserveIn {
+const READ_RESERVATION: Command = Command::PersistentReserveIn(PersistentReserveIn {
     action: InAction::ReadReservation,
     allocation_length: 0x0102,
-};
+});
 
-const FULL_STATUS: Command = Command::PersistentReserveIn {
+const FULL_STATUS: Command = Command::PersistentReserveIn(PersistentReserveIn {
     action: InAction::ReadFullStatus,
     allocation_length: 0xFFFE,
-};
+});
 
-const RESERVE: Command = Command::PersistentReserveOut {
+const RESERVE: Command = Command::PersistentReserveOut(PersistentReserveOut {
     action: OutAction::Reserve,
     scope_type: 0x05,
     list_length: 24,
-};
+});
 
-const REGISTER_AND_IGNORE: Command = Command::PersistentReserveOut {
+const REGISTER_AND_IGNORE: Command = Command::PersistentReserveOut(PersistentReserveOut {
     action: OutAction::RegisterAndIgnoreExistingKey,
     scope_type: 0xF8,
     list_length: 0x0102_0304,
-};
+});
 
 const CDBS: [(&[u8], Command); 20] = [
     (&[0x00, 0, 0, 0, 0, 0], READY),

@@ -14,6 +14,33 @@ use super::{CdbFault, Command, ShortExtent};
 use crate::bytes::{CdbBytes, MAX_CDB_LENGTH};
 use byteorder::{BigEndian, ByteOrder};
 
+/// An extent of logical blocks as the CDBs of ten bytes name it: those of READ(10), WRITE(10) and
+/// SYNCHRONIZE CACHE(10) (SBC-3, 5.11, 5.33 and 5.26).
+#[derive(Clone, Copy, Debug, PartialEq, Eq)]
+pub struct Extent10 {
+    /// The first block's address.
+    pub lba: u32,
+    /// TRANSFER LENGTH, or NUMBER OF LOGICAL BLOCKS, in blocks.
+    pub count: u16,
+}
+
+/// An extent of logical blocks as the CDBs of sixteen bytes name it: those of READ(16) and
+/// WRITE(16) (SBC-3, 5.13 and 5.35).
+#[derive(Clone, Copy, Debug, PartialEq, Eq)]
+pub struct Extent16 {
+    /// The first block's address.
+    pub lba: u64,
+    /// TRANSFER LENGTH, in blocks.
+    pub count: u32,
+}
+
+/// The field of READ CAPACITY(16) (SBC-3, 5.16).
+#[derive(Clone, Copy, Debug, PartialEq, Eq)]
+pub struct ReadCapacity16 {
+    /// In bytes.
+    pub allocation_length: u32,
+}
+
 // ---- Decoding
 
 #[tactic(auto, unfolding(crate::specs::Layout::command_with, crate::specs::Layout::fits_masks))]
@@ -34,52 +61,36 @@ pub(super) fn decode_write_6(cdb: &[u8]) -> Result<Command, CdbFault>
 pub(super) fn decode_read_10(cdb: &[u8]) -> Result<Command, CdbFault>
     ensures { result ≡ command_with 0x28 cdb.now }
 {
-    let (lba, transfer_length) = decode_extent_10(READ_10.masks, cdb)?;
-    Ok(Command::Read10 {
-        lba,
-        transfer_length,
-    })
+    Ok(Command::Read10(decode_extent_10(READ_10.masks, cdb)?))
 }
 
 #[tactic(auto, unfolding(crate::specs::Layout::command_with, crate::specs::Layout::fits_masks))]
 pub(super) fn decode_write_10(cdb: &[u8]) -> Result<Command, CdbFault>
     ensures { result ≡ command_with 0x2A cdb.now }
 {
-    let (lba, transfer_length) = decode_extent_10(WRITE_10.masks, cdb)?;
-    Ok(Command::Write10 {
-        lba,
-        transfer_length,
-    })
+    Ok(Command::Write10(decode_extent_10(WRITE_10.masks, cdb)?))
 }
 
 #[tactic(auto, unfolding(crate::specs::Layout::command_with, crate::specs::Layout::fits_masks))]
 pub(super) fn decode_synchronize_cache_10(cdb: &[u8]) -> Result<Command, CdbFault>
     ensures { result ≡ command_with 0x35 cdb.now }
 {
-    let (lba, count) = decode_extent_10(SYNCHRONIZE_CACHE_10.masks, cdb)?;
-    Ok(Command::SynchronizeCache10 { lba, count })
+    let extent = decode_extent_10(SYNCHRONIZE_CACHE_10.masks, cdb)?;
+    Ok(Command::SynchronizeCache10(extent))
 }
 
 #[tactic(auto, unfolding(crate::specs::Layout::command_with, crate::specs::Layout::fits_masks))]
 pub(super) fn decode_read_16(cdb: &[u8]) -> Result<Command, CdbFault>
     ensures { result ≡ command_with 0x88 cdb.now }
 {
-    let (lba, transfer_length) = decode_extent_16(READ_16.masks, cdb)?;
-    Ok(Command::Read16 {
-        lba,
-        transfer_length,
-    })
+    Ok(Command::Read16(decode_extent_16(READ_16.masks, cdb)?))
 }
 
 #[tactic(auto, unfolding(crate::specs::Layout::command_with, crate::specs::Layout::fits_masks))]
 pub(super) fn decode_write_16(cdb: &[u8]) -> Result<Command, CdbFault>
     ensures { result ≡ command_with 0x8A cdb.now }
 {
-    let (lba, transfer_length) = decode_extent_16(WRITE_16.masks, cdb)?;
-    Ok(Command::Write16 {
-        lba,
-        transfer_length,
-    })
+    Ok(Command::Write16(decode_extent_16(WRITE_16.masks, cdb)?))
 }
 
 #[tactic(auto, unfolding(crate::specs::Layout::command_with, crate::specs::Layout::fits_masks))]
@@ -96,9 +107,9 @@ pub(super) fn decode_read_capacity_16(cdb: &[u8]) -> Result<Command, CdbFault>
     ensures { result ≡ command_with 0x9E cdb.now }
 {
     check_masks(READ_CAPACITY_16.masks, cdb)?;
-    Ok(Command::ReadCapacity16 {
+    Ok(Command::ReadCapacity16(ReadCapacity16 {
         allocation_length: BigEndian::read_u32(&cdb[10..]),
-    })
+    }))
 }
 
 // The address and the count of READ(6) and WRITE(6).
@@ -116,37 +127,37 @@ fn decode_extent_6(masks: &[u8], cdb: &[u8]) -> Result<ShortExtent, CdbFault>
 }
 
 // The address and the count of commands of 10 bytes.
-pub(super) fn decode_extent_10(masks: &[u8], cdb: &[u8]) -> Result<(u32, u16), CdbFault>
+pub(super) fn decode_extent_10(masks: &[u8], cdb: &[u8]) -> Result<Extent10, CdbFault>
     requires { length masks.now ≡ 10 }
     ensures fits { MatchResult result
         (λ _. fits_masks masks.now cdb.now ≡ Ok tt)
         (λ fault. fits_masks masks.now cdb.now ≡ Err fault) }
-    ensures lba { IfOk result (λ extent. extent.0 ≡ number_at cdb.now 2 5) }
-    ensures count { IfOk result (λ extent. extent.1 ≡ number_at cdb.now 7 8) }
+    ensures extent { IfOk result (λ extent.
+        extent ≡ record { lba = number_at cdb.now 2 5; count = number_at cdb.now 7 8 }) }
 {
     check_masks(masks, cdb)?;
-    Ok((
-        BigEndian::read_u32(&cdb[2..]),
-        BigEndian::read_u16(&cdb[7..]),
-    ))
+    Ok(Extent10 {
+        lba: BigEndian::read_u32(&cdb[2..]),
+        count: BigEndian::read_u16(&cdb[7..]),
+    })
 }
 
 // An address, and the number behind it, of commands of 16 bytes.
 // Inlined, since the masks of each caller are constant: a byte that may have any bit takes no test.
 #[inline(always)]
-pub(super) fn decode_extent_16(masks: &[u8], cdb: &[u8]) -> Result<(u64, u32), CdbFault>
+pub(super) fn decode_extent_16(masks: &[u8], cdb: &[u8]) -> Result<Extent16, CdbFault>
     requires { length masks.now ≡ 16 }
     ensures fits { MatchResult result
         (λ _. fits_masks masks.now cdb.now ≡ Ok tt)
         (λ fault. fits_masks masks.now cdb.now ≡ Err fault) }
-    ensures lba { IfOk result (λ extent. extent.0 ≡ number_at cdb.now 2 9) }
-    ensures count { IfOk result (λ extent. extent.1 ≡ number_at cdb.now 10 13) }
+    ensures extent { IfOk result (λ extent.
+        extent ≡ record { lba = number_at cdb.now 2 9; count = number_at cdb.now 10 13 }) }
 {
     check_masks(masks, cdb)?;
-    Ok((
-        BigEndian::read_u64(&cdb[2..]),
-        BigEndian::read_u32(&cdb[10..]),
-    ))
+    Ok(Extent16 {
+        lba: BigEndian::read_u64(&cdb[2..]),
+        count: BigEndian::read_u32(&cdb[10..]),
+    })
 }
 
 // ---- Encoding
@@ -167,27 +178,36 @@ pub(super) fn encode_extent_6(row: &Row, extent: ShortExtent) -> CdbBytes
     CdbBytes::new(cdb, 6)
 }
 
-// Commands of 10 bytes with an address and a count.
-pub(super) fn encode_extent_10(row: &Row, lba: u32, count: u16) -> CdbBytes
-    ensures { result ≡ (row.now.opcode ∷ 0 ∷ []) ++ big_bytes 4 lba ++ (0 ∷ [])
-        ++ big_bytes 2 count ++ (0 ∷ []) }
-{
-    let mut cdb = [0; MAX_CDB_LENGTH];
-    cdb[0] = row.opcode;
-    BigEndian::write_u32(&mut cdb[2..], lba);
-    BigEndian::write_u16(&mut cdb[7..], count);
-    CdbBytes::new(cdb, 10)
+impl Extent10 {
+    // The CDB of a row's command.
+    pub(super) fn encode(self, row: &Row) -> CdbBytes
+        ensures cdb { result ≡ (row.now.opcode ∷ 0 ∷ []) ++ big_bytes 4 self.lba ++ (0 ∷ [])
+            ++ big_bytes 2 self.count ++ (0 ∷ []) }
+        ensures lba { self.lba < 2 ^ 32 }
+        ensures count { self.count < 2 ^ 16 }
+    {
+        let mut cdb = [0; MAX_CDB_LENGTH];
+        cdb[0] = row.opcode;
+        BigEndian::write_u32(&mut cdb[2..], self.lba);
+        BigEndian::write_u16(&mut cdb[7..], self.count);
+        CdbBytes::new(cdb, 10)
+    }
 }
 
-// READ(16) and WRITE(16).
-pub(super) fn encode_extent_16(row: &Row, lba: u64, count: u32) -> CdbBytes
-    ensures { result ≡ (row.now.opcode ∷ 0 ∷ []) ++ big_bytes 8 lba ++ big_bytes 4 count ++ (0 ∷ 0 ∷ []) }
-{
-    let mut cdb = [0; MAX_CDB_LENGTH];
-    cdb[0] = row.opcode;
-    BigEndian::write_u64(&mut cdb[2..], lba);
-    BigEndian::write_u32(&mut cdb[10..], count);
-    CdbBytes::new(cdb, 16)
+impl Extent16 {
+    // The CDB of a row's command.
+    pub(super) fn encode(self, row: &Row) -> CdbBytes
+        ensures cdb { result ≡ (row.now.opcode ∷ 0 ∷ []) ++ big_bytes 8 self.lba
+            ++ big_bytes 4 self.count ++ (0 ∷ 0 ∷ []) }
+        ensures lba { self.lba < 2 ^ 64 }
+        ensures count { self.count < 2 ^ 32 }
+    {
+        let mut cdb = [0; MAX_CDB_LENGTH];
+        cdb[0] = row.opcode;
+        BigEndian::write_u64(&mut cdb[2..], self.lba);
+        BigEndian::write_u32(&mut cdb[10..], self.count);
+        CdbBytes::new(cdb, MAX_CDB_LENGTH)
+    }
 }
 
 #[tactic(auto, unfolding(crate::specs::Layout::cdb_of))]
@@ -199,13 +219,16 @@ pub(super) fn encode_read_capacity_10() -> CdbBytes
     CdbBytes::new(cdb, 10)
 }
 
-#[tactic(auto, unfolding(crate::specs::Layout::cdb_of))]
-pub(super) fn encode_read_capacity_16(allocation_length: u32) -> CdbBytes
-    ensures { result ≡ cdb_of (Command.ReadCapacity16 allocation_length) }
-{
-    let mut cdb = [0; MAX_CDB_LENGTH];
-    cdb[0] = READ_CAPACITY_16.opcode;
-    cdb[1] = READ_CAPACITY_16.service_action.unwrap_or(0);
-    BigEndian::write_u32(&mut cdb[10..], allocation_length);
-    CdbBytes::new(cdb, MAX_CDB_LENGTH)
+impl ReadCapacity16 {
+    #[tactic(auto, unfolding(crate::specs::Layout::cdb_of))]
+    pub(super) fn encode(self) -> CdbBytes
+        ensures cdb { result ≡ cdb_of (Command.ReadCapacity16 self) }
+        ensures allocation_length { self.allocation_length < 2 ^ 32 }
+    {
+        let mut cdb = [0; MAX_CDB_LENGTH];
+        cdb[0] = READ_CAPACITY_16.opcode;
+        cdb[1] = READ_CAPACITY_16.service_action.unwrap_or(0);
+        BigEndian::write_u32(&mut cdb[10..], self.allocation_length);
+        CdbBytes::new(cdb, MAX_CDB_LENGTH)
+    }
 }

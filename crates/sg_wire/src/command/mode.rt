@@ -1,5 +1,5 @@
 // MODE SENSE and MODE SELECT (SPC-4, 6.11 to 6.14).
-ghost use Rattle.std.specs.Prelude.{◌≡◌, ◌+◌, ◌*◌, ◌<◌, if◌then◌else◌};
+ghost use Rattle.std.specs.Prelude.{◌≡◌, ◌+◌, ◌*◌, ◌<◌, ◌^◌, if◌then◌else◌};
 ghost use Rattle.sg_wire.specs.Layout.{cdb_of, command_with};
 
 use super::masks::check_masks;
@@ -17,6 +17,60 @@ const PF: u8 = 0x10;
 
 const SP: u8 = 0x01;
 
+/// The fields of MODE SELECT(6) (SPC-4, 6.11).
+#[derive(Clone, Copy, Debug, PartialEq, Eq)]
+pub struct ModeSelect6 {
+    /// The parameter list has the format of the standard: a page format.
+    pub pf: bool,
+    /// All mode pages are to be saved.
+    pub sp: bool,
+    /// Of the parameter list, in bytes.
+    pub list_length: u8,
+}
+
+/// The fields of MODE SELECT(10) (SPC-4, 6.12).
+#[derive(Clone, Copy, Debug, PartialEq, Eq)]
+pub struct ModeSelect10 {
+    /// The parameter list has the format of the standard: a page format.
+    pub pf: bool,
+    /// All mode pages are to be saved.
+    pub sp: bool,
+    /// Of the parameter list, in bytes.
+    pub list_length: u16,
+}
+
+/// The fields of MODE SENSE(6) (SPC-4, 6.13).
+#[derive(Clone, Copy, Debug, PartialEq, Eq)]
+pub struct ModeSense6 {
+    /// No block descriptor is to be returned.
+    pub dbd: bool,
+    /// Which values of the pages are asked for.
+    pub page_control: PageControlField,
+    /// The page, 3Fh for all pages.
+    pub page_code: PageCode,
+    /// The subpage.
+    pub subpage_code: u8,
+    /// In bytes.
+    pub allocation_length: u8,
+}
+
+/// The fields of MODE SENSE(10) (SPC-4, 6.14).
+#[derive(Clone, Copy, Debug, PartialEq, Eq)]
+pub struct ModeSense10 {
+    /// The long block descriptor is accepted.
+    pub llbaa: bool,
+    /// No block descriptor is to be returned.
+    pub dbd: bool,
+    /// Which values of the pages are asked for.
+    pub page_control: PageControlField,
+    /// The page, 3Fh for all pages.
+    pub page_code: PageCode,
+    /// The subpage.
+    pub subpage_code: u8,
+    /// In bytes.
+    pub allocation_length: u16,
+}
+
 // ---- Decoding
 
 #[tactic(auto, unfolding(crate::specs::Layout::command_with, crate::specs::Layout::fits_masks))]
@@ -24,13 +78,13 @@ pub(super) fn decode_mode_sense_6(cdb: &[u8]) -> Result<Command, CdbFault>
     ensures { result ≡ command_with 0x1A cdb.now }
 {
     check_masks(MODE_SENSE_6.masks, cdb)?;
-    Ok(Command::ModeSense6 {
+    Ok(Command::ModeSense6(ModeSense6 {
         dbd: cdb[1] & DBD != 0,
         page_control: PageControlField::of_byte(cdb[2]),
         page_code: PageCode::of_byte(cdb[2]),
         subpage_code: cdb[3],
         allocation_length: cdb[4],
-    })
+    }))
 }
 
 #[tactic(auto, unfolding(crate::specs::Layout::command_with, crate::specs::Layout::fits_masks))]
@@ -38,14 +92,14 @@ pub(super) fn decode_mode_sense_10(cdb: &[u8]) -> Result<Command, CdbFault>
     ensures { result ≡ command_with 0x5A cdb.now }
 {
     check_masks(MODE_SENSE_10.masks, cdb)?;
-    Ok(Command::ModeSense10 {
+    Ok(Command::ModeSense10(ModeSense10 {
         llbaa: cdb[1] & LLBAA != 0,
         dbd: cdb[1] & DBD != 0,
         page_control: PageControlField::of_byte(cdb[2]),
         page_code: PageCode::of_byte(cdb[2]),
         subpage_code: cdb[3],
         allocation_length: BigEndian::read_u16(&cdb[7..]),
-    })
+    }))
 }
 
 #[tactic(auto, unfolding(crate::specs::Layout::command_with, crate::specs::Layout::fits_masks))]
@@ -53,11 +107,11 @@ pub(super) fn decode_mode_select_6(cdb: &[u8]) -> Result<Command, CdbFault>
     ensures { result ≡ command_with 0x15 cdb.now }
 {
     check_masks(MODE_SELECT_6.masks, cdb)?;
-    Ok(Command::ModeSelect6 {
+    Ok(Command::ModeSelect6(ModeSelect6 {
         pf: cdb[1] & PF != 0,
         sp: cdb[1] & SP != 0,
         list_length: cdb[4],
-    })
+    }))
 }
 
 #[tactic(auto, unfolding(crate::specs::Layout::command_with, crate::specs::Layout::fits_masks))]
@@ -65,80 +119,79 @@ pub(super) fn decode_mode_select_10(cdb: &[u8]) -> Result<Command, CdbFault>
     ensures { result ≡ command_with 0x55 cdb.now }
 {
     check_masks(MODE_SELECT_10.masks, cdb)?;
-    Ok(Command::ModeSelect10 {
+    Ok(Command::ModeSelect10(ModeSelect10 {
         pf: cdb[1] & PF != 0,
         sp: cdb[1] & SP != 0,
         list_length: BigEndian::read_u16(&cdb[7..]),
-    })
+    }))
 }
 
 // ---- Encoding
 
-#[tactic(auto, unfolding(crate::specs::Layout::cdb_of))]
-pub(super) fn encode_mode_sense_6(
-    dbd: bool,
-    page_control: PageControlField,
-    page_code: PageCode,
-    subpage_code: u8,
-    allocation_length: u8,
-) -> CdbBytes
-    ensures cdb { result
-        ≡ cdb_of (Command.ModeSense6 dbd page_control page_code subpage_code allocation_length) }
-    ensures page_control { page_control < 4 }
-    ensures page_code { page_code < 64 }
-{
-    let mut cdb = [0; MAX_CDB_LENGTH];
-    cdb[0] = MODE_SENSE_6.opcode;
-    cdb[1] = if dbd { DBD } else { 0 };
-    cdb[2] = 64 * page_control.number() + page_code.number();
-    cdb[3] = subpage_code;
-    cdb[4] = allocation_length;
-    CdbBytes::new(cdb, 6)
+impl ModeSense6 {
+    #[tactic(auto, unfolding(crate::specs::Layout::cdb_of))]
+    pub(super) fn encode(self) -> CdbBytes
+        ensures cdb { result ≡ cdb_of (Command.ModeSense6 self) }
+        ensures page_control { self.page_control < 4 }
+        ensures page_code { self.page_code < 64 }
+        ensures subpage_code { self.subpage_code < 256 }
+        ensures allocation_length { self.allocation_length < 256 }
+    {
+        let mut cdb = [0; MAX_CDB_LENGTH];
+        cdb[0] = MODE_SENSE_6.opcode;
+        cdb[1] = if self.dbd { DBD } else { 0 };
+        cdb[2] = 64 * self.page_control.number() + self.page_code.number();
+        cdb[3] = self.subpage_code;
+        cdb[4] = self.allocation_length;
+        CdbBytes::new(cdb, 6)
+    }
 }
 
-#[tactic(auto, unfolding(crate::specs::Layout::cdb_of))]
-pub(super) fn encode_mode_sense_10(
-    llbaa: bool,
-    dbd: bool,
-    page_control: PageControlField,
-    page_code: PageCode,
-    subpage_code: u8,
-    allocation_length: u16,
-) -> CdbBytes
-    ensures cdb { result ≡ cdb_of
-        (Command.ModeSense10 llbaa dbd page_control page_code subpage_code allocation_length) }
-    ensures page_control { page_control < 4 }
-    ensures page_code { page_code < 64 }
-{
-    let mut cdb = [0; MAX_CDB_LENGTH];
-    cdb[0] = MODE_SENSE_10.opcode;
-    cdb[1] = two_bits(llbaa, LLBAA, dbd, DBD);
-    cdb[2] = 64 * page_control.number() + page_code.number();
-    cdb[3] = subpage_code;
-    BigEndian::write_u16(&mut cdb[7..], allocation_length);
-    CdbBytes::new(cdb, 10)
+impl ModeSense10 {
+    #[tactic(auto, unfolding(crate::specs::Layout::cdb_of))]
+    pub(super) fn encode(self) -> CdbBytes
+        ensures cdb { result ≡ cdb_of (Command.ModeSense10 self) }
+        ensures page_control { self.page_control < 4 }
+        ensures page_code { self.page_code < 64 }
+        ensures subpage_code { self.subpage_code < 256 }
+        ensures allocation_length { self.allocation_length < 2 ^ 16 }
+    {
+        let mut cdb = [0; MAX_CDB_LENGTH];
+        cdb[0] = MODE_SENSE_10.opcode;
+        cdb[1] = two_bits(self.llbaa, LLBAA, self.dbd, DBD);
+        cdb[2] = 64 * self.page_control.number() + self.page_code.number();
+        cdb[3] = self.subpage_code;
+        BigEndian::write_u16(&mut cdb[7..], self.allocation_length);
+        CdbBytes::new(cdb, 10)
+    }
 }
 
-#[tactic(auto, unfolding(crate::specs::Layout::cdb_of))]
-pub(super) fn encode_mode_select_6(pf: bool, sp: bool, list_length: u8) -> CdbBytes
-    ensures { result ≡ cdb_of (Command.ModeSelect6 pf sp list_length) }
-{
-    let mut cdb = [0; MAX_CDB_LENGTH];
-    cdb[0] = MODE_SELECT_6.opcode;
-    cdb[1] = two_bits(pf, PF, sp, SP);
-    cdb[4] = list_length;
-    CdbBytes::new(cdb, 6)
+impl ModeSelect6 {
+    #[tactic(auto, unfolding(crate::specs::Layout::cdb_of))]
+    pub(super) fn encode(self) -> CdbBytes
+        ensures cdb { result ≡ cdb_of (Command.ModeSelect6 self) }
+        ensures list_length { self.list_length < 256 }
+    {
+        let mut cdb = [0; MAX_CDB_LENGTH];
+        cdb[0] = MODE_SELECT_6.opcode;
+        cdb[1] = two_bits(self.pf, PF, self.sp, SP);
+        cdb[4] = self.list_length;
+        CdbBytes::new(cdb, 6)
+    }
 }
 
-#[tactic(auto, unfolding(crate::specs::Layout::cdb_of))]
-pub(super) fn encode_mode_select_10(pf: bool, sp: bool, list_length: u16) -> CdbBytes
-    ensures { result ≡ cdb_of (Command.ModeSelect10 pf sp list_length) }
-{
-    let mut cdb = [0; MAX_CDB_LENGTH];
-    cdb[0] = MODE_SELECT_10.opcode;
-    cdb[1] = two_bits(pf, PF, sp, SP);
-    BigEndian::write_u16(&mut cdb[7..], list_length);
-    CdbBytes::new(cdb, 10)
+impl ModeSelect10 {
+    #[tactic(auto, unfolding(crate::specs::Layout::cdb_of))]
+    pub(super) fn encode(self) -> CdbBytes
+        ensures cdb { result ≡ cdb_of (Command.ModeSelect10 self) }
+        ensures list_length { self.list_length < 2 ^ 16 }
+    {
+        let mut cdb = [0; MAX_CDB_LENGTH];
+        cdb[0] = MODE_SELECT_10.opcode;
+        cdb[1] = two_bits(self.pf, PF, self.sp, SP);
+        BigEndian::write_u16(&mut cdb[7..], self.list_length);
+        CdbBytes::new(cdb, 10)
+    }
 }
 
 // Two bits of one byte, each with its mask.

@@ -1,12 +1,31 @@
 // Primary commands (SPC-4, 6).
-ghost use Rattle.std.specs.Prelude.{◌≡◌};
+ghost use Rattle.std.specs.Prelude.{◌≡◌, ◌<◌, ◌^◌};
 ghost use Rattle.sg_wire.specs.Layout.{cdb_of, command_with};
 
 use super::masks::check_masks;
-use super::table::{INQUIRY, REQUEST_SENSE, TEST_UNIT_READY};
-use super::{CdbFault, Command};
+use super::{CdbFault, Command, table};
 use crate::bytes::{CdbBytes, MAX_CDB_LENGTH};
 use byteorder::{BigEndian, ByteOrder};
+
+/// The fields of REQUEST SENSE (SPC-4, 6.39).
+#[derive(Clone, Copy, Debug, PartialEq, Eq)]
+pub struct RequestSense {
+    /// Descriptor format is asked for, not fixed format.
+    pub desc: bool,
+    /// In bytes.
+    pub allocation_length: u8,
+}
+
+/// The fields of INQUIRY (SPC-4, 6.6).
+#[derive(Clone, Copy, Debug, PartialEq, Eq)]
+pub struct Inquiry {
+    /// Vital product data is asked for, not the standard INQUIRY data.
+    pub evpd: bool,
+    /// The page of vital product data.
+    pub page_code: u8,
+    /// In bytes.
+    pub allocation_length: u16,
+}
 
 // ---- Decoding
 
@@ -14,7 +33,7 @@ use byteorder::{BigEndian, ByteOrder};
 pub(super) fn decode_test_unit_ready(cdb: &[u8]) -> Result<Command, CdbFault>
     ensures { result ≡ command_with 0x00 cdb.now }
 {
-    check_masks(TEST_UNIT_READY.masks, cdb)?;
+    check_masks(table::TEST_UNIT_READY.masks, cdb)?;
     Ok(Command::TestUnitReady)
 }
 
@@ -22,23 +41,23 @@ pub(super) fn decode_test_unit_ready(cdb: &[u8]) -> Result<Command, CdbFault>
 pub(super) fn decode_request_sense(cdb: &[u8]) -> Result<Command, CdbFault>
     ensures { result ≡ command_with 0x03 cdb.now }
 {
-    check_masks(REQUEST_SENSE.masks, cdb)?;
-    Ok(Command::RequestSense {
+    check_masks(table::REQUEST_SENSE.masks, cdb)?;
+    Ok(Command::RequestSense(RequestSense {
         desc: cdb[1] & 0x01 != 0,
         allocation_length: cdb[4],
-    })
+    }))
 }
 
 #[tactic(auto, unfolding(crate::specs::Layout::command_with, crate::specs::Layout::fits_masks))]
 pub(super) fn decode_inquiry(cdb: &[u8]) -> Result<Command, CdbFault>
     ensures { result ≡ command_with 0x12 cdb.now }
 {
-    check_masks(INQUIRY.masks, cdb)?;
-    Ok(Command::Inquiry {
+    check_masks(table::INQUIRY.masks, cdb)?;
+    Ok(Command::Inquiry(Inquiry {
         evpd: cdb[1] & 0x01 != 0,
         page_code: cdb[2],
         allocation_length: BigEndian::read_u16(&cdb[3..]),
-    })
+    }))
 }
 
 // ---- Encoding
@@ -48,29 +67,36 @@ pub(super) fn encode_test_unit_ready() -> CdbBytes
     ensures { result ≡ cdb_of Command.TestUnitReady }
 {
     let mut cdb = [0; MAX_CDB_LENGTH];
-    cdb[0] = TEST_UNIT_READY.opcode;
+    cdb[0] = table::TEST_UNIT_READY.opcode;
     CdbBytes::new(cdb, 6)
 }
 
-#[tactic(auto, unfolding(crate::specs::Layout::cdb_of))]
-pub(super) fn encode_request_sense(desc: bool, allocation_length: u8) -> CdbBytes
-    ensures { result ≡ cdb_of (Command.RequestSense desc allocation_length) }
-{
-    let mut cdb = [0; MAX_CDB_LENGTH];
-    cdb[0] = REQUEST_SENSE.opcode;
-    cdb[1] = u8::from(desc);
-    cdb[4] = allocation_length;
-    CdbBytes::new(cdb, 6)
+impl RequestSense {
+    #[tactic(auto, unfolding(crate::specs::Layout::cdb_of))]
+    pub(super) fn encode(self) -> CdbBytes
+        ensures cdb { result ≡ cdb_of (Command.RequestSense self) }
+        ensures allocation_length { self.allocation_length < 256 }
+    {
+        let mut cdb = [0; MAX_CDB_LENGTH];
+        cdb[0] = table::REQUEST_SENSE.opcode;
+        cdb[1] = u8::from(self.desc);
+        cdb[4] = self.allocation_length;
+        CdbBytes::new(cdb, 6)
+    }
 }
 
-#[tactic(auto, unfolding(crate::specs::Layout::cdb_of))]
-pub(super) fn encode_inquiry(evpd: bool, page_code: u8, allocation_length: u16) -> CdbBytes
-    ensures { result ≡ cdb_of (Command.Inquiry evpd page_code allocation_length) }
-{
-    let mut cdb = [0; MAX_CDB_LENGTH];
-    cdb[0] = INQUIRY.opcode;
-    cdb[1] = u8::from(evpd);
-    cdb[2] = page_code;
-    BigEndian::write_u16(&mut cdb[3..], allocation_length);
-    CdbBytes::new(cdb, 6)
+impl Inquiry {
+    #[tactic(auto, unfolding(crate::specs::Layout::cdb_of))]
+    pub(super) fn encode(self) -> CdbBytes
+        ensures cdb { result ≡ cdb_of (Command.Inquiry self) }
+        ensures page_code { self.page_code < 256 }
+        ensures allocation_length { self.allocation_length < 2 ^ 16 }
+    {
+        let mut cdb = [0; MAX_CDB_LENGTH];
+        cdb[0] = table::INQUIRY.opcode;
+        cdb[1] = u8::from(self.evpd);
+        cdb[2] = self.page_code;
+        BigEndian::write_u16(&mut cdb[3..], self.allocation_length);
+        CdbBytes::new(cdb, 6)
+    }
 }

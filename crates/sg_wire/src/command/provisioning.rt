@@ -1,11 +1,10 @@
 // Commands of logical block provisioning (SBC-3, 4.7 and 5).
-ghost use Rattle.std.specs.Prelude.{◌≡◌, ◌+◌, ◌<◌, slice_index, bit_and, if◌then◌else◌};
+ghost use Rattle.std.specs.Prelude.{◌≡◌, ◌+◌, ◌<◌, ◌^◌, slice_index, bit_and, if◌then◌else◌};
 ghost use Rattle.sg_wire.specs.Layout.{cdb_of, command_with};
 
 use super::block::{decode_extent_10, decode_extent_16};
 use super::masks::check_masks;
-use super::table::{GET_LBA_STATUS, UNMAP, WRITE_SAME_10, WRITE_SAME_16};
-use super::{CdbFault, Command, GroupNumber};
+use super::{CdbFault, Command, GroupNumber, table};
 use crate::bytes::{CdbBytes, MAX_CDB_LENGTH};
 use byteorder::{BigEndian, ByteOrder};
 
@@ -16,44 +15,90 @@ const WRITE_SAME_UNMAP: u8 = 0x08;
 
 const UNMAP_ANCHOR: u8 = 0x01;
 
+/// The fields of WRITE SAME(10) (SBC-3, 5.43).
+#[derive(Clone, Copy, Debug, PartialEq, Eq)]
+pub struct WriteSame10 {
+    /// The first block's address.
+    pub lba: u32,
+    /// In blocks.
+    pub count: u16,
+    /// Blocks that are unmapped are to be anchored.
+    pub anchor: bool,
+    /// The blocks are to be unmapped in place of being written, if they then read as the block.
+    pub unmap: bool,
+}
+
+/// The fields of WRITE SAME(16) (SBC-3, 5.44).
+#[derive(Clone, Copy, Debug, PartialEq, Eq)]
+pub struct WriteSame16 {
+    /// The first block's address.
+    pub lba: u64,
+    /// In blocks.
+    pub count: u32,
+    /// Blocks that are unmapped are to be anchored.
+    pub anchor: bool,
+    /// The blocks are to be unmapped in place of being written, if they then read as the block.
+    pub unmap: bool,
+}
+
+/// The fields of UNMAP (SBC-3, 5.28).
+#[derive(Clone, Copy, Debug, PartialEq, Eq)]
+pub struct Unmap {
+    /// The blocks are to be anchored.
+    pub anchor: bool,
+    /// GROUP NUMBER, which the disk does not use.
+    pub group: GroupNumber,
+    /// Of the parameter list, in bytes.
+    pub list_length: u16,
+}
+
+/// The fields of GET LBA STATUS (SBC-3, 5.4).
+#[derive(Clone, Copy, Debug, PartialEq, Eq)]
+pub struct GetLbaStatus {
+    /// The first address whose status is asked for.
+    pub start: u64,
+    /// In bytes.
+    pub allocation_length: u32,
+}
+
 // ---- Decoding
 
 #[tactic(auto, unfolding(crate::specs::Layout::command_with, crate::specs::Layout::fits_masks))]
 pub(super) fn decode_write_same_10(cdb: &[u8]) -> Result<Command, CdbFault>
     ensures { result ≡ command_with 0x41 cdb.now }
 {
-    let (lba, count) = decode_extent_10(WRITE_SAME_10.masks, cdb)?;
-    Ok(Command::WriteSame10 {
+    let extent = decode_extent_10(table::WRITE_SAME_10.masks, cdb)?;
+    Ok(Command::WriteSame10(WriteSame10 {
+        lba: extent.lba,
+        count: extent.count,
         anchor: cdb[1] & WRITE_SAME_ANCHOR != 0,
         unmap: cdb[1] & WRITE_SAME_UNMAP != 0,
-        lba,
-        count,
-    })
+    }))
 }
 
 #[tactic(auto, unfolding(crate::specs::Layout::command_with, crate::specs::Layout::fits_masks))]
 pub(super) fn decode_write_same_16(cdb: &[u8]) -> Result<Command, CdbFault>
     ensures { result ≡ command_with 0x93 cdb.now }
 {
-    let (lba, count) = decode_extent_16(WRITE_SAME_16.masks, cdb)?;
-    Ok(Command::WriteSame16 {
+    let extent = decode_extent_16(table::WRITE_SAME_16.masks, cdb)?;
+    Ok(Command::WriteSame16(WriteSame16 {
+        lba: extent.lba,
+        count: extent.count,
         anchor: cdb[1] & WRITE_SAME_ANCHOR != 0,
         unmap: cdb[1] & WRITE_SAME_UNMAP != 0,
-        lba,
-        count,
-    })
+    }))
 }
 
 #[tactic(auto, unfolding(crate::specs::Layout::command_with, crate::specs::Layout::fits_masks))]
 pub(super) fn decode_unmap(cdb: &[u8]) -> Result<Command, CdbFault>
     ensures { result ≡ command_with 0x42 cdb.now }
 {
-    check_masks(UNMAP.masks, cdb)?;
-    Ok(Command::Unmap {
+    check_masks(table::UNMAP.masks, cdb)?;
+    Ok(Command::Unmap(Unmap {
         anchor: cdb[1] & UNMAP_ANCHOR != 0,
         group: GroupNumber::of_byte(cdb[6]),
         list_length: BigEndian::read_u16(&cdb[7..]),
-    })
+    }))
 }
 
 #[tactic(auto, unfolding(crate::specs::Layout::command_with, crate::specs::Layout::fits_masks))]
@@ -61,37 +106,46 @@ pub(super) fn decode_get_lba_status(cdb: &[u8]) -> Result<Command, CdbFault>
     requires { bit_and (slice_index cdb.now 1) 0x1F ≡ 0x12 }
     ensures { result ≡ command_with 0x9E cdb.now }
 {
-    let (start, allocation_length) = decode_extent_16(GET_LBA_STATUS.masks, cdb)?;
-    Ok(Command::GetLbaStatus {
-        start,
-        allocation_length,
-    })
+    // The numbers lie where those of an extent do.
+    let numbers = decode_extent_16(table::GET_LBA_STATUS.masks, cdb)?;
+    Ok(Command::GetLbaStatus(GetLbaStatus {
+        start: numbers.lba,
+        allocation_length: numbers.count,
+    }))
 }
 
 // ---- Encoding
 
-#[tactic(auto, unfolding(crate::specs::Layout::cdb_of))]
-pub(super) fn encode_write_same_10(anchor: bool, unmap: bool, lba: u32, count: u16) -> CdbBytes
-    ensures { result ≡ cdb_of (Command.WriteSame10 anchor unmap lba count) }
-{
-    let mut cdb = [0; MAX_CDB_LENGTH];
-    cdb[0] = WRITE_SAME_10.opcode;
-    cdb[1] = write_same_bits(anchor, unmap);
-    BigEndian::write_u32(&mut cdb[2..], lba);
-    BigEndian::write_u16(&mut cdb[7..], count);
-    CdbBytes::new(cdb, 10)
+impl WriteSame10 {
+    #[tactic(auto, unfolding(crate::specs::Layout::cdb_of))]
+    pub(super) fn encode(self) -> CdbBytes
+        ensures cdb { result ≡ cdb_of (Command.WriteSame10 self) }
+        ensures lba { self.lba < 2 ^ 32 }
+        ensures count { self.count < 2 ^ 16 }
+    {
+        let mut cdb = [0; MAX_CDB_LENGTH];
+        cdb[0] = table::WRITE_SAME_10.opcode;
+        cdb[1] = write_same_bits(self.anchor, self.unmap);
+        BigEndian::write_u32(&mut cdb[2..], self.lba);
+        BigEndian::write_u16(&mut cdb[7..], self.count);
+        CdbBytes::new(cdb, 10)
+    }
 }
 
-#[tactic(auto, unfolding(crate::specs::Layout::cdb_of))]
-pub(super) fn encode_write_same_16(anchor: bool, unmap: bool, lba: u64, count: u32) -> CdbBytes
-    ensures { result ≡ cdb_of (Command.WriteSame16 anchor unmap lba count) }
-{
-    let mut cdb = [0; MAX_CDB_LENGTH];
-    cdb[0] = WRITE_SAME_16.opcode;
-    cdb[1] = write_same_bits(anchor, unmap);
-    BigEndian::write_u64(&mut cdb[2..], lba);
-    BigEndian::write_u32(&mut cdb[10..], count);
-    CdbBytes::new(cdb, MAX_CDB_LENGTH)
+impl WriteSame16 {
+    #[tactic(auto, unfolding(crate::specs::Layout::cdb_of))]
+    pub(super) fn encode(self) -> CdbBytes
+        ensures cdb { result ≡ cdb_of (Command.WriteSame16 self) }
+        ensures lba { self.lba < 2 ^ 64 }
+        ensures count { self.count < 2 ^ 32 }
+    {
+        let mut cdb = [0; MAX_CDB_LENGTH];
+        cdb[0] = table::WRITE_SAME_16.opcode;
+        cdb[1] = write_same_bits(self.anchor, self.unmap);
+        BigEndian::write_u64(&mut cdb[2..], self.lba);
+        BigEndian::write_u32(&mut cdb[10..], self.count);
+        CdbBytes::new(cdb, MAX_CDB_LENGTH)
+    }
 }
 
 // Byte 1 of WRITE SAME.
@@ -103,27 +157,34 @@ fn write_same_bits(anchor: bool, unmap: bool) -> u8
     anchor_bit + unmap_bit
 }
 
-#[tactic(auto, unfolding(crate::specs::Layout::cdb_of))]
-pub(super) fn encode_unmap(anchor: bool, group: GroupNumber, list_length: u16) -> CdbBytes
-    ensures cdb { result ≡ cdb_of (Command.Unmap anchor group list_length) }
-    ensures group { group < 32 }
-{
-    let mut cdb = [0; MAX_CDB_LENGTH];
-    cdb[0] = UNMAP.opcode;
-    cdb[1] = if anchor { UNMAP_ANCHOR } else { 0 };
-    cdb[6] = group.number();
-    BigEndian::write_u16(&mut cdb[7..], list_length);
-    CdbBytes::new(cdb, 10)
+impl Unmap {
+    #[tactic(auto, unfolding(crate::specs::Layout::cdb_of))]
+    pub(super) fn encode(self) -> CdbBytes
+        ensures cdb { result ≡ cdb_of (Command.Unmap self) }
+        ensures group { self.group < 32 }
+        ensures list_length { self.list_length < 2 ^ 16 }
+    {
+        let mut cdb = [0; MAX_CDB_LENGTH];
+        cdb[0] = table::UNMAP.opcode;
+        cdb[1] = if self.anchor { UNMAP_ANCHOR } else { 0 };
+        cdb[6] = self.group.number();
+        BigEndian::write_u16(&mut cdb[7..], self.list_length);
+        CdbBytes::new(cdb, 10)
+    }
 }
 
-#[tactic(auto, unfolding(crate::specs::Layout::cdb_of))]
-pub(super) fn encode_get_lba_status(start: u64, allocation_length: u32) -> CdbBytes
-    ensures { result ≡ cdb_of (Command.GetLbaStatus start allocation_length) }
-{
-    let mut cdb = [0; MAX_CDB_LENGTH];
-    cdb[0] = GET_LBA_STATUS.opcode;
-    cdb[1] = GET_LBA_STATUS.service_action.unwrap_or(0);
-    BigEndian::write_u64(&mut cdb[2..], start);
-    BigEndian::write_u32(&mut cdb[10..], allocation_length);
-    CdbBytes::new(cdb, MAX_CDB_LENGTH)
+impl GetLbaStatus {
+    #[tactic(auto, unfolding(crate::specs::Layout::cdb_of))]
+    pub(super) fn encode(self) -> CdbBytes
+        ensures cdb { result ≡ cdb_of (Command.GetLbaStatus self) }
+        ensures start { self.start < 2 ^ 64 }
+        ensures allocation_length { self.allocation_length < 2 ^ 32 }
+    {
+        let mut cdb = [0; MAX_CDB_LENGTH];
+        cdb[0] = table::GET_LBA_STATUS.opcode;
+        cdb[1] = table::GET_LBA_STATUS.service_action.unwrap_or(0);
+        BigEndian::write_u64(&mut cdb[2..], self.start);
+        BigEndian::write_u32(&mut cdb[10..], self.allocation_length);
+        CdbBytes::new(cdb, MAX_CDB_LENGTH)
+    }
 }

@@ -1,5 +1,5 @@
 // PERSISTENT RESERVE IN and PERSISTENT RESERVE OUT (SPC-4, 6.15 and 6.16).
-ghost use Rattle.std.specs.Prelude.{◌≡◌};
+ghost use Rattle.std.specs.Prelude.{◌≡◌, ◌<◌, ◌^◌};
 ghost use Rattle.sg_wire.specs.Layout.{cdb_of, command_with};
 
 use super::masks::{check_length, check_masks};
@@ -7,6 +7,26 @@ use super::table::{PERSISTENT_RESERVE_IN, PERSISTENT_RESERVE_OUT, service_action
 use super::{CdbFault, Command, InAction, OutAction};
 use crate::bytes::{CdbBytes, MAX_CDB_LENGTH};
 use byteorder::{BigEndian, ByteOrder};
+
+/// The fields of PERSISTENT RESERVE IN (SPC-4, 6.15).
+#[derive(Clone, Copy, Debug, PartialEq, Eq)]
+pub struct PersistentReserveIn {
+    /// What is to be read.
+    pub action: InAction,
+    /// In bytes.
+    pub allocation_length: u16,
+}
+
+/// The fields of PERSISTENT RESERVE OUT (SPC-4, 6.16).
+#[derive(Clone, Copy, Debug, PartialEq, Eq)]
+pub struct PersistentReserveOut {
+    /// What is to be done.
+    pub action: OutAction,
+    /// SCOPE in the high four bits, and TYPE in the low four.
+    pub scope_type: u8,
+    /// Of the parameter list, in bytes.
+    pub list_length: u32,
+}
 
 // ---- Decoding
 
@@ -17,10 +37,10 @@ pub(super) fn decode_persistent_reserve_in(cdb: &[u8]) -> Result<Command, CdbFau
     check_length(cdb, PERSISTENT_RESERVE_IN.masks.len())?;
     let action = InAction::with_code(service_action(cdb)).ok_or(CdbFault::Field(1))?;
     check_masks(PERSISTENT_RESERVE_IN.masks, cdb)?;
-    Ok(Command::PersistentReserveIn {
+    Ok(Command::PersistentReserveIn(PersistentReserveIn {
         action,
         allocation_length: BigEndian::read_u16(&cdb[7..]),
-    })
+    }))
 }
 
 #[tactic(auto, unfolding(crate::specs::Layout::command_with, crate::specs::Layout::fits_masks))]
@@ -30,38 +50,41 @@ pub(super) fn decode_persistent_reserve_out(cdb: &[u8]) -> Result<Command, CdbFa
     check_length(cdb, PERSISTENT_RESERVE_OUT.masks.len())?;
     let action = OutAction::with_code(service_action(cdb)).ok_or(CdbFault::Field(1))?;
     check_masks(PERSISTENT_RESERVE_OUT.masks, cdb)?;
-    Ok(Command::PersistentReserveOut {
+    Ok(Command::PersistentReserveOut(PersistentReserveOut {
         action,
         scope_type: cdb[2],
         list_length: BigEndian::read_u32(&cdb[5..]),
-    })
+    }))
 }
 
 // ---- Encoding
 
-#[tactic(auto, unfolding(crate::specs::Layout::cdb_of))]
-pub(super) fn encode_persistent_reserve_in(action: InAction, allocation_length: u16) -> CdbBytes
-    ensures { result ≡ cdb_of (Command.PersistentReserveIn action allocation_length) }
-{
-    let mut cdb = [0; MAX_CDB_LENGTH];
-    cdb[0] = PERSISTENT_RESERVE_IN.opcode;
-    cdb[1] = action.code();
-    BigEndian::write_u16(&mut cdb[7..], allocation_length);
-    CdbBytes::new(cdb, 10)
+impl PersistentReserveIn {
+    #[tactic(auto, unfolding(crate::specs::Layout::cdb_of))]
+    pub(super) fn encode(self) -> CdbBytes
+        ensures cdb { result ≡ cdb_of (Command.PersistentReserveIn self) }
+        ensures allocation_length { self.allocation_length < 2 ^ 16 }
+    {
+        let mut cdb = [0; MAX_CDB_LENGTH];
+        cdb[0] = PERSISTENT_RESERVE_IN.opcode;
+        cdb[1] = self.action.code();
+        BigEndian::write_u16(&mut cdb[7..], self.allocation_length);
+        CdbBytes::new(cdb, 10)
+    }
 }
 
-#[tactic(auto, unfolding(crate::specs::Layout::cdb_of))]
-pub(super) fn encode_persistent_reserve_out(
-    action: OutAction,
-    scope_type: u8,
-    list_length: u32,
-) -> CdbBytes
-    ensures { result ≡ cdb_of (Command.PersistentReserveOut action scope_type list_length) }
-{
-    let mut cdb = [0; MAX_CDB_LENGTH];
-    cdb[0] = PERSISTENT_RESERVE_OUT.opcode;
-    cdb[1] = action.code();
-    cdb[2] = scope_type;
-    BigEndian::write_u32(&mut cdb[5..], list_length);
-    CdbBytes::new(cdb, 10)
+impl PersistentReserveOut {
+    #[tactic(auto, unfolding(crate::specs::Layout::cdb_of))]
+    pub(super) fn encode(self) -> CdbBytes
+        ensures cdb { result ≡ cdb_of (Command.PersistentReserveOut self) }
+        ensures scope_type { self.scope_type < 256 }
+        ensures list_length { self.list_length < 2 ^ 32 }
+    {
+        let mut cdb = [0; MAX_CDB_LENGTH];
+        cdb[0] = PERSISTENT_RESERVE_OUT.opcode;
+        cdb[1] = self.action.code();
+        cdb[2] = self.scope_type;
+        BigEndian::write_u32(&mut cdb[5..], self.list_length);
+        CdbBytes::new(cdb, 10)
+    }
 }

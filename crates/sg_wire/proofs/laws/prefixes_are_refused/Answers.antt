@@ -9,17 +9,8 @@ use Rattle.sg_wire.specs.Layout.{Layout, cdb_of, command_by_rows, command_of}
 use Rattle.sg_wire.specs.Layout.{command_with, layout, length_of, rows_of, byte_of}
 use Rattle.sg_wire.specs.declared.command.CdbFault.TheVariants.{Short}
 use Rattle.sg_wire.specs.declared.command.Command.{Command}
+use Rattle.sg_wire.specs.declared.command.Command.TheVariants as command
 use Rattle.sg_wire.specs.Laws.{cut_at}
-use Rattle.sg_wire.specs.declared.command.Command.TheVariants.{ModeSelect6, ModeSelect10}
-use Rattle.sg_wire.specs.declared.command.Command.TheVariants.{ModeSense6, ModeSense10}
-use Rattle.sg_wire.specs.declared.command.Command.TheVariants.{TestUnitReady, RequestSense, Inquiry}
-use Rattle.sg_wire.specs.declared.command.Command.TheVariants.{Read6, Read10, Read16, Write6}
-use Rattle.sg_wire.specs.declared.command.Command.TheVariants.{Write10, Write16, ReadCapacity10}
-use Rattle.sg_wire.specs.declared.command.Command.TheVariants.{ReadCapacity16, SynchronizeCache10}
-use Rattle.sg_wire.specs.declared.command.Command.TheVariants.{WriteSame10, WriteSame16, Unmap}
-use Rattle.sg_wire.specs.declared.command.Command.TheVariants.{GetLbaStatus}
-use Rattle.sg_wire.specs.declared.command.Command.TheVariants.{PersistentReserveIn}
-use Rattle.sg_wire.specs.declared.command.Command.TheVariants.{PersistentReserveOut}
 use Rattle.sg_wire.proofs.laws.prefixes_are_refused.Goals as goal
 
 -- the operation code of the first row
@@ -44,28 +35,28 @@ unfolding HasRow
 rows-16 = (refl, refl, refl, refl, refl, refl, refl)
 
 has_row : (command : Command) → HasRow (layout command).opcode
-has_row TestUnitReady = rows-6.0
-has_row (RequestSense desc n) = rows-6.1
-has_row (Inquiry evpd page n) = rows-6.4
-has_row (ModeSelect6 pf sp n) = rows-6.5
-has_row (ModeSelect10 pf sp n) = rows-10.6
-has_row (ModeSense6 dbd pc page subpage n) = rows-6.6
-has_row (ModeSense10 llbaa dbd pc page subpage n) = rows-16.0
-has_row (Read6 extent) = rows-6.2
-has_row (Read10 lba n) = rows-10.1
-has_row (Read16 lba n) = rows-16.3
-has_row (Write6 extent) = rows-6.3
-has_row (Write10 lba n) = rows-10.2
-has_row (Write16 lba n) = rows-16.4
-has_row ReadCapacity10 = rows-10.0
-has_row (ReadCapacity16 n) = rows-16.6
-has_row (SynchronizeCache10 lba n) = rows-10.3
-has_row (WriteSame10 anchor unmap lba n) = rows-10.4
-has_row (WriteSame16 anchor unmap lba n) = rows-16.5
-has_row (Unmap anchor group n) = rows-10.5
-has_row (GetLbaStatus start n) = rows-16.6
-has_row (PersistentReserveIn action n) = rows-16.1
-has_row (PersistentReserveOut action scope_type n) = rows-16.2
+has_row command.TestUnitReady = rows-6.0
+has_row (command.RequestSense c) = rows-6.1
+has_row (command.Inquiry c) = rows-6.4
+has_row (command.ModeSelect6 c) = rows-6.5
+has_row (command.ModeSelect10 c) = rows-10.6
+has_row (command.ModeSense6 c) = rows-6.6
+has_row (command.ModeSense10 c) = rows-16.0
+has_row (command.Read6 c) = rows-6.2
+has_row (command.Read10 c) = rows-10.1
+has_row (command.Read16 c) = rows-16.3
+has_row (command.Write6 c) = rows-6.3
+has_row (command.Write10 c) = rows-10.2
+has_row (command.Write16 c) = rows-16.4
+has_row command.ReadCapacity10 = rows-10.0
+has_row (command.ReadCapacity16 c) = rows-16.6
+has_row (command.SynchronizeCache10 c) = rows-10.3
+has_row (command.WriteSame10 c) = rows-10.4
+has_row (command.WriteSame16 c) = rows-16.5
+has_row (command.Unmap c) = rows-10.5
+has_row (command.GetLbaStatus c) = rows-16.6
+has_row (command.PersistentReserveIn c) = rows-16.1
+has_row (command.PersistentReserveOut c) = rows-16.2
 
 -- a CDB is refused as cut where it is shorter than the first row of its operation code says
 cut-by_rows : (cdb : List ℕ) (opcode : ℕ) (rows : List Layout) → first_opcode rows ≡ Some opcode

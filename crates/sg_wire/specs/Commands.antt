@@ -1,0 +1,86 @@
+-- Each command that has fields, made of their values in the order of specs/Layout.antt.
+use Rattle.std.specs.Prelude.{ℕ, Bool}
+use Rattle.sg_wire.specs.declared.command.Command.{Command}
+use Rattle.sg_wire.specs.declared.command.Command.TheVariants as command
+use Rattle.sg_wire.specs.declared.command.in_action.InAction.{InAction}
+use Rattle.sg_wire.specs.declared.command.out_action.OutAction.{OutAction}
+
+-- ---- Primary commands (SPC-4, 6)
+
+abbrev pub request_sense : (desc : Bool) (allocation_length : ℕ) → Command
+request_sense desc n = command.RequestSense (record { desc = desc; allocation_length = n })
+
+abbrev pub inquiry : (evpd : Bool) (page_code allocation_length : ℕ) → Command
+inquiry evpd page n =
+    command.Inquiry (record { evpd = evpd; page_code = page; allocation_length = n })
+
+abbrev pub mode_select_6 : (pf sp : Bool) (list_length : ℕ) → Command
+mode_select_6 pf sp n = command.ModeSelect6 (record { pf = pf; sp = sp; list_length = n })
+
+abbrev pub mode_select_10 : (pf sp : Bool) (list_length : ℕ) → Command
+mode_select_10 pf sp n = command.ModeSelect10 (record { pf = pf; sp = sp; list_length = n })
+
+abbrev pub mode_sense_6 : (dbd : Bool) (pc page subpage allocation_length : ℕ) → Command
+mode_sense_6 dbd pc page subpage n = command.ModeSense6 (record {
+  dbd = dbd;
+  page_control = pc;
+  page_code = page;
+  subpage_code = subpage;
+  allocation_length = n;
+})
+
+abbrev pub mode_sense_10 : (llbaa dbd : Bool) (pc page subpage allocation_length : ℕ) → Command
+mode_sense_10 llbaa dbd pc page subpage n = command.ModeSense10 (record {
+  llbaa = llbaa;
+  dbd = dbd;
+  page_control = pc;
+  page_code = page;
+  subpage_code = subpage;
+  allocation_length = n;
+})
+
+abbrev pub reserve_in : InAction → (allocation_length : ℕ) → Command
+reserve_in action n =
+    command.PersistentReserveIn (record { action = action; allocation_length = n })
+
+abbrev pub reserve_out : OutAction → (scope_type list_length : ℕ) → Command
+reserve_out action scope_type n = command.PersistentReserveOut (record {
+  action = action;
+  scope_type = scope_type;
+  list_length = n;
+})
+
+-- ---- Block commands (SBC-3, 5)
+
+abbrev pub read_10 : (lba transfer_length : ℕ) → Command
+read_10 lba n = command.Read10 (record { lba = lba; count = n })
+
+abbrev pub read_16 : (lba transfer_length : ℕ) → Command
+read_16 lba n = command.Read16 (record { lba = lba; count = n })
+
+abbrev pub write_10 : (lba transfer_length : ℕ) → Command
+write_10 lba n = command.Write10 (record { lba = lba; count = n })
+
+abbrev pub write_16 : (lba transfer_length : ℕ) → Command
+write_16 lba n = command.Write16 (record { lba = lba; count = n })
+
+abbrev pub read_capacity_16 : (allocation_length : ℕ) → Command
+read_capacity_16 n = command.ReadCapacity16 (record { allocation_length = n })
+
+abbrev pub synchronize_cache_10 : (lba count : ℕ) → Command
+synchronize_cache_10 lba n = command.SynchronizeCache10 (record { lba = lba; count = n })
+
+abbrev pub write_same_10 : (anchor unmap : Bool) (lba count : ℕ) → Command
+write_same_10 anchor unmap lba n =
+    command.WriteSame10 (record { lba = lba; count = n; anchor = anchor; unmap = unmap })
+
+abbrev pub write_same_16 : (anchor unmap : Bool) (lba count : ℕ) → Command
+write_same_16 anchor unmap lba n =
+    command.WriteSame16 (record { lba = lba; count = n; anchor = anchor; unmap = unmap })
+
+abbrev pub unmap : (anchor : Bool) (group list_length : ℕ) → Command
+unmap anchor group n =
+    command.Unmap (record { anchor = anchor; group = group; list_length = n })
+
+abbrev pub get_lba_status : (start allocation_length : ℕ) → Command
+get_lba_status start n = command.GetLbaStatus (record { start = start; allocation_length = n })
