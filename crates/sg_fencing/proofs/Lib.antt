@@ -17,3 +17,4 @@ mod PreemptLemmas
 -- Lists of commands
 mod OutsiderRunLemmas
 mod FencedRunLemmas
+mod PowerLemmas

@@ -19,7 +19,7 @@ use Rattle.sg_fencing.specs.Registrants.{registers}
 use Rattle.sg_fencing.proofs.AccessLemmas.{shut-out}
 use Rattle.sg_fencing.proofs.OutsiderLemmas.{outsider-keeps, shut, stays-unknown}
 
-neither : (a b : Bool) → (a || b) ≡ false → (a ≡ false) × (b ≡ false)
+pub neither : (a b : Bool) → (a || b) ≡ false → (a ≡ false) × (b ≡ false)
 neither true b h = absurd (false≢true (sym h))
 neither false b h = (refl, h)
 
@@ -31,11 +31,11 @@ not_so : (b : Bool) → not b ≡ true → b ≡ false
 not_so true h = absurd (false≢true h)
 not_so false h = refl
 
-second : (a b : Bool) → (a && b) ≡ false → a ≡ true → b ≡ false
+pub second : (a b : Bool) → (a && b) ≡ false → a ≡ true → b ≡ false
 second true b h e = h
 second false b h e = absurd (false≢true e)
 
-itself : (m n : ℕ) → m ≡ n → (m == n) ≡ true
+pub itself : (m n : ℕ) → m ≡ n → (m == n) ≡ true
 itself m n h = grind (arith, nat_tests)
 
 different : (m n : ℕ) → (m == n) ≡ false → m ≡ n → ⊥
@@ -43,7 +43,7 @@ different m n h e = grind (arith, nat_tests)
 
 -- ---- Nothing is written
 
-not-first : (state : State) (i : ℕ) (call : Call) → is_registrant state i ≡ false
+pub not-first : (state : State) (i : ℕ) (call : Call) → is_registrant state i ≡ false
     → call.initiator ≡ i → class_of call.cdb.now ≡ Some Writes → is_reserved state ≡ true
     → (step_of state call).answer.status ≡ Good → ⊥
 not-first state i call unknown from writes held =

@@ -188,7 +188,8 @@ module _ (state : ReservationState) (i j : ℕ) (unknown : is_registered state.r
       → (is_registering action ≡ true → (j == i) ≡ false)
       → EffectIs IsUnknown (action_outcome state j action type sark aptpl)
   action-unknown Register type sark aptpl h = (registering-other sark aptpl (h refl)).first
-  action-unknown RegisterAndIgnoreExistingKey type sark aptpl h = (registering-other sark aptpl (h refl)).first
+  action-unknown RegisterAndIgnoreExistingKey type sark aptpl h =
+      (registering-other sark aptpl (h refl)).first
   action-unknown Reserve type sark aptpl h = typed IsUnknown type _ (λ type. (reserving type).first)
   action-unknown Release type sark aptpl h = typed IsUnknown type _ (λ type. (releasing type).first)
   action-unknown Clear type sark aptpl h = stays _ refl

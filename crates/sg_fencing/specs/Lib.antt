@@ -2,3 +2,4 @@
 pub mod Laws
 pub mod Fencing
 pub mod Registrants
+pub mod PowerCycles

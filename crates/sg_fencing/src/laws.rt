@@ -5,6 +5,9 @@ ghost use Rattle.sg_fencing.specs.Fencing.{OnlyPreemptionEnds, OthersSeeNoBlock}
 ghost use Rattle.sg_fencing.specs.Laws.{ConflictChangesNothing, OnlyWritesChangeBlocks};
 ghost use Rattle.sg_fencing.specs.Laws.{RefusedByReservation, RefusedChangesNothing};
 ghost use Rattle.sg_fencing.specs.Laws.{RefusedReturnsNothing};
+ghost use Rattle.sg_fencing.specs.PowerCycles.{BlocksAndSavedPagesStay, EachInitiatorIsTold};
+ghost use Rattle.sg_fencing.specs.PowerCycles.{FencedOffThroughPowerCycles, OthersAreGone};
+ghost use Rattle.sg_fencing.specs.PowerCycles.{PersistentOnesStay, TwoAreOne};
 ghost use Rattle.sg_fencing.specs.Registrants.{FencedOffAreKeptOut, FencedOffLeaveTheView};
 ghost use Rattle.sg_fencing.specs.Registrants.{FencedOffSeeNoBlock, FencedOffWriteNothing};
 ghost use Rattle.sg_fencing.specs.Registrants.{OnlyRegisteringRegisters, OutsidersChangeNothing};
@@ -130,4 +133,37 @@ pub fn preemption_unregisters()
 /// writes of such an initiator ends with GOOD until the initiator registers again.
 pub fn the_preempted_write_nothing()
     ensures { PreemptedWriteNothing }
+{}
+
+/// After a power cycle the blocks are as they were, and the saved mode pages are the current ones.
+pub fn blocks_and_saved_pages_outlive_power()
+    ensures { BlocksAndSavedPagesStay }
+{}
+
+/// Where registrations and reservation persist through a power loss, they are as they were after a
+/// power cycle.
+pub fn persistent_reservations_outlive_power()
+    ensures { PersistentOnesStay }
+{}
+
+/// Where they do not, nobody is registered and no reservation is held after it.
+pub fn other_reservations_end_with_power()
+    ensures { OthersAreGone }
+{}
+
+/// After a power cycle one unit attention is pending for each initiator, POWER ON, and none that was
+/// pending before.
+pub fn each_initiator_is_told_of_power()
+    ensures { EachInitiatorIsTold }
+{}
+
+/// Two power cycles in a row are as one.
+pub fn two_power_cycles_are_one()
+    ensures { TwoAreOne }
+{}
+
+/// Over a list of commands and power cycles, while a reservation is held, no command that writes of
+/// an initiator that is not registered ends with GOOD until the initiator registers.
+pub fn the_unregistered_write_nothing_through_power_cycles()
+    ensures { FencedOffThroughPowerCycles }
 {}

@@ -51,18 +51,20 @@ impl<S: Store> Target<S> {
 
         // The sink has taken the replies to all calls, each charged to the store, and the state is
         // the one after them.
-        ensures took { OnOk result (Exchanged (cost_bounds S.price S.least) self.old.state (all_calls calls.now)
-            (K.taken sink.old) (K.taken sink.new) self.old.meter self.new.meter) }
+        ensures took { OnOk result (Exchanged (cost_bounds S.price S.least) self.old.state
+            (all_calls calls.now) (K.taken sink.old) (K.taken sink.new) self.old.meter self.new.meter) }
         ensures state { OnOk result (self.new.state ≡ state_after_all self.old.state calls.now) }
         ensures sound { OnOk result (K.faults sink.new ≡ K.faults sink.old) }
 
         // Or it has refused one.
-        ensures stopped { OnErr result (Stopped (cost_bounds S.price S.least) self.old.state (all_calls calls.now)
-            (K.taken sink.old) (K.taken sink.new) self.old.meter self.new.meter self.new.state) }
+        ensures stopped { OnErr result (Stopped (cost_bounds S.price S.least) self.old.state
+            (all_calls calls.now) (K.taken sink.old) (K.taken sink.new) self.old.meter self.new.meter
+            self.new.state) }
         ensures fault { OnErr result (K.faults sink.new ≡ K.faults sink.old + 1) }
 
         // No table passes its limit on the way.
-        ensures limits { (n : ℕ) → IsWithinLimits (state_after_events self.old.state (take n (all_calls calls.now))) }
+        ensures limits { (n : ℕ) →
+            IsWithinLimits (state_after_events self.old.state (take n (all_calls calls.now))) }
     {
         self.run_list(calls, buf, sink)
     }
@@ -82,18 +84,21 @@ impl<S: Store> Target<S> {
 
         // The sink has taken the replies to all commands, each charged to the store, and the state
         // is the one after the events.
-        ensures took { OnOk result (Exchanged (cost_bounds S.price S.least) self.old.state events.now
-            (K.taken sink.old) (K.taken sink.new) self.old.meter self.new.meter) }
-        ensures state { OnOk result (self.new.state ≡ state_after_events self.old.state events.now) }
+        ensures took { OnOk result (Exchanged (cost_bounds S.price S.least) self.old.state
+            events.now (K.taken sink.old) (K.taken sink.new) self.old.meter self.new.meter) }
+        ensures state { OnOk result
+            (self.new.state ≡ state_after_events self.old.state events.now) }
         ensures sound { OnOk result (K.faults sink.new ≡ K.faults sink.old) }
 
         // Or it has refused one.
-        ensures stopped { OnErr result (Stopped (cost_bounds S.price S.least) self.old.state events.now
-            (K.taken sink.old) (K.taken sink.new) self.old.meter self.new.meter self.new.state) }
+        ensures stopped { OnErr result (Stopped (cost_bounds S.price S.least) self.old.state
+            events.now (K.taken sink.old) (K.taken sink.new) self.old.meter self.new.meter
+            self.new.state) }
         ensures fault { OnErr result (K.faults sink.new ≡ K.faults sink.old + 1) }
 
         // No table passes its limit on the way.
-        ensures limits { (n : ℕ) → IsWithinLimits (state_after_events self.old.state (take n events.now)) }
+        ensures limits { (n : ℕ) →
+            IsWithinLimits (state_after_events self.old.state (take n events.now)) }
     {
         self.run_list(events, buf, sink)
     }
@@ -106,14 +111,17 @@ impl<S: Store> Target<S> {
         sink: &mut K,
     ) -> Result<(), K::Fault>
         requires { BUFFER_LENGTH ≤ length buf.old }
-        ensures took { OnOk result (Exchanged (cost_bounds S.price S.least) self.old.state (map E.event list.now)
-            (K.taken sink.old) (K.taken sink.new) self.old.meter self.new.meter) }
-        ensures state { OnOk result (self.new.state ≡ state_after_events self.old.state (map E.event list.now)) }
+        ensures took { OnOk result (Exchanged (cost_bounds S.price S.least) self.old.state
+            (map E.event list.now) (K.taken sink.old) (K.taken sink.new) self.old.meter self.new.meter) }
+        ensures state { OnOk result
+            (self.new.state ≡ state_after_events self.old.state (map E.event list.now)) }
         ensures sound { OnOk result (K.faults sink.new ≡ K.faults sink.old) }
-        ensures stopped { OnErr result (Stopped (cost_bounds S.price S.least) self.old.state (map E.event list.now)
-            (K.taken sink.old) (K.taken sink.new) self.old.meter self.new.meter self.new.state) }
+        ensures stopped { OnErr result (Stopped (cost_bounds S.price S.least) self.old.state
+            (map E.event list.now) (K.taken sink.old) (K.taken sink.new) self.old.meter self.new.meter
+            self.new.state) }
         ensures fault { OnErr result (K.faults sink.new ≡ K.faults sink.old + 1) }
-        ensures limits { (n : ℕ) → IsWithinLimits (state_after_events self.old.state (take n (map E.event list.now))) }
+        ensures limits { (n : ℕ) →
+            IsWithinLimits (state_after_events self.old.state (take n (map E.event list.now))) }
     {
         // The type's invariant is known where a field is used: the tables are within their limits
         // before the first command.

@@ -1,0 +1,105 @@
+-- Power cycles, alone and among commands.
+use Rattle.std.proofs.Common.{◌≡◌, ◌==◌, ◌<◌, ℕ, Bool, true, false, ◌&&◌, List, [], ◌∷◌, Option, Some}
+use Rattle.std.proofs.Common.{None, refl, ap, ◌∙◌, arith}
+use Rattle.std.specs.Prelude.{if◌then◌else◌}
+use Rattle.std.specs.List.{list_any}
+use Rattle.std.proofs.lemmas.List.{get_or-replicate}
+use Rattle.sg_wire.specs.Layout.{class_of, command_of}
+use Rattle.sg_wire.specs.declared.command.Class.TheVariants.{Writes}
+use Rattle.sg_units.specs.Attentions.{initiator_count, pending_for}
+use Rattle.sg_units.specs.PowerOn.{after_power_on}
+use Rattle.sg_units.specs.Registrations.{is_registered}
+use Rattle.sg_units.specs.Reservations.{empty_state}
+use Rattle.sg_units.specs.declared.registrations.Registration.{Registration}
+use Rattle.sg_units.specs.declared.reservation.Reservation.{Reservation}
+use Rattle.sg_units.specs.declared.reservation_state.ReservationState.{ReservationState}
+use Rattle.sg_units.specs.declared.unit_attention.UnitAttention.TheVariants.{PowerOn}
+use Rattle.sg_target.specs.PowerCycle.{after_power_cycle}
+use Rattle.sg_target.specs.Runs.{state_after_events, step_of}
+use Rattle.sg_target.specs.State.{State}
+use Rattle.sg_target.specs.declared.call.Call.{Call}
+use Rattle.sg_target.specs.declared.event.Event.{Event}
+use Rattle.sg_target.specs.declared.event.Event.TheVariants as event
+use Rattle.sg_target.specs.declared.reply.Status.TheVariants.{Good}
+use Rattle.sg_fencing.specs.Fencing.{is_from}
+use Rattle.sg_fencing.specs.PowerCycles.{HasNoReservations, KeepsReservations, persists, registers_by}
+use Rattle.sg_fencing.specs.Registrants.{is_registrant, is_reserved, registers}
+use Rattle.sg_fencing.proofs.OutsiderLemmas.{stays-unknown}
+use Rattle.sg_fencing.proofs.OutsiderRunLemmas.{itself, neither, not-first, second}
+
+-- ---- One power cycle
+
+abbrev left : (persists : Bool) → ReservationState → ReservationState
+left persists r = if persists then record r { generation = 0 } else empty_state
+
+pub keeps : (state : State) → persists state ≡ true
+    → KeepsReservations state (after_power_cycle state)
+keeps state h = record {
+  registrations = ap (λ b. (left b state.reservations).registrations) h;
+  reservation = ap (λ b. (left b state.reservations).reservation) h;
+}
+
+pub drops : (state : State) → persists state ≡ false → HasNoReservations (after_power_cycle state)
+drops state h = record {
+  registrations = ap (λ b. (left b state.reservations).registrations) h;
+  reservation = ap (λ b. (left b state.reservations).reservation) h;
+}
+
+pub told : (state : State) (i : ℕ) → i < initiator_count
+    → pending_for (after_power_cycle state).attentions i ≡ PowerOn ∷ []
+told state i h = get_or-replicate initiator_count i (PowerOn ∷ []) [] h
+
+same-twice : (registrations : List Registration) (reservation : Option Reservation)
+    (generation : ℕ) (persists : Bool) →
+    (let r : ReservationState = record {
+      registrations = registrations;
+      reservation = reservation;
+      generation = generation;
+      persists_through_power_loss = persists;
+    } in
+    after_power_on (after_power_on r) ≡ after_power_on r)
+same-twice registrations reservation generation true = refl
+same-twice registrations reservation generation false = refl
+
+pub twice : (state : State)
+    → after_power_cycle (after_power_cycle state) ≡ after_power_cycle state
+twice state =
+    let r = state.reservations in
+    let same : after_power_on (after_power_on r) ≡ after_power_on r =
+    same-twice r.registrations r.reservation r.generation r.persists_through_power_loss in
+    λ d. record (after_power_cycle state) { reservations = same d }
+
+-- ---- Among commands
+
+-- a power cycle registers nobody
+unknown-after : (state : State) (i : ℕ) → is_registrant state i ≡ false
+    → is_registrant (after_power_cycle state) i ≡ false
+unknown-after state i unknown = split (persists state)
+  where
+    split : (b : Bool) → is_registered (left b state.reservations).registrations i ≡ false
+    split true = unknown
+    split false = refl
+
+unknown-still : (state : State) (i : ℕ) (events : List Event) → is_registrant state i ≡ false
+    → list_any (registers_by i) events ≡ false
+    → is_registrant (state_after_events state events) i ≡ false
+unknown-still state i [] unknown silent = unknown
+unknown-still state i (event.Call first ∷ events) unknown silent =
+    let parts = neither (is_from i first && registers (command_of first.cdb.now))
+    (list_any (registers_by i) events) silent in
+    unknown-still (step_of state first).state i events
+    (stays-unknown state i first.initiator unknown first.cdb.now first.data_out.now
+    (λ own. second (is_from i first) (registers (command_of first.cdb.now)) parts.0
+    (itself first.initiator i own)))
+    parts.1
+unknown-still state i (event.Power ∷ events) unknown silent =
+    unknown-still (after_power_cycle state) i events (unknown-after state i unknown) silent
+
+pub stays-fenced-off : (state : State) (i : ℕ) (events : List Event) (call : Call)
+    → is_registrant state i ≡ false → list_any (registers_by i) events ≡ false
+    → call.initiator ≡ i → class_of call.cdb.now ≡ Some Writes
+    → is_reserved (state_after_events state events) ≡ true
+    → (step_of (state_after_events state events) call).answer.status ≡ Good → ⊥
+stays-fenced-off state i events call unknown silent from writes held good =
+    not-first (state_after_events state events) i call (unknown-still state i events unknown silent)
+    from writes held good
