@@ -11,7 +11,8 @@ ghost use Rattle.sg_run.specs.Limits.{longest_line};
 ghost use Rattle.sg_run.specs.LineFault.{fault_message, fault_status};
 ghost use Rattle.sg_run.specs.LineText.{line_header};
 ghost use Rattle.sg_run.specs.Memory.{longest_transfer, reply_length};
-ghost use Rattle.sg_run.specs.Outcome.{by_request, fill_step, outcome, reply_outcome};
+ghost use Rattle.sg_run.specs.Outcome.{by_request, fill_step, outcome, power_outcome};
+ghost use Rattle.sg_run.specs.Outcome.{reply_outcome};
 ghost use Rattle.sg_tools.specs.declared.show.Show.TheVariants.{Nothing};
 ghost use Rattle.sg_run.specs.Printed.{ExecutesLine, HasOutcome, HasOutcomeUnlessOutOfMemory};
 ghost use Rattle.sg_run.specs.RequestLines.{line_request, tool_request};
@@ -80,6 +81,7 @@ fn execute_request<W: Write, S: Store>(
         Request::Send(call) => send(number, call, Show::Hex, buffer, target, out),
         Request::Fill(blocks) => fill_blocks(number, blocks, data_out, buffer, target, out),
         Request::Show(show, bytes) => print_shown(number, *show, bytes, buffer, out),
+        Request::Power => cycle_power(number, target, out),
         Request::Tool(line) => run_tool(alloc, number, line, data_out, buffer, target, out),
     }
 }
@@ -110,6 +112,20 @@ fn print_shown<W: Write>(
     let (_, lines) = buffer.split_at_mut(BUFFER_LENGTH);
     print_line_header(number, b"SHOWN", out);
     print_answer(show, bytes, lines, out);
+    0
+}
+
+// Takes the disk through a power cycle, and returns the exit status.
+fn cycle_power<W: Write, S: Store>(
+    number: u64,
+    target: &mut Target<S>,
+    out: &mut Printer<'_, W>,
+) -> u8
+    ensures { HasOutcome W.contents out.old out.new target.new.state result
+        (power_outcome number target.old.state) }
+{
+    target.power_cycle();
+    print_line_header(number, b"POWER", out);
     0
 }
 

@@ -35,7 +35,7 @@ use Rattle.sg_target.specs.declared.refusal.Refusal.TheVariants.{Conflict, Check
 abbrev pub reserve_in_data : ReservationState → InAction → List ℕ
 reserve_in_data reservations ReadKeys = keys_data reservations
 reserve_in_data reservations ReadReservation = reservation_data reservations
-reserve_in_data reservations ReportCapabilities = capabilities_data
+reserve_in_data reservations ReportCapabilities = capabilities_data reservations
 reserve_in_data reservations ReadFullStatus = full_status_data reservations
 
 abbrev pub reporting : State → InAction → (allocation_length : ℕ) → Effect

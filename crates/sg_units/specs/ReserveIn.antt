@@ -1,6 +1,6 @@
 -- PERSISTENT RESERVE IN (SPC-4).
 use Rattle.std.specs.Prelude.{ℕ, ◌*◌, List, [], ◌∷◌, ◌++◌, length, replicate}
-use Rattle.std.specs.Prelude.{Option, Some, None, unwrap_or, option_and_then}
+use Rattle.std.specs.Prelude.{Option, Some, None, unwrap_or, option_and_then, if◌then◌else◌}
 use Rattle.std.specs.List.{flat_map}
 use Rattle.byteorder.specs.Endian.{big_bytes}
 use Rattle.sg_units.specs.Registrations.{key_of}
@@ -44,7 +44,10 @@ reservation_data_of state (Some reservation) =
 unfoldable pub reservation_data : ReservationState → List ℕ
 reservation_data state = reservation_data_of state state.reservation
 
--- REPORT CAPABILITIES (SPC-4): LENGTH, no flag but TMV, and a PERSISTENT RESERVATION TYPE
--- MASK of all six types.
-abbrev pub capabilities_data : List ℕ
-capabilities_data = 0x00 ∷ 0x08 ∷ 0x00 ∷ 0x80 ∷ 0xEA ∷ 0x01 ∷ 0x00 ∷ 0x00 ∷ []
+-- REPORT CAPABILITIES (SPC-4): LENGTH; PTPL_C, as registrations and reservation can persist through
+-- a power loss; TMV, and PTPL_A where they do; and a PERSISTENT RESERVATION TYPE MASK of all six
+-- types.
+abbrev pub capabilities_data : ReservationState → List ℕ
+capabilities_data state =
+    0x00 ∷ 0x08 ∷ 0x01 ∷ (if state.persists_through_power_loss then 0x81 else 0x80)
+    ∷ 0xEA ∷ 0x01 ∷ 0x00 ∷ 0x00 ∷ []

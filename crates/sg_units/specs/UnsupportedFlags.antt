@@ -6,9 +6,8 @@ use Rattle.sg_wire.specs.declared.command.out_action.OutAction.TheVariants.{Regi
 use Rattle.sg_wire.specs.declared.out_list.OutList.{OutList}
 
 -- Whether a flag is set that is not supported: SPEC_I_PT with every service action, and where an
--- initiator registers ALL_TG_PT and APTPL too. Other service actions ignore these.
+-- initiator registers ALL_TG_PT too. Other service actions ignore ALL_TG_PT and APTPL.
 abbrev pub has_unsupported_flag : OutAction → OutList → Bool
-has_unsupported_flag Register list = list.spec_i_pt || list.all_tg_pt || list.aptpl
-has_unsupported_flag RegisterAndIgnoreExistingKey list =
-    list.spec_i_pt || list.all_tg_pt || list.aptpl
+has_unsupported_flag Register list = list.spec_i_pt || list.all_tg_pt
+has_unsupported_flag RegisterAndIgnoreExistingKey list = list.spec_i_pt || list.all_tg_pt
 has_unsupported_flag action list = list.spec_i_pt

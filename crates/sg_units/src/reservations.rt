@@ -4,6 +4,14 @@ use crate::{OutFault, OutList, Raised, ReservationChange};
 use sg_wire::{Class, Cut, Initiator, OutAction};
 use std::marker::Model;
 
+// Flags of REPORT CAPABILITIES: persist through power loss capable, in byte 2; the type mask is valid,
+// and persist through power loss activated, in byte 3.
+const PTPL_C: u8 = 0x01;
+
+const TMV: u8 = 0x80;
+
+const PTPL_A: u8 = 0x01;
+
 /// Which initiators are registered, under which keys, who holds a persistent reservation,
 /// PRGENERATION, and whether a power loss leaves these (SPC-4, 5.13).
 #[derive(Drop)]
@@ -150,9 +158,14 @@ impl Reservations {
 
     /// Writes the data-in of REPORT CAPABILITIES (SPC-4).
     pub fn report_capabilities(&self, cut: &mut Cut)
-        ensures { Puts cut.old cut.new capabilities_data }
+        ensures { Puts cut.old cut.new (capabilities_data self.now) }
     {
-        cut.put(&[0x00, 0x08, 0x00, 0x80, 0xEA, 0x01, 0x00, 0x00]);
+        let flags = if self.state.persists_through_power_loss {
+            TMV + PTPL_A
+        } else {
+            TMV
+        };
+        cut.put(&[0x00, 0x08, PTPL_C, flags, 0xEA, 0x01, 0x00, 0x00]);
     }
 }
 

@@ -77,7 +77,7 @@ fn has_unsupported_flag(list: &OutList, action: OutAction) -> bool
 {
     match action {
         OutAction::Register | OutAction::RegisterAndIgnoreExistingKey => {
-            list.spec_i_pt || list.all_tg_pt || list.aptpl
+            list.spec_i_pt || list.all_tg_pt
         }
         OutAction::Reserve
         | OutAction::Release

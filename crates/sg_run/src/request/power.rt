@@ -1,0 +1,17 @@
+// The verb `power`.
+ghost use Rattle.std.specs.Prelude.{◌≡◌, map};
+ghost use Rattle.sg_run.specs.Request.{power_of};
+ghost use Rattle.sg_run.specs.RequestLines.{line_request};
+
+use super::{LineFault, Request};
+
+// A power cycle, by the words after the verb, of which there may be none.
+pub(super) fn read_power<'a>(operands: &[&[u8]]) -> Request<'a>
+    ensures { line_request result ≡ power_of (map (λ word. word.now) operands.now) }
+{
+    if operands.is_empty() {
+        Request::Power
+    } else {
+        Request::Faulty(LineFault::Usage)
+    }
+}
