@@ -11,12 +11,12 @@ use Rattle.sg_wire.specs.declared.command.Command.{Command}
 use Rattle.sg_wire.specs.declared.command.Command.TheVariants as command
 use Rattle.sg_wire.specs.declared.command.CdbFault.{CdbFault}
 use Rattle.sg_wire.specs.declared.command.out_action.OutAction.{OutAction}
+use Rattle.sg_wire.specs.declared.extent.Extent.{Extent}
 use Rattle.sg_target.specs.Demands.{demands}
 use Rattle.sg_target.specs.PrimaryCommands.{inquiry_page}
-use Rattle.sg_target.specs.ProvisioningCommands.{block_out, unmap_list, unmaps}
+use Rattle.sg_target.specs.ProvisioningCommands.{block_out, listed_extents, unmaps}
 use Rattle.sg_target.specs.Refusal.{if_supported, when_sound}
 use Rattle.sg_target.specs.ReservationCommands.{fields_out}
-use Rattle.sg_target.specs.declared.extent.Extent.{Extent}
 use Rattle.sg_target.specs.declared.operation.Operation.{Operation}
 use Rattle.sg_target.specs.declared.operation.Operation.TheVariants.{ChangeModes, Read, Write, Fill}
 use Rattle.sg_target.specs.declared.operation.Operation.TheVariants.{Unmap, UnmapExtent}
@@ -121,7 +121,7 @@ suits blocks (command.WriteSame16 c) data_out =
     same-suits (command.WriteSame16 c) refl refl
     (unmaps c.unmap (block_out data_out)) _ (block_out data_out)
 suits blocks (command.Unmap c) data_out =
-    sound-suits (command.Unmap c) (unmap_list (first_bytes c.list_length data_out)) Unmap
+    sound-suits (command.Unmap c) (listed_extents (first_bytes c.list_length data_out)) Unmap
     (λ extents. record { class = λ class h. cc; of_kind = λ kind k. refl; shown = refl })
 suits blocks (command.PersistentReserveIn c) data_out =
     record { class = λ class h. cc; of_kind = λ kind k. refl; shown = refl }

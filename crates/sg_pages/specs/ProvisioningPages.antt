@@ -3,6 +3,7 @@
 use Rattle.std.specs.Prelude.{ℕ, List, [], ◌∷◌}
 use Rattle.std.specs.List.{flat_map}
 use Rattle.byteorder.specs.Endian.{big_bytes}
+use Rattle.sg_wire.specs.UnmapList.{maximum_unmap_descriptors}
 
 -- A field: its length in bytes, and its value.
 pub record Field : Type 0 where
@@ -21,10 +22,6 @@ in_bytes fields = flat_map (λ f. big_bytes f.size f.value) fields
 -- In blocks: the most that a READ or a WRITE moves.
 abbrev pub maximum_transfer_length : ℕ
 maximum_transfer_length = 256
-
--- The most block descriptors that the parameter list of an UNMAP has.
-abbrev pub maximum_unmap_descriptors : ℕ
-maximum_unmap_descriptors = 64
 
 -- In blocks: the most that a WRITE SAME writes.
 abbrev pub maximum_write_same_length : ℕ
@@ -58,7 +55,7 @@ prefetch_length = field 4 0
 abbrev unmap_lba_count : Field
 unmap_lba_count = field 4 0xFFFFFFFF
 
--- MAXIMUM UNMAP BLOCK DESCRIPTOR COUNT, bytes 24 to 27.
+-- MAXIMUM UNMAP BLOCK DESCRIPTOR COUNT, bytes 24 to 27: the most that a parameter list has.
 abbrev unmap_descriptor_count : Field
 unmap_descriptor_count = field 4 maximum_unmap_descriptors
 

@@ -15,7 +15,5 @@ pub use mode_pages::{
     ModeSenseFault as AskFault, ModeSenseRequest, ModeSenseRequest as Ask, PageControl, PageValues,
     only_changeable_bits_change, only_sp_saves, sp_saves_all,
 };
-pub use provisioning_pages::{
-    MAXIMUM_TRANSFER_LENGTH, MAXIMUM_UNMAP_DESCRIPTORS, MAXIMUM_WRITE_SAME_LENGTH,
-};
+pub use provisioning_pages::{MAXIMUM_TRANSFER_LENGTH, MAXIMUM_WRITE_SAME_LENGTH};
 pub use vital_product_data::{VpdPage, vpd, write_vpd_page};

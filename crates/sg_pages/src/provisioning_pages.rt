@@ -3,12 +3,10 @@ ghost use Rattle.std.specs.Prelude.{◌≡◌};
 ghost use Rattle.sg_pages.specs.ProvisioningPages.{block_limits, logical_block_provisioning};
 
 use byteorder::{BigEndian, ByteOrder};
+use sg_wire::MAXIMUM_UNMAP_DESCRIPTORS;
 
 /// The most blocks that a READ or a WRITE moves.
 pub const MAXIMUM_TRANSFER_LENGTH: u32 = 256;
-
-/// The most block descriptors that the parameter list of an UNMAP has.
-pub const MAXIMUM_UNMAP_DESCRIPTORS: u32 = 64;
 
 /// The most blocks that a WRITE SAME writes.
 pub const MAXIMUM_WRITE_SAME_LENGTH: u32 = 65_536;
@@ -35,7 +33,7 @@ pub(crate) fn block_limits() -> [u8; 60]
     BigEndian::write_u32(&mut bytes[4..], MAXIMUM_TRANSFER_LENGTH);
     // MAXIMUM UNMAP LBA COUNT: as many as the descriptors name
     BigEndian::write_u32(&mut bytes[16..], u32::MAX);
-    BigEndian::write_u32(&mut bytes[20..], MAXIMUM_UNMAP_DESCRIPTORS);
+    BigEndian::write_u32(&mut bytes[20..], MAXIMUM_UNMAP_DESCRIPTORS as u32);
     // OPTIMAL UNMAP GRANULARITY
     BigEndian::write_u32(&mut bytes[24..], 1);
     BigEndian::write_u64(&mut bytes[32..], u64::from(MAXIMUM_WRITE_SAME_LENGTH));

@@ -1,11 +1,5 @@
 //! Laws of the definitions: each is the contract of a function that does nothing.
-ghost use Rattle.sg_run.specs.Laws.{UnmapListIsRead};
 ghost use Rattle.sg_run.specs.Walk.{AnswersHaveTheFirst, WalksInOrder};
-
-/// The target reads from the parameter list of UNMAP the extents that the tool was asked for.
-pub fn unmap_list_is_read()
-    ensures { UnmapListIsRead }
-{}
 
 /// An answer to GET LBA STATUS has the first of the descriptors from its address on, as many as it
 /// may have.

@@ -3,6 +3,7 @@ use Rattle.std.proofs.Common.{◌≡◌, ◌≤◌, ◌<◌, ℕ, ◌+◌, ◌*�
 use Rattle.std.proofs.Common.{length-append, take, get_or, refl, sym, subst, ap, ◌∙◌, arith}
 use Rattle.std.proofs.Math.Nat.{mul-le-mul}
 use Rattle.std.proofs.lemmas.List.{take_more}
+use Rattle.sg_wire.specs.declared.extent.Extent.{Extent}
 use Rattle.sg_store.specs.Disk.{Contents, Disk, disk_unmapped, unmapped}
 use Rattle.sg_store.specs.Meter.{Costs, HasHeadroom, Meter, restarted}
 use Rattle.sg_store.specs.declared.store.Counts.{Counts}
@@ -12,7 +13,6 @@ use Rattle.sg_target.specs.Reply.{executed_reply}
 use Rattle.sg_target.specs.ProvisioningCommands.{ranges_in_turn, unmapped_in_turn}
 use Rattle.sg_target.specs.Ranges.{Cost, CostBounds, IsCharged, IsCounted, sum_over}
 use Rattle.sg_target.specs.declared.reply.Reply.{Reply}
-use Rattle.sg_target.specs.declared.extent.Extent.{Extent}
 
 -- one more extent
 pub unmapped-more : (contents : Contents) (extents : List Extent) (last : Extent)

@@ -1,11 +1,11 @@
 -- The effects of the block commands (SBC-3, 5).
 use Rattle.std.specs.Prelude.{ℕ, ◌*◌, List, [], ◌∷◌}
 use Rattle.sg_wire.specs.CutAnswer.{first_bytes}
+use Rattle.sg_wire.specs.declared.extent.Extent.{Extent}
 use Rattle.sg_store.specs.Disk.{blocks, written}
 use Rattle.sg_target.specs.CapacityData.{block_length, capacity_10, capacity_16}
 use Rattle.sg_target.specs.Effect.{Effect, no_effect, range, returning, returning_up_to, with_contents}
 use Rattle.sg_target.specs.State.{State}
-use Rattle.sg_target.specs.declared.extent.Extent.{Extent}
 
 -- READ returns the bytes of its blocks.
 abbrev pub reading : State → Extent → Effect

@@ -14,15 +14,15 @@ use Rattle.sg_wire.specs.declared.command.provisioning.WriteSame10.{WriteSame10}
 use Rattle.sg_wire.specs.declared.command.provisioning.WriteSame16.{WriteSame16}
 use Rattle.sg_wire.specs.declared.command.reservation.PersistentReserveOut.{PersistentReserveOut}
 use Rattle.sg_wire.specs.CutAnswer.{first_bytes}
+use Rattle.sg_wire.specs.declared.extent.Extent.{Extent}
 use Rattle.sg_pages.specs.ProvisioningPages.{maximum_transfer_length, maximum_write_same_length}
 use Rattle.sg_target.specs.BlockCommands.{blocks_out, bytes_of}
 use Rattle.sg_target.specs.CapacityData.{block_length}
 use Rattle.sg_target.specs.ModeCommands.{mode_sense_request, unless_page_format}
 use Rattle.sg_target.specs.PrimaryCommands.{format_of, inquiry_page}
-use Rattle.sg_target.specs.ProvisioningCommands.{block_out, unmap_list, unmaps}
+use Rattle.sg_target.specs.ProvisioningCommands.{block_out, listed_extents, unmaps}
 use Rattle.sg_target.specs.Refusal.{if_supported, when_sound}
 use Rattle.sg_target.specs.ReservationCommands.{fields_out, unless_type}
-use Rattle.sg_target.specs.declared.extent.Extent.{Extent}
 use Rattle.sg_target.specs.declared.operation.Operation.{Operation}
 use Rattle.sg_target.specs.declared.operation.Operation.TheVariants as operation
 use Rattle.sg_target.specs.declared.refusal.Refusal.{Refusal}
@@ -136,7 +136,7 @@ write_same_16 c data_out = write_same c.anchor c.unmap (extent c.lba c.count) 10
 abbrev pub unmap : Unmap → (data_out : List ℕ) → Demands
 unmap c data_out =
     takes c.list_length (unless_anchor c.anchor None)
-    (when_sound (unmap_list (first_bytes c.list_length data_out)) operation.Unmap)
+    (when_sound (listed_extents (first_bytes c.list_length data_out)) operation.Unmap)
 
 -- ---- The row of each command, on a disk with a number of blocks, with its data-out
 

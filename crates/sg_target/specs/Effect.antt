@@ -1,9 +1,9 @@
 -- What commands do.
 use Rattle.std.specs.Prelude.{ℕ, List, [], Option, Some, None}
+use Rattle.sg_wire.specs.declared.extent.Extent.{Extent}
 use Rattle.sg_store.specs.Disk.{Contents}
 use Rattle.sg_units.specs.Attentions.{without_oldest}
 use Rattle.sg_target.specs.State.{State}
-use Rattle.sg_target.specs.declared.extent.Extent.{Extent}
 
 -- A range of blocks that the store is asked for, with the mapped blocks that it meets: those that
 -- the ranges before it have left.

@@ -1,6 +1,6 @@
 -- Extents that a disk has.
 use Rattle.std.specs.Prelude.{ℕ, ◌+◌, ◌≤◌, List, [], ◌∷◌}
-use Rattle.sg_target.specs.declared.extent.Extent.{Extent}
+use Rattle.sg_wire.specs.declared.extent.Extent.{Extent}
 
 abbrev pub AreOnDisk : (capacity : ℕ) → List Extent → Type 0
 AreOnDisk capacity [] = Unit {0}

@@ -1,5 +1,6 @@
 -- What each operation does: the blocks that it names, and its effect.
 use Rattle.std.specs.Prelude.{ℕ, List, [], ◌∷◌, Bool, true, false, Result, Ok}
+use Rattle.sg_wire.specs.declared.extent.Extent.{Extent}
 use Rattle.sg_target.specs.BlockCommands.{read_capacity_10, read_capacity_16, reading, writing}
 use Rattle.sg_target.specs.Demands.{extent}
 use Rattle.sg_target.specs.Effect.{Effect, no_effect, returning_up_to}
@@ -9,7 +10,6 @@ use Rattle.sg_target.specs.ProvisioningCommands.{filling, reporting_status, unma
 use Rattle.sg_target.specs.Refusal.{when_sound}
 use Rattle.sg_target.specs.ReservationCommands.{changing_reservations, reporting, reservation_change}
 use Rattle.sg_target.specs.State.{State}
-use Rattle.sg_target.specs.declared.extent.Extent.{Extent}
 use Rattle.sg_target.specs.declared.operation.Operation.{Operation}
 use Rattle.sg_target.specs.declared.operation.Operation.TheVariants.{Nothing, ReturnSense}
 use Rattle.sg_target.specs.declared.operation.Operation.TheVariants.{ReturnInquiry, ReturnModes}

@@ -15,7 +15,7 @@ ghost use Rattle.sg_target.specs.Step.{executed, executed_or_refused, sense_form
 
 use crate::data_in::DataIn;
 use crate::data_out::needed_data_out;
-use crate::extent::Extent;
+use crate::extent::byte_length;
 use crate::operation::Operation;
 use crate::refusal::{Reason, Refusal};
 use crate::reply::Reply;
@@ -23,7 +23,7 @@ use crate::target::{BUFFER_LENGTH, Target};
 use byteorder::{BigEndian, ByteOrder};
 use sg_pages::MAXIMUM_TRANSFER_LENGTH;
 use sg_store::{BLOCK_LENGTH, Space, Store};
-use sg_wire::Initiator;
+use sg_wire::{Extent, Initiator};
 use std::marker::Model;
 
 // Where TRANSFER LENGTH begins in a CDB of ten bytes, and in one of sixteen.
@@ -55,7 +55,7 @@ pub struct BlocksIn {
 impl Model for BlocksIn {
     ghost use Rattle.std.specs.Prelude.{◌≤◌};
     ghost use Rattle.sg_pages.specs.ProvisioningPages.{maximum_transfer_length};
-    ghost use Rattle.sg_target.specs.declared.extent.Extent.{Extent};
+    ghost use Rattle.sg_wire.specs.declared.extent.Extent.{Extent};
 
     ghost Value = { Extent };
 
@@ -93,7 +93,7 @@ impl<S: Store> Target<S> {
             self.old.meter self.new.meter result }
     {
         let extent = blocks.extent;
-        let len = extent.byte_length() as usize;
+        let len = byte_length(extent) as usize;
         self.store.restart_counts();
         self.store.read(extent.lba, extent.count, &mut buf[..len]);
         Reply::good(len, self.store.counts())
@@ -128,7 +128,7 @@ pub(crate) fn check_write_6(extent: Extent, data_out: &[u8]) -> Result<Operation
     requires { extent.count ≤ maximum_transfer_length }
     ensures { result ≡ requested (write extent None data_out.now) data_out.now }
 {
-    let bytes = needed_data_out(data_out, extent.byte_length() as usize)?;
+    let bytes = needed_data_out(data_out, byte_length(extent) as usize)?;
     Ok(Operation::Write(BlocksOut { extent, bytes }))
 }
 

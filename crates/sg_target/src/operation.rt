@@ -14,14 +14,14 @@ use crate::block::{
     check_write, check_write_6,
 };
 use crate::data_in::DataIn;
-use crate::extent::Extent;
+use crate::extent::past_capacity;
 use crate::mode::{
     ModeList, RequestedModes, check_mode_select_6, check_mode_select_10, check_mode_sense_6,
     check_mode_sense_10,
 };
 use crate::primary::{InquiryPage, check_inquiry, check_request_sense};
 use crate::provisioning::{
-    BlockOut, ListedExtents, check_unmap, check_write_same_10, check_write_same_16,
+    BlockOut, check_unmap, check_write_same_10, check_write_same_16, listed_out_of_range,
 };
 use crate::refusal::Refusal;
 use crate::reply::Reply;
@@ -29,7 +29,7 @@ use crate::reservation::{check_reserve_in, check_reserve_out};
 use crate::target::{BUFFER_LENGTH, Target};
 use sg_store::{MAX_CAPACITY, Store};
 use sg_units::OutList;
-use sg_wire::{Command, Format, InAction, Initiator, OutAction};
+use sg_wire::{Command, Extent, Format, InAction, Initiator, ListedExtents, OutAction};
 
 /// What a command asks for, with all that it takes: its fields and its data-out are sound. Blocks past
 /// the last one and want of space can still refuse it. So can the disk's mode pages and reservations,
@@ -121,20 +121,20 @@ impl<'a> Operation<'a> {
         ensures writes { result.writes ≡ (medium_use self.now).writes }
     {
         let (out_of_range, writes) = match self {
-            Operation::Read(blocks) => (blocks.extent.past_capacity(capacity), false),
-            Operation::Synchronize(extent) => (extent.past_capacity(capacity), false),
+            Operation::Read(blocks) => (past_capacity(blocks.extent, capacity), false),
+            Operation::Synchronize(extent) => (past_capacity(*extent, capacity), false),
             Operation::ReturnLbaStatus { start, .. } => {
                 let first = Extent {
                     lba: *start,
                     count: 1,
                 };
-                (first.past_capacity(capacity), false)
+                (past_capacity(first, capacity), false)
             }
-            Operation::Write(blocks) => (blocks.extent.past_capacity(capacity), true),
+            Operation::Write(blocks) => (past_capacity(blocks.extent, capacity), true),
             Operation::Fill { extent, .. } | Operation::UnmapExtent(extent) => {
-                (extent.past_capacity(capacity), true)
+                (past_capacity(*extent, capacity), true)
             }
-            Operation::Unmap(extents) => (extents.out_of_range(capacity), true),
+            Operation::Unmap(extents) => (listed_out_of_range(extents, capacity), true),
             Operation::Nothing
             | Operation::ReturnSense { .. }
             | Operation::ReturnInquiry { .. }

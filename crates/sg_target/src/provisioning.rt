@@ -1,139 +1,54 @@
 // UNMAP, WRITE SAME and GET LBA STATUS: logical block provisioning (SBC-3, 4.7 and 5).
-ghost use Rattle.std.specs.Prelude.{◌≡◌, ◌+◌, ◌*◌, ◌-◌, ◌≤◌, ◌<◌, ◌∷◌, ◌==◌, [], length, true};
-ghost use Rattle.std.specs.Prelude.{Some, None, Err, Ok, IfOk, IfErr, IfNone, if◌then◌else◌};
+ghost use Rattle.std.specs.Prelude.{◌≡◌, ◌+◌, ◌≤◌, ◌∷◌, ◌==◌, [], length};
+ghost use Rattle.std.specs.Prelude.{Some, None, IfOk, IfErr, IfNone};
 ghost use Rattle.std.specs.List.{list_all};
 ghost use Rattle.std.specs.FinMap.{len};
-ghost use Rattle.sg_pages.specs.ProvisioningPages.{maximum_unmap_descriptors};
+ghost use Rattle.sg_wire.specs.UnmapList.{maximum_unmap_descriptors};
 ghost use Rattle.sg_store.specs.Meter.{no_counts};
 ghost use Rattle.sg_target.specs.Checks.{out_of_range, requested, unsupported_value};
 ghost use Rattle.sg_target.specs.Demands.{bad_count, unmap as demands_of_unmap, write_same};
 ghost use Rattle.sg_target.specs.Demands.{write_same_10, write_same_16};
 ghost use Rattle.sg_target.specs.Effect.{range};
 ghost use Rattle.sg_target.specs.Extents.{AreOnDisk};
-ghost use Rattle.sg_target.specs.ProvisioningCommands.{descriptor, descriptor_count, filling};
-ghost use Rattle.sg_target.specs.ProvisioningCommands.{ranges_in_turn, reporting_status};
-ghost use Rattle.sg_target.specs.ProvisioningCommands.{unmap_descriptor_length, unmap_header_length};
-ghost use Rattle.sg_target.specs.ProvisioningCommands.{unmap_list, unmapped_in_turn, unmapping};
-ghost use Rattle.sg_target.specs.ProvisioningCommands.{unmaps};
+ghost use Rattle.sg_target.specs.ProvisioningCommands.{filling, ranges_in_turn, reporting_status};
+ghost use Rattle.sg_target.specs.ProvisioningCommands.{unmap_list_refusal, unmapped_in_turn};
+ghost use Rattle.sg_target.specs.ProvisioningCommands.{unmapping, unmaps};
 ghost use Rattle.sg_target.specs.Ranges.{IsCharged, IsCounted, cost_bounds};
 ghost use Rattle.sg_target.specs.Reply.{Carries};
 ghost use Rattle.sg_target.specs.State.{IsWithinLimits};
 ghost use Rattle.sg_target.specs.Step.{executed, executed_or_refused, good};
 
 use crate::data_out::needed_data_out;
-use crate::extent::{Extent, first_past_capacity};
-use crate::extent_list::ExtentList;
+use crate::extent::first_past_capacity;
 use crate::operation::Operation;
 use crate::refusal::{Reason, Refusal};
 use crate::reply::Reply;
 use crate::target::{BUFFER_LENGTH, Target};
-use byteorder::{BigEndian, ByteOrder};
-use sg_pages::{MAXIMUM_UNMAP_DESCRIPTORS, MAXIMUM_WRITE_SAME_LENGTH};
+use sg_pages::MAXIMUM_WRITE_SAME_LENGTH;
 use sg_store::{BLOCK_LENGTH, MAX_CAPACITY, MAX_POOL, Store};
-use sg_wire::{Cut, Initiator, Unmap, WriteSame10, WriteSame16};
+use sg_wire::{Cut, Extent, Initiator, ListedExtents, Unmap, UnmapList, UnmapListFault};
+use sg_wire::{WriteSame10, WriteSame16};
 use std::marker::Model;
 
 // Where ANCHOR is in the CDBs of UNMAP and WRITE SAME.
 const ANCHOR_BYTE: u16 = 1;
 
-// ---- The parameter list of UNMAP (SBC-3, 5.28.2)
-
-// In bytes: its header, and a descriptor.
-const HEADER_LENGTH: usize = 8;
-
-const DESCRIPTOR_LENGTH: usize = 16;
-
-// Where UNMAP BLOCK DESCRIPTOR DATA LENGTH begins.
-const DESCRIPTOR_DATA_LENGTH_BYTE: u16 = 2;
-
-/// The extents that a parameter list names. They are read where they lie, once as they are checked and
-/// once as they are unmapped, so that what is left to do of other commands stays small.
-#[derive(Drop)]
-pub struct ListedExtents<'a> {
-    list: &'a [u8],
-    count: usize,
-    ghost at_most: { count ≤ maximum_unmap_descriptors },
-    ghost whole: { unmap_descriptor_length * count ≤ length list.now - unmap_header_length },
-}
-
-impl<'a> Model for ListedExtents<'a> {
-    ghost use Rattle.std.specs.Prelude.{List};
-    ghost use Rattle.sg_target.specs.ProvisioningCommands.{first_descriptors};
-    ghost use Rattle.sg_target.specs.declared.extent.Extent.{Extent};
-
-    ghost Value = { List Extent };
-
-    ghost view = { λ e. first_descriptors e.list.now e.count };
-}
-
-impl<'a> ListedExtents<'a> {
-    /// Why the extents can't all be reached, on a disk of `capacity` blocks.
-    #[inline(never)]
-    pub(crate) fn out_of_range(&self, capacity: u64) -> Option<Refusal>
-        requires { capacity ≤ MAX_CAPACITY }
-        ensures value { result ≡ out_of_range capacity self.now }
-        ensures on_disk { IfNone result (AreOnDisk capacity self.now) }
-    {
-        first_past_capacity(capacity, self.read().as_slice())
-    }
-
-    // Reads each descriptor.
-    fn read(&self) -> ExtentList
-        ensures extents { result ≡ self.now }
-        ensures at_most { length result ≤ maximum_unmap_descriptors }
-    {
-        let mut extents = ExtentList::new();
-        for index in 0..self.count {
-            extents.push(descriptor(self.list, index));
-        }
-        extents
-    }
-}
-
-// The extents that a parameter list names.
-#[tactic(auto, unfolding(crate::specs::ProvisioningCommands::unmap_list))]
-fn extents_in(list: &[u8]) -> Result<ListedExtents<'_>, Refusal>
-    ensures refused { IfErr result (λ refusal. unmap_list list.now ≡ Err refusal) }
-    ensures passed { IfOk result (λ extents. unmap_list list.now ≡ Ok extents) }
-{
-    if list.is_empty() {
-        return Ok(ListedExtents { list, count: 0 });
-    }
-    if list.len() < HEADER_LENGTH {
-        return Err(Refusal::Check(Reason::ParameterListLengthError));
-    }
-    let count = descriptor_count(list);
-    if count > MAXIMUM_UNMAP_DESCRIPTORS as usize {
-        return Err(Refusal::Check(Reason::InvalidFieldInParameterList {
-            byte: DESCRIPTOR_DATA_LENGTH_BYTE,
-        }));
-    }
-    Ok(ListedExtents { list, count })
-}
-
-#[tactic(auto, unfolding(crate::specs::ProvisioningCommands::descriptor_count))]
-fn descriptor_count(list: &[u8]) -> usize
-    requires { HEADER_LENGTH ≤ length list.now }
-    ensures value { result ≡ descriptor_count list.now }
-    ensures whole { HEADER_LENGTH + DESCRIPTOR_LENGTH * result ≤ length list.now }
-{
-    let counted = usize::from(BigEndian::read_u16(&list[2..]));
-    counted.min(list.len() - HEADER_LENGTH) / DESCRIPTOR_LENGTH
-}
-
-#[tactic(auto, unfolding(crate::specs::ProvisioningCommands::descriptor))]
-fn descriptor(list: &[u8], index: usize) -> Extent
-    requires { HEADER_LENGTH + DESCRIPTOR_LENGTH * (index + 1) ≤ length list.now }
-    ensures { result ≡ descriptor list.now index }
-{
-    let byte = HEADER_LENGTH + DESCRIPTOR_LENGTH * index;
-    Extent {
-        lba: BigEndian::read_u64(&list[byte..]),
-        count: BigEndian::read_u32(&list[byte + 8..]),
-    }
-}
-
 // ---- UNMAP
+
+impl From<UnmapListFault> for Refusal {
+    ghost from_gives = { λ fault refusal. refusal ≡ unmap_list_refusal fault };
+
+    fn from(fault: UnmapListFault) -> Refusal {
+        match fault {
+            UnmapListFault::Short => Refusal::Check(Reason::ParameterListLengthError),
+            UnmapListFault::TooManyDescriptors => {
+                Refusal::Check(Reason::InvalidFieldInParameterList {
+                    byte: UnmapList::DESCRIPTOR_DATA_LENGTH_AT as u16,
+                })
+            }
+        }
+    }
+}
 
 pub(crate) fn check_unmap(fields: Unmap, data_out: &[u8]) -> Result<Operation<'_>, Refusal>
     ensures { result ≡ requested (demands_of_unmap fields data_out.now) data_out.now }
@@ -142,7 +57,19 @@ pub(crate) fn check_unmap(fields: Unmap, data_out: &[u8]) -> Result<Operation<'_
         return Err(Refusal::Check(Reason::InvalidFieldInCdb { byte: ANCHOR_BYTE }));
     }
     let list = needed_data_out(data_out, usize::from(fields.list_length))?;
-    Ok(Operation::Unmap(extents_in(list)?))
+    Ok(Operation::Unmap(UnmapList::read(list)?))
+}
+
+/// Why the extents of a parameter list can't all be reached, on a disk of `capacity` blocks. Room for
+/// their table would else be made for every command.
+#[inline(never)]
+pub(crate) fn listed_out_of_range(listed: &ListedExtents<'_>, capacity: u64) -> Option<Refusal>
+    requires { capacity ≤ MAX_CAPACITY }
+    ensures value { result ≡ out_of_range capacity listed.now }
+    ensures on_disk { IfNone result (AreOnDisk capacity listed.now) }
+{
+    let extents = listed.to_list();
+    first_past_capacity(capacity, extents.as_slice())
 }
 
 impl<S: Store> Target<S> {
@@ -158,7 +85,7 @@ impl<S: Store> Target<S> {
         ensures charge { IsCharged (cost_bounds S.price S.least) self.old.state.disk.pool
             (unmapping self.old.state listed.now).ranges self.old.meter self.new.meter result }
     {
-        let extents = listed.read();
+        let extents = listed.to_list();
         self.unmap(extents.as_slice(), buf)
     }
 

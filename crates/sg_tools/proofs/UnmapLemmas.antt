@@ -13,7 +13,7 @@ use Rattle.std.proofs.lemmas.Bool.Decides.{nat_tests}
 use Rattle.sg_tools.specs.Requests.{paired, sg_unmap, unmap}
 use Rattle.sg_tools.specs.Number.{at_most, number_of, number_up_to}
 use Rattle.sg_tools.specs.OptionTexts.{all_values, prepend, entries, numbers_up_to, value_or}
-use Rattle.sg_tools.specs.declared.extents.Extent.{Extent}
+use Rattle.sg_wire.specs.declared.extent.Extent.{Extent}
 
 -- one more extent
 pub paired_more : (xs ys : List ℕ) (k : ℕ) → k < length xs → k < length ys

@@ -9,9 +9,9 @@ use Rattle.sg_tools.specs.Options.{command_line}
 use Rattle.sg_tools.specs.GivenOptions.{is_set, given_options, text_of}
 use Rattle.sg_tools.specs.OptionTexts.{reservation_key, reservation_type, numbers_up_to, mode_page}
 use Rattle.sg_tools.specs.OptionTexts.{number_or, value_or, vpd_page}
-use Rattle.sg_tools.specs.ParameterLists.{unmap_list_length}
-use Rattle.sg_tools.specs.declared.extents.Extent.{Extent}
 use Rattle.sg_wire.specs.OutList.{list_length}
+use Rattle.sg_wire.specs.UnmapList.{maximum_unmap_descriptors, unmap_list_length}
+use Rattle.sg_wire.specs.declared.extent.Extent.{Extent}
 use Rattle.sg_wire.specs.declared.out_list.OutList.{OutList}
 use Rattle.sg_tools.specs.declared.parameters.Parameters.{Parameters}
 use Rattle.sg_tools.specs.declared.parameters.Parameters.TheVariants as parameters
@@ -124,9 +124,6 @@ sg_modes rows =
 
 -- ---- sg_unmap: UNMAP
 
-abbrev pub max_unmap_descriptors : ℕ
-max_unmap_descriptors = 64
-
 abbrev pub paired : (lbas counts : List ℕ) → List Extent
 paired [] counts = []
 paired (lba ∷ lbas) [] = []
@@ -139,7 +136,7 @@ unmap anchor group extents =
 
 abbrev pub unmap_each : (anchor : Bool) (group : ℕ) (lbas counts : List ℕ) → Request
 unmap_each anchor group lbas counts =
-    if length lbas == length counts && nat_le (length lbas) max_unmap_descriptors
+    if length lbas == length counts && nat_le (length lbas) maximum_unmap_descriptors
     then unmap anchor group (paired lbas counts) else Err Usage
 
 abbrev pub with_both_lists : (lba num : Option Text) → (Text → Text → Request) → Request

@@ -3,7 +3,6 @@
 #![tactic(auto)]
 
 mod digits;
-mod extents;
 mod given_options;
 mod inquiry;
 mod lba_status;
@@ -23,7 +22,6 @@ mod tool_name;
 mod unmap;
 
 pub use digits::digit_value;
-pub use extents::{Extent, Extents};
 pub use given_options::GivenOptions;
 pub use number::{read_number, read_number_up_to};
 pub use option_text::number_or;

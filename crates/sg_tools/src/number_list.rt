@@ -4,14 +4,14 @@ ghost use Rattle.std.specs.List.{position};
 ghost use Rattle.sg_tools.specs.NumberList.{PushesNumber, ReadsList};
 ghost use Rattle.sg_tools.specs.OptionTexts.{numbers_up_to};
 
-use crate::extents::MAX_EXTENTS;
 use crate::number::read_number_up_to;
 use arrayvec::ArrayVec;
+use sg_wire::MAXIMUM_UNMAP_DESCRIPTORS;
 
 // The numbers of a list: as many as UNMAP takes, and how many there are.
 #[derive(Drop)]
 pub(crate) struct NumberList {
-    pub(crate) first: ArrayVec<u64, MAX_EXTENTS>,
+    pub(crate) first: ArrayVec<u64, MAXIMUM_UNMAP_DESCRIPTORS>,
     pub(crate) count: usize,
 }
 

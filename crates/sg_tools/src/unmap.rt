@@ -1,17 +1,17 @@
 // sg_unmap.
 ghost use Rattle.std.specs.Prelude.{◌≡◌, ◌≤◌, ◌<◌, ◌^◌, ℕ, Ok, length, option_map, slice_index};
+ghost use Rattle.sg_wire.specs.UnmapList.{maximum_unmap_descriptors};
 ghost use Rattle.sg_tools.specs.OptionTexts.{number_or};
-ghost use Rattle.sg_tools.specs.Requests.{max_unmap_descriptors, paired, sg_unmap, unmap};
+ghost use Rattle.sg_tools.specs.Requests.{paired, sg_unmap, unmap};
 
-use crate::extents::{Extent, Extents, MAX_EXTENTS};
 use crate::given_options::GivenOptions;
 use crate::number_list::read_list;
 use crate::option_text::number_or;
-use crate::parameters::{Parameters, unmap_list_length};
+use crate::parameters::Parameters;
 use crate::show::Show;
 use crate::tool::Tool;
 use crate::tool_fault::ToolFault;
-use sg_wire::{Command, GroupNumber, Unmap};
+use sg_wire::{Command, Extent, GroupNumber, MAXIMUM_UNMAP_DESCRIPTORS, Unmap, UnmapList};
 
 // What the options of sg_unmap ask for.
 pub(crate) fn sg_unmap(options: &GivenOptions) -> Result<Tool, ToolFault>
@@ -26,23 +26,23 @@ pub(crate) fn sg_unmap(options: &GivenOptions) -> Result<Tool, ToolFault>
     let (Some(lbas), Some(counts), Some(group)) = (lbas, counts, group) else {
         return Err(ToolFault::Number);
     };
-    if lbas.count != counts.count || lbas.count > MAX_EXTENTS {
+    if lbas.count != counts.count || lbas.count > MAXIMUM_UNMAP_DESCRIPTORS {
         return Err(ToolFault::Usage);
     }
-    let extents = paired(&lbas.first, &counts.first);
-    Ok(unmap(options.is_set("anchor"), group, extents))
+    let list = paired(&lbas.first, &counts.first);
+    Ok(unmap(options.is_set("anchor"), group, list))
 }
 
-fn unmap(anchor: bool, group: GroupNumber, extents: Extents) -> Tool
-    ensures { Ok result ≡ unmap anchor group extents }
+fn unmap(anchor: bool, group: GroupNumber, list: UnmapList) -> Tool
+    ensures { Ok result ≡ unmap anchor group list }
 {
     Tool {
         command: Command::Unmap(Unmap {
             anchor,
             group,
-            list_length: unmap_list_length(extents.as_slice().len()) as u16,
+            list_length: list.parameter_list_length(),
         }),
-        parameters: Parameters::Unmap(extents),
+        parameters: Parameters::Unmap(list),
         show: Show::Nothing,
     }
 }
@@ -54,19 +54,19 @@ fn group_number(text: Option<&str>) -> Option<GroupNumber>
     GroupNumber::new(number_or(0, 31, text)? as u8)
 }
 
-// The extents of addresses and counts.
-fn paired(lbas: &[u64], counts: &[u64]) -> Extents
+// The list of the extents of addresses and counts.
+fn paired(lbas: &[u64], counts: &[u64]) -> UnmapList
     requires equally_long { length lbas.now ≡ length counts.now }
-    requires at_most_64 { length lbas.now ≤ max_unmap_descriptors }
+    requires at_most_64 { length lbas.now ≤ maximum_unmap_descriptors }
     requires of_32_bits { (k : ℕ) → slice_index counts.now k < 2 ^ 32 }
     ensures { result ≡ paired lbas.now counts.now }
 {
-    let mut extents = Extents::new();
+    let mut list = UnmapList::new();
     for k in 0..lbas.len() {
-        extents.push(Extent {
+        list.push(Extent {
             lba: lbas[k],
             count: counts[k] as u32,
         });
     }
-    extents
+    list
 }

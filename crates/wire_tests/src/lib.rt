@@ -11,4 +11,6 @@ mod printer;
 #[cfg(test)]
 mod sense;
 #[cfg(test)]
+mod unmap_list;
+#[cfg(test)]
 mod watched;

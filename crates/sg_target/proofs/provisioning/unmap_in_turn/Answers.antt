@@ -1,6 +1,6 @@
 use Rattle.std.proofs.Common.{get_or, ap, arith, length-take}
+use Rattle.sg_wire.specs.declared.extent.Extent.{Extent}
 use Rattle.sg_store.specs.Disk.{Disk}
-use Rattle.sg_target.specs.declared.extent.Extent.{Extent}
 use Rattle.sg_target.proofs.ExtentLemmas.{on_disk-at}
 use Rattle.sg_target.proofs.UnmapLemmas.{counted-next, disk-next, has_headroom}
 use Rattle.sg_target.proofs.provisioning.unmap_in_turn.Goals as goal

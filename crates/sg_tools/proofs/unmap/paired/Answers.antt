@@ -1,5 +1,5 @@
 use Rattle.std.proofs.Common.{◌+◌, ◌++◌, ◌∷◌, [], List, get_or, ap, sym, ◌∙◌, arith}
-use Rattle.sg_tools.specs.declared.extents.Extent.{Extent}
+use Rattle.sg_wire.specs.declared.extent.Extent.{Extent}
 use Rattle.sg_tools.proofs.UnmapLemmas.{paired_more, pushed}
 use Rattle.sg_tools.proofs.unmap.paired.Goals as goal
 

@@ -5,6 +5,6 @@ use Rattle.sg_tools.proofs.unmap.paired.Given as goal
 -- so many are paired
 abbrev pub invariant-loop-k : goal.invariant-loop-k
 invariant-loop-k l = record {
-  extents : l.extents ≡ paired (take l.k l.lbas) (take l.k l.counts);
-  count : length l.extents ≡ l.k;
+  extents : l.list ≡ paired (take l.k l.lbas) (take l.k l.counts);
+  count : length l.list ≡ l.k;
 }

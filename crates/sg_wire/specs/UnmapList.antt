@@ -1,0 +1,73 @@
+-- The parameter list of UNMAP (SBC-3, 5.28.2).
+use Rattle.std.specs.Prelude.{ℕ, ◌+◌, ◌-◌, ◌*◌, ◌/◌, ◌==◌, min, List, [], ◌++◌, length, drop, map}
+use Rattle.std.specs.Prelude.{replicate, Result, Ok, Err, nat_lt, if◌then◌else◌}
+use Rattle.std.specs.List.{flat_map, range_with_len}
+use Rattle.byteorder.specs.Endian.{big_bytes, big_number}
+use Rattle.sg_wire.specs.declared.extent.Extent.{Extent}
+use Rattle.sg_wire.specs.declared.unmap_list.UnmapListFault.{UnmapListFault}
+use Rattle.sg_wire.specs.declared.unmap_list.UnmapListFault.TheVariants.{Short, TooManyDescriptors}
+
+-- In bytes: its header, and each block descriptor behind it.
+abbrev pub unmap_header_length : ℕ
+unmap_header_length = 8
+
+abbrev pub unmap_descriptor_length : ℕ
+unmap_descriptor_length = 16
+
+abbrev pub unmap_list_length : (descriptors : ℕ) → ℕ
+unmap_list_length descriptors = unmap_header_length + unmap_descriptor_length * descriptors
+
+-- Where UNMAP BLOCK DESCRIPTOR DATA LENGTH begins.
+abbrev pub descriptor_data_length_at : ℕ
+descriptor_data_length_at = 2
+
+-- The most block descriptors that the parameter list of an UNMAP has.
+abbrev pub maximum_unmap_descriptors : ℕ
+maximum_unmap_descriptors = 64
+
+-- ---- The bytes of a list
+
+-- UNMAP DATA LENGTH, which counts what follows it, in bytes 0 and 1; UNMAP BLOCK DESCRIPTOR DATA
+-- LENGTH in bytes 2 and 3; and four reserved bytes.
+abbrev pub unmap_header : (descriptors : ℕ) → List ℕ
+unmap_header descriptors =
+    let data_length = unmap_list_length descriptors - 2 in
+    let descriptor_data_length = unmap_descriptor_length * descriptors in
+    (big_bytes 2 data_length ++ big_bytes 2 descriptor_data_length) ++ replicate 4 0
+
+-- UNMAP LOGICAL BLOCK ADDRESS in bytes 0 to 7, NUMBER OF LOGICAL BLOCKS in bytes 8 to 11, and four
+-- reserved bytes.
+abbrev pub unmap_descriptor : Extent → List ℕ
+unmap_descriptor extent = (big_bytes 8 extent.lba ++ big_bytes 4 extent.count) ++ replicate 4 0
+
+unfoldable pub unmap_list_bytes : List Extent → List ℕ
+unmap_list_bytes extents = unmap_header (length extents) ++ flat_map unmap_descriptor extents
+
+-- ---- The list that bytes contain
+
+-- The extent of a descriptor that begins at a byte.
+abbrev pub extent_at : (bytes : List ℕ) (at : ℕ) → Extent
+extent_at bytes at =
+    record { lba = big_number 8 (drop at bytes); count = big_number 4 (drop (at + 8) bytes) }
+
+unfoldable pub descriptor_at : (bytes : List ℕ) (index : ℕ) → Extent
+descriptor_at bytes index = extent_at bytes (unmap_list_length index)
+
+abbrev pub first_descriptors : (bytes : List ℕ) (count : ℕ) → List Extent
+first_descriptors bytes count = map (descriptor_at bytes) (range_with_len 0 count)
+
+-- How many whole descriptors there are in the bytes that the header counts, or in those that are
+-- behind it, where these are fewer.
+unfoldable pub descriptor_count : (bytes : List ℕ) → ℕ
+descriptor_count bytes =
+    let counted = big_number 2 (drop descriptor_data_length_at bytes) in
+    min counted (length bytes - unmap_header_length) / unmap_descriptor_length
+
+-- No byte is a list without an extent. Any other list has its header, and no more descriptors than
+-- there may be.
+unfoldable pub unmap_list : (bytes : List ℕ) → Result (List Extent) UnmapListFault
+unmap_list bytes =
+    if length bytes == 0 then Ok []
+    else (if nat_lt (length bytes) unmap_header_length then Err Short
+    else (if nat_lt maximum_unmap_descriptors (descriptor_count bytes) then Err TooManyDescriptors
+    else Ok (first_descriptors bytes (descriptor_count bytes))))
