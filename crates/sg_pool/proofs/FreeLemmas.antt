@@ -87,7 +87,7 @@ once-given next first last count to given fresh is once =
     let G = chain next to given in
     let R = range_with_len fresh (length next - fresh) in
     let in_chain : 1 ≤ occurrences last C =
-    rw (sym is.ends) at (slot_after-in next first (count - 1) count (omega (arith, is.some))) in
+    rw (sym is.ends) at (slot_after-in next first (count - 1) count (omega (arith, is.not_empty))) in
     omega (
       arith,
       once,
