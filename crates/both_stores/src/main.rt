@@ -77,6 +77,12 @@ impl Disks {
             && self.of_plain[..plain.data_in] == self.of_runs[..runs.data_in];
         if are_equal { Some(runs.status) } else { None }
     }
+
+    /// A power cycle of both.
+    fn power_cycle(&mut self) {
+        self.plain.power_cycle();
+        self.runs.power_cycle();
+    }
 }
 
 impl Tally {
@@ -184,14 +190,19 @@ fn list_keys(random: &mut Random, list: &mut [u8; LONGEST_LIST]) {
     list.fill(0);
     list[7] = random.byte() % 3;
     list[15] = random.byte() % 3;
+    // APTPL.
+    list[20] = random.byte() % 2;
 }
 
-/// Executes the commands.
+/// Executes the commands, with power cycles among them.
 fn run(disks: &mut Disks) -> Option<Tally> {
     let mut tally = Tally::default();
     let mut random = Random::new();
     let mut data_out = [0; LONGEST_LIST];
     for _ in 0..COMMANDS {
+        if random.byte() < 4 {
+            disks.power_cycle();
+        }
         let initiator = Initiator::new(random.byte() % 3)?;
         let (command, length) = next_command(&mut random, &mut data_out)?;
         let cdb = command.write();

@@ -7,8 +7,12 @@ type Exchange = (&'static [u8], &'static str);
 
 const POWER_ON: &str = "CHECK CONDITION\n  sense: UNIT ATTENTION, 29h/00h\n";
 
-/// TEST UNIT READY comes from one initiator after the other.
-const LINES: [Exchange; 7] = [
+const POWER: &str = "POWER\n";
+
+/// After a power cycle TEST UNIT READY comes from one initiator after the other.
+const LINES: [Exchange; 9] = [
+    (b"raw 0 000000000000", POWER_ON),
+    (b"power", POWER),
     (b"raw 0 000000000000", POWER_ON),
     (b"# prints nothing", ""),
     (b"raw 1 000000000000\r", POWER_ON),
@@ -72,11 +76,20 @@ impl Script {
     }
 }
 
-/// How many of the first lines report a unit attention.
+/// How many initiators have no unit attention pending after the first lines: how many of them have
+/// reported one since the last power cycle.
 pub(crate) fn sent_by(lines: usize) -> usize {
     let lines = &LINES[..lines.min(LINES.len())];
-    let reports = lines.iter().filter(|(_, printed)| *printed == POWER_ON);
-    reports.count()
+    let mut reports: usize = 0;
+    for (_, printed) in lines {
+        if *printed == POWER_ON {
+            reports = reports.saturating_add(1);
+        }
+        if *printed == POWER {
+            reports = 0;
+        }
+    }
+    reports
 }
 
 const POWER_ON_1: &str = "line 1: CHECK CONDITION\n  sense: UNIT ATTENTION, 29h/00h\n";

@@ -11,4 +11,6 @@ mod mode_pages;
 #[cfg(test)]
 mod pages;
 #[cfg(test)]
+mod reservations;
+#[cfg(test)]
 mod target;

@@ -251,3 +251,18 @@ fn all_pages_are_saved(rt: HostRuntime) {
     assert_eq!(rt; pages.sense(&request, &mut Cut::new(&mut buf, 16)), Ok(()));
     assert_eq!(rt; &buf, b"\x0F\x00\x90\x00\x81\x0A\xC0\x10\0\0\0\0\x08\0\0\0");
 }
+
+// What was not saved is gone after a power cycle, and what was saved is current.
+#[test]
+fn a_power_cycle_leaves_the_saved_pages(rt: HostRuntime) {
+    let protection = b"\x00\x00\x00\x00\x0A\x0A\x04\x00\x08\0\0\0\0\0\0\0";
+    let mut pages = ModePages::new();
+    assert_eq!(rt; pages.select(protection, false, false, BLOCKS), CHANGED);
+    pages.power_on();
+    assert!(rt; !pages.write_protected());
+    assert!(rt; !pages.descriptor_sense());
+    assert_eq!(rt; pages.select(protection, false, true, BLOCKS), CHANGED);
+    pages.power_on();
+    assert!(rt; pages.write_protected());
+    assert!(rt; pages.descriptor_sense());
+}

@@ -1,7 +1,7 @@
 // Lists of commands.
 use super::log::{Entry, Log, Refused};
 use super::*;
-use sg_target::Call;
+use sg_target::{Call, Event};
 use std::process::Abort;
 
 // A command and its answer: the initiator's number, the CDB, data-out, the ending and data-in.
@@ -152,5 +152,50 @@ fn each_reply_of_a_run_has_the_counts_of_its_command(rt: HostRuntime) -> Result<
     }
     assert_eq!(rt; entries[2].counts.visits, 2);
     assert!(rt; entries[2].counts.probes > 0);
+    Ok(())
+}
+
+// Commands with their answers, and power cycles, which have none.
+const THROUGH_POWER_CYCLES: [Option<Exchanged>; 10] = [
+    Some((0, READY, &[], PowerOn, &[])),
+    Some((0, &[0x2A, 0, 0, 0, 0, 3, 0, 0, 1, 0], &A, Good, &[])),
+    None,
+    None,
+    Some((0, &[0x28, 0, 0, 0, 0, 3, 0, 0, 1, 0], &[], PowerOn, &[])),
+    Some((0, &[0x28, 0, 0, 0, 0, 3, 0, 0, 1, 0], &[], Good, &A)),
+    Some((1, READY, &[], PowerOn, &[])),
+    Some((1, READY, &[], Good, &[])),
+    None,
+    Some((1, READY, &[], PowerOn, &[])),
+];
+
+#[test]
+fn power_cycles_come_between_commands(rt: HostRuntime) -> Result<(), Fail> {
+    let mut disk = new_disk(rt.alloc(), 4_096)?;
+    let mut events = Vec::new(rt.alloc());
+    let mut commands = Vec::new(rt.alloc());
+    for step in THROUGH_POWER_CYCLES {
+        let Some((number, cdb, data_out, ending, data_in)) = step else {
+            assert!(rt; events.push(Event::Power).is_ok());
+            continue;
+        };
+        let initiator = Initiator::new(number).ok_or("no initiator")?;
+        let call = Call {
+            initiator,
+            cdb,
+            data_out,
+        };
+        assert!(rt; events.push(Event::Call(call)).is_ok());
+        assert!(rt;
+            commands
+                .push((number, cdb, data_out, ending, data_in))
+                .is_ok()
+        );
+    }
+    let mut buf = vec![in rt.alloc(); 0xA5; BUFFER_LENGTH]?;
+    let mut log = Log::new(&rt, rt.alloc(), usize::MAX);
+    let ended = disk.run_events(&events, &mut buf, &mut log);
+    assert_eq!(rt; ended, Ok(()));
+    assert_taken(&rt, &log.entries, &commands, 7);
     Ok(())
 }
