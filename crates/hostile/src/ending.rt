@@ -5,6 +5,8 @@ use sg_target::{Reply, Status};
 pub(crate) enum Ending {
     Good,
     Conflict,
+    /// The unit attention of a power cycle.
+    PowerOn,
     /// INVALID FIELD IN CDB, with a field pointer to the byte.
     InvalidField(usize),
     DataPhaseError,
@@ -15,7 +17,9 @@ impl Ending {
         match self {
             Ending::Good => Status::Good,
             Ending::Conflict => Status::ReservationConflict,
-            Ending::InvalidField(_) | Ending::DataPhaseError => Status::CheckCondition,
+            Ending::PowerOn | Ending::InvalidField(_) | Ending::DataPhaseError => {
+                Status::CheckCondition
+            }
         }
     }
 
@@ -23,6 +27,9 @@ impl Ending {
     fn sense(self) -> Option<[u8; 18]> {
         match self {
             Ending::Good | Ending::Conflict => None,
+            Ending::PowerOn => Some([
+                0x70, 0, 6, 0, 0, 0, 0, 0x0A, 0, 0, 0, 0, 0x29, 0x00, 0, 0, 0, 0,
+            ]),
             Ending::InvalidField(byte) => Some(invalid_field(byte)),
             Ending::DataPhaseError => Some([
                 0x70, 0, 0x0B, 0, 0, 0, 0, 0x0A, 0, 0, 0, 0, 0x4B, 0x00, 0, 0, 0, 0,

@@ -1,7 +1,8 @@
 //! `hostile`: sends commands that are cut short, have a bit that no field has, or come with too
 //! little or too much data-out. For each command of a table:
 //!
-//! - each shorter length of its CDB is refused, with a pointer to the first byte that is missing;
+//! - each shorter length of its CDB is refused, with a pointer to the first byte that is missing,
+//!   and after a power cycle it first reports that, but for REQUEST SENSE and INQUIRY;
 //! - each bit that no field has and that is not ignored, alone, is refused, with a pointer to its
 //!   byte, and so is CONTROL 01h;
 //! - one byte less of data-out than it announces is a DATA PHASE ERROR, and one more changes
@@ -64,6 +65,15 @@ impl TestDisk {
             .execute(self.initiator, cdb, data_out, &mut self.buf);
         ending.is_of(&reply)
     }
+
+    /// Whether a command ends so after a power cycle. First it reports POWER ON, unless its CDB has
+    /// no byte or is that of REQUEST SENSE or INQUIRY, which no unit attention stops (SAM-5, 5.14).
+    fn ends_after_power_on(&mut self, cdb: &[u8], data_out: &[u8], ending: Ending) -> bool {
+        self.target.power_cycle();
+        let reports = matches!(cdb.first(), None | Some(0x03 | 0x12))
+            || self.ends(cdb, data_out, Ending::PowerOn);
+        self.ends(cdb, data_out, ending) && reports
+    }
 }
 
 /// The numbers of tries: of lengths, of bits, of CONTROL and of data-out, and how many of all end
@@ -105,7 +115,8 @@ fn try_lengths(
     let mut tally = Tally::default();
     for length in 0..row.cdb.len() {
         tally.lengths = tally.lengths.saturating_add(1);
-        if !disk.ends(&row.cdb[..length], data_out, Ending::InvalidField(length)) {
+        let ending = Ending::InvalidField(length);
+        if !disk.ends_after_power_on(&row.cdb[..length], data_out, ending) {
             tally.wrong = wrong_after(rt, tally.wrong, row.name, "length", length)?;
         }
     }
