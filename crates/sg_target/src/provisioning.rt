@@ -26,8 +26,10 @@ use crate::reply::Reply;
 use crate::target::{BUFFER_LENGTH, Target};
 use sg_pages::MAXIMUM_WRITE_SAME_LENGTH;
 use sg_store::{BLOCK_LENGTH, MAX_CAPACITY, MAX_POOL, Store};
-use sg_wire::{Cut, Extent, Initiator, ListedExtents, Unmap, UnmapList, UnmapListFault};
-use sg_wire::{WriteSame10, WriteSame16};
+use sg_wire::{
+    Cut, Extent, Initiator, ListedExtents, Unmap, UnmapList, UnmapListFault, WriteSame10,
+    WriteSame16,
+};
 use std::marker::Model;
 
 // Where ANCHOR is in the CDBs of UNMAP and WRITE SAME.
