@@ -118,7 +118,7 @@ const SENT: [(&str, &[u8], &[u8], Show); 28] = [
         "sg_persist -ns",
         b"\x5E\x03\x00\x00\x00\x00\x00\x20\x00\x00",
         b"",
-        Show::Hex,
+        Show::FullStatus,
     ),
     (
         "sg_persist -G --param-sark=1",
