@@ -26,7 +26,7 @@ abbrev answers_in : List (Call × Answer) → List Answer
 answers_in exchanges = map (λ (exchange : Call × Answer). exchange.1) exchanges
 
 -- one more exchange on both sides, compared or not
-both-more : (call : Call) (from shows : Bool) (x y : Answer) (xs ys : List (Call × Answer))
+pub both-more : (call : Call) (from shows : Bool) (x y : Answer) (xs ys : List (Call × Answer))
     → (shows ≡ false → x ≡ y) → answers_in xs ≡ answers_in ys
     → answers_in (cond (from && not shows) ((call, x) ∷ xs) xs)
     ≡ answers_in (cond (from && not shows) ((call, y) ∷ ys) ys)
@@ -35,15 +35,15 @@ both-more call true false x y xs ys e rest = λ d. e refl d ∷ rest d
 both-more call false shows x y xs ys e rest = rest
 
 -- one more on one side, which is not compared
-none-more : (call : Call) (from shows : Bool) (x : Answer) (xs : List (Call × Answer))
+pub none-more : (call : Call) (from shows : Bool) (x : Answer) (xs : List (Call × Answer))
     → from ≡ false → answers_in (cond (from && not shows) ((call, x) ∷ xs) xs) ≡ answers_in xs
 none-more call true shows x xs e = cc
 none-more call false shows x xs e = refl
 
-equal : (m n : ℕ) → (m == n) ≡ true → m ≡ n
+pub equal : (m n : ℕ) → (m == n) ≡ true → m ≡ n
 equal m n h = grind (arith, nat_tests)
 
-different : (m n : ℕ) → (m == n) ≡ false → m ≡ n → ⊥
+pub different : (m n : ℕ) → (m == n) ≡ false → m ≡ n → ⊥
 different m n h e = grind (arith, nat_tests)
 
 module _ (i : ℕ) where
@@ -74,7 +74,7 @@ module _ (i : ℕ) where
         ∙ rest.answers;
   }
 
-  own-step : (first second : State) (call : Call) → IsWithinLimits first → IsWithinLimits second
+  pub own-step : (first second : State) (call : Call) → IsWithinLimits first → IsWithinLimits second
       → first.identity ≡ second.identity → view_of first i ≡ view_of second i
       → holds_alone first i ≡ true → call.initiator ≡ i
       → StepsAlike (shows_others (command_of call.cdb.now)) i (step_of first call) (step_of second call)
@@ -89,7 +89,7 @@ module _ (i : ℕ) where
   abbrev HoldsThroughout : State → List Call → Type 0
   HoldsThroughout state calls = (n : ℕ) → holds_alone (state_after_all state (take n calls)) i ≡ true
 
-  within : (state : State) (call : Call) → IsWithinLimits state → IsWithinLimits (step_of state call).state
+  pub within : (state : State) (call : Call) → IsWithinLimits state → IsWithinLimits (step_of state call).state
   within state call w = step-within state call.initiator call.cdb.now call.data_out.now w
 
   -- the list goes on by a call of i or of another

@@ -18,3 +18,4 @@ mod PreemptLemmas
 mod OutsiderRunLemmas
 mod FencedRunLemmas
 mod PowerLemmas
+mod PoweredRunLemmas

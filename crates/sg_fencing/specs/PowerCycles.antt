@@ -1,18 +1,20 @@
 -- Power cycles, in a user's words: what is left, who is told, and that fencing outlives them.
 use Rattle.std.specs.Prelude.{◌≡◌, ◌<◌, ℕ, Bool, true, false, ◌&&◌, List, [], ◌∷◌, Option, Some, None}
-use Rattle.std.specs.List.{list_any}
+use Rattle.std.specs.Prelude.{filter, map, slice_get, take}
+use Rattle.std.specs.List.{list_any, zip}
 use Rattle.sg_wire.specs.Layout.{class_of, command_of}
 use Rattle.sg_wire.specs.declared.command.Class.TheVariants.{Writes}
 use Rattle.sg_units.specs.Attentions.{initiator_count, pending_for}
 use Rattle.sg_units.specs.declared.unit_attention.UnitAttention.TheVariants.{PowerOn}
 use Rattle.sg_target.specs.PowerCycle.{after_power_cycle}
-use Rattle.sg_target.specs.Runs.{state_after_events, step_of}
-use Rattle.sg_target.specs.State.{State}
+use Rattle.sg_target.specs.Runs.{answers_to_events, state_after_events, step_of}
+use Rattle.sg_target.specs.State.{IsWithinLimits, State}
+use Rattle.sg_target.specs.Step.{Answer}
 use Rattle.sg_target.specs.declared.call.Call.{Call}
 use Rattle.sg_target.specs.declared.event.Event.{Event}
 use Rattle.sg_target.specs.declared.event.Event.TheVariants as event
 use Rattle.sg_target.specs.declared.reply.Status.TheVariants.{Good}
-use Rattle.sg_fencing.specs.Fencing.{is_from}
+use Rattle.sg_fencing.specs.Fencing.{holds_alone, is_compared, is_from, view_of}
 use Rattle.sg_fencing.specs.Registrants.{is_registrant, is_reserved, registers}
 
 -- ---- One power cycle
@@ -79,3 +81,47 @@ FencedOffThroughPowerCycles =
     → call.initiator ≡ initiator → class_of call.cdb.now ≡ Some Writes
     → is_reserved (state_after_events state events) ≡ true
     → (step_of (state_after_events state events) call).answer.status ≡ Good → ⊥
+
+-- The commands of an initiator and all power cycles, in order.
+abbrev pub happens_to : (initiator : ℕ) → Event → Bool
+happens_to initiator (event.Call call) = is_from initiator call
+happens_to initiator event.Power = true
+
+abbrev pub events_of : (initiator : ℕ) → List Event → List Event
+events_of initiator events = filter (happens_to initiator) events
+
+-- The commands among events, in order.
+abbrev pub calls_among : List Event → List Call
+calls_among [] = []
+calls_among (event.Call call ∷ events) = call ∷ calls_among events
+calls_among (event.Power ∷ events) = calls_among events
+
+-- The answers to an initiator, in order, but to PERSISTENT RESERVE IN and PERSISTENT RESERVE OUT.
+abbrev pub answers_among : (initiator : ℕ) → State → List Event → List Answer
+answers_among initiator state events =
+    map (λ (exchange : Call × Answer). exchange.1)
+    (filter (is_compared initiator) (zip (calls_among events) (answers_to_events state events)))
+
+-- Registrations and reservation persist at each power cycle among the events.
+abbrev pub PersistAtPowerCycles : State → List Event → Type 0
+PersistAtPowerCycles state events =
+    (n : ℕ) → slice_get events n ≡ Some event.Power
+    → persists (state_after_events state (take n events)) ≡ true
+
+-- The view of an initiator in the end, and the answers to it, are those after its commands and the
+-- power cycles alone.
+pub record IsAsIfAloneAmong (state : State) (initiator : ℕ) (events : List Event) : Type 0 where
+  pub view : view_of (state_after_events state events) initiator
+      ≡ view_of (state_after_events state (events_of initiator events)) initiator
+  pub answers : answers_among initiator state events
+      ≡ answers_among initiator state (events_of initiator events)
+
+-- So it is where the initiator holds a reservation of a type that nobody shares before and after each
+-- event, and what it registered by itself is to persist: APTPL, which each REGISTER sets for all, is
+-- then 1 at each power cycle with the others' commands and without them.
+abbrev pub HolderIsAsIfAloneThroughPowerCycles : Type 0
+HolderIsAsIfAloneThroughPowerCycles =
+    (state : State) (holder : ℕ) (events : List Event) → IsWithinLimits state
+    → ((n : ℕ) → holds_alone (state_after_events state (take n events)) holder ≡ true)
+    → PersistAtPowerCycles state (events_of holder events)
+    → IsAsIfAloneAmong state holder events

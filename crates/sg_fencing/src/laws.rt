@@ -6,7 +6,8 @@ ghost use Rattle.sg_fencing.specs.Laws.{ConflictChangesNothing, OnlyWritesChange
 ghost use Rattle.sg_fencing.specs.Laws.{RefusedByReservation, RefusedChangesNothing};
 ghost use Rattle.sg_fencing.specs.Laws.{RefusedReturnsNothing};
 ghost use Rattle.sg_fencing.specs.PowerCycles.{BlocksAndSavedPagesStay, EachInitiatorIsTold};
-ghost use Rattle.sg_fencing.specs.PowerCycles.{FencedOffThroughPowerCycles, OthersAreGone};
+ghost use Rattle.sg_fencing.specs.PowerCycles.{FencedOffThroughPowerCycles};
+ghost use Rattle.sg_fencing.specs.PowerCycles.{HolderIsAsIfAloneThroughPowerCycles, OthersAreGone};
 ghost use Rattle.sg_fencing.specs.PowerCycles.{PersistentOnesStay, TwoAreOne};
 ghost use Rattle.sg_fencing.specs.Registrants.{FencedOffAreKeptOut, FencedOffLeaveTheView};
 ghost use Rattle.sg_fencing.specs.Registrants.{FencedOffSeeNoBlock, FencedOffWriteNothing};
@@ -166,4 +167,13 @@ pub fn two_power_cycles_are_one()
 /// an initiator that is not registered ends with GOOD until the initiator registers.
 pub fn the_unregistered_write_nothing_through_power_cycles()
     ensures { FencedOffThroughPowerCycles }
+{}
+
+/// Over a list of commands and power cycles, where an initiator holds a reservation that nobody
+/// shares before and after each, and registrations persist at each power cycle of a run of its own
+/// commands and the power cycles alone: its view in the end, and the answers to its commands, but to
+/// PERSISTENT RESERVE IN and PERSISTENT RESERVE OUT, are those of that run. So of a power cycle a
+/// holder sees nothing but what it would see alone: POWER ON, and the saved mode pages.
+pub fn a_holder_is_served_as_if_alone_through_power_cycles()
+    ensures { HolderIsAsIfAloneThroughPowerCycles }
 {}

@@ -1,8 +1,8 @@
 -- A CDB, byte by byte.
-use Rattle.std.proofs.Common.{◌≡◌, ◌<◌, ◌≤◌, ℕ, ◌+◌, ◌*◌, ◌/◌, ◌^◌, ◌%◌, ◌==◌, List, [], ◌∷◌, ◌++◌}
-use Rattle.std.proofs.Common.{length, drop, get_or, Bool, true, false, Option, Some, None, Ok, Err, cond}
-use Rattle.std.proofs.Common.{eqb, eq-eqb, refl, ap, sym, subst, ◌∙◌, arith}
-use Rattle.std.specs.Prelude.{bit_and, nat_lt, if◌then◌else◌}
+use Rattle.std.proofs.Common.{◌≡◌, ◌<◌, ◌≤◌, ℕ, ◌+◌, ◌*◌, ◌/◌, ◌^◌, ◌%◌, ◌==◌, List, [], ◌++◌}
+use Rattle.std.proofs.Common.{length, drop, get_or, Bool, true, false, Some, None, Ok, cond}
+use Rattle.std.proofs.Common.{eqb, eq-eqb, refl, ap, ◌∙◌, arith}
+use Rattle.std.specs.Prelude.{bit_and}
 use Rattle.std.proofs.lemmas.List.{drop_more, drop_all}
 use Rattle.std.proofs.lemmas.Bool.Decides.{nat_tests}
 use Rattle.std.proofs.lemmas.Nat.{and_mask}
@@ -15,11 +15,8 @@ use Rattle.sg_wire.specs.Commands.{request_sense, inquiry, mode_select_6, mode_s
 use Rattle.sg_wire.specs.Commands.{mode_sense_6, mode_sense_10, read_10, read_16, write_10, write_16}
 use Rattle.sg_wire.specs.Commands.{read_capacity_16, synchronize_cache_10, write_same_10}
 use Rattle.sg_wire.specs.Commands.{write_same_16, unmap, get_lba_status}
-use Rattle.sg_wire.specs.declared.command.CdbFault.TheVariants.{Short}
-use Rattle.sg_wire.specs.declared.command.Class.TheVariants.{Always}
-use Rattle.std.specs.Option.{option_map_or}
-use Rattle.sg_wire.specs.Layout.{Layout, layout, class_of, first_bad, command_of, command_with}
-use Rattle.sg_wire.specs.Layout.{cdb_of, blocks_of, command_by_row, is_blocked_by_attention}
+use Rattle.sg_wire.specs.Layout.{first_bad, command_of, command_with}
+use Rattle.sg_wire.specs.Layout.{cdb_of, blocks_of}
 
 -- one more byte
 pub first_bad-more : (masks bytes : List ℕ) (k : ℕ) → k < length masks → k < length bytes →
@@ -47,67 +44,6 @@ is_whole-mod x = is_whole (x % 256) (omega arith)
 pub number_again : (n x : ℕ) (rest : List ℕ) → x < 256 ^ n
     → big_number n (big_bytes n x ++ rest) ≡ x
 number_again n x rest h = big_from-bytes n x rest ∙ mod-eq_of_lt h
-
--- a CDB with a byte is decoded by its operation code
-pub command_of-some : (bytes : List ℕ) → 0 < length bytes
-    → command_of bytes ≡ command_with (get_or bytes 0 0) bytes
-unfolding command_of
-command_of-some [] h = absurd (omega arith)
-command_of-some (opcode ∷ rest) h = refl
-
--- SERVICE ACTION IN(16) has two service actions, of which that of GET LBA STATUS reads
-abbrev action_of : List ℕ → ℕ
-action_of bytes = bit_and (get_or bytes 1 0) 0x1F
-
-abbrev row_with : (is_capacity is_status : Bool) → Option Layout
-row_with is_capacity is_status = cond is_capacity (Some (layout (read_capacity_16 0)))
-    (cond is_status (Some (layout (get_lba_status 0 0))) None)
-
--- what the bytes have where their first is the operation code of SERVICE ACTION IN(16)
-module _ (Has : List ℕ → Type 0) (h : (rest : List ℕ) → Has (0x9E ∷ rest)) where
-  by_code : (bytes : List ℕ) → get_or bytes 0 0 ≡ 0x9E → Has bytes
-  by_code [] e = cc
-  by_code (opcode ∷ rest) e = subst (λ (code : ℕ). Has (code ∷ rest)) (sym e) (h rest)
-
-abbrev HasClass : List ℕ → Type 0
-HasClass bytes = class_of bytes
-    ≡ Some (option_map_or (λ (l : Layout). l.class)
-    (row_with (action_of bytes == 0x10) (action_of bytes == 0x12)) Always)
-
-class_of-rest : (rest : List ℕ) → HasClass (0x9E ∷ rest)
-unfolding class_of
-class_of-rest rest = refl
-
-pub class_of-service_action_in : (bytes : List ℕ) → get_or bytes 0 0 ≡ 0x9E → HasClass bytes
-class_of-service_action_in = by_code HasClass class_of-rest
-
-abbrev IsBlocked : List ℕ → Type 0
-IsBlocked bytes = is_blocked_by_attention bytes ≡ true
-
-blocked-rest : (rest : List ℕ) → IsBlocked (0x9E ∷ rest)
-unfolding is_blocked_by_attention
-blocked-rest rest = refl
-
-pub blocked-service_action_in : (bytes : List ℕ) → get_or bytes 0 0 ≡ 0x9E → IsBlocked bytes
-blocked-service_action_in = by_code IsBlocked blocked-rest
-
-abbrev HasCommand : List ℕ → Type 0
-HasCommand bytes = command_of bytes
-    ≡ (if nat_lt (length bytes) 16 then Err (Short (length bytes)) else
-    command_by_row bytes (row_with (action_of bytes == 0x10) (action_of bytes == 0x12)))
-
-command_of-rest : (rest : List ℕ) → HasCommand (0x9E ∷ rest)
-unfolding command_of command_with
-command_of-rest rest = refl
-
-pub command_of-service_action_in : (bytes : List ℕ) → get_or bytes 0 0 ≡ 0x9E → HasCommand bytes
-command_of-service_action_in = by_code HasCommand command_of-rest
-
-pub ruleset service_action_rules = (
-  class_of-service_action_in,
-  blocked-service_action_in,
-  command_of-service_action_in,
-)
 
 -- ---- the CDB of each command is decoded as it again
 

@@ -1,14 +1,14 @@
 -- The code's table of commands: each row is that of the command's layout, and each CDB gets the row of
 -- its command.
-use Rattle.std.specs.Prelude.{ℕ, ◌≡◌, ◌≤◌, List, length, slice_index, Bool, true, false, Option, Some, None}
-use Rattle.std.specs.Prelude.{Err, bit_and, nat_lt, if◌then◌else◌}
+use Rattle.std.specs.Prelude.{ℕ, ◌≡◌, ◌≢◌, ◌≤◌, List, [], length, slice_index, Bool, true, false}
+use Rattle.std.specs.Prelude.{Option, Some, None, Ok, Err, bit_and}
 use Rattle.sg_wire.specs.Commands as make
-use Rattle.sg_wire.specs.Layout.{Layout, layout, masks, command_of}
-use Rattle.sg_wire.specs.declared.command.CdbFault.TheVariants.{Opcode, Short, Field as BadField}
+use Rattle.sg_wire.specs.Layout.{Layout, layout, masks, command_with, make_from, rows_of}
 use Rattle.sg_wire.specs.declared.command.Command.{Command}
 use Rattle.sg_wire.specs.declared.command.Command.TheVariants as command
 use Rattle.sg_wire.specs.declared.command.in_action.InAction.TheVariants.{ReadKeys}
 use Rattle.sg_wire.specs.declared.command.out_action.OutAction.TheVariants.{Register}
+use Rattle.sg_wire.specs.declared.command.CdbFault.{CdbFault}
 use Rattle.sg_wire.specs.declared.command.table.Row.{Row}
 use Rattle.sg_wire.specs.declared.command.Class.{Class}
 use Rattle.sg_wire.specs.declared.command.Class.TheVariants.{Always}
@@ -64,6 +64,27 @@ abbrev pub IsNamed : List ℕ → Name → Type 0
 IsNamed cdb named =
     (1 ≤ length cdb) × (slice_index cdb 0 ≡ (layout_of named).opcode) × HasAction cdb named
 
+-- The command of a CDB whose bits fit its row's masks, or the fault where they do not. PERSISTENT
+-- RESERVE IN and OUT have a row for each service action, so their names alone decide neither.
+abbrev pub IsDecoded : List ℕ → Name → Type 0
+IsDecoded cdb name.PersistentReserveIn = Unit {0}
+IsDecoded cdb name.PersistentReserveOut = Unit {0}
+IsDecoded cdb named =
+    let l = layout_of named in command_with l.opcode cdb ≡ Ok (make_from cdb l.fields l.make)
+
+abbrev pub IsRefused : List ℕ → Name → CdbFault → Type 0
+IsRefused cdb name.PersistentReserveIn fault = Unit {0}
+IsRefused cdb name.PersistentReserveOut fault = Unit {0}
+IsRefused cdb named fault = command_with (layout_of named).opcode cdb ≡ Err fault
+
+-- What the table has for a CDB: the row of its command; or its operation code has commands, and none
+-- with its service action; or no command has its operation code.
+abbrev pub IsFound : List ℕ → Found → Type 0
+IsFound cdb (FoundRow row) = IsNamed cdb row.now.name × IsRow row.now
+IsFound cdb NoServiceAction = (slice_index cdb 0 ≡ 0x9E)
+    × (bit_and (slice_index cdb 1) 0x1F ≢ 0x10) × (bit_and (slice_index cdb 1) 0x1F ≢ 0x12)
+IsFound cdb NoOpcode = 1 ≤ length cdb → rows_of (slice_index cdb 0) ≡ []
+
 -- The reservation class, and whether a pending unit attention blocks the CDB, as the table has them.
 abbrev pub class_found : Found → Option Class
 class_found (FoundRow row) = Some row.now.class
@@ -74,10 +95,3 @@ abbrev pub blocked_found : Found → Bool
 blocked_found (FoundRow row) = row.now.is_blocked
 blocked_found NoServiceAction = true
 blocked_found NoOpcode = true
-
--- What the table has for a CDB is the row of its command, or says why the CDB is no command.
-abbrev pub IsFound : List ℕ → Found → Type 0
-IsFound cdb (FoundRow row) = IsNamed cdb row.now.name × IsRow row.now
-IsFound cdb NoServiceAction =
-    command_of cdb ≡ (if nat_lt (length cdb) 16 then Err (Short (length cdb)) else Err (BadField 1))
-IsFound cdb NoOpcode = 1 ≤ length cdb → command_of cdb ≡ Err Opcode

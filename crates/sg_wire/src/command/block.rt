@@ -1,14 +1,14 @@
 // Block commands (SBC-3, 5; READ(6) and WRITE(6) of SBC-2).
-ghost use Rattle.std.specs.Prelude.{◌≡◌, ◌/◌, ◌%◌, ◌<◌, ◌≤◌, ◌^◌, [], ◌∷◌, ◌++◌, Ok, Err, length};
-ghost use Rattle.std.specs.Prelude.{slice_index, bit_and, IfOk, MatchResult};
+ghost use Rattle.std.specs.Prelude.{◌≡◌, ◌/◌, ◌%◌, ◌<◌, ◌≤◌, ◌^◌, [], ◌∷◌, ◌++◌, length};
+ghost use Rattle.std.specs.Prelude.{slice_index, bit_and, IfErr, IfOk, OnOk};
 ghost use Rattle.byteorder.specs.Endian.{big_bytes};
-ghost use Rattle.sg_wire.specs.Layout.{cdb_of, command_with, fits_masks, number_at, value_at};
+ghost use Rattle.sg_wire.specs.Layout.{cdb_of, command_with, number_at, value_at};
 ghost use Rattle.sg_wire.specs.Layout.Place.{short_extent};
+ghost use Rattle.sg_wire.specs.Table.{HasAction, IsDecoded, IsRefused, IsRow};
 
-use super::masks::check_masks;
 use super::table::{
     READ_6, READ_10, READ_16, READ_CAPACITY_10, READ_CAPACITY_16, Row, SYNCHRONIZE_CACHE_10,
-    WRITE_6, WRITE_10, WRITE_16,
+    WRITE_6, WRITE_10, WRITE_16, check_row,
 };
 use super::{CdbFault, Command, ShortExtent};
 use crate::bytes::{CdbBytes, MAX_CDB_LENGTH};
@@ -43,99 +43,91 @@ pub struct ReadCapacity16 {
 
 // ---- Decoding
 
-#[tactic(auto, unfolding(crate::specs::Layout::command_with, crate::specs::Layout::fits_masks))]
 pub(super) fn decode_read_6(cdb: &[u8]) -> Result<Command, CdbFault>
     ensures { result ≡ command_with 0x08 cdb.now }
 {
-    Ok(Command::Read6(decode_extent_6(READ_6.masks, cdb)?))
+    Ok(Command::Read6(decode_extent_6(&READ_6, cdb)?))
 }
 
-#[tactic(auto, unfolding(crate::specs::Layout::command_with, crate::specs::Layout::fits_masks))]
 pub(super) fn decode_write_6(cdb: &[u8]) -> Result<Command, CdbFault>
     ensures { result ≡ command_with 0x0A cdb.now }
 {
-    Ok(Command::Write6(decode_extent_6(WRITE_6.masks, cdb)?))
+    Ok(Command::Write6(decode_extent_6(&WRITE_6, cdb)?))
 }
 
-#[tactic(auto, unfolding(crate::specs::Layout::command_with, crate::specs::Layout::fits_masks))]
 pub(super) fn decode_read_10(cdb: &[u8]) -> Result<Command, CdbFault>
     ensures { result ≡ command_with 0x28 cdb.now }
 {
-    Ok(Command::Read10(decode_extent_10(READ_10.masks, cdb)?))
+    Ok(Command::Read10(decode_extent_10(&READ_10, cdb)?))
 }
 
-#[tactic(auto, unfolding(crate::specs::Layout::command_with, crate::specs::Layout::fits_masks))]
 pub(super) fn decode_write_10(cdb: &[u8]) -> Result<Command, CdbFault>
     ensures { result ≡ command_with 0x2A cdb.now }
 {
-    Ok(Command::Write10(decode_extent_10(WRITE_10.masks, cdb)?))
+    Ok(Command::Write10(decode_extent_10(&WRITE_10, cdb)?))
 }
 
-#[tactic(auto, unfolding(crate::specs::Layout::command_with, crate::specs::Layout::fits_masks))]
 pub(super) fn decode_synchronize_cache_10(cdb: &[u8]) -> Result<Command, CdbFault>
     ensures { result ≡ command_with 0x35 cdb.now }
 {
-    let extent = decode_extent_10(SYNCHRONIZE_CACHE_10.masks, cdb)?;
+    let extent = decode_extent_10(&SYNCHRONIZE_CACHE_10, cdb)?;
     Ok(Command::SynchronizeCache10(extent))
 }
 
-#[tactic(auto, unfolding(crate::specs::Layout::command_with, crate::specs::Layout::fits_masks))]
 pub(super) fn decode_read_16(cdb: &[u8]) -> Result<Command, CdbFault>
     ensures { result ≡ command_with 0x88 cdb.now }
 {
-    Ok(Command::Read16(decode_extent_16(READ_16.masks, cdb)?))
+    Ok(Command::Read16(decode_extent_16(&READ_16, cdb)?))
 }
 
-#[tactic(auto, unfolding(crate::specs::Layout::command_with, crate::specs::Layout::fits_masks))]
 pub(super) fn decode_write_16(cdb: &[u8]) -> Result<Command, CdbFault>
     ensures { result ≡ command_with 0x8A cdb.now }
 {
-    Ok(Command::Write16(decode_extent_16(WRITE_16.masks, cdb)?))
+    Ok(Command::Write16(decode_extent_16(&WRITE_16, cdb)?))
 }
 
-#[tactic(auto, unfolding(crate::specs::Layout::command_with, crate::specs::Layout::fits_masks))]
 pub(super) fn decode_read_capacity_10(cdb: &[u8]) -> Result<Command, CdbFault>
     ensures { result ≡ command_with 0x25 cdb.now }
 {
-    check_masks(READ_CAPACITY_10.masks, cdb)?;
+    check_row(&READ_CAPACITY_10, cdb)?;
     Ok(Command::ReadCapacity10)
 }
 
-#[tactic(auto, unfolding(crate::specs::Layout::command_with, crate::specs::Layout::fits_masks))]
 pub(super) fn decode_read_capacity_16(cdb: &[u8]) -> Result<Command, CdbFault>
     requires { bit_and (slice_index cdb.now 1) 0x1F ≡ 0x10 }
     ensures { result ≡ command_with 0x9E cdb.now }
 {
-    check_masks(READ_CAPACITY_16.masks, cdb)?;
+    check_row(&READ_CAPACITY_16, cdb)?;
     Ok(Command::ReadCapacity16(ReadCapacity16 {
         allocation_length: BigEndian::read_u32(&cdb[10..]),
     }))
 }
 
 // The address and the count of READ(6) and WRITE(6).
-fn decode_extent_6(masks: &[u8], cdb: &[u8]) -> Result<ShortExtent, CdbFault>
-    requires { length masks.now ≡ 6 }
-    ensures fits { MatchResult result
-        (λ _. fits_masks masks.now cdb.now ≡ Ok tt)
-        (λ fault. fits_masks masks.now cdb.now ≡ Err fault) }
+fn decode_extent_6(row: &Row, cdb: &[u8]) -> Result<ShortExtent, CdbFault>
+    requires row { IsRow row.now × (length row.now.masks.now ≡ 6) }
+    requires action { HasAction cdb.now row.now.name }
+    ensures decoded { OnOk result (IsDecoded cdb.now row.now.name) }
+    ensures refused { IfErr result (IsRefused cdb.now row.now.name) }
     ensures extent { IfOk result (λ extent. extent ≡ value_at cdb.now short_extent) }
 {
-    check_masks(masks, cdb)?;
+    check_row(row, cdb)?;
     let high = u32::from(cdb[1] & 0x1F);
     let rest = u32::from(BigEndian::read_u16(&cdb[2..]));
     Ok(ShortExtent::of_fields(high * 65536 + rest, cdb[4]))
 }
 
 // The address and the count of commands of 10 bytes.
-pub(super) fn decode_extent_10(masks: &[u8], cdb: &[u8]) -> Result<Extent10, CdbFault>
-    requires { length masks.now ≡ 10 }
-    ensures fits { MatchResult result
-        (λ _. fits_masks masks.now cdb.now ≡ Ok tt)
-        (λ fault. fits_masks masks.now cdb.now ≡ Err fault) }
+pub(super) fn decode_extent_10(row: &Row, cdb: &[u8]) -> Result<Extent10, CdbFault>
+    requires row { IsRow row.now × (length row.now.masks.now ≡ 10) }
+    requires action { HasAction cdb.now row.now.name }
+    ensures decoded { OnOk result (IsDecoded cdb.now row.now.name) }
+    ensures refused { IfErr result (IsRefused cdb.now row.now.name) }
+    ensures whole { OnOk result (10 ≤ length cdb.now) }
     ensures extent { IfOk result (λ extent.
         extent ≡ record { lba = number_at cdb.now 2 5; count = number_at cdb.now 7 8 }) }
 {
-    check_masks(masks, cdb)?;
+    check_row(row, cdb)?;
     Ok(Extent10 {
         lba: BigEndian::read_u32(&cdb[2..]),
         count: BigEndian::read_u16(&cdb[7..]),
@@ -145,15 +137,16 @@ pub(super) fn decode_extent_10(masks: &[u8], cdb: &[u8]) -> Result<Extent10, Cdb
 // An address, and the number behind it, of commands of 16 bytes.
 // Inlined, since the masks of each caller are constant: a byte that may have any bit takes no test.
 #[inline(always)]
-pub(super) fn decode_extent_16(masks: &[u8], cdb: &[u8]) -> Result<Extent16, CdbFault>
-    requires { length masks.now ≡ 16 }
-    ensures fits { MatchResult result
-        (λ _. fits_masks masks.now cdb.now ≡ Ok tt)
-        (λ fault. fits_masks masks.now cdb.now ≡ Err fault) }
+pub(super) fn decode_extent_16(row: &Row, cdb: &[u8]) -> Result<Extent16, CdbFault>
+    requires row { IsRow row.now × (length row.now.masks.now ≡ 16) }
+    requires action { HasAction cdb.now row.now.name }
+    ensures decoded { OnOk result (IsDecoded cdb.now row.now.name) }
+    ensures refused { IfErr result (IsRefused cdb.now row.now.name) }
+    ensures whole { OnOk result (16 ≤ length cdb.now) }
     ensures extent { IfOk result (λ extent.
         extent ≡ record { lba = number_at cdb.now 2 9; count = number_at cdb.now 10 13 }) }
 {
-    check_masks(masks, cdb)?;
+    check_row(row, cdb)?;
     Ok(Extent16 {
         lba: BigEndian::read_u64(&cdb[2..]),
         count: BigEndian::read_u32(&cdb[10..]),

@@ -2,8 +2,7 @@
 ghost use Rattle.std.specs.Prelude.{◌≡◌, ◌+◌, ◌*◌, ◌<◌, ◌^◌, if◌then◌else◌};
 ghost use Rattle.sg_wire.specs.Layout.{cdb_of, command_with};
 
-use super::masks::check_masks;
-use super::table::{MODE_SELECT_6, MODE_SELECT_10, MODE_SENSE_6, MODE_SENSE_10};
+use super::table::{MODE_SELECT_6, MODE_SELECT_10, MODE_SENSE_6, MODE_SENSE_10, check_row};
 use super::{CdbFault, Command, PageCode, PageControlField};
 use crate::bytes::{CdbBytes, MAX_CDB_LENGTH};
 use byteorder::{BigEndian, ByteOrder};
@@ -73,11 +72,10 @@ pub struct ModeSense10 {
 
 // ---- Decoding
 
-#[tactic(auto, unfolding(crate::specs::Layout::command_with, crate::specs::Layout::fits_masks))]
 pub(super) fn decode_mode_sense_6(cdb: &[u8]) -> Result<Command, CdbFault>
     ensures { result ≡ command_with 0x1A cdb.now }
 {
-    check_masks(MODE_SENSE_6.masks, cdb)?;
+    check_row(&MODE_SENSE_6, cdb)?;
     Ok(Command::ModeSense6(ModeSense6 {
         dbd: cdb[1] & DBD != 0,
         page_control: PageControlField::of_byte(cdb[2]),
@@ -87,11 +85,10 @@ pub(super) fn decode_mode_sense_6(cdb: &[u8]) -> Result<Command, CdbFault>
     }))
 }
 
-#[tactic(auto, unfolding(crate::specs::Layout::command_with, crate::specs::Layout::fits_masks))]
 pub(super) fn decode_mode_sense_10(cdb: &[u8]) -> Result<Command, CdbFault>
     ensures { result ≡ command_with 0x5A cdb.now }
 {
-    check_masks(MODE_SENSE_10.masks, cdb)?;
+    check_row(&MODE_SENSE_10, cdb)?;
     Ok(Command::ModeSense10(ModeSense10 {
         llbaa: cdb[1] & LLBAA != 0,
         dbd: cdb[1] & DBD != 0,
@@ -102,11 +99,10 @@ pub(super) fn decode_mode_sense_10(cdb: &[u8]) -> Result<Command, CdbFault>
     }))
 }
 
-#[tactic(auto, unfolding(crate::specs::Layout::command_with, crate::specs::Layout::fits_masks))]
 pub(super) fn decode_mode_select_6(cdb: &[u8]) -> Result<Command, CdbFault>
     ensures { result ≡ command_with 0x15 cdb.now }
 {
-    check_masks(MODE_SELECT_6.masks, cdb)?;
+    check_row(&MODE_SELECT_6, cdb)?;
     Ok(Command::ModeSelect6(ModeSelect6 {
         pf: cdb[1] & PF != 0,
         sp: cdb[1] & SP != 0,
@@ -114,11 +110,10 @@ pub(super) fn decode_mode_select_6(cdb: &[u8]) -> Result<Command, CdbFault>
     }))
 }
 
-#[tactic(auto, unfolding(crate::specs::Layout::command_with, crate::specs::Layout::fits_masks))]
 pub(super) fn decode_mode_select_10(cdb: &[u8]) -> Result<Command, CdbFault>
     ensures { result ≡ command_with 0x55 cdb.now }
 {
-    check_masks(MODE_SELECT_10.masks, cdb)?;
+    check_row(&MODE_SELECT_10, cdb)?;
     Ok(Command::ModeSelect10(ModeSelect10 {
         pf: cdb[1] & PF != 0,
         sp: cdb[1] & SP != 0,

@@ -2,7 +2,6 @@
 ghost use Rattle.std.specs.Prelude.{◌≡◌, ◌<◌, ◌^◌};
 ghost use Rattle.sg_wire.specs.Layout.{cdb_of, command_with};
 
-use super::masks::check_masks;
 use super::{CdbFault, Command, table};
 use crate::bytes::{CdbBytes, MAX_CDB_LENGTH};
 use byteorder::{BigEndian, ByteOrder};
@@ -29,30 +28,27 @@ pub struct Inquiry {
 
 // ---- Decoding
 
-#[tactic(auto, unfolding(crate::specs::Layout::command_with, crate::specs::Layout::fits_masks))]
 pub(super) fn decode_test_unit_ready(cdb: &[u8]) -> Result<Command, CdbFault>
     ensures { result ≡ command_with 0x00 cdb.now }
 {
-    check_masks(table::TEST_UNIT_READY.masks, cdb)?;
+    table::check_row(&table::TEST_UNIT_READY, cdb)?;
     Ok(Command::TestUnitReady)
 }
 
-#[tactic(auto, unfolding(crate::specs::Layout::command_with, crate::specs::Layout::fits_masks))]
 pub(super) fn decode_request_sense(cdb: &[u8]) -> Result<Command, CdbFault>
     ensures { result ≡ command_with 0x03 cdb.now }
 {
-    check_masks(table::REQUEST_SENSE.masks, cdb)?;
+    table::check_row(&table::REQUEST_SENSE, cdb)?;
     Ok(Command::RequestSense(RequestSense {
         desc: cdb[1] & 0x01 != 0,
         allocation_length: cdb[4],
     }))
 }
 
-#[tactic(auto, unfolding(crate::specs::Layout::command_with, crate::specs::Layout::fits_masks))]
 pub(super) fn decode_inquiry(cdb: &[u8]) -> Result<Command, CdbFault>
     ensures { result ≡ command_with 0x12 cdb.now }
 {
-    check_masks(table::INQUIRY.masks, cdb)?;
+    table::check_row(&table::INQUIRY, cdb)?;
     Ok(Command::Inquiry(Inquiry {
         evpd: cdb[1] & 0x01 != 0,
         page_code: cdb[2],

@@ -3,7 +3,6 @@ ghost use Rattle.std.specs.Prelude.{◌≡◌, ◌+◌, ◌<◌, ◌^◌, slice_
 ghost use Rattle.sg_wire.specs.Layout.{cdb_of, command_with};
 
 use super::block::{decode_extent_10, decode_extent_16};
-use super::masks::check_masks;
 use super::{CdbFault, Command, GroupNumber, table};
 use crate::bytes::{CdbBytes, MAX_CDB_LENGTH};
 use byteorder::{BigEndian, ByteOrder};
@@ -63,11 +62,10 @@ pub struct GetLbaStatus {
 
 // ---- Decoding
 
-#[tactic(auto, unfolding(crate::specs::Layout::command_with, crate::specs::Layout::fits_masks))]
 pub(super) fn decode_write_same_10(cdb: &[u8]) -> Result<Command, CdbFault>
     ensures { result ≡ command_with 0x41 cdb.now }
 {
-    let extent = decode_extent_10(table::WRITE_SAME_10.masks, cdb)?;
+    let extent = decode_extent_10(&table::WRITE_SAME_10, cdb)?;
     Ok(Command::WriteSame10(WriteSame10 {
         lba: extent.lba,
         count: extent.count,
@@ -76,11 +74,10 @@ pub(super) fn decode_write_same_10(cdb: &[u8]) -> Result<Command, CdbFault>
     }))
 }
 
-#[tactic(auto, unfolding(crate::specs::Layout::command_with, crate::specs::Layout::fits_masks))]
 pub(super) fn decode_write_same_16(cdb: &[u8]) -> Result<Command, CdbFault>
     ensures { result ≡ command_with 0x93 cdb.now }
 {
-    let extent = decode_extent_16(table::WRITE_SAME_16.masks, cdb)?;
+    let extent = decode_extent_16(&table::WRITE_SAME_16, cdb)?;
     Ok(Command::WriteSame16(WriteSame16 {
         lba: extent.lba,
         count: extent.count,
@@ -89,11 +86,10 @@ pub(super) fn decode_write_same_16(cdb: &[u8]) -> Result<Command, CdbFault>
     }))
 }
 
-#[tactic(auto, unfolding(crate::specs::Layout::command_with, crate::specs::Layout::fits_masks))]
 pub(super) fn decode_unmap(cdb: &[u8]) -> Result<Command, CdbFault>
     ensures { result ≡ command_with 0x42 cdb.now }
 {
-    check_masks(table::UNMAP.masks, cdb)?;
+    table::check_row(&table::UNMAP, cdb)?;
     Ok(Command::Unmap(Unmap {
         anchor: cdb[1] & UNMAP_ANCHOR != 0,
         group: GroupNumber::of_byte(cdb[6]),
@@ -101,13 +97,12 @@ pub(super) fn decode_unmap(cdb: &[u8]) -> Result<Command, CdbFault>
     }))
 }
 
-#[tactic(auto, unfolding(crate::specs::Layout::command_with, crate::specs::Layout::fits_masks))]
 pub(super) fn decode_get_lba_status(cdb: &[u8]) -> Result<Command, CdbFault>
     requires { bit_and (slice_index cdb.now 1) 0x1F ≡ 0x12 }
     ensures { result ≡ command_with 0x9E cdb.now }
 {
     // The numbers lie where those of an extent do.
-    let numbers = decode_extent_16(table::GET_LBA_STATUS.masks, cdb)?;
+    let numbers = decode_extent_16(&table::GET_LBA_STATUS, cdb)?;
     Ok(Command::GetLbaStatus(GetLbaStatus {
         start: numbers.lba,
         allocation_length: numbers.count,

@@ -1,10 +1,10 @@
 // One row a command: operation code, service action, class, unit attention and masks are here and
 // nowhere else. What the fields mean is in the families. `specs/Layout.antt` has the definition's rows.
-ghost use Rattle.std.specs.Prelude.{◌≡◌, bit_and, slice_index};
-ghost use Rattle.sg_wire.specs.Layout.{class_of, is_blocked_by_attention};
-ghost use Rattle.sg_wire.specs.Table.{IsFound, blocked_found, class_found};
+ghost use Rattle.std.specs.Prelude.{◌≡◌, ◌≤◌, bit_and, length, slice_index, IfErr, OnOk};
+ghost use Rattle.sg_wire.specs.Table.{HasAction, IsDecoded, IsFound, IsRefused, IsRow};
 
-use super::Class;
+use super::masks::check_masks;
+use super::{CdbFault, Class};
 
 // The name of a command.
 #[derive(Clone, Copy)]
@@ -182,11 +182,8 @@ pub(super) enum Found {
 // the code. A CDB that ends before its service action counts as one of service action 00h.
 // Inlined, so that each caller's match is one over the operation code.
 #[inline(always)]
-#[tactic(auto, unfolding(crate::specs::Layout::class_of, crate::specs::Layout::is_blocked_by_attention))]
 pub(super) fn row_of(cdb: &[u8]) -> Found
-    ensures found { IsFound cdb.now result }
-    ensures class { class_of cdb.now ≡ class_found result }
-    ensures attention { is_blocked_by_attention cdb.now ≡ blocked_found result }
+    ensures { IsFound cdb.now result }
 {
     let Some(&opcode) = cdb.first() else {
         return Found::NoOpcode;
@@ -218,12 +215,9 @@ pub(super) fn row_of(cdb: &[u8]) -> Found
 }
 
 // The row of SERVICE ACTION IN(16), whose service action names the command (SPC-4, 4.2.5.2).
-#[tactic(auto, using(crate::proofs::LayoutLemmas::service_action_rules))]
 fn with_service_action(cdb: &[u8]) -> Found
     requires { slice_index cdb.now 0 ≡ 0x9E }
-    ensures found { IsFound cdb.now result }
-    ensures class { class_of cdb.now ≡ class_found result }
-    ensures attention { is_blocked_by_attention cdb.now ≡ blocked_found result }
+    ensures { IsFound cdb.now result }
 {
     match Some(service_action(cdb)) {
         action if action == READ_CAPACITY_16.service_action => Found::Row(&READ_CAPACITY_16),
@@ -237,4 +231,15 @@ pub(super) fn service_action(cdb: &[u8]) -> u8
     ensures { result ≡ bit_and (slice_index cdb.now 1) 0x1F }
 {
     cdb.get(1).copied().unwrap_or(0) & 0x1F
+}
+
+// Refuses a CDB that ends early or has a bit outside the masks of its row.
+pub(super) fn check_row(row: &Row, cdb: &[u8]) -> Result<(), CdbFault>
+    requires row { IsRow row.now }
+    requires action { HasAction cdb.now row.now.name }
+    ensures decoded { OnOk result (IsDecoded cdb.now row.now.name) }
+    ensures refused { IfErr result (IsRefused cdb.now row.now.name) }
+    ensures whole { OnOk result (length row.now.masks.now ≤ length cdb.now) }
+{
+    check_masks(row.masks, cdb)
 }

@@ -1,0 +1,164 @@
+-- Over a list of commands and power cycles the holder's view and its answers are those of its commands
+-- and the power cycles alone.
+use Rattle.std.proofs.Common.{◌≡◌, ◌==◌, ℕ, suc, Bool, true, false, cond, ◌&&◌, List, [], ◌∷◌, Some}
+use Rattle.std.proofs.Common.{filter, take, refl, sym, ap, ◌∙◌}
+use Rattle.std.specs.List.{zip}
+use Rattle.sg_wire.specs.Layout.{command_of}
+use Rattle.std.specs.Prelude.{if◌then◌else◌, ◌||◌}
+use Rattle.sg_pages.specs.ModePage.{after_power_on as pages_after_power_on}
+use Rattle.sg_units.specs.Attentions.{power_on_pending, pending_for}
+use Rattle.sg_units.specs.Registrations.{key_of}
+use Rattle.sg_units.specs.Reservations.{empty_state, has_type, is_holder}
+use Rattle.sg_units.specs.declared.reservation_state.ReservationState.{ReservationState}
+use Rattle.sg_units.specs.declared.types.ReservationType.TheVariants.{ExclusiveAccess}
+use Rattle.sg_units.specs.declared.types.ReservationType.TheVariants.{WriteExclusive}
+use Rattle.sg_fencing.specs.Fencing.{View, holds_alone, is_compared, is_from, shows_others, view_of}
+use Rattle.sg_fencing.specs.PowerCycles.{answers_among, calls_among, events_of, persists}
+use Rattle.sg_fencing.specs.PowerCycles.{PersistAtPowerCycles}
+use Rattle.sg_target.specs.PowerCycle.{after_power_cycle}
+use Rattle.sg_target.specs.Runs.{answers_to_events, state_after_events, step_of}
+use Rattle.sg_target.specs.State.{IsWithinLimits, State}
+use Rattle.sg_target.specs.Step.{Answer}
+use Rattle.sg_target.specs.declared.call.Call.{Call}
+use Rattle.sg_target.specs.declared.event.Event.{Event}
+use Rattle.sg_target.specs.declared.event.Event.TheVariants as event
+use Rattle.sg_target.proofs.RunLemmas.{cycle-within}
+use Rattle.sg_fencing.proofs.AlikeLemmas.{StepsAlike}
+use Rattle.sg_fencing.proofs.FencedRunLemmas.{both-more, different, equal, none-more, own-step, within}
+use Rattle.sg_fencing.proofs.OthersLemmas.{others-keep}
+use Rattle.sg_fencing.proofs.PowerLemmas.{keeps}
+
+-- events from one state, and those that happen to i from another one
+pub record EventsAlike (first second : State) (i : ℕ) (events own : List Event) : Type 0 where
+  pub view : view_of (state_after_events first events) i ≡ view_of (state_after_events second own) i
+  pub answers : answers_among i first events ≡ answers_among i second own
+
+-- two states that look alike to i
+pub record LookAlike (first second : State) (i : ℕ) : Type 0 where
+  pub first_within : IsWithinLimits first
+  pub second_within : IsWithinLimits second
+  pub identity : first.identity ≡ second.identity
+  pub view : view_of first i ≡ view_of second i
+
+module _ (i : ℕ) where
+  -- ---- a power cycle
+
+  abbrev holding : ReservationState → Bool
+  holding r = is_holder r i && has_type r.reservation WriteExclusive
+      || is_holder r i && has_type r.reservation ExclusiveAccess
+
+  by-flag : (r : ReservationState) (b : Bool)
+      → holding (if b then record r { generation = 0 } else empty_state) ≡ true → b ≡ true
+  by-flag r true h = refl
+  by-flag r false h = h
+
+  -- a reservation that is held after it did persist
+  persisted : (state : State) → holds_alone (after_power_cycle state) i ≡ true
+      → persists state ≡ true
+  persisted state held = by-flag state.reservations (persists state) held
+
+  -- what i sees after it
+  abbrev powered : View → View
+  powered view = record {
+    disk = view.disk;
+    modes = pages_after_power_on view.modes;
+    attentions = pending_for power_on_pending i;
+    key = view.key;
+    reservation = view.reservation;
+  }
+
+  view-powered : (state : State) → persists state ≡ true
+      → view_of (after_power_cycle state) i ≡ powered (view_of state i)
+  view-powered state p =
+      let kept = keeps state p in
+      let key : key_of (after_power_cycle state).reservations.registrations i
+      ≡ key_of state.reservations.registrations i = ap (λ r. key_of r i) kept.registrations in
+      λ d. record (powered (view_of state i)) { key = key d; reservation = kept.reservation d }
+
+  cycle-alike : (first second : State) → LookAlike first second i → persists first ≡ true
+      → persists second ≡ true → LookAlike (after_power_cycle first) (after_power_cycle second) i
+  cycle-alike first second h p q = record {
+    first_within = cycle-within first h.first_within;
+    second_within = cycle-within second h.second_within;
+    identity = h.identity;
+    view = view-powered first p ∙ ap powered h.view ∙ sym (view-powered second q);
+  }
+
+  -- ---- a command
+
+  abbrev exchanges : State → List Event → List (Call × Answer)
+  exchanges state events =
+      filter (is_compared i) (zip (calls_among events) (answers_to_events state events))
+
+  own-more : (first second : State) (call : Call) (events own : List Event)
+      → StepsAlike (shows_others (command_of call.cdb.now)) i (step_of first call) (step_of second call)
+      → EventsAlike (step_of first call).state (step_of second call).state i events own
+      → EventsAlike first second i (event.Call call ∷ events) (event.Call call ∷ own)
+  own-more first second call events own h rest = record {
+    view = rest.view;
+    answers =
+        both-more call (is_from i call) (shows_others (command_of call.cdb.now))
+        (step_of first call).answer (step_of second call).answer
+        (exchanges (step_of first call).state events) (exchanges (step_of second call).state own)
+        h.answer rest.answers;
+  }
+
+  other-more : (first second : State) (call : Call) (events own : List Event)
+      → is_from i call ≡ false → EventsAlike (step_of first call).state second i events own
+      → EventsAlike first second i (event.Call call ∷ events) own
+  other-more first second call events own e rest = record {
+    view = rest.view;
+    answers =
+        none-more call (is_from i call) (shows_others (command_of call.cdb.now))
+        (step_of first call).answer (exchanges (step_of first call).state events) e
+        ∙ rest.answers;
+  }
+
+  abbrev HoldsThroughout : State → List Event → Type 0
+  HoldsThroughout state events =
+      (n : ℕ) → holds_alone (state_after_events state (take n events)) i ≡ true
+
+  -- what is known as the rest of the events begins
+  abbrev AreAlike : (events own : List Event) → Type 0
+  AreAlike events own =
+      (first second : State) → LookAlike first second i → HoldsThroughout first events
+      → PersistAtPowerCycles second own → EventsAlike first second i events own
+
+  -- the events go on by a command of i or of another
+  by-caller : (call : Call) (events own : List Event) (is_own : Bool) → is_from i call ≡ is_own
+      → AreAlike events own
+      → AreAlike (event.Call call ∷ events) (cond is_own (event.Call call ∷ own) own)
+  by-caller call events own true e rest first second a held persist =
+      let h = own-step i first second call a.first_within a.second_within a.identity a.view (held 0)
+      (equal call.initiator i e) in
+      let next : LookAlike (step_of first call).state (step_of second call).state i = record {
+        first_within = within i first call a.first_within;
+        second_within = within i second call a.second_within;
+        identity = h.identity;
+        view = h.view;
+      } in
+      own-more first second call events own h
+      (rest (step_of first call).state (step_of second call).state next (λ n. held (suc n))
+      (λ n at. persist (suc n) at))
+  by-caller call events own false e rest first second a held persist =
+      let h = others-keep first i call.initiator call.cdb.now call.data_out.now a.first_within
+      (different call.initiator i e) (held 0) (held 1) in
+      let next : LookAlike (step_of first call).state second i = record {
+        first_within = within i first call a.first_within;
+        second_within = a.second_within;
+        identity = h.identity ∙ a.identity;
+        view = h.view ∙ a.view;
+      } in
+      other-more first second call events own e
+      (rest (step_of first call).state second next (λ n. held (suc n)) persist)
+
+  pub events-alike : (events : List Event) → AreAlike events (events_of i events)
+  events-alike [] first second a held persist = record { view = a.view; answers = refl }
+  events-alike (event.Call call ∷ events) first second a held persist =
+      by-caller call events (events_of i events) (is_from i call) refl (events-alike events) first second
+      a held persist
+  events-alike (event.Power ∷ events) first second a held persist =
+      let next = cycle-alike first second a (persisted first (held 1)) (persist 0 refl) in
+      let rest = events-alike events (after_power_cycle first) (after_power_cycle second) next
+      (λ n. held (suc n)) (λ n at. persist (suc n) at) in
+      record { view = rest.view; answers = rest.answers }
