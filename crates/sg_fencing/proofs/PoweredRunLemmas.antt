@@ -1,10 +1,11 @@
 -- Over a list of commands and power cycles the holder's view and its answers are those of its commands
 -- and the power cycles alone.
-use Rattle.std.proofs.Common.{◌≡◌, ◌==◌, ℕ, suc, Bool, true, false, cond, ◌&&◌, List, [], ◌∷◌, Some}
-use Rattle.std.proofs.Common.{filter, take, refl, sym, ap, ◌∙◌}
+use Rattle.std.proofs.Common.{◌≡◌, ℕ, suc, Bool, true, false, cond, ◌&&◌, List, [], ◌∷◌, Some}
+use Rattle.std.proofs.Common.{filter, map, take, refl, sym, ap, ◌∙◌, zero}
 use Rattle.std.specs.List.{zip}
+use Rattle.std.proofs.lemmas.List.{take-map}
 use Rattle.sg_wire.specs.Layout.{command_of}
-use Rattle.std.specs.Prelude.{if◌then◌else◌, ◌||◌}
+use Rattle.std.specs.Prelude.{if◌then◌else◌, ◌||◌, slice_get}
 use Rattle.sg_pages.specs.ModePage.{after_power_on as pages_after_power_on}
 use Rattle.sg_units.specs.Attentions.{power_on_pending, pending_for}
 use Rattle.sg_units.specs.Registrations.{key_of}
@@ -12,11 +13,13 @@ use Rattle.sg_units.specs.Reservations.{empty_state, has_type, is_holder}
 use Rattle.sg_units.specs.declared.reservation_state.ReservationState.{ReservationState}
 use Rattle.sg_units.specs.declared.types.ReservationType.TheVariants.{ExclusiveAccess}
 use Rattle.sg_units.specs.declared.types.ReservationType.TheVariants.{WriteExclusive}
-use Rattle.sg_fencing.specs.Fencing.{View, holds_alone, is_compared, is_from, shows_others, view_of}
+use Rattle.sg_fencing.specs.Fencing.{IsAsIfAlone, View, answers_to, calls_of, holds_alone}
+use Rattle.sg_fencing.specs.Fencing.{is_compared, is_from, shows_others, view_of}
 use Rattle.sg_fencing.specs.PowerCycles.{answers_among, calls_among, events_of, persists}
 use Rattle.sg_fencing.specs.PowerCycles.{PersistAtPowerCycles}
 use Rattle.sg_target.specs.PowerCycle.{after_power_cycle}
-use Rattle.sg_target.specs.Runs.{answers_to_events, state_after_events, step_of}
+use Rattle.sg_target.specs.Runs.{all_calls, answers, answers_to_events, state_after_all}
+use Rattle.sg_target.specs.Runs.{state_after_events, step_of}
 use Rattle.sg_target.specs.State.{IsWithinLimits, State}
 use Rattle.sg_target.specs.Step.{Answer}
 use Rattle.sg_target.specs.declared.call.Call.{Call}
@@ -162,3 +165,56 @@ module _ (i : ℕ) where
       let rest = events-alike events (after_power_cycle first) (after_power_cycle second) next
       (λ n. held (suc n)) (λ n at. persist (suc n) at) in
       record { view = rest.view; answers = rest.answers }
+
+  -- ---- commands alone are events
+
+  calls-among-all : (calls : List Call) → calls_among (all_calls calls) ≡ calls
+  calls-among-all [] = refl
+  calls-among-all (call ∷ calls) = ap (λ rest. call ∷ rest) (calls-among-all calls)
+
+  one-of : (call : Call) (is_own : Bool) (events : List Event) (calls : List Call)
+      → events ≡ all_calls calls
+      → cond is_own (event.Call call ∷ events) events ≡ all_calls (cond is_own (call ∷ calls) calls)
+  one-of call true events calls e = ap (λ rest. event.Call call ∷ rest) e
+  one-of call false events calls e = e
+
+  events-of-all : (calls : List Call) → events_of i (all_calls calls) ≡ all_calls (calls_of i calls)
+  events-of-all [] = refl
+  events-of-all (call ∷ calls) =
+      one-of call (is_from i call) (events_of i (all_calls calls)) (calls_of i calls)
+      (events-of-all calls)
+
+  no-power : (calls : List Call) (n : ℕ) → slice_get (all_calls calls) n ≡ Some event.Power → ⊥
+  no-power [] n e = cc
+  no-power (call ∷ calls) zero e = cc
+  no-power (call ∷ calls) (suc n) e = no-power calls n e
+
+  among-all : (state : State) (calls : List Call)
+      → answers_among i state (all_calls calls) ≡ answers_to i state calls
+  among-all state calls =
+      ap (λ among. map (λ (exchange : Call × Answer). exchange.1)
+      (filter (is_compared i) (zip among (answers state calls)))) (calls-among-all calls)
+
+  pub calls-alike : (state : State) (calls : List Call) → IsWithinLimits state
+      → ((n : ℕ) → holds_alone (state_after_all state (take n calls)) i ≡ true)
+      → IsAsIfAlone state i calls
+  calls-alike state calls w held =
+      let same : LookAlike state state i = record {
+        first_within = w;
+        second_within = w;
+        identity = refl;
+        view = refl;
+      } in
+      let own = events-of-all calls in
+      let throughout : HoldsThroughout state (all_calls calls) =
+      λ n. rw (take-map (λ (call : Call). event.Call call) n calls) (held n) in
+      let persist : PersistAtPowerCycles state (events_of i (all_calls calls)) =
+      rw own (λ n at. absurd (no-power (calls_of i calls) n at)) in
+      let h = events-alike (all_calls calls) state state same throughout persist in
+      record {
+        view = h.view ∙ ap (λ events. view_of (state_after_events state events) i) own;
+        answers =
+            sym (among-all state calls)
+            ∙ (h.answers ∙ ap (answers_among i state) own)
+            ∙ among-all state (calls_of i calls);
+      }

@@ -1,5 +1,5 @@
 -- Power cycles, in a user's words: what is left, who is told, and that fencing outlives them.
-use Rattle.std.specs.Prelude.{◌≡◌, ◌<◌, ℕ, Bool, true, false, ◌&&◌, List, [], ◌∷◌, Option, Some, None}
+use Rattle.std.specs.Prelude.{◌≡◌, ◌<◌, ℕ, Bool, true, false, ◌&&◌, List, [], ◌∷◌, Some, None}
 use Rattle.std.specs.Prelude.{filter, map, slice_get, take}
 use Rattle.std.specs.List.{list_any, zip}
 use Rattle.sg_wire.specs.Layout.{class_of, command_of}
@@ -117,8 +117,8 @@ pub record IsAsIfAloneAmong (state : State) (initiator : ℕ) (events : List Eve
       ≡ answers_among initiator state (events_of initiator events)
 
 -- So it is where the initiator holds a reservation of a type that nobody shares before and after each
--- event, and what it registered by itself is to persist: APTPL, which each REGISTER sets for all, is
--- then 1 at each power cycle with the others' commands and without them.
+-- event, and where its own commands alone would have left it one that persists at each power cycle. The
+-- first does not say the second: a REGISTER of another initiator sets APTPL for all.
 abbrev pub HolderIsAsIfAloneThroughPowerCycles : Type 0
 HolderIsAsIfAloneThroughPowerCycles =
     (state : State) (holder : ℕ) (events : List Event) → IsWithinLimits state
