@@ -1,15 +1,24 @@
 -- Runs of which the addresses of a range are unmapped.
 use Rattle.std.specs.Prelude.{◌≡◌, ℕ, ◌+◌, ◌≤◌, List, ◌++◌, length, Option, IfSome, option_to_list}
+use Rattle.sg_pool.specs.Chains.{chain, AreBelow, IsChain}
 use Rattle.sg_pool.specs.Slots.{Slots}
 use Rattle.sg_table.specs.Records.{slots_of}
 use Rattle.sg_table.specs.Occurrences.{occurrences}
 use Rattle.sg_table.specs.declared.run.Run.{Run}
+use Rattle.sg_store.specs.declared.store.TheConstants.{MAX_POOL}
 use Rattle.sg_block_map.specs.Runs.{end_of, singles_of, expanded, AreChained}
 use Rattle.sg_block_map.specs.Splitting.{IsFront}
 
 -- No slot is in both lists, nor twice in one.
 abbrev pub AreDistinct : (slots others : List ℕ) → Type 0
 AreDistinct slots others = (slot : ℕ) → occurrences slot slots + occurrences slot others ≤ 1
+
+-- The slots of a run are a chain of the pool's, and none of them is free.
+pub record HasOwnSlots (slots : Slots) (run : Run) : Type 0 where
+  pub is_chain : IsChain slots.next run.first run.last run.count
+  pub below : AreBelow (length slots.next) (chain slots.next run.first run.count)
+  pub distinct : AreDistinct (chain slots.next run.first run.count) slots.free
+  pub fits : run.count + length slots.free ≤ MAX_POOL
 
 -- Links other than those of some slots stay: runs over other slots are as they were.
 abbrev pub StaysBut : (next next' : List ℕ) → (slots : List ℕ) → Type 0

@@ -7,7 +7,7 @@ pub mod RunCostLaws
 pub mod State
 pub mod Parts
 -- What only private contracts cite: runs over chains of slots, how they are gathered, split, walked
--- over, cut and joined, and what each step counts.
+-- over, cut, joined and written over, and what each step counts.
 pub mod Runs
 pub mod Metering
 pub mod RunsProps
@@ -16,4 +16,5 @@ pub mod Splitting
 pub mod Walking
 pub mod Cutting
 pub mod Joining
+pub mod Overwriting
 pub mod Status

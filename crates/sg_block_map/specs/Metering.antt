@@ -1,6 +1,6 @@
 -- What the steps of a call count: records that are visited, and links that are followed.
 use Rattle.std.specs.Prelude.{◌≡◌, ℕ, ◌+◌, ◌-◌, ◌≤◌, length}
-use Rattle.sg_pool.specs.Slots.{Slots}
+use Rattle.sg_pool.specs.Slots.{Slots, followed}
 use Rattle.sg_table.specs.Search.{CostsSearch}
 use Rattle.sg_table.specs.Table.{Table, visited, probed}
 
@@ -29,8 +29,20 @@ pub record FollowsLinks (at_most : ℕ) (before after : Slots) : Type 0 where
   pub links_rise : before.links ≤ after.links
   pub most_links : after.links ≤ before.links + at_most
 
+-- Links are followed, at most `at_most` of them, and nothing else of the pool changes.
+pub record OnlyFollows (at_most : ℕ) (before after : Slots) : Type 0 where
+  pub pool : after ≡ followed before (after.links - before.links)
+  pub links_rise : before.links ≤ after.links
+  pub most_links : after.links ≤ before.links + at_most
+
 -- A link is followed only where a mapped address is passed: `ahead` of them were ahead, and
 -- `still_ahead` are.
 pub record FollowsPassed (ahead still_ahead : ℕ) (before after : Slots) : Type 0 where
+  pub links_rise : before.links ≤ after.links
+  pub most_links : after.links + still_ahead ≤ before.links + ahead
+
+-- The same, and nothing else of the pool changes.
+pub record OnlyFollowsPassed (ahead still_ahead : ℕ) (before after : Slots) : Type 0 where
+  pub pool : after ≡ followed before (after.links - before.links)
   pub links_rise : before.links ≤ after.links
   pub most_links : after.links + still_ahead ≤ before.links + ahead

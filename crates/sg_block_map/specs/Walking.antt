@@ -1,11 +1,13 @@
 -- Going over the addresses of runs in a row.
-use Rattle.std.specs.Prelude.{◌≡◌, ℕ, ◌+◌, List, [], ◌∷◌, ◌++◌, option_to_list, drop}
+use Rattle.std.specs.Prelude.{◌≡◌, ℕ, ◌+◌, ◌≤◌, List, [], ◌∷◌, ◌++◌, option_to_list, drop, length}
 use Rattle.std.specs.Prelude.{Option, Some, None, if◌then◌else◌, ◌==◌}
+use Rattle.std.specs.FinMap.{get}
 use Rattle.sg_pool.specs.Chains.{AreBelow}
+use Rattle.sg_pool.specs.Slots.{Slots}
 use Rattle.sg_table.specs.Records.{slots_of}
 use Rattle.sg_table.specs.declared.run.Run.{Run}
 use Rattle.sg_store.specs.declared.store.TheConstants.{MAX_CAPACITY}
-use Rattle.sg_block_map.specs.Runs.{expanded, AreChained, AreMaximal}
+use Rattle.sg_block_map.specs.Runs.{expanded, chained_contents, AreChained, AreMaximal}
 use Rattle.sg_block_map.specs.Splitting.{rest_of, IsSplit}
 
 -- A run, if there is one, and the runs of a list from an index on.
@@ -22,6 +24,12 @@ pub record AreAhead (next : List ℕ) (count lba : ℕ) (runs : List Run) : Type
   pub maximal : AreMaximal lba (MAX_CAPACITY + 1) runs
   pub chained : AreChained next runs
   pub below : AreBelow count (slots_of (expanded next runs))
+
+-- An address is passed: the runs from the next one on are ahead, with the blocks that they had.
+pub record GoesPast (slots : Slots) (ahead ahead' : List Run) (lba : ℕ) : Type 0 where
+  pub still_ahead : AreAhead slots.next (length slots.next) (lba + 1) ahead'
+  pub later : (address : ℕ) → lba + 1 ≤ address
+      → get (chained_contents ahead' slots) address ≡ get (chained_contents ahead slots) address
 
 -- The first of the runs is split at an address: the part before it is apart, and the rest is ahead
 -- with the other runs.

@@ -1,10 +1,12 @@
 // Writing a range that lies inside one run: each block goes to the slot that its address has. It knows
 // no table, as no record changes.
-ghost use Rattle.std.specs.Prelude.{◌≡◌, ◌+◌, ◌<◌, ◌≤◌, ◌++◌, ◌∷◌, List, length, drop, IfSome};
+ghost use Rattle.std.specs.Prelude.{◌≡◌, ◌+◌, ◌≤◌, ◌++◌, ◌∷◌, List, length, drop, IfSome};
 ghost use Rattle.sg_pool.specs.Chains.{chain, AreBelow};
 ghost use Rattle.sg_store.specs.Disk.{replaced};
 ghost use Rattle.sg_pool.specs.MappedRecords.{IsConsistent};
 ghost use Rattle.sg_pool.specs.Source.{HasBlocks, block_of};
+ghost use Rattle.sg_block_map.specs.Metering.{FollowsLinks};
+ghost use Rattle.sg_block_map.specs.Overwriting.{ChangesBlocks, LiesInRun};
 ghost use Rattle.sg_block_map.specs.Runs.{end_of, expanded, chained_contents};
 
 use crate::split::follow;
@@ -25,8 +27,7 @@ pub(crate) fn covering(runs: &[Run], lba: u64, count: u32) -> Option<Run>
 
 /// Replaces the blocks of addresses that a run has. No slot is taken, and no link is changed.
 pub(crate) fn overwrite(pool: &mut Pool, run: Run, lba: u64, count: u32, source: &Source)
-    requires covers { (run.start ≤ lba) × (lba + count ≤ end_of run) }
-    requires not_empty { 0 < count }
+    requires range { LiesInRun run lba count }
     requires below { AreBelow (length pool.old.next) (chain pool.old.next run.first run.count) }
     requires slots { length pool.old.blocks ≡ length pool.old.next }
     requires blocks { HasBlocks source.now count }
@@ -39,13 +40,10 @@ pub(crate) fn overwrite(pool: &mut Pool, run: Run, lba: u64, count: u32, source:
         → chained_contents (before ++ run ∷ after) pool.new
         ≡ replaced (chained_contents (before ++ run ∷ after) pool.old) lba count
         (block_of source.now) }
-    ensures pool { pool.new
-        ≡ record pool.old { blocks = pool.new.blocks; links = pool.new.links } }
-    ensures length { length pool.new.blocks ≡ length pool.old.blocks }
+    ensures pool { ChangesBlocks pool.old pool.new }
 
     // At most as many links are followed as the run has blocks.
-    ensures rise { pool.old.links ≤ pool.new.links }
-    ensures links { pool.new.links ≤ pool.old.links + run.count }
+    ensures links { FollowsLinks run.count pool.old pool.new }
 {
     let mut slot = follow(pool, run.first, (lba - run.start) as u32);
     for i in 0..count {

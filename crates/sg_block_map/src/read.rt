@@ -1,11 +1,10 @@
 // Reading a range from the runs near it. It follows links of the pool and knows no table.
-ghost use Rattle.std.specs.Prelude.{◌≡◌, ◌+◌, ◌-◌, ◌*◌, ◌<◌, ◌≤◌, ℕ, length};
-ghost use Rattle.std.specs.FinMap.{get};
+ghost use Rattle.std.specs.Prelude.{◌≡◌, ◌+◌, ◌*◌, ◌<◌, ◌≤◌, length};
 ghost use Rattle.sg_store.specs.Disk.{block, blocks};
-ghost use Rattle.sg_pool.specs.Slots.{followed};
 ghost use Rattle.sg_block_map.specs.Gathering.{AreNear};
+ghost use Rattle.sg_block_map.specs.Metering.{OnlyFollows, OnlyFollowsPassed};
 ghost use Rattle.sg_block_map.specs.Runs.{expanded, chained_contents};
-ghost use Rattle.sg_block_map.specs.Walking.{ahead_of, AreAhead};
+ghost use Rattle.sg_block_map.specs.Walking.{ahead_of, AreAhead, GoesPast};
 
 use crate::walk::{Walk, walk_from};
 use sg_pool::Pool;
@@ -24,18 +23,14 @@ fn read_address(pool: &mut Pool, runs: &[Run], walk: Walk, lba: u64, bytes: &mut
     // The block is read, and the runs from the next address on are ahead.
     ensures bytes { bytes.new
         ≡ block (chained_contents (ahead_of runs.now walk.run walk.at) pool.old) lba }
-    ensures ahead { AreAhead pool.old.next (length pool.old.next) (lba + 1)
-        (ahead_of runs.now result.run result.at) }
-    ensures later { (address : ℕ) → lba + 1 ≤ address
-        → get (chained_contents (ahead_of runs.now result.run result.at) pool.old) address
-        ≡ get (chained_contents (ahead_of runs.now walk.run walk.at) pool.old) address }
+    ensures goes_past { GoesPast pool.old (ahead_of runs.now walk.run walk.at)
+        (ahead_of runs.now result.run result.at) lba }
 
     // A link is followed only where an address is passed.
-    ensures pool { pool.new ≡ followed pool.old (pool.new.links - pool.old.links) }
-    ensures rise { pool.old.links ≤ pool.new.links }
-    ensures links { pool.new.links
-        + length (expanded pool.old.next (ahead_of runs.now result.run result.at))
-        ≤ pool.old.links + length (expanded pool.old.next (ahead_of runs.now walk.run walk.at)) }
+    ensures links { OnlyFollowsPassed
+        (length (expanded pool.old.next (ahead_of runs.now walk.run walk.at)))
+        (length (expanded pool.old.next (ahead_of runs.now result.run result.at)))
+        pool.old pool.new }
 {
     let Some(run) = walk.run_at(lba) else {
         bytes.fill(0);
@@ -56,9 +51,7 @@ pub(crate) fn read_runs(pool: &mut Pool, runs: &[Run], lba: u64, count: u32, byt
     ensures bytes { bytes.new ≡ blocks (chained_contents runs.now pool.old) lba count }
 
     // At most as many links are followed as the runs have blocks.
-    ensures pool { pool.new ≡ followed pool.old (pool.new.links - pool.old.links) }
-    ensures rise { pool.old.links ≤ pool.new.links }
-    ensures links { pool.new.links ≤ pool.old.links + length (expanded pool.old.next runs.now) }
+    ensures links { OnlyFollows (length (expanded pool.old.next runs.now)) pool.old pool.new }
 {
     let (_before, mut walk) = walk_from(pool, runs, lba);
     for i in 0..count {

@@ -2,20 +2,21 @@
 // and behind it remain. No block is touched.
 ghost use Rattle.std.specs.Prelude.{◌≡◌, ◌+◌, ◌-◌, ◌<◌, ◌≤◌, ◌++◌, ℕ, List, length};
 ghost use Rattle.std.specs.Prelude.{option_to_list, IfSome};
-ghost use Rattle.sg_pool.specs.Chains.{chain, AreBelow, IsChain};
+ghost use Rattle.sg_pool.specs.Chains.{AreBelow, IsChain};
 ghost use Rattle.sg_store.specs.Disk.{unmapped};
 ghost use Rattle.sg_table.specs.Leaves.{move_bound};
 ghost use Rattle.sg_pool.specs.MappedRecords.{contents_of};
 ghost use Rattle.sg_table.specs.Records.{slots_of};
-ghost use Rattle.sg_block_map.specs.Cutting.{AreDistinct, StaysBut, IsCut};
-ghost use Rattle.sg_block_map.specs.Gathering.{AreGathered};
+ghost use Rattle.sg_block_map.specs.Cutting.{AreDistinct, HasOwnSlots, StaysBut, IsCut};
+ghost use Rattle.sg_block_map.specs.Joining.{ChangesRuns, IsReadyFor};
+ghost use Rattle.sg_block_map.specs.Metering.{FollowsLinks};
 ghost use Rattle.sg_block_map.specs.Runs.{expanded, AreRuns, blocks_of};
 
 use crate::gather::Gathered;
 use crate::put::put_runs;
 use crate::split::split_at;
 use sg_pool::Pool;
-use sg_store::{MAX_CAPACITY, MAX_COUNT, MAX_POOL};
+use sg_store::{MAX_CAPACITY, MAX_POOL};
 use sg_table::{Draft, Run, RunTable};
 
 // Keeps a part of a run, if there is one.
@@ -54,13 +55,7 @@ fn give(pool: &mut Pool, part: Option<Run>)
 
 // Frees the slots of a run's addresses in a range, and keeps its other parts.
 fn unmap_run(pool: &mut Pool, remaining: &mut Draft, run: Run, low: u64, high: u64)
-    // The slots of the run are a chain, and none of them is free.
-    requires chain { IsChain pool.old.next run.first run.last run.count }
-    requires below { AreBelow (length pool.old.next) (chain pool.old.next run.first run.count) }
-    requires distinct { AreDistinct (chain pool.old.next run.first run.count) pool.old.free }
-    requires slots { run.count + length pool.old.free ≤ MAX_POOL }
-
-    // There is room for the parts, and the links can be counted.
+    requires slots { HasOwnSlots pool.old run }
     requires room { length remaining.old.records + run.count ≤ remaining.old.room }
     requires range { run.start + run.count ≤ MAX_CAPACITY }
     requires order { low < high }
@@ -70,8 +65,7 @@ fn unmap_run(pool: &mut Pool, remaining: &mut Draft, run: Run, low: u64, high: u
     ensures draft { remaining.new ≡ record remaining.old { records = remaining.new.records } }
 
     // At most as many links are followed as the run has blocks.
-    ensures rise { pool.old.links ≤ pool.new.links }
-    ensures links { pool.new.links ≤ pool.old.links + run.count }
+    ensures links { FollowsLinks run.count pool.old pool.new }
 {
     let (front, rest) = split_at(pool, run, low);
     keep(remaining, front);
@@ -93,11 +87,9 @@ pub(crate) fn unmap_runs(
     low: u64,
     high: u64,
 )
-    requires runs { AreRuns table.old.records pool.old table.old.room }
-    requires gathered { AreGathered table.old.records gathered.now low high (MAX_CAPACITY + 1) }
-    requires room { (remaining.old.room ≡ table.old.room) × (table.old.room ≤ MAX_POOL) }
+    requires ready { IsReadyFor table.old pool.old gathered.now low high }
+    requires room { remaining.old.room ≡ table.old.room }
     requires order { low < high }
-    requires headroom { pool.old.links ≤ MAX_COUNT }
 
     // The addresses are unmapped. This holds whatever the blocks are, so the others keep their
     // slots.
@@ -105,17 +97,13 @@ pub(crate) fn unmap_runs(
         contents_of (expanded pool.new.next table.new.records) blocks
         ≡ unmapped (contents_of (expanded pool.old.next table.old.records) blocks)
         low (high - low) }
-    ensures runs { AreRuns table.new.records pool.new table.new.room }
-    ensures table { table.new
-        ≡ record table.old { records = table.new.records; moved = table.new.moved } }
-    ensures moves { table.new.moved
-        ≤ table.old.moved + move_bound + length remaining.new.records }
+    ensures table { ChangesRuns (move_bound + length remaining.new.records)
+        table.old table.new pool.new }
     ensures blocks { pool.new.blocks ≡ pool.old.blocks }
     ensures draft { remaining.new.room ≡ remaining.old.room }
 
     // At most as many links are followed as the gathered runs have blocks.
-    ensures rise { pool.old.links ≤ pool.new.links }
-    ensures links { pool.new.links ≤ pool.old.links + blocks_of gathered.now.records }
+    ensures links { FollowsLinks (blocks_of gathered.now.records) pool.old pool.new }
 {
     let runs = gathered.records();
     if runs.is_empty() {

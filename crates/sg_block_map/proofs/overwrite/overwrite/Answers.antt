@@ -18,7 +18,8 @@ follow-slot-requires-clause-below c =
     let p = c.args.pool.now in
     let run = c.args.run in
     below-part_of_chain (length p.next) p.next run.first (c.args.lba - run.start) run.count
-    (omega (arith, c.requires.covers, c.requires.not_empty)) c.requires.below
+    (omega (arith, c.requires.range.before_end, c.requires.range.after_start, c.requires.range.not_empty))
+    c.requires.below
 
 pub loop-i-init : goal.loop-i-init
 loop-i-init c =
@@ -42,7 +43,12 @@ set-requires-clause-slot c =
     let p = c.args.pool.now in
     let run = c.args.run in
     let low = slot-below (length p.next) p.next run.first (c.args.lba - run.start + c.loop-i.i)
-    run.count (omega (arith, c.requires.covers, c.loop-i-test.true)) c.requires.below in
+    run.count (omega (
+      arith,
+      c.requires.range.after_start,
+      c.requires.range.before_end,
+      c.loop-i-test.true,
+    )) c.requires.below in
     omega (arith, low, inv.slot, inv.length, c.requires.slots)
 
 pub next-slot-requires-clause-slot : goal.next-slot-requires-clause-slot
@@ -53,7 +59,12 @@ next-slot-requires-clause-slot c =
     let next = ap (λ (s : Slots). length s.next) c.set.ensures
     ∙ ap (λ (s : Slots). length s.next) inv.pool in
     let low = slot-below (length p.next) p.next run.first (c.args.lba - run.start + c.loop-i.i)
-    run.count (omega (arith, c.requires.covers, c.loop-i-test.true)) c.requires.below in
+    run.count (omega (
+      arith,
+      c.requires.range.after_start,
+      c.requires.range.before_end,
+      c.loop-i-test.true,
+    )) c.requires.below in
     omega (arith, low, inv.slot, next)
 
 pub loop-i-preserved : goal.loop-i-preserved
@@ -67,7 +78,7 @@ loop-i-preserved c =
     let k = lba - run.start + i in
     let b = c.block.result.now in
     let on : k + 1 ≡ lba - run.start + (i + 1) = omega arith in
-    let here : run.start + k ≡ lba + i = omega (arith, c.requires.covers) in
+    let here : run.start + k ≡ lba + i = omega (arith, c.requires.range.after_start) in
     let next : c.set.new.self.next ≡ p.next = ap (λ (s : Slots). s.next) c.set.ensures
     ∙ ap (λ (s : Slots). s.next) inv.pool in
     let blocks : c.next-slot.new.self.blocks ≡ set now.blocks (slot_after p.next run.first k) b =
@@ -92,7 +103,12 @@ loop-i-preserved c =
           ∙ inv.contents before after consistent in
           ap₂ (λ ns bs. contents_of (expanded ns rs) bs) after_next blocks
           ∙ over-contents p.next before run after k
-          (omega (arith, c.requires.covers, c.loop-i-test.true)) now.blocks p.free (length p.next)
+          (omega (
+            arith,
+            c.requires.range.after_start,
+            c.requires.range.before_end,
+            c.loop-i-test.true,
+          )) now.blocks p.free (length p.next)
           b (consistent-other xs p.blocks now.blocks p.free (length p.next) inv.length consistent)
           ∙ rw (was, here, c.block.ensures)
           (sym (replaced-more (chained_contents rs p) lba i (block_of c.args.source.now)));

@@ -43,21 +43,19 @@ returns-clause-bytes c =
     ∙ sym (first-block p.next (length p.next) c.args.lba w.at c.args.runs.now w.run c.in-Some.run'
     c.requires.ahead (sym c.run_at.ensures ∙ c.in-Some.is) p.blocks)
 
-pub returns-clause-ahead : goal.returns-clause-ahead
-returns-clause-ahead c =
+pub returns-clause-goes_past : goal.returns-clause-goes_past
+returns-clause-goes_past c =
     let p = c.args.pool.now in
     let w = c.args.walk in
-    rw c.pass.ensures.ahead (first-ahead p.next
-    (length p.next) c.args.lba w.at c.args.runs.now w.run c.in-Some.run' c.requires.ahead
-    (sym c.run_at.ensures ∙ c.in-Some.is))
-
-pub returns-clause-later : goal.returns-clause-later
-returns-clause-later c =
-    let p = c.args.pool.now in
-    let w = c.args.walk in
-    λ q le. ap (λ xs. map.get (contents_of (expanded p.next xs) p.blocks) q) c.pass.ensures.ahead
-    ∙ first-later p.next (length p.next) c.args.lba w.at c.args.runs.now w.run c.in-Some.run'
-    c.requires.ahead (sym c.run_at.ensures ∙ c.in-Some.is) p.blocks q le
+    let is = sym c.run_at.ensures ∙ c.in-Some.is in
+    record {
+      still_ahead = rw c.pass.ensures.ahead (first-ahead p.next (length p.next) c.args.lba w.at
+          c.args.runs.now w.run c.in-Some.run' c.requires.ahead is);
+      later = λ q le. ap (λ xs. map.get (contents_of (expanded p.next xs) p.blocks) q)
+          c.pass.ensures.ahead
+          ∙ first-later p.next (length p.next) c.args.lba w.at c.args.runs.now w.run
+          c.in-Some.run' c.requires.ahead is p.blocks q le;
+    }
 
 pub returns-clause-links : goal.returns-clause-links
 returns-clause-links c =
@@ -66,4 +64,8 @@ returns-clause-links c =
     let len = first-length p.next (length p.next) c.args.lba w.at c.args.runs.now w.run
     c.in-Some.run' c.requires.ahead (sym c.run_at.ensures ∙ c.in-Some.is) in
     let same = ap (λ xs. length (expanded p.next xs)) c.pass.ensures.ahead in
-    omega (arith, len, same, c.pass.ensures.links)
+    record {
+      pool = c.pass.ensures.pool;
+      links_rise = c.pass.ensures.rise;
+      most_links = omega (arith, len, same, c.pass.ensures.links);
+    }

@@ -57,9 +57,9 @@ loop-i-preserved c =
     let block_read : read ≡ block (chained_contents runs p) (c.args.lba + i) =
     rw (next, bs, here) at e.bytes
     ∙ ap (λ (o : Option (List ℕ)). unwrap_or o zero_block) found in
-    let ahead = rw (next, here, on) at e.ahead in
-    let later = rw (next, bs, here, on) at e.later in
-    let links = rw next at e.links in
+    let ahead = rw (next, here, on) at e.goes_past.still_ahead in
+    let later = rw (next, bs, here, on) at e.goes_past.later in
+    let links = rw next at e.links.most_links in
     record {
       ahead = ahead;
       bytes = take-put_mid (512 * i) _ c.loop-i.bytes read (512 * (i + 1)) (omega arith)
@@ -67,8 +67,8 @@ loop-i-preserved c =
           ∙ ap₂ (λ xs ys. xs ++ ys) inv.bytes block_read
           ∙ sym (blocks-more (chained_contents runs p) c.args.lba i);
       later = λ q le. later q le ∙ inv.later q (omega arith);
-      pool = followed-on p c.loop-i.pool c.read_address-walk.new.pool inv.pool inv.rise e.pool
-          e.rise;
-      rise = omega (arith, inv.rise, e.rise);
+      pool = followed-on p c.loop-i.pool c.read_address-walk.new.pool inv.pool inv.rise
+          e.links.pool e.links.links_rise;
+      rise = omega (arith, inv.rise, e.links.links_rise);
       links = omega (arith, links, inv.links);
     }

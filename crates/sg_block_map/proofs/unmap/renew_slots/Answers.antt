@@ -1,4 +1,4 @@
-use Rattle.std.proofs.Common.{length, sym, subst, ◌∙◌}
+use Rattle.std.proofs.Common.{sym, subst, ◌∙◌}
 use Rattle.sg_block_map.specs.Runs.{AreRuns}
 use Rattle.sg_block_map.proofs.StoreLemmas.{all-free, runs-renewed}
 use Rattle.sg_block_map.proofs.unmap.renew_slots.Goals as goal

@@ -42,7 +42,7 @@ split_at-gone-requires-clause-below c =
     let parts : expanded p.next (option_to_list c.split_at-front.result.0 ++ (rest ∷ [] ++ [])) ≡
     singles_of p.next c.args.run = one.parts in
     rw (next, sym (slots-one p.next rest)) (part-below p.next (length p.next) c.args.run
-    (option_to_list c.split_at-front.result.0) (rest ∷ []) [] parts c.requires.below)
+    (option_to_list c.split_at-front.result.0) (rest ∷ []) [] parts c.requires.slots.below)
 
 pub split_at-gone-requires-clause-headroom : goal.split_at-gone-requires-clause-headroom
 split_at-gone-requires-clause-headroom c =
@@ -68,7 +68,7 @@ give-requires-clause-below c =
     rw next (part-below p.next (length p.next) c.args.run (option_to_list front)
     (option_to_list gone) (option_to_list back)
     (parts-twice p.next c.args.run c.in-Some.rest c.args.low c.args.high front gone back one two)
-    c.requires.below)
+    c.requires.slots.below)
 
 pub give-requires-clause-distinct : goal.give-requires-clause-distinct
 give-requires-clause-distinct c =
@@ -85,7 +85,7 @@ give-requires-clause-distinct c =
     let parts = part-slots p.next c.args.run (option_to_list front) (option_to_list gone)
     (option_to_list back) s (parts-twice p.next c.args.run c.in-Some.rest c.args.low c.args.high
     front gone back one two) in
-    let d = c.requires.distinct s in
+    let d = c.requires.slots.distinct s in
     omega arith)
 
 pub give-requires-clause-room : goal.give-requires-clause-room
@@ -102,7 +102,7 @@ give-requires-clause-room c =
     let len = part-length p.next c.args.run (option_to_list front) (option_to_list gone)
     (option_to_list back) (parts-twice p.next c.args.run c.in-Some.rest c.args.low c.args.high
     front gone back one two) in
-    rw (next, free) (omega (arith, len, c.requires.slots))
+    rw (next, free) (omega (arith, len, c.requires.slots.fits))
 
 pub returns-clause-cut : goal.returns-clause-cut
 returns-clause-cut c =

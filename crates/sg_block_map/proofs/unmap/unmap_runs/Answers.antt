@@ -43,7 +43,7 @@ returns-then-is_empty-clause-contents c =
     let rs = c.args.table.now.records in
     let next = c.args.pool.now.next in
     let gathered = c.args.gathered.now in
-    let g = c.requires.gathered in
+    let g = c.requires.ready.gathered_runs in
     let before : List Run = take gathered.from rs in
     let after : List Run = drop (end_index gathered) rs in
     let none : gathered.records ≡ [] = nil_from_length gathered.records
@@ -65,56 +65,14 @@ loop-i-init c =
     ∙ ap (splice rs c.from-from.result c.from-from.result) none
     ∙ take-append-drop c.from-from.result rs in
     record {
-      runs = rw whole c.requires.runs;
+      runs = rw whole c.requires.ready.runs;
       same = λ blocks. rw whole refl;
       none = λ blocks q le lt. rw (none, expanded-none c.args.pool.now.next) refl;
-      remaining = rw c.begin.ensures (refl, c.requires.room.0);
+      remaining = rw c.begin.ensures (refl, c.requires.room);
       blocks = refl;
       rise = omega arith;
       links = omega arith;
     }
-
-pub unmap_run-requires-clause-chain : goal.unmap_run-requires-clause-chain
-unmap_run-requires-clause-chain c =
-    let rs = c.args.table.now.records in
-    let inv = c.loop-i.invariant in
-    let gathered = c.args.gathered.now in
-    let kept = c.loop-i.remaining.records in
-    let run : Run = slice_index_or c.records-runs.result.now c.loop-i.i no_run in
-    let xs : List Run = take gathered.from rs in
-    let tail : List Run = drop (gathered.from + (c.loop-i.i + 1)) rs in
-    let now = here rs kept c.records-runs.result.now gathered c.loop-i.pool c.args.table.now.room
-    c.args.low c.args.high (MAX_CAPACITY + 1) c.from-from.result c.loop-i.i c.requires.gathered
-    c.records-runs.ensures c.from-from.ensures c.loop-i-test.true inv.runs in
-    run-chain xs kept tail run c.loop-i.pool c.args.table.now.room now
-
-pub unmap_run-requires-clause-below : goal.unmap_run-requires-clause-below
-unmap_run-requires-clause-below c =
-    let rs = c.args.table.now.records in
-    let inv = c.loop-i.invariant in
-    let gathered = c.args.gathered.now in
-    let kept = c.loop-i.remaining.records in
-    let run : Run = slice_index_or c.records-runs.result.now c.loop-i.i no_run in
-    let xs : List Run = take gathered.from rs in
-    let tail : List Run = drop (gathered.from + (c.loop-i.i + 1)) rs in
-    let now = here rs kept c.records-runs.result.now gathered c.loop-i.pool c.args.table.now.room
-    c.args.low c.args.high (MAX_CAPACITY + 1) c.from-from.result c.loop-i.i c.requires.gathered
-    c.records-runs.ensures c.from-from.ensures c.loop-i-test.true inv.runs in
-    run-below xs kept tail run c.loop-i.pool c.args.table.now.room now
-
-pub unmap_run-requires-clause-distinct : goal.unmap_run-requires-clause-distinct
-unmap_run-requires-clause-distinct c =
-    let rs = c.args.table.now.records in
-    let inv = c.loop-i.invariant in
-    let gathered = c.args.gathered.now in
-    let kept = c.loop-i.remaining.records in
-    let run : Run = slice_index_or c.records-runs.result.now c.loop-i.i no_run in
-    let xs : List Run = take gathered.from rs in
-    let tail : List Run = drop (gathered.from + (c.loop-i.i + 1)) rs in
-    let now = here rs kept c.records-runs.result.now gathered c.loop-i.pool c.args.table.now.room
-    c.args.low c.args.high (MAX_CAPACITY + 1) c.from-from.result c.loop-i.i c.requires.gathered
-    c.records-runs.ensures c.from-from.ensures c.loop-i-test.true inv.runs in
-    run-distinct xs kept tail run c.loop-i.pool c.args.table.now.room now
 
 pub unmap_run-requires-clause-slots : goal.unmap_run-requires-clause-slots
 unmap_run-requires-clause-slots c =
@@ -126,10 +84,15 @@ unmap_run-requires-clause-slots c =
     let xs : List Run = take gathered.from rs in
     let tail : List Run = drop (gathered.from + (c.loop-i.i + 1)) rs in
     let now = here rs kept c.records-runs.result.now gathered c.loop-i.pool c.args.table.now.room
-    c.args.low c.args.high (MAX_CAPACITY + 1) c.from-from.result c.loop-i.i c.requires.gathered
+    c.args.low c.args.high (MAX_CAPACITY + 1) c.from-from.result c.loop-i.i c.requires.ready.gathered_runs
     c.records-runs.ensures c.from-from.ensures c.loop-i-test.true inv.runs in
     let l = run-lengths xs kept tail run c.loop-i.pool c.args.table.now.room now in
-    omega (arith, l.0, c.requires.room.1)
+    record {
+      is_chain = run-chain xs kept tail run c.loop-i.pool c.args.table.now.room now;
+      below = run-below xs kept tail run c.loop-i.pool c.args.table.now.room now;
+      distinct = run-distinct xs kept tail run c.loop-i.pool c.args.table.now.room now;
+      fits = omega (arith, l.0, c.requires.ready.table_size);
+    }
 
 pub unmap_run-requires-clause-room : goal.unmap_run-requires-clause-room
 unmap_run-requires-clause-room c =
@@ -141,7 +104,7 @@ unmap_run-requires-clause-room c =
     let xs : List Run = take gathered.from rs in
     let tail : List Run = drop (gathered.from + (c.loop-i.i + 1)) rs in
     let now = here rs kept c.records-runs.result.now gathered c.loop-i.pool c.args.table.now.room
-    c.args.low c.args.high (MAX_CAPACITY + 1) c.from-from.result c.loop-i.i c.requires.gathered
+    c.args.low c.args.high (MAX_CAPACITY + 1) c.from-from.result c.loop-i.i c.requires.ready.gathered_runs
     c.records-runs.ensures c.from-from.ensures c.loop-i-test.true inv.runs in
     let l = run-lengths xs kept tail run c.loop-i.pool c.args.table.now.room now in
     omega (arith, l.1, inv.remaining.1)
@@ -156,7 +119,7 @@ unmap_run-requires-clause-range c =
     let xs : List Run = take gathered.from rs in
     let tail : List Run = drop (gathered.from + (c.loop-i.i + 1)) rs in
     let now = here rs kept c.records-runs.result.now gathered c.loop-i.pool c.args.table.now.room
-    c.args.low c.args.high (MAX_CAPACITY + 1) c.from-from.result c.loop-i.i c.requires.gathered
+    c.args.low c.args.high (MAX_CAPACITY + 1) c.from-from.result c.loop-i.i c.requires.ready.gathered_runs
     c.records-runs.ensures c.from-from.ensures c.loop-i-test.true inv.runs in
     run-range xs kept tail run c.loop-i.pool c.args.table.now.room now
 
@@ -170,13 +133,13 @@ unmap_run-requires-clause-headroom c =
     let xs : List Run = take gathered.from rs in
     let tail : List Run = drop (gathered.from + (c.loop-i.i + 1)) rs in
     let now = here rs kept c.records-runs.result.now gathered c.loop-i.pool c.args.table.now.room
-    c.args.low c.args.high (MAX_CAPACITY + 1) c.from-from.result c.loop-i.i c.requires.gathered
+    c.args.low c.args.high (MAX_CAPACITY + 1) c.from-from.result c.loop-i.i c.requires.ready.gathered_runs
     c.records-runs.ensures c.from-from.ensures c.loop-i-test.true inv.runs in
     let l = run-lengths xs kept tail run c.loop-i.pool c.args.table.now.room now in
     let few = gathered-blocks rs gathered c.args.pool.now c.args.table.now.room c.args.low
-    c.args.high (MAX_CAPACITY + 1) c.requires.runs c.requires.gathered in
+    c.args.high (MAX_CAPACITY + 1) c.requires.ready.runs c.requires.ready.gathered_runs in
     let part = sum_by-take-le (λ (r : Run). r.count) gathered.records c.loop-i.i in
-    omega (arith, l.0, inv.links, c.requires.headroom, c.requires.room.1)
+    omega (arith, l.0, inv.links, c.requires.ready.headroom, c.requires.ready.table_size)
 
 pub loop-i-preserved : goal.loop-i-preserved
 loop-i-preserved c =
@@ -188,7 +151,7 @@ loop-i-preserved c =
     let xs : List Run = take gathered.from rs in
     let tail : List Run = drop (gathered.from + (c.loop-i.i + 1)) rs in
     let now = here rs kept c.records-runs.result.now gathered c.loop-i.pool c.args.table.now.room
-    c.args.low c.args.high (MAX_CAPACITY + 1) c.from-from.result c.loop-i.i c.requires.gathered
+    c.args.low c.args.high (MAX_CAPACITY + 1) c.from-from.result c.loop-i.i c.requires.ready.gathered_runs
     c.records-runs.ensures c.from-from.ensures c.loop-i-test.true inv.runs in
     let e = c.unmap_run.ensures in
     let order : c.args.low ≤ c.args.high = omega (arith, c.requires.order) in
@@ -196,7 +159,7 @@ loop-i-preserved c =
     xs ++ (kept ++ run ∷ tail)
     = rw (c.from-from.ensures, c.records-runs.ensures)
     (gathered-here rs kept gathered c.args.low c.args.high
-    (MAX_CAPACITY + 1) c.loop-i.i no_run c.requires.gathered
+    (MAX_CAPACITY + 1) c.loop-i.i no_run c.requires.ready.gathered_runs
     (rw c.records-runs.ensures at c.loop-i-test.true)) in
     let is : splice rs c.from-from.result (c.from-from.result + (c.loop-i.i + 1))
     c.unmap_run.new.remaining.records ≡ xs ++ (c.unmap_run.new.remaining.records ++ tail) =
@@ -215,15 +178,15 @@ loop-i-preserved c =
           (inv.none blocks q le lt);
       remaining = rw e.draft inv.remaining;
       blocks = e.cut.blocks ∙ inv.blocks;
-      rise = omega (arith, inv.rise, e.rise);
-      links = omega (arith, inv.links, e.links, links, count);
+      rise = omega (arith, inv.rise, e.links.links_rise);
+      links = omega (arith, inv.links, e.links.most_links, links, count);
     }
 
 pub put_runs-requires-clause-table_size : goal.put_runs-requires-clause-table_size
 put_runs-requires-clause-table_size c =
     let fit = runs-fit c.args.table.now.records c.args.pool.now c.args.table.now.room
-    c.requires.runs in
-    omega (arith, fit, c.requires.room.1)
+    c.requires.ready.runs in
+    omega (arith, fit, c.requires.ready.table_size)
 
 pub put_runs-requires-clause-room : goal.put_runs-requires-clause-room
 put_runs-requires-clause-room c =
@@ -236,7 +199,7 @@ put_runs-requires-clause-room c =
     let a = length-append (take from rs) (kept ++ drop (from + c.loop-i.i) rs) in
     let b = length-append kept (drop (from + c.loop-i.i) rs) in
     let d = length-drop (from + c.loop-i.i) rs in
-    let within = c.requires.gathered.within in
+    let within = c.requires.ready.gathered_runs.within in
     let starts_in = c.from-from.ensures in
     let runs = ap length c.records-runs.ensures in
     let records = ap length c.records.ensures in
@@ -249,7 +212,7 @@ returns-clause-contents c =
     let inv = c.loop-i.invariant in
     let gathered = c.args.gathered.now in
     let kept = c.loop-i.remaining.records in
-    let g = c.requires.gathered in
+    let g = c.requires.ready.gathered_runs in
     let all : c.loop-i.i ≡ length gathered.records =
     omega (arith, c.loop-i-test.false, c.loop-i.auto.i-end, ap length c.records-runs.ensures) in
     let is : c.put_runs.new.table.records ≡ take gathered.from rs ++

@@ -47,7 +47,7 @@ returns-clause-bytes c =
     c.gather.ensures.gathered)
 
 pub returns-clause-keeps : goal.returns-clause-keeps
-returns-clause-keeps c = ap₂ slot_map c.gather.ensures.visits.table c.read_runs.ensures.pool
+returns-clause-keeps c = ap₂ slot_map c.gather.ensures.visits.table c.read_runs.ensures.links.pool
 
 pub returns-clause-costs : goal.returns-clause-costs
 returns-clause-costs c =
@@ -58,4 +58,5 @@ returns-clause-costs c =
     ∙ length-expanded s.pool.next gathered.records in
     gathered-range s.table c.gather.new.table s.pool c.read_runs.new.pool s.capacity c.args.lba
     c.args.count gathered s.runs e.gathered s.pool_fits e.visits
-    c.read_runs.ensures.rise (omega (arith, c.read_runs.ensures.links, links))
+    c.read_runs.ensures.links.links_rise
+    (omega (arith, c.read_runs.ensures.links.most_links, links))

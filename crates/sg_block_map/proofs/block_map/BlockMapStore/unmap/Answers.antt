@@ -45,14 +45,16 @@ gather-requires-clause-room c =
     }
 
 -- the runs are cut
-pub unmap_runs-requires-clause-runs : goal.unmap_runs-requires-clause-runs
-unmap_runs-requires-clause-runs c = let s = c.args.self.now in rw c.gather.ensures.visits.table s.runs
-
-pub unmap_runs-requires-clause-gathered : goal.unmap_runs-requires-clause-gathered
-unmap_runs-requires-clause-gathered c = rw (
-  c.gather.ensures.visits.table,
-  c.from.ensures,
-) c.gather.ensures.gathered
+pub unmap_runs-requires-clause-ready : goal.unmap_runs-requires-clause-ready
+unmap_runs-requires-clause-ready c =
+    let s = c.args.self.now in
+    let table = c.gather.ensures.visits.table in
+    record {
+      runs = rw table s.runs;
+      gathered_runs = rw (table, c.from.ensures) c.gather.ensures.gathered;
+      table_size = omega (arith, ap (λ (t : Table). t.room) table, s.pool_fits);
+      headroom = c.requires.headroom.links;
+    }
 
 pub invariant_of-self-clause-well_formed : goal.invariant_of-self-clause-well_formed
 invariant_of-self-clause-well_formed c =
@@ -87,7 +89,7 @@ returns-clause-disk c =
     ∙ ap (λ (t : Table). unmapped (chained_contents t.records s.pool) lba
     (lba + c.from.result - lba)) c.gather.ensures.visits.table
     ∙ ap (unmapped (chained_contents rs s.pool) lba) (omega (arith, c.from.ensures)) in
-    let room = ap (λ (t : Table). t.room) c.unmap_runs.ensures.table
+    let room = ap (λ (t : Table). t.room) c.unmap_runs.ensures.table.table
     ∙ ap (λ (t : Table). t.room) c.gather.ensures.visits.table in
     ap₂ (λ r m. record { capacity = s.capacity; pool = r; contents = m }) room is
 
@@ -96,7 +98,7 @@ returns-clause-keeps c =
     let s = c.args.self.now in
     let lba = c.args.lba in
     let numbers = map (λ slot. slot ∷ []) (range_with_len 0 s.table.room) in
-    let room = ap (λ (t : Table). t.room) c.unmap_runs.ensures.table
+    let room = ap (λ (t : Table). t.room) c.unmap_runs.ensures.table.table
     ∙ ap (λ (t : Table). t.room) c.gather.ensures.visits.table in
     let after = c.unmap_runs.new in
     let links = ap (λ (p : Slots). contents_of (expanded p.next after.table.records) numbers)
@@ -114,7 +116,7 @@ returns-clause-costs c =
     let pool = c.unmap_runs.new.pool in
     subst (λ (m : Meter). CostsRange (disk_of s) c.args.lba c.args.count (meter_at s.table s.pool) m)
     (sym (ap (λ p. meter_at c.unmap_runs.new.table p) c.renew_slots.ensures.pool
-    ∙ ap (λ t. meter_at t pool) c.unmap_runs.ensures.table))
+    ∙ ap (λ t. meter_at t pool) c.unmap_runs.ensures.table.table))
     (gathered-range s.table c.gather.new.table s.pool pool s.capacity c.args.lba c.args.count
     c.gather.new.gathered s.runs e.gathered s.pool_fits e.visits
-    c.unmap_runs.ensures.rise c.unmap_runs.ensures.links)
+    c.unmap_runs.ensures.links.links_rise c.unmap_runs.ensures.links.most_links)

@@ -1,0 +1,16 @@
+-- A range that is written inside one run.
+use Rattle.std.specs.Prelude.{◌≡◌, ℕ, ◌+◌, ◌<◌, ◌≤◌, length}
+use Rattle.sg_pool.specs.Slots.{Slots}
+use Rattle.sg_table.specs.declared.run.Run.{Run}
+use Rattle.sg_block_map.specs.Runs.{end_of}
+
+-- A range that is not empty, and of which a run has all addresses.
+pub record LiesInRun (run : Run) (lba count : ℕ) : Type 0 where
+  pub not_empty : 0 < count
+  pub after_start : run.start ≤ lba
+  pub before_end : lba + count ≤ end_of run
+
+-- No slot is taken or freed, and no link is changed: only blocks are, and links are followed.
+pub record ChangesBlocks (before after : Slots) : Type 0 where
+  pub pool : after ≡ record before { blocks = after.blocks; links = after.links }
+  pub slots : length after.blocks ≡ length before.blocks
