@@ -1,13 +1,13 @@
 -- Reading and editing the table in the order of addresses.
-use Rattle.std.specs.Prelude.{◌≡◌, ℕ, ◌+◌, ◌<◌, ◌≤◌, List, length}
+use Rattle.std.specs.Prelude.{◌≡◌, ℕ, ◌+◌, ◌-◌, ◌<◌, ◌≤◌, List, length}
 use Rattle.std.specs.List.{splice}
 use Rattle.sg_store.specs.Disk.{Contents, mapped_at}
 use Rattle.sg_plain_map.specs.PlainCost.{plain_least, plain_price}
-use Rattle.sg_table.specs.Records.{IsLowerBound, IsNext}
+use Rattle.sg_table.specs.Records.{HaveSlots, IsLowerBound, IsNext, IsSorted}
 use Rattle.sg_pool.specs.MappedRecords.{contents_of}
 use Rattle.sg_pool.specs.Slots.{Slots}
 use Rattle.sg_pool.specs.MappedRecords.{IsConsistent}
-use Rattle.sg_table.specs.Table.{Table}
+use Rattle.sg_table.specs.Table.{Table, visited}
 use Rattle.sg_table.specs.Draft.{Drafted}
 use Rattle.sg_table.specs.declared.run.Run.{Run}
 use Rattle.sg_table.specs.declared.cursor.Cursor.{Cursor}
@@ -31,6 +31,23 @@ pub record IsReady (table : Table) (slots : Slots) (from lba count : ℕ) : Type
   pub consistent : IsConsistent table.records slots.blocks slots.free table.room
   pub table_size : table.room ≤ MAX_POOL
   pub headroom : table.visits ≤ MAX_COUNT
+
+-- The blocks of a table can be read: it is sorted, each record has a slot, and there are no more
+-- records than allowed.
+pub record IsReadable (records : List Run) (slots : Slots) : Type 0 where
+  pub sorted : IsSorted records
+  pub have_slots : HaveSlots records (length slots.blocks)
+  pub table_size : length records ≤ MAX_POOL
+
+-- The table has other records over the pool, of which no more than `most_moves` were moved, and
+-- visits were counted.
+pub record ChangesRecords (most_moves : ℕ) (before after : Table) (slots : Slots) : Type 0 where
+  pub consistent : IsConsistent after.records slots.blocks slots.free after.room
+  pub table : after ≡ record (visited before (after.total - before.total)) {
+    records = after.records;
+    moved = after.moved;
+  }
+  pub moves : after.moved ≤ before.moved + most_moves
 
 -- The visits to the records of a range lie between the bounds.
 pub record VisitsRange (contents : Contents) (lba count : ℕ) (before after : Table) : Type 0 where

@@ -1,15 +1,14 @@
 // Reading a range: the records are passed in the order of addresses, and where one is missing the block
 // is zeros.
-ghost use Rattle.std.specs.Prelude.{◌≡◌, ◌+◌, ◌-◌, ◌*◌, ◌<◌, ◌≤◌, length};
+ghost use Rattle.std.specs.Prelude.{◌≡◌, ◌+◌, ◌-◌, ◌*◌, ◌<◌, length};
 ghost use Rattle.sg_store.specs.Disk.{block, blocks};
-ghost use Rattle.sg_table.specs.Records.{IsSorted, HaveSlots};
 ghost use Rattle.sg_store.specs.Disk.{mapped_at};
 ghost use Rattle.sg_table.specs.Table.{visited};
-ghost use Rattle.sg_plain_map.specs.Editing.{IsAt, IsReady, VisitsRange, stored};
+ghost use Rattle.sg_plain_map.specs.Editing.{IsAt, IsReadable, IsReady, VisitsRange, stored};
 ghost use Rattle.sg_table.specs.Records.{passed};
 
 use sg_pool::Pool;
-use sg_store::{BLOCK_LENGTH, MAX_POOL};
+use sg_store::BLOCK_LENGTH;
 use sg_table::{Cursor, RunTable};
 
 // Reads the block at the cursor's address, and goes on to the next address. Each record that the
@@ -23,9 +22,7 @@ fn read_block(
 ) -> Cursor
     // The cursor is at the address, in a table of which each record has a slot.
     requires cursor { IsAt table.old.records cursor lba }
-    requires sorted { IsSorted table.old.records }
-    requires slots { HaveSlots table.old.records (length pool.now.blocks) }
-    requires table_size { length table.old.records ≤ MAX_POOL }
+    requires readable { IsReadable table.old.records pool.now }
 
     // The slice is a block long, and the visit can be counted.
     requires byte_count { length bytes.old ≡ BLOCK_LENGTH }

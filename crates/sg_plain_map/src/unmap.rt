@@ -1,11 +1,9 @@
 // Unmapping a range: its slots are freed one by one, and its records removed at once.
-ghost use Rattle.std.specs.Prelude.{◌≡◌, ◌+◌, ◌-◌, ◌≤◌};
+ghost use Rattle.std.specs.Prelude.{◌≡◌, ◌+◌};
 ghost use Rattle.sg_store.specs.Disk.{unmapped};
 ghost use Rattle.sg_table.specs.Leaves.{move_bound};
 ghost use Rattle.sg_table.specs.Records.{IsLowerBound};
-ghost use Rattle.sg_pool.specs.MappedRecords.{IsConsistent};
-ghost use Rattle.sg_table.specs.Table.{visited};
-ghost use Rattle.sg_plain_map.specs.Editing.{IsReady, VisitsRange, stored};
+ghost use Rattle.sg_plain_map.specs.Editing.{ChangesRecords, IsReady, VisitsRange, stored};
 
 use sg_pool::Pool;
 use sg_table::RunTable;
@@ -22,12 +20,10 @@ pub(crate) fn unmap_records(
     requires ready { IsReady table.old pool.old from lba count }
     requires end { IsLowerBound table.old.records to (lba + count) }
 
-    // The addresses are unmapped, and the table changes by its records, their moves and its visits alone.
+    // The addresses are unmapped, and the table changes by its records, their moves and its visits
+    // alone.
     ensures contents { stored table.new pool.new ≡ unmapped (stored table.old pool.old) lba count }
-    ensures consistent { IsConsistent table.new.records pool.new.blocks pool.new.free table.new.room }
-    ensures table { let count = table.new.total - table.old.total in table.new
-        ≡ record (visited table.old count) { records = table.new.records; moved = table.new.moved } }
-    ensures moves { table.new.moved ≤ table.old.moved + move_bound }
+    ensures changes { ChangesRecords move_bound table.old table.new pool.new }
     ensures visits { VisitsRange (stored table.old pool.old) lba count table.old table.new }
 {
     for index in from..to {

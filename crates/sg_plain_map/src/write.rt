@@ -1,14 +1,14 @@
 // Writing a range: the records that it is to have are drafted, and put into the table all at once. That
 // there are slots enough is for the store to know.
-ghost use Rattle.std.specs.Prelude.{◌≡◌, ◌+◌, ◌-◌, ◌<◌, ◌≤◌, length};
+ghost use Rattle.std.specs.Prelude.{◌≡◌, ◌+◌, ◌<◌, ◌≤◌, length};
 ghost use Rattle.std.specs.FinMap.{insert};
 ghost use Rattle.sg_store.specs.Disk.{replaced, mapped_among};
 ghost use Rattle.sg_table.specs.Leaves.{move_bound};
 ghost use Rattle.sg_store.specs.Disk.{mapped_at};
-ghost use Rattle.sg_pool.specs.MappedRecords.{IsConsistent};
 ghost use Rattle.sg_pool.specs.Source.{HasBlocks, block_of};
 ghost use Rattle.sg_table.specs.Table.{visited};
 ghost use Rattle.sg_plain_map.specs.Editing.{Drafts, HasRoom, IsEditing, IsReady, VisitsRange, stored};
+ghost use Rattle.sg_plain_map.specs.Editing.{ChangesRecords};
 ghost use Rattle.sg_table.specs.Records.{passed};
 ghost use Rattle.sg_plain_map.specs.Editing.{edited_contents};
 
@@ -69,13 +69,11 @@ pub(crate) fn write_blocks(
     requires free { count ≤ length pool.old.free + mapped_among (stored table.old pool.old) lba count }
     requires room { (count ≤ draft.old.room) × (draft.old.room ≡ table.old.room) }
 
-    // The blocks are written, and the table changes by its records, their moves and its visits alone.
+    // The blocks are written, and the table changes by its records, their moves and its visits
+    // alone.
     ensures contents { stored table.new pool.new
         ≡ replaced (stored table.old pool.old) lba count (block_of source.now) }
-    ensures consistent { IsConsistent table.new.records pool.new.blocks pool.new.free table.new.room }
-    ensures table { let count = table.new.total - table.old.total in table.new
-        ≡ record (visited table.old count) { records = table.new.records; moved = table.new.moved } }
-    ensures moves { table.new.moved ≤ table.old.moved + move_bound + count }
+    ensures changes { ChangesRecords (move_bound + count) table.old table.new pool.new }
     ensures room { draft.new.room ≡ draft.old.room }
     ensures visits { VisitsRange (stored table.old pool.old) lba count table.old table.new }
 {

@@ -16,20 +16,20 @@ zeros n xs e is = is ∙ ap (λ k. replicate k 0) e
 pub returns-in_default-clause-bytes : goal.returns-in_default-clause-bytes
 returns-in_default-clause-bytes c =
     let rs = c.args.table.now.records in
-    let none = none-found rs c.args.cursor c.args.lba c.requires.sorted c.requires.cursor
+    let none = none-found rs c.args.cursor c.args.lba c.requires.readable.sorted c.requires.cursor
     (sym c.run_at.ensures ∙ c.in_default.is) in
     zeros _ _ c.requires.byte_count (c.fill.ensures.after (λ y e. e))
     ∙ sym (block-unmapped rs c.args.pool.now.blocks c.args.lba none)
 
 pub returns-in_default-clause-cursor : goal.returns-in_default-clause-cursor
 returns-in_default-clause-cursor c =
-    stays-at c.args.table.now.records c.args.cursor c.args.lba c.requires.sorted c.requires.cursor
+    stays-at c.args.table.now.records c.args.cursor c.args.lba c.requires.readable.sorted c.requires.cursor
     (sym c.run_at.ensures ∙ c.in_default.is)
 
 pub returns-in_default-clause-index : goal.returns-in_default-clause-index
 returns-in_default-clause-index c =
     let rs = c.args.table.now.records in
-    let none = none-found rs c.args.cursor c.args.lba c.requires.sorted c.requires.cursor
+    let none = none-found rs c.args.cursor c.args.lba c.requires.readable.sorted c.requires.cursor
     (sym c.run_at.ensures ∙ c.in_default.is) in
     omega (arith, none_mapped rs c.args.pool.now.blocks c.args.lba none)
 
@@ -37,7 +37,7 @@ pub overflow_add-cursor : goal.overflow_add-cursor
 overflow_add-cursor c =
     let at = found c.args.table.now.records c.args.cursor.next c.args.cursor.index c.args.lba
     c.in-Some.run' c.requires.cursor.next (sym c.run_at.ensures ∙ c.in-Some.is) in
-    record { fits = omega (arith, at.0, c.requires.table_size) }
+    record { fits = omega (arith, at.0, c.requires.readable.table_size) }
 
 pub returns-clause-bytes : goal.returns-clause-bytes
 returns-clause-bytes c =
@@ -46,7 +46,7 @@ returns-clause-bytes c =
     let at = found rs c.args.cursor.next c.args.cursor.index c.args.lba c.in-Some.run'
     c.requires.cursor.next (sym c.run_at.ensures ∙ c.in-Some.is) in
     c.copy_from_slice.ensures.after ∙ c.bytes.ensures
-    ∙ sym (block-mapped rs blocks c.args.cursor.index c.in-Some.run' c.requires.sorted at.0
+    ∙ sym (block-mapped rs blocks c.args.cursor.index c.in-Some.run' c.requires.readable.sorted at.0
     (sym at.1)) ∙ ap (block (contents_of rs blocks)) at.2
 
 pub returns-clause-cursor : goal.returns-clause-cursor
@@ -56,7 +56,7 @@ returns-clause-cursor c =
     c.requires.cursor.next (sym c.run_at.ensures ∙ c.in-Some.is) in
     record {
       index = rw c.new.ensures.index
-          (index-mapped rs c.args.cursor.index c.args.lba c.in-Some.run' c.requires.sorted
+          (index-mapped rs c.args.cursor.index c.args.lba c.in-Some.run' c.requires.readable.sorted
           c.requires.cursor.index at.0 (sym at.1) at.2);
       next = rw c.new.ensures.index c.new.ensures.next;
     }
@@ -67,7 +67,7 @@ returns-clause-index c =
     let at = found rs c.args.cursor.next c.args.cursor.index c.args.lba c.in-Some.run'
     c.requires.cursor.next (sym c.run_at.ensures ∙ c.in-Some.is) in
     let mapped = one_mapped rs c.args.pool.now.blocks c.args.cursor.index c.args.lba c.in-Some.run'
-    c.requires.sorted at.0 (sym at.1) at.2 in
+    c.requires.readable.sorted at.0 (sym at.1) at.2 in
     omega (arith, c.new.ensures.index)
 
 pub returns-clause-cost : goal.returns-clause-cost

@@ -20,12 +20,16 @@ loop-i-init c =
       table = e.table ∙ ap (visited c.args.table.now) (omega (arith, mapped_among-none contents c.args.lba));
     }
 
-pub read_block-cursor-requires-clause-slots : goal.read_block-cursor-requires-clause-slots
-read_block-cursor-requires-clause-slots c =
+pub read_block-cursor-requires-clause-readable : goal.read_block-cursor-requires-clause-readable
+read_block-cursor-requires-clause-readable c =
     let t = c.args.table.now in
     let slots = c.args.pool.now in
-    rw c.loop-i.invariant.table
-    (have_slots t.records slots.blocks slots.free t.room c.requires.ready.consistent)
+    let ready = c.requires.ready in
+    rw c.loop-i.invariant.table (record {
+      sorted = ready.consistent.sorted;
+      have_slots = have_slots t.records slots.blocks slots.free t.room ready.consistent;
+      table_size = omega (arith, ready.consistent.count, ready.table_size);
+    })
 
 pub read_block-cursor-requires-clause-headroom : goal.read_block-cursor-requires-clause-headroom
 read_block-cursor-requires-clause-headroom c =
