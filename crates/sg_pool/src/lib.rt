@@ -1,6 +1,7 @@
 //! Slots of one block each, in chains, and the blocks that go into them.
 #![tactic(auto)]
 
+pub mod laws;
 mod pool;
 mod source;
 

@@ -5,6 +5,7 @@
 mod cursor;
 mod draft;
 mod ghost_number;
+pub mod laws;
 mod leaf;
 mod leaf_list;
 mod leaves;

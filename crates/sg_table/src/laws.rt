@@ -1,0 +1,42 @@
+//! What each [`RunTable`](crate::RunTable) is made of, down to its records. Nothing is kept beside
+//! the parts that are listed, so there is no second copy of a record that is read without counting.
+ghost use Rattle.sg_table.specs.Parts.{DirectoryFollows, DraftIsItsParts, EachSlotHasOneLeaf};
+ghost use Rattle.sg_table.specs.Parts.{LeafIsItsRecords, LeafListIsItsParts, LeavesAreTheirParts};
+ghost use Rattle.sg_table.specs.Parts.{TableIsItsParts};
+
+/// A [`RunTable`](crate::RunTable) is made of its leaves, its room and what was counted.
+pub fn a_table_is_made_of_its_leaves_and_counts()
+    ensures { TableIsItsParts }
+{}
+
+/// Its leaves are made of a list of leaves, a directory of two lists, the span of the leaf that was
+/// found last, and the number of moves.
+pub fn the_leaves_are_made_of_a_list_and_a_directory()
+    ensures { LeavesAreTheirParts }
+{}
+
+/// The directory and the span follow from the records: they are the index and the first address of
+/// each leaf, and the indexes of one leaf.
+pub fn the_directory_follows_from_the_records()
+    ensures { DirectoryFollows }
+{}
+
+/// The list of leaves is made of slots, the order of those in use, and those that are free.
+pub fn a_list_of_leaves_is_made_of_its_slots()
+    ensures { LeafListIsItsParts }
+{}
+
+/// Each slot is that of one leaf of the table, or is free.
+pub fn each_slot_has_one_leaf_or_is_free()
+    ensures { EachSlotHasOneLeaf }
+{}
+
+/// A leaf is made of its records.
+pub fn a_leaf_is_made_of_its_records()
+    ensures { LeafIsItsRecords }
+{}
+
+/// A [`Draft`](crate::Draft) is made of an index, its records and their room.
+pub fn a_draft_is_made_of_its_records()
+    ensures { DraftIsItsParts }
+{}
