@@ -4,7 +4,7 @@ ghost use Rattle.std.specs.Prelude.{◌≡◌, ℕ, ◌+◌, ◌*◌, ◌<◌, �
 ghost use Rattle.std.specs.Prelude.{IfOk, OnOk, OnErr, IsErr};
 ghost use Rattle.std.specs.FinMap.{len};
 ghost use Rattle.sg_store.specs.Disk.{Contents, Disk, IsWellFormed, IsOverfull, empty_disk};
-ghost use Rattle.sg_store.specs.Disk.{blocks, mapped_among, disk_written, disk_filled, disk_unmapped};
+ghost use Rattle.sg_store.specs.Disk.{blocks, used_among, disk_written, disk_filled, disk_unmapped};
 ghost use Rattle.sg_wire.specs.Cut.{Puts};
 ghost use Rattle.sg_store.specs.LbaStatus.{lba_status, covered, status_data};
 ghost use Rattle.sg_store.specs.Meter.{Meter, new_meter, restarted, HasHeadroom};
@@ -173,5 +173,5 @@ pub trait Store: Drop {
 
     /// A successful call over a range in which an address is mapped visits at least one record.
     ghost least_positive: { (contents : Contents) (lba count : ℕ) →
-        0 < mapped_among contents lba count → 0 < least contents lba count };
+        0 < used_among contents lba count → 0 < least contents lba count };
 }
