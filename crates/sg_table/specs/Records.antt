@@ -10,6 +10,10 @@ abbrev pub single : (start slot : ℕ) → Kind → Run
 single start slot kind =
     record { start = start; count = 1; first = slot; last = slot; kind = kind }
 
+-- A record whose slots hold something else.
+abbrev pub with_kind : Kind → Run → Run
+with_kind kind run = record run { kind = kind }
+
 -- The address of the record at an index.
 abbrev pub start_of : List Run → ℕ → ℕ
 start_of [] index = 0
