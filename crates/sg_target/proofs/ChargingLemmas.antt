@@ -6,13 +6,16 @@ use Rattle.std.proofs.lemmas.List.{take_more}
 use Rattle.std.proofs.Math.Nat.{mul-le-mul}
 use Rattle.std.proofs.lemmas.List.{length-map, map-append}
 use Rattle.std.specs.Prelude.{map}
-use Rattle.sg_store.specs.Meter.{Costs, Meter}
-use Rattle.sg_target.specs.Anchoring.{anchored_in_turn}
-use Rattle.sg_target.specs.Charging.{Range, range, counted_range, counted_ranges, ranges_in_turn}
-use Rattle.sg_target.specs.Charging.{anchoring_ranges, Cost, CostBounds, sum_over, least_over}
-use Rattle.sg_target.specs.Charging.{IsCounted, IsCharged}
+use Rattle.sg_store.specs.Meter.{Costs, Meter, restarted}
+use Rattle.sg_store.specs.declared.store.Counts.{Counts}
+use Rattle.sg_target.specs.Anchoring.{IsWithinPrice, counted, counted_ranges, disk_anchored_in_turn}
+use Rattle.sg_target.specs.Effect.{Range, range, counted_range}
+use Rattle.sg_target.specs.ProvisioningCommands.{anchored_in_turn, anchoring_in_turn}
+use Rattle.sg_target.specs.ProvisioningCommands.{anchoring_ranges}
+use Rattle.sg_target.specs.Ranges.{Cost, CostBounds, IsCharged, IsCounted, sum_over, least_over}
+use Rattle.sg_target.specs.declared.reply.Reply.{Reply}
+use Rattle.sg_target.specs.declared.reply.Status.TheVariants.{Good}
 use Rattle.sg_store.specs.Disk.{Contents, Disk, anchored, disk_anchored}
-use Rattle.sg_target.specs.Anchoring.{disk_anchored_in_turn}
 use Rattle.sg_target.proofs.NeedLemmas.{in_turn-more}
 use Rattle.sg_target.specs.Joining.{AreJoined, IsSubadditive, cost_of, range_of}
 use Rattle.sg_target.specs.declared.joining.AddressRange.{AddressRange}
@@ -54,15 +57,15 @@ counted-more bounds pool over last before between after so_far costs price least
     }
 
 pub turn-more : (m : Contents) (extents : List Extent) (last : Extent)
-    → ranges_in_turn m (extents ++ last ∷ [])
-    ≡ ranges_in_turn m extents ++ range (anchored_in_turn m extents) (range_of last) ∷ []
+    → anchoring_in_turn m (extents ++ last ∷ [])
+    ≡ anchoring_in_turn m extents ++ range (anchored_in_turn m extents) last ∷ []
 turn-more m [] last = refl
-turn-more m (e ∷ es) last = ap (λ (over : List Range). range m (range_of e) ∷ over)
+turn-more m (e ∷ es) last = ap (λ (over : List Range). range m e ∷ over)
     (turn-more (anchored m e.lba e.count) es last)
 
 pub counted-ranges-more : (m : Contents) (ranges : List AddressRange) (last : AddressRange)
-    → counted_ranges m (ranges ++ last ∷ []) ≡ counted_ranges m ranges ++ counted_range m last ∷ []
-counted-ranges-more m ranges last = map-append (counted_range m) ranges (last ∷ [])
+    → counted_ranges m (ranges ++ last ∷ []) ≡ counted_ranges m ranges ++ counted m last ∷ []
+counted-ranges-more m ranges last = map-append (counted m) ranges (last ∷ [])
 
 -- the next range, of which the slots are counted
 pub counted-next : (bounds : CostBounds) (disk now : Disk) (ranges : List AddressRange) (i : ℕ)
@@ -78,7 +81,7 @@ counted-next bounds disk now ranges i d here before mid after same so_far costs 
     let next = get_or ranges i d in
     rw (take_more ranges i d here, counted-ranges-more disk.contents (take i ranges) next)
     (counted-more bounds disk.pool (counted_ranges disk.contents (take i ranges))
-    (counted_range disk.contents next) before mid after so_far
+    (counted disk.contents next) before mid after so_far
     (subst (λ (x : Disk). Costs x.pool mid after) same costs)
     (subst (λ (x : Disk). after.total ≤ mid.total + bounds.price x.contents next.lba next.count) same
     price)
@@ -100,16 +103,16 @@ module _ (extents : List Extent) (i : ℕ) (d : Extent) (here : i < length exten
       ∙ ap (anchored_in_turn before.contents) (sym (take_more extents i d here)))
 
   pub turn-next : (bounds : CostBounds) (over : List Range) (first mid after : Meter)
-      → IsCounted bounds before.pool (over ++ ranges_in_turn before.contents (take i extents)) first
+      → IsCounted bounds before.pool (over ++ anchoring_in_turn before.contents (take i extents)) first
       mid
       → Costs now.pool mid after
       → after.total ≤ mid.total + bounds.price now.contents next.lba next.count
       → mid.total + bounds.least now.contents next.lba next.count ≤ after.total
       → IsCounted bounds before.pool
-      (over ++ ranges_in_turn before.contents (take (i + 1) extents)) first after
+      (over ++ anchoring_in_turn before.contents (take (i + 1) extents)) first after
   turn-next bounds over first mid after counted costs price least =
-      let turn : List Range = ranges_in_turn before.contents (take i extents) in
-      let last = range (anchored_in_turn before.contents (take i extents)) (range_of next) in
+      let turn : List Range = anchoring_in_turn before.contents (take i extents) in
+      let last = range (anchored_in_turn before.contents (take i extents)) next in
       rw (take_more extents i d here, turn-more before.contents (take i extents) next)
       (subst (λ (xs : List Range). IsCounted bounds before.pool xs first after)
       (append_assoc over turn (last ∷ []))
@@ -121,6 +124,12 @@ module _ (extents : List Extent) (i : ℕ) (d : Extent) (here : i < length exten
       so_far least)))
 
 -- ---- the ranges as they were sent, in place of the joined ones
+
+-- (they are the same ranges)
+counted-sent : (m : Contents) (extents : List Extent)
+    → map (counted_range m) extents ≡ counted_ranges m (map range_of extents)
+counted-sent m [] = refl
+counted-sent m (e ∷ es) = ap (λ (over : List Range). counted_range m e ∷ over) (counted-sent m es)
 
 sum-counted : (cost : Cost) (m : Contents) (ranges : List AddressRange)
     → sum_over cost (counted_ranges m ranges) ≡ cost_of (cost m) ranges
@@ -136,15 +145,16 @@ module _ (bounds : CostBounds) (pool : ℕ) (m : Contents) (extents : List Exten
     (joined : List AddressRange) (j : AreJoined (map range_of extents) joined)
     (law : IsSubadditive (bounds.price m)) (before after : Meter) where
   abbrev sent : List Range
-  sent = counted_ranges m (map range_of extents)
+  sent = map (counted_range m) extents
 
   abbrev turn : List Range
-  turn = ranges_in_turn m extents
+  turn = anchoring_in_turn m extents
 
   cheaper : sum_over bounds.price (counted_ranges m joined) ≤ sum_over bounds.price sent
   cheaper = omega (
     arith,
     sum-counted bounds.price m joined,
+    ap (sum_over bounds.price) (counted-sent m extents),
     sum-counted bounds.price m (map range_of extents),
     j.cheaper (bounds.price m) law,
   )
@@ -152,8 +162,9 @@ module _ (bounds : CostBounds) (pool : ℕ) (m : Contents) (extents : List Exten
   shorter : length (counted_ranges m joined) ≤ length sent
   shorter = omega (
     arith,
-    length-map joined (counted_range m),
-    length-map (map range_of extents) (counted_range m),
+    length-map joined (counted m),
+    length-map (map range_of extents) (counted m),
+    ap (λ (over : List Range). length over) (counted-sent m extents),
     j.count,
   )
 
@@ -162,7 +173,7 @@ module _ (bounds : CostBounds) (pool : ℕ) (m : Contents) (extents : List Exten
 
   -- where there is no room, nothing but the count was done
   pub counted-charged : IsCounted bounds pool (counted_ranges m joined) before after
-      → IsCharged bounds pool (anchoring_ranges m extents) before after
+      → IsWithinPrice bounds pool (anchoring_ranges m extents) before after
   counted-charged c =
       let prices = sum-append bounds.price sent turn in
       let longer = length-append sent turn in
@@ -178,7 +189,7 @@ module _ (bounds : CostBounds) (pool : ℕ) (m : Contents) (extents : List Exten
 
   -- and else each range was gone over again
   pub all-charged : IsCounted bounds pool (counted_ranges m joined ++ turn) before after
-      → IsCharged bounds pool (anchoring_ranges m extents) before after
+      → IsWithinPrice bounds pool (anchoring_ranges m extents) before after
   all-charged c =
       let prices = sum-append bounds.price sent turn in
       let prices' = sum-append bounds.price (counted_ranges m joined) turn in
@@ -202,5 +213,27 @@ module _ (bounds : CostBounds) (pool : ℕ) (m : Contents) (extents : List Exten
     least-append bounds.least sent turn,
     least-append bounds.least (counted_ranges m joined) turn,
     least-counted bounds.least m joined,
+    ap (least_over bounds.least) (counted-sent m extents),
     least-counted bounds.least m (map range_of extents),
   )
+
+-- what was counted over some ranges since a restart is charged
+pub charged : (bounds : CostBounds) (pool : ℕ) (over : List Range) (before after : Meter) (reply : Reply)
+    → 0 < length over → IsWithinPrice bounds pool over (restarted before) after
+    → (reply.status ≡ Good → least_over bounds.least over ≤ after.counts.visits)
+    → reply.counts ≡ after.counts → IsCharged bounds pool over before after reply
+charged bounds pool [] before after reply some c least same = absurd (omega arith)
+charged bounds pool (first ∷ rest) before after reply some c least same =
+    let visits = ap (λ (k : Counts). k.visits) same in
+    let probes = ap (λ (k : Counts). k.probes) same in
+    let links = ap (λ (k : Counts). k.links) same in
+    record {
+      visits = omega (arith, c.visits, visits);
+      probes = rw probes c.probes;
+      links = rw links c.links;
+      least = λ good. omega (arith, least good, visits);
+      visited = omega (arith, c.visited, visits);
+      counted = λ any. same;
+      restarts = c.restarts;
+      idle = λ none. absurd (omega (arith, ap (λ (over : List Range). length over) none));
+    }

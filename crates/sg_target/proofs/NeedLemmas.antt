@@ -1,21 +1,23 @@
 -- What joined ranges need is what the ranges as they were sent need.
 use Rattle.std.proofs.Common.{◌≡◌, ℕ, ◌+◌, ◌≤◌, ◌<◌, zero, suc, List, [], ◌∷◌, ◌++◌, sym, refl, ap}
-use Rattle.std.proofs.Common.{ap₂, ◌∙◌, arith, cond, Bool, true, false, Some, length}
-use Rattle.std.proofs.Common.{get_or}
+use Rattle.std.proofs.Common.{ap₂, ◌∙◌, arith, cond, Bool, true, false, Some}
 use Rattle.std.proofs.lemmas.Bool.Decides.{nat_tests}
 use Rattle.std.specs.Cmp.{nat_cmp_total}
 use Rattle.std.specs.FinMap as map
 use Rattle.std.specs.FinMap.{same_map, nat_cmp-IsAntisymmetric}
 use Rattle.std.specs.Prelude.{not, ◌||◌, map}
 use Rattle.sg_store.specs.Disk.{lies_in}
-use Rattle.sg_target.specs.Anchoring.{anchored_in_turn, need_of, AreOnDisk}
+use Rattle.sg_target.specs.Anchoring.{need_of}
+use Rattle.sg_target.specs.Extents.{AreOnDisk}
+use Rattle.sg_target.specs.ProvisioningCommands.{anchored_in_turn}
 use Rattle.sg_store.specs.Disk.{Contents, anchored, need}
 use Rattle.sg_store.specs.Disk.Mapping.{Anchored}
 use Rattle.sg_target.specs.Joining.{covers, lies_in_some, AreDisjoint, AreJoined, AreWithin, range_of}
 use Rattle.sg_target.specs.declared.joining.AddressRange.{AddressRange}
 use Rattle.sg_wire.specs.declared.extent.Extent.{Extent}
-use Rattle.sg_store.proofs.NeedLemmas.{get-replaced, contains-replaced, len-replaced, need-more}
+use Rattle.sg_store.proofs.NeedLemmas.{contains-remapped, len-needed, need-more}
 use Rattle.sg_store.proofs.NeedLemmas.{need-none, need-used}
+use Rattle.sg_store.proofs.WriteLemmas.{get-remapped}
 use Rattle.sg_target.proofs.AddressRangeLemmas.{or_left, not_true}
 
 -- ranges that are anchored in turn
@@ -39,7 +41,7 @@ pub get-over : (m : Contents) (rs : List AddressRange) (q : ℕ)
 get-over m [] q = refl
 get-over m (r ∷ rs) q = get-over (anchored m r.lba r.count) rs q
     ∙ ap (cond (lies_in_some rs q) (Some Anchored))
-    (get-replaced m r.lba r.count (λ index. Anchored) q)
+    (get-remapped m r.lba r.count (λ index. Anchored) q)
     ∙ either (lies_in_some rs q) (covers q r) (Some Anchored) (map.get m q)
 
 -- only the addresses matter
@@ -76,7 +78,7 @@ need-elsewhere m r (s ∷ rs) h =
     (or_left (covers (s.lba + i) s) (lies_in_some rs (s.lba + i)) (h (s.lba + i) f))) in
     ap₂ (λ x y. x + y)
     (need-alike (anchored m r.lba r.count) m s.lba s.count (λ i lt.
-    contains-replaced m r.lba r.count (λ index. Anchored) (s.lba + i)
+    contains-remapped m r.lba r.count (λ index. Anchored) (s.lba + i)
     ∙ ap (λ b. b || map.contains_key m (s.lba + i)) (off i lt)))
     (need-elsewhere m r rs (λ q e. right (covers q s) (lies_in_some rs q) (h q e)))
   where
@@ -89,7 +91,7 @@ pub len-over : (m : Contents) (rs : List AddressRange) → AreDisjoint rs
 len-over m [] h = omega arith
 len-over m (r ∷ rs) h =
     let rest = len-over (anchored m r.lba r.count) rs h.1 in
-    let one = len-replaced m r.lba r.count (λ index. Anchored) in
+    let one = len-needed m r.lba r.count (λ index. Anchored) in
     let same = need-elsewhere m r rs h.0 in
     omega arith
 
@@ -114,7 +116,7 @@ len-grows : (m : Contents) (extents : List Extent) → map.len m ≤ map.len (an
 len-grows m [] = omega arith
 len-grows m (e ∷ es) =
     let rest = len-grows (anchored m e.lba e.count) es in
-    let one = len-replaced m e.lba e.count (λ index. Anchored) in
+    let one = len-needed m e.lba e.count (λ index. Anchored) in
     omega arith
 
 in_turn-append : (m : Contents) (xs ys : List Extent)
@@ -140,10 +142,3 @@ within-weaker low high (r ∷ rs) le h = (omega (arith, h.0), within-weaker low 
 
 pub need-le : (m : Contents) (a k : ℕ) → need m a k ≤ k
 need-le m a k = omega (arith, need-used m a k)
-
-pub on_disk-at : (capacity : ℕ) (extents : List Extent) (i : ℕ) (d : Extent) → i < length extents
-    → AreOnDisk capacity extents
-    → (get_or extents i d).lba + (get_or extents i d).count ≤ capacity
-on_disk-at capacity [] i d here h = absurd (omega arith)
-on_disk-at capacity (e ∷ es) zero d here h = h.0
-on_disk-at capacity (e ∷ es) (suc i) d here h = on_disk-at capacity es i d (omega arith) h.1

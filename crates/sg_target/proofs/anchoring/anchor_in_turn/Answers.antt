@@ -1,12 +1,13 @@
 use Rattle.std.proofs.Common.{◌≡◌, ◌+◌, ◌++◌, take, drop, get_or, ap, sym, ◌∙◌, arith, subst}
 use Rattle.std.proofs.lemmas.List.{take_more, take_all, take-append-drop}
 use Rattle.std.specs.FinMap as map
-use Rattle.sg_target.specs.Anchoring.{anchored_in_turn}
-use Rattle.sg_target.specs.Charging.{IsCounted, cost_bounds, ranges_in_turn}
+use Rattle.sg_target.specs.ProvisioningCommands.{anchored_in_turn, anchoring_in_turn}
+use Rattle.sg_target.specs.Ranges.{IsCounted, cost_bounds}
 use Rattle.sg_store.specs.Disk.{Contents, Disk, anchored}
 use Rattle.sg_wire.specs.declared.extent.Extent.{Extent}
 use Rattle.sg_target.proofs.ChargingLemmas.{disk-next, turn-next}
-use Rattle.sg_target.proofs.NeedLemmas.{in_turn-more, on_disk-at, room-first}
+use Rattle.sg_target.proofs.ExtentLemmas.{on_disk-at}
+use Rattle.sg_target.proofs.NeedLemmas.{in_turn-more, room-first}
 use Rattle.sg_target.proofs.anchoring.anchor_in_turn.Goals as goal
 
 pub anchor_with_room-requires-clause-range : goal.anchor_with_room-requires-clause-range
@@ -58,18 +59,18 @@ loop-extent-preserved g c =
       disk = disk-next extents i none here before now inv.disk _ e.disk;
       counted = λ first over h. turn-next extents i none here before now inv.disk
           (cost_bounds g.S.Store.price g.S.Store.least) over first _ _
-          (inv.counted first over h) e.cost e.price e.least;
+          (inv.counted first over h) e.costs.cost e.costs.price e.costs.least;
       visits = omega (
         arith,
         inv.visits,
-        e.cost.visits,
-        e.price,
+        e.costs.cost.visits,
+        e.costs.price,
         price,
         on_disk,
         c.requires.capacity,
       );
-      probes = omega (arith, inv.probes, e.cost.probes);
-      links = omega (arith, inv.links, e.cost.links, pool, c.requires.pool);
+      probes = omega (arith, inv.probes, e.costs.cost.probes);
+      links = omega (arith, inv.links, e.costs.cost.links, pool, c.requires.pool);
     }
 
 pub returns-clause-counted : goal.returns-clause-counted
@@ -80,5 +81,5 @@ returns-clause-counted g c =
     let before = g.S.Store.disk c.args.store.now in
     λ first over h.
     subst (λ xs. IsCounted (cost_bounds g.S.Store.price g.S.Store.least)
-    before.pool (over ++ ranges_in_turn before.contents xs) first
+    before.pool (over ++ anchoring_in_turn before.contents xs) first
     (g.S.Store.meter c.loop-extent.store)) all (c.loop-extent.invariant.counted first over h)

@@ -1,6 +1,6 @@
 use Rattle.std.proofs.Common.{◌≡◌, take, get_or, ap, ◌∙◌, arith}
 use Rattle.std.proofs.lemmas.List.{take_more}
-use Rattle.sg_target.specs.Charging.{cost_bounds}
+use Rattle.sg_target.specs.Ranges.{cost_bounds}
 use Rattle.sg_store.specs.Disk.{Disk, need}
 use Rattle.sg_target.specs.declared.joining.AddressRange.{AddressRange}
 use Rattle.sg_target.proofs.ChargingLemmas.{counted-next}
@@ -64,7 +64,7 @@ loop-range-preserved g c =
       ));
       counted = counted-next
           (cost_bounds g.S.Store.price g.S.Store.least) disk now
-          ranges i none here _ _ _ inv.disk inv.counted e.cost e.price e.least;
-      few = omega (arith, inv.few, e.cost.visits, e.price, price, within, c.requires.capacity);
+          ranges i none here _ _ _ inv.disk inv.counted e.costs.cost e.costs.price e.costs.least;
+      few = omega (arith, inv.few, e.costs.cost.visits, e.costs.price, price, within, c.requires.capacity);
       small = omega (arith, inv.small, e.value, few, within, c.requires.capacity);
     }

@@ -1,10 +1,10 @@
-use Rattle.std.proofs.Common.{◌∙◌, arith, map}
+use Rattle.std.proofs.Common.{arith, map}
 use Rattle.sg_store.specs.declared.store.TheConstants.{MAX_CAPACITY}
-use Rattle.sg_target.specs.Charging.{cost_bounds}
+use Rattle.sg_target.specs.Ranges.{cost_bounds}
 use Rattle.sg_target.specs.Joining.{range_of}
 use Rattle.sg_target.proofs.ChargingLemmas.{counted-charged, all-charged, all-least}
 use Rattle.sg_target.proofs.NeedLemmas.{need-joined, ranges-within, within-weaker}
-use Rattle.sg_target.proofs.anchoring.anchor.Goals as goal
+use Rattle.sg_target.proofs.anchoring.anchor_extents.Goals as goal
 
 pub joined-ranges-requires-clause-fits : goal.joined-ranges-requires-clause-fits
 joined-ranges-requires-clause-fits g c =
@@ -13,17 +13,17 @@ joined-ranges-requires-clause-fits g c =
 
 pub count_needed-needed-requires-clause-fits : goal.count_needed-needed-requires-clause-fits
 count_needed-needed-requires-clause-fits g c =
-    rw (c.as_slice.ensures, c.restart_counts.ensures.disk)
+    rw c.as_slice.ensures
     (c.joined-ranges.ensures.within (g.S.Store.disk c.args.store.now).capacity
     (ranges-within _ c.args.extents.now c.requires.on_disk))
 
 pub returns-then-needed-from-clause-space : goal.returns-then-needed-from-clause-space
 returns-then-needed-from-clause-space g c =
     let disk = g.S.Store.disk c.args.store.now in
-    let left = c.count_needed-needed.ensures.disk ∙ c.restart_counts.ensures.disk in
+    let left = c.count_needed-needed.ensures.disk in
     let size = need-joined disk.contents c.args.extents.now c.joined-ranges.result
     c.joined-ranges.ensures in
-    let needed = rw (c.as_slice.ensures, c.restart_counts.ensures.disk) at
+    let needed = rw c.as_slice.ensures at
     c.count_needed-needed.ensures.value in
     let used = rw left at c.used.ensures.value in
     let within = rw left at c.used.ensures.within in (
@@ -33,7 +33,7 @@ returns-then-needed-from-clause-space g c =
         needed,
         used,
         within,
-        c.requires.pool,
+        c.requires.pool.0,
         c.from.ensures,
         c.if-needed-from.true,
       ),
@@ -46,16 +46,16 @@ returns-then-needed-from-clause-charge g c =
     counted-charged (cost_bounds g.S.Store.price g.S.Store.least) disk.pool
     disk.contents c.args.extents.now c.joined-ranges.result c.joined-ranges.ensures
     (g.met.S.Store.price_joined disk.contents) _ _
-    (rw (c.as_slice.ensures, c.restart_counts.ensures.disk, c.restart_counts.ensures.meter) at
+    (rw c.as_slice.ensures at
     c.count_needed-needed.ensures.counted)
 
 pub anchor_in_turn-requires-clause-room : goal.anchor_in_turn-requires-clause-room
 anchor_in_turn-requires-clause-room g c =
     let disk = g.S.Store.disk c.args.store.now in
-    let left = c.count_needed-needed.ensures.disk ∙ c.restart_counts.ensures.disk in
+    let left = c.count_needed-needed.ensures.disk in
     let size = need-joined disk.contents c.args.extents.now c.joined-ranges.result
     c.joined-ranges.ensures in
-    let needed = rw (c.as_slice.ensures, c.restart_counts.ensures.disk) at
+    let needed = rw c.as_slice.ensures at
     c.count_needed-needed.ensures.value in
     let used = rw left at c.used.ensures.value in
     let within = rw left at c.used.ensures.within in
@@ -65,7 +65,7 @@ anchor_in_turn-requires-clause-room g c =
       needed,
       used,
       within,
-      c.requires.pool,
+      c.requires.pool.0,
       c.from.ensures,
       c.if-needed-from.false,
     ))
@@ -73,10 +73,10 @@ anchor_in_turn-requires-clause-room g c =
 pub returns-clause-space : goal.returns-clause-space
 returns-clause-space g c =
     let disk = g.S.Store.disk c.args.store.now in
-    let left = c.count_needed-needed.ensures.disk ∙ c.restart_counts.ensures.disk in
+    let left = c.count_needed-needed.ensures.disk in
     let size = need-joined disk.contents c.args.extents.now c.joined-ranges.result
     c.joined-ranges.ensures in
-    let needed = rw (c.as_slice.ensures, c.restart_counts.ensures.disk) at
+    let needed = rw c.as_slice.ensures at
     c.count_needed-needed.ensures.value in
     let used = rw left at c.used.ensures.value in
     let within = rw left at c.used.ensures.within in (
@@ -88,7 +88,7 @@ returns-clause-space g c =
         used,
         within,
         more,
-        c.requires.pool,
+        c.requires.pool.0,
         c.from.ensures,
         c.if-needed-from.false,
       )),
@@ -97,12 +97,8 @@ returns-clause-space g c =
 pub returns-clause-charge : goal.returns-clause-charge
 returns-clause-charge g c =
     let disk = g.S.Store.disk c.args.store.now in
-    let left = c.count_needed-needed.ensures.disk ∙ c.restart_counts.ensures.disk in
-    let counted = rw (
-      c.as_slice.ensures,
-      c.restart_counts.ensures.disk,
-      c.restart_counts.ensures.meter,
-    ) at c.count_needed-needed.ensures.counted in
+    let left = c.count_needed-needed.ensures.disk in
+    let counted = rw c.as_slice.ensures at c.count_needed-needed.ensures.counted in
     all-charged (cost_bounds g.S.Store.price g.S.Store.least) disk.pool
     disk.contents c.args.extents.now c.joined-ranges.result c.joined-ranges.ensures
     (g.met.S.Store.price_joined disk.contents) _ _
@@ -111,12 +107,8 @@ returns-clause-charge g c =
 pub returns-clause-least : goal.returns-clause-least
 returns-clause-least g c =
     let disk = g.S.Store.disk c.args.store.now in
-    let left = c.count_needed-needed.ensures.disk ∙ c.restart_counts.ensures.disk in
-    let counted = rw (
-      c.as_slice.ensures,
-      c.restart_counts.ensures.disk,
-      c.restart_counts.ensures.meter,
-    ) at c.count_needed-needed.ensures.counted in
+    let left = c.count_needed-needed.ensures.disk in
+    let counted = rw c.as_slice.ensures at c.count_needed-needed.ensures.counted in
     all-least (cost_bounds g.S.Store.price g.S.Store.least) disk.pool
     disk.contents c.args.extents.now c.joined-ranges.result c.joined-ranges.ensures
     (g.met.S.Store.price_joined disk.contents) _ _
