@@ -1,10 +1,10 @@
 -- The disk: blocks of 512 bytes, of which those that were written are mapped to blocks of a pool, and
 -- others may be anchored there (SBC-3, 4.7, logical block provisioning).
-use Rattle.std.specs.Prelude.{◌≡◌, ℕ, ◌+◌, ◌*◌, ◌<◌, Bool, ◌&&◌, not, nat_le, nat_lt, if◌then◌else◌}
+use Rattle.std.specs.Prelude.{◌≡◌, ℕ, ◌+◌, ◌*◌, ◌<◌, Bool, true, false, ◌&&◌, not, nat_le, nat_lt, if◌then◌else◌}
 use Rattle.std.specs.Prelude.{List, [], ◌∷◌, Option, Some, None, length, take, drop, replicate, map}
 use Rattle.std.specs.List.{flat_map, range_with_len, count_by}
 use Rattle.std.specs.Ordering.{nat_cmp}
-use Rattle.std.specs.FinMap.{FinMap, get, insert, contains_key, retain_keys, empty, len}
+use Rattle.std.specs.FinMap.{FinMap, get, insert, contains_key, retain_keys, empty, entries, len}
 use Rattle.sg_store.specs.declared.store.TheConstants.{BLOCK_LENGTH}
 
 -- What an address has a block of the pool for: data, or none yet. It is anchored then (SBC-3, 4.7.4):
@@ -123,6 +123,19 @@ IsOverfull disk = disk.pool < len disk.contents
 unfoldable pub used_among : Contents → (lba count : ℕ) → ℕ
 used_among contents lba count = count_by (contains_key contents) (range_with_len lba count)
 
--- One where the address has.
+-- How many of them have none.
+unfoldable pub need : Contents → (lba count : ℕ) → ℕ
+need contents lba count =
+    count_by (λ address. not (contains_key contents address)) (range_with_len lba count)
+
+-- Whether there is data, and how many addresses have some.
+abbrev pub has_data : Mapping → Bool
+has_data (Data block) = true
+has_data Anchored = false
+
+unfoldable pub data_count : Contents → ℕ
+data_count contents = count_by (λ (entry : ℕ × Mapping). has_data entry.1) (entries contents)
+
+-- One where the address has a block of the pool.
 abbrev pub used_at : Contents → ℕ → ℕ
 used_at contents lba = if contains_key contents lba then 1 else 0

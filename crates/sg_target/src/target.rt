@@ -52,7 +52,8 @@ impl<S: Store> Model for Target<S> {
         × (len (S.disk t.store).contents ≤ (S.disk t.store).pool)
         × ArePending t.attentions
         × IsConsistent t.reservations
-        × ((S.disk t.store).pool ≤ MAX_POOL) };
+        × ((S.disk t.store).pool ≤ MAX_POOL)
+        × (t.config.pool ≡ (S.disk t.store).pool) };
 }
 
 ghost use Rattle.std.specs.Prelude.{◌≡◌, ◌≤◌, length, IfOk};
