@@ -27,7 +27,7 @@ use Rattle.sg_target.specs.Effect.{Effect, no_effect, returning_up_to, without_a
 use Rattle.sg_target.specs.ModeCommands.{attentions_after, changing_modes, mode_parameters}
 use Rattle.sg_target.specs.ModeCommands.{selected_modes}
 use Rattle.sg_target.specs.PrimaryCommands.{returning_page, returning_sense}
-use Rattle.sg_target.specs.ProvisioningCommands.{filling, reporting_status, unmapping}
+use Rattle.sg_target.specs.ProvisioningCommands.{anchoring, filling, reporting_status, unmapping}
 use Rattle.sg_target.specs.Refusal.{pending_sense, when_sound}
 use Rattle.sg_target.specs.ReservationCommands.{reporting}
 use Rattle.sg_target.specs.State.{State}
@@ -38,6 +38,7 @@ use Rattle.sg_target.specs.declared.operation.Operation.TheVariants.{ReturnInqui
 use Rattle.sg_target.specs.declared.operation.Operation.TheVariants.{ChangeModes, ReturnCapacity10}
 use Rattle.sg_target.specs.declared.operation.Operation.TheVariants.{ReturnCapacity16, Read, Write}
 use Rattle.sg_target.specs.declared.operation.Operation.TheVariants.{Synchronize, Fill, Unmap}
+use Rattle.sg_target.specs.declared.operation.Operation.TheVariants.{Anchor, AnchorExtent}
 use Rattle.sg_target.specs.declared.operation.Operation.TheVariants.{UnmapExtent, ReturnLbaStatus}
 use Rattle.sg_target.specs.declared.operation.Operation.TheVariants.{ReturnReservations}
 use Rattle.sg_target.specs.declared.operation.Operation.TheVariants.{ChangeReservations}
@@ -229,6 +230,12 @@ module _ (s : State) (a : Pending) (r : ReservationState) (i : ℕ)
   operation-alike (UnmapExtent extent) c =
       written-alike (unmapping s (extent ∷ [])) (unmapping t (extent ∷ []))
       (unmapping s (extent ∷ [])).after refl refl refl refl refl
+  operation-alike (Anchor extents) c =
+      written-alike (anchoring s extents) (anchoring t extents) (anchoring s extents).after
+      refl refl refl refl refl
+  operation-alike (AnchorExtent extent) c =
+      written-alike (anchoring s (extent ∷ [])) (anchoring t (extent ∷ []))
+      (anchoring s (extent ∷ [])).after refl refl refl refl refl
   operation-alike (ReturnLbaStatus start n) c =
       read-alike (reporting_status s start n) (reporting_status t start n) refl refl refl
   operation-alike (ReturnReservations action n) c =

@@ -12,14 +12,14 @@ use Rattle.sg_wire.specs.declared.command.Command.TheVariants as command
 use Rattle.sg_wire.specs.declared.command.CdbFault.{CdbFault}
 use Rattle.sg_wire.specs.declared.command.out_action.OutAction.{OutAction}
 use Rattle.sg_wire.specs.declared.extent.Extent.{Extent}
-use Rattle.sg_target.specs.Demands.{demands}
+use Rattle.sg_target.specs.Demands.{demands, unmap_extent, unmap_extents}
 use Rattle.sg_target.specs.PrimaryCommands.{inquiry_page}
 use Rattle.sg_target.specs.ProvisioningCommands.{block_out, listed_extents, unmaps}
 use Rattle.sg_target.specs.Refusal.{if_supported, when_sound}
 use Rattle.sg_target.specs.ReservationCommands.{fields_out}
 use Rattle.sg_target.specs.declared.operation.Operation.{Operation}
 use Rattle.sg_target.specs.declared.operation.Operation.TheVariants.{ChangeModes, Read, Write, Fill}
-use Rattle.sg_target.specs.declared.operation.Operation.TheVariants.{Unmap, UnmapExtent}
+use Rattle.sg_target.specs.declared.operation.Operation.TheVariants.{Unmap, UnmapExtent, Anchor, AnchorExtent}
 use Rattle.sg_target.specs.declared.operation.Operation.TheVariants.{ReturnInquiry, ReturnLbaStatus}
 use Rattle.sg_target.specs.declared.operation.Operation.TheVariants.{ReturnReservations}
 use Rattle.sg_target.specs.declared.operation.Operation.TheVariants.{ChangeReservations}
@@ -34,6 +34,8 @@ class_for (Write out) = Some Writes
 class_for (Fill extent block) = Some Writes
 class_for (Unmap extents) = Some Writes
 class_for (UnmapExtent extent) = Some Writes
+class_for (Anchor extents) = Some Writes
+class_for (AnchorExtent extent) = Some Writes
 class_for (ChangeModes ten sp list) = Some Writes
 class_for _ = None
 
@@ -69,11 +71,21 @@ sound-suits command (Err refusal) becomes h = tt
 
 same-suits : (command : Command) → (layout command).class ≡ Writes
     → shows_others (Ok command) ≡ false
-    → (is_unmapped : Bool) (extent : Extent) (block : List ℕ)
-    → Suits command (if is_unmapped then UnmapExtent extent else Fill extent block)
-same-suits command w s true extent block =
+    → (anchor is_unmapped : Bool) (extent : Extent) (block : List ℕ)
+    → Suits command (if is_unmapped then unmap_extent anchor extent else Fill extent block)
+same-suits command w s true true extent block =
     record { class = λ class h. cc; of_kind = λ kind k. refl; shown = s }
-same-suits command w s false extent block =
+same-suits command w s false true extent block =
+    record { class = λ class h. cc; of_kind = λ kind k. refl; shown = s }
+same-suits command w s anchor false extent block =
+    record { class = λ class h. cc; of_kind = λ kind k. refl; shown = s }
+
+unmap-suits : (command : Command) → (layout command).class ≡ Writes
+    → shows_others (Ok command) ≡ false
+    → (anchor : Bool) (extents : List Extent) → Suits command (unmap_extents anchor extents)
+unmap-suits command w s true extents =
+    record { class = λ class h. cc; of_kind = λ kind k. refl; shown = s }
+unmap-suits command w s false extents =
     record { class = λ class h. cc; of_kind = λ kind k. refl; shown = s }
 
 pub suits : (blocks : ℕ) (command : Command) (data_out : List ℕ)
@@ -115,14 +127,14 @@ suits blocks (command.Inquiry c) data_out =
     (λ page. ReturnInquiry page c.allocation_length)
     (λ page. record { class = λ class h. cc; of_kind = λ kind k. refl; shown = refl })
 suits blocks (command.WriteSame10 c) data_out =
-    same-suits (command.WriteSame10 c) refl refl
+    same-suits (command.WriteSame10 c) refl refl c.anchor
     (unmaps c.unmap (block_out data_out)) _ (block_out data_out)
 suits blocks (command.WriteSame16 c) data_out =
-    same-suits (command.WriteSame16 c) refl refl
+    same-suits (command.WriteSame16 c) refl refl c.anchor
     (unmaps c.unmap (block_out data_out)) _ (block_out data_out)
 suits blocks (command.Unmap c) data_out =
-    sound-suits (command.Unmap c) (listed_extents (first_bytes c.list_length data_out)) Unmap
-    (λ extents. record { class = λ class h. cc; of_kind = λ kind k. refl; shown = refl })
+    sound-suits (command.Unmap c) (listed_extents (first_bytes c.list_length data_out))
+    (unmap_extents c.anchor) (unmap-suits (command.Unmap c) refl refl c.anchor)
 suits blocks (command.PersistentReserveIn c) data_out =
     record { class = λ class h. cc; of_kind = λ kind k. refl; shown = refl }
 suits blocks (command.PersistentReserveOut c) data_out =

@@ -25,6 +25,7 @@ use Rattle.sg_target.specs.Step.{Step, outcome as step_outcome, refused, step, u
 use Rattle.sg_target.specs.declared.operation.Operation.{Operation}
 use Rattle.sg_target.specs.declared.operation.Operation.TheVariants.{ReturnSense, ReturnModes}
 use Rattle.sg_target.specs.declared.operation.Operation.TheVariants.{ChangeModes, Write, Fill, Unmap}
+use Rattle.sg_target.specs.declared.operation.Operation.TheVariants.{Anchor, AnchorExtent}
 use Rattle.sg_target.specs.declared.operation.Operation.TheVariants.{UnmapExtent, ChangeReservations}
 use Rattle.sg_target.specs.declared.refusal.Reason.TheVariants.{UnitAttention as Attention}
 use Rattle.sg_target.specs.declared.refusal.Refusal.{Refusal}
@@ -119,6 +120,8 @@ module _ (Where : State → Type 0) (state : State) (i j : ℕ) (other : j ≡ i
     operation-keeps (Fill extent block) c = absurd (c refl)
     operation-keeps (Unmap extents) c = absurd (c refl)
     operation-keeps (UnmapExtent extent) c = absurd (c refl)
+    operation-keeps (Anchor extents) c = absurd (c refl)
+    operation-keeps (AnchorExtent extent) c = absurd (c refl)
     operation-keeps (ChangeReservations action scope_type list) c =
         reserving-keeps action scope_type list
     operation-keeps _ c = λ _. same state i

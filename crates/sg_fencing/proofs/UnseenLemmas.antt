@@ -25,6 +25,7 @@ use Rattle.sg_target.specs.declared.operation.Operation.TheVariants.{ChangeModes
 use Rattle.sg_target.specs.declared.operation.Operation.TheVariants.{ReturnCapacity16, Read, Write}
 use Rattle.sg_target.specs.declared.operation.Operation.TheVariants.{Synchronize, Fill, Unmap}
 use Rattle.sg_target.specs.declared.operation.Operation.TheVariants.{UnmapExtent, ReturnLbaStatus}
+use Rattle.sg_target.specs.declared.operation.Operation.TheVariants.{Anchor, AnchorExtent}
 use Rattle.sg_target.specs.declared.operation.Operation.TheVariants.{ReturnReservations}
 use Rattle.sg_target.specs.declared.operation.Operation.TheVariants.{ChangeReservations}
 use Rattle.sg_target.specs.declared.refusal.Reason.TheVariants.{SpaceAllocationFailed}
@@ -93,6 +94,8 @@ module _ (s : State) (x : Contents) (j : ℕ) (fit : len s.disk.contents ≤ s.d
   operation-alike (Fill extent block) r w = absurd (w refl)
   operation-alike (Unmap extents) r w = absurd (w refl)
   operation-alike (UnmapExtent extent) r w = absurd (w refl)
+  operation-alike (Anchor extents) r w = absurd (w refl)
+  operation-alike (AnchorExtent extent) r w = absurd (w refl)
   operation-alike (ChangeModes ten sp list) r w = absurd (w refl)
   operation-alike (ReturnModes request n) r w =
       sound-alike (mode_parameters s.modes request) (returning_up_to s n) (returning_up_to t n)

@@ -99,11 +99,11 @@ block_limits =
 abbrev threshold_exponent : Field
 threshold_exponent = field 1 0
 
--- LBPU, LBPWS, LBPWS10 and LBPRZ 1, byte 5: UNMAP and WRITE SAME (16) and (10) unmap blocks, and
--- unmapped blocks read as zeros. ANC_SUP 0, DP 0: no block is anchored, and no group descriptor
+-- LBPU, LBPWS, LBPWS10, LBPRZ and ANC_SUP 1, byte 5: UNMAP and WRITE SAME (16) and (10) unmap
+-- blocks, unmapped blocks read as zeros, and blocks can be anchored. DP 0: no group descriptor
 -- follows.
 abbrev provisioning_bits : Field
-provisioning_bits = field 1 0xE4
+provisioning_bits = field 1 0xE6
 
 -- PROVISIONING TYPE 2, byte 6: thin provisioned.
 abbrev provisioning_type : Field

@@ -14,9 +14,9 @@ pub const MAXIMUM_WRITE_SAME_LENGTH: u32 = 65_536;
 // A WRITE SAME of no block is refused.
 const WSNZ: u8 = 0x01;
 
-// UNMAP and WRITE SAME (16) and (10) unmap blocks (LBPU, LBPWS and LBPWS10), and unmapped blocks
-// read as zeros (LBPRZ).
-const PROVISIONING_BITS: u8 = 0x80 | 0x40 | 0x20 | 0x04;
+// UNMAP and WRITE SAME (16) and (10) unmap blocks (LBPU, LBPWS and LBPWS10), unmapped blocks read as
+// zeros (LBPRZ), and blocks can be anchored (ANC_SUP).
+const PROVISIONING_BITS: u8 = 0x80 | 0x40 | 0x20 | 0x04 | 0x02;
 
 // PROVISIONING TYPE.
 const THIN_PROVISIONED: u8 = 0x02;

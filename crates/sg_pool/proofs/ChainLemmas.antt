@@ -1,9 +1,7 @@
 -- Chains of slots.
-use Rattle.std.proofs.Common.{◌≡◌, ◌≢◌, ℕ, ◌+◌, ◌-◌, ◌<◌, ◌≤◌, zero, suc, List, ◌∷◌, length, set}
-use Rattle.std.proofs.Common.{arith, refl, sym, ap, ◌∙◌, add-one, get_or-set_other, get_or-set_same}
+use Rattle.std.proofs.Common.{◌≡◌, ◌≢◌, ℕ, ◌+◌, ◌-◌, ◌<◌, zero, suc, List, ◌∷◌, length, set}
+use Rattle.std.proofs.Common.{arith, refl, sym, ap, add-one, get_or-set_other, get_or-set_same}
 use Rattle.std.specs.Prelude.{slice_index}
-use Rattle.std.specs.List.{range_with_len}
-use Rattle.std.proofs.lemmas.List.FromFn.{get_or-range_with_len}
 use Rattle.sg_pool.specs.Chains.{chain, AreBelow}
 use Rattle.sg_table.specs.Occurrences.{occurrences}
 use Rattle.sg_table.proofs.OccurrenceLemmas.{not_equal}

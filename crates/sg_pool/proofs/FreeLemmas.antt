@@ -1,11 +1,11 @@
 -- The free slots of a pool: a chain, and all from one slot on.
-use Rattle.std.proofs.Common.{◌≡◌, ℕ, ◌+◌, ◌-◌, ◌<◌, ◌≤◌, zero, suc, List, [], ◌∷◌, ◌++◌}
-use Rattle.std.proofs.Common.{length, length-append, length-set, set, arith, refl, sym, ap, ◌∙◌}
+use Rattle.std.proofs.Common.{◌≡◌, ℕ, ◌+◌, ◌-◌, ◌<◌, ◌≤◌, zero, suc, List, ◌∷◌, ◌++◌}
+use Rattle.std.proofs.Common.{length, length-append, length-set, set, arith, sym, ap, ◌∙◌}
 use Rattle.std.proofs.lemmas.List.{append_assoc}
 use Rattle.std.proofs.lemmas.List.FromFn.{length-range_with_len}
 use Rattle.std.specs.Prelude.{slice_index}
 use Rattle.std.specs.List.{range_with_len}
-use Rattle.sg_pool.specs.Chains.{chain, slot_after, AreBelow, IsChain}
+use Rattle.sg_pool.specs.Chains.{chain, AreBelow, IsChain}
 use Rattle.sg_pool.specs.Slots.{free_slots}
 use Rattle.sg_pool.proofs.ChainLemmas.{length-chain, chain-first, chain-set, chain-given}
 use Rattle.sg_pool.proofs.LinkLemmas.{below-append, chain-joined, slot_after-in}

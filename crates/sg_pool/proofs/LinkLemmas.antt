@@ -1,6 +1,6 @@
 -- Links between slots: chains that are cut, joined, or left alone.
 use Rattle.std.proofs.Common.{◌≡◌, ◌≢◌, ℕ, ◌+◌, ◌-◌, ◌<◌, ◌≤◌, zero, suc, List, [], ◌∷◌, ◌++◌}
-use Rattle.std.proofs.Common.{length, length-set, get_or, set, arith, refl, sym, ap, ap₂, ◌∙◌}
+use Rattle.std.proofs.Common.{length, get_or, set, arith, refl, sym, ap, ap₂, ◌∙◌}
 use Rattle.std.proofs.Common.{zero-add, cond, Bool, true, false, inl, inr}
 use Rattle.std.proofs.lemmas.Bool.{cases_lt}
 use Rattle.std.proofs.lemmas.Bool.Decides.{nat_tests}

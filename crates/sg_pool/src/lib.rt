@@ -1,9 +1,11 @@
 //! Slots of one block each, in chains, and the blocks that go into them.
 #![tactic(auto)]
 
+mod kind;
 pub mod laws;
 mod pool;
 mod source;
 
+pub use kind::status_of;
 pub use pool::Pool;
 pub use source::Source;

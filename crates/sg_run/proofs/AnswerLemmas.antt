@@ -12,7 +12,7 @@ use Rattle.byteorder.specs.Numbers.{big_from-take, big_number-reads_back}
 use Rattle.sg_wire.specs.CutAnswer.{first_bytes}
 use Rattle.sg_store.specs.LbaStatus.{code_of, descriptor_bytes, status_data}
 use Rattle.sg_store.specs.declared.lba_status.ProvisioningStatus.{ProvisioningStatus}
-use Rattle.sg_store.specs.declared.lba_status.ProvisioningStatus.TheVariants.{Mapped, Deallocated}
+use Rattle.sg_store.specs.declared.lba_status.ProvisioningStatus.TheVariants.{Mapped, Deallocated, Anchored}
 use Rattle.sg_store.specs.declared.lba_status.StatusDescriptor.{StatusDescriptor}
 use Rattle.sg_decode.specs.LbaStatus.{descriptor, descriptor_of, reported_end, whole_count}
 use Rattle.sg_decode.specs.LbaStatus.{whole_descriptors}
@@ -57,6 +57,7 @@ from-descriptor ds k within =
 code-small : (status : ProvisioningStatus) → code_of status < 16
 code-small Mapped = omega arith
 code-small Deallocated = omega arith
+code-small Anchored = omega arith
 
 low-bits : (x : ℕ) → x < 16 → bits x 3 0 ≡ x
 low-bits x small = omega arith

@@ -1,18 +1,22 @@
 -- Addresses in a row that have one provisioning status, and the descriptors of them.
-use Rattle.std.proofs.Common.{◌≡◌, ℕ, ◌+◌, ◌-◌, ◌<◌, ◌≤◌, zero, suc, List, [], ◌∷◌, ◌++◌}
-use Rattle.std.proofs.Common.{arith, refl, sym, ap, ap₂, ◌∙◌}
+use Rattle.std.proofs.Common.{◌≡◌, ◌≢◌, ℕ, ◌+◌, ◌-◌, ◌<◌, ◌≤◌, zero, suc, List, [], ◌∷◌, ◌++◌}
+use Rattle.std.proofs.Common.{arith, refl, sym, ap, ap₂, ◌∙◌, eq-eqb}
 use Rattle.std.proofs.Common.{cond, Bool, true, false}
 use Rattle.std.proofs.lemmas.Bool.Decides.{nat_tests}
 use Rattle.std.proofs.lemmas.List.Sums.{sum_by-append}
 use Rattle.std.specs.List.{prefix_len, range_with_len}
-use Rattle.std.specs.Prelude.{not, min, nat_lt, ◌==◌}
-use Rattle.std.specs.FinMap.{contains_key}
+use Rattle.std.specs.Prelude.{min, nat_lt, ◌==◌}
 use Rattle.sg_store.specs.Disk.{Contents}
 use Rattle.sg_store.specs.LbaStatus.{code_of, count_alike, covered, descriptor_at, descriptors_from}
+use Rattle.sg_store.specs.LbaStatus.{status_at}
 use Rattle.sg_store.specs.declared.lba_status.ProvisioningStatus.{ProvisioningStatus}
-use Rattle.sg_store.specs.declared.lba_status.ProvisioningStatus.TheVariants.{Mapped, Deallocated}
+use Rattle.sg_store.specs.declared.lba_status.ProvisioningStatus.TheVariants.{Mapped, Deallocated, Anchored}
 use Rattle.sg_store.specs.declared.lba_status.StatusDescriptor.{StatusDescriptor}
 use Rattle.sg_store.specs.declared.lba_status.TheConstants.{MAX_ADDRESSES}
+
+not_true : (b : Bool) → b ≢ true → b ≡ false
+not_true true wrong = absurd (wrong refl)
+not_true false wrong = refl
 
 -- the numbers of a range that pass a test, before the first that does not
 prefix-is : (p : ℕ → Bool) (a n k : ℕ) → k ≤ n → ((i : ℕ) → i < k → p (a + i) ≡ true)
@@ -30,36 +34,36 @@ prefix-is p a (suc n) (suc k) le all stop =
     ap (λ b. cond b (1 + prefix_len p (range_with_len (a + 1) n)) 0)
     (rw here at (all 0 (omega arith))) ∙ omega (arith, rest)
 
--- the status of an address that is mapped or not
-abbrev pub status_of : Bool → ProvisioningStatus
-status_of b = cond b Mapped Deallocated
+-- statuses of one code are the same
+pub same_status : (s t : ProvisioningStatus) → (code_of s == code_of t) ≡ true → s ≡ t
+same_status Mapped Mapped e = refl
+same_status Mapped Deallocated e = let wrong = e in cc
+same_status Mapped Anchored e = let wrong = e in cc
+same_status Deallocated Mapped e = let wrong = e in cc
+same_status Deallocated Deallocated e = refl
+same_status Deallocated Anchored e = let wrong = e in cc
+same_status Anchored Mapped e = let wrong = e in cc
+same_status Anchored Deallocated e = let wrong = e in cc
+same_status Anchored Anchored e = refl
 
-same_code : (b c : Bool) → b ≡ c → (code_of (status_of b) == code_of (status_of c)) ≡ true
-same_code true true e = refl
-same_code true false e = let wrong = e in cc
-same_code false true e = let wrong = e in cc
-same_code false false e = refl
+other_code : (s t : ProvisioningStatus) → s ≢ t → (code_of s == code_of t) ≡ false
+other_code s t other = not_true (code_of s == code_of t) (λ e. other (same_status s t e))
 
-other_code : (b c : Bool) → b ≡ not c → (code_of (status_of b) == code_of (status_of c)) ≡ false
-other_code true true e = let wrong = e in cc
-other_code true false e = refl
-other_code false true e = refl
-other_code false false e = let wrong = e in cc
-
--- a descriptor, by what is mapped
-module _ (m : Contents) (capacity a k : ℕ) (b : Bool) (here : contains_key m a ≡ b)
+-- a descriptor, by the status of its addresses
+module _ (m : Contents) (capacity a k : ℕ) (s : ProvisioningStatus) (here : status_at m a ≡ s)
     (within : k ≤ min MAX_ADDRESSES (capacity - a))
-    (all : (i : ℕ) → i < k → contains_key m (a + i) ≡ b)
-    (stop : k < min MAX_ADDRESSES (capacity - a) → contains_key m (a + k) ≡ not b) where
+    (all : (i : ℕ) → i < k → status_at m (a + i) ≡ s)
+    (stop : k < min MAX_ADDRESSES (capacity - a) → status_at m (a + k) ≢ s) where
   alike : count_alike m capacity a ≡ k
   unfolding count_alike
   alike = prefix-is _ a (min MAX_ADDRESSES (capacity - a)) k within
-      (λ i lt. same_code _ _ (all i lt ∙ sym here))
-      (λ lt. other_code _ _ (stop lt ∙ ap not (sym here)))
+      (λ i lt. eq-eqb _ _ (ap code_of (all i lt ∙ sym here)))
+      (λ lt. other_code _ _ (λ e. stop lt (e ∙ here)))
 
-  pub described : ◌≡◌ {A = StatusDescriptor} (record { lba = a; count = k; status = status_of b })
+  pub described : ◌≡◌ {A = StatusDescriptor} (record { lba = a; count = k; status = s })
       (descriptor_at m capacity a)
-  described = ap₂ (λ n (c : Bool). record { lba = a; count = n; status = status_of c }) (sym alike) (sym here)
+  described = ap₂ (λ n (c : ProvisioningStatus). record { lba = a; count = n; status = c })
+      (sym alike) (sym here)
 
 -- the descriptors from an address on
 pub descriptors-first : (m : Contents) (capacity a most : ℕ) → a < capacity

@@ -9,8 +9,8 @@ use Rattle.std.specs.declared.cmp.Ordering.TheVariants.{Less, Equal, Greater}
 use Rattle.std.specs.List.{flat_map, range_with_len, count_by}
 use Rattle.std.proofs.lemmas.List.{flat_map_more}
 use Rattle.std.proofs.lemmas.List.FromFn.{map-range_with_len_more}
-use Rattle.sg_store.specs.Disk.{Contents, block, blocks, mapped_among, replaced, with_blocks, addressed}
-use Rattle.sg_store.specs.Disk.{mapped_at}
+use Rattle.sg_store.specs.Disk.{Contents, Mapping, block, blocks, used_among, used_at}
+use Rattle.sg_store.specs.Disk.{remapped, with_mappings, addressed}
 use Rattle.std.proofs.lemmas.List.Sums.{fold-append}
 use Rattle.std.specs.Cmp.{nat_cmp_is}
 
@@ -30,30 +30,30 @@ unfolding blocks
 blocks-more m a k = ap (flat_map (block m)) (range-more a k)
     ∙ sym (flat_map_more (block m) [] (range_with_len a k) (a + k))
 
-pub mapped_among-none : (m : Contents) (a : ℕ) → mapped_among m a 0 ≡ 0
-unfolding mapped_among
-mapped_among-none m a = refl
+pub used_among-none : (m : Contents) (a : ℕ) → used_among m a 0 ≡ 0
+unfolding used_among
+used_among-none m a = refl
 
-count-more : (p : ℕ → Bool) (xs : List ℕ) (x : ℕ) → count_by p (xs ++ x ∷ []) ≡ count_by p xs + cond (p x) 1 0
+pub count-more : (p : ℕ → Bool) (xs : List ℕ) (x : ℕ) → count_by p (xs ++ x ∷ []) ≡ count_by p xs + cond (p x) 1 0
 count-more p xs x = fold-append (λ n y. n + cond (p y) 1 0) 0 xs (x ∷ [])
 
-pub mapped_among-more : (m : Contents) (a k : ℕ) → mapped_among m a (k + 1) ≡
-    mapped_among m a k + mapped_at m (a + k)
-unfolding mapped_among
-mapped_among-more m a k = ap (count_by (map.contains_key m)) (range-more a k)
+pub used_among-more : (m : Contents) (a k : ℕ) → used_among m a (k + 1) ≡
+    used_among m a k + used_at m (a + k)
+unfolding used_among
+used_among-more m a k = ap (count_by (map.contains_key m)) (range-more a k)
     ∙ count-more (map.contains_key m) (range_with_len a k) (a + k)
 
 one_le : (b : Bool) → cond b 1 0 ≤ 1
 one_le true = omega arith
 one_le false = omega arith
 
-pub mapped_at-le : (m : Contents) (a : ℕ) → mapped_at m a ≤ 1
-mapped_at-le m a = one_le _
+pub used_at-le : (m : Contents) (a : ℕ) → used_at m a ≤ 1
+used_at-le m a = one_le _
 
-pub mapped_among-le : (m : Contents) (a k : ℕ) → mapped_among m a k ≤ k
-mapped_among-le m a zero = omega (arith, mapped_among-none m a)
-mapped_among-le m a (suc k) = let e : suc k ≡ k + 1 = omega arith in
-    rw e (omega (arith, mapped_among-more m a k, mapped_among-le m a k, mapped_at-le m (a + k)))
+pub used_among-le : (m : Contents) (a k : ℕ) → used_among m a k ≤ k
+used_among-le m a zero = omega (arith, used_among-none m a)
+used_among-le m a (suc k) = let e : suc k ≡ k + 1 = omega arith in
+    rw e (omega (arith, used_among-more m a k, used_among-le m a k, used_at-le m (a + k)))
 
 pub eq_same : (q k : ℕ) → q ≡ k → eq_by_cmp nat_cmp q k ≡ true
 eq_same q k e = ap is_eq (sym (nat_cmp_is q k Equal e))
@@ -65,64 +65,64 @@ eq_other q k ne = elim (nat_cmp q k) as (λ r. nat_cmp q k ≡ r → is_eq r ≡
   | Greater ↦ λ _. refl
 ] refl
 
-pub replaced-none : (m : Contents) (a : ℕ) (f : ℕ → List ℕ) → replaced m a 0 f ≡ m
-unfolding replaced
-replaced-none m a f = refl
+pub remapped-none : (m : Contents) (a : ℕ) (f : ℕ → Mapping) → remapped m a 0 f ≡ m
+unfolding remapped
+remapped-none m a f = refl
 
-pub with_blocks-more : (m : Contents) (pairs : List (ℕ × List ℕ)) (p : ℕ × List ℕ)
-    → with_blocks m (pairs ++ p ∷ []) ≡ map.insert (with_blocks m pairs) p.0 p.1
-with_blocks-more m [] p = refl
-with_blocks-more m ((lba, block) ∷ pairs) p = with_blocks-more (map.insert m lba block) pairs p
+pub with_mappings-more : (m : Contents) (pairs : List (ℕ × Mapping)) (p : ℕ × Mapping)
+    → with_mappings m (pairs ++ p ∷ []) ≡ map.insert (with_mappings m pairs) p.0 p.1
+with_mappings-more m [] p = refl
+with_mappings-more m ((lba, mapping) ∷ pairs) p = with_mappings-more (map.insert m lba mapping) pairs p
 
-pub replaced-more : (m : Contents) (a k : ℕ) (f : ℕ → List ℕ) → replaced m a (k + 1) f ≡
-    map.insert (replaced m a k f) (a + k) (f k)
-unfolding replaced
-replaced-more m a k f =
-    ap (with_blocks m) (map-range_with_len_more (λ j. (a + j, f j)) 0 k k (omega arith))
-    ∙ with_blocks-more m (addressed a k f) (a + k, f k)
+pub remapped-more : (m : Contents) (a k : ℕ) (f : ℕ → Mapping) → remapped m a (k + 1) f ≡
+    map.insert (remapped m a k f) (a + k) (f k)
+unfolding remapped
+remapped-more m a k f =
+    ap (with_mappings m) (map-range_with_len_more (λ j. (a + j, f j)) 0 k k (omega arith))
+    ∙ with_mappings-more m (addressed a k f) (a + k, f k)
 
--- an address past the range keeps its block
-pub get-replaced-past : (m : Contents) (a k q : ℕ) (f : ℕ → List ℕ) → a + k ≤ q
-    → map.get (replaced m a k f) q ≡ map.get m q
-get-replaced-past m a zero q f h = ap (λ d. map.get d q) (replaced-none m a f)
-get-replaced-past m a (suc k) q f h = let e : suc k ≡ k + 1 = omega arith in
-    rw (e, replaced-more m a k f) (
-    map.get-insert nat_cmp_total (replaced m a k f) (a + k) (f k) q
-    ∙ ap (λ (b : Bool). cond b (Some (f k)) (map.get (replaced m a k f) q))
+-- an address past the range keeps its mapping
+pub get-remapped-past : (m : Contents) (a k q : ℕ) (f : ℕ → Mapping) → a + k ≤ q
+    → map.get (remapped m a k f) q ≡ map.get m q
+get-remapped-past m a zero q f h = ap (λ d. map.get d q) (remapped-none m a f)
+get-remapped-past m a (suc k) q f h = let e : suc k ≡ k + 1 = omega arith in
+    rw (e, remapped-more m a k f) (
+    map.get-insert nat_cmp_total (remapped m a k f) (a + k) (f k) q
+    ∙ ap (λ (b : Bool). cond b (Some (f k)) (map.get (remapped m a k f) q))
     (eq_other q (a + k) (λ e. absurd (omega arith)))
-    ∙ get-replaced-past m a k q f (omega arith))
+    ∙ get-remapped-past m a k q f (omega arith))
 
 count_step : (b : Bool) (w n k mm : ℕ) → w + mm ≡ n + k → cond b w (w + 1) + (mm + cond b 1 0) ≡ n + (k + 1)
 count_step true w n k mm h = omega arith
 count_step false w n k mm h = omega arith
 
--- the pairs after a write: those before, and one for each address that was not mapped
-pub len-replaced : (m : Contents) (a k : ℕ) (f : ℕ → List ℕ)
-    → map.len (replaced m a k f) + mapped_among m a k ≡ map.len m + k
-len-replaced m a zero f = rw (replaced-none m a f, mapped_among-none m a) refl
-len-replaced m a (suc k) f =
+-- the pairs after it: those before, and one for each address that had none
+pub len-remapped : (m : Contents) (a k : ℕ) (f : ℕ → Mapping)
+    → map.len (remapped m a k f) + used_among m a k ≡ map.len m + k
+len-remapped m a zero f = rw (remapped-none m a f, used_among-none m a) refl
+len-remapped m a (suc k) f =
     let e : suc k ≡ k + 1 = omega arith in
-    let w = replaced m a k f in
+    let w = remapped m a k f in
     let same : map.contains_key w (a + k) ≡ map.contains_key m (a + k) =
-    ap is_some (get-replaced-past m a k (a + k) f (omega arith)) in
-    rw (e, replaced-more m a k f, mapped_among-more m a k) (
-    ap (λ n. n + (mapped_among m a k + mapped_at m (a + k)))
+    ap is_some (get-remapped-past m a k (a + k) f (omega arith)) in
+    rw (e, remapped-more m a k f, used_among-more m a k) (
+    ap (λ n. n + (used_among m a k + used_at m (a + k)))
     (map.len-insert nat_cmp_total w (a + k) (f k)
     ∙ ap (λ (b : Bool). cond b (map.len w) (map.len w + 1)) same)
-    ∙ count_step (map.contains_key m (a + k)) (map.len w) (map.len m) k (mapped_among m a k)
-    (len-replaced m a k f))
+    ∙ count_step (map.contains_key m (a + k)) (map.len w) (map.len m) k (used_among m a k)
+    (len-remapped m a k f))
 
 -- a part of a range has at most as many addresses without a pair as the range
-pub mapped_among-rest : (m : Contents) (a j d : ℕ) → mapped_among m a (j + d) ≤ mapped_among m a j + d
-mapped_among-rest m a j zero = let e : j + 0 ≡ j = omega arith in rw e (omega arith)
-mapped_among-rest m a j (suc d) =
+pub used_among-rest : (m : Contents) (a j d : ℕ) → used_among m a (j + d) ≤ used_among m a j + d
+used_among-rest m a j zero = let e : j + 0 ≡ j = omega arith in rw e (omega arith)
+used_among-rest m a j (suc d) =
     let e : j + suc d ≡ j + d + 1 = omega arith in
-    let more = mapped_among-more m a (j + d) in
-    let one = mapped_at-le m (a + (j + d)) in
-    let rest = mapped_among-rest m a j d in
+    let more = used_among-more m a (j + d) in
+    let one = used_at-le m (a + (j + d)) in
+    let rest = used_among-rest m a j d in
     rw e (omega arith)
 
--- an address past the part that is replaced is mapped if it was
-pub mapped_at-past : (m : Contents) (a j : ℕ) (f : ℕ → List ℕ)
-    → mapped_at (replaced m a j f) (a + j) ≡ mapped_at m (a + j)
-mapped_at-past m a j f = ap (λ o. cond (is_some o) 1 0) (get-replaced-past m a j (a + j) f (omega arith))
+-- an address past the part that is remapped has a pair if it had
+pub used_at-past : (m : Contents) (a j : ℕ) (f : ℕ → Mapping)
+    → used_at (remapped m a j f) (a + j) ≡ used_at m (a + j)
+used_at-past m a j f = ap (λ o. cond (is_some o) 1 0) (get-remapped-past m a j (a + j) f (omega arith))

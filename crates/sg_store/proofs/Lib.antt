@@ -4,6 +4,7 @@ pub mod WellFormedLemmas
 pub mod DescriptorLemmas
 pub mod StatusLemmas
 pub mod UnmapLemmas
--- For the laws.
 pub mod WriteLemmas
+pub mod NeedLemmas
+-- For the laws.
 pub mod ReportLemmas

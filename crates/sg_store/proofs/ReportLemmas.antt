@@ -10,7 +10,6 @@ use Rattle.std.proofs.lemmas.List.Sums.{prefix_len-le-length}
 use Rattle.std.proofs.lemmas.List.Elements.{All-nil, All-cons}
 use Rattle.std.specs.List.{prefix_len, range_with_len}
 use Rattle.std.specs.Prelude.{All, min, ◌==◌}
-use Rattle.std.specs.FinMap.{contains_key}
 use Rattle.sg_store.specs.Disk.{Contents, Disk, lies_in}
 use Rattle.sg_store.specs.Laws.{status_reported, ReportsEachStatus, CoversTheRest}
 use Rattle.sg_store.specs.Laws.{EndsAtAnotherStatus, CoversTheMost}
@@ -18,15 +17,7 @@ use Rattle.sg_store.specs.LbaStatus.{code_of, status_at, count_alike, covered, d
 use Rattle.sg_store.specs.LbaStatus.{descriptors_from}
 use Rattle.sg_store.specs.declared.lba_status.StatusDescriptor.{StatusDescriptor}
 use Rattle.sg_store.specs.declared.lba_status.TheConstants.{MAX_ADDRESSES}
-use Rattle.sg_store.proofs.DescriptorLemmas.{status_of, descriptors-first, descriptors-none, descriptors-end}
-
--- statuses of one code are the same
-same_status : (b c : Bool) → (code_of (status_of b) == code_of (status_of c)) ≡ true → status_of b ≡
-    status_of c
-same_status true true e = refl
-same_status true false e = let wrong = e in cc
-same_status false true e = let wrong = e in cc
-same_status false false e = refl
+use Rattle.sg_store.proofs.DescriptorLemmas.{same_status, descriptors-first, descriptors-none, descriptors-end}
 
 -- the addresses that a descriptor covers
 alike-within : (m : Contents) (capacity a : ℕ) → count_alike m capacity a ≤ min MAX_ADDRESSES (capacity - a)
@@ -48,7 +39,7 @@ alike-status m capacity a i lt =
     let passes = prefix_len_passes (λ x. code_of (status_at m x) == code_of (status_at m a))
     (range_with_len a n) i 0 lt in
     let at : get_or (range_with_len a n) i 0 ≡ a + i = get_or-range_with_len a n i 0 (omega arith) in
-    same_status (contains_key m (a + i)) (contains_key m a) (rw at at passes)
+    same_status (status_at m (a + i)) (status_at m a) (rw at at passes)
 
 covered-first : (d : StatusDescriptor) (ds : List StatusDescriptor) → covered (d ∷ ds) ≡ d.count + covered ds
 covered-first d ds = sum_by-append (λ (x : StatusDescriptor). x.count) (d ∷ []) ds ∙ omega arith

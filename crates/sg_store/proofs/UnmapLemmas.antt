@@ -1,11 +1,13 @@
 -- A range that is unmapped.
-use Rattle.std.proofs.Common.{◌≡◌, ℕ, List}
+use Rattle.std.proofs.Common.{◌≡◌, ℕ}
 use Rattle.std.proofs.Common.{refl, sym, ap, ◌∙◌, cond, Bool}
-use Rattle.std.proofs.Common.{true, false, Option, Some, None, is_some}
-use Rattle.std.specs.Prelude.{not, unwrap_or, ◌&&◌}
+use Rattle.std.proofs.Common.{true, false, Option, Some, None}
+use Rattle.std.specs.Prelude.{not}
 use Rattle.std.specs.FinMap as map
 use Rattle.std.specs.FinMap.{get-retain_keys, nat_cmp-IsAntisymmetric}
-use Rattle.sg_store.specs.Disk.{Contents, IsWellFormed, zero_block, lies_in, unmapped}
+use Rattle.sg_store.specs.Disk.{Contents, IsWellFormed, Mapping, data_in, zero_block, lies_in, unmapped}
+use Rattle.sg_store.specs.LbaStatus.{status_in}
+use Rattle.sg_store.specs.declared.lba_status.ProvisioningStatus.TheVariants.{Deallocated}
 use Rattle.sg_store.specs.Laws.{UnmapsEachBlock, UnmapsEachAddress}
 
 -- what is found at an address afterwards
@@ -15,29 +17,29 @@ unfolding unmapped
 get-unmapped m a k q = get-retain_keys m (λ x. not (lies_in a k x)) q
     (λ x e. ap (λ y. not (lies_in a k y)) (sym (nat_cmp-IsAntisymmetric q x e)))
 
-block-kept : (b : Bool) (o : Option (List ℕ)) → unwrap_or (cond (not b) o None) zero_block ≡
-    cond b zero_block (unwrap_or o zero_block)
+block-kept : (b : Bool) (o : Option Mapping) → data_in (cond (not b) o None) ≡ cond b zero_block (data_in o)
 block-kept true o = refl
 block-kept false o = refl
 
-is-kept : (b : Bool) (o : Option (List ℕ)) → is_some (cond (not b) o None) ≡ (not b && is_some o)
-is-kept true o = refl
-is-kept false o = refl
+status-kept : (b : Bool) (o : Option Mapping) → status_in (cond (not b) o None)
+    ≡ cond b Deallocated (status_in o)
+status-kept true o = refl
+status-kept false o = refl
 
 pub block-unmapped : UnmapsEachBlock
-block-unmapped m a k q = ap (λ o. unwrap_or o zero_block) (get-unmapped m a k q)
+block-unmapped m a k q = ap data_in (get-unmapped m a k q)
     ∙ block-kept (lies_in a k q) (map.get m q)
 
-pub contains-unmapped : UnmapsEachAddress
-contains-unmapped m a k q = ap is_some (get-unmapped m a k q) ∙ is-kept (lies_in a k q) (map.get m q)
+pub status-unmapped : UnmapsEachAddress
+status-unmapped m a k q = ap status_in (get-unmapped m a k q) ∙ status-kept (lies_in a k q) (map.get m q)
 
-was_there : (b : Bool) (o : Option (List ℕ)) (block : List ℕ) → cond b o None ≡ Some block → o ≡ Some block
-was_there true o block e = e
-was_there false o block e = let wrong = e in cc
+was_there : (b : Bool) (o : Option Mapping) (x : Mapping) → cond b o None ≡ Some x → o ≡ Some x
+was_there true o x e = e
+was_there false o x e = let wrong = e in cc
 
 pub well_formed-unmapped : (capacity : ℕ) (m : Contents) (a k : ℕ) → IsWellFormed capacity m
     → IsWellFormed capacity (unmapped m a k)
 well_formed-unmapped capacity m a k whole = record {
-  each = λ q block e. whole.each q block
-      (was_there (not (lies_in a k q)) (map.get m q) block (sym (get-unmapped m a k q) ∙ e));
+  each = λ q x e. whole.each q x
+      (was_there (not (lies_in a k q)) (map.get m q) x (sym (get-unmapped m a k q) ∙ e));
 }

@@ -1,37 +1,55 @@
--- The disk: blocks of 512 bytes, of which those that were written are mapped (SBC-3, 4.7, logical
--- block provisioning).
-use Rattle.std.specs.Prelude.{◌≡◌, ℕ, ◌+◌, ◌*◌, ◌<◌, Bool, ◌&&◌, not, nat_le, nat_lt, if◌then◌else◌}
-use Rattle.std.specs.Prelude.{List, [], ◌∷◌, Some, length, take, drop, replicate, unwrap_or, map}
+-- The disk: blocks of 512 bytes, of which those that were written are mapped to blocks of a pool, and
+-- others may be anchored there (SBC-3, 4.7, logical block provisioning).
+use Rattle.std.specs.Prelude.{◌≡◌, ℕ, ◌+◌, ◌*◌, ◌<◌, Bool, true, false, ◌&&◌, not, nat_le, nat_lt, if◌then◌else◌}
+use Rattle.std.specs.Prelude.{List, [], ◌∷◌, Option, Some, None, length, take, drop, replicate, map}
 use Rattle.std.specs.List.{flat_map, range_with_len, count_by}
 use Rattle.std.specs.Ordering.{nat_cmp}
-use Rattle.std.specs.FinMap.{FinMap, get, insert, contains_key, retain_keys, empty, len}
+use Rattle.std.specs.FinMap.{FinMap, get, insert, contains_key, retain_keys, empty, entries, len}
 use Rattle.sg_store.specs.declared.store.TheConstants.{BLOCK_LENGTH}
 
--- The mapped addresses, each with its block.
-abbrev pub Contents : Type 0
-Contents = FinMap nat_cmp (List ℕ)
+-- What an address has a block of the pool for: data, or none yet. It is anchored then (SBC-3, 4.7.4):
+-- it reads as zeros, and writing it takes no more of the pool.
+pub data Mapping : Type 0 where
+  Data : (block : List ℕ) → Mapping
+  Anchored : Mapping
 
--- The number of addresses, how many of them can be mapped at once, and those that are.
+-- The addresses that have a block of the pool, each with what it has.
+abbrev pub Contents : Type 0
+Contents = FinMap nat_cmp Mapping
+
+-- The number of addresses, how many of them can have a block of the pool at once, and those that
+-- have.
 pub record Disk : Type 0 where
   pub capacity : ℕ
   pub pool : ℕ
   pub contents : Contents
 
--- No address is mapped.
+-- No address is mapped or anchored.
 abbrev pub empty_disk : (capacity pool : ℕ) → Disk
 empty_disk capacity pool = record { capacity = capacity; pool = pool; contents = empty }
 
--- Each mapped address is one of the disk's, and each block has its length.
+-- Data is a whole block.
+abbrev pub IsWhole : Mapping → Type 0
+IsWhole (Data block) = length block ≡ BLOCK_LENGTH
+IsWhole Anchored = Unit
+
+-- Each address with a block of the pool is one of the disk's, and its data is a whole block.
 pub record IsWellFormed (capacity : ℕ) (contents : Contents) : Type 0 where
-  pub each : (lba : ℕ) (mapped : List ℕ) → get contents lba ≡ Some mapped →
-      (lba < capacity) × (length mapped ≡ BLOCK_LENGTH)
+  pub each : (lba : ℕ) (mapping : Mapping) → get contents lba ≡ Some mapping →
+      (lba < capacity) × IsWhole mapping
 
 unfoldable pub zero_block : List ℕ
 zero_block = replicate BLOCK_LENGTH 0
 
--- The block at an address; one that is not mapped reads as zeros (LBPRZ 1).
+-- The block that is read; where there is no data, it is zeros (LBPRZ 1).
+abbrev pub data_in : Option Mapping → List ℕ
+data_in (Some (Data block)) = block
+data_in (Some Anchored) = zero_block
+data_in None = zero_block
+
+-- The block at an address.
 abbrev pub block : Contents → ℕ → List ℕ
-block contents lba = unwrap_or (get contents lba) zero_block
+block contents lba = data_in (get contents lba)
 
 -- The blocks from an address on, joined.
 unfoldable pub blocks : Contents → (lba count : ℕ) → List ℕ
@@ -41,18 +59,22 @@ blocks contents lba count = flat_map (block contents) (range_with_len lba count)
 abbrev pub block_at : List ℕ → ℕ → List ℕ
 block_at bytes index = take BLOCK_LENGTH (drop (BLOCK_LENGTH * index) bytes)
 
--- The addresses from one on, each with the block for its index.
-abbrev pub addressed : (lba count : ℕ) → (block : ℕ → List ℕ) → List (ℕ × List ℕ)
-addressed lba count block = map (λ index. (lba + index, block index)) (range_with_len 0 count)
+-- The addresses from one on, each with the mapping for its index.
+abbrev pub addressed : (lba count : ℕ) → (mapping : ℕ → Mapping) → List (ℕ × Mapping)
+addressed lba count mapping = map (λ index. (lba + index, mapping index)) (range_with_len 0 count)
 
--- Each address mapped to the block beside it, in turn.
-abbrev pub with_blocks : Contents → List (ℕ × List ℕ) → Contents
-with_blocks contents [] = contents
-with_blocks contents ((lba, block) ∷ more) = with_blocks (insert contents lba block) more
+-- Each address with the mapping beside it, in turn.
+abbrev pub with_mappings : Contents → List (ℕ × Mapping) → Contents
+with_mappings contents [] = contents
+with_mappings contents ((lba, mapping) ∷ more) = with_mappings (insert contents lba mapping) more
+
+-- The addresses from one on remapped, each as its index says.
+unfoldable pub remapped : Contents → (lba count : ℕ) → (mapping : ℕ → Mapping) → Contents
+remapped contents lba count mapping = with_mappings contents (addressed lba count mapping)
 
 -- The blocks from an address on replaced, each by the one for its index.
-unfoldable pub replaced : Contents → (lba count : ℕ) → (block : ℕ → List ℕ) → Contents
-replaced contents lba count block = with_blocks contents (addressed lba count block)
+abbrev pub replaced : Contents → (lba count : ℕ) → (block : ℕ → List ℕ) → Contents
+replaced contents lba count block = remapped contents lba count (λ index. Data (block index))
 
 -- The blocks from an address on replaced by those that are joined,
 abbrev pub written : Contents → (lba count : ℕ) → (bytes : List ℕ) → Contents
@@ -77,7 +99,7 @@ disk_filled disk lba count block = disk_replaced disk lba count (λ index. block
 abbrev pub lies_in : (lba count address : ℕ) → Bool
 lies_in lba count address = nat_le lba address && nat_lt address (lba + count)
 
--- The addresses of a range are mapped no more.
+-- The addresses of a range have no block of the pool any more.
 unfoldable pub unmapped : Contents → (lba count : ℕ) → Contents
 unmapped contents lba count = retain_keys contents (λ address. not (lies_in lba count address))
 
@@ -85,14 +107,35 @@ unmapped contents lba count = retain_keys contents (λ address. not (lies_in lba
 abbrev pub disk_unmapped : Disk → (lba count : ℕ) → Disk
 disk_unmapped disk lba count = record disk { contents = unmapped disk.contents lba count }
 
--- More addresses are mapped than the pool has blocks.
+-- Each address of a range is anchored, and data there is lost.
+abbrev pub anchored : Contents → (lba count : ℕ) → Contents
+anchored contents lba count = remapped contents lba count (λ index. Anchored)
+
+-- The disk with a range anchored.
+abbrev pub disk_anchored : Disk → (lba count : ℕ) → Disk
+disk_anchored disk lba count = record disk { contents = anchored disk.contents lba count }
+
+-- More addresses are mapped or anchored than the pool has blocks.
 abbrev pub IsOverfull : Disk → Type 0
 IsOverfull disk = disk.pool < len disk.contents
 
--- How many of the addresses from one on are mapped.
-unfoldable pub mapped_among : Contents → (lba count : ℕ) → ℕ
-mapped_among contents lba count = count_by (contains_key contents) (range_with_len lba count)
+-- How many of the addresses from one on have a block of the pool.
+unfoldable pub used_among : Contents → (lba count : ℕ) → ℕ
+used_among contents lba count = count_by (contains_key contents) (range_with_len lba count)
 
--- One where the address is mapped.
-abbrev pub mapped_at : Contents → ℕ → ℕ
-mapped_at contents lba = if contains_key contents lba then 1 else 0
+-- How many of them have none.
+unfoldable pub need : Contents → (lba count : ℕ) → ℕ
+need contents lba count =
+    count_by (λ address. not (contains_key contents address)) (range_with_len lba count)
+
+-- Whether there is data, and how many addresses have some.
+abbrev pub has_data : Mapping → Bool
+has_data (Data block) = true
+has_data Anchored = false
+
+unfoldable pub data_count : Contents → ℕ
+data_count contents = count_by (λ (entry : ℕ × Mapping). has_data entry.1) (entries contents)
+
+-- One where the address has a block of the pool.
+abbrev pub used_at : Contents → ℕ → ℕ
+used_at contents lba = if contains_key contents lba then 1 else 0

@@ -1,11 +1,11 @@
 -- What the calls do and report, address by address.
-use Rattle.std.specs.Prelude.{◌≡◌, ◌≢◌, ℕ, ◌+◌, ◌-◌, ◌<◌, ◌≤◌, ◌&&◌, ◌||◌, not, if◌then◌else◌}
+use Rattle.std.specs.Prelude.{◌≡◌, ◌≢◌, ℕ, ◌+◌, ◌-◌, ◌<◌, ◌≤◌, if◌then◌else◌}
 use Rattle.std.specs.Prelude.{Bool, List, All, length, find, Option, Some, option_map}
-use Rattle.std.specs.FinMap.{contains_key}
 use Rattle.sg_store.specs.Disk.{Contents, Disk, block, block_at, zero_block, lies_in}
-use Rattle.sg_store.specs.Disk.{written, filled, unmapped}
+use Rattle.sg_store.specs.Disk.{written, filled, unmapped, anchored}
 use Rattle.sg_store.specs.LbaStatus.{status_at, lba_status, covered}
 use Rattle.sg_store.specs.declared.lba_status.ProvisioningStatus.{ProvisioningStatus}
+use Rattle.sg_store.specs.declared.lba_status.ProvisioningStatus.TheVariants.{Mapped, Deallocated, Anchored}
 use Rattle.sg_store.specs.declared.lba_status.StatusDescriptor.{StatusDescriptor}
 use Rattle.sg_store.specs.declared.lba_status.TheConstants.{MAX_ADDRESSES, MAX_DESCRIPTORS}
 
@@ -16,11 +16,11 @@ WritesEachBlock = (contents : Contents) (lba count : ℕ) (bytes : List ℕ) (ad
     block (written contents lba count bytes) address
     ≡ (if lies_in lba count address then block_at bytes (address - lba) else block contents address)
 
--- After a write, the addresses of the range are mapped, and outside it those that were.
+-- After a write, the addresses of the range are mapped, and the others are as they were.
 abbrev pub MapsEachAddress : Type 0
 MapsEachAddress = (contents : Contents) (lba count : ℕ) (bytes : List ℕ) (address : ℕ) →
-    contains_key (written contents lba count bytes) address
-    ≡ (lies_in lba count address || contains_key contents address)
+    status_at (written contents lba count bytes) address
+    ≡ (if lies_in lba count address then Mapped else status_at contents address)
 
 -- After a fill, the block at an address is the one that was given inside the range, and the old one
 -- outside.
@@ -29,11 +29,11 @@ FillsEachBlock = (contents : Contents) (lba count : ℕ) (given : List ℕ) (add
     block (filled contents lba count given) address
     ≡ (if lies_in lba count address then given else block contents address)
 
--- After a fill, the addresses of the range are mapped, and outside it those that were.
+-- After a fill, the addresses of the range are mapped, and the others are as they were.
 abbrev pub FillMapsEachAddress : Type 0
 FillMapsEachAddress = (contents : Contents) (lba count : ℕ) (given : List ℕ) (address : ℕ) →
-    contains_key (filled contents lba count given) address
-    ≡ (lies_in lba count address || contains_key contents address)
+    status_at (filled contents lba count given) address
+    ≡ (if lies_in lba count address then Mapped else status_at contents address)
 
 -- After an unmap, the block at an address is zeros inside the range, and the old one outside.
 abbrev pub UnmapsEachBlock : Type 0
@@ -41,11 +41,23 @@ UnmapsEachBlock = (contents : Contents) (lba count address : ℕ) →
     block (unmapped contents lba count) address
     ≡ (if lies_in lba count address then zero_block else block contents address)
 
--- After an unmap, no address of the range is mapped, and outside it those that were.
+-- After an unmap, the addresses of the range are deallocated, and the others are as they were.
 abbrev pub UnmapsEachAddress : Type 0
 UnmapsEachAddress = (contents : Contents) (lba count address : ℕ) →
-    contains_key (unmapped contents lba count) address
-    ≡ (not (lies_in lba count address) && contains_key contents address)
+    status_at (unmapped contents lba count) address
+    ≡ (if lies_in lba count address then Deallocated else status_at contents address)
+
+-- After an anchoring, the block at an address is zeros inside the range, and the old one outside.
+abbrev pub AnchorZeroesEachBlock : Type 0
+AnchorZeroesEachBlock = (contents : Contents) (lba count address : ℕ) →
+    block (anchored contents lba count) address
+    ≡ (if lies_in lba count address then zero_block else block contents address)
+
+-- After an anchoring, the addresses of the range are anchored, and the others are as they were.
+abbrev pub AnchorsEachAddress : Type 0
+AnchorsEachAddress = (contents : Contents) (lba count address : ℕ) →
+    status_at (anchored contents lba count) address
+    ≡ (if lies_in lba count address then Anchored else status_at contents address)
 
 -- The status of an address by the first descriptor that covers it, if one does.
 abbrev pub covers : (address : ℕ) → StatusDescriptor → Bool

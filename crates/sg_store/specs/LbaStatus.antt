@@ -1,27 +1,35 @@
 -- The provisioning status of a disk's addresses, as GET LBA STATUS returns it (SBC-3, 5.4).
 use Rattle.std.specs.Prelude.{◌≡◌, ℕ, ◌+◌, ◌-◌, ◌*◌, zero, suc, if◌then◌else◌, ◌==◌}
-use Rattle.std.specs.Prelude.{nat_lt, min}
+use Rattle.std.specs.Prelude.{nat_lt, min, Option, Some, None}
 use Rattle.std.specs.Prelude.{List, [], ◌∷◌, ◌++◌, length, replicate, sum_by}
 use Rattle.std.specs.List.{flat_map, range_with_len, prefix_len}
-use Rattle.std.specs.FinMap.{contains_key}
+use Rattle.std.specs.FinMap.{get}
 use Rattle.byteorder.specs.Endian.{big_bytes}
 use Rattle.sg_wire.specs.Cut.{Puts}
 use Rattle.sg_wire.specs.declared.cut.Cut.{Cut}
-use Rattle.sg_store.specs.Disk.{Contents, Disk}
+use Rattle.sg_store.specs.Disk.{Contents, Disk, Mapping}
+use Rattle.sg_store.specs.Disk.Mapping.{Data, Anchored}
 use Rattle.sg_store.specs.declared.lba_status.ProvisioningStatus.{ProvisioningStatus}
 use Rattle.sg_store.specs.declared.lba_status.ProvisioningStatus.TheVariants.{Mapped, Deallocated}
+use Rattle.sg_store.specs.declared.lba_status.ProvisioningStatus.TheVariants.{Anchored as AnchoredStatus}
 use Rattle.sg_store.specs.declared.lba_status.StatusDescriptor.{StatusDescriptor}
 use Rattle.sg_store.specs.declared.lba_status.TheConstants.{MAX_ADDRESSES, MAX_DESCRIPTORS}
 
 -- ---- Which descriptors an answer has
 
--- The status of an address, and its code.
+-- The status of an address by what it is mapped to, and the code of a status.
+abbrev pub status_in : Option Mapping → ProvisioningStatus
+status_in (Some (Data block)) = Mapped
+status_in (Some Anchored) = AnchoredStatus
+status_in None = Deallocated
+
 abbrev pub status_at : Contents → (lba : ℕ) → ProvisioningStatus
-status_at contents lba = if contains_key contents lba then Mapped else Deallocated
+status_at contents lba = status_in (get contents lba)
 
 abbrev pub code_of : ProvisioningStatus → ℕ
 code_of Mapped = 0
 code_of Deallocated = 1
+code_of AnchoredStatus = 2
 
 -- How many addresses from one on have its status, before one that has another. The count fits its
 -- field, and ends with the disk.

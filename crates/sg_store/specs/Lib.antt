@@ -4,3 +4,5 @@ pub mod Disk
 pub mod Meter
 pub mod LbaStatus
 pub mod Laws
+-- What only the models of private types cite.
+pub mod ContentsCode

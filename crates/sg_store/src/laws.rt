@@ -3,6 +3,7 @@
 ghost use Rattle.sg_store.specs.Laws.{WritesEachBlock, MapsEachAddress};
 ghost use Rattle.sg_store.specs.Laws.{FillsEachBlock, FillMapsEachAddress};
 ghost use Rattle.sg_store.specs.Laws.{UnmapsEachBlock, UnmapsEachAddress};
+ghost use Rattle.sg_store.specs.Laws.{AnchorZeroesEachBlock, AnchorsEachAddress};
 ghost use Rattle.sg_store.specs.Laws.{ReportsEachStatus, CoversTheRest, CoversTheMost};
 
 /// After a write, the block at an address is the one given for it inside the range, and the old one
@@ -11,7 +12,7 @@ pub fn a_write_replaces_the_blocks_of_its_range()
     ensures { WritesEachBlock }
 {}
 
-/// After a write, the addresses of the range are mapped, and outside it those that were.
+/// After a write, the addresses of the range are mapped, and the others are as they were.
 pub fn a_write_maps_the_addresses_of_its_range()
     ensures { MapsEachAddress }
 {}
@@ -22,7 +23,7 @@ pub fn a_fill_puts_one_block_at_each_address_of_its_range()
     ensures { FillsEachBlock }
 {}
 
-/// After a fill, the addresses of the range are mapped, and outside it those that were.
+/// After a fill, the addresses of the range are mapped, and the others are as they were.
 pub fn a_fill_maps_the_addresses_of_its_range()
     ensures { FillMapsEachAddress }
 {}
@@ -33,12 +34,23 @@ pub fn an_unmap_zeroes_the_blocks_of_its_range()
     ensures { UnmapsEachBlock }
 {}
 
-/// After an unmap, no address of the range is mapped, and outside it those that were.
+/// After an unmap, the addresses of the range are deallocated, and the others are as they were.
 pub fn an_unmap_leaves_no_address_of_its_range_mapped()
     ensures { UnmapsEachAddress }
 {}
 
-/// GET LBA STATUS reports, for each address that it covers, whether the address is mapped.
+/// After an anchoring, the block at an address is zeros inside the range, and the old one outside. So
+/// no call can read what was written there before.
+pub fn an_anchoring_zeroes_the_blocks_of_its_range()
+    ensures { AnchorZeroesEachBlock }
+{}
+
+/// After an anchoring, the addresses of the range are anchored, and the others are as they were.
+pub fn an_anchoring_anchors_the_addresses_of_its_range()
+    ensures { AnchorsEachAddress }
+{}
+
+/// GET LBA STATUS reports, for each address that it covers, the provisioning status of the address.
 pub fn each_status_that_is_reported_is_that_of_the_address()
     ensures { ReportsEachStatus }
 {}

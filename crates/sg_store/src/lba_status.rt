@@ -16,7 +16,7 @@ const HEADER_LENGTH: usize = 8;
 
 const DESCRIPTOR_LENGTH: usize = 16;
 
-/// PROVISIONING STATUS: whether addresses are mapped (SBC-3, 5.4.2.2).
+/// PROVISIONING STATUS: whether addresses are mapped or anchored (SBC-3, 5.4.2.2).
 #[derive(Clone, Copy, Default)]
 pub enum ProvisioningStatus {
     /// Mapped to a block of the pool.
@@ -24,6 +24,8 @@ pub enum ProvisioningStatus {
     Mapped = 0,
     /// Not mapped.
     Deallocated = 1,
+    /// Not mapped, with a block of the pool for it.
+    Anchored = 2,
 }
 
 impl ProvisioningStatus {

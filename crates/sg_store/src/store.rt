@@ -1,10 +1,11 @@
 // What every store does: its calls, each with its effect on a disk of blocks and its cost. It knows
 // neither commands nor how the blocks are kept.
-ghost use Rattle.std.specs.Prelude.{◌≡◌, ℕ, ◌+◌, ◌*◌, ◌<◌, ◌≤◌, ◌↔◌, length};
+ghost use Rattle.std.specs.Prelude.{◌≡◌, ℕ, ◌+◌, ◌*◌, ◌<◌, ◌≤◌, ◌↔◌, length, max};
 ghost use Rattle.std.specs.Prelude.{IfOk, OnOk, OnErr, IsErr};
 ghost use Rattle.std.specs.FinMap.{len};
 ghost use Rattle.sg_store.specs.Disk.{Contents, Disk, IsWellFormed, IsOverfull, empty_disk};
-ghost use Rattle.sg_store.specs.Disk.{blocks, mapped_among, disk_written, disk_filled, disk_unmapped};
+ghost use Rattle.sg_store.specs.Disk.{blocks, disk_written, disk_filled, disk_unmapped, disk_anchored};
+ghost use Rattle.sg_store.specs.Disk.{data_count, need, used_among};
 ghost use Rattle.sg_wire.specs.Cut.{Puts};
 ghost use Rattle.sg_store.specs.LbaStatus.{lba_status, covered, status_data};
 ghost use Rattle.sg_store.specs.Meter.{Meter, new_meter, restarted, HasHeadroom};
@@ -19,7 +20,7 @@ pub const BLOCK_LENGTH: usize = 512;
 /// The most addresses that a disk can have.
 pub const MAX_CAPACITY: u64 = 1 << 40;
 
-/// The most addresses that can be mapped at once.
+/// The most addresses that can be mapped or anchored at once.
 pub const MAX_POOL: u32 = 65_536;
 
 /// The most that a count may have reached before a call. What a call adds then fits beside it.
@@ -37,12 +38,12 @@ pub struct Counts {
     pub links: u64,
 }
 
-/// More addresses would be mapped than the pool has blocks.
+/// More addresses would be mapped or anchored than the pool has blocks.
 #[derive(Clone, Copy, Debug, PartialEq)]
 pub struct Space;
 
 /// A disk of blocks of 512 bytes, of which those that were written are mapped to the blocks of a
-/// pool (SBC-3, 4.7).
+/// pool, and others may be anchored there (SBC-3, 4.7).
 ///
 /// All memory is taken by [`Store::make`]; no other call can ask for more.
 pub trait Store: Drop {
@@ -136,6 +137,38 @@ pub trait Store: Drop {
         ensures costs { Charged (disk self.old).pool (price (disk self.old).contents lba count)
             (least (disk self.old).contents lba count) (meter self.old) (meter self.new) };
 
+    /// Anchors the addresses from one on (SBC-3, 4.7.4): each keeps its block of the pool or takes
+    /// one, and reads as zeros from then on. Data there is lost.
+    ///
+    /// # Errors
+    /// More addresses would have a block than the pool has. Nothing is anchored then.
+    fn anchor(&mut self, lba: u64, count: u32) -> Result<(), Space>
+        requires range { lba + count ≤ (disk self.old).capacity }
+        requires headroom { HasHeadroom (meter self.old).counts }
+
+        // Either the pool has too few blocks and the disk stays as it is, or all are anchored.
+        ensures space { IsErr result ↔ IsOverfull (disk_anchored (disk self.old) lba count) }
+        ensures ok { OnOk result (disk self.new ≡ disk_anchored (disk self.old) lba count) }
+        ensures err { OnErr result (disk self.new ≡ disk self.old) }
+
+        // What the call costs, and between which bounds its visits lie.
+        ensures costs { ChargedOnOk result (disk self.old).pool
+            (price (disk self.old).contents lba count) (least (disk self.old).contents lba count)
+            (meter self.old) (meter self.new) };
+
+    /// How many of the addresses from one on have no block of the pool: as many blocks as anchoring
+    /// them needs. Ranges that were joined can have more addresses than a descriptor names.
+    fn need(&mut self, lba: u64, count: u64) -> u64
+        requires range { lba + count ≤ (disk self.old).capacity }
+        requires headroom { HasHeadroom (meter self.old).counts }
+
+        ensures value { result ≡ need (disk self.old).contents lba count }
+        ensures disk { disk self.new ≡ disk self.old }
+
+        // What the call costs, and between which bounds its visits lie.
+        ensures costs { Charged (disk self.old).pool (price (disk self.old).contents lba count)
+            (least (disk self.old).contents lba count) (meter self.old) (meter self.new) };
+
     /// Writes the parameter data of GET LBA STATUS (SBC-3, 5.4.2): which addresses are mapped, from
     /// one on to the end of the disk, in at most 512 descriptors.
     fn status(&mut self, lba: u64, cut: &mut Cut)
@@ -152,8 +185,12 @@ pub trait Store: Drop {
             Charged (disk self.old).pool (price (disk self.old).contents lba count)
             (least (disk self.old).contents lba count) (meter self.old) (meter self.new) };
 
-    /// How many addresses are mapped.
+    /// How many addresses are mapped to data. Anchored ones are not counted.
     fn mapped(&self) -> u32
+        ensures value { result ≡ data_count (disk self.now).contents };
+
+    /// How many addresses have a block of the pool, with data or anchored.
+    fn used(&self) -> u32
         ensures value { result ≡ len (disk self.now).contents }
         ensures within { result ≤ (disk self.now).pool }
         ensures well_formed { IsWellFormed (disk self.now).capacity (disk self.now).contents };
@@ -171,7 +208,14 @@ pub trait Store: Drop {
     ghost price_within: { (contents : Contents) (lba count : ℕ) →
         price contents lba count ≤ count + 2 };
 
-    /// A successful call over a range in which an address is mapped visits at least one record.
+    /// A successful call over a range in which an address has a block of the pool visits at least
+    /// one record.
     ghost least_positive: { (contents : Contents) (lba count : ℕ) →
-        0 < mapped_among contents lba count → 0 < least contents lba count };
+        0 < used_among contents lba count → 0 < least contents lba count };
+
+    /// Two ranges that overlap, or of which one begins where the other ends, cost at most as much
+    /// joined as they cost together.
+    ghost price_joined: { (contents : Contents) (lba count offset more : ℕ) → offset ≤ count →
+        price contents lba (max count (offset + more))
+        ≤ price contents lba count + price contents (lba + offset) more };
 }

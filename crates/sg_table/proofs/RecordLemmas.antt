@@ -3,6 +3,7 @@ use Rattle.std.proofs.Common.{◌≡◌, ◌≢◌, ℕ, ◌+◌, ◌<◌, ◌�
 use Rattle.std.proofs.Common.{arith, refl, ap}
 use Rattle.std.proofs.Common.{inl, inr}
 use Rattle.sg_table.specs.Records.{start_of, IsSorted, IsLowerBound}
+use Rattle.sg_table.specs.declared.run.Kind.TheVariants.{Data}
 use Rattle.sg_table.specs.declared.run.Run.{Run}
 use Rattle.std.proofs.lemmas.Bool.{cases_lt}
 
@@ -14,7 +15,7 @@ start_of-read (x ∷ rs) (suc i) r h e = start_of-read rs i r (omega arith) e
 
 -- what a list of records gives behind its end
 abbrev pub no_run : Run
-no_run = record { start = 0; count = 0; first = 0; last = 0 }
+no_run = record { start = 0; count = 0; first = 0; last = 0; kind = Data }
 
 pub start_of-at : (rs : List Run) (i : ℕ) → (get_or rs i no_run).start ≡ start_of rs i
 start_of-at [] i = refl

@@ -2,11 +2,17 @@
 use Rattle.std.specs.Prelude.{◌≡◌, ℕ, ◌+◌, ◌<◌, ◌≤◌, zero, suc, List, [], ◌∷◌, length, slice_index_or}
 use Rattle.std.specs.Prelude.{Option, Some, None, if◌then◌else◌, ◌==◌}
 use Rattle.sg_table.specs.declared.cursor.Cursor.{Cursor}
+use Rattle.sg_table.specs.declared.run.Kind.{Kind}
 use Rattle.sg_table.specs.declared.run.Run.{Run}
 
 -- A record of one address.
-abbrev pub single : (start slot : ℕ) → Run
-single start slot = record { start = start; count = 1; first = slot; last = slot }
+abbrev pub single : (start slot : ℕ) → Kind → Run
+single start slot kind =
+    record { start = start; count = 1; first = slot; last = slot; kind = kind }
+
+-- A record whose slots hold something else.
+abbrev pub with_kind : Kind → Run → Run
+with_kind kind run = record run { kind = kind }
 
 -- The address of the record at an index.
 abbrev pub start_of : List Run → ℕ → ℕ

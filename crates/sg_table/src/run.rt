@@ -3,7 +3,17 @@
 ghost use Rattle.std.specs.Prelude.{◌≡◌};
 ghost use Rattle.sg_table.specs.Records.{single};
 
-/// A record: addresses in a row, and the chain of slots that belongs to them.
+/// What the addresses of a run have in their slots.
+#[derive(Clone, Copy, Default, PartialEq)]
+pub enum Kind {
+    /// A block of data each.
+    #[default]
+    Data,
+    /// No data: whatever a slot holds is not read.
+    Anchored,
+}
+
+/// A record: addresses in a row that have one kind, and the chain of slots that belongs to them.
 #[derive(Clone, Copy, Default, PartialEq)]
 pub struct Run {
     /// The first address.
@@ -14,18 +24,21 @@ pub struct Run {
     pub first: u32,
     /// The slot of the last address.
     pub last: u32,
+    /// What the slots hold.
+    pub kind: Kind,
 }
 
 impl Run {
     /// A run of one address.
-    pub fn single(start: u64, slot: u32) -> Run
-        ensures { result ≡ single start slot }
+    pub fn single(start: u64, slot: u32, kind: Kind) -> Run
+        ensures { result ≡ single start slot kind }
     {
         Run {
             start,
             count: 1,
             first: slot,
             last: slot,
+            kind,
         }
     }
 }

@@ -1,9 +1,13 @@
+mod AddressRangeLemmas
 pub mod CapacityLemmas
+mod ChargingLemmas
 pub mod ExtentLemmas
+mod JoiningLemmas
 mod Lemmas
 pub mod LiftLemmas
 pub mod LimitLemmas
 pub mod ModeLemmas
+mod NeedLemmas
 pub mod RangeLemmas
 pub mod RunLemmas
 pub mod SenseLemmas

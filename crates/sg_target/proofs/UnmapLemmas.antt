@@ -1,6 +1,6 @@
 -- Extents that are unmapped in turn.
 use Rattle.std.proofs.Common.{◌≡◌, ◌≤◌, ◌<◌, ℕ, ◌+◌, ◌*◌, ◌^◌, List, [], ◌∷◌, ◌++◌, length}
-use Rattle.std.proofs.Common.{length-append, take, get_or, refl, sym, subst, ap, ◌∙◌, arith}
+use Rattle.std.proofs.Common.{take, get_or, refl, sym, subst, ap, ◌∙◌, arith}
 use Rattle.std.proofs.Math.Nat.{mul-le-mul}
 use Rattle.std.proofs.lemmas.List.{take_more}
 use Rattle.sg_wire.specs.declared.extent.Extent.{Extent}
@@ -11,7 +11,9 @@ use Rattle.sg_store.specs.declared.store.TheConstants.{MAX_POOL}
 use Rattle.sg_target.specs.Effect.{Range, range}
 use Rattle.sg_target.specs.Reply.{executed_reply}
 use Rattle.sg_target.specs.ProvisioningCommands.{ranges_in_turn, unmapped_in_turn}
-use Rattle.sg_target.specs.Ranges.{Cost, CostBounds, IsCharged, IsCounted, sum_over}
+use Rattle.sg_target.specs.Ranges.{CostBounds, IsCharged, IsCounted}
+use Rattle.sg_target.proofs.ChargingLemmas.{charged, counted-more}
+use Rattle.sg_target.specs.Anchoring.{IsWithinPrice}
 use Rattle.sg_target.specs.declared.reply.Reply.{Reply}
 
 -- one more extent
@@ -35,34 +37,6 @@ pub length-ranges : (contents : Contents) (extents : List Extent)
 length-ranges contents [] = refl
 length-ranges contents (first ∷ rest) =
     let more = length-ranges (unmapped contents first.lba first.count) rest in omega arith
-
-sum-more : (cost : Cost) (over : List Range) (last : Range)
-    → sum_over cost (over ++ last ∷ []) ≡ sum_over cost over + cost last.contents last.lba last.count
-sum-more cost [] last = omega arith
-sum-more cost (first ∷ rest) last = let more = sum-more cost rest last in omega arith
-
-length-more : (over : List Range) (last : Range) → length (over ++ last ∷ []) ≡ length over + 1
-length-more over last = length-append over (last ∷ [])
-
--- what is counted over one more range
-pub counted-more : (bounds : CostBounds) (pool : ℕ) (over : List Range) (last : Range)
-    (before between after : Meter) → IsCounted bounds pool over before between
-    → Costs pool between after
-    → after.total ≤ between.total + bounds.price last.contents last.lba last.count
-    → between.total + bounds.least last.contents last.lba last.count ≤ after.total
-    → IsCounted bounds pool (over ++ last ∷ []) before after
-counted-more bounds pool over last before between after so_far costs price least =
-    let prices = sum-more bounds.price over last in
-    let leasts = sum-more bounds.least over last in
-    let longer = length-more over last in
-    record {
-      visits = omega arith;
-      probes = rw longer (omega arith);
-      links = rw longer (omega arith);
-      least = omega arith;
-      visited = omega arith;
-      restarts = costs.restarts ∙ so_far.restarts;
-    }
 
 -- ---- the extents up to an index, and the next
 
@@ -112,25 +86,16 @@ has_headroom bounds pool i contents extents before after p few short visits coun
           omega (arith, counted.links);
     }
 
--- what was counted over some ranges since a restart is charged
-pub charged : (bounds : CostBounds) (pool : ℕ) (over : List Range) (before after : Meter) (reply : Reply)
-    → 0 < length over → IsCounted bounds pool over (restarted before) after
-    → reply.counts ≡ after.counts → IsCharged bounds pool over before after reply
-charged bounds pool [] before after reply some c same = absurd (omega arith)
-charged bounds pool (first ∷ rest) before after reply some c same =
-    let visits = ap (λ (k : Counts). k.visits) same in
-    let probes = ap (λ (k : Counts). k.probes) same in
-    let links = ap (λ (k : Counts). k.links) same in
-    record {
-      visits = omega (arith, c.visits, visits);
-      probes = rw probes c.probes;
-      links = rw links c.links;
-      least = λ good. omega (arith, c.least, visits);
-      visited = omega (arith, c.visited, visits);
-      counted = λ any. same;
-      restarts = c.restarts;
-      idle = λ none. absurd (omega (arith, ap (λ (over : List Range). length over) none));
-    }
+-- what is counted over ranges is within their price
+pub within_price : (bounds : CostBounds) (pool : ℕ) (over : List Range) (before after : Meter)
+    → IsCounted bounds pool over before after → IsWithinPrice bounds pool over before after
+within_price bounds pool over before after c = record {
+  visits = c.visits;
+  probes = c.probes;
+  links = c.links;
+  visited = c.visited;
+  restarts = c.restarts;
+}
 
 -- the reply to a command that has restarted the counts and has unmapped extents
 pub unmapping-charged : (bounds : CostBounds) (extents : List Extent) (before between : Disk)
@@ -143,8 +108,9 @@ unmapping-charged bounds extents before between meter mid after counts reply lef
     let here =
     subst (λ (disk : Disk). IsCounted bounds disk.pool
     (ranges_in_turn disk.contents extents) mid after) left counted in
-    charged bounds before.pool (ranges_in_turn before.contents extents) meter after reply
+    let over : List Range = ranges_in_turn before.contents extents in
+    let all = subst (λ (m : Meter). IsCounted bounds before.pool over m after) anew here in
+    charged bounds before.pool over meter after reply
     (omega (arith, length-ranges before.contents extents))
-    (subst (λ (m : Meter). IsCounted bounds before.pool (ranges_in_turn before.contents extents) m
-    after) anew here)
-    (ap (λ (r : Reply). r.counts) is ∙ same)
+    (within_price bounds before.pool over (restarted meter) after all)
+    (λ good. all.least) (ap (λ (r : Reply). r.counts) is ∙ same)

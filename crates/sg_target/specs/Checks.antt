@@ -147,7 +147,7 @@ checked_effect state initiator cdb data_out =
 
 -- ---- The last one
 
--- More addresses would be mapped than the pool has blocks.
+-- More addresses would be mapped or anchored than the pool has blocks.
 unfoldable pub no_space : Disk → Option Refusal
 no_space after =
     if nat_lt after.pool (len after.contents) then Some (Check SpaceAllocationFailed) else None

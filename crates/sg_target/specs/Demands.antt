@@ -1,6 +1,6 @@
 -- What each command demands of its fields and its data-out, and which operation it asks for. Nothing
 -- here looks at the state.
-use Rattle.std.specs.Prelude.{ℕ, List, Bool, true, false, ◌&&◌, Option, Some, None, Result, Ok}
+use Rattle.std.specs.Prelude.{ℕ, List, Bool, true, false, ◌&&◌, not, Option, Some, None, Result, Ok}
 use Rattle.std.specs.Prelude.{nat_le, nat_lt, if◌then◌else◌}
 use Rattle.sg_wire.specs.declared.command.Command.{Command}
 use Rattle.sg_wire.specs.declared.command.Command.TheVariants as command
@@ -106,9 +106,9 @@ abbrev pub write : Extent → (unsupported : Option ℕ) → (data_out : List �
 write extent unsupported data_out =
     takes (bytes_of extent) unsupported (Ok (operation.Write (blocks_out extent data_out)))
 
--- No block can be anchored: ANCHOR, in byte 1, is not supported.
-abbrev pub unless_anchor : (anchor : Bool) → (otherwise : Option ℕ) → Option ℕ
-unless_anchor anchor otherwise = if anchor then Some 1 else otherwise
+-- Without UNMAP no block is anchored: ANCHOR, in byte 1, is not supported then.
+abbrev pub unless_anchor_alone : (anchor unmap : Bool) → (otherwise : Option ℕ) → Option ℕ
+unless_anchor_alone anchor unmap otherwise = if anchor && not unmap then Some 1 else otherwise
 
 -- WRITE SAME writes at least one block, and no more than the page Block Limits says; the byte is
 -- where NUMBER OF LOGICAL BLOCKS begins.
@@ -116,15 +116,19 @@ abbrev pub bad_count : (count byte : ℕ) → Option ℕ
 bad_count count byte =
     if nat_le 1 count && nat_le count maximum_write_same_length then None else Some byte
 
--- It takes one block, by which it replaces each of its blocks, or unmaps them.
-abbrev pub unmap_or_fill : (unmap : Bool) → Extent → (block : List ℕ) → Operation
-unmap_or_fill unmap extent block =
-    if unmaps unmap block then operation.UnmapExtent extent else operation.Fill extent block
+-- It takes one block, by which it replaces each of its blocks, or unmaps or anchors them.
+abbrev pub unmap_extent : (anchor : Bool) → Extent → Operation
+unmap_extent anchor extent =
+    if anchor then operation.AnchorExtent extent else operation.UnmapExtent extent
+
+abbrev pub unmap_or_fill : (anchor unmap : Bool) → Extent → (block : List ℕ) → Operation
+unmap_or_fill anchor unmap extent block =
+    if unmaps unmap block then unmap_extent anchor extent else operation.Fill extent block
 
 abbrev pub write_same : (anchor unmap : Bool) → Extent → (byte : ℕ) → (data_out : List ℕ) → Demands
 write_same anchor unmap extent byte data_out =
-    takes block_length (unless_anchor anchor (bad_count extent.count byte))
-    (Ok (unmap_or_fill unmap extent (block_out data_out)))
+    takes block_length (unless_anchor_alone anchor unmap (bad_count extent.count byte))
+    (Ok (unmap_or_fill anchor unmap extent (block_out data_out)))
 
 abbrev pub write_same_10 : WriteSame10 → (data_out : List ℕ) → Demands
 write_same_10 c data_out = write_same c.anchor c.unmap (extent c.lba c.count) 7 data_out
@@ -132,11 +136,15 @@ write_same_10 c data_out = write_same c.anchor c.unmap (extent c.lba c.count) 7 
 abbrev pub write_same_16 : WriteSame16 → (data_out : List ℕ) → Demands
 write_same_16 c data_out = write_same c.anchor c.unmap (extent c.lba c.count) 10 data_out
 
--- UNMAP takes a list of extents.
+-- UNMAP takes a list of extents, which it unmaps or anchors.
+abbrev pub unmap_extents : (anchor : Bool) → List Extent → Operation
+unmap_extents anchor extents =
+    if anchor then operation.Anchor extents else operation.Unmap extents
+
 abbrev pub unmap : Unmap → (data_out : List ℕ) → Demands
 unmap c data_out =
-    takes c.list_length (unless_anchor c.anchor None)
-    (when_sound (listed_extents (first_bytes c.list_length data_out)) operation.Unmap)
+    takes c.list_length None
+    (when_sound (listed_extents (first_bytes c.list_length data_out)) (unmap_extents c.anchor))
 
 -- ---- The row of each command, on a disk with a number of blocks, with its data-out
 

@@ -1,5 +1,5 @@
 -- What commands do.
-use Rattle.std.specs.Prelude.{ℕ, List, [], Option, Some, None}
+use Rattle.std.specs.Prelude.{ℕ, Bool, true, false, List, [], Option, Some, None}
 use Rattle.sg_wire.specs.declared.extent.Extent.{Extent}
 use Rattle.sg_store.specs.Disk.{Contents}
 use Rattle.sg_units.specs.Attentions.{without_oldest}
@@ -11,9 +11,15 @@ pub record Range : Type 0 where
   pub contents : Contents
   pub lba : ℕ
   pub count : ℕ
+  -- whether only the blocks of the pool that it needs are counted
+  pub counted : Bool
 
 abbrev pub range : Contents → Extent → Range
-range contents blocks = record { contents = contents; lba = blocks.lba; count = blocks.count }
+range contents blocks =
+    record { contents = contents; lba = blocks.lba; count = blocks.count; counted = false }
+
+abbrev pub counted_range : Contents → Extent → Range
+counted_range contents blocks = record (range contents blocks) { counted = true }
 
 -- What a command does where no check refuses it.
 pub record Effect : Type 0 where

@@ -22,3 +22,5 @@ pub mod Target
 -- What private contracts cite alone.
 pub mod DataIn
 pub mod Extents
+pub mod Joining
+pub mod Anchoring

@@ -1,5 +1,5 @@
 -- The effects of the commands of logical block provisioning (SBC-3, 4.7 and 5).
-use Rattle.std.specs.Prelude.{ℕ, ◌==◌, ◌&&◌, List, [], ◌∷◌, Bool, Result}
+use Rattle.std.specs.Prelude.{ℕ, ◌==◌, ◌&&◌, List, [], ◌∷◌, ◌++◌, map, Bool, false, Result}
 use Rattle.std.specs.List.{list_all}
 use Rattle.std.specs.Result.{result_map_both}
 use Rattle.sg_wire.specs.CutAnswer.{first_bytes}
@@ -7,10 +7,11 @@ use Rattle.sg_wire.specs.UnmapList.{descriptor_data_length_at, unmap_list}
 use Rattle.sg_wire.specs.declared.unmap_list.UnmapListFault.{UnmapListFault}
 use Rattle.sg_wire.specs.declared.unmap_list.UnmapListFault.TheVariants.{Short, TooManyDescriptors}
 use Rattle.sg_wire.specs.declared.extent.Extent.{Extent}
-use Rattle.sg_store.specs.Disk.{Contents, filled, unmapped}
+use Rattle.sg_store.specs.Disk.{Contents, anchored, filled, unmapped}
 use Rattle.sg_store.specs.LbaStatus.{covered, lba_status, status_data}
 use Rattle.sg_target.specs.CapacityData.{block_length}
-use Rattle.sg_target.specs.Effect.{Effect, Range, no_effect, range, returning_up_to, with_contents}
+use Rattle.sg_target.specs.Effect.{Effect, Range, no_effect, range, counted_range}
+use Rattle.sg_target.specs.Effect.{returning_up_to, with_contents}
 use Rattle.sg_target.specs.State.{State}
 use Rattle.sg_target.specs.declared.refusal.Reason.TheVariants.{ParameterListLengthError}
 use Rattle.sg_target.specs.declared.refusal.Reason.TheVariants.{InvalidFieldInParameterList}
@@ -19,7 +20,7 @@ use Rattle.sg_target.specs.declared.refusal.Refusal.TheVariants.{Check}
 
 -- ---- Unmapping
 
--- The mapped blocks after extents were unmapped in turn.
+-- The contents after extents were unmapped in turn.
 abbrev pub unmapped_in_turn : Contents → List Extent → Contents
 unmapped_in_turn contents [] = contents
 unmapped_in_turn contents (extent ∷ rest) =
@@ -35,6 +36,31 @@ abbrev pub unmapping : State → List Extent → Effect
 unmapping state extents = let contents = state.disk.contents in record (no_effect state) {
   ranges = ranges_in_turn contents extents;
   after = with_contents state (unmapped_in_turn contents extents);
+}
+
+-- ---- Anchoring
+
+-- The contents after extents were anchored in turn.
+abbrev pub anchored_in_turn : Contents → List Extent → Contents
+anchored_in_turn contents [] = contents
+anchored_in_turn contents (extent ∷ rest) =
+    anchored_in_turn (anchored contents extent.lba extent.count) rest
+
+abbrev pub anchoring_in_turn : Contents → List Extent → List Range
+anchoring_in_turn contents [] = []
+anchoring_in_turn contents (extent ∷ rest) =
+    range contents extent ∷ anchoring_in_turn (anchored contents extent.lba extent.count) rest
+
+-- Each extent is gone over twice: all of them once, as the blocks that they need are counted before
+-- anything changes, and then all again.
+abbrev pub anchoring_ranges : Contents → List Extent → List Range
+anchoring_ranges contents extents =
+    map (counted_range contents) extents ++ anchoring_in_turn contents extents
+
+abbrev pub anchoring : State → List Extent → Effect
+anchoring state extents = let contents = state.disk.contents in record (no_effect state) {
+  ranges = anchoring_ranges contents extents;
+  after = with_contents state (anchored_in_turn contents extents);
 }
 
 -- ---- The parameter list of UNMAP
@@ -77,5 +103,11 @@ abbrev pub reporting_status : State → (start allocation_length : ℕ) → Effe
 reporting_status state start n = let found = lba_status state.disk start in
     record (returning_up_to state n (status_data found)) {
       ranges =
-          record { contents = state.disk.contents; lba = start; count = covered found } ∷ [];
+          record {
+            contents = state.disk.contents;
+            lba = start;
+            count = covered found;
+            counted = false;
+          }
+          ∷ [];
     }

@@ -1,5 +1,6 @@
 -- The ranges of blocks that a command goes over, and what that costs.
 use Rattle.std.specs.Prelude.{◌≡◌, ℕ, ◌+◌, ◌*◌, ◌<◌, ◌≤◌, List, [], ◌∷◌, length, Result, Ok, Err}
+use Rattle.std.specs.Prelude.{if◌then◌else◌}
 use Rattle.sg_store.specs.Disk.{Contents}
 use Rattle.sg_store.specs.Meter.{Meter}
 use Rattle.sg_target.specs.Checks.{checked_effect}
@@ -36,6 +37,12 @@ abbrev pub sum_over : Cost → List Range → ℕ
 sum_over cost [] = 0
 sum_over cost (range ∷ rest) = cost range.contents range.lba range.count + sum_over cost rest
 
+-- The same but for those that are only counted: where they overlap, one visit may serve several.
+abbrev pub least_over : Cost → List Range → ℕ
+least_over cost [] = 0
+least_over cost (range ∷ rest) =
+    (if range.counted then 0 else cost range.contents range.lba range.count) + least_over cost rest
+
 -- Two more than the blocks of each range, together.
 abbrev pub visit_bound : List Range → ℕ
 visit_bound [] = 0
@@ -52,7 +59,7 @@ pub record IsCounted (bounds : CostBounds) (pool : ℕ) (over : List Range)
   pub visits : after.counts.visits ≤ sum_over bounds.price over
   pub probes : after.counts.probes ≤ 64 * length over
   pub links : after.counts.links ≤ pool * length over
-  pub least : sum_over bounds.least over ≤ after.counts.visits
+  pub least : least_over bounds.least over ≤ after.counts.visits
   pub visited : after.total ≡ before.total + after.counts.visits
   pub restarts : after.restarts ≡ before.restarts
 
@@ -64,7 +71,7 @@ pub record IsCharged (bounds : CostBounds) (pool : ℕ) (over : List Range)
   pub probes : reply.counts.probes ≤ 64 * length over
   pub links : reply.counts.links ≤ pool * length over
   -- at least what they cost a command that ends GOOD
-  pub least : reply.status ≡ Good → sum_over bounds.least over ≤ reply.counts.visits
+  pub least : reply.status ≡ Good → least_over bounds.least over ≤ reply.counts.visits
   -- just what the store's total, which no restart lowers, has risen by
   pub visited : after.total ≡ before.total + reply.counts.visits
   -- the store's counts as the command ends, since its one restart

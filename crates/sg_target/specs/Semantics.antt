@@ -6,7 +6,7 @@ use Rattle.sg_target.specs.Demands.{extent}
 use Rattle.sg_target.specs.Effect.{Effect, no_effect, returning_up_to}
 use Rattle.sg_target.specs.ModeCommands.{changing_modes, mode_parameters, selected_modes}
 use Rattle.sg_target.specs.PrimaryCommands.{returning_page, returning_sense}
-use Rattle.sg_target.specs.ProvisioningCommands.{filling, reporting_status, unmapping}
+use Rattle.sg_target.specs.ProvisioningCommands.{anchoring, filling, reporting_status, unmapping}
 use Rattle.sg_target.specs.Refusal.{when_sound}
 use Rattle.sg_target.specs.ReservationCommands.{changing_reservations, reporting, reservation_change}
 use Rattle.sg_target.specs.State.{State}
@@ -17,6 +17,7 @@ use Rattle.sg_target.specs.declared.operation.Operation.TheVariants.{ChangeModes
 use Rattle.sg_target.specs.declared.operation.Operation.TheVariants.{ReturnCapacity16, Read, Write}
 use Rattle.sg_target.specs.declared.operation.Operation.TheVariants.{Synchronize, Fill, Unmap}
 use Rattle.sg_target.specs.declared.operation.Operation.TheVariants.{UnmapExtent, ReturnLbaStatus}
+use Rattle.sg_target.specs.declared.operation.Operation.TheVariants.{Anchor, AnchorExtent}
 use Rattle.sg_target.specs.declared.operation.Operation.TheVariants.{ReturnReservations}
 use Rattle.sg_target.specs.declared.operation.Operation.TheVariants.{ChangeReservations}
 use Rattle.sg_target.specs.declared.refusal.Refusal.{Refusal}
@@ -44,6 +45,8 @@ medium_use (Write out) = writes_to (out.extent ∷ [])
 medium_use (Fill extent block) = writes_to (extent ∷ [])
 medium_use (Unmap extents) = writes_to extents
 medium_use (UnmapExtent extent) = writes_to (extent ∷ [])
+medium_use (Anchor extents) = writes_to extents
+medium_use (AnchorExtent extent) = writes_to (extent ∷ [])
 medium_use _ = only_reads []
 
 -- ---- The effect
@@ -66,6 +69,8 @@ effect_of state i (Synchronize extent) = Ok (no_effect state)
 effect_of state i (Fill extent block) = Ok (filling state extent block)
 effect_of state i (Unmap extents) = Ok (unmapping state extents)
 effect_of state i (UnmapExtent extent) = Ok (unmapping state (extent ∷ []))
+effect_of state i (Anchor extents) = Ok (anchoring state extents)
+effect_of state i (AnchorExtent extent) = Ok (anchoring state (extent ∷ []))
 effect_of state i (ReturnLbaStatus start n) = Ok (reporting_status state start n)
 effect_of state i (ReturnReservations action n) = Ok (reporting state action n)
 effect_of state i (ChangeReservations action scope_type list) =

@@ -2,6 +2,7 @@
 //! other (SPC-4, 4.2; SBC-3, 4).
 #![tactic(auto)]
 
+mod anchoring;
 mod block;
 mod call;
 mod checks;
@@ -10,6 +11,7 @@ mod data_in;
 mod data_out;
 mod event;
 mod extent;
+mod joining;
 mod mode;
 mod operation;
 mod primary;

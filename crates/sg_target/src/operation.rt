@@ -81,7 +81,11 @@ pub enum Operation<'a> {
     Unmap(ListedExtents<'a>),
     /// Unmaps blocks of one extent.
     UnmapExtent(Extent),
-    /// Returns which blocks are mapped, from an address on.
+    /// Anchors blocks, extent by extent.
+    Anchor(ListedExtents<'a>),
+    /// Anchors blocks of one extent.
+    AnchorExtent(Extent),
+    /// Returns which blocks are mapped or anchored, from an address on.
     ReturnLbaStatus {
         start: u64,
         /// In bytes.
@@ -131,10 +135,12 @@ impl<'a> Operation<'a> {
                 (past_capacity(first, capacity), false)
             }
             Operation::Write(blocks) => (past_capacity(blocks.extent, capacity), true),
-            Operation::Fill { extent, .. } | Operation::UnmapExtent(extent) => {
-                (past_capacity(*extent, capacity), true)
+            Operation::Fill { extent, .. }
+            | Operation::UnmapExtent(extent)
+            | Operation::AnchorExtent(extent) => (past_capacity(*extent, capacity), true),
+            Operation::Unmap(extents) | Operation::Anchor(extents) => {
+                (listed_out_of_range(extents, capacity), true)
             }
-            Operation::Unmap(extents) => (listed_out_of_range(extents, capacity), true),
             Operation::Nothing
             | Operation::ReturnSense { .. }
             | Operation::ReturnInquiry { .. }
@@ -237,6 +243,8 @@ impl<S: Store> Target<S> {
             Operation::Fill { extent, block } => self.fill(initiator, extent, &block, buf),
             Operation::Unmap(extents) => self.unmap_listed(&extents, buf),
             Operation::UnmapExtent(extent) => self.unmap(&[extent], buf),
+            Operation::Anchor(extents) => self.anchor_listed(initiator, &extents, buf),
+            Operation::AnchorExtent(extent) => self.anchor(initiator, &[extent], buf),
             Operation::ReturnLbaStatus {
                 start,
                 allocation_length,

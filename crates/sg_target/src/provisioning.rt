@@ -10,7 +10,8 @@ ghost use Rattle.sg_target.specs.Demands.{bad_count, unmap as demands_of_unmap, 
 ghost use Rattle.sg_target.specs.Demands.{write_same_10, write_same_16};
 ghost use Rattle.sg_target.specs.Effect.{range};
 ghost use Rattle.sg_target.specs.Extents.{AreOnDisk};
-ghost use Rattle.sg_target.specs.ProvisioningCommands.{filling, ranges_in_turn, reporting_status};
+ghost use Rattle.sg_target.specs.ProvisioningCommands.{anchoring, filling};
+ghost use Rattle.sg_target.specs.ProvisioningCommands.{ranges_in_turn, reporting_status};
 ghost use Rattle.sg_target.specs.ProvisioningCommands.{unmap_list_refusal, unmapped_in_turn};
 ghost use Rattle.sg_target.specs.ProvisioningCommands.{unmapping, unmaps};
 ghost use Rattle.sg_target.specs.Ranges.{IsCharged, IsCounted, cost_bounds};
@@ -18,6 +19,7 @@ ghost use Rattle.sg_target.specs.Reply.{Carries};
 ghost use Rattle.sg_target.specs.State.{IsWithinLimits};
 ghost use Rattle.sg_target.specs.Step.{executed, executed_or_refused, good};
 
+use crate::anchoring::anchor_extents;
 use crate::data_out::needed_data_out;
 use crate::extent::first_past_capacity;
 use crate::operation::Operation;
@@ -32,7 +34,7 @@ use sg_wire::{
 };
 use std::marker::Model;
 
-// Where ANCHOR is in the CDBs of UNMAP and WRITE SAME.
+// Where ANCHOR is in the CDB of WRITE SAME.
 const ANCHOR_BYTE: u16 = 1;
 
 // ---- UNMAP
@@ -55,11 +57,13 @@ impl From<UnmapListFault> for Refusal {
 pub(crate) fn check_unmap(fields: Unmap, data_out: &[u8]) -> Result<Operation<'_>, Refusal>
     ensures { result ≡ requested (demands_of_unmap fields data_out.now) data_out.now }
 {
-    if fields.anchor {
-        return Err(Refusal::Check(Reason::InvalidFieldInCdb { byte: ANCHOR_BYTE }));
-    }
     let list = needed_data_out(data_out, usize::from(fields.list_length))?;
-    Ok(Operation::Unmap(UnmapList::read(list)?))
+    let extents = UnmapList::read(list)?;
+    if fields.anchor {
+        Ok(Operation::Anchor(extents))
+    } else {
+        Ok(Operation::Unmap(extents))
+    }
 }
 
 /// Why the extents of a parameter list can't all be reached, on a disk of `capacity` blocks. Room for
@@ -107,8 +111,8 @@ impl<S: Store> Target<S> {
         }
         self.store.restart_counts();
         unmap_in_turn(&mut self.store, extents);
-        // Its contract says that a store maps no more addresses than its pool has blocks.
-        let _ = self.store.mapped();
+        // Its contract says that a store uses no more blocks than its pool has.
+        let _ = self.store.used();
         Reply::good(0, self.store.counts())
     }
 }
@@ -128,6 +132,55 @@ fn unmap_in_turn<S: Store>(store: &mut S, extents: &[Extent])
 {
     for extent in extents {
         store.unmap(extent.lba, extent.count);
+    }
+}
+
+// ---- Anchoring
+
+impl<S: Store> Target<S> {
+    /// Anchors the extents of a parameter list. Room for their table would else be made for every
+    /// command.
+    #[inline(never)]
+    pub(crate) fn anchor_listed(
+        &mut self,
+        initiator: Initiator,
+        listed: &ListedExtents<'_>,
+        buf: &[u8],
+    ) -> Reply
+        requires on_disk { AreOnDisk self.old.state.disk.capacity listed.now }
+        requires limits { IsWithinLimits self.old.state }
+        ensures reply { let done = executed_or_refused self.old.state initiator
+            (anchoring self.old.state listed.now) in
+            Carries done.answer result buf.now buf.now }
+        ensures state { self.new.state ≡ (executed_or_refused self.old.state initiator
+            (anchoring self.old.state listed.now)).state }
+        ensures charge { IsCharged (cost_bounds S.price S.least) self.old.state.disk.pool
+            (anchoring self.old.state listed.now).ranges self.old.meter self.new.meter result }
+    {
+        let extents = listed.to_list();
+        self.anchor(initiator, extents.as_slice(), buf)
+    }
+
+    /// Anchors extents in turn, unless there is no space for all of them.
+    #[tactic(auto, using(crate::proofs::StepLemmas::has_room), unfolding(crate::specs::Checks::no_space))]
+    pub(crate) fn anchor(&mut self, initiator: Initiator, extents: &[Extent], buf: &[u8]) -> Reply
+        requires on_disk { AreOnDisk self.old.state.disk.capacity extents.now }
+        requires at_most { length extents.now ≤ maximum_unmap_descriptors }
+        requires limits { IsWithinLimits self.old.state }
+        ensures reply { let done = executed_or_refused self.old.state initiator
+            (anchoring self.old.state extents.now) in
+            Carries done.answer result buf.now buf.now }
+        ensures state { self.new.state ≡ (executed_or_refused self.old.state initiator
+            (anchoring self.old.state extents.now)).state }
+        ensures charge { IsCharged (cost_bounds S.price S.least) self.old.state.disk.pool
+            (anchoring self.old.state extents.now).ranges self.old.meter self.new.meter result }
+    {
+        if extents.is_empty() {
+            return Reply::without_blocks(0);
+        }
+        self.store.restart_counts();
+        let anchored = anchor_extents(&mut self.store, self.config.pool(), extents);
+        self.reply_to_write(initiator, anchored)
     }
 }
 
@@ -205,16 +258,18 @@ fn check_write_same(
 ) -> Result<Operation<'_>, Refusal>
     ensures { result ≡ requested (write_same anchor unmap extent byte data_out.now) data_out.now }
 {
-    if anchor {
+    if anchor && !unmap {
         return Err(Refusal::Check(Reason::InvalidFieldInCdb { byte: ANCHOR_BYTE }));
     }
     check_write_same_length(extent, byte)?;
     let bytes = needed_data_out(data_out, BLOCK_LENGTH)?;
-    if unmaps(unmap, bytes) {
-        Ok(Operation::UnmapExtent(extent))
-    } else {
+    if !unmaps(unmap, bytes) {
         let block = BlockOut { bytes };
         Ok(Operation::Fill { extent, block })
+    } else if anchor {
+        Ok(Operation::AnchorExtent(extent))
+    } else {
+        Ok(Operation::UnmapExtent(extent))
     }
 }
 

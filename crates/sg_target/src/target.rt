@@ -30,7 +30,8 @@ impl<S: Store> Model for Target<S> {
     ghost use Rattle.std.specs.FinMap.{len};
     ghost use Rattle.sg_store.specs.declared.store.TheConstants.{MAX_POOL};
     ghost use Rattle.std.specs.Coded.{codes};
-    ghost use Rattle.sg_target.specs.Target.{TargetFields, contents_code};
+    ghost use Rattle.sg_store.specs.ContentsCode.{contents_code};
+    ghost use Rattle.sg_target.specs.Target.{TargetFields};
 
     ghost Value = { TargetFields };
 
@@ -51,7 +52,8 @@ impl<S: Store> Model for Target<S> {
         × (len (S.disk t.store).contents ≤ (S.disk t.store).pool)
         × ArePending t.attentions
         × IsConsistent t.reservations
-        × ((S.disk t.store).pool ≤ MAX_POOL) };
+        × ((S.disk t.store).pool ≤ MAX_POOL)
+        × (t.config.pool ≡ (S.disk t.store).pool) };
 }
 
 ghost use Rattle.std.specs.Prelude.{◌≡◌, ◌≤◌, length, IfOk};

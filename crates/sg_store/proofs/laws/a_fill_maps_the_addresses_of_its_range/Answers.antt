@@ -1,5 +1,5 @@
-use Rattle.sg_store.proofs.WriteLemmas.{contains-filled}
+use Rattle.sg_store.proofs.WriteLemmas.{status-filled}
 use Rattle.sg_store.proofs.laws.a_fill_maps_the_addresses_of_its_range.Goals as goal
 
 pub returns : goal.returns
-returns c = contains-filled
+returns c = status-filled

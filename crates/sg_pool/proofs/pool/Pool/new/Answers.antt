@@ -1,10 +1,6 @@
-use Rattle.std.proofs.Common.{◌≡◌, ◌-◌, length, replicate, ap, ◌∙◌, arith}
-use Rattle.std.proofs.lemmas.List.{nil_from_length}
+use Rattle.std.proofs.Common.{◌≡◌, ◌-◌, length, ap, arith}
 use Rattle.std.specs.List.{range_with_len}
 use Rattle.sg_pool.specs.Chains.{chain, AreBelow}
-use Rattle.sg_store.specs.Disk.{zero_block}
-use Rattle.sg_pool.specs.Slots.{zero_padded}
-use Rattle.sg_pool.proofs.PoolLemmas.{length-padded}
 use Rattle.sg_pool.proofs.pool.Pool.new.Goals as goal
 
 pub invariant_of-result : goal.invariant_of-result

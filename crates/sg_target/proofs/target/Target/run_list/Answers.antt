@@ -1,4 +1,4 @@
-use Rattle.std.proofs.Common.{◌≡◌, ℕ, ◌+◌, ◌<◌, length, List, ◌++◌, ◌∷◌, [], map, take, arith, ap}
+use Rattle.std.proofs.Common.{◌≡◌, ◌+◌, ◌<◌, length, List, ◌++◌, ◌∷◌, [], map, take, arith, ap}
 use Rattle.std.proofs.Common.{sym, subst, ◌∙◌}
 use Rattle.std.proofs.lemmas.List.{length-map, take-map}
 use Rattle.sg_target.specs.Ranges.{IsCharged, cost_bounds}

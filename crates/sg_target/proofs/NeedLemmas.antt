@@ -1,0 +1,144 @@
+-- What joined ranges need is what the ranges as they were sent need.
+use Rattle.std.proofs.Common.{◌≡◌, ℕ, ◌+◌, ◌≤◌, ◌<◌, zero, suc, List, [], ◌∷◌, ◌++◌, sym, refl, ap}
+use Rattle.std.proofs.Common.{ap₂, ◌∙◌, arith, cond, Bool, true, false, Some}
+use Rattle.std.proofs.lemmas.Bool.Decides.{nat_tests}
+use Rattle.std.specs.Cmp.{nat_cmp_total}
+use Rattle.std.specs.FinMap as map
+use Rattle.std.specs.FinMap.{same_map, nat_cmp-IsAntisymmetric}
+use Rattle.std.specs.Prelude.{not, ◌||◌, map}
+use Rattle.sg_store.specs.Disk.{lies_in}
+use Rattle.sg_target.specs.Anchoring.{need_of}
+use Rattle.sg_target.specs.Extents.{AreOnDisk}
+use Rattle.sg_target.specs.ProvisioningCommands.{anchored_in_turn}
+use Rattle.sg_store.specs.Disk.{Contents, anchored, need}
+use Rattle.sg_store.specs.Disk.Mapping.{Anchored}
+use Rattle.sg_target.specs.Joining.{covers, lies_in_some, AreDisjoint, AreJoined, AreWithin, range_of}
+use Rattle.sg_target.specs.declared.joining.AddressRange.{AddressRange}
+use Rattle.sg_wire.specs.declared.extent.Extent.{Extent}
+use Rattle.sg_store.proofs.NeedLemmas.{contains-remapped, len-needed, need-more}
+use Rattle.sg_store.proofs.NeedLemmas.{need-none, need-used}
+use Rattle.sg_store.proofs.WriteLemmas.{get-remapped}
+use Rattle.sg_target.proofs.AddressRangeLemmas.{or_left, not_true}
+
+-- ranges that are anchored in turn
+abbrev pub anchored_over : Contents → List AddressRange → Contents
+anchored_over m [] = m
+anchored_over m (r ∷ rs) = anchored_over (anchored m r.lba r.count) rs
+
+pub over-extents : (m : Contents) (extents : List Extent)
+    → anchored_over m (map range_of extents) ≡ anchored_in_turn m extents
+over-extents m [] = refl
+over-extents m (e ∷ es) = over-extents (anchored m e.lba e.count) es
+
+either : {A : Type 0} (a b : Bool) (x y : A) → cond a x (cond b x y) ≡ cond (b || a) x y
+either true true x y = refl
+either true false x y = refl
+either false true x y = refl
+either false false x y = refl
+
+pub get-over : (m : Contents) (rs : List AddressRange) (q : ℕ)
+    → map.get (anchored_over m rs) q ≡ cond (lies_in_some rs q) (Some Anchored) (map.get m q)
+get-over m [] q = refl
+get-over m (r ∷ rs) q = get-over (anchored m r.lba r.count) rs q
+    ∙ ap (cond (lies_in_some rs q) (Some Anchored))
+    (get-remapped m r.lba r.count (λ index. Anchored) q)
+    ∙ either (lies_in_some rs q) (covers q r) (Some Anchored) (map.get m q)
+
+-- only the addresses matter
+pub over-same : (m : Contents) (xs ys : List AddressRange)
+    → ((q : ℕ) → lies_in_some xs q ≡ lies_in_some ys q) → anchored_over m xs ≡ anchored_over m ys
+over-same m xs ys h = same_map nat_cmp_total nat_cmp-IsAntisymmetric _ _ (λ q.
+    get-over m xs q ∙ ap (λ b. cond b (Some Anchored) (map.get m q)) (h q) ∙ sym (get-over m ys q))
+
+-- a range needs as much where the same of its addresses have a slot
+need-alike : (m n : Contents) (a k : ℕ)
+    → ((i : ℕ) → i < k → map.contains_key m (a + i) ≡ map.contains_key n (a + i))
+    → need m a k ≡ need n a k
+need-alike m n a zero h = need-none m a ∙ sym (need-none n a)
+need-alike m n a (suc k) h =
+    let e : suc k ≡ k + 1 = omega arith in
+    rw (e, need-more m a k, need-more n a k) (
+    ap₂ (λ (x : ℕ) (b : Bool). x + cond (not b) 1 0)
+    (need-alike m n a k (λ i lt. h i (omega arith))) (h k (omega arith)))
+
+inside : (a k i : ℕ) → i < k → lies_in a k (a + i) ≡ true
+inside a k i lt = grind (arith, nat_tests)
+
+true_false : {a : Bool} → a ≡ true → a ≡ false → ⊥
+true_false e f = cc
+
+-- what is anchored elsewhere does not matter
+need-elsewhere : (m : Contents) (r : AddressRange) (rs : List AddressRange)
+    → ((q : ℕ) → covers q r ≡ true → lies_in_some rs q ≡ false)
+    → need_of (anchored m r.lba r.count) rs ≡ need_of m rs
+need-elsewhere m r [] h = refl
+need-elsewhere m r (s ∷ rs) h =
+    let off : (i : ℕ) → i < s.count → covers (s.lba + i) r ≡ false =
+    λ i lt. not_true (covers (s.lba + i) r) (λ f. true_false (inside s.lba s.count i lt)
+    (or_left (covers (s.lba + i) s) (lies_in_some rs (s.lba + i)) (h (s.lba + i) f))) in
+    ap₂ (λ x y. x + y)
+    (need-alike (anchored m r.lba r.count) m s.lba s.count (λ i lt.
+    contains-remapped m r.lba r.count (λ index. Anchored) (s.lba + i)
+    ∙ ap (λ b. b || map.contains_key m (s.lba + i)) (off i lt)))
+    (need-elsewhere m r rs (λ q e. right (covers q s) (lies_in_some rs q) (h q e)))
+  where
+    right : (a b : Bool) → (a || b) ≡ false → b ≡ false
+    right true b e = let wrong = e in cc
+    right false b e = e
+
+pub len-over : (m : Contents) (rs : List AddressRange) → AreDisjoint rs
+    → map.len (anchored_over m rs) ≡ map.len m + need_of m rs
+len-over m [] h = omega arith
+len-over m (r ∷ rs) h =
+    let rest = len-over (anchored m r.lba r.count) rs h.1 in
+    let one = len-needed m r.lba r.count (λ index. Anchored) in
+    let same = need-elsewhere m r rs h.0 in
+    omega arith
+
+-- what joined ranges need is what anchoring the extents takes
+pub need-joined : (m : Contents) (extents : List Extent) (joined : List AddressRange)
+    → AreJoined (map range_of extents) joined
+    → map.len (anchored_in_turn m extents) ≡ map.len m + need_of m joined
+need-joined m extents joined h =
+    ap map.len (sym (over-extents m extents) ∙ over-same m (map range_of extents) joined
+    (λ q. sym (h.same q)))
+    ∙ len-over m joined h.disjoint
+
+-- ---- the extents in turn
+
+pub in_turn-more : (m : Contents) (extents : List Extent) (last : Extent)
+    → anchored_in_turn m (extents ++ last ∷ [])
+    ≡ anchored (anchored_in_turn m extents) last.lba last.count
+in_turn-more m [] last = refl
+in_turn-more m (e ∷ es) last = in_turn-more (anchored m e.lba e.count) es last
+
+len-grows : (m : Contents) (extents : List Extent) → map.len m ≤ map.len (anchored_in_turn m extents)
+len-grows m [] = omega arith
+len-grows m (e ∷ es) =
+    let rest = len-grows (anchored m e.lba e.count) es in
+    let one = len-needed m e.lba e.count (λ index. Anchored) in
+    omega arith
+
+in_turn-append : (m : Contents) (xs ys : List Extent)
+    → anchored_in_turn m (xs ++ ys) ≡ anchored_in_turn (anchored_in_turn m xs) ys
+in_turn-append m [] ys = refl
+in_turn-append m (x ∷ xs) ys = in_turn-append (anchored m x.lba x.count) xs ys
+
+-- as far as an extent there is room where there is room for all
+pub room-first : (m : Contents) (xs ys : List Extent)
+    → map.len (anchored_in_turn m xs) ≤ map.len (anchored_in_turn m (xs ++ ys))
+room-first m xs ys = let more = len-grows (anchored_in_turn m xs) ys in
+    let e = ap map.len (in_turn-append m xs ys) in omega arith
+
+pub ranges-within : (capacity : ℕ) (extents : List Extent) → AreOnDisk capacity extents
+    → AreWithin capacity (map range_of extents)
+ranges-within capacity [] h = tt
+ranges-within capacity (e ∷ es) h = (h.0, ranges-within capacity es h.1)
+
+pub within-weaker : (low high : ℕ) (rs : List AddressRange) → low ≤ high → AreWithin low rs
+    → AreWithin high rs
+within-weaker low high [] le h = tt
+within-weaker low high (r ∷ rs) le h = (omega (arith, h.0), within-weaker low high rs le h.1)
+
+pub need-le : (m : Contents) (a k : ℕ) → need m a k ≤ k
+need-le m a k = omega (arith, need-used m a k)
