@@ -1,11 +1,16 @@
 -- The record at an address, from the cursor.
 use Rattle.std.proofs.Common.{◌≡◌, ◌≢◌, ℕ, ◌+◌, ◌<◌, List, length, arith, refl, sym, ap, ◌∙◌}
-use Rattle.std.proofs.Common.{Option, Some, None, cond, Bool, true, false, eq-eqb}
+use Rattle.sg_store.specs.Disk.{zero_block}
+use Rattle.std.proofs.Common.{replicate, Option, Some, None, cond, Bool, true, false, eq-eqb}
 use Rattle.std.proofs.lemmas.Bool.Decides.{nat_tests}
 use Rattle.std.specs.Prelude.{slice_index_or, unwrap_or, ◌==◌}
 use Rattle.sg_table.specs.Records.{start_of, IsSorted, IsNext, ahead}
 use Rattle.sg_plain_map.specs.Editing.{IsAt}
 use Rattle.sg_table.specs.Records.{run_at}
+use Rattle.sg_plain_map.specs.Editing.{is_data}
+use Rattle.sg_plain_map.specs.Status.{of_kind}
+use Rattle.sg_table.specs.declared.run.Kind.{Kind}
+use Rattle.sg_table.specs.declared.run.Kind.TheVariants.{Data, Anchored}
 use Rattle.sg_table.specs.declared.run.Run.{Run}
 use Rattle.sg_table.specs.declared.cursor.Cursor.{Cursor}
 use Rattle.sg_table.proofs.RecordLemmas.{start_of-read, none_at, index-unmapped}
@@ -20,6 +25,21 @@ dropped false r e = refl
 
 same_number : (x y : ℕ) → (x == y) ≡ true → x ≡ y
 same_number x y e = grind (arith, nat_tests)
+
+of_data : (r run : Run) (kind : Kind) → r.kind ≡ kind
+    → cond (is_data kind) (Some r) None ≡ Some run → (Some r ≡ Some run) × (run.kind ≡ Data)
+of_data r run Data is e = (e, ap (λ (x : Run). x.kind) (sym (ap (λ o. unwrap_or o r) e)) ∙ is)
+of_data r run Anchored is e = let wrong = e in cc
+
+of_anchored : (r run : Run) (kind : Kind) → r.kind ≡ kind
+    → cond (is_data kind) None (Some r) ≡ Some run → (Some r ≡ Some run) × (run.kind ≡ Anchored)
+of_anchored r run Data is e = let wrong = e in cc
+of_anchored r run Anchored is e =
+    (e, ap (λ (x : Run). x.kind) (sym (ap (λ o. unwrap_or o r) e)) ∙ is)
+
+none_of : (r : Run) (kind : Kind) → r.kind ≡ kind → of_kind kind (Some r) ≡ None → ⊥
+none_of r Data is e = let wrong = rw is at e in cc
+none_of r Anchored is e = let wrong = rw is at e in cc
 
 -- the record that was looked for is at the index
 pub found : (rs : List Run) (next : Option Run) (p lba : ℕ) (run : Run) → IsNext rs p next
@@ -57,3 +77,19 @@ stays-at rs cursor lba sorted at e = record {
       (missed rs cursor.next cursor.index lba at.next e);
   next = at.next;
 }
+
+-- the record of a kind
+pub of_kind-found : (kind : Kind) (o : Option Run) (run : Run) → of_kind kind o ≡ Some run
+    → (o ≡ Some run) × (run.kind ≡ kind)
+of_kind-found kind None run e = let wrong = e in cc
+of_kind-found Data (Some r) run e = of_data r run r.kind refl e
+of_kind-found Anchored (Some r) run e = of_anchored r run r.kind refl e
+
+pub of_kind-missed : (kind : Kind) (o : Option Run) (run : Run) → of_kind kind o ≡ None
+    → o ≡ Some run → run.kind ≢ kind
+of_kind-missed kind o run e is same = let wrong = rw is at e in none_of run kind same wrong
+
+-- what a block of zeros has
+pub zeros : (n : ℕ) (xs : List ℕ) → n ≡ 512 → xs ≡ replicate n 0 → xs ≡ zero_block
+unfolding zero_block
+zeros n xs e is = is ∙ ap (λ k. replicate k 0) e

@@ -1,26 +1,52 @@
 -- One step of an edit.
 use Rattle.std.proofs.Common.{◌≡◌, ◌≢◌, ℕ, ◌+◌, ◌<◌, List, [], ◌∷◌, ◌++◌, length, set, arith, sym}
-use Rattle.std.proofs.Common.{ap, ◌∙◌, Some, None, length-append}
+use Rattle.std.proofs.Common.{ap, ◌∙◌, Some, None, length-append, length-set, true, refl, get_or, drop}
+use Rattle.std.proofs.Common.{append_assoc, take, add-one, ◌≤◌}
+use Rattle.std.proofs.Math.Seq.{drop-cons, set-append_seam}
 use Rattle.std.specs.FinMap as map
 use Rattle.std.specs.Prelude.{slice_index_or, insert}
+use Rattle.std.specs.List.{splice}
 use Rattle.sg_store.specs.Disk.{Contents}
-use Rattle.sg_pool.specs.MappedRecords.{contents_of}
-use Rattle.sg_table.specs.Records.{start_of, IsLowerBound, IsNext}
-use Rattle.sg_store.specs.Disk.{mapped_at}
+use Rattle.sg_store.specs.Disk.Mapping.{Data}
+use Rattle.sg_pool.specs.MappedRecords.{contents_of, mapping_in}
+use Rattle.sg_table.specs.Records.{start_of, IsLowerBound, IsNext, with_kind}
+use Rattle.sg_store.specs.Disk.{used_at}
 use Rattle.sg_pool.specs.Slots.{Slots}
 use Rattle.sg_pool.specs.MappedRecords.{IsConsistent}
 use Rattle.sg_table.specs.Draft.{Drafted, pushed}
-use Rattle.sg_plain_map.specs.Editing.{edited, IsEditing}
+use Rattle.sg_plain_map.specs.Editing.{edited, has_data, is_data, IsEditing}
 use Rattle.sg_table.specs.Records.{run_at}
+use Rattle.sg_table.specs.declared.run.Kind.TheVariants.{Data as DataKind, Anchored as AnchoredKind}
 use Rattle.sg_table.specs.declared.run.Run.{Run}
 use Rattle.sg_table.specs.declared.cursor.Cursor.{Cursor}
 use Rattle.sg_table.proofs.RecordLemmas.{none_at, index-mapped}
-use Rattle.sg_pool.proofs.MappedLemmas.{none_mapped, one_mapped}
+use Rattle.sg_pool.proofs.MappedLemmas.{none_used, one_used}
 use Rattle.sg_table.proofs.IndexLemmas.{index-insert}
-use Rattle.sg_table.proofs.SpliceLemmas.{insert-splice, same-splice, next-splice}
+use Rattle.sg_table.proofs.SpliceLemmas.{front_of, insert-splice, same-splice, next-splice}
 use Rattle.sg_pool.proofs.ConsistencyLemmas.{have_slots, consistent-added, contents-added}
-use Rattle.sg_pool.proofs.ConsistencyLemmas.{consistent-over, contents-over}
+use Rattle.sg_pool.proofs.ConsistencyLemmas.{consistent-kind, consistent-over, contents-changed}
+use Rattle.sg_pool.proofs.ConsistencyLemmas.{starts-kind}
 use Rattle.sg_plain_map.proofs.CursorLemmas.{found, missed}
+
+-- a record of the table is drafted with a change
+set-splice : (rs done : List Run) (from i : ℕ) (r : Run) → from ≤ length rs → i < length rs
+    → splice rs from (i + 1) (done ++ r ∷ []) ≡ set (splice rs from i done) (from + length done) r
+set-splice rs done from i r h lt =
+    let p : List Run = take from rs in let t : List Run = drop (i + 1) rs in
+    let n : from + length done ≡ length (p ++ done) =
+    omega (arith, length-append p done, front_of rs from h) in
+    let next : drop i rs ≡ get_or rs i r ∷ t = rw add-one (drop-cons rs i r lt) in
+    let whole : p ++ (done ++ get_or rs i r ∷ t) ≡ (p ++ done) ++ get_or rs i r ∷ t =
+    sym (append_assoc p done (get_or rs i r ∷ t)) in
+    sym (rw (next, whole, n) (set-append_seam (p ++ done) (get_or rs i r) t r
+    ∙ append_assoc p done (r ∷ t) ∙ ap (λ x. p ++ x) (sym (append_assoc done (r ∷ []) t))))
+
+-- what is data already does not change
+same-kind : (run : Run) → is_data run.kind ≡ true → with_kind DataKind run ≡ run
+same-kind run e = elim run.kind as (λ k. is_data k ≡ true → with_kind DataKind run ≡ with_kind k run) [
+  | DataKind ↦ λ is. refl
+  | AnchoredKind ↦ λ is. let wrong = is in cc
+] e
 
 module _ {rs : List Run} {room : ℕ} {slots : Slots} {draft : Drafted} {cursor : Cursor} {lba : ℕ}
     (h : IsEditing rs room slots draft cursor lba) where
@@ -47,13 +73,16 @@ module _ {rs : List Run} {room : ℕ} {slots : Slots} {draft : Drafted} {cursor 
         (next-splice rs draft.records draft.from cursor.index cursor.next
         (omega (arith, h.within)) h.within.1 h.next) none)
 
-    pub unmapped-there : mapped_at (contents slots draft cursor) lba ≡ 0
-    unmapped-there = none_mapped now slots.blocks lba not-there
+    pub unmapped-there : used_at (contents slots draft cursor) lba ≡ 0
+    unmapped-there = none_used (mapping_in slots.blocks) now lba not-there
+
+    pub unmapped-same : {A : Type 0} → has_data (run_at cursor.next lba) ≡ true → A
+    unmapped-same e = let wrong = rw none at e in cc
 
     module _ (slots' : Slots) (draft' : Drafted) (run : Run) (b : List ℕ)
         (taken : slots.free ≡ run.first ∷ slots'.free)
         (put : slots'.blocks ≡ set slots.blocks run.first b) (start : run.start ≡ lba)
-        (drafted : draft' ≡ pushed draft run) where
+        (kind : run.kind ≡ DataKind) (drafted : draft' ≡ pushed draft run) where
       consistent : IsConsistent now slots.blocks (run.first ∷ slots'.free) room
       consistent = rw taken at h.consistent
 
@@ -66,9 +95,10 @@ module _ {rs : List Run} {room : ℕ} {slots : Slots} {draft : Drafted} {cursor 
       inserted : edited rs (pushed draft run) cursor ≡ insert now at run
       inserted = sym (insert-splice rs draft.records draft.from cursor.index run (omega (arith, h.within)))
 
-      pub added-contents : contents slots' draft' cursor ≡ map.insert (contents slots draft cursor) lba b
+      pub added-contents : contents slots' draft' cursor
+          ≡ map.insert (contents slots draft cursor) lba (Data b)
       added-contents = rw (drafted, put, inserted, sym start)
-          (contents-added now slots.blocks slots'.free room at run b consistent other)
+          (contents-added now slots.blocks slots'.free room at run b consistent other kind)
 
       pub added-editing : IsEditing rs room slots' draft' cursor (lba + 1)
       added-editing = rw (drafted, sym start) (record {
@@ -77,8 +107,6 @@ module _ {rs : List Run} {room : ℕ} {slots : Slots} {draft : Drafted} {cursor 
         within = h.within;
         next = h.next;
         index = rw (inserted, on run) (index-insert now at run index other);
-        longer = omega (arith, h.longer, longer run);
-        same = λ e. absurd (omega (arith, h.longer, longer run, e));
       })
 
   -- the address is mapped
@@ -93,37 +121,56 @@ module _ {rs : List Run} {room : ℕ} {slots : Slots} {draft : Drafted} {cursor 
     pub slot-there : run.first < length slots.blocks
     slot-there = have_slots now slots.blocks slots.free room h.consistent at run there.0 there.1
 
-    pub mapped-there : mapped_at (contents slots draft cursor) lba ≡ 1
-    mapped-there = one_mapped now slots.blocks at lba run h.consistent.sorted there.0 (sym there.1) here.2
+    pub mapped-there : used_at (contents slots draft cursor) lba ≡ 1
+    mapped-there = one_used (mapping_in slots.blocks) now at lba run h.consistent.sorted there.0 (sym there.1) here.2
+
+    abbrev new : Run
+    new = with_kind DataKind run
 
     module _ (slots' : Slots) (draft' : Drafted) (b : List ℕ) (cursor' : Cursor)
         (free : slots'.free ≡ slots.free) (put : slots'.blocks ≡ set slots.blocks run.first b)
-        (drafted : draft' ≡ pushed draft run) (moved : cursor'.index ≡ cursor.index + 1) where
-      kept : edited rs draft' cursor' ≡ now
-      kept =
-          rw (drafted, moved) (same-splice rs draft.records draft.from cursor.index run here.0
-          (sym here.1))
+        (drafted : draft' ≡ pushed draft new) (moved : cursor'.index ≡ cursor.index + 1) where
+      changed : edited rs draft' cursor' ≡ set now at new
+      changed = rw (drafted, moved) (set-splice rs draft.records draft.from cursor.index new
+          (omega (arith, h.within)) here.0)
+
+      consistent' : IsConsistent (set now at new) slots.blocks slots.free room
+      consistent' = consistent-kind now slots.blocks slots.free room at run DataKind h.consistent
+          there.0 (sym there.1)
 
       starts : draft'.from ≡ draft.from
       starts = ap (λ (d : Drafted). d.from) drafted
 
-      ends : draft'.from + length draft'.records ≡ at + 1
-      ends = ap (λ (d : Drafted). d.from + length d.records) drafted ∙ on run
+      index' : IsLowerBound (set now at new) (at + 1) (lba + 1)
+      index' =
+          let p = index-mapped now at lba run h.consistent.sorted h.index there.0 (sym there.1) here.2 in
+          record {
+            within = rw length-set p.within;
+            before = λ j lt. rw (starts-kind now at run DataKind j (sym there.1) there.0) (p.before j lt);
+            after = λ j le lt.
+                rw (starts-kind now at run DataKind j (sym there.1) there.0)
+                (p.after j le (rw length-set at lt));
+          }
 
-      pub over-contents : contents slots' draft' cursor' ≡ map.insert (contents slots draft cursor) lba b
-      over-contents = rw (kept, put, sym here.2)
-          (contents-over now slots.blocks slots.free room at run b h.consistent there.0
+      pub over-contents : contents slots' draft' cursor'
+          ≡ map.insert (contents slots draft cursor) lba (Data b)
+      over-contents = rw (changed, put, sym here.2)
+          (contents-changed now slots.blocks slots.free room at run b h.consistent there.0
           (sym there.1))
 
       pub over-editing : IsNext rs cursor'.index cursor'.next
           → IsEditing rs room slots' draft' cursor' (lba + 1)
       over-editing next = record {
-        consistent = rw (kept, put, free)
-            (consistent-over now slots.blocks slots.free room run.first b h.consistent);
+        consistent = rw (changed, put, free)
+            (consistent-over (set now at new) slots.blocks slots.free room run.first b consistent');
         within = (omega (arith, starts, moved, h.within), omega (arith, moved, here.0));
         next = next;
-        index = rw (kept, drafted, on run)
-            (index-mapped now at lba run h.consistent.sorted h.index there.0 (sym there.1) here.2);
-        longer = omega (arith, ends, moved, h.longer);
-        same = λ e. kept ∙ h.same (omega (arith, ends, moved, e));
+        index = rw (changed, drafted, on new) index';
       }
+
+      -- an address that has data keeps its record
+      pub over-same : has_data (run_at cursor.next lba) ≡ true → edited rs draft' cursor' ≡ now
+      over-same e =
+          let kept = same-kind run (rw is at e) in
+          rw (drafted, moved, kept)
+          (same-splice rs draft.records draft.from cursor.index run here.0 (sym here.1))

@@ -6,13 +6,13 @@ use Rattle.std.proofs.lemmas.Bool.{cases_lt}
 use Rattle.std.proofs.lemmas.Bool.Decides.{nat_tests}
 use Rattle.std.proofs.lemmas.List.Edits.{length-insert}
 use Rattle.std.specs.List.{splice}
-use Rattle.std.specs.Prelude.{take, drop, insert, not, slice_index_or}
+use Rattle.std.specs.Prelude.{take, drop, insert, not}
 use Rattle.std.specs.Ordering.{nat_cmp}
 use Rattle.std.specs.Cmp.{nat_cmp_total}
 use Rattle.std.specs.FinMap.{find, get-from_entries, same_map, nat_cmp-IsAntisymmetric}
-use Rattle.sg_store.specs.Disk.{zero_block, lies_in, unmapped}
+use Rattle.sg_store.specs.Disk.{lies_in, unmapped}
 use Rattle.sg_table.specs.Records.{start_of, IsSorted, IsLowerBound}
-use Rattle.sg_pool.specs.MappedRecords.{mapped_blocks, contents_of}
+use Rattle.sg_pool.specs.MappedRecords.{Seen, entries_by, contents_by}
 use Rattle.sg_table.specs.Records.{slots_of}
 use Rattle.sg_table.specs.Occurrences.{occurrences}
 use Rattle.sg_pool.specs.MappedRecords.{IsConsistent}
@@ -103,66 +103,66 @@ module _ (rs : List Run) (from i : ℕ) (r : Run) (le : from ≤ i) (lt : i < le
     unmapped-consistent = consistent-removed less bs free room from r within (rw one_less at h)
 
 -- the address of a record that stays
-find-drop : (rs : List Run) (bs : List (List ℕ)) (n q : ℕ)
+find-drop : (see : Seen) (rs : List Run) (n q : ℕ)
     → ((i : ℕ) → i < n → i < length rs → start_of rs i ≢ q)
-    → find nat_cmp q (mapped_blocks (drop n rs) bs) ≡ find nat_cmp q (mapped_blocks rs bs)
-find-drop rs bs zero q other = refl
-find-drop [] bs (suc n) q other = refl
-find-drop (x ∷ rs) bs (suc n) q other =
+    → find nat_cmp q (entries_by see (drop n rs)) ≡ find nat_cmp q (entries_by see rs)
+find-drop see rs zero q other = refl
+find-drop see [] (suc n) q other = refl
+find-drop see (x ∷ rs) (suc n) q other =
     rw (eq_other q x.start (λ e. other 0 (omega arith) (omega arith) (sym e)))
-    (find-drop rs bs n q (λ i lt h. other (suc i) (omega arith) (omega arith)))
+    (find-drop see rs n q (λ i lt h. other (suc i) (omega arith) (omega arith)))
 
-find-splice : (rs : List Run) (bs : List (List ℕ)) (from to q : ℕ) → from ≤ to
+find-splice : (see : Seen) (rs : List Run) (from to q : ℕ) → from ≤ to
     → ((i : ℕ) → from ≤ i → i < to → i < length rs → start_of rs i ≢ q)
-    → find nat_cmp q (mapped_blocks (splice rs from to []) bs) ≡ find nat_cmp q (mapped_blocks rs bs)
-find-splice rs bs zero to q le other = find-drop rs bs to q (λ i lt h. other i (omega arith) lt h)
-find-splice rs bs (suc from) zero q le other = absurd (omega arith)
-find-splice [] bs (suc from) (suc to) q le other = refl
-find-splice (x ∷ rs) bs (suc from) (suc to) q le other =
-    ap (cond _ (Some (slice_index_or bs x.first zero_block)))
-    (find-splice rs bs from to q (omega arith)
+    → find nat_cmp q (entries_by see (splice rs from to [])) ≡ find nat_cmp q (entries_by see rs)
+find-splice see rs zero to q le other = find-drop see rs to q (λ i lt h. other i (omega arith) lt h)
+find-splice see rs (suc from) zero q le other = absurd (omega arith)
+find-splice see [] (suc from) (suc to) q le other = refl
+find-splice see (x ∷ rs) (suc from) (suc to) q le other =
+    ap (cond _ (Some (see x.first x.kind)))
+    (find-splice see rs from to q (omega arith)
     (λ i ge lt h. other (suc i) (omega arith) (omega arith) (omega arith)))
 
 -- and of one that is removed
-drop-none : (rs : List Run) (bs : List (List ℕ)) (n q : ℕ)
+drop-none : (see : Seen) (rs : List Run) (n q : ℕ)
     → ((i : ℕ) → n ≤ i → i < length rs → start_of rs i ≢ q)
-    → find nat_cmp q (mapped_blocks (drop n rs) bs) ≡ None
-drop-none rs bs zero q other = find-unmapped rs bs q (λ i h. other i (omega arith) h)
-drop-none [] bs (suc n) q other = refl
-drop-none (x ∷ rs) bs (suc n) q other =
-    drop-none rs bs n q (λ i ge h. other (suc i) (omega arith) (omega arith))
+    → find nat_cmp q (entries_by see (drop n rs)) ≡ None
+drop-none see rs zero q other = find-unmapped see rs q (λ i h. other i (omega arith) h)
+drop-none see [] (suc n) q other = refl
+drop-none see (x ∷ rs) (suc n) q other =
+    drop-none see rs n q (λ i ge h. other (suc i) (omega arith) (omega arith))
 
-splice-none : (rs : List Run) (bs : List (List ℕ)) (from to q : ℕ) → from ≤ to
+splice-none : (see : Seen) (rs : List Run) (from to q : ℕ) → from ≤ to
     → ((i : ℕ) → i < from → i < length rs → start_of rs i ≢ q)
     → ((i : ℕ) → to ≤ i → i < length rs → start_of rs i ≢ q)
-    → find nat_cmp q (mapped_blocks (splice rs from to []) bs) ≡ None
-splice-none rs bs zero to q le before after = drop-none rs bs to q after
-splice-none rs bs (suc from) zero q le before after = absurd (omega arith)
-splice-none [] bs (suc from) (suc to) q le before after = refl
-splice-none (x ∷ rs) bs (suc from) (suc to) q le before after =
+    → find nat_cmp q (entries_by see (splice rs from to [])) ≡ None
+splice-none see rs zero to q le before after = drop-none see rs to q after
+splice-none see rs (suc from) zero q le before after = absurd (omega arith)
+splice-none see [] (suc from) (suc to) q le before after = refl
+splice-none see (x ∷ rs) (suc from) (suc to) q le before after =
     rw (eq_other q x.start (λ e. before 0 (omega arith) (omega arith) (sym e)))
-    (splice-none rs bs from to q (omega arith)
+    (splice-none see rs from to q (omega arith)
     (λ i lt h. before (suc i) (omega arith) (omega arith))
     (λ i ge h. after (suc i) (omega arith) (omega arith)))
 
 -- the contents without the records of a range
-module _ (rs : List Run) (bs : List (List ℕ)) (from to a k : ℕ) (rises : IsSorted rs)
+module _ (see : Seen) (rs : List Run) (from to a k : ℕ) (rises : IsSorted rs)
     (p : IsLowerBound rs from a) (t : IsLowerBound rs to (a + k)) (le : from ≤ to) where
   outside : (q : ℕ) → (q < a) ⊎ (a + k ≤ q)
-      → find nat_cmp q (mapped_blocks (splice rs from to []) bs) ≡
-      find nat_cmp q (mapped_blocks rs bs)
-  outside q out = find-splice rs bs from to q le (λ i ge lt h e.
+      → find nat_cmp q (entries_by see (splice rs from to [])) ≡
+      find nat_cmp q (entries_by see rs)
+  outside q out = find-splice see rs from to q le (λ i ge lt h e.
       let low : a ≤ start_of rs i = p.after i ge h in
       let high : start_of rs i < a + k = t.before i lt in
       elim out [ inl below ↦ absurd (omega arith) | inr above ↦ absurd (omega arith) ])
 
-  inside : (q : ℕ) → a ≤ q → q < a + k → find nat_cmp q (mapped_blocks (splice rs from to []) bs) ≡ None
-  inside q low high = splice-none rs bs from to q le
+  inside : (q : ℕ) → a ≤ q → q < a + k → find nat_cmp q (entries_by see (splice rs from to [])) ≡ None
+  inside q low high = splice-none see rs from to q le
       (λ i lt h e. let b : start_of rs i < a = p.before i lt in absurd (omega arith))
       (λ i ge h e. let b : a + k ≤ start_of rs i = t.after i ge h in absurd (omega arith))
 
-  at_each : (q : ℕ) → find nat_cmp q (mapped_blocks (splice rs from to []) bs) ≡
-      cond (not (lies_in a k q)) (find nat_cmp q (mapped_blocks rs bs)) None
+  at_each : (q : ℕ) → find nat_cmp q (entries_by see (splice rs from to [])) ≡
+      cond (not (lies_in a k q)) (find nat_cmp q (entries_by see rs)) None
   at_each q = elim (cases_lt q a) [
     | inl below ↦ let no : lies_in a k q ≡ false = grind (arith, nat_tests) in rw no (outside q (inl below))
     | inr low ↦ elim (cases_lt q (a + k)) [
@@ -171,10 +171,10 @@ module _ (rs : List Run) (bs : List (List ℕ)) (from to a k : ℕ) (rises : IsS
     ]
   ]
 
-  pub contents-unmapped : contents_of (splice rs from to []) bs ≡ unmapped (contents_of rs bs) a k
+  pub contents-unmapped : contents_by see (splice rs from to []) ≡ unmapped (contents_by see rs) a k
   contents-unmapped = same_map nat_cmp_total nat_cmp-IsAntisymmetric _ _ (λ q.
-      get-from_entries nat_cmp_total (mapped_blocks (splice rs from to []) bs) q
+      get-from_entries nat_cmp_total (entries_by see (splice rs from to [])) q
       ∙ at_each q
       ∙ ap (λ o. cond (not (lies_in a k q)) o None)
-      (sym (get-from_entries nat_cmp_total (mapped_blocks rs bs) q))
-      ∙ sym (get-unmapped (contents_of rs bs) a k q))
+      (sym (get-from_entries nat_cmp_total (entries_by see rs) q))
+      ∙ sym (get-unmapped (contents_by see rs) a k q))

@@ -1,14 +1,17 @@
 -- Reading and editing the table in the order of addresses.
 use Rattle.std.specs.Prelude.{◌≡◌, ℕ, ◌+◌, ◌-◌, ◌<◌, ◌≤◌, List, length}
+use Rattle.std.specs.Prelude.{Bool, true, false, Option, Some, None}
 use Rattle.std.specs.List.{splice}
-use Rattle.sg_store.specs.Disk.{Contents, mapped_at}
+use Rattle.sg_store.specs.Disk.{Contents, used_at}
 use Rattle.sg_plain_map.specs.PlainCost.{plain_least, plain_price}
-use Rattle.sg_table.specs.Records.{HaveSlots, IsLowerBound, IsNext, IsSorted}
+use Rattle.sg_table.specs.Records.{HaveSlots, IsLowerBound, IsNext, IsSorted, run_at}
 use Rattle.sg_pool.specs.MappedRecords.{contents_of}
 use Rattle.sg_pool.specs.Slots.{Slots}
 use Rattle.sg_pool.specs.MappedRecords.{IsConsistent}
 use Rattle.sg_table.specs.Table.{Table, visited}
 use Rattle.sg_table.specs.Draft.{Drafted}
+use Rattle.sg_table.specs.declared.run.Kind.{Kind}
+use Rattle.sg_table.specs.declared.run.Kind.TheVariants.{Data, Anchored}
 use Rattle.sg_table.specs.declared.run.Run.{Run}
 use Rattle.sg_table.specs.declared.cursor.Cursor.{Cursor}
 use Rattle.sg_store.specs.declared.store.TheConstants.{MAX_CAPACITY, MAX_COUNT, MAX_POOL}
@@ -54,6 +57,11 @@ pub record VisitsRange (contents : Contents) (lba count : ℕ) (before after : T
   pub least : before.total + plain_least contents lba count ≤ after.total
   pub price : after.total ≤ before.total + plain_price contents lba count
 
+-- Whether a record of a kind has data.
+abbrev pub is_data : Kind → Bool
+is_data Data = true
+is_data Anchored = false
+
 -- The table with the drafted records in place of those up to the cursor.
 abbrev pub edited : List Run → Drafted → Cursor → List Run
 edited records draft cursor = splice records draft.from cursor.index draft.records
@@ -62,31 +70,36 @@ edited records draft cursor = splice records draft.from cursor.index draft.recor
 abbrev pub edited_contents : Table → Slots → Drafted → Cursor → Contents
 edited_contents table slots draft cursor = contents_of (edited table.records draft cursor) slots.blocks
 
--- The edited table and the slots are consistent, the next record to be drafted is that of the
--- address or one past it, and a draft that has no more records than it replaces has the same.
+-- Whether the record of an address, if it has one, has data.
+abbrev pub has_data : Option Run → Bool
+has_data None = false
+has_data (Some run) = is_data run.kind
+
+-- The edited table and the slots are consistent, and the next record to be drafted is that of the
+-- address or one past it.
 pub record IsEditing (records : List Run) (room : ℕ) (slots : Slots) (draft : Drafted) (cursor : Cursor)
     (lba : ℕ) : Type 0 where
   pub consistent : IsConsistent (edited records draft cursor) slots.blocks slots.free room
   pub within : (draft.from ≤ cursor.index) × (cursor.index ≤ length records)
   pub next : IsNext records cursor.index cursor.next
   pub index : IsLowerBound (edited records draft cursor) (draft.from + length draft.records) lba
-  pub longer : cursor.index ≤ draft.from + length draft.records
-  pub same : draft.from + length draft.records ≡ cursor.index → edited records draft cursor ≡ records
 
 -- There is room for one more record and one more block, unless the address has one, and the table is no
 -- larger than allowed.
 pub record HasRoom (table : Table) (slots : Slots) (draft : Drafted) (cursor : Cursor) (lba : ℕ) :
     Type 0 where
   pub draft_room : length draft.records < draft.room
-  pub free : 0 < length slots.free + mapped_at (edited_contents table slots draft cursor) lba
+  pub free : 0 < length slots.free + used_at (edited_contents table slots draft cursor) lba
   pub table_size : length table.records ≤ MAX_POOL
 
--- An address is passed, which is mapped or not, and its record drafted: the cursor goes past the record
--- that it has, and else a slot is taken.
-pub record Drafts (mapped : ℕ) (cursor cursor' : Cursor) (slots slots' : Slots)
-    (draft draft' : Drafted) : Type 0 where
-  pub index : cursor'.index ≡ cursor.index + mapped
+-- An address is passed, which has a slot or not, and its record drafted: the cursor goes past the
+-- record that it has, and else a slot is taken. A record of data is drafted as it is.
+pub record Drafts (records : List Run) (lba used : ℕ) (cursor cursor' : Cursor)
+    (slots slots' : Slots) (draft draft' : Drafted) : Type 0 where
+  pub index : cursor'.index ≡ cursor.index + used
   pub free : length slots'.free + 1 + cursor.index ≡ length slots.free + cursor'.index
   pub from : draft'.from ≡ draft.from
   pub drafted : length draft'.records ≡ length draft.records + 1
   pub room : draft'.room ≡ draft.room
+  pub same : has_data (run_at cursor.next lba) ≡ true
+      → edited records draft' cursor' ≡ edited records draft cursor

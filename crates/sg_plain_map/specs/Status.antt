@@ -1,8 +1,12 @@
 -- The records of addresses in a row, and the gaps between them.
-use Rattle.std.specs.Prelude.{◌≡◌, ℕ, ◌+◌, ◌<◌, ◌≤◌, List, length}
+use Rattle.std.specs.Prelude.{◌≡◌, ℕ, ◌+◌, ◌<◌, ◌≤◌, List, length, slice_index_or}
+use Rattle.std.specs.Prelude.{Option, Some, None, if◌then◌else◌}
 use Rattle.sg_table.specs.Records.{start_of, IsSorted}
+use Rattle.sg_table.specs.declared.run.Kind.{Kind}
+use Rattle.sg_table.specs.declared.run.Kind.TheVariants.{Data, Anchored}
 use Rattle.sg_table.specs.declared.run.Run.{Run}
 use Rattle.sg_store.specs.declared.store.TheConstants.{MAX_CAPACITY, MAX_POOL}
+use Rattle.sg_plain_map.specs.Editing.{is_data}
 
 -- A sorted table of a disk, of which no record lies past the end. Both are no larger than allowed.
 pub record IsTableOf (capacity : ℕ) (records : List Run) : Type 0 where
@@ -11,6 +15,15 @@ pub record IsTableOf (capacity : ℕ) (records : List Run) : Type 0 where
   pub table_size : length records ≤ MAX_POOL
   pub capacity_fits : capacity ≤ MAX_CAPACITY
 
--- The records from one index to another are those of the addresses from one on, without a gap.
-abbrev pub AreInRow : List Run → (from to lba : ℕ) → Type 0
-AreInRow records from to lba = (i : ℕ) → from ≤ i → i < to → start_of records i + from ≡ lba + i
+-- The record, if it has a kind.
+abbrev pub of_kind : Kind → Option Run → Option Run
+of_kind kind None = None
+of_kind Data (Some run) = if is_data run.kind then Some run else None
+of_kind Anchored (Some run) = if is_data run.kind then None else Some run
+
+-- The records from one index to another are those of the addresses from one on, without a gap, and
+-- each has the kind.
+abbrev pub AreInRow : List Run → (from to lba : ℕ) → Kind → Type 0
+AreInRow records from to lba kind = (i : ℕ) → from ≤ i → i < to
+    → (run : Run) × (slice_index_or records i run ≡ run) × (run.start + from ≡ lba + i)
+    × (run.kind ≡ kind)

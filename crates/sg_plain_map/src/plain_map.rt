@@ -1,7 +1,9 @@
-// The store itself: a record for each mapped block, in a table, and its block in a slot of a pool. What
-// its calls do to the records is in the other files.
+// The store itself: a record for each address that is mapped or anchored, in a table, and its block in a
+// slot of a pool. What its calls do to the records is in the other files.
 ghost use Rattle.std.specs.Prelude.{◌≡◌, ◌+◌, ◌≤◌, ◌↔◌, IsErr, OnOk, OnErr};
+ghost use Rattle.std.proofs.Props.{props};
 ghost use Rattle.sg_store.specs.Disk.{IsWellFormed, IsOverfull, disk_replaced};
+ghost use Rattle.sg_store.specs.DiskProps.{IsWhole-IsProp};
 ghost use Rattle.sg_store.specs.Meter.{HasHeadroom, ChargedOnOk};
 ghost use Rattle.sg_plain_map.specs.PlainCost.{plain_price, plain_price-within, plain_least};
 ghost use Rattle.sg_plain_map.specs.PlainCost.{plain_least-positive};
@@ -20,9 +22,9 @@ use sg_table::{Draft, RunTable};
 use sg_wire::Cut;
 use std::alloc::{AllocError, Global};
 
-/// A disk of which each mapped block has a record of its own (SBC-3, 4.7).
+/// A disk of which each mapped or anchored address has a record of its own (SBC-3, 4.7).
 ///
-/// A call over a range visits the records of the mapped addresses in it, and at most one more.
+/// A call over a range visits the records of those addresses in it, and at most one more.
 #[derive(Drop)]
 pub struct PlainMap {
     capacity: u64,
@@ -32,7 +34,7 @@ pub struct PlainMap {
     ghost capacity_fits: { capacity ≤ MAX_CAPACITY },
     ghost pool_fits: { table.room ≤ MAX_POOL },
     ghost draft_fits: { draft.room ≡ table.room },
-    ghost well_formed: { IsWellFormed capacity (stored table pool) },
+    ghost well_formed: { IsWellFormed capacity (stored table pool) } by { Prim.hlevel (props, IsWhole-IsProp) },
     ghost consistent: { IsConsistent table.records pool.blocks pool.free table.room },
 }
 

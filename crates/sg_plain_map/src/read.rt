@@ -1,15 +1,27 @@
-// Reading a range: the records are passed in the order of addresses, and where one is missing the block
-// is zeros.
-ghost use Rattle.std.specs.Prelude.{◌≡◌, ◌+◌, ◌-◌, ◌*◌, ◌<◌, length};
-ghost use Rattle.sg_store.specs.Disk.{block, blocks};
-ghost use Rattle.sg_store.specs.Disk.{mapped_at};
+// Reading a range: the records are passed in the order of addresses, and where one is missing or
+// anchored the block is zeros.
+ghost use Rattle.std.specs.Prelude.{◌≡◌, ◌+◌, ◌-◌, ◌*◌, ◌<◌, length, Some};
+ghost use Rattle.sg_store.specs.Disk.{block, blocks, data_in, used_at};
+ghost use Rattle.sg_pool.specs.MappedRecords.{mapping_in};
 ghost use Rattle.sg_table.specs.Table.{visited};
 ghost use Rattle.sg_plain_map.specs.Editing.{IsAt, IsReadable, IsReady, VisitsRange, stored};
 ghost use Rattle.sg_table.specs.Records.{passed};
 
 use sg_pool::Pool;
 use sg_store::BLOCK_LENGTH;
-use sg_table::{Cursor, RunTable};
+use sg_table::{Cursor, Kind, Run, RunTable};
+
+// Reads the block of a record: that of its slot, or zeros where it is anchored.
+fn read_record(pool: &Pool, run: Run, bytes: &mut [u8])
+    requires slot { run.first < length pool.now.blocks }
+    requires byte_count { length bytes.old ≡ BLOCK_LENGTH }
+    ensures { bytes.new ≡ data_in (Some (mapping_in pool.now.blocks run.first run.kind)) }
+{
+    match run.kind {
+        Kind::Data => bytes.copy_from_slice(pool.bytes(run.first)),
+        Kind::Anchored => bytes.fill(0),
+    }
+}
 
 // Reads the block at the cursor's address, and goes on to the next address. Each record that the
 // cursor passes was visited, and the one where it is.
@@ -34,14 +46,14 @@ fn read_block(
     // The cursor goes past the record of the address, if there is one, and only the visits on its
     // way are counted.
     ensures cursor { IsAt table.old.records result (lba + 1) }
-    ensures index { result.index ≡ cursor.index + mapped_at (stored table.old pool.now) lba }
+    ensures index { result.index ≡ cursor.index + used_at (stored table.old pool.now) lba }
     ensures cost { visited table.new (passed cursor) ≡ visited table.old (passed result) }
 {
     let Some(run) = cursor.run_at(lba) else {
         bytes.fill(0);
         return cursor;
     };
-    bytes.copy_from_slice(pool.bytes(run.first));
+    read_record(pool, run, bytes);
     Cursor::new(table, cursor.index + 1)
 }
 

@@ -1,5 +1,5 @@
-// The descriptors of GET LBA STATUS one by one: records of addresses in a row, and the gaps between
-// them. It knows no slot and no block.
+// The descriptors of GET LBA STATUS one by one: records of one kind with addresses in a row, and the
+// gaps between them. It knows no slot and no block.
 ghost use Rattle.std.specs.Prelude.{◌≡◌, ℕ, ◌+◌, ◌-◌, ◌<◌, ◌≤◌, List, None};
 ghost use Rattle.sg_store.specs.LbaStatus.{covered, descriptor_at, descriptors_from};
 ghost use Rattle.sg_store.specs.LbaStatus.{PutsDescriptors};
@@ -9,31 +9,41 @@ ghost use Rattle.sg_table.specs.Table.{visited};
 ghost use Rattle.sg_plain_map.specs.Editing.{IsAt, VisitsRange};
 ghost use Rattle.sg_table.specs.Records.{passed};
 ghost use Rattle.sg_table.specs.Records.{run_at};
-ghost use Rattle.sg_plain_map.specs.Status.{AreInRow, IsTableOf};
+ghost use Rattle.sg_plain_map.specs.Status.{AreInRow, IsTableOf, of_kind};
 
+use sg_pool::status_of;
 use sg_store::lba_status::{MAX_ADDRESSES, MAX_DESCRIPTORS, ProvisioningStatus, StatusDescriptor};
 use sg_store::{MAX_CAPACITY, MAX_COUNT, MAX_POOL};
-use sg_table::{Cursor, RunTable};
+use sg_table::{Cursor, Kind, Run, RunTable};
 use sg_wire::Cut;
 
-// Goes past the records of mapped addresses in a row, of which the cursor's address is the first.
-fn pass_mapped(table: &mut RunTable, cursor: Cursor, lba: u64) -> Cursor
+// The record of an address, if the cursor is at it and it has a kind.
+fn run_of_kind(cursor: Cursor, lba: u64, kind: Kind) -> Option<Run>
+    ensures { result ≡ of_kind kind (run_at cursor.next lba) }
+{
+    let run = cursor.run_at(lba)?;
+    if run.kind == kind { Some(run) } else { None }
+}
+
+// Goes past the records of one kind with addresses in a row, of which the cursor's address is the
+// first.
+fn pass_alike(table: &mut RunTable, cursor: Cursor, lba: u64, kind: Kind) -> Cursor
     requires cursor { IsAt table.old.records cursor lba }
     requires table { IsTableOf MAX_CAPACITY table.old.records }
     requires headroom { table.old.visits + MAX_POOL < u64.MAX }
 
-    // Their addresses have no gap, and the one behind them is not mapped.
+    // Their addresses have no gap, and the one behind them has no record of that kind.
     ensures order { cursor.index ≤ result.index }
-    ensures row { AreInRow table.old.records cursor.index result.index lba }
+    ensures row { AreInRow table.old.records cursor.index result.index lba kind }
     ensures cursor { IsAt table.old.records result (lba + (result.index - cursor.index)) }
-    ensures end { run_at result.next (lba + (result.index - cursor.index)) ≡ None }
+    ensures end { of_kind kind (run_at result.next (lba + (result.index - cursor.index))) ≡ None }
 
     // Only the visits on the way are counted.
     ensures cost { visited table.new (passed cursor) ≡ visited table.old (passed result) }
 {
     let mut end = cursor;
     let mut next = lba;
-    while let Some(run) = end.run_at(next) {
+    while let Some(run) = run_of_kind(end, next, kind) {
         end = Cursor::new(table, end.index + 1);
         next = run.start + 1;
     }
@@ -52,7 +62,7 @@ fn describe(
     requires address { lba < capacity }
     requires headroom { table.old.visits + MAX_POOL < u64.MAX }
 
-    // Which addresses are mapped does not depend on their blocks.
+    // The status of an address does not depend on its block.
     ensures descriptor { (blocks : List (List ℕ)) →
         result.0 ≡ descriptor_at (contents_of table.old.records blocks) capacity lba }
     ensures cursor { IsAt table.old.records result.1 (lba + result.0.count) }
@@ -64,10 +74,10 @@ fn describe(
             let status = ProvisioningStatus::Deallocated;
             (StatusDescriptor { lba, count, status }, cursor)
         }
-        Some(_) => {
-            let end = pass_mapped(table, cursor, lba);
+        Some(run) => {
+            let end = pass_alike(table, cursor, lba, run.kind);
             let count = (end.index - cursor.index) as u32;
-            let status = ProvisioningStatus::Mapped;
+            let status = status_of(run.kind);
             (StatusDescriptor { lba, count, status }, end)
         }
     }
@@ -86,7 +96,7 @@ pub(crate) fn write_descriptors(
     requires table { IsTableOf capacity table.old.records }
     requires headroom { table.old.visits ≤ MAX_COUNT }
 
-    // Which addresses are mapped does not depend on their blocks.
+    // The status of an address does not depend on its block.
     ensures descriptors { (blocks : List (List ℕ)) → PutsDescriptors
         (contents_of table.old.records blocks) capacity lba cut.old cut.new result }
     ensures at_most { result ≤ MAX_DESCRIPTORS }

@@ -2,22 +2,33 @@
 // there are slots enough is for the store to know.
 ghost use Rattle.std.specs.Prelude.{◌≡◌, ◌+◌, ◌<◌, ◌≤◌, length};
 ghost use Rattle.std.specs.FinMap.{insert};
-ghost use Rattle.sg_store.specs.Disk.{replaced, mapped_among};
+ghost use Rattle.sg_store.specs.Disk.{replaced, used_among};
 ghost use Rattle.sg_table.specs.Leaves.{move_bound};
-ghost use Rattle.sg_store.specs.Disk.{mapped_at};
+ghost use Rattle.sg_store.specs.Disk.{used_at};
+ghost use Rattle.sg_store.specs.Disk.Mapping.{Data};
 ghost use Rattle.sg_pool.specs.Source.{HasBlocks, block_of};
 ghost use Rattle.sg_table.specs.Table.{visited};
 ghost use Rattle.sg_plain_map.specs.Editing.{Drafts, HasRoom, IsEditing, IsReady, VisitsRange, stored};
 ghost use Rattle.sg_plain_map.specs.Editing.{ChangesRecords};
-ghost use Rattle.sg_table.specs.Records.{passed};
-ghost use Rattle.sg_plain_map.specs.Editing.{edited_contents};
+ghost use Rattle.sg_table.specs.Records.{passed, run_at};
+ghost use Rattle.sg_plain_map.specs.Editing.{edited_contents, has_data};
 
 use sg_pool::{Pool, Source};
 use sg_store::BLOCK_LENGTH;
-use sg_table::{Cursor, Draft, Run, RunTable};
+use sg_table::{Cursor, Draft, Kind, Run, RunTable};
+
+// Whether an address has data, so that it keeps its record when it is written.
+fn has_data(cursor: Cursor, lba: u64) -> bool
+    ensures { result ≡ has_data (run_at cursor.next lba) }
+{
+    match cursor.run_at(lba) {
+        Some(run) => matches!(run.kind, Kind::Data),
+        None => false,
+    }
+}
 
 // Writes the block at the cursor's address, drafts its record, and goes on to the next address. A
-// block that is mapped is written over, and any other takes a free slot.
+// block that has a slot is written over there, anchored or not, and any other takes a free one.
 fn put_block(
     table: &mut RunTable,
     pool: &mut Pool,
@@ -34,10 +45,11 @@ fn put_block(
 
     // The block is written, and the edit comes to the next address.
     ensures contents { let before = edited_contents table.old pool.old draft.old cursor in
-        edited_contents table.old pool.new draft.new result ≡ insert before lba bytes.now }
+        edited_contents table.old pool.new draft.new result ≡ insert before lba (Data bytes.now) }
     ensures editing { IsEditing table.old.records table.old.room pool.new draft.new result (lba + 1) }
     ensures drafts { let before = edited_contents table.old pool.old draft.old cursor in
-        Drafts (mapped_at before lba) cursor result pool.old pool.new draft.old draft.new }
+        Drafts table.old.records lba (used_at before lba) cursor result pool.old pool.new
+        draft.old draft.new }
 
     // Only the visits on the cursor's way are counted.
     ensures cost { visited table.new (passed cursor) ≡ visited table.old (passed result) }
@@ -45,11 +57,14 @@ fn put_block(
     let Some(run) = cursor.run_at(lba) else {
         let slot = pool.take();
         pool.set(slot, bytes);
-        draft.push(Run::single(lba, slot));
+        draft.push(Run::single(lba, slot, Kind::Data));
         return cursor;
     };
     pool.set(run.first, bytes);
-    draft.push(run);
+    draft.push(Run {
+        kind: Kind::Data,
+        ..run
+    });
     Cursor::new(table, cursor.index + 1)
 }
 
@@ -66,7 +81,7 @@ pub(crate) fn write_blocks(
 )
     requires ready { IsReady table.old pool.old from lba count }
     requires blocks { HasBlocks source.now count }
-    requires free { count ≤ length pool.old.free + mapped_among (stored table.old pool.old) lba count }
+    requires free { count ≤ length pool.old.free + used_among (stored table.old pool.old) lba count }
     requires room { (count ≤ draft.old.room) × (draft.old.room ≡ table.old.room) }
 
     // The blocks are written, and the table changes by its records, their moves and its visits
@@ -79,12 +94,15 @@ pub(crate) fn write_blocks(
 {
     draft.begin(from);
     let mut cursor = Cursor::new(table, from);
+    let mut is_same = true;
     for i in 0..count {
         let block = source.block(i as usize);
-        cursor = put_block(table, pool, draft, cursor, lba + u64::from(i), block);
+        let address = lba + u64::from(i);
+        is_same &= has_data(cursor, address);
+        cursor = put_block(table, pool, draft, cursor, address, block);
     }
-    // Where each address was mapped, the drafted records are those of the table.
-    if cursor.index - from < count as usize {
+    // Where each address had data, the drafted records are those of the table.
+    if !is_same {
         table.splice(draft.from(), cursor.index, draft.records());
     }
 }

@@ -116,7 +116,7 @@ contents-added rs bs free room i r b consistent none kind =
     (data-set bs r.first b (taken_below (length bs) (slots_of rs) free r.first consistent.once))
 
 -- a record of another kind
-starts-kind : (rs : List Run) (i : ℕ) (r : Run) (kind : Kind) (j : ℕ) → r ≡ get_or rs i r
+pub starts-kind : (rs : List Run) (i : ℕ) (r : Run) (kind : Kind) (j : ℕ) → r ≡ get_or rs i r
     → i < length rs → start_of (set rs i (with_kind kind r)) j ≡ start_of rs j
 starts-kind [] i r kind j e h = absurd (omega arith)
 starts-kind (x ∷ rs) zero r kind zero e h = ap (λ (y : Run). y.start) e

@@ -1,17 +1,13 @@
-use Rattle.std.proofs.Common.{◌+◌, ◌≡◌, ℕ, ap, sym, ◌∙◌, arith, List, replicate}
-use Rattle.sg_store.specs.Disk.{block, zero_block}
-use Rattle.sg_pool.specs.MappedRecords.{contents_of}
+use Rattle.std.proofs.Common.{◌+◌, ap, sym, ◌∙◌, arith}
+use Rattle.sg_store.specs.Disk.{block}
+use Rattle.sg_pool.specs.MappedRecords.{contents_of, mapping_in}
 use Rattle.sg_table.specs.Records.{ahead}
 use Rattle.sg_table.specs.Table.{visited}
 use Rattle.sg_table.proofs.TableLemmas.{visited-more}
-use Rattle.sg_plain_map.proofs.CursorLemmas.{found, ahead-found, none-found, stays-at}
-use Rattle.sg_pool.proofs.MappedLemmas.{block-mapped, block-unmapped, one_mapped, none_mapped}
+use Rattle.sg_plain_map.proofs.CursorLemmas.{zeros, found, ahead-found, none-found, stays-at}
+use Rattle.sg_pool.proofs.MappedLemmas.{block-mapped, block-unmapped, one_used, none_used}
 use Rattle.sg_table.proofs.RecordLemmas.{index-mapped}
 use Rattle.sg_plain_map.proofs.read.read_block.Goals as goal
-
-zeros : (n : ℕ) (xs : List ℕ) → n ≡ 512 → xs ≡ replicate n 0 → xs ≡ zero_block
-unfolding zero_block
-zeros n xs e is = is ∙ ap (λ k. replicate k 0) e
 
 pub returns-in_default-clause-bytes : goal.returns-in_default-clause-bytes
 returns-in_default-clause-bytes c =
@@ -31,7 +27,7 @@ returns-in_default-clause-index c =
     let rs = c.args.table.now.records in
     let none = none-found rs c.args.cursor c.args.lba c.requires.readable.sorted c.requires.cursor
     (sym c.run_at.ensures ∙ c.in_default.is) in
-    omega (arith, none_mapped rs c.args.pool.now.blocks c.args.lba none)
+    omega (arith, none_used (mapping_in c.args.pool.now.blocks) rs c.args.lba none)
 
 pub overflow_add-cursor : goal.overflow_add-cursor
 overflow_add-cursor c =
@@ -45,7 +41,7 @@ returns-clause-bytes c =
     let blocks = c.args.pool.now.blocks in
     let at = found rs c.args.cursor.next c.args.cursor.index c.args.lba c.in-Some.run'
     c.requires.cursor.next (sym c.run_at.ensures ∙ c.in-Some.is) in
-    c.copy_from_slice.ensures.after ∙ c.bytes.ensures
+    c.read_record.ensures
     ∙ sym (block-mapped rs blocks c.args.cursor.index c.in-Some.run' c.requires.readable.sorted at.0
     (sym at.1)) ∙ ap (block (contents_of rs blocks)) at.2
 
@@ -66,7 +62,7 @@ returns-clause-index c =
     let rs = c.args.table.now.records in
     let at = found rs c.args.cursor.next c.args.cursor.index c.args.lba c.in-Some.run'
     c.requires.cursor.next (sym c.run_at.ensures ∙ c.in-Some.is) in
-    let mapped = one_mapped rs c.args.pool.now.blocks c.args.cursor.index c.args.lba c.in-Some.run'
+    let mapped = one_used (mapping_in c.args.pool.now.blocks) rs c.args.cursor.index c.args.lba c.in-Some.run'
     c.requires.readable.sorted at.0 (sym at.1) at.2 in
     omega (arith, c.new.ensures.index)
 

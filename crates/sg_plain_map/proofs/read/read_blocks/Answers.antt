@@ -1,11 +1,11 @@
 use Rattle.std.proofs.Common.{◌≡◌, ◌+◌, ◌*◌, length, ap, ap₂, sym, ◌∙◌, arith, ◌++◌, add-zero}
 use Rattle.std.proofs.lemmas.Slice.{take-put_mid}
-use Rattle.sg_store.specs.Disk.{block, mapped_among}
+use Rattle.sg_store.specs.Disk.{block, used_among}
 use Rattle.sg_pool.specs.MappedRecords.{contents_of}
 use Rattle.sg_table.specs.Records.{ahead}
 use Rattle.sg_table.specs.Table.{Table, visited}
-use Rattle.sg_store.proofs.DiskLemmas.{blocks-none, blocks-more, mapped_among-none}
-use Rattle.sg_store.proofs.DiskLemmas.{mapped_among-more, mapped_among-le}
+use Rattle.sg_store.proofs.DiskLemmas.{blocks-none, blocks-more, used_among-none}
+use Rattle.sg_store.proofs.DiskLemmas.{used_among-more, used_among-le}
 use Rattle.sg_pool.proofs.ConsistencyLemmas.{have_slots}
 use Rattle.sg_table.proofs.TableLemmas.{visited-more, visited-less, ahead-le}
 use Rattle.sg_plain_map.proofs.read.read_blocks.Goals as goal
@@ -17,7 +17,7 @@ loop-i-init c =
     record {
       cursor = record { index = rw (add-zero, e.index) c.requires.ready.index; next = rw e.index e.next };
       bytes = sym (blocks-none contents c.args.lba);
-      table = e.table ∙ ap (visited c.args.table.now) (omega (arith, mapped_among-none contents c.args.lba));
+      table = e.table ∙ ap (visited c.args.table.now) (omega (arith, used_among-none contents c.args.lba));
     }
 
 pub read_block-cursor-requires-clause-readable : goal.read_block-cursor-requires-clause-readable
@@ -35,7 +35,7 @@ pub read_block-cursor-requires-clause-headroom : goal.read_block-cursor-requires
 read_block-cursor-requires-clause-headroom c =
     let contents = contents_of c.args.table.now.records c.args.pool.now.blocks in
     let visits = ap (λ (t : Table). t.visits) c.loop-i.invariant.table in
-    omega (arith, mapped_among-le contents c.args.lba c.loop-i.i, ahead-le c.loop-i.cursor.next)
+    omega (arith, used_among-le contents c.args.lba c.loop-i.i, ahead-le c.loop-i.cursor.next)
 
 pub loop-i-preserved : goal.loop-i-preserved
 loop-i-preserved c =
@@ -49,7 +49,7 @@ loop-i-preserved c =
     let on : c.args.lba + i + 1 ≡ c.args.lba + (i + 1) = omega arith in
     let block_read : read ≡ block contents (c.args.lba + i) = rw (inv.table, here) at e.bytes in
     let len : length read ≡ 512 = omega (arith, c.read_block-cursor.auto.bytes) in
-    let before = mapped_among contents c.args.lba i + ahead c.loop-i.cursor.next in
+    let before = used_among contents c.args.lba i + ahead c.loop-i.cursor.next in
     let passed = c.loop-i.cursor.index + ahead c.loop-i.cursor.next in
     let after = c.read_block-cursor.result.index + ahead c.read_block-cursor.result.next in
     let index = rw (inv.table, here) at e.index in
@@ -61,5 +61,5 @@ loop-i-preserved c =
           (omega (arith, c.loop-i.auto.bytes))
           ∙ ap₂ (λ xs ys. xs ++ ys) inv.bytes block_read ∙ sym (blocks-more contents c.args.lba i);
       table = visited-less c.read_block-cursor.new.table t passed (before + after) _ paid
-          (omega (arith, index, mapped_among-more contents c.args.lba i));
+          (omega (arith, index, used_among-more contents c.args.lba i));
     }

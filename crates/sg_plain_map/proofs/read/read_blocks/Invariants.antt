@@ -1,5 +1,5 @@
 use Rattle.std.proofs.Common.{◌≡◌, ◌+◌, ◌*◌, take}
-use Rattle.sg_store.specs.Disk.{blocks, mapped_among}
+use Rattle.sg_store.specs.Disk.{blocks, used_among}
 use Rattle.sg_pool.specs.MappedRecords.{contents_of}
 use Rattle.sg_table.specs.Records.{ahead}
 use Rattle.sg_table.specs.Table.{visited}
@@ -13,5 +13,5 @@ invariant-loop-i l =
     record {
       cursor : IsAt l.fn.table.records l.cursor (l.lba + l.i);
       bytes : take (512 * l.i) l.bytes ≡ blocks contents l.lba l.i;
-      table : l.table ≡ visited l.fn.table (mapped_among contents l.lba l.i + ahead l.cursor.next);
+      table : l.table ≡ visited l.fn.table (used_among contents l.lba l.i + ahead l.cursor.next);
     }

@@ -1,5 +1,5 @@
 use Rattle.std.proofs.Common.{sym, ◌∙◌}
-use Rattle.sg_plain_map.proofs.DescribedLemmas.{gap-low, gap-index, described-gap, described-mapped}
+use Rattle.sg_plain_map.proofs.DescribedLemmas.{gap-low, gap-index, described-gap, described-row}
 use Rattle.sg_plain_map.proofs.DescribedLemmas.{row-ends, row-some}
 use Rattle.sg_plain_map.proofs.status.describe.Goals as goal
 
@@ -33,11 +33,12 @@ returns-in-None-clause-cursor c =
 pub returns-in-Some-clause-descriptor : goal.returns-in-Some-clause-descriptor
 returns-in-Some-clause-descriptor c =
     let rs = c.args.table.now.records in
-    let end = c.pass_mapped-end.result in
-    let e = c.pass_mapped-end.ensures in
+    let end = c.pass_alike-end.result in
+    let e = c.pass_alike-end.ensures in
     let sorted = c.requires.table.sorted in
-    let some = row-some rs c.args.cursor end c.args.lba _ sorted c.requires.cursor
+    let some = row-some rs c.args.cursor end c.args.lba c.in-Some.run' sorted c.requires.cursor
     (sym c.run_at.ensures ∙ c.in-Some.is) e.cursor e.end in
-    λ blocks. described-mapped rs blocks c.args.capacity c.args.lba c.args.cursor.index end.index
-    c.requires.table e.row some e.cursor.index.within
-    (row-ends rs c.args.cursor end c.args.lba sorted e.cursor e.end)
+    λ blocks. rw c.status_of-status.ensures
+    (described-row rs blocks c.args.capacity c.args.lba c.args.cursor.index end.index
+    c.in-Some.run'.kind c.requires.table e.row some e.cursor.index.within
+    (row-ends rs blocks end _ c.in-Some.run'.kind sorted e.cursor e.end))

@@ -6,7 +6,7 @@ use Rattle.sg_table.specs.Records.{ahead, passed}
 use Rattle.sg_table.specs.Table.{visited}
 use Rattle.sg_table.proofs.TableLemmas.{visited-more, visited-less}
 use Rattle.sg_store.proofs.StatusLemmas.{none-written, one-written, all-written}
-use Rattle.sg_plain_map.proofs.RangeLemmas.{mapped_among-indices}
+use Rattle.sg_plain_map.proofs.RangeLemmas.{used_among-indices}
 use Rattle.sg_plain_map.proofs.DescribedLemmas.{visits-so_far}
 use Rattle.sg_plain_map.proofs.status.write_descriptors.Goals as goal
 
@@ -34,7 +34,7 @@ loop-next-preserved c =
     let end = c.describe.result.1 in
     let next = c.loop-next.next in
     let at = rw inv.table at e.cursor in
-    let order = mapped_among-indices rs [] c.loop-next.cursor.index next d.count
+    let order = used_among-indices rs [] c.loop-next.cursor.index next d.count
     end.index c.requires.table.sorted inv.cursor.index at.index in
     let before = c.loop-next.cursor.index - c.args.from + ahead c.loop-next.cursor.next in
     let paid : visited c.describe.new.table (passed c.loop-next.cursor) ≡

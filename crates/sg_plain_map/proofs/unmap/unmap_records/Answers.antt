@@ -1,12 +1,12 @@
 use Rattle.std.proofs.Common.{◌≡◌, ◌+◌, ◌-◌, ℕ, [], get_or, ap, ap₂, sym, ◌∙◌, arith}
 use Rattle.std.specs.List.{splice}
 use Rattle.std.specs.Prelude.{slice_index_or}
-use Rattle.sg_pool.specs.MappedRecords.{contents_of}
+use Rattle.sg_pool.specs.MappedRecords.{contents_of, mapping_in}
 use Rattle.sg_pool.specs.Slots.{Slots}
 use Rattle.sg_table.specs.Table.{Table, visited}
 use Rattle.sg_table.specs.declared.run.Run.{Run}
 use Rattle.sg_table.proofs.TableLemmas.{visited-more}
-use Rattle.sg_plain_map.proofs.RangeLemmas.{mapped_among-indices}
+use Rattle.sg_plain_map.proofs.RangeLemmas.{used_among-indices}
 use Rattle.sg_plain_map.proofs.RemovalLemmas.{unmapped-slot, unmapped-consistent, contents-unmapped}
 use Rattle.sg_plain_map.proofs.unmap.unmap_records.Goals as goal
 
@@ -59,19 +59,19 @@ returns-clause-contents c =
     let t = c.args.table.now in
     let inv = c.loop-index.invariant in
     let ready = c.requires.ready in
-    let mapped = mapped_among-indices t.records c.args.pool.now.blocks c.args.from c.args.lba
+    let mapped = used_among-indices t.records c.args.pool.now.blocks c.args.from c.args.lba
     c.args.count c.args.to ready.consistent.sorted ready.index c.requires.end in
     let records = ap (λ (x : Table). x.records) c.splice.ensures.table
     ∙ ap (λ (x : Table). splice x.records c.args.from c.args.to []) inv.table in
     ap₂ contents_of records inv.blocks
-    ∙ contents-unmapped t.records c.args.pool.now.blocks c.args.from c.args.to c.args.lba
+    ∙ contents-unmapped (mapping_in c.args.pool.now.blocks) t.records c.args.from c.args.to c.args.lba
     c.args.count ready.consistent.sorted ready.index c.requires.end (omega arith)
 
 pub returns-clause-visits : goal.returns-clause-visits
 returns-clause-visits c =
     let t = c.args.table.now in
     let ready = c.requires.ready in
-    let mapped = mapped_among-indices t.records c.args.pool.now.blocks c.args.from c.args.lba
+    let mapped = used_among-indices t.records c.args.pool.now.blocks c.args.from c.args.lba
     c.args.count c.args.to ready.consistent.sorted ready.index c.requires.end in
     let spliced = ap (λ (x : Table). x.total) c.splice.ensures.table in
     let visits = ap (λ (x : Table). x.total) c.loop-index.invariant.table in

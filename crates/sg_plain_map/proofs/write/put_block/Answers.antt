@@ -2,15 +2,17 @@ use Rattle.std.proofs.Common.{◌+◌, length, ap, sym, ◌∙◌, arith, refl}
 use Rattle.sg_table.specs.Records.{ahead}
 use Rattle.std.proofs.lemmas.List.{length_push}
 use Rattle.sg_table.specs.Draft.{Drafted, pushed}
-use Rattle.sg_table.specs.Records.{single}
+use Rattle.sg_table.specs.Records.{single, with_kind}
 use Rattle.sg_pool.specs.Slots.{Slots}
 use Rattle.sg_table.specs.Table.{visited}
+use Rattle.sg_table.specs.declared.run.Kind.TheVariants.{Data}
 use Rattle.sg_table.specs.declared.run.Run.{Run}
 use Rattle.sg_pool.proofs.ConsistencyLemmas.{taken_below}
 use Rattle.sg_table.proofs.TableLemmas.{visited-more}
 use Rattle.sg_plain_map.proofs.CursorLemmas.{ahead-found}
 use Rattle.sg_plain_map.proofs.EditingLemmas.{unmapped-there, added-contents, added-editing}
 use Rattle.sg_plain_map.proofs.EditingLemmas.{slot-there, mapped-there, over-contents, over-editing}
+use Rattle.sg_plain_map.proofs.EditingLemmas.{over-same, unmapped-same}
 use Rattle.sg_plain_map.proofs.write.put_block.Goals as goal
 
 -- the address is not mapped
@@ -31,23 +33,23 @@ set-requires-clause-slot c =
 
 pub returns-in_default-clause-contents : goal.returns-in_default-clause-contents
 returns-in_default-clause-contents c =
-    let run : Run = single c.args.lba c.take-slot.result in
+    let run : Run = single c.args.lba c.take-slot.result Data in
     let pushed = c.push.ensures ∙ ap (pushed c.args.draft.now) c.single.ensures in
     let taken = rw (sym (ap (λ (s : Slots). s.free) c.set.ensures)) at c.take-slot.ensures.free in
     let put = rw (ap (λ (s : Slots). s.blocks) c.take-slot.ensures.pool) at
     (ap (λ (s : Slots). s.blocks) c.set.ensures) in
     added-contents c.requires.editing (sym c.run_at.ensures ∙ c.in_default.is) c.set.new.self
-    c.push.new.self run c.args.bytes.now taken put refl pushed
+    c.push.new.self run c.args.bytes.now taken put refl refl pushed
 
 pub returns-in_default-clause-editing : goal.returns-in_default-clause-editing
 returns-in_default-clause-editing c =
-    let run : Run = single c.args.lba c.take-slot.result in
+    let run : Run = single c.args.lba c.take-slot.result Data in
     let pushed = c.push.ensures ∙ ap (pushed c.args.draft.now) c.single.ensures in
     let taken = rw (sym (ap (λ (s : Slots). s.free) c.set.ensures)) at c.take-slot.ensures.free in
     let put = rw (ap (λ (s : Slots). s.blocks) c.take-slot.ensures.pool) at
     (ap (λ (s : Slots). s.blocks) c.set.ensures) in
     added-editing c.requires.editing (sym c.run_at.ensures ∙ c.in_default.is) c.set.new.self
-    c.push.new.self run c.args.bytes.now taken put refl pushed
+    c.push.new.self run c.args.bytes.now taken put refl refl pushed
 
 pub returns-in_default-clause-drafts : goal.returns-in_default-clause-drafts
 returns-in_default-clause-drafts c =
@@ -63,6 +65,7 @@ returns-in_default-clause-drafts c =
       drafted = ap (λ (d : Drafted). length d.records) c.push.ensures
           ∙ length_push c.args.draft.now.records run;
       room = ap (λ (d : Drafted). d.room) c.push.ensures;
+      same = unmapped-same c.requires.editing (sym c.run_at.ensures ∙ c.in_default.is);
     }
 
 -- the address is mapped
@@ -95,8 +98,12 @@ returns-clause-drafts c = record {
   free = rw (ap (λ (s : Slots). s.free) c.set-2.ensures) (omega (arith, c.new.ensures.index));
   from = ap (λ (d : Drafted). d.from) c.push-2.ensures;
   drafted = ap (λ (d : Drafted). length d.records) c.push-2.ensures
-      ∙ length_push c.args.draft.now.records c.in-Some.run';
+      ∙ length_push c.args.draft.now.records (with_kind Data c.in-Some.run');
   room = ap (λ (d : Drafted). d.room) c.push-2.ensures;
+  same = over-same c.requires.editing c.in-Some.run' (sym c.run_at.ensures ∙ c.in-Some.is)
+      c.set-2.new.self c.push-2.new.self c.args.bytes.now
+      c.new.result (ap (λ (s : Slots). s.free) c.set-2.ensures)
+      (ap (λ (s : Slots). s.blocks) c.set-2.ensures) c.push-2.ensures c.new.ensures.index;
 }
 
 pub returns-clause-cost : goal.returns-clause-cost

@@ -1,10 +1,10 @@
-use Rattle.std.proofs.Common.{◌≡◌, ◌+◌, length}
-use Rattle.sg_store.specs.Disk.{replaced, mapped_among}
+use Rattle.std.proofs.Common.{◌≡◌, ◌+◌, length, true}
+use Rattle.sg_store.specs.Disk.{replaced, used_among}
 use Rattle.sg_pool.specs.MappedRecords.{contents_of}
 use Rattle.sg_table.specs.Records.{ahead}
 use Rattle.sg_pool.specs.Source.{block_of}
 use Rattle.sg_table.specs.Table.{visited}
-use Rattle.sg_plain_map.specs.Editing.{IsEditing, edited_contents}
+use Rattle.sg_plain_map.specs.Editing.{IsEditing, edited, edited_contents}
 use Rattle.sg_plain_map.proofs.write.write_blocks.Given as goal
 
 -- the blocks so far are replaced, and the cursor is at the next address
@@ -16,7 +16,8 @@ invariant-loop-i l =
       editing : IsEditing t.records t.room l.pool l.draft l.cursor (l.lba + l.i);
       contents : edited_contents t l.pool l.draft l.cursor ≡ replaced was l.lba l.i (block_of l.source);
       draft : (l.draft.from ≡ l.from) × (length l.draft.records ≡ l.i) × (l.draft.room ≡ t.room);
-      index : l.cursor.index ≡ l.from + mapped_among was l.lba l.i;
-      free : length l.pool.free + l.i ≡ length l.fn.pool.free + mapped_among was l.lba l.i;
-      table : l.table ≡ visited t (mapped_among was l.lba l.i + ahead l.cursor.next);
+      index : l.cursor.index ≡ l.from + used_among was l.lba l.i;
+      same : l.is_same ≡ true → edited t.records l.draft l.cursor ≡ t.records;
+      free : length l.pool.free + l.i ≡ length l.fn.pool.free + used_among was l.lba l.i;
+      table : l.table ≡ visited t (used_among was l.lba l.i + ahead l.cursor.next);
     }

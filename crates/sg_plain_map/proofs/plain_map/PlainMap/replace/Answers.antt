@@ -1,11 +1,12 @@
 use Rattle.std.proofs.Common.{◌≡◌, ◌-◌, arith, ap, sym, subst, ◌∙◌}
 use Rattle.sg_store.specs.Disk.{IsWellFormed}
+use Rattle.sg_store.specs.Disk.Mapping.{Data}
 use Rattle.sg_plain_map.specs.Editing.{stored}
 use Rattle.sg_pool.specs.MappedRecords.{contents_of}
 use Rattle.sg_pool.specs.Source.{block_of}
 use Rattle.sg_table.specs.Table.{Table, probed}
-use Rattle.sg_store.proofs.WellFormedLemmas.{well_formed-replaced}
-use Rattle.sg_plain_map.proofs.RangeLemmas.{len-after, mapped_between}
+use Rattle.sg_store.proofs.WellFormedLemmas.{well_formed-remapped}
+use Rattle.sg_plain_map.proofs.RangeLemmas.{len-after, used_between}
 use Rattle.sg_plain_map.proofs.plain_map.PlainMap.replace.Goals as goal
 
 pub returns-then-count-free_count-clause-space : goal.returns-then-count-free_count-clause-space
@@ -14,14 +15,14 @@ returns-then-count-free_count-clause-space c =
     let to = rw (c.lower_bound-from.ensures.table, c.from.ensures) at c.lower_bound-to.ensures.index in
     let e = len-after s.table.records s.pool.blocks s.pool.free s.table.room
     c.lower_bound-from.result c.lower_bound-to.result c.args.lba c.args.count
-    (block_of c.args.source.now) s.consistent c.lower_bound-from.ensures.index to in
+    (λ index. Data (block_of c.args.source.now index)) s.consistent c.lower_bound-from.ensures.index to in
     (λ _. omega (arith, c.if-count-free_count.true, c.free_count.ensures), λ _. cc)
 
 pub write_blocks-requires-clause-free : goal.write_blocks-requires-clause-free
 write_blocks-requires-clause-free c =
     let s = c.args.self.now in
     let to = rw (c.lower_bound-from.ensures.table, c.from.ensures) at c.lower_bound-to.ensures.index in
-    let e = mapped_between s.table.records s.pool.blocks c.lower_bound-from.result
+    let e = used_between s.table.records s.pool.blocks c.lower_bound-from.result
     c.lower_bound-to.result c.args.lba c.args.count s.consistent.sorted
     c.lower_bound-from.ensures.index to in
     rw (c.lower_bound-to.ensures.table, c.lower_bound-from.ensures.table)
@@ -33,7 +34,7 @@ returns-clause-space c =
     let to = rw (c.lower_bound-from.ensures.table, c.from.ensures) at c.lower_bound-to.ensures.index in
     let e = len-after s.table.records s.pool.blocks s.pool.free s.table.room
     c.lower_bound-from.result c.lower_bound-to.result c.args.lba c.args.count
-    (block_of c.args.source.now) s.consistent c.lower_bound-from.ensures.index to in
+    (λ index. Data (block_of c.args.source.now index)) s.consistent c.lower_bound-from.ensures.index to in
     (λ wrong. cc, λ more. absurd (omega (arith, c.if-count-free_count.false, c.free_count.ensures, more)))
 
 -- what is replaced is on the disk, and by whole blocks
@@ -49,5 +50,5 @@ invariant_of-self-2-clause-well_formed c =
     c.lower_bound-from.ensures.table) in
     let before = subst (IsWellFormed map.capacity) (sym same) map.well_formed in
     subst (IsWellFormed map.capacity) (sym c.write_blocks.ensures.contents)
-    (well_formed-replaced map.capacity _ c.args.lba c.args.count
-    (block_of c.args.source.now) before c.requires.range c.requires.blocks)
+    (well_formed-remapped map.capacity _ c.args.lba c.args.count
+    (λ index. Data (block_of c.args.source.now index)) before c.requires.range c.requires.blocks)

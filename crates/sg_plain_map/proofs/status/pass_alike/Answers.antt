@@ -4,9 +4,9 @@ use Rattle.sg_table.specs.Records.{ahead}
 use Rattle.sg_table.specs.Table.{Table, visited}
 use Rattle.sg_table.specs.Records.{passed}
 use Rattle.sg_table.proofs.TableLemmas.{visited-on}
-use Rattle.sg_table.proofs.RecordLemmas.{start_of-read, index-mapped}
-use Rattle.sg_plain_map.proofs.CursorLemmas.{found, ahead-found}
-use Rattle.sg_plain_map.proofs.status.pass_mapped.Goals as goal
+use Rattle.sg_table.proofs.RecordLemmas.{index-mapped}
+use Rattle.sg_plain_map.proofs.CursorLemmas.{found, ahead-found, of_kind-found}
+use Rattle.sg_plain_map.proofs.status.pass_alike.Goals as goal
 
 pub loop-run-preserved : goal.loop-run-preserved
 loop-run-preserved c =
@@ -16,9 +16,9 @@ loop-run-preserved c =
     let run = c.in-Some.run' in
     let i = c.loop-run.end.index in
     let from = c.args.cursor.index in
-    let is = sym c.run_at.ensures ∙ c.in-Some.is in
+    let both = of_kind-found c.args.kind _ run (sym c.run_of_kind.ensures ∙ c.in-Some.is) in
+    let is = both.0 in
     let here = found rs c.loop-run.end.next i c.loop-run.next run inv.at.next is in
-    let start = start_of-read rs i run here.0 (sym here.1) in
     let same : c.loop-run.table.records ≡ rs = ap (λ (x : Table). x.records) inv.table in
     let e = c.new-end.ensures in
     let one = ahead-found c.loop-run.end.next c.loop-run.next run is in
@@ -37,7 +37,7 @@ loop-run-preserved c =
       row = λ q ge lt. elim (cases_lt q i) [
         | inl below ↦ inv.row q ge below
         | inr above ↦ let at : q ≡ i = omega (arith, e.index) in
-            rw at (omega (arith, inv.next, start, here.2))
+            rw at (run, here.1, omega (arith, inv.next, here.2), both.1)
       ];
       table = visited-on t c.loop-run.table c.new-end.new.table _ _ _ inv.table e.table ∙ ap (visited t) on;
     }

@@ -3,7 +3,7 @@ use Rattle.sg_table.specs.Table.{visited}
 use Rattle.sg_plain_map.specs.Editing.{IsAt}
 use Rattle.sg_table.specs.Records.{passed}
 use Rattle.sg_plain_map.specs.Status.{AreInRow}
-use Rattle.sg_plain_map.proofs.status.pass_mapped.Given as goal
+use Rattle.sg_plain_map.proofs.status.pass_alike.Given as goal
 
 -- the addresses so far have records in a row
 abbrev pub invariant-loop-run : goal.invariant-loop-run
@@ -11,7 +11,7 @@ invariant-loop-run l = record {
   order : l.fn.cursor.index ≤ l.end.index;
   next : l.next + l.fn.cursor.index ≡ l.lba + l.end.index;
   at : IsAt l.fn.table.records l.end l.next;
-  row : AreInRow l.fn.table.records l.fn.cursor.index l.end.index l.lba;
+  row : AreInRow l.fn.table.records l.fn.cursor.index l.end.index l.lba l.kind;
   table : visited l.table (passed l.fn.cursor) ≡ visited l.fn.table (passed l.end);
 }
 
