@@ -1,3 +1,4 @@
+pub mod BlocksLemmas
 pub mod CapacityLemmas
 pub mod ExtentLemmas
 mod Lemmas
