@@ -1,4 +1,5 @@
 mod AddressRangeLemmas
+pub mod BlocksLemmas
 pub mod CapacityLemmas
 mod ChargingLemmas
 pub mod ExtentLemmas

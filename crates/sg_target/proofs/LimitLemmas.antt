@@ -19,6 +19,7 @@ use Rattle.sg_units.specs.declared.unit_attention.UnitAttention.{UnitAttention}
 use Rattle.sg_units.specs.declared.unit_attention.UnitAttention.TheVariants.{ModeParametersChanged}
 use Rattle.sg_units.proofs.AttentionLemmas.{IsQueue-drop, IsQueue-pending_for, IsQueue-with_optional}
 use Rattle.sg_units.proofs.ConsistencyLemmas.{consistent-outcome}
+use Rattle.sg_target.proofs.BlocksLemmas.{KeepsBlocks, keeps-blocks}
 use Rattle.sg_target.specs.Checks.{checked_cdb, checked_effect, no_space}
 use Rattle.sg_target.specs.Effect.{Effect, returning_up_to}
 use Rattle.sg_target.specs.ModeCommands.{attentions_after, changing_modes, mode_parameters}
@@ -81,6 +82,7 @@ without-oldest-within state i h =
       mapped = h.mapped;
       pending = without-oldest state.attentions i h.pending;
       registered = h.registered;
+      blocks = h.blocks;
     }
 
 refused-within : (state : State) (i : ℕ) (refusal : Refusal) → IsWithinLimits state
@@ -143,19 +145,22 @@ checked-keeps state i (Ok operation) h = operation-keeps state i operation h
 checked-keeps state i (Err refusal) h = tt
 
 by-space : (state : State) (i : ℕ) (effect : Effect) (refusal : Option Refusal)
-    → IsWithinLimits state → KeepsOthers effect.after → no_space effect.after.disk ≡ refusal
+    → IsWithinLimits state → KeepsOthers effect.after → KeepsBlocks (Ok effect)
+    → no_space effect.after.disk ≡ refusal
     → IsWithinLimits (unless_no_space state i effect refusal).state
-by-space state i effect None h k e =
-    record { mapped = space effect.after.disk e; pending = k.0; registered = k.1 }
-by-space state i effect (Some refusal) h k e = refused-within state i refusal h
+by-space state i effect None h k blocks e =
+    record { mapped = space effect.after.disk e; pending = k.0; registered = k.1; blocks = blocks }
+by-space state i effect (Some refusal) h k blocks e = refused-within state i refusal h
 
 outcome-within : (state : State) (i : ℕ) (effect : Result Effect Refusal) → IsWithinLimits state
-    → EffectKeeps effect → IsWithinLimits (step_outcome state i effect).state
-outcome-within state i (Err refusal) h k = refused-within state i refusal h
-outcome-within state i (Ok effect) h k = by-space state i effect (no_space effect.after.disk) h k refl
+    → EffectKeeps effect → KeepsBlocks effect → IsWithinLimits (step_outcome state i effect).state
+outcome-within state i (Err refusal) h k blocks = refused-within state i refusal h
+outcome-within state i (Ok effect) h k blocks =
+    by-space state i effect (no_space effect.after.disk) h k blocks refl
 
 pub step-within : (state : State) (i : ℕ) (cdb data_out : List ℕ) → IsWithinLimits state
     → IsWithinLimits (step state i cdb data_out).state
 step-within state i cdb data_out h =
     outcome-within state i (checked_effect state i cdb data_out) h
     (checked-keeps state i (checked_cdb state i cdb data_out) (others state h))
+    (keeps-blocks state i cdb data_out h.blocks)

@@ -138,6 +138,7 @@ cycle-within state h = record {
   mapped = h.mapped;
   pending = ArePending-power_on;
   registered = consistent-power_on state.reservations h.registered;
+  blocks = h.blocks;
 }
 
 -- nor on the way

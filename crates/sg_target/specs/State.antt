@@ -1,7 +1,7 @@
 -- The state of the disk between two commands.
 use Rattle.std.specs.Prelude.{◌≤◌}
 use Rattle.std.specs.FinMap.{len}
-use Rattle.sg_store.specs.Disk.{Disk, empty_disk}
+use Rattle.sg_store.specs.Disk.{Disk, IsWellFormed, empty_disk}
 use Rattle.sg_pages.specs.Identity.{IdentityFields}
 use Rattle.sg_pages.specs.ModePage.{ModeState, initial_state}
 use Rattle.sg_units.specs.Attentions.{ArePending, Pending, power_on_pending}
@@ -30,8 +30,9 @@ powered_on config = record {
 -- No table of the disk is past its limit: no more addresses are mapped than the pool has blocks,
 -- each of the eight initiators has a queue of at most five pending conditions, all distinct, and at
 -- most six initiators are registered, none twice and none under the key 0. A reservation has the
--- holders of its type.
+-- holders of its type. Each mapped address is below the capacity, and its block has 512 bytes.
 pub record IsWithinLimits (state : State) : Type 0 where
   pub mapped : len state.disk.contents ≤ state.disk.pool
   pub pending : ArePending state.attentions
   pub registered : IsConsistent state.reservations
+  pub blocks : IsWellFormed state.disk.capacity state.disk.contents

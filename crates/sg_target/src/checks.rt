@@ -29,6 +29,8 @@ impl<S: Store> Target<S> {
             AreOnDisk self.now.state.disk.capacity (medium_use operation).extents) }
         ensures limits { IsWithinLimits self.now.state }
     {
+        // Its contract says that the blocks are well formed.
+        let _ = self.store.mapped();
         let blocks = self.config.blocks();
         let command = Command::read(cdb);
         if let Err(CdbFault::Empty) = command {

@@ -123,9 +123,9 @@ impl<S: Store> Target<S> {
         ensures limits { (n : ℕ) →
             IsWithinLimits (state_after_events self.old.state (take n (map E.event list.now))) }
     {
-        // The type's invariant is known where a field is used: the tables are within their limits
-        // before the first command.
-        let _ = &self.store;
+        // The store's contract says that its blocks are well formed, and the type's invariant, which is
+        // known where a field is used, that the tables are within their limits.
+        let _ = self.store.mapped();
         for item in list {
             match item.to_event() {
                 Event::Call(call) => {

@@ -126,6 +126,8 @@ impl<S: Store> Target<S> {
         ensures meter { self.new.meter ≡ self.old.meter }
         ensures limits { IsWithinLimits self.new.state }
     {
+        // Its contract says that the blocks are well formed.
+        let _ = self.store.mapped();
         self.modes.power_on();
         self.attentions.clear_to_power_on();
         self.reservations.power_on();

@@ -56,7 +56,12 @@ pub returns-in_err-take-in-Call-clause-limits : goal.returns-in_err-take-in-Call
 returns-in_err-take-in-Call-clause-limits g c n =
     all-within _ (map g.E.ToEvent.event c.args.list.now) n
     (subst (λ (t : TargetFields). IsWithinLimits t.state) c.self.view_is
-    (record { mapped = c.self.invariant.1; pending = c.self.invariant.2; registered = c.self.invariant.3 }))
+    (record {
+      mapped = c.self.invariant.1;
+      pending = c.self.invariant.2;
+      registered = c.self.invariant.3;
+      blocks = c.mapped.ensures.well_formed;
+    }))
 
 pub loop-item-preserved : goal.loop-item-preserved
 loop-item-preserved g c =
@@ -107,4 +112,9 @@ pub returns-clause-limits : goal.returns-clause-limits
 returns-clause-limits g c n =
     all-within _ (map g.E.ToEvent.event c.args.list.now) n
     (subst (λ (t : TargetFields). IsWithinLimits t.state) c.self.view_is
-    (record { mapped = c.self.invariant.1; pending = c.self.invariant.2; registered = c.self.invariant.3 }))
+    (record {
+      mapped = c.self.invariant.1;
+      pending = c.self.invariant.2;
+      registered = c.self.invariant.3;
+      blocks = c.mapped.ensures.well_formed;
+    }))

@@ -1,0 +1,247 @@
+-- Each command leaves the mapped addresses within the capacity, and their blocks of 512 bytes.
+use Rattle.std.proofs.Common.{◌≡◌, ◌≤◌, ◌<◌, ℕ, ◌+◌, ◌*◌, List, [], ◌∷◌, length, take, drop, map}
+use Rattle.std.proofs.Common.{Bool, true, false, cond, Option, Some, None, Result, Ok, Err, refl}
+use Rattle.std.proofs.Common.{arith, length-take, length-drop}
+use Rattle.std.specs.Prelude.{max, nat_lt}
+use Rattle.sg_wire.specs.CutAnswer.{first_bytes}
+use Rattle.sg_target.specs.PrimaryCommands.{inquiry_page}
+use Rattle.sg_target.specs.ReservationCommands.{fields_out}
+use Rattle.sg_target.specs.declared.refusal.Reason.TheVariants.{LbaOutOfRange}
+use Rattle.sg_target.specs.declared.refusal.Refusal.TheVariants.{Check}
+use Rattle.std.proofs.lemmas.Bool.Decides.{nat_tests}
+use Rattle.sg_wire.specs.declared.command.Command.{Command}
+use Rattle.sg_wire.specs.declared.command.Command.TheVariants as command
+use Rattle.sg_wire.specs.declared.command.CdbFault.{CdbFault}
+use Rattle.sg_wire.specs.declared.extent.Extent.{Extent}
+use Rattle.sg_wire.specs.Layout.{command_of}
+use Rattle.sg_store.specs.Disk.{Contents, IsWellFormed, block_at, unmapped}
+use Rattle.sg_store.proofs.UnmapLemmas.{well_formed-unmapped}
+use Rattle.sg_store.proofs.WellFormedLemmas.{well_formed-replaced}
+use Rattle.sg_target.specs.BlockCommands.{blocks_out, bytes_of}
+use Rattle.sg_target.specs.CapacityData.{block_length}
+use Rattle.sg_target.specs.Checks.{cdb_checks, checked_cdb, checked_operation}
+use Rattle.sg_target.specs.Checks.{checked_parse, out_of_range, past_capacity}
+use Rattle.sg_target.specs.Checks.{requested, short_data_out, unsupported_value, write_protection}
+use Rattle.sg_target.specs.Demands.{Demands, bad_count, demands, extent, takes}
+use Rattle.sg_target.specs.Demands.{too_long, unless_anchor, unmap_or_fill}
+use Rattle.sg_target.specs.Effect.{Effect}
+use Rattle.sg_target.specs.Extents.{AreOnDisk}
+use Rattle.sg_target.specs.ProvisioningCommands.{block_out, listed_extents, unmapped_in_turn, unmaps}
+use Rattle.sg_target.specs.Refusal.{checked_next, first_some, if_supported, unless_refused, when_sound}
+use Rattle.sg_target.specs.Semantics.{effect_of, medium_use}
+use Rattle.sg_target.specs.State.{State}
+use Rattle.sg_target.specs.declared.operation.Operation.{Operation}
+use Rattle.sg_target.specs.declared.operation.Operation.TheVariants as operation
+use Rattle.sg_target.specs.declared.refusal.Refusal.{Refusal}
+
+-- ---- what an operation brings
+
+-- the bytes of its blocks, or one block
+abbrev IsSound : Operation → Type 0
+IsSound (operation.Write out) = length out.bytes ≡ bytes_of out.extent
+IsSound (operation.Fill extent block) = length block ≡ block_length
+IsSound _ = Unit {0}
+
+abbrev Sound : Result Operation Refusal → Type 0
+Sound (Ok o) = IsSound o
+Sound (Err refusal) = Unit {0}
+
+when : {A : Type 0} (found : Result A Refusal) (becomes : A → Operation)
+    → ((value : A) → IsSound (becomes value)) → Sound (when_sound found becomes)
+when (Ok value) becomes h = h value
+when (Err refusal) becomes h = tt
+
+unless : (refused : Option Refusal) (asked : Result Operation Refusal) → (refused ≡ None → Sound asked)
+    → Sound (unless_refused refused asked)
+unless None asked h = h refl
+unless (Some refusal) asked h = tt
+
+-- data-out that is not refused is long enough
+long_enough : (unsupported : Option ℕ) (n : ℕ) (data_out : List ℕ) →
+    first_some (unsupported_value unsupported ∷ short_data_out (Some n) data_out ∷ []) ≡ None
+    → n ≤ length data_out
+long_enough (Some byte) n data_out e = cc
+long_enough None n data_out e = grind (arith, nat_tests)
+
+requested-sound : (d : Demands) (data_out : List ℕ) → Sound d.operation
+    → Sound (requested d data_out)
+requested-sound d data_out h =
+    unless
+    (first_some (unsupported_value d.unsupported ∷ short_data_out d.data_out_length data_out ∷ []))
+    d.operation (λ e. h)
+
+takes-sound : (n : ℕ) (unsupported : Option ℕ) (asked : Result Operation Refusal) (data_out : List ℕ)
+    → (n ≤ length data_out → Sound asked) → Sound (requested (takes n unsupported asked) data_out)
+takes-sound n unsupported asked data_out h =
+    unless (first_some (unsupported_value unsupported ∷ short_data_out (Some n) data_out ∷ [])) asked
+    (λ e. h (long_enough unsupported n data_out e))
+
+whole : (n : ℕ) (data_out : List ℕ) → n ≤ length data_out → length (take n data_out) ≡ n
+whole n data_out h = omega (arith, length-take n data_out)
+
+write-sound : (extent : Extent) (unsupported : Option ℕ) (data_out : List ℕ)
+    → Sound (requested (takes (bytes_of extent) unsupported (Ok (operation.Write (blocks_out extent data_out))))
+    data_out)
+write-sound extent unsupported data_out =
+    takes-sound (bytes_of extent) unsupported (Ok (operation.Write (blocks_out extent data_out))) data_out
+    (whole (bytes_of extent) data_out)
+
+fill-or-unmap : (is_unmap : Bool) (extent : Extent) (block : List ℕ) → length block ≡ block_length
+    → IsSound (cond is_unmap (operation.UnmapExtent extent) (operation.Fill extent block))
+fill-or-unmap true extent block h = tt
+fill-or-unmap false extent block h = h
+
+write_same-sound : (unmap : Bool) (extent : Extent) (unsupported : Option ℕ) (data_out : List ℕ)
+    → Sound (requested (takes block_length unsupported
+    (Ok (unmap_or_fill unmap extent (block_out data_out)))) data_out)
+write_same-sound unmap extent unsupported data_out =
+    let block = block_out data_out in
+    takes-sound block_length unsupported (Ok (unmap_or_fill unmap extent block)) data_out
+    (λ h. fill-or-unmap (unmaps unmap block) extent block (whole block_length data_out h))
+
+command-sound : (blocks : ℕ) (c : Command) (data_out : List ℕ)
+    → Sound (requested (demands blocks c data_out) data_out)
+command-sound blocks (command.Write6 short) data_out =
+    write-sound (extent short.0 short.1) None data_out
+command-sound blocks (command.Write10 c) data_out =
+    write-sound (extent c.lba c.count) (too_long c.count 7) data_out
+command-sound blocks (command.Write16 c) data_out =
+    write-sound (extent c.lba c.count) (too_long c.count 10) data_out
+command-sound blocks (command.WriteSame10 c) data_out =
+    write_same-sound c.unmap (extent c.lba c.count) (unless_anchor c.anchor (bad_count c.count 7)) data_out
+command-sound blocks (command.WriteSame16 c) data_out =
+    write_same-sound c.unmap (extent c.lba c.count) (unless_anchor c.anchor (bad_count c.count 10)) data_out
+command-sound blocks (command.Inquiry c) data_out =
+    requested-sound (demands blocks (command.Inquiry c) data_out) data_out
+    (when (if_supported 2 (inquiry_page c.evpd c.page_code))
+    (λ page. operation.ReturnInquiry page c.allocation_length) (λ page. tt))
+command-sound blocks (command.Unmap c) data_out =
+    requested-sound (demands blocks (command.Unmap c) data_out) data_out
+    (when (listed_extents (first_bytes c.list_length data_out)) operation.Unmap (λ extents. tt))
+command-sound blocks (command.PersistentReserveOut c) data_out =
+    requested-sound (demands blocks (command.PersistentReserveOut c) data_out) data_out
+    (when (fields_out (first_bytes c.list_length data_out))
+    (operation.ChangeReservations c.action c.scope_type) (λ list. tt))
+command-sound blocks c data_out = requested-sound (demands blocks c data_out) data_out tt
+
+-- ---- what has passed the checks
+
+-- extents that are not refused are on the disk
+past-none : (capacity end : ℕ) (refusal : Refusal) (checks : List (Option Refusal)) (is_past : Bool)
+    → nat_lt capacity end ≡ is_past
+    → first_some (cond is_past (Some refusal) None ∷ checks) ≡ None
+    → (end ≤ capacity) × (first_some checks ≡ None)
+past-none capacity end refusal checks true past e = cc
+past-none capacity end refusal checks false past e = (grind (arith, nat_tests), e)
+
+on_disk : (capacity : ℕ) (extents : List Extent) → out_of_range capacity extents ≡ None
+    → AreOnDisk capacity extents
+unfolding out_of_range
+on_disk capacity [] e = tt
+on_disk capacity (one ∷ rest) e =
+    let h = past-none capacity (one.lba + one.count) (Check (LbaOutOfRange (max one.lba capacity)))
+    (map (past_capacity capacity) rest) (nat_lt capacity (one.lba + one.count)) refl e in
+    (h.0, on_disk capacity rest h.1)
+
+-- what an operation brings, and where its blocks lie
+pub record IsReady (state : State) (o : Operation) : Type 0 where
+  pub sound : IsSound o
+  pub on_disk : AreOnDisk state.disk.capacity (medium_use o).extents
+
+abbrev Ready : State → Result Operation Refusal → Type 0
+Ready state (Ok o) = IsReady state o
+Ready state (Err refusal) = Unit {0}
+
+passes : (state : State) (o : Operation) (range protection : Option Refusal)
+    → (range ≡ None → IsReady state o)
+    → Ready state (unless_refused (first_some (range ∷ protection ∷ [])) (Ok o))
+passes state o None None h = h refl
+passes state o None (Some refusal) h = tt
+passes state o (Some refusal) protection h = tt
+
+operation-ready : (state : State) (o : Operation) → IsSound o → Ready state (checked_operation state o)
+operation-ready state o h =
+    let medium = medium_use o in
+    passes state o (out_of_range state.disk.capacity medium.extents)
+    (write_protection state.modes medium.writes)
+    (λ e. record { sound = h; on_disk = on_disk state.disk.capacity medium.extents e })
+
+next-ready : (state : State) (asked : Result Operation Refusal) → Sound asked
+    → Ready state (checked_next asked (checked_operation state))
+next-ready state (Ok o) h = operation-ready state o h
+next-ready state (Err refusal) h = tt
+
+parse-ready : (state : State) (parsed : Result Command CdbFault) (data_out : List ℕ)
+    → Ready state (checked_parse state parsed data_out)
+parse-ready state (Ok c) data_out =
+    next-ready state (requested (demands state.disk.capacity c data_out) data_out)
+    (command-sound state.disk.capacity c data_out)
+parse-ready state (Err fault) data_out = tt
+
+unless-ready : (state : State) (refused : Option Refusal) (checked : Result Operation Refusal)
+    → Ready state checked → Ready state (unless_refused refused checked)
+unless-ready state None checked h = h
+unless-ready state (Some refusal) checked h = tt
+
+cdb-ready : (state : State) (i : ℕ) (cdb data_out : List ℕ)
+    → Ready state (checked_cdb state i cdb data_out)
+unfolding checked_cdb
+cdb-ready state i cdb data_out =
+    unless-ready state (first_some (cdb_checks state i cdb)) (checked_parse state (command_of cdb) data_out)
+    (parse-ready state (command_of cdb) data_out)
+
+-- ---- what is done then
+
+abbrev pub KeepsBlocks : Result Effect Refusal → Type 0
+KeepsBlocks (Ok effect) = IsWellFormed effect.after.disk.capacity effect.after.disk.contents
+KeepsBlocks (Err refusal) = Unit {0}
+
+abbrev HasBlocks : State → Type 0
+HasBlocks state = IsWellFormed state.disk.capacity state.disk.contents
+
+sound-keeps : {A : Type 0} (found : Result A Refusal) (becomes : A → Effect)
+    → ((value : A) → HasBlocks (becomes value).after) → KeepsBlocks (when_sound found becomes)
+sound-keeps (Ok value) becomes h = h value
+sound-keeps (Err refusal) becomes h = tt
+
+-- one block of some
+block-length : (bytes : List ℕ) (count i : ℕ) → length bytes ≡ 512 * count → i < count
+    → length (block_at bytes i) ≡ 512
+block-length bytes count i h below =
+    omega (arith, length-take 512 (drop (512 * i) bytes), length-drop (512 * i) bytes)
+
+unmapped-keeps : (capacity : ℕ) (extents : List Extent) (contents : Contents)
+    → IsWellFormed capacity contents → IsWellFormed capacity (unmapped_in_turn contents extents)
+unmapped-keeps capacity [] contents h = h
+unmapped-keeps capacity (one ∷ rest) contents h =
+    unmapped-keeps capacity rest (unmapped contents one.lba one.count)
+    (well_formed-unmapped capacity contents one.lba one.count h)
+
+operation-keeps : (state : State) (i : ℕ) (o : Operation) → HasBlocks state → IsReady state o
+    → KeepsBlocks (effect_of state i o)
+operation-keeps state i (operation.Write out) h ready =
+    well_formed-replaced state.disk.capacity state.disk.contents out.extent.lba out.extent.count
+    (block_at out.bytes) h ready.on_disk.0
+    (λ k below. block-length out.bytes out.extent.count k ready.sound below)
+operation-keeps state i (operation.Fill extent block) h ready =
+    well_formed-replaced state.disk.capacity state.disk.contents extent.lba extent.count
+    (λ k. block) h ready.on_disk.0 (λ k below. ready.sound)
+operation-keeps state i (operation.Unmap extents) h ready =
+    unmapped-keeps state.disk.capacity extents state.disk.contents h
+operation-keeps state i (operation.UnmapExtent extent) h ready =
+    unmapped-keeps state.disk.capacity (extent ∷ []) state.disk.contents h
+operation-keeps state i (operation.ReturnModes request n) h ready = sound-keeps _ _ (λ list. h)
+operation-keeps state i (operation.ChangeModes ten sp list) h ready = sound-keeps _ _ (λ modes. h)
+operation-keeps state i (operation.ChangeReservations action scope_type list) h ready =
+    sound-keeps _ _ (λ change. h)
+operation-keeps state i _ h ready = h
+
+by-checks : (state : State) (i : ℕ) (checked : Result Operation Refusal) → HasBlocks state
+    → Ready state checked → KeepsBlocks (checked_next checked (effect_of state i))
+by-checks state i (Ok o) h ready = operation-keeps state i o h ready
+by-checks state i (Err refusal) h ready = tt
+
+pub keeps-blocks : (state : State) (i : ℕ) (cdb data_out : List ℕ) → HasBlocks state
+    → KeepsBlocks (checked_next (checked_cdb state i cdb data_out) (effect_of state i))
+keeps-blocks state i cdb data_out h =
+    by-checks state i (checked_cdb state i cdb data_out) h (cdb-ready state i cdb data_out)
