@@ -14,19 +14,22 @@ use Rattle.sg_wire.specs.declared.command.Command.TheVariants as command
 use Rattle.sg_wire.specs.declared.command.CdbFault.{CdbFault}
 use Rattle.sg_wire.specs.declared.extent.Extent.{Extent}
 use Rattle.sg_wire.specs.Layout.{command_of}
-use Rattle.sg_store.specs.Disk.{Contents, IsWellFormed, block_at, unmapped}
+use Rattle.sg_store.specs.Disk.{Contents, IsWellFormed, anchored, block_at, unmapped}
+use Rattle.sg_store.specs.Disk.Mapping.{Data, Anchored}
 use Rattle.sg_store.proofs.UnmapLemmas.{well_formed-unmapped}
-use Rattle.sg_store.proofs.WellFormedLemmas.{well_formed-replaced}
+use Rattle.sg_store.proofs.WellFormedLemmas.{well_formed-remapped}
 use Rattle.sg_target.specs.BlockCommands.{blocks_out, bytes_of}
 use Rattle.sg_target.specs.CapacityData.{block_length}
 use Rattle.sg_target.specs.Checks.{cdb_checks, checked_cdb, checked_operation}
 use Rattle.sg_target.specs.Checks.{checked_parse, out_of_range, past_capacity}
 use Rattle.sg_target.specs.Checks.{requested, short_data_out, unsupported_value, write_protection}
 use Rattle.sg_target.specs.Demands.{Demands, bad_count, demands, extent, takes}
-use Rattle.sg_target.specs.Demands.{too_long, unless_anchor, unmap_or_fill}
+use Rattle.sg_target.specs.Demands.{too_long, unless_anchor_alone, unmap_extent, unmap_extents}
+use Rattle.sg_target.specs.Demands.{unmap_or_fill}
 use Rattle.sg_target.specs.Effect.{Effect}
 use Rattle.sg_target.specs.Extents.{AreOnDisk}
-use Rattle.sg_target.specs.ProvisioningCommands.{block_out, listed_extents, unmapped_in_turn, unmaps}
+use Rattle.sg_target.specs.ProvisioningCommands.{anchored_in_turn, block_out, listed_extents}
+use Rattle.sg_target.specs.ProvisioningCommands.{unmapped_in_turn, unmaps}
 use Rattle.sg_target.specs.Refusal.{checked_next, first_some, if_supported, unless_refused, when_sound}
 use Rattle.sg_target.specs.Semantics.{effect_of, medium_use}
 use Rattle.sg_target.specs.State.{State}
@@ -86,18 +89,24 @@ write-sound extent unsupported data_out =
     takes-sound (bytes_of extent) unsupported (Ok (operation.Write (blocks_out extent data_out))) data_out
     (whole (bytes_of extent) data_out)
 
-fill-or-unmap : (is_unmap : Bool) (extent : Extent) (block : List ℕ) → length block ≡ block_length
-    → IsSound (cond is_unmap (operation.UnmapExtent extent) (operation.Fill extent block))
-fill-or-unmap true extent block h = tt
-fill-or-unmap false extent block h = h
+fill-or-unmap : (anchor is_unmap : Bool) (extent : Extent) (block : List ℕ)
+    → length block ≡ block_length
+    → IsSound (cond is_unmap (unmap_extent anchor extent) (operation.Fill extent block))
+fill-or-unmap true true extent block h = tt
+fill-or-unmap false true extent block h = tt
+fill-or-unmap anchor false extent block h = h
 
-write_same-sound : (unmap : Bool) (extent : Extent) (unsupported : Option ℕ) (data_out : List ℕ)
-    → Sound (requested (takes block_length unsupported
-    (Ok (unmap_or_fill unmap extent (block_out data_out)))) data_out)
-write_same-sound unmap extent unsupported data_out =
+write_same-sound : (anchor unmap : Bool) (extent : Extent) (unsupported : Option ℕ)
+    (data_out : List ℕ) → Sound (requested (takes block_length unsupported
+    (Ok (unmap_or_fill anchor unmap extent (block_out data_out)))) data_out)
+write_same-sound anchor unmap extent unsupported data_out =
     let block = block_out data_out in
-    takes-sound block_length unsupported (Ok (unmap_or_fill unmap extent block)) data_out
-    (λ h. fill-or-unmap (unmaps unmap block) extent block (whole block_length data_out h))
+    takes-sound block_length unsupported (Ok (unmap_or_fill anchor unmap extent block)) data_out
+    (λ h. fill-or-unmap anchor (unmaps unmap block) extent block (whole block_length data_out h))
+
+extents-sound : (anchor : Bool) (extents : List Extent) → IsSound (unmap_extents anchor extents)
+extents-sound true extents = tt
+extents-sound false extents = tt
 
 command-sound : (blocks : ℕ) (c : Command) (data_out : List ℕ)
     → Sound (requested (demands blocks c data_out) data_out)
@@ -108,16 +117,19 @@ command-sound blocks (command.Write10 c) data_out =
 command-sound blocks (command.Write16 c) data_out =
     write-sound (extent c.lba c.count) (too_long c.count 10) data_out
 command-sound blocks (command.WriteSame10 c) data_out =
-    write_same-sound c.unmap (extent c.lba c.count) (unless_anchor c.anchor (bad_count c.count 7)) data_out
+    write_same-sound c.anchor c.unmap (extent c.lba c.count)
+    (unless_anchor_alone c.anchor c.unmap (bad_count c.count 7)) data_out
 command-sound blocks (command.WriteSame16 c) data_out =
-    write_same-sound c.unmap (extent c.lba c.count) (unless_anchor c.anchor (bad_count c.count 10)) data_out
+    write_same-sound c.anchor c.unmap (extent c.lba c.count)
+    (unless_anchor_alone c.anchor c.unmap (bad_count c.count 10)) data_out
 command-sound blocks (command.Inquiry c) data_out =
     requested-sound (demands blocks (command.Inquiry c) data_out) data_out
     (when (if_supported 2 (inquiry_page c.evpd c.page_code))
     (λ page. operation.ReturnInquiry page c.allocation_length) (λ page. tt))
 command-sound blocks (command.Unmap c) data_out =
     requested-sound (demands blocks (command.Unmap c) data_out) data_out
-    (when (listed_extents (first_bytes c.list_length data_out)) operation.Unmap (λ extents. tt))
+    (when (listed_extents (first_bytes c.list_length data_out)) (unmap_extents c.anchor)
+    (extents-sound c.anchor))
 command-sound blocks (command.PersistentReserveOut c) data_out =
     requested-sound (demands blocks (command.PersistentReserveOut c) data_out) data_out
     (when (fields_out (first_bytes c.list_length data_out))
@@ -217,19 +229,32 @@ unmapped-keeps capacity (one ∷ rest) contents h =
     unmapped-keeps capacity rest (unmapped contents one.lba one.count)
     (well_formed-unmapped capacity contents one.lba one.count h)
 
+anchored-keeps : (capacity : ℕ) (extents : List Extent) (contents : Contents)
+    → IsWellFormed capacity contents → AreOnDisk capacity extents
+    → IsWellFormed capacity (anchored_in_turn contents extents)
+anchored-keeps capacity [] contents h on_disk = h
+anchored-keeps capacity (one ∷ rest) contents h on_disk =
+    anchored-keeps capacity rest (anchored contents one.lba one.count)
+    (well_formed-remapped capacity contents one.lba one.count (λ index. Anchored) h on_disk.0
+    (λ i below. tt)) on_disk.1
+
 operation-keeps : (state : State) (i : ℕ) (o : Operation) → HasBlocks state → IsReady state o
     → KeepsBlocks (effect_of state i o)
 operation-keeps state i (operation.Write out) h ready =
-    well_formed-replaced state.disk.capacity state.disk.contents out.extent.lba out.extent.count
-    (block_at out.bytes) h ready.on_disk.0
+    well_formed-remapped state.disk.capacity state.disk.contents out.extent.lba out.extent.count
+    (λ index. Data (block_at out.bytes index)) h ready.on_disk.0
     (λ k below. block-length out.bytes out.extent.count k ready.sound below)
 operation-keeps state i (operation.Fill extent block) h ready =
-    well_formed-replaced state.disk.capacity state.disk.contents extent.lba extent.count
-    (λ k. block) h ready.on_disk.0 (λ k below. ready.sound)
+    well_formed-remapped state.disk.capacity state.disk.contents extent.lba extent.count
+    (λ index. Data block) h ready.on_disk.0 (λ k below. ready.sound)
 operation-keeps state i (operation.Unmap extents) h ready =
     unmapped-keeps state.disk.capacity extents state.disk.contents h
 operation-keeps state i (operation.UnmapExtent extent) h ready =
     unmapped-keeps state.disk.capacity (extent ∷ []) state.disk.contents h
+operation-keeps state i (operation.Anchor extents) h ready =
+    anchored-keeps state.disk.capacity extents state.disk.contents h ready.on_disk
+operation-keeps state i (operation.AnchorExtent extent) h ready =
+    anchored-keeps state.disk.capacity (extent ∷ []) state.disk.contents h ready.on_disk
 operation-keeps state i (operation.ReturnModes request n) h ready = sound-keeps _ _ (λ list. h)
 operation-keeps state i (operation.ChangeModes ten sp list) h ready = sound-keeps _ _ (λ modes. h)
 operation-keeps state i (operation.ChangeReservations action scope_type list) h ready =

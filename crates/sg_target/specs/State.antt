@@ -27,10 +27,10 @@ powered_on config = record {
   reservations = empty_state;
 }
 
--- No table of the disk is past its limit: no more addresses are mapped than the pool has blocks,
+-- No table of the disk is past its limit: no more addresses are used than the pool has blocks,
 -- each of the eight initiators has a queue of at most five pending conditions, all distinct, and at
 -- most six initiators are registered, none twice and none under the key 0. A reservation has the
--- holders of its type. Each mapped address is below the capacity, and its block has 512 bytes.
+-- holders of its type. Each used address is below the capacity, and data is blocks of 512 bytes.
 pub record IsWithinLimits (state : State) : Type 0 where
   pub mapped : len state.disk.contents ≤ state.disk.pool
   pub pending : ArePending state.attentions

@@ -30,7 +30,7 @@ impl<S: Store> Target<S> {
         ensures limits { IsWithinLimits self.now.state }
     {
         // Its contract says that the blocks are well formed.
-        let _ = self.store.mapped();
+        let _ = self.store.used();
         let blocks = self.config.blocks();
         let command = Command::read(cdb);
         if let Err(CdbFault::Empty) = command {

@@ -125,7 +125,7 @@ impl<S: Store> Target<S> {
     {
         // The store's contract says that its blocks are well formed, and the type's invariant, which is
         // known where a field is used, that the tables are within their limits.
-        let _ = self.store.mapped();
+        let _ = self.store.used();
         for item in list {
             match item.to_event() {
                 Event::Call(call) => {

@@ -127,7 +127,7 @@ impl<S: Store> Target<S> {
         ensures limits { IsWithinLimits self.new.state }
     {
         // Its contract says that the blocks are well formed.
-        let _ = self.store.mapped();
+        let _ = self.store.used();
         self.modes.power_on();
         self.attentions.clear_to_power_on();
         self.reservations.power_on();

@@ -60,7 +60,7 @@ returns-in_err-take-in-Call-clause-limits g c n =
       mapped = c.self.invariant.1;
       pending = c.self.invariant.2;
       registered = c.self.invariant.3;
-      blocks = c.mapped.ensures.well_formed;
+      blocks = c.used.ensures.well_formed;
     }))
 
 pub loop-item-preserved : goal.loop-item-preserved
@@ -116,5 +116,5 @@ returns-clause-limits g c n =
       mapped = c.self.invariant.1;
       pending = c.self.invariant.2;
       registered = c.self.invariant.3;
-      blocks = c.mapped.ensures.well_formed;
+      blocks = c.used.ensures.well_formed;
     }))
