@@ -119,7 +119,7 @@ fn next_command(
         5 => Some((write_same(random, lba, count), BLOCK_LENGTH)),
         6..=8 => {
             list_extent(random, data_out);
-            Some((unmap()?, EXTENT_LIST))
+            Some((unmap(random)?, EXTENT_LIST))
         }
         9 | 10 => Some((status(random, lba), 0)),
         11 | 12 => {
@@ -146,16 +146,16 @@ fn read(lba: u32, count: u8) -> Command {
 
 fn write_same(random: &mut Random, lba: u32, count: u8) -> Command {
     Command::WriteSame16(WriteSame16 {
-        anchor: false,
+        anchor: random.byte() < 64,
         unmap: random.byte() < 128,
         lba: u64::from(lba),
         count: u32::from(count),
     })
 }
 
-fn unmap() -> Option<Command> {
+fn unmap(random: &mut Random) -> Option<Command> {
     Some(Command::Unmap(Unmap {
-        anchor: false,
+        anchor: random.byte() < 128,
         group: GroupNumber::new(0)?,
         list_length: EXTENT_LIST as u16,
     }))
