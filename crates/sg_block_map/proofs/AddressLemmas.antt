@@ -1,116 +1,157 @@
 -- Which addresses runs have, and in which order the runs are.
-use Rattle.std.proofs.Common.{◌≡◌, ℕ, ◌+◌, ◌<◌, ◌≤◌, zero, suc, List, [], ◌∷◌, ◌++◌, length}
+use Rattle.std.proofs.Common.{◌≡◌, ◌≢◌, ℕ, ◌+◌, ◌<◌, ◌≤◌, zero, suc, List, [], ◌∷◌, ◌++◌, length}
 use Rattle.std.proofs.Common.{arith, refl, ap, ◌∙◌, ◌⊎◌, inl}
 use Rattle.std.proofs.Common.{inr, cond, Bool, true, false, Option, Some, None}
 use Rattle.std.proofs.lemmas.Bool.{cases_lt}
 use Rattle.std.specs.Cmp.{nat_cmp_total}
-use Rattle.std.specs.FinMap.{find, get-from_entries, contains_key}
+use Rattle.std.specs.FinMap.{find, get, get-from_entries, contains_key}
 use Rattle.std.specs.Ordering.{nat_cmp, eq_by_cmp}
 use Rattle.std.specs.Prelude.{slice_index, is_some}
+use Rattle.sg_store.specs.Disk.{Mapping}
 use Rattle.sg_table.specs.Records.{start_of}
-use Rattle.sg_pool.specs.MappedRecords.{mapped_blocks, contents_of}
+use Rattle.sg_pool.specs.MappedRecords.{Seen, entries_by, contents_by}
+use Rattle.sg_table.specs.declared.run.Kind.{Kind}
+use Rattle.sg_table.specs.declared.run.Kind.TheVariants.{Data, Anchored}
 use Rattle.sg_table.specs.declared.run.Run.{Run}
 use Rattle.sg_block_map.specs.Gathering.{end_at}
-use Rattle.sg_block_map.specs.Runs.{end_of, singles, singles_of, expanded, AreMaximal}
-use Rattle.sg_store.proofs.DiskLemmas.{eq_same}
-use Rattle.sg_block_map.proofs.BetweenLemmas.{between-singles, maximal-le}
+use Rattle.sg_block_map.specs.Runs.{end_of, singles, singles_of, expanded, behind, AreApart}
+use Rattle.sg_block_map.specs.Runs.{Bound, AreMaximalIn}
+use Rattle.sg_block_map.specs.MaximalRuns.{same_kind}
+use Rattle.sg_store.proofs.DiskLemmas.{eq_same, eq_other}
+use Rattle.sg_block_map.proofs.BetweenLemmas.{between-singles, apart-le}
 use Rattle.sg_block_map.proofs.ContentsLemmas.{find-below, find-above, find-right}
 use Rattle.sg_block_map.proofs.ExpandedLemmas.{expanded-more, expanded-none}
 
--- a record of the address is found among more records
-either-some : (b : Bool) (v : List ℕ) (o : Option (List ℕ)) → is_some o ≡ true
-    → is_some (cond b (Some v) o) ≡ true
-either-some true v o e = refl
-either-some false v o e = e
+-- the kind of the run at an index
+abbrev pub kind_at : List Run → ℕ → Kind
+kind_at [] i = Data
+kind_at (run ∷ records) zero = run.kind
+kind_at (run ∷ records) (suc i) = kind_at records i
 
-left-some : (b : Bool) (v : List ℕ) (o p : Option (List ℕ)) → (is_some o ≡ true → is_some p ≡ true)
-    → is_some (cond b (Some v) o) ≡ true → is_some (cond b (Some v) p) ≡ true
-left-some true v o p f e = refl
-left-some false v o p f e = f e
+-- ---- The order of runs
 
-found-left : (xs ys : List Run) (bs : List (List ℕ)) (q : ℕ)
-    → is_some (find nat_cmp q (mapped_blocks xs bs)) ≡ true
-    → is_some (find nat_cmp q (mapped_blocks (xs ++ ys) bs)) ≡ true
-found-left [] ys bs q e = let wrong = e in cc
-found-left (x ∷ xs) ys bs q e = left-some (eq_by_cmp nat_cmp q x.start) _ _ _
-    (found-left xs ys bs q) e
+apart-past : (rs : List Run) (a b j : ℕ) → AreApart a b rs → j < length rs → a ≤ start_of rs j
+apart-past [] a b j h lt = absurd (omega arith)
+apart-past (x ∷ rs) a b zero h lt = h.0
+apart-past (x ∷ rs) a b (suc j) h lt = omega
+    (arith, h.0, apart-past rs (end_of x) b j h.2 (omega arith))
 
-found-right : (xs ys : List Run) (bs : List (List ℕ)) (q : ℕ)
-    → is_some (find nat_cmp q (mapped_blocks ys bs)) ≡ true
-    → is_some (find nat_cmp q (mapped_blocks (xs ++ ys) bs)) ≡ true
-found-right [] ys bs q e = e
-found-right (x ∷ xs) ys bs q e = either-some (eq_by_cmp nat_cmp q x.start) _ _
-    (found-right xs ys bs q e)
+pub apart-order : (rs : List Run) (a b i j : ℕ) → AreApart a b rs → i < j → j < length rs
+    → end_at rs i ≤ start_of rs j
+apart-order [] a b i j h lt low = absurd (omega arith)
+apart-order (x ∷ rs) a b i zero h lt low = absurd (omega arith)
+apart-order (x ∷ rs) a b zero (suc j) h lt low = apart-past rs (end_of x) b j h.2 (omega arith)
+apart-order (x ∷ rs) a b (suc i) (suc j) h lt low =
+    apart-order rs (end_of x) b i j h.2 (omega arith) (omega arith)
 
-found-single : (next : List ℕ) (bs : List (List ℕ)) (start first n q : ℕ) → start ≤ q
-    → q < start + n → is_some (find nat_cmp q (mapped_blocks (singles next start first n) bs)) ≡
-    true
+pub ends-within : (rs : List Run) (a b i : ℕ) → AreApart a b rs → i < length rs → end_at rs i ≤ b
+ends-within [] a b i h lt = absurd (omega arith)
+ends-within (x ∷ rs) a b zero h lt = apart-le rs (end_of x) b h.2
+ends-within (x ∷ rs) a b (suc i) h lt = ends-within rs (end_of x) b i h.2 (omega arith)
+
+pub apart-filled : (rs : List Run) (a b i : ℕ) → AreApart a b rs → i < length rs
+    → start_of rs i < end_at rs i
+apart-filled [] a b i h lt = absurd (omega arith)
+apart-filled (x ∷ rs) a b zero h lt = omega (arith, h.1)
+apart-filled (x ∷ rs) a b (suc i) h lt = apart-filled rs (end_of x) b i h.2 (omega arith)
+
+-- where one begins right behind another, that one has another kind
+other_kind : (k j : Kind) (n start : ℕ) → cond (same_kind j k) (n + 1) n ≤ start → start ≡ n → j ≢ k
+other_kind Data Data n start h e same = absurd (omega arith)
+other_kind Data Anchored n start h e same = cc
+other_kind Anchored Data n start h e same = cc
+other_kind Anchored Anchored n start h e same = absurd (omega arith)
+
+pub kinds-differ : (rs : List Run) (low high : Bound) (i : ℕ) → AreMaximalIn low high rs
+    → suc i < length rs → start_of rs (suc i) ≡ end_at rs i → kind_at rs (suc i) ≢ kind_at rs i
+kinds-differ [] low high i h lt e = absurd (omega arith)
+kinds-differ (x ∷ []) low high i h lt e = absurd (omega arith)
+kinds-differ (x ∷ y ∷ rs) low high zero h lt e =
+    other_kind x.kind y.kind (end_of x) y.start h.2.0 e
+kinds-differ (x ∷ y ∷ rs) low high (suc i) h lt e =
+    kinds-differ (y ∷ rs) (behind x) high i h.2 (omega arith) e
+
+-- ---- Which addresses they have
+
+left-some : (b : Bool) (u v : Mapping) (o p : Option Mapping) → (o ≡ Some v → p ≡ Some v)
+    → cond b (Some u) o ≡ Some v → cond b (Some u) p ≡ Some v
+left-some true u v o p f e = e
+left-some false u v o p f e = f e
+
+found-left : (xs ys : List Run) (f : Seen) (q : ℕ) (v : Mapping)
+    → find nat_cmp q (entries_by f xs) ≡ Some v → find nat_cmp q (entries_by f (xs ++ ys)) ≡ Some v
+found-left [] ys f q v e = cc
+found-left (x ∷ xs) ys f q v e = left-some (eq_by_cmp nat_cmp q x.start) _ _ _ _
+    (found-left xs ys f q v) e
+
+found-single : (next : List ℕ) (f : Seen) (start first n : ℕ) (kind : Kind) (q : ℕ)
+    → start ≤ q → q < start + n
+    → (slot : ℕ) × (find nat_cmp q (entries_by f (singles next start first n kind))
+    ≡ Some (f slot kind))
 unfolding singles
-found-single next bs start first zero q le lt = absurd (omega arith)
-found-single next bs start first (suc n) q le lt = elim (cases_lt start q) [
-  | inl below ↦ either-some (eq_by_cmp nat_cmp q start) _ _
-      (found-single next bs (start + 1) (slice_index next first) n q (omega arith) (omega arith))
+found-single next f start first zero kind q le lt = absurd (omega arith)
+found-single next f start first (suc n) kind q le lt = elim (cases_lt start q) [
+  | inl below ↦
+      let rest = found-single next f (start + 1) (slice_index next first) n kind q (omega arith)
+      (omega arith) in
+      let other : eq_by_cmp nat_cmp q start ≡ false =
+      eq_other q start (λ same. absurd (omega arith)) in
+      (rest.0, rw other rest.1)
   | inr here ↦ let same : eq_by_cmp nat_cmp q start ≡ true = eq_same q start (omega arith) in
-      rw same refl
+      (first, rw same refl)
 ]
 
-found-inside : (next : List ℕ) (rs : List Run) (bs : List (List ℕ)) (i q : ℕ) → i < length rs
-    → start_of rs i ≤ q → q < end_at rs i → is_some
-    (find nat_cmp q (mapped_blocks (expanded next rs) bs)) ≡ true
-found-inside next [] bs i q h le lt = absurd (omega arith)
-found-inside next (x ∷ rs) bs zero q h le lt =
-    rw (expanded-more next x rs) (found-left (singles_of next x) (expanded next rs) bs q
-    (found-single next bs x.start x.first x.count q le lt))
-found-inside next (x ∷ rs) bs (suc i) q h le lt =
-    rw (expanded-more next x rs) (found-right (singles_of next x) (expanded next rs) bs q
-    (found-inside next rs bs i q (omega arith) le lt))
+found-inside : (next : List ℕ) (rs : List Run) (f : Seen) (a b i q : ℕ)
+    → AreApart a b rs → i < length rs → start_of rs i ≤ q → q < end_at rs i
+    → (slot : ℕ) × (find nat_cmp q (entries_by f (expanded next rs)) ≡ Some (f slot (kind_at rs i)))
+found-inside next [] f a b i q h low le lt = absurd (omega arith)
+found-inside next (x ∷ rs) f a b zero q h low le lt =
+    let one = found-single next f x.start x.first x.count x.kind q le lt in (
+      one.0,
+      rw (expanded-more next x rs) (found-left (singles_of next x) (expanded next rs) f q _ one.1),
+    )
+found-inside next (x ∷ rs) f a b (suc i) q h low le lt =
+    let rest = found-inside next rs f (end_of x) b i q h.2 (omega arith) le lt in
+    let past = apart-past rs (end_of x) b i h.2 (omega arith) in
+    let none = find-above (singles_of next x) f x.start (end_of x) q
+    (between-singles next x.start x.first x.count x.kind) (omega arith) in (
+      rest.0,
+      rw (expanded-more next x rs) (find-right (singles_of next x) (expanded next rs) f q none
+          ∙ rest.1),
+    )
 
-pub contains-inside : (next : List ℕ) (rs : List Run) (bs : List (List ℕ)) (i q : ℕ) → i < length rs
-    → start_of rs i ≤ q → q < end_at rs i → contains_key (contents_of (expanded next rs) bs) q ≡
-    true
-contains-inside next rs bs i q h le lt = ap is_some
-    (get-from_entries nat_cmp_total (mapped_blocks (expanded next rs) bs) q)
-    ∙ found-inside next rs bs i q h le lt
+pub get-inside : (next : List ℕ) (rs : List Run) (f : Seen) (a b i q : ℕ)
+    → AreApart a b rs → i < length rs → start_of rs i ≤ q → q < end_at rs i
+    → (slot : ℕ) × (get (contents_by f (expanded next rs)) q ≡ Some (f slot (kind_at rs i)))
+get-inside next rs f a b i q h low le lt =
+    let found = found-inside next rs f a b i q h low le lt in (
+      found.0,
+      get-from_entries nat_cmp_total (entries_by f (expanded next rs)) q ∙ found.1,
+    )
+
+pub contains-inside : (next : List ℕ) (rs : List Run) (f : Seen) (a b i q : ℕ)
+    → AreApart a b rs → i < length rs → start_of rs i ≤ q → q < end_at rs i
+    → contains_key (contents_by f (expanded next rs)) q ≡ true
+contains-inside next rs f a b i q h low le lt =
+    ap is_some (get-inside next rs f a b i q h low le lt).1
 
 -- no run has the address
-none-outside : (next : List ℕ) (rs : List Run) (bs : List (List ℕ)) (q : ℕ)
+none-outside : (next : List ℕ) (rs : List Run) (f : Seen) (q : ℕ)
     → ((i : ℕ) → i < length rs → (q < start_of rs i) ⊎ (end_at rs i ≤ q))
-    → find nat_cmp q (mapped_blocks (expanded next rs) bs) ≡ None
-none-outside next [] bs q h = rw (expanded-none next) refl
-none-outside next (x ∷ rs) bs q h =
-    let between = between-singles next x.start x.first x.count in
-    let none : find nat_cmp q (mapped_blocks (singles_of next x) bs) ≡ None =
+    → find nat_cmp q (entries_by f (expanded next rs)) ≡ None
+none-outside next [] f q h = rw (expanded-none next) refl
+none-outside next (x ∷ rs) f q h =
+    let between = between-singles next x.start x.first x.count x.kind in
+    let none : find nat_cmp q (entries_by f (singles_of next x)) ≡ None =
     elim (h 0 (omega arith)) [
-      | inl lt ↦ find-below (singles_of next x) bs x.start (end_of x) q between lt
-      | inr le ↦ find-above (singles_of next x) bs x.start (end_of x) q between le
+      | inl lt ↦ find-below (singles_of next x) f x.start (end_of x) q between lt
+      | inr le ↦ find-above (singles_of next x) f x.start (end_of x) q between le
     ] in
-    rw (expanded-more next x rs) (find-right (singles_of next x) (expanded next rs) bs q none
-    ∙ none-outside next rs bs q (λ i lt. h (suc i) (omega arith)))
+    rw (expanded-more next x rs) (find-right (singles_of next x) (expanded next rs) f q none
+    ∙ none-outside next rs f q (λ i lt. h (suc i) (omega arith)))
 
-pub contains-outside : (next : List ℕ) (rs : List Run) (bs : List (List ℕ)) (q : ℕ)
+pub get-outside : (next : List ℕ) (rs : List Run) (f : Seen) (q : ℕ)
     → ((i : ℕ) → i < length rs → (q < start_of rs i) ⊎ (end_at rs i ≤ q))
-    → contains_key (contents_of (expanded next rs) bs) q ≡ false
-contains-outside next rs bs q h =
-    ap is_some (get-from_entries nat_cmp_total (mapped_blocks (expanded next rs) bs) q
-    ∙ none-outside next rs bs q h)
-
--- the order of maximal runs
-maximal-past : (rs : List Run) (a b j : ℕ) → AreMaximal a b rs → j < length rs → a ≤ start_of rs j
-maximal-past [] a b j h lt = absurd (omega arith)
-maximal-past (x ∷ rs) a b zero h lt = h.0
-maximal-past (x ∷ rs) a b (suc j) h lt = omega
-    (arith, h.0, maximal-past rs (end_of x + 1) b j h.1 (omega arith))
-
-pub maximal-order : (rs : List Run) (a b i j : ℕ) → AreMaximal a b rs → i < j → j < length rs
-    → end_at rs i < start_of rs j
-maximal-order [] a b i j h lt low = absurd (omega arith)
-maximal-order (x ∷ rs) a b i zero h lt low = absurd (omega arith)
-maximal-order (x ∷ rs) a b zero (suc j) h lt low =
-    omega (arith, maximal-past rs (end_of x + 1) b j h.1 (omega arith))
-maximal-order (x ∷ rs) a b (suc i) (suc j) h lt low =
-    maximal-order rs (end_of x + 1) b i j h.1 (omega arith) (omega arith)
-
-pub ends-below : (rs : List Run) (a b i : ℕ) → AreMaximal a b rs → i < length rs → end_at rs i < b
-ends-below [] a b i h lt = absurd (omega arith)
-ends-below (x ∷ rs) a b zero h lt = omega (arith, maximal-le rs (end_of x + 1) b h.1)
-ends-below (x ∷ rs) a b (suc i) h lt = ends-below rs (end_of x + 1) b i h.1 (omega arith)
+    → get (contents_by f (expanded next rs)) q ≡ None
+get-outside next rs f q h =
+    get-from_entries nat_cmp_total (entries_by f (expanded next rs)) q ∙ none-outside next rs f q h

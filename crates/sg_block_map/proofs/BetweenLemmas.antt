@@ -4,8 +4,9 @@ use Rattle.std.proofs.Common.{length, arith, refl, inl, inr, length-append}
 use Rattle.std.proofs.lemmas.Bool.{cases_lt}
 use Rattle.std.specs.Prelude.{slice_index}
 use Rattle.sg_table.specs.Records.{start_of, IsSorted, IsLowerBound}
+use Rattle.sg_table.specs.declared.run.Kind.{Kind}
 use Rattle.sg_table.specs.declared.run.Run.{Run}
-use Rattle.sg_block_map.specs.Runs.{end_of, singles, singles_of, expanded, AreMaximal, AreBetween}
+use Rattle.sg_block_map.specs.Runs.{end_of, singles, singles_of, expanded, AreApart, AreBetween}
 
 pub between-le : (xs : List Run) (a b : ℕ) → AreBetween a b xs → a ≤ b
 between-le [] a b h = h
@@ -85,67 +86,64 @@ none-between xs ys a m n b q h k le lt j low same =
     ]
 
 -- addresses of runs
-pub between-singles : (next : List ℕ) (start first n : ℕ)
-    → AreBetween start (start + n) (singles next start first n)
+pub between-singles : (next : List ℕ) (start first n : ℕ) (kind : Kind)
+    → AreBetween start (start + n) (singles next start first n kind)
 unfolding singles
-between-singles next start first zero = omega arith
-between-singles next start first (suc n) =
+between-singles next start first zero kind = omega arith
+between-singles next start first (suc n) kind =
     let e : start + 1 + n ≡ start + suc n = omega arith in
-    (omega arith, rw e at (between-singles next (start + 1) (slice_index next first) n))
+    (omega arith, rw e at (between-singles next (start + 1) (slice_index next first) n kind))
 
-pub between-expanded : (next : List ℕ) (runs : List Run) (a b : ℕ) → AreMaximal a b runs
+pub between-expanded : (next : List ℕ) (runs : List Run) (a b : ℕ) → AreApart a b runs
     → AreBetween a b (expanded next runs)
 unfolding expanded
 between-expanded next [] a b h = h
 between-expanded next (run ∷ runs) a b h =
-    let rest = between-expanded next runs (end_of run + 1) b h.1 in
+    let rest = between-expanded next runs (end_of run) b h.2 in
     between-append (singles_of next run) (expanded next runs) a (end_of run) b
     (between-weaker (singles_of next run) run.start (end_of run) a (end_of run) h.0 (omega arith)
-    (between-singles next run.start run.first run.count))
-    (between-weaker (expanded next runs) (end_of run + 1) b (end_of run) b (omega arith)
-    (omega arith) rest)
+    (between-singles next run.start run.first run.count run.kind)) rest
 
-pub maximal-le : (runs : List Run) (a b : ℕ) → AreMaximal a b runs → a ≤ b
-maximal-le [] a b h = h
-maximal-le (run ∷ runs) a b h = let rest = maximal-le runs (end_of run + 1) b h.1 in
-    omega (arith, h.0)
+pub apart-le : (runs : List Run) (a b : ℕ) → AreApart a b runs → a ≤ b
+apart-le [] a b h = h
+apart-le (run ∷ runs) a b h = let rest = apart-le runs (end_of run) b h.2 in omega (arith, h.0)
 
-pub maximal-weaker : (runs : List Run) (a b a' b' : ℕ) → a' ≤ a → b ≤ b' → AreMaximal a b runs
-    → AreMaximal a' b' runs
-maximal-weaker [] a b a' b' l r h = omega arith
-maximal-weaker (run ∷ runs) a b a' b' l r h = (
+pub apart-weaker : (runs : List Run) (a b a' b' : ℕ) → a' ≤ a → b ≤ b' → AreApart a b runs
+    → AreApart a' b' runs
+apart-weaker [] a b a' b' l r h = omega arith
+apart-weaker (run ∷ runs) a b a' b' l r h = (
   omega (arith, h.0),
-  maximal-weaker runs (end_of run + 1) b (end_of run + 1) b'
-      (omega arith) r h.1,
+  h.1,
+  apart-weaker runs (end_of run) b (end_of run) b' (omega arith) r h.2,
 )
 
-pub maximal-append : (xs ys : List Run) (a m b : ℕ) → AreMaximal a m xs → AreMaximal m b ys
-    → AreMaximal a b (xs ++ ys)
-maximal-append [] ys a m b h k = maximal-weaker ys m b a b h (omega arith) k
-maximal-append (x ∷ xs) ys a m b h k = (h.0, maximal-append xs ys (end_of x + 1) m b h.1 k)
+pub apart-append : (xs ys : List Run) (a m b : ℕ) → AreApart a m xs → AreApart m b ys
+    → AreApart a b (xs ++ ys)
+apart-append [] ys a m b h k = apart-weaker ys m b a b h (omega arith) k
+apart-append (x ∷ xs) ys a m b h k = (h.0, h.1, apart-append xs ys (end_of x) m b h.2 k)
 
 -- where the runs behind others begin
-abbrev pub behind : (low : ℕ) → List Run → ℕ
-behind low [] = low
-behind low (run ∷ runs) = behind (end_of run + 1) runs
+abbrev pub end_of_all : (low : ℕ) → List Run → ℕ
+end_of_all low [] = low
+end_of_all low (run ∷ runs) = end_of_all (end_of run) runs
 
-pub maximal-left : (xs ys : List Run) (a b : ℕ) → AreMaximal a b (xs ++ ys)
-    → AreMaximal a (behind a xs) xs
-maximal-left [] ys a b h = omega arith
-maximal-left (x ∷ xs) ys a b h = (h.0, maximal-left xs ys (end_of x + 1) b h.1)
+pub apart-left : (xs ys : List Run) (a b : ℕ) → AreApart a b (xs ++ ys)
+    → AreApart a (end_of_all a xs) xs
+apart-left [] ys a b h = omega arith
+apart-left (x ∷ xs) ys a b h = (h.0, h.1, apart-left xs ys (end_of x) b h.2)
 
-pub maximal-right : (xs ys : List Run) (a b : ℕ) → AreMaximal a b (xs ++ ys)
-    → AreMaximal (behind a xs) b ys
-maximal-right [] ys a b h = h
-maximal-right (x ∷ xs) ys a b h = maximal-right xs ys (end_of x + 1) b h.1
+pub apart-right : (xs ys : List Run) (a b : ℕ) → AreApart a b (xs ++ ys)
+    → AreApart (end_of_all a xs) b ys
+apart-right [] ys a b h = h
+apart-right (x ∷ xs) ys a b h = apart-right xs ys (end_of x) b h.2
 
-pub maximal-between : (runs : List Run) (a b : ℕ) → AreMaximal a b runs → AreBetween a b runs
-maximal-between [] a b h = h
-maximal-between (run ∷ runs) a b h = (
+pub apart-between : (runs : List Run) (a b : ℕ) → AreApart a b runs → AreBetween a b runs
+apart-between [] a b h = h
+apart-between (run ∷ runs) a b h = (
   h.0,
-  between-weaker runs (end_of run + 1) b (run.start + 1) b (omega arith) (omega arith)
-      (maximal-between runs (end_of run + 1) b h.1),
+  between-weaker runs (end_of run) b (run.start + 1) b (omega (arith, h.1)) (omega arith)
+      (apart-between runs (end_of run) b h.2),
 )
 
-pub maximal-sorted : (runs : List Run) (a b : ℕ) → AreMaximal a b runs → IsSorted runs
-maximal-sorted runs a b h = sorted-between runs a b (maximal-between runs a b h)
+pub apart-sorted : (runs : List Run) (a b : ℕ) → AreApart a b runs → IsSorted runs
+apart-sorted runs a b h = sorted-between runs a b (apart-between runs a b h)

@@ -21,11 +21,11 @@ use Rattle.sg_block_map.proofs.SplitLemmas.{expanded-one, below-left, below-righ
 pub slots-one : (next : List ℕ) (run : Run) → slots_of (expanded next (run ∷ [])) ≡
     chain next run.first run.count
 slots-one next run = ap slots_of (expanded-one next run)
-    ∙ slots-singles next run.start run.first run.count
+    ∙ slots-singles next run.start run.first run.count run.kind
 
 pub length-part : (next : List ℕ) (run : Run) → length (expanded next (run ∷ [])) ≡ run.count
 length-part next run = ap length (expanded-one next run)
-    ∙ length-singles next run.start run.first run.count
+    ∙ length-singles next run.start run.first run.count run.kind
 
 pub stays-set : (next slots : List ℕ) (last to : ℕ) → 1 ≤ occurrences last slots
     → StaysBut next (set next last to) slots
@@ -55,7 +55,7 @@ part-slots next run fs gs bs s parts =
     let whole : occurrences s (slots_of (expanded next (fs ++ (gs ++ bs)))) ≡
     occurrences s (chain next run.first run.count)
     = ap (λ xs. occurrences s (slots_of xs)) parts
-    ∙ ap (occurrences s) (slots-singles next run.start run.first run.count) in
+    ∙ ap (occurrences s) (slots-singles next run.start run.first run.count run.kind) in
     let a = slots-both next s fs (gs ++ bs) in
     let b = slots-both next s gs bs in
     omega arith
@@ -65,7 +65,7 @@ pub part-length : (next : List ℕ) (run : Run) (fs gs bs : List Run)
     → length (expanded next fs) + (length (expanded next gs) + length (expanded next bs)) ≡
     run.count
 part-length next run fs gs bs parts =
-    let whole = ap length parts ∙ length-singles next run.start run.first run.count in
+    let whole = ap length parts ∙ length-singles next run.start run.first run.count run.kind in
     let a = ap length (expanded-append next fs (gs ++ bs))
     ∙ length-append (expanded next fs) (expanded next (gs ++ bs)) in
     let b = ap length (expanded-append next gs bs)
@@ -78,7 +78,7 @@ pub part-below : (next : List ℕ) (count : ℕ) (run : Run) (fs gs bs : List Ru
 part-below next count run fs gs bs parts below =
     let whole : chain next run.first run.count ≡
     slots_of (expanded next fs) ++ (slots_of (expanded next gs) ++ slots_of (expanded next bs))
-    = sym (slots-singles next run.start run.first run.count) ∙ ap slots_of (sym parts)
+    = sym (slots-singles next run.start run.first run.count run.kind) ∙ ap slots_of (sym parts)
     ∙ ap slots_of (expanded-append next fs (gs ++ bs))
     ∙ slots-append (expanded next fs) (expanded next (gs ++ bs))
     ∙ ap (λ xs. slots_of (expanded next fs) ++ slots_of xs) (expanded-append next gs bs)
@@ -120,9 +120,10 @@ inside-part rest low high (Some part) le h = (omega (arith, h.0), omega (arith, 
 
 behind-part : (run rest : Run) (low high : ℕ) (back : Option Run) → IsRest run low rest
     → IfSome back (IsRest rest high) → IfSome back (λ (part : Run). (high ≤ part.start)
-    × (run.start ≤ part.start) × (end_of part ≡ end_of run))
+    × (run.start ≤ part.start) × (end_of part ≡ end_of run) × (part.kind ≡ run.kind))
 behind-part run rest low high None r h = tt
-behind-part run rest low high (Some part) r h = (h.1, omega (arith, h.0, r.0), h.2 ∙ r.2)
+behind-part run rest low high (Some part) r h =
+    (h.1, omega (arith, h.0, r.0), h.2 ∙ r.2, h.4 ∙ r.4)
 
 -- only the part before the range is left
 pub cut-front : (old new : Slots) (kept kept' : List Run) (run : Run) (low high : ℕ)

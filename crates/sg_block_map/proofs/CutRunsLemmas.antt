@@ -10,11 +10,11 @@ use Rattle.std.specs.FinMap as map
 use Rattle.std.specs.FinMap.{find, get-from_entries, same_map, nat_cmp-IsAntisymmetric}
 use Rattle.std.specs.List.{splice}
 use Rattle.std.specs.Ordering.{nat_cmp, eq_by_cmp}
-use Rattle.std.specs.Prelude.{option_to_list, IfSome, slice_index_or}
+use Rattle.std.specs.Prelude.{option_to_list, IfSome}
 use Rattle.sg_pool.specs.Chains.{chain, AreBelow, IsChain}
-use Rattle.sg_store.specs.Disk.{zero_block, lies_in, unmapped}
+use Rattle.sg_store.specs.Disk.{lies_in, unmapped}
 use Rattle.sg_table.specs.Draft.{Drafted}
-use Rattle.sg_pool.specs.MappedRecords.{mapped_blocks, contents_of}
+use Rattle.sg_pool.specs.MappedRecords.{Seen, entries_by, contents_by}
 use Rattle.sg_pool.specs.Slots.{Slots}
 use Rattle.sg_table.specs.Records.{slots_of}
 use Rattle.sg_table.specs.Occurrences.{occurrences, IsEachOnce}
@@ -22,14 +22,15 @@ use Rattle.sg_table.specs.declared.run.Run.{Run}
 use Rattle.sg_store.specs.declared.store.TheConstants.{MAX_CAPACITY}
 use Rattle.sg_block_map.specs.Cutting.{AreDistinct, IsCut}
 use Rattle.sg_block_map.specs.Gathering.{AreGathered, end_index}
-use Rattle.sg_block_map.specs.Runs.{end_of, singles_of, expanded, AreChained, AreMaximal}
+use Rattle.sg_block_map.specs.Runs.{end_of, singles_of, expanded, AreApart, AreChained, AreMaximal, any_from}
 use Rattle.sg_block_map.specs.Runs.{AreBetween, AreRuns, blocks_of}
 use Rattle.sg_block_map.specs.Splitting.{IsFront}
 use Rattle.sg_table.proofs.OccurrenceLemmas.{same_slot, occurrences-append, occurrences-more}
 use Rattle.sg_table.proofs.OccurrenceLemmas.{once-le, below_count}
 use Rattle.sg_table.proofs.SpliceLemmas.{front_of}
-use Rattle.sg_block_map.proofs.BetweenLemmas.{behind, maximal-left, maximal-right, maximal-append}
-use Rattle.sg_block_map.proofs.BetweenLemmas.{maximal-le, between-expanded, between-singles}
+use Rattle.sg_block_map.proofs.BetweenLemmas.{end_of_all, apart-right, apart-le}
+use Rattle.sg_block_map.proofs.BetweenLemmas.{between-expanded, between-singles}
+use Rattle.sg_block_map.proofs.OrderLemmas.{IsPart, cut-maximal, narrow-any, apart-maximal}
 use Rattle.sg_block_map.proofs.BetweenLemmas.{between-weaker, sorted-between}
 use Rattle.sg_block_map.proofs.ContentsLemmas.{get-unmapped, inside, below, above, find-below}
 use Rattle.sg_block_map.proofs.ContentsLemmas.{find-above, find-right}
@@ -54,103 +55,107 @@ pub gone-between : (next : List ℕ) (low high : ℕ) (gone : Option Run) → lo
 gone-between next low high None le h = rw (expanded-none next) le
 gone-between next low high (Some part) le h =
     rw (expanded-one next part) (between-weaker (singles_of next part) part.start
-    (end_of part) low high h.0 h.1 (between-singles next part.start part.first part.count))
+    (end_of part) low high h.0 h.1 (between-singles next part.start part.first part.count part.kind))
 
 -- records that do not have the address
-pub find-skip : (xs ys zs : List Run) (blocks : List (List ℕ)) (q : ℕ)
-    → find nat_cmp q (mapped_blocks ys blocks) ≡ None
-    → find nat_cmp q (mapped_blocks (xs ++ (ys ++ zs)) blocks) ≡
-    find nat_cmp q (mapped_blocks (xs ++ zs) blocks)
-find-skip [] ys zs blocks q none = find-right ys zs blocks q none
-find-skip (x ∷ xs) ys zs blocks q none =
-    ap (cond (eq_by_cmp nat_cmp q x.start) (Some (slice_index_or blocks x.first zero_block)))
-    (find-skip xs ys zs blocks q none)
+pub find-skip : (xs ys zs : List Run) (f : Seen) (q : ℕ)
+    → find nat_cmp q (entries_by f ys) ≡ None
+    → find nat_cmp q (entries_by f (xs ++ (ys ++ zs))) ≡
+    find nat_cmp q (entries_by f (xs ++ zs))
+find-skip [] ys zs f q none = find-right ys zs f q none
+find-skip (x ∷ xs) ys zs f q none =
+    ap (cond (eq_by_cmp nat_cmp q x.start) (Some (f x.first x.kind)))
+    (find-skip xs ys zs f q none)
 
-get-skip : (xs ys zs : List Run) (blocks : List (List ℕ)) (q : ℕ)
-    → find nat_cmp q (mapped_blocks ys blocks) ≡ None
-    → map.get (contents_of (xs ++ zs) blocks) q ≡ map.get (contents_of (xs ++ (ys ++ zs)) blocks) q
-get-skip xs ys zs blocks q none = get-from_entries nat_cmp_total (mapped_blocks (xs ++ zs) blocks) q
-    ∙ sym (find-skip xs ys zs blocks q none) ∙ sym
-    (get-from_entries nat_cmp_total (mapped_blocks (xs ++ (ys ++ zs)) blocks) q)
+get-skip : (xs ys zs : List Run) (f : Seen) (q : ℕ)
+    → find nat_cmp q (entries_by f ys) ≡ None
+    → map.get (contents_by f (xs ++ zs)) q ≡ map.get (contents_by f (xs ++ (ys ++ zs))) q
+get-skip xs ys zs f q none = get-from_entries nat_cmp_total (entries_by f (xs ++ zs)) q
+    ∙ sym (find-skip xs ys zs f q none) ∙ sym
+    (get-from_entries nat_cmp_total (entries_by f (xs ++ (ys ++ zs))) q)
 
-get-less : (xs ys zs : List Run) (blocks : List (List ℕ)) (low high q : ℕ) → AreBetween low high ys
+get-less : (xs ys zs : List Run) (f : Seen) (low high q : ℕ) → AreBetween low high ys
     → low ≤ high
-    → cond (lies_in low (high - low) q) None (map.get (contents_of (xs ++ zs) blocks) q) ≡
-    cond (lies_in low (high - low) q) None (map.get (contents_of (xs ++ (ys ++ zs)) blocks) q)
-get-less xs ys zs blocks low high q h le = elim (cases_lt q low) [
+    → cond (lies_in low (high - low) q) None (map.get (contents_by f (xs ++ zs)) q) ≡
+    cond (lies_in low (high - low) q) None (map.get (contents_by f (xs ++ (ys ++ zs))) q)
+get-less xs ys zs f low high q h le = elim (cases_lt q low) [
   | inl lt ↦ ap (cond (lies_in low (high - low) q) None)
-      (get-skip xs ys zs blocks q (find-below ys blocks low high q h lt))
+      (get-skip xs ys zs f q (find-below ys f low high q h lt))
   | inr ge ↦ elim (cases_lt q high) [
     | inl lt ↦ rw (inside low (high - low) q ge (omega arith)) refl
     | inr beyond ↦ ap (cond (lies_in low (high - low) q) None)
-        (get-skip xs ys zs blocks q (find-above ys blocks low high q h beyond))
+        (get-skip xs ys zs f q (find-above ys f low high q h beyond))
   ]
 ]
 
 -- what is unmapped anyway
-pub unmapped-less : (xs ys zs : List Run) (blocks : List (List ℕ)) (low high : ℕ) → low ≤ high
+pub unmapped-less : (xs ys zs : List Run) (f : Seen) (low high : ℕ) → low ≤ high
     → AreBetween low high ys
-    → unmapped (contents_of (xs ++ zs) blocks) low (high - low) ≡
-    unmapped (contents_of (xs ++ (ys ++ zs)) blocks) low (high - low)
-unmapped-less xs ys zs blocks low high le h =
+    → unmapped (contents_by f (xs ++ zs)) low (high - low) ≡
+    unmapped (contents_by f (xs ++ (ys ++ zs))) low (high - low)
+unmapped-less xs ys zs f low high le h =
     same_map nat_cmp_total nat_cmp-IsAntisymmetric _ _ (λ q.
-    get-unmapped (contents_of (xs ++ zs) blocks) low (high - low) q
-    ∙ get-less xs ys zs blocks low high q h le
-    ∙ sym (get-unmapped (contents_of (xs ++ (ys ++ zs)) blocks) low (high - low) q))
+    get-unmapped (contents_by f (xs ++ zs)) low (high - low) q
+    ∙ get-less xs ys zs f low high q h le
+    ∙ sym (get-unmapped (contents_by f (xs ++ (ys ++ zs))) low (high - low) q))
 
-outside-append : (next : List ℕ) (xs ys : List Run) (blocks : List (List ℕ)) (q : ℕ)
-    → find nat_cmp q (mapped_blocks (expanded next xs) blocks) ≡ None
-    → find nat_cmp q (mapped_blocks (expanded next ys) blocks) ≡ None
-    → find nat_cmp q (mapped_blocks (expanded next (xs ++ ys)) blocks) ≡ None
-outside-append next xs ys blocks q none other =
-    ap (λ zs. find nat_cmp q (mapped_blocks zs blocks)) (expanded-append next xs ys)
-    ∙ find-right (expanded next xs) (expanded next ys) blocks q none ∙ other
+outside-append : (next : List ℕ) (xs ys : List Run) (f : Seen) (q : ℕ)
+    → find nat_cmp q (entries_by f (expanded next xs)) ≡ None
+    → find nat_cmp q (entries_by f (expanded next ys)) ≡ None
+    → find nat_cmp q (entries_by f (expanded next (xs ++ ys))) ≡ None
+outside-append next xs ys f q none other =
+    ap (λ zs. find nat_cmp q (entries_by f zs)) (expanded-append next xs ys)
+    ∙ find-right (expanded next xs) (expanded next ys) f q none ∙ other
 
 front-outside : (next : List ℕ) (run : Run) (low q : ℕ) (front : Option Run)
-    (blocks : List (List ℕ)) → IfSome front (IsFront run low) → low ≤ q
-    → find nat_cmp q (mapped_blocks (expanded next (option_to_list front)) blocks) ≡ None
-front-outside next run low q None blocks h le =
-    ap (λ zs. find nat_cmp q (mapped_blocks zs blocks)) (expanded-none next)
-front-outside next run low q (Some front) blocks h le =
-    ap (λ zs. find nat_cmp q (mapped_blocks zs blocks)) (expanded-one next front)
-    ∙ find-above (singles_of next front) blocks front.start (end_of front) q
-    (between-singles next front.start front.first front.count) (omega (arith, h.1))
+    (f : Seen) → IfSome front (IsFront run low) → low ≤ q
+    → find nat_cmp q (entries_by f (expanded next (option_to_list front))) ≡ None
+front-outside next run low q None f h le =
+    ap (λ zs. find nat_cmp q (entries_by f zs)) (expanded-none next)
+front-outside next run low q (Some front) f h le =
+    ap (λ zs. find nat_cmp q (entries_by f zs)) (expanded-one next front)
+    ∙ find-above (singles_of next front) f front.start (end_of front) q
+    (between-singles next front.start front.first front.count front.kind) (omega (arith, h.1))
 
-back-outside : (next : List ℕ) (run : Run) (high q : ℕ) (back : Option Run) (blocks : List (List ℕ))
+back-outside : (next : List ℕ) (run : Run) (high q : ℕ) (back : Option Run) (f : Seen)
     → IfSome back (λ (part : Run). (high ≤ part.start) × (run.start ≤ part.start)
-    × (end_of part ≡ end_of run)) → q < high → find nat_cmp q
-    (mapped_blocks (expanded next (option_to_list back)) blocks) ≡ None
-back-outside next run high q None blocks h lt =
-    ap (λ zs. find nat_cmp q (mapped_blocks zs blocks)) (expanded-none next)
-back-outside next run high q (Some back) blocks h lt =
-    ap (λ zs. find nat_cmp q (mapped_blocks zs blocks)) (expanded-one next back)
-    ∙ find-below (singles_of next back) blocks back.start (end_of back) q
-    (between-singles next back.start back.first back.count) (omega (arith, h.0))
+    × (end_of part ≡ end_of run) × (part.kind ≡ run.kind)) → q < high → find nat_cmp q
+    (entries_by f (expanded next (option_to_list back))) ≡ None
+back-outside next run high q None f h lt =
+    ap (λ zs. find nat_cmp q (entries_by f zs)) (expanded-none next)
+back-outside next run high q (Some back) f h lt =
+    ap (λ zs. find nat_cmp q (entries_by f zs)) (expanded-one next back)
+    ∙ find-below (singles_of next back) f back.start (end_of back) q
+    (between-singles next back.start back.first back.count back.kind) (omega (arith, h.0))
 
 -- the parts lie where the run lay
-pieces-maximal : (run : Run) (low high a : ℕ) (front back : Option Run) → low < high → a ≤ run.start
-    → IfSome front (IsFront run low) → IfSome back (λ (part : Run). (high ≤ part.start)
-    × (run.start ≤ part.start) × (end_of part ≡ end_of run))
-    → AreMaximal a (end_of run + 1) (option_to_list front ++ option_to_list back)
-pieces-maximal run low high a None None lt le f b = omega arith
-pieces-maximal run low high a (Some front) None lt le f b = (omega (arith, f.0), omega (arith, f.1))
-pieces-maximal run low high a None (Some back) lt le f b = (omega (arith, b.1), omega (arith, b.2))
-pieces-maximal run low high a (Some front) (Some back) lt le f b =
-    (omega (arith, f.0), (omega (arith, f.1, b.0), omega (arith, b.2)))
+part-front : (next : List ℕ) (run : Run) (low : ℕ) (front : Option Run) (more : List Run)
+    → AreChained next (option_to_list front ++ more) → IfSome front (IsFront run low)
+    → IfSome front (IsPart run 0 low)
+part-front next run low None more k f = tt
+part-front next run low (Some front) more k f = record {
+  kind = f.3;
+  not_empty = k.0.not_empty;
+  starts = omega (arith, f.0);
+  from_there = omega arith;
+  ends = omega (arith, f.1);
+  to_there = omega (arith, f.1);
+}
 
-pub cut-maximal : (xs tail : List Run) (run : Run) (low high a b : ℕ) (front back : Option Run)
-    → low < high → IfSome front (IsFront run low)
+part-back : (next : List ℕ) (run : Run) (high : ℕ) (back : Option Run)
+    → AreChained next (option_to_list back)
     → IfSome back (λ (part : Run). (high ≤ part.start) × (run.start ≤ part.start)
-    × (end_of part ≡ end_of run))
-    → AreMaximal a b (xs ++ run ∷ tail) → AreMaximal a b
-    (xs ++ ((option_to_list front ++ option_to_list back) ++ tail))
-cut-maximal xs tail run low high a b front back lt f g h =
-    let left = maximal-left xs (run ∷ tail) a b h in
-    let right = maximal-right xs (run ∷ tail) a b h in
-    maximal-append xs ((option_to_list front ++ option_to_list back) ++ tail) a (behind a xs) b left
-    (maximal-append (option_to_list front ++ option_to_list back) tail (behind a xs)
-    (end_of run + 1) b (pieces-maximal run low high (behind a xs) front back lt right.0 f g)
-    right.1)
+    × (end_of part ≡ end_of run) × (part.kind ≡ run.kind))
+    → IfSome back (IsPart run high (end_of run))
+part-back next run high None k b = tt
+part-back next run high (Some back) k b = record {
+  kind = b.3;
+  not_empty = k.0.not_empty;
+  starts = b.1;
+  from_there = b.0;
+  ends = omega (arith, b.2);
+  to_there = omega (arith, b.2);
+}
 
 module _ {old new : Slots} {kept kept' : List Run} {run : Run} {low high : ℕ}
     (cut : IsCut old new kept kept' run low high) (xs tail : List Run) where
@@ -267,15 +272,19 @@ module _ {old new : Slots} {kept kept' : List Run} {run : Run} {low high : ℕ}
     pub cut-runs : low < high → AreRuns is new room
     cut-runs lt =
         let maximal : AreMaximal 0 (MAX_CAPACITY + 1) is =
-        rw shape (cut-maximal (xs ++ kept) tail run low high 0
-        (MAX_CAPACITY + 1) cut.front cut.back lt cut.before cut.behind
-        (rw was_shape at before.maximal)) in
+        rw shape (cut-maximal (xs ++ kept) tail run cut.front cut.back low high (any_from 0)
+        (any_from (MAX_CAPACITY + 1)) lt (narrow-any 0) (rw was_shape at before.maximal)
+        (part-front old.next run low cut.front (gs ++ bs) cut.chained cut.before)
+        (part-back old.next run high cut.back
+        (chained-right old.next gs bs (chained-right old.next fs (gs ++ bs) cut.chained))
+        cut.behind)) in
         record {
           maximal = maximal;
           chained = (cut.stays is distinct).1 chained-is;
           consistent = record {
-            sorted = sorted-between (expanded new.next is) 0 (MAX_CAPACITY + 1)
-                (between-expanded new.next is 0 (MAX_CAPACITY + 1) maximal);
+            sorted = sorted-between (expanded new.next is) 0 MAX_CAPACITY
+                (between-expanded new.next is 0 MAX_CAPACITY
+                (apart-maximal is 0 MAX_CAPACITY (omega arith) maximal));
             once = record {
               each = λ t.
                   let a = ap (occurrences t) (ap₂
@@ -301,29 +310,29 @@ module _ {old new : Slots} {kept kept' : List Run} {run : Run} {low high : ℕ}
         }
 
     -- what is unmapped in the end
-    pub cut-contents : low ≤ high → (blocks : List (List ℕ))
-        → unmapped (contents_of (expanded new.next is) blocks) low (high - low) ≡
-        unmapped (contents_of (expanded old.next was) blocks) low (high - low)
-    cut-contents le blocks =
+    pub cut-contents : low ≤ high → (f : Seen)
+        → unmapped (contents_by f (expanded new.next is)) low (high - low) ≡
+        unmapped (contents_by f (expanded old.next was)) low (high - low)
+    cut-contents le see =
         let p : List Run = expanded old.next (xs ++ kept) in
         let t : List Run = expanded old.next tail in let f : List Run = expanded old.next fs in
         let g : List Run = expanded old.next gs in let b : List Run = expanded old.next bs in
-        ap (λ zs. unmapped (contents_of zs blocks) low (high - low)) (same-expanded ∙ now_apart)
-        ∙ unmapped-less (p ++ f) g (b ++ t) blocks low high le
+        ap (λ zs. unmapped (contents_by see zs) low (high - low)) (same-expanded ∙ now_apart)
+        ∙ unmapped-less (p ++ f) g (b ++ t) see low high le
         (gone-between old.next low high cut.gone le cut.inside)
-        ∙ ap (λ zs. unmapped (contents_of zs blocks) low (high - low)) (sym was_apart)
+        ∙ ap (λ zs. unmapped (contents_by see zs) low (high - low)) (sym was_apart)
 
     -- the parts that are kept lie outside the range
-    pub cut-outside : (blocks : List (List ℕ)) (q : ℕ) → low ≤ q → q < high
-        → find nat_cmp q (mapped_blocks (expanded old.next kept) blocks) ≡ None
-        → find nat_cmp q (mapped_blocks (expanded new.next kept') blocks) ≡ None
-    cut-outside blocks q le lt none =
-        ap (λ zs. find nat_cmp q (mapped_blocks zs blocks)) (kept-same
+    pub cut-outside : (f : Seen) (q : ℕ) → low ≤ q → q < high
+        → find nat_cmp q (entries_by f (expanded old.next kept)) ≡ None
+        → find nat_cmp q (entries_by f (expanded new.next kept')) ≡ None
+    cut-outside f q le lt none =
+        ap (λ zs. find nat_cmp q (entries_by f zs)) (kept-same
         ∙ ap (expanded old.next) cut.keeps)
-        ∙ outside-append old.next kept (fs ++ bs) blocks q none
-        (outside-append old.next fs bs blocks q
-        (front-outside old.next run low q cut.front blocks cut.before le)
-        (back-outside old.next run high q cut.back blocks cut.behind lt))
+        ∙ outside-append old.next kept (fs ++ bs) f q none
+        (outside-append old.next fs bs f q
+        (front-outside old.next run low q cut.front f cut.before le)
+        (back-outside old.next run high q cut.back f cut.behind lt))
 
 -- a part of a list in which each slot occurs once
 pub below-sub : (count : ℕ) (xs all : List ℕ) → IsEachOnce count all
@@ -383,7 +392,7 @@ module _ (xs kept tail : List Run) (run : Run) (slots : Slots) (room : ℕ)
       ∙ length-append (expanded slots.next kept) (expanded slots.next (run ∷ tail)) in
       let d = ap length (expanded-more slots.next run tail)
       ∙ length-append (singles_of slots.next run) (expanded slots.next tail) in
-      let e = length-singles slots.next run.start run.first run.count in
+      let e = length-singles slots.next run.start run.first run.count run.kind in
       let f = runs-le slots.next xs (chained-left slots.next xs (kept ++ run ∷ tail) h.chained) in
       let g = runs-le slots.next kept (chained-left slots.next kept (run ∷ tail)
       (chained-right slots.next xs (kept ++ run ∷ tail) h.chained)) in
@@ -394,10 +403,10 @@ module _ (xs kept tail : List Run) (run : Run) (slots : Slots) (room : ℕ)
 
   pub run-range : end_of run ≤ MAX_CAPACITY
   run-range =
-      let all_right = maximal-right xs (kept ++ run ∷ tail) 0 (MAX_CAPACITY + 1) h.maximal in
-      let right = maximal-right kept (run ∷ tail) (behind 0 xs) (MAX_CAPACITY + 1) all_right in
-      let le = maximal-le tail (end_of run + 1) (MAX_CAPACITY + 1) right.1 in
-      omega arith
+      let apart = apart-maximal all 0 MAX_CAPACITY (omega arith) h.maximal in
+      let all_right = apart-right xs (kept ++ run ∷ tail) 0 MAX_CAPACITY apart in
+      let right = apart-right kept (run ∷ tail) (end_of_all 0 xs) MAX_CAPACITY all_right in
+      apart-le tail (end_of run) MAX_CAPACITY right.2
 
 -- there are no more runs than the pool has slots
 pub runs-fit : (records : List Run) (slots : Slots) (room : ℕ) → AreRuns records slots room
@@ -433,42 +442,42 @@ gathered-here rs kept gathered low high bound i d g lt =
     (gathered-next rs gathered low high bound i d g lt)
 
 -- nothing is left in the range
-pub nothing-left : (next : List ℕ) (xs kept ys : List Run) (blocks : List (List ℕ))
-    (low high bound : ℕ) → low ≤ high → AreMaximal 0 low xs → AreMaximal (high + 1) bound ys
-    → ((q : ℕ) → low ≤ q → q < high → find nat_cmp q (mapped_blocks (expanded next kept) blocks) ≡
+pub nothing-left : (next : List ℕ) (xs kept ys : List Run) (f : Seen)
+    (low high bound : ℕ) → low ≤ high → AreApart 0 low xs → AreApart high bound ys
+    → ((q : ℕ) → low ≤ q → q < high → find nat_cmp q (entries_by f (expanded next kept)) ≡
     None)
-    → contents_of (expanded next (xs ++ (kept ++ ys))) blocks ≡
-    unmapped (contents_of (expanded next (xs ++ (kept ++ ys))) blocks) low (high - low)
-nothing-left next xs kept ys blocks low high bound le h k none =
+    → contents_by f (expanded next (xs ++ (kept ++ ys))) ≡
+    unmapped (contents_by f (expanded next (xs ++ (kept ++ ys)))) low (high - low)
+nothing-left next xs kept ys f low high bound le h k none =
     same_map nat_cmp_total nat_cmp-IsAntisymmetric _ _ (λ q.
-    sym (get-unmapped (contents_of (expanded next (xs ++ (kept ++ ys))) blocks) low (high - low) q
+    sym (get-unmapped (contents_by f (expanded next (xs ++ (kept ++ ys)))) low (high - low) q
     ∙ (elim (cases_lt q low) [
       | inl lt ↦ ap (λ b. cond b None (map.get
-          (contents_of (expanded next (xs ++ (kept ++ ys))) blocks) q))
+          (contents_by f (expanded next (xs ++ (kept ++ ys)))) q))
           (below low (high - low) q lt)
       | inr ge ↦ elim (cases_lt q high) [
         | inl lt ↦ rw (inside low (high - low) q ge (omega arith)) (sym (
-            get-from_entries nat_cmp_total (mapped_blocks
-            (expanded next (xs ++ (kept ++ ys))) blocks) q
-            ∙ outside-append next xs (kept ++ ys) blocks q
-            (find-above (expanded next xs) blocks 0 low q (between-expanded next xs 0 low h) ge)
-            (outside-append next kept ys blocks q (none q ge lt)
-            (find-below (expanded next ys) blocks (high + 1) bound q
-            (between-expanded next ys (high + 1) bound k) (omega arith)))))
+            get-from_entries nat_cmp_total (entries_by f
+            (expanded next (xs ++ (kept ++ ys)))) q
+            ∙ outside-append next xs (kept ++ ys) f q
+            (find-above (expanded next xs) f 0 low q (between-expanded next xs 0 low h) ge)
+            (outside-append next kept ys f q (none q ge lt)
+            (find-below (expanded next ys) f high bound q
+            (between-expanded next ys high bound k) (omega arith)))))
         | inr beyond ↦ ap (λ b. cond b None (map.get
-            (contents_of (expanded next (xs ++ (kept ++ ys))) blocks) q))
+            (contents_by f (expanded next (xs ++ (kept ++ ys)))) q))
             (above low (high - low) q (omega arith))
       ]
     ])))
 
--- how many blocks runs have
+-- how many f runs have
 pub length-expanded : (next : List ℕ) (runs : List Run)
     → length (expanded next runs) ≡ blocks_of runs
 length-expanded next [] = ap length (expanded-none next)
 length-expanded next (run ∷ runs) =
     let a = ap length (expanded-more next run runs)
     ∙ length-append (singles_of next run) (expanded next runs) in
-    let b = length-singles next run.start run.first run.count in
+    let b = length-singles next run.start run.first run.count run.kind in
     let d = length-expanded next runs in
     let e = sum_by-cons (λ (r : Run). r.count) run runs in
     omega arith

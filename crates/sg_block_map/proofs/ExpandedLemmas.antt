@@ -8,67 +8,73 @@ use Rattle.sg_pool.specs.Chains.{chain, slot_after, IsChain}
 use Rattle.sg_table.specs.Records.{single}
 use Rattle.sg_table.specs.Records.{slots_of}
 use Rattle.sg_table.specs.Occurrences.{occurrences}
+use Rattle.sg_table.specs.declared.run.Kind.{Kind}
 use Rattle.sg_table.specs.declared.run.Run.{Run}
 use Rattle.sg_block_map.specs.Runs.{singles, singles_of, expanded, AreChained}
 use Rattle.sg_pool.proofs.LinkLemmas.{chain-append, slot_after-set, slot_after-in}
 use Rattle.sg_table.proofs.OccurrenceLemmas.{not_equal, occurrences-append}
 
-pub slots-singles : (next : List ℕ) (start first n : ℕ)
-    → slots_of (singles next start first n) ≡ chain next first n
+pub slots-singles : (next : List ℕ) (start first n : ℕ) (kind : Kind)
+    → slots_of (singles next start first n kind) ≡ chain next first n
 unfolding singles chain
-slots-singles next start first zero = refl
-slots-singles next start first (suc n) = ap (λ xs. first ∷ xs)
-    (slots-singles next (start + 1) (slice_index next first) n)
+slots-singles next start first zero kind = refl
+slots-singles next start first (suc n) kind = ap (λ xs. first ∷ xs)
+    (slots-singles next (start + 1) (slice_index next first) n kind)
 
-pub length-singles : (next : List ℕ) (start first n : ℕ) → length (singles next start first n) ≡ n
+pub length-singles : (next : List ℕ) (start first n : ℕ) (kind : Kind)
+    → length (singles next start first n kind) ≡ n
 unfolding singles
-length-singles next start first zero = refl
-length-singles next start first (suc n) = ap suc
-    (length-singles next (start + 1) (slice_index next first) n)
+length-singles next start first zero kind = refl
+length-singles next start first (suc n) kind = ap suc
+    (length-singles next (start + 1) (slice_index next first) n kind)
 
-pub singles-none : (next : List ℕ) (start first : ℕ) → singles next start first 0 ≡ []
+pub singles-none : (next : List ℕ) (start first : ℕ) (kind : Kind)
+    → singles next start first 0 kind ≡ []
 unfolding singles
-singles-none next start first = refl
+singles-none next start first kind = refl
 
-pub singles-one : (next : List ℕ) (start first : ℕ)
-    → singles next start first 1 ≡ single start first ∷ []
+pub singles-one : (next : List ℕ) (start first : ℕ) (kind : Kind)
+    → singles next start first 1 kind ≡ single start first kind ∷ []
 unfolding singles
-singles-one next start first = refl
+singles-one next start first kind = refl
 
-pub singles-append : (next : List ℕ) (start first n m : ℕ)
-    → singles next start first (n + m) ≡ singles next start first n ++ singles next (start + n)
-    (slot_after next first n) m
+pub singles-append : (next : List ℕ) (start first n m : ℕ) (kind : Kind)
+    → singles next start first (n + m) kind ≡ singles next start first n kind
+    ++ singles next (start + n) (slot_after next first n) m kind
 unfolding singles slot_after
-singles-append next start first zero m = let e : start + 0 ≡ start = omega arith in
+singles-append next start first zero m kind = let e : start + 0 ≡ start = omega arith in
     let f : 0 + m ≡ m = omega arith in rw (e, f) refl
-singles-append next start first (suc n) m =
+singles-append next start first (suc n) m kind =
     let e : suc n + m ≡ suc (n + m) = omega arith in
     let f : start + suc n ≡ start + 1 + n = omega arith in
-    rw (e, f) (ap (λ xs. single start first ∷ xs)
-    (singles-append next (start + 1) (slice_index next first) n m))
+    rw (e, f) (ap (λ xs. single start first kind ∷ xs)
+    (singles-append next (start + 1) (slice_index next first) n m kind))
 
 -- a link of a slot that the chain does not have
-pub singles-set : (next : List ℕ) (t to start first n : ℕ) → occurrences t (chain next first n) ≡ 0
-    → singles (set next t to) start first n ≡ singles next start first n
+pub singles-set : (next : List ℕ) (t to start first n : ℕ) (kind : Kind)
+    → occurrences t (chain next first n) ≡ 0
+    → singles (set next t to) start first n kind ≡ singles next start first n kind
 unfolding singles chain occurrences
-singles-set next t to start first zero none = refl
-singles-set next t to start first (suc n) none =
+singles-set next t to start first zero kind none = refl
+singles-set next t to start first (suc n) kind none =
     let other : first ≢ t = not_equal t first (omega arith) in
     let same : get_or (set next t to) first 0 ≡ get_or next first 0 =
     get_or-set_other next t first to 0 other in
-    ap (λ xs. single start first ∷ xs) (ap (λ x. singles (set next t to) (start + 1) x n) same
-    ∙ singles-set next t to (start + 1) (slice_index next first) n (omega arith))
+    ap (λ xs. single start first kind ∷ xs)
+    (ap (λ x. singles (set next t to) (start + 1) x n kind) same
+    ∙ singles-set next t to (start + 1) (slice_index next first) n kind (omega arith))
 
 -- the slots decide which single addresses there are
-pub singles-by : (next other : List ℕ) (start first to n : ℕ)
-    → chain next first n ≡ chain other to n → singles next start first n ≡ singles other start to n
+pub singles-by : (next other : List ℕ) (start first to n : ℕ) (kind : Kind)
+    → chain next first n ≡ chain other to n
+    → singles next start first n kind ≡ singles other start to n kind
 unfolding singles chain
-singles-by next other start first to zero e = refl
-singles-by next other start first to (suc n) e =
+singles-by next other start first to zero kind e = refl
+singles-by next other start first to (suc n) kind e =
     let head : first ≡ to = ap (λ xs. get_or xs 0 0) e in
     let rest = ap (λ xs. drop 1 xs) e in
-    ap₂ (λ s xs. single start s ∷ xs) head (singles-by next other (start + 1)
-    (slice_index next first) (slice_index other to) n rest)
+    ap₂ (λ s xs. single start s kind ∷ xs) head (singles-by next other (start + 1)
+    (slice_index next first) (slice_index other to) n kind rest)
 
 pub expanded-none : (next : List ℕ) → expanded next [] ≡ []
 unfolding expanded
@@ -99,7 +105,7 @@ slots-more next t run runs =
     ∙ ap (occurrences t) (slots-append (singles_of next run) (expanded next runs))
     ∙ occurrences-append t (slots_of (singles_of next run)) (slots_of (expanded next runs))
     ∙ ap (λ zs. occurrences t zs + occurrences t (slots_of (expanded next runs)))
-    (slots-singles next run.start run.first run.count)
+    (slots-singles next run.start run.first run.count run.kind)
 
 pub slots-both : (next : List ℕ) (t : ℕ) (xs ys : List Run)
     → occurrences t (slots_of (expanded next (xs ++ ys))) ≡
@@ -116,7 +122,7 @@ expanded-set next t to [] none = expanded-none (set next t to) ∙ sym (expanded
 expanded-set next t to (run ∷ runs) none =
     let both = slots-more next t run runs in
     expanded-more (set next t to) run runs
-    ∙ ap₂ (λ xs ys. xs ++ ys) (singles-set next t to run.start run.first run.count (omega arith))
+    ∙ ap₂ (λ xs ys. xs ++ ys) (singles-set next t to run.start run.first run.count run.kind (omega arith))
     (expanded-set next t to runs (omega arith))
     ∙ sym (expanded-more next run runs)
 
@@ -169,7 +175,7 @@ runs-le next (run ∷ runs) h =
     let rest = runs-le next runs h.1 in
     let len = ap length (expanded-more next run runs)
     ∙ length-append (singles_of next run) (expanded next runs) in
-    let one = length-singles next run.start run.first run.count in
+    let one = length-singles next run.start run.first run.count run.kind in
     omega arith
 
 -- the last slot of a chain is in it

@@ -1,32 +1,40 @@
 -- The first and the last step of writing a range.
 use Rattle.std.proofs.Common.{◌≡◌, ℕ, ◌+◌, ◌-◌, ◌<◌, ◌≤◌, ◌^◌, List, [], ◌∷◌, ◌++◌, length, drop}
-use Rattle.std.proofs.Common.{arith, refl, sym, ap, ap₂, ◌∙◌, append_assoc, length-append, Some}
-use Rattle.std.proofs.Common.{None, Option}
+use Rattle.std.proofs.Common.{arith, refl, sym, ap, ◌∙◌, append_assoc, length-append, Some}
+use Rattle.std.proofs.Common.{None, Option, subst}
+use Rattle.std.proofs.lemmas.List.{append-nil}
 use Rattle.std.specs.FinMap as map
 use Rattle.std.specs.Prelude.{unwrap_or, option_to_list, IfSome}
-use Rattle.sg_pool.specs.Chains.{IsChain}
-use Rattle.sg_store.specs.Disk.{Contents, mapped_among, replaced}
+use Rattle.sg_store.specs.Disk.{Contents, Mapping, used_among, remapped}
 use Rattle.sg_table.specs.Records.{run_at}
-use Rattle.sg_pool.specs.MappedRecords.{contents_of}
-use Rattle.sg_store.specs.Disk.{mapped_at}
+use Rattle.sg_pool.specs.MappedRecords.{mapping_in, contents_of}
+use Rattle.sg_store.specs.Disk.{used_at}
 use Rattle.sg_pool.specs.Slots.{Slots}
 use Rattle.sg_table.specs.Records.{slots_of}
 use Rattle.sg_pool.specs.MappedRecords.{IsConsistent}
+use Rattle.sg_table.specs.declared.run.Kind.{Kind}
+use Rattle.sg_table.specs.declared.run.Kind.TheVariants.{Data as DataRun, Anchored as AnchoredRun}
 use Rattle.sg_table.specs.declared.run.Run.{Run}
 use Rattle.sg_store.specs.declared.store.TheConstants.{MAX_CAPACITY}
 use Rattle.sg_block_map.specs.Gathering.{AreNear}
-use Rattle.sg_block_map.specs.Joining.{joined, linked, no_run, IsWriting, IsFinished}
+use Rattle.sg_block_map.specs.Joining.{begun, begun_by, joined, linked, no_run, IsWriting}
+use Rattle.sg_block_map.specs.Joining.{IsFinished, IsFinishedBy}
+use Rattle.sg_block_map.specs.MaximalRuns.{same_kind}
 use Rattle.sg_block_map.specs.Runs.{end_of, singles_of, expanded, AreChained, AreMaximal, AreRuns}
+use Rattle.sg_block_map.specs.Runs.{Bound, any_from, behind, begins, AreMaximalIn}
 use Rattle.sg_block_map.specs.Runs.{chained_contents, blocks_of}
 use Rattle.sg_block_map.specs.Splitting.{IsRest}
 use Rattle.sg_block_map.specs.Walking.{ahead_of, AreAhead, IsWalkFrom}
-use Rattle.sg_store.proofs.DiskLemmas.{len-replaced, mapped_among-more, mapped_among-rest}
-use Rattle.sg_store.proofs.DiskLemmas.{mapped_at-past}
+use Rattle.sg_store.proofs.DiskLemmas.{len-remapped, used_among-more, used_among-rest}
+use Rattle.sg_store.proofs.DiskLemmas.{used_at-past}
 use Rattle.sg_table.proofs.OccurrenceLemmas.{occurrences-append}
-use Rattle.sg_pool.proofs.MappedLemmas.{len-contents_of, none_mapped}
-use Rattle.sg_block_map.proofs.BetweenLemmas.{behind, between-expanded, none-between, maximal-left}
-use Rattle.sg_block_map.proofs.BetweenLemmas.{maximal-right, maximal-append, maximal-weaker}
-use Rattle.sg_block_map.proofs.BetweenLemmas.{maximal-le}
+use Rattle.sg_pool.proofs.MappedLemmas.{len-contents_by, none_used}
+use Rattle.sg_block_map.proofs.BetweenLemmas.{between-expanded, none-between, end_of_all}
+use Rattle.sg_block_map.proofs.BetweenLemmas.{apart-left, apart-right, apart-le, apart-weaker}
+use Rattle.sg_block_map.proofs.OrderLemmas.{apart-loose, apart-maximal, behind-low, behind-high}
+use Rattle.sg_block_map.proofs.OrderLemmas.{behind-at-most, behind_all, begins-low, front-kept}
+use Rattle.sg_block_map.proofs.OrderLemmas.{maximal-before, maximal-from, maximal-right, maximal-to}
+use Rattle.sg_block_map.proofs.OrderLemmas.{narrow-any, written-maximal}
 use Rattle.sg_block_map.proofs.CutRunsLemmas.{below-sub, length-expanded}
 use Rattle.sg_block_map.proofs.ExpandedLemmas.{expanded-append, expanded-more, singles-none}
 use Rattle.sg_block_map.proofs.ExpandedLemmas.{length-singles, chained-append, chained-left}
@@ -39,95 +47,186 @@ use Rattle.sg_block_map.proofs.WriteLemmas.{skip-maximal, parted, before-between
 pub no_run-expanded : (next : List ℕ) (lba : ℕ) (runs : List Run)
     → expanded next (no_run lba ∷ runs) ≡ expanded next runs
 no_run-expanded next lba runs = expanded-more next (no_run lba) runs
-    ∙ ap (λ xs. xs ++ expanded next runs) (singles-none next lba 0)
+    ∙ ap (λ xs. xs ++ expanded next runs) (singles-none next lba 0 DataRun)
 
-front-expanded : (next : List ℕ) (lba : ℕ) (front : Option Run) (more : List Run)
-    → expanded next (unwrap_or front (no_run lba) ∷ more) ≡
-    expanded next (option_to_list front ++ more)
-front-expanded next lba None more = no_run-expanded next lba more
-front-expanded next lba (Some run) more = refl
-
-front_end : (next : List ℕ) (runs more : List Run) (lba high : ℕ) (front : Option Run)
-    → AreNear lba high runs → IsWalkFrom next runs lba front more
-    → end_of (unwrap_or front (no_run lba)) ≡ lba
-front_end next runs more lba high None near t = omega arith
-front_end next [] more lba high (Some front) near t = let wrong = t.0 in cc
-front_end next (run ∷ runs) more lba high (Some front) near t = let f = t.1.before in
+front_end : (next : List ℕ) (runs more : List Run) (lba high : ℕ) (front : Run)
+    → AreNear lba high runs → IsWalkFrom next runs lba (Some front) more → end_of front ≡ lba
+front_end next [] more lba high front near t = let wrong = t.0 in cc
+front_end next (run ∷ runs) more lba high front near t = let f = t.1.before in
     omega (arith, f.1, near.0)
 
-front_chain : (next : List ℕ) (more : List Run) (lba : ℕ) (front : Option Run)
-    → AreChained next (option_to_list front ++ more) → let done = unwrap_or front (no_run lba) in
-    0 < done.count → IsChain next done.first done.last done.count
-front_chain next more lba None h pos = absurd (omega arith)
-front_chain next more lba (Some run) h pos = h.0
-
-front_before : (next : List ℕ) (before runs after more : List Run) (lba high bound : ℕ)
-    (front : Option Run) → AreMaximal 0 lba before → AreMaximal 0 bound (before ++ (runs ++ after))
-    → IsWalkFrom next runs lba front more
-    → AreMaximal 0 (unwrap_or front (no_run lba)).start before
-front_before next before runs after more lba high bound None low h t = low
-front_before next before [] after more lba high bound (Some front) low h t = let wrong = t.0 in cc
-front_before next before (run ∷ runs) after more lba high bound (Some front) low h t =
-    let right = maximal-right before (run ∷ (runs ++ after)) 0 bound h in
-    let f = t.1.before in
-    maximal-weaker before 0 (behind 0 before) 0 front.start (omega arith)
-    (omega (arith, right.0, f.0)) (maximal-left before (run ∷ (runs ++ after)) 0 bound h)
+-- the kind of what is before the range decides
+pub by_kind : (P : Option Run × Run → Type 0) (front : Run) (lba : ℕ)
+    → (front.kind ≡ DataRun → P (None, front))
+    → (front.kind ≡ AnchoredRun → P (Some front, no_run lba)) → P (begun (Some front) lba)
+by_kind P front lba is_data anchored = elim front.kind as
+    (λ k. front.kind ≡ k → P (begun_by k front lba)) [
+      | DataRun ↦ is_data
+      | AnchoredRun ↦ anchored
+    ] refl
 
 -- nothing is written yet
 module _ (before runs after more : List Run) (slots : Slots) (lba high room : ℕ)
-    (front : Option Run) (h : AreRuns (before ++ (runs ++ after)) slots room)
+    (h : AreRuns (before ++ (runs ++ after)) slots room)
     (low : AreMaximal 0 lba before) (up : AreMaximal lba (MAX_CAPACITY + 1) after)
-    (near : AreNear lba high runs) (t : IsWalkFrom slots.next runs lba front more) where
-  abbrev done : Run
-  done = unwrap_or front (no_run lba)
+    (near : AreNear lba high runs) where
+  abbrev kept : Option Run × Run → List Run
+  kept parts = before ++ option_to_list parts.0
 
-  pub begin-expanded : expanded slots.next (before ++ done ∷ (more ++ after)) ≡
+  runs_chained : AreChained slots.next runs
+  runs_chained = chained-left slots.next runs after
+      (chained-right slots.next before (runs ++ after) h.chained)
+
+  begin_after : (front : Option Run) → IsWalkFrom slots.next runs lba front more
+      → AreMaximal lba (MAX_CAPACITY + 1) (more ++ after)
+  begin_after front t = walk_from-maximal slots.next runs after lba high
+      (behind_all (any_from 0) before) (any_from (MAX_CAPACITY + 1)) front more
+      (maximal-right before (runs ++ after) (any_from 0) (any_from (MAX_CAPACITY + 1)) h.maximal)
+      up near t
+
+  begin_parts : (front : Option Run) → IsWalkFrom slots.next runs lba front more
+      → expanded slots.next (before ++ (option_to_list front ++ (more ++ after))) ≡
       expanded slots.next (before ++ (runs ++ after))
-  begin-expanded =
+  begin_parts front t =
       let fs : List Run = option_to_list front in
-      expanded-append slots.next before (done ∷ (more ++ after))
+      expanded-append slots.next before (fs ++ (more ++ after))
       ∙ ap (λ xs. expanded slots.next before ++ xs)
-      (front-expanded slots.next lba front (more ++ after)
-      ∙ ap (expanded slots.next) (sym (append_assoc fs more after))
+      (ap (expanded slots.next) (sym (append_assoc fs more after))
       ∙ expanded-append slots.next (fs ++ more) after
       ∙ ap (λ xs. xs ++ expanded slots.next after)
       (walk_from-parts slots.next runs lba front more t)
       ∙ sym (expanded-append slots.next runs after))
       ∙ sym (expanded-append slots.next before (runs ++ after))
 
-  runs_chained : AreChained slots.next runs
-  runs_chained = chained-left slots.next runs after
-      (chained-right slots.next before (runs ++ after) h.chained)
+  parts_chained : (front : Option Run) → IsWalkFrom slots.next runs lba front more
+      → AreChained slots.next (option_to_list front ++ more)
+  parts_chained front t = walk_from-chained slots.next runs lba front more runs_chained t
 
-  parts_chained : AreChained slots.next (option_to_list front ++ more)
-  parts_chained = walk_from-chained slots.next runs lba front more runs_chained t
+  rest_chained : (front : Option Run) → IsWalkFrom slots.next runs lba front more
+      → AreChained slots.next (more ++ after)
+  rest_chained front t = chained-append slots.next more after
+      (chained-right slots.next (option_to_list front) more (parts_chained front t))
+      (chained-right slots.next runs after (chained-right slots.next before
+      (runs ++ after) h.chained))
 
-  pub begin-writing : IsWriting before done (more ++ after) slots lba
-  begin-writing = record {
-    consistent = rw (begin-expanded, h.links) h.consistent;
-    maximal_before = front_before slots.next before runs after more lba high
-        (MAX_CAPACITY + 1) front low h.maximal t;
-    ends = front_end slots.next runs more lba high front near t;
-    after = walk_from-maximal slots.next runs after lba high (MAX_CAPACITY + 1) front more
-        (maximal-weaker (runs ++ after) (behind 0 before) (MAX_CAPACITY + 1) 0 (MAX_CAPACITY + 1)
-        (omega arith) (omega arith) (maximal-right before (runs ++ after) 0
-        (MAX_CAPACITY + 1) h.maximal)) up near t;
-    chained_before = chained-left slots.next before (runs ++ after) h.chained;
-    chained_after = chained-append slots.next more after
-        (chained-right slots.next (option_to_list front) more parts_chained)
-        (chained-right slots.next runs after (chained-right slots.next before
-        (runs ++ after) h.chained));
-    front = front_chain slots.next more lba front parts_chained;
-  }
+  before_chained : AreChained slots.next before
+  before_chained = chained-left slots.next before (runs ++ after) h.chained
+
+  -- the table to be, where a run without an address is put behind some others
+  none_put : (xs : List Run) → expanded slots.next (xs ++ no_run lba ∷ (more ++ after)) ≡
+      expanded slots.next (xs ++ (more ++ after))
+  none_put xs = expanded-append slots.next xs (no_run lba ∷ (more ++ after))
+      ∙ ap (λ zs. expanded slots.next xs ++ zs) (no_run-expanded slots.next lba (more ++ after))
+      ∙ sym (expanded-append slots.next xs (more ++ after))
+
+  abbrev IsBegun : Option Run × Run → Type 0
+  IsBegun parts = (expanded slots.next (kept parts ++ parts.1 ∷ (more ++ after)) ≡
+      expanded slots.next (before ++ (runs ++ after)))
+      × IsWriting (kept parts) parts.1 (more ++ after) slots lba
+
+  begun_none : IsWalkFrom slots.next runs lba None more → IsBegun (None, no_run lba)
+  begun_none t =
+      let same : before ++ [] ≡ before = append-nil before in
+      let all : expanded slots.next ((before ++ []) ++ no_run lba ∷ (more ++ after)) ≡
+      expanded slots.next (before ++ (runs ++ after))
+      = ap (λ xs. expanded slots.next (xs ++ no_run lba ∷ (more ++ after))) same
+      ∙ none_put before ∙ begin_parts None t in (
+        all,
+        record {
+          consistent = rw (all, h.links) h.consistent;
+          maximal_before = rw same (maximal-to before (any_from 0) (any_from lba)
+              (begins DataRun lba) (λ kind. begins-low DataRun kind lba) low);
+          is_data = refl;
+          ends = omega arith;
+          after = begin_after None t;
+          chained_before = rw same before_chained;
+          chained_after = rest_chained None t;
+          front = λ pos. absurd (omega arith);
+        },
+      )
+
+  module _ (front : Run) (t : IsWalkFrom slots.next runs lba (Some front) more) where
+    parted_at : (run : Run) × (tail : List Run) × (runs ≡ run ∷ tail)
+        × (front.start ≡ run.start) × (front.kind ≡ run.kind)
+    parted_at = at runs t
+      where
+        at : (rs : List Run) → IsWalkFrom slots.next rs lba (Some front) more
+            → (run : Run) × (tail : List Run) × (rs ≡ run ∷ tail)
+            × (front.start ≡ run.start) × (front.kind ≡ run.kind)
+        at [] w = let wrong = w.0 in cc
+        at (run ∷ tail) w = let f = w.1.before in (run, tail, refl, f.0, f.3)
+
+    all_shape : before ++ (runs ++ after) ≡ before ++ parted_at.0 ∷ (parted_at.1 ++ after)
+    all_shape = ap (λ xs. before ++ (xs ++ after)) parted_at.2
+
+    all_maximal : AreMaximal 0 (MAX_CAPACITY + 1) (before ++ parted_at.0 ∷ (parted_at.1 ++ after))
+    all_maximal = rw all_shape at h.maximal
+
+    begun_data : front.kind ≡ DataRun → IsBegun (None, front)
+    begun_data is_data =
+        let same : before ++ [] ≡ before = append-nil before in
+        let all : expanded slots.next ((before ++ []) ++ front ∷ (more ++ after)) ≡
+        expanded slots.next (before ++ (runs ++ after))
+        = ap (λ xs. expanded slots.next (xs ++ front ∷ (more ++ after))) same
+        ∙ begin_parts (Some front) t in
+        let before_run = maximal-before before (parted_at.1 ++ after) parted_at.0 (any_from 0)
+        (any_from (MAX_CAPACITY + 1)) (narrow-any 0) all_maximal in (
+          all,
+          record {
+            consistent = rw (all, h.links) h.consistent;
+            maximal_before = subst (AreMaximalIn (any_from 0) (begins front.kind front.start))
+                (sym same) (subst (λ k. AreMaximalIn (any_from 0) (begins k front.start) before)
+                (sym parted_at.4) (subst (λ s. AreMaximalIn (any_from 0)
+                (begins parted_at.0.kind s) before) (sym parted_at.3) before_run));
+            is_data = is_data;
+            ends = front_end slots.next runs more lba high front near t;
+            after = begin_after (Some front) t;
+            chained_before = rw same before_chained;
+            chained_after = rest_chained (Some front) t;
+            front = λ pos. (parts_chained (Some front) t).0;
+          },
+        )
+
+    begun_anchored : front.kind ≡ AnchoredRun → IsBegun (Some front, no_run lba)
+    begun_anchored anchored =
+        let all : expanded slots.next ((before ++ front ∷ []) ++ no_run lba ∷ (more ++ after)) ≡
+        expanded slots.next (before ++ (runs ++ after))
+        = none_put (before ++ front ∷ [])
+        ∙ ap (expanded slots.next) (append_assoc before (front ∷ []) (more ++ after))
+        ∙ begin_parts (Some front) t in
+        let chain = (parts_chained (Some front) t).0 in
+        let ends = front_end slots.next runs more lba high front near t in (
+          all,
+          record {
+            consistent = rw (all, h.links) h.consistent;
+            maximal_before = front-kept before (parted_at.1 ++ after) parted_at.0 front DataRun
+                (any_from 0) (any_from (MAX_CAPACITY + 1)) lba (narrow-any 0) all_maximal
+                parted_at.3 parted_at.4 chain.not_empty (omega (arith, ends))
+                (ap (same_kind DataRun) anchored);
+            is_data = refl;
+            ends = omega arith;
+            after = begin_after (Some front) t;
+            chained_before = chained-append slots.next before (front ∷ []) before_chained
+                (chain, tt);
+            chained_after = rest_chained (Some front) t;
+            front = λ pos. absurd (omega arith);
+          },
+        )
+
+  pub begin-range : (front : Option Run) → IsWalkFrom slots.next runs lba front more
+      → IsBegun (begun front lba)
+  begin-range None t = begun_none t
+  begin-range (Some front) t = by_kind IsBegun front lba (begun_data front t)
+      (begun_anchored front t)
 
 -- the range is written
 written-runs : (before after : List Run) (done : Run) (slots : Slots) (lba room : ℕ)
     → IsWriting before done after slots lba → 0 < done.count
-    → AreMaximal (lba + 1) (MAX_CAPACITY + 1) after → length slots.next ≡ room
+    → AreMaximalIn (behind done) (any_from (MAX_CAPACITY + 1)) after → length slots.next ≡ room
     → AreRuns (before ++ done ∷ after) slots room
 written-runs before after done slots lba room w some up len = record {
-  maximal = maximal-append before (done ∷ after) 0 done.start (MAX_CAPACITY + 1) w.maximal_before
-      (omega arith, rw (sym w.ends) at up);
+  maximal = written-maximal before after done (any_from 0) (any_from (MAX_CAPACITY + 1)) some
+      w.maximal_before up;
   chained = chained-append slots.next before (done ∷ after) w.chained_before
       (w.front some, w.chained_after);
   consistent = rw len at w.consistent;
@@ -137,104 +236,136 @@ written-runs before after done slots lba room w some up len = record {
 some_same : (a b : Run) → Some a ≡ Some b → a ≡ b
 some_same a b e = ap (λ o. unwrap_or o a) e
 
-none_ahead : (runs after : List Run) (low high : ℕ) → high < low
-    → AreMaximal low (MAX_CAPACITY + 1) (runs ++ after) → AreNear 0 high runs → runs ≡ []
-none_ahead [] after low high lt h near = refl
-none_ahead (run ∷ runs) after low high lt h near = absurd (omega (arith, h.0, near.1))
+none_ahead : (runs after : List Run) (low bound : Bound) (high : ℕ) → ((kind : Kind) → high < low kind)
+    → AreMaximalIn low bound (runs ++ after) → AreNear 0 high runs → runs ≡ []
+none_ahead [] after low bound high lt h near = refl
+none_ahead (run ∷ runs) after low bound high lt h near =
+    absurd (omega (arith, h.0, near.1, lt run.kind))
 
 -- at the end of the range at most one run is ahead
-last-ahead : (runs after : List Run) (run : Option Run) (at high : ℕ)
-    → AreMaximal high (MAX_CAPACITY + 1) (ahead_of runs run at ++ after)
-    → AreNear 0 high (ahead_of runs run at) → (found : Run) → run ≡ Some found
-    → (found.start ≡ high) × (drop at runs ≡ [])
-last-ahead runs after None at high h near found e = let wrong = e in cc
-last-ahead runs after (Some run) at high h near found e =
-    let same : found ≡ run = some_same found run (sym e) in
-    let start = ap (λ (r : Run). r.start) same in (
-      omega (arith, h.0, near.1),
-      none_ahead (drop at runs) after (end_of run + 1) high
-          (omega (arith, h.0)) h.1 near.2,
-    )
+last-ahead : (runs after : List Run) (run : Run) (at high : ℕ)
+    → AreMaximal high (MAX_CAPACITY + 1) (run ∷ drop at runs ++ after)
+    → AreNear 0 high (run ∷ drop at runs) → (run.start ≡ high) × (drop at runs ≡ [])
+last-ahead runs after run at high h near = (
+  omega (arith, h.0, near.1),
+  none_ahead (drop at runs) after (behind run) (any_from (MAX_CAPACITY + 1)) high
+      (λ kind. omega (arith, h.0, h.1, behind-low run kind)) h.2 near.2,
+)
 
-module _ (before after runs : List Run) (done result : Run) (run : Option Run) (at high room : ℕ)
-    (old new : Slots) (w : IsWriting before done (ahead_of runs run at ++ after) old high)
-    (near : AreNear 0 high (ahead_of runs run at)) (f : IsFinished old new done run result) where
-  -- the run that is ahead is joined
-  module _ (found : Run) (e : run ≡ Some found) where
-    l : (found.start ≡ high) × (drop at runs ≡ [])
-    l = last-ahead runs after run at high w.after near found e
+-- what is behind the range in the end
+abbrev pub behind_it : (back : Option Run) (after : List Run) → List Run
+behind_it back after = option_to_list back ++ after
 
-    rest_is : ahead_of runs run at ++ after ≡ found ∷ after
-    rest_is = ap (λ o. ahead_of runs o at ++ after) e ∙ ap (λ xs. found ∷ (xs ++ after)) l.1
+-- The table after the range, and what is seen of it.
+pub record IsWritten (before after : List Run) (done : Run) (rest : List Run) (result : Run)
+    (back : Option Run) (old new : Slots) (room : ℕ) : Type 0 where
+  pub runs : AreRuns (before ++ result ∷ behind_it back after) new room
+  pub expanded_same : expanded new.next (before ++ result ∷ behind_it back after) ≡
+      expanded old.next (before ++ done ∷ rest)
+  pub blocks : new.blocks ≡ old.blocks
+  pub links : new.links ≡ old.links
 
-    w' : IsWriting before done (found ∷ after) old high
-    w' = rw rest_is at w
+-- no run is ahead, or one that is kept
+kept-written : (before after rest : List Run) (done result : Run) (back : Option Run)
+    (high room : ℕ) (old new : Slots) → rest ≡ behind_it back after
+    → IsWriting before done rest old high → 0 < done.count
+    → AreMaximalIn (behind done) (any_from (MAX_CAPACITY + 1)) (behind_it back after)
+    → length old.next ≡ room → result ≡ done → new ≡ old
+    → IsWritten before after done rest result back old new room
+kept-written before after rest done result back high room old new is w some up len same pool =
+    rw (same, pool, is) (record {
+      runs = written-runs before (behind_it back after) done old high room (rw is at w) some up len;
+      expanded_same = refl;
+      blocks = refl;
+      links = refl;
+    })
 
-    f' : (result ≡ joined done found)
-        × (new ≡ record old { next = linked old.next done found.first })
-    f' = rw e at f
+-- a run of data that is ahead is joined
+joined-written : (before after : List Run) (done found result : Run) (high room : ℕ)
+    (old new : Slots) → IsWriting before done (found ∷ after) old high → found.start ≡ high
+    → found.kind ≡ DataRun → length old.next ≡ room → result ≡ joined done found
+    → new ≡ record old { next = linked old.next done found.first }
+    → IsWritten before after done (found ∷ after) result None old new room
+joined-written before after done found result high room old new w start is_data len same pool =
+    let ends : end_of done ≡ found.start = w.ends ∙ sym start in
+    let kind : done.kind ≡ found.kind = w.is_data ∙ sym is_data in
+    let all = join-expanded before done found after old w.consistent w.front ends kind in
+    let next : List ℕ = linked old.next done found.first in
+    let writing = join-writing before done found after old w.consistent w.front ends kind is_data
+    w.maximal_before
+    (maximal-from after (behind found) (any_from (MAX_CAPACITY + 1)) (any_from (end_of found))
+    (λ k. behind-low found k) w.after.2)
+    w.chained_before w.chained_after.0 w.chained_after.1 in
+    let some : 0 < (joined done found).count = let c = w.chained_after.0.not_empty in omega arith in
+    rw (same, pool) (record {
+      runs = written-runs before after (joined done found) (record old { next = next })
+          (end_of found) room writing some
+          (maximal-from after (behind found) (any_from (MAX_CAPACITY + 1))
+          (behind (joined done found))
+          (behind-at-most (joined done found) found kind (omega (arith, ends))) w.after.2)
+          (length-linked old.next done found.first ∙ len);
+      expanded_same = all;
+      blocks = refl;
+      links = refl;
+    })
 
-    ends' : end_of done ≡ found.start
-    ends' = w.ends ∙ sym l.0
+finished_by : (P : Kind → Type 0) (kind : Kind) → (kind ≡ DataRun → P DataRun)
+    → (kind ≡ AnchoredRun → P AnchoredRun) → P kind
+finished_by P DataRun is_data anchored = is_data refl
+finished_by P AnchoredRun is_data anchored = anchored refl
 
-    joined_apart : expanded (linked old.next done found.first)
-        (before ++ joined done found ∷ after) ≡ expanded old.next (before ++ done ∷ (found ∷ after))
-    joined_apart = join-expanded before done found after old w'.consistent w'.front ends'
+-- the range is written, and what is behind it is joined or kept
+pub finished : (before after runs : List Run) (done result : Run) (run back : Option Run)
+    (at high room : ℕ) (old new : Slots) → IsWriting before done
+    (ahead_of runs run at ++ after) old high → AreNear 0 high (ahead_of runs run at)
+    → IsFinished old new done run result back
+    → 0 < done.count → AreMaximal (high + 1) (MAX_CAPACITY + 1) after → length old.next ≡ room
+    → IsWritten before after done (ahead_of runs run at ++ after) result back old new room
+finished before after runs done result None back at high room old new w near f some up len =
+    let none = f.1 in
+    kept-written before after after done result back high room old new
+    (ap (λ o. behind_it o after) (sym none)) w some
+    (rw none (maximal-from after (any_from (high + 1)) (any_from (MAX_CAPACITY + 1)) (behind done)
+    (λ kind. omega (arith, behind-high done kind, w.ends)) up)) len f.0 f.2
+finished before after runs done result (Some found) back at high room old new w near f some up len =
+    let last = last-ahead runs after found at high w.after near in
+    let shape : found ∷ drop at runs ++ after ≡ found ∷ after =
+    ap (λ xs. found ∷ (xs ++ after)) last.1 in
+    let w' = rw shape at w in
+    let all = finished_by (λ kind. IsFinishedBy kind old new done found result back
+    → found.kind ≡ kind → IsWritten before after done (found ∷ after) result back old new room)
+    found.kind
+    (λ _ g is_data. rw g.1 (joined-written before after done found result high room old new w' last.0
+    is_data len g.0 g.2))
+    (λ _ g anchored. kept-written before after (found ∷ after) done result back high room old new
+    (ap (λ o. behind_it o after) (sym g.1)) w' some
+    (rw g.1 (
+      at_kind done found w.is_data anchored (omega (arith, w.ends, last.0)),
+      w'.after.1,
+      w'.after.2,
+    )) len g.0 g.2)
+    f refl in
+    rw shape all
+  where
+    at_kind : (a b : Run) → a.kind ≡ DataRun → b.kind ≡ AnchoredRun → end_of a ≤ b.start
+        → behind a b.kind ≤ b.start
+    at_kind a b is_data anchored le = rw (is_data, anchored) le
 
-    joined_writing : IsWriting before (joined done found) after
-        (record old { next = linked old.next done found.first }) (end_of found)
-    joined_writing = join-writing before done found after old w'.consistent w'.front ends'
-        w'.maximal_before (maximal-weaker after (end_of found + 1) (MAX_CAPACITY + 1) (end_of found)
-        (MAX_CAPACITY + 1) (omega arith) (omega arith) w'.after.1)
-        w'.chained_before w'.chained_after.0 w'.chained_after.1
-
-    some_count : 0 < (joined done found).count
-    some_count = let some = w'.chained_after.0.not_empty in omega arith
-
-    pub found-runs : length new.next ≡ room → AreRuns (before ++ result ∷ after) new room
-    found-runs len = rw f'.0 (rw f'.1 (written-runs before after (joined done found)
-        (record old { next = linked old.next done found.first })
-        (end_of found) room joined_writing some_count w'.after.1 (rw f'.1 at len)))
-
-    pub found-expanded : expanded new.next (before ++ result ∷ after) ≡
-        expanded old.next (before ++ done ∷ (ahead_of runs run at ++ after))
-    found-expanded = ap₂ (λ (r : Run) (s : Slots). expanded s.next (before ++ r ∷ after)) f'.0 f'.1
-        ∙ joined_apart ∙ ap (λ xs. expanded old.next (before ++ done ∷ xs)) (sym rest_is)
-
-    pub found-blocks : (new.blocks ≡ old.blocks) × (new.links ≡ old.links)
-    found-blocks = (ap (λ (s : Slots). s.blocks) f'.1, ap (λ (s : Slots). s.links) f'.1)
-
-  -- no run is ahead
-  module _ (e : run ≡ None) where
-    f'' : (result ≡ done) × (new ≡ old)
-    f'' = rw e at f
-
-    rest_none : ahead_of runs run at ++ after ≡ after
-    rest_none = ap (λ o. ahead_of runs o at ++ after) e
-
-    pub none-runs : 0 < done.count → AreMaximal (high + 1) (MAX_CAPACITY + 1) after
-        → length new.next ≡ room → AreRuns (before ++ result ∷ after) new room
-    none-runs some up len = rw f''.0 (rw f''.1
-        (written-runs before after done old high room (rw rest_none at w) some up
-        (rw f''.1 at len)))
-
-    pub none-expanded : expanded new.next (before ++ result ∷ after) ≡
-        expanded old.next (before ++ done ∷ (ahead_of runs run at ++ after))
-    none-expanded = ap₂ (λ (r : Run) (s : Slots). expanded s.next (before ++ r ∷ after)) f''.0 f''.1
-        ∙ ap (λ xs. expanded old.next (before ++ done ∷ xs)) (sym rest_none)
-
-    pub none-blocks : (new.blocks ≡ old.blocks) × (new.links ≡ old.links)
-    none-blocks = (ap (λ (s : Slots). s.blocks) f''.1, ap (λ (s : Slots). s.links) f''.1)
+-- the table that is put, from what is kept before the range on
+pub parts-shape : (before fs bs after : List Run) (run : Run)
+    → before ++ ((fs ++ run ∷ bs) ++ after) ≡ (before ++ fs) ++ run ∷ (bs ++ after)
+parts-shape before fs bs after run = ap (λ xs. before ++ xs) (append_assoc fs (run ∷ bs) after)
+    ∙ sym (append_assoc before fs (run ∷ (bs ++ after)))
 
 -- a slot is free where one is needed
 pub free-there : (before after runs : List Run) (done : Run) (run : Option Run) (at lba i count : ℕ)
-    (old now : Slots) (rs : List Run) (f : ℕ → List ℕ)
+    (old now : Slots) (rs : List Run) (f : ℕ → Mapping)
     → IsWriting before done (ahead_of runs run at ++ after) now (lba + i)
     → AreMaximal (lba + i + 1) (MAX_CAPACITY + 1) after
     → run_at run (lba + i) ≡ None → IsConsistent (expanded old.next rs) old.blocks old.free
     (length now.next) → chained_contents (before ++ done ∷ (ahead_of runs run at ++ after)) now ≡
-    replaced (chained_contents rs old) lba i f
-    → i < count → count ≤ length old.free + mapped_among (chained_contents rs old) lba count
+    remapped (chained_contents rs old) lba i f
+    → i < count → count ≤ length old.free + used_among (chained_contents rs old) lba count
     → 0 < length now.free
 free-there before after runs done run at lba i count old now rs f w up none t same lt free =
     let rest : List Run = ahead_of runs run at ++ after in
@@ -245,21 +376,22 @@ free-there before after runs done run at lba i count old now rs f w up none t sa
     let ys : List Run = expanded now.next rest in
     let nowhere = none-between xs ys 0 here (here + 1) (MAX_CAPACITY + 1) here
     (before-between now.next before done here w.maximal_before w.ends)
-    (between-expanded now.next rest (here + 1) (MAX_CAPACITY + 1) skip) (omega arith)
+    (between-expanded now.next rest (here + 1) (MAX_CAPACITY + 1)
+    (apart-loose rest (here + 1) (here + 1) (MAX_CAPACITY + 1) (omega arith) skip)) (omega arith)
     (omega arith) in
-    let unmapped : mapped_at (chained_contents (before ++ done ∷ rest) now) here ≡ 0
-    = ap (λ zs. mapped_at (contents_of zs now.blocks) here) (parted now.next before done rest)
-    ∙ none_mapped (xs ++ ys) now.blocks here nowhere in
-    let not_mapped : mapped_at was here ≡ 0 =
-    sym (ap (λ m. mapped_at m here) same ∙ mapped_at-past was lba i f) ∙ unmapped in
-    let all = len-contents_of (expanded now.next (before ++ done ∷ rest)) now.blocks
-    w.consistent.sorted in
-    let all_was = len-contents_of (expanded old.next rs) old.blocks t.sorted in
+    let unmapped : used_at (chained_contents (before ++ done ∷ rest) now) here ≡ 0
+    = ap (λ zs. used_at (contents_of zs now.blocks) here) (parted now.next before done rest)
+    ∙ none_used (mapping_in now.blocks) (xs ++ ys) here nowhere in
+    let not_mapped : used_at was here ≡ 0 =
+    sym (ap (λ m. used_at m here) same ∙ used_at-past was lba i f) ∙ unmapped in
+    let all = len-contents_by (mapping_in now.blocks)
+    (expanded now.next (before ++ done ∷ rest)) w.consistent.sorted in
+    let all_was = len-contents_by (mapping_in old.blocks) (expanded old.next rs) t.sorted in
     let size = ap map.len same in
-    let grown = len-replaced was lba i f in
-    let more = mapped_among-more was lba i in
+    let grown = len-remapped was lba i f in
+    let more = used_among-more was lba i in
     let on : i + 1 + (count - (i + 1)) ≡ count = omega arith in
-    let rest_of_range = rw on at (mapped_among-rest was lba (i + 1) (count - (i + 1))) in
+    let rest_of_range = rw on at (used_among-rest was lba (i + 1) (count - (i + 1))) in
     omega (arith, w.consistent.count, t.count)
 
 -- a run that is being written has no more addresses than the pool has slots
@@ -270,7 +402,7 @@ done-fits before done rest slots lba w =
     ∙ length-append (expanded slots.next before) (expanded slots.next (done ∷ rest)) in
     let b = ap length (expanded-more slots.next done rest)
     ∙ length-append (singles_of slots.next done) (expanded slots.next rest) in
-    let d = length-singles slots.next done.start done.first done.count in
+    let d = length-singles slots.next done.start done.first done.count done.kind in
     omega (arith, w.consistent.count)
 
 pub next-fits : (before : List Run) (done run : Run) (rest : List Run) (slots : Slots) (lba : ℕ)
@@ -280,10 +412,10 @@ next-fits before done run rest slots lba w =
     ∙ length-append (expanded slots.next before) (expanded slots.next (done ∷ (run ∷ rest))) in
     let b = ap length (expanded-more slots.next done (run ∷ rest))
     ∙ length-append (singles_of slots.next done) (expanded slots.next (run ∷ rest)) in
-    let d = length-singles slots.next done.start done.first done.count in
+    let d = length-singles slots.next done.start done.first done.count done.kind in
     let e = ap length (expanded-more slots.next run rest)
     ∙ length-append (singles_of slots.next run) (expanded slots.next rest) in
-    let f = length-singles slots.next run.start run.first run.count in
+    let f = length-singles slots.next run.start run.first run.count run.kind in
     omega (arith, w.consistent.count)
 
 near-weaker : (runs : List Run) (low high : ℕ) → AreNear low high runs → AreNear 0 high runs
@@ -302,14 +434,15 @@ pub gathered-ahead : (before runs after : List Run) (slots : Slots) (room : ℕ)
     → AreAhead slots.next (length slots.next) 0 runs
 gathered-ahead before runs after slots room h =
     let all : List Run = before ++ (runs ++ after) in
-    let right = maximal-right before (runs ++ after) 0 (MAX_CAPACITY + 1) h.maximal in
-    let own = maximal-left runs after (behind 0 before) (MAX_CAPACITY + 1) right in
-    let le = maximal-le after (behind (behind 0 before) runs) (MAX_CAPACITY + 1)
-    (maximal-right runs after (behind 0 before) (MAX_CAPACITY + 1) right) in
+    let right = apart-right before (runs ++ after) 0 MAX_CAPACITY
+    (apart-maximal all 0 MAX_CAPACITY (omega arith) h.maximal) in
+    let own = apart-left runs after (end_of_all 0 before) MAX_CAPACITY right in
+    let le = apart-le after (end_of_all (end_of_all 0 before) runs) MAX_CAPACITY
+    (apart-right runs after (end_of_all 0 before) MAX_CAPACITY right) in
     let same : length slots.next ≡ length slots.blocks = h.links ∙ sym h.consistent.pool in
     record {
-      maximal = maximal-weaker runs (behind 0 before) (behind (behind 0 before) runs) 0
-          (MAX_CAPACITY + 1) (omega arith) le own;
+      apart = apart-weaker runs (end_of_all 0 before) (end_of_all (end_of_all 0 before) runs) 0
+          MAX_CAPACITY (omega arith) le own;
       chained = chained-left slots.next runs after
           (chained-right slots.next before (runs ++ after) h.chained);
       below = rw same (below-sub (length slots.blocks) (slots_of (expanded slots.next runs))
@@ -328,10 +461,12 @@ walk_from-near next (run ∷ runs) more lba high front le near t =
     (near-weaker runs lba high near.2) t.1.after)
 
 pub walk_from-start : (next : List ℕ) (runs more : List Run) (lba : ℕ) (front : Option Run)
-    → IsWalkFrom next runs lba front more → (unwrap_or front (no_run lba)).start ≤ lba
+    → IsWalkFrom next runs lba front more → (begun front lba).1.start ≤ lba
 walk_from-start next runs more lba None t = omega arith
 walk_from-start next [] more lba (Some front) t = let wrong = t.0 in cc
-walk_from-start next (run ∷ runs) more lba (Some front) t = let f = t.1.before in omega (arith, f.2)
+walk_from-start next (run ∷ runs) more lba (Some front) t =
+    let f = t.1.before in
+    by_kind (λ parts. parts.1.start ≤ lba) front lba (λ _. omega (arith, f.2)) (λ _. omega arith)
 
 pub walk_from-blocks : (next : List ℕ) (runs more : List Run) (lba : ℕ) (front : Option Run)
     → IsWalkFrom next runs lba front more → length
@@ -344,43 +479,6 @@ walk_from-blocks next runs more lba front t =
     let b = length-expanded next more in
     let d = length-expanded next runs in
     omega arith
-
--- in either case
-finished_length : (done result : Run) (run : Option Run) (old new : Slots)
-    → IsFinished old new done run result → length new.next ≡ length old.next
-finished_length done result None old new f = ap (λ (s : Slots). length s.next) f.1
-finished_length done result (Some found) old new f = ap (λ (s : Slots). length s.next) f.1
-    ∙ length-linked old.next done found.first
-
-pub finished-runs : (before after runs : List Run) (done result : Run) (run : Option Run)
-    (at high room : ℕ) (old new : Slots) → IsWriting before done
-    (ahead_of runs run at ++ after) old high → AreNear 0 high (ahead_of runs run at)
-    → IsFinished old new done run result
-    → 0 < done.count → AreMaximal (high + 1) (MAX_CAPACITY + 1) after → length old.next ≡ room
-    → AreRuns (before ++ result ∷ after) new room
-finished-runs before after runs done result None at high room old new w near f some up len =
-    none-runs before after runs done result None at high room old new w near f refl some up
-    (finished_length done result None old new f ∙ len)
-finished-runs before after runs done result (Some found) at high room old new w near f some up len =
-    found-runs before after runs done result (Some found) at high room old new w near f found refl
-    (finished_length done result (Some found) old new f ∙ len)
-
-pub finished-expanded : (before after runs : List Run) (done result : Run) (run : Option Run)
-    (at high room : ℕ) (old new : Slots) → IsWriting before done
-    (ahead_of runs run at ++ after) old high → AreNear 0 high (ahead_of runs run at)
-    → IsFinished old new done run result
-    → expanded new.next (before ++ result ∷ after) ≡
-    expanded old.next (before ++ done ∷ (ahead_of runs run at ++ after))
-finished-expanded before after runs done result None at high room old new w near f =
-    none-expanded before after runs done result None at high room old new w near f refl
-finished-expanded before after runs done result (Some found) at high room old new w near f =
-    found-expanded before after runs done result
-    (Some found) at high room old new w near f found refl
-
-pub finished-blocks : (done result : Run) (run : Option Run) (old new : Slots)
-    → IsFinished old new done run result → new.blocks ≡ old.blocks
-finished-blocks done result None old new f = ap (λ (s : Slots). s.blocks) f.1
-finished-blocks done result (Some found) old new f = ap (λ (s : Slots). s.blocks) f.1
 
 pub ahead-fits : (before after runs : List Run) (done : Run) (run : Option Run) (at lba : ℕ)
     (slots : Slots) → IsWriting before done (ahead_of runs run at ++ after) slots lba

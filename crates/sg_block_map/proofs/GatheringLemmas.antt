@@ -13,14 +13,16 @@ use Rattle.sg_table.specs.Draft.{Drafted}
 use Rattle.sg_table.specs.Records.{start_of, IsLowerBound}
 use Rattle.sg_table.specs.Search.{CostsSearch}
 use Rattle.sg_table.specs.Table.{Table, visited, probed}
+use Rattle.sg_table.specs.declared.run.Kind.{Kind}
 use Rattle.sg_table.specs.declared.run.Run.{Run}
 use Rattle.sg_table.proofs.TableLemmas.{visited-more}
 use Rattle.sg_block_map.specs.Gathering.{end_at, AreNear, starts_in, end_index, AreGathered}
 use Rattle.sg_block_map.specs.Gathering.{AreBegun, AreGatheredOn}
 use Rattle.sg_block_map.specs.Metering.{Visits, SearchesAndVisits}
-use Rattle.sg_block_map.specs.Runs.{end_of, AreMaximal}
+use Rattle.sg_block_map.specs.Runs.{end_of, any_from, behind, Bound, AreApart, AreMaximal, AreMaximalIn}
 use Rattle.sg_table.proofs.SpliceLemmas.{same-splice, front_of}
-use Rattle.sg_block_map.proofs.BetweenLemmas.{start_of-left, maximal-le}
+use Rattle.sg_block_map.proofs.BetweenLemmas.{start_of-left, apart-le}
+use Rattle.sg_block_map.proofs.OrderLemmas.{behind-low, behind-high}
 
 pub count-append : {X : Type 0} (p : X → Bool) (xs ys : List X)
     → count_by p (xs ++ ys) ≡ count_by p xs + count_by p ys
@@ -111,35 +113,37 @@ start_of-behind (x ∷ xs) ys i = let e : suc (length xs) + i ≡ suc (length xs
     rw e (start_of-behind xs ys i)
 
 -- a run ends before the next one begins
-maximal-step : (rs : List Run) (a b i : ℕ) → AreMaximal a b rs → suc i < length rs
-    → end_at rs i < start_of rs (suc i)
-maximal-step [] a b i h lt = absurd (omega arith)
-maximal-step (x ∷ []) a b i h lt = absurd (omega arith)
-maximal-step (x ∷ y ∷ rs) a b zero h lt = omega (arith, h.1.0)
-maximal-step (x ∷ y ∷ rs) a b (suc i) h lt = maximal-step (y ∷ rs) (end_of x + 1) b i h.1
+maximal-step : (rs : List Run) (low high : Bound) (i : ℕ) → AreMaximalIn low high rs
+    → suc i < length rs → end_at rs i ≤ start_of rs (suc i)
+maximal-step [] low high i h lt = absurd (omega arith)
+maximal-step (x ∷ []) low high i h lt = absurd (omega arith)
+maximal-step (x ∷ y ∷ rs) low high zero h lt = omega (arith, h.2.0, behind-low x y.kind)
+maximal-step (x ∷ y ∷ rs) low high (suc i) h lt = maximal-step (y ∷ rs) (behind x) high i h.2
     (omega arith)
 
 -- the runs before an index, and those from it on
-pub maximal-take : (rs : List Run) (n a b high : ℕ) → AreMaximal a b rs → n ≤ length rs
-    → (n ≡ 0 → a ≤ high) → ((m : ℕ) → n ≡ suc m → end_at rs m < high)
-    → AreMaximal a high (take n rs)
-maximal-take rs zero a b high h within none last = none (omega arith)
-maximal-take [] (suc n) a b high h within none last = absurd (omega arith)
-maximal-take (x ∷ rs) (suc zero) a b high h within none last =
-    (h.0, let l = last 0 (omega arith) in omega arith)
-maximal-take (x ∷ rs) (suc (suc n)) a b high h within none last = (
+pub maximal-take : (rs : List Run) (n : ℕ) (low bound : Bound) (high : ℕ) → AreMaximalIn low bound rs
+    → n ≤ length rs → (n ≡ 0 → (kind : Kind) → low kind ≤ high)
+    → ((m : ℕ) → n ≡ suc m → end_at rs m < high)
+    → AreMaximalIn low (any_from high) (take n rs)
+maximal-take rs zero low bound high h within none last = none (omega arith)
+maximal-take [] (suc n) low bound high h within none last = absurd (omega arith)
+maximal-take (x ∷ rs) (suc zero) low bound high h within none last =
+    (h.0, h.1, λ kind. let l = last 0 (omega arith) in omega (arith, l, behind-high x kind))
+maximal-take (x ∷ rs) (suc (suc n)) low bound high h within none last = (
   h.0,
-  maximal-take rs (suc n) (end_of x + 1) b high h.1 (omega arith)
+  h.1,
+  maximal-take rs (suc n) (behind x) bound high h.2 (omega arith)
       (λ e. absurd (omega arith)) (λ m e. last (suc m) (omega arith)),
 )
 
-pub maximal-drop : (rs : List Run) (n low a b : ℕ) → AreMaximal a b rs → low ≤ b
-    → (n < length rs → low ≤ start_of rs n) → AreMaximal low b (drop n rs)
-maximal-drop [] zero low a b h le first = le
-maximal-drop [] (suc n) low a b h le first = le
-maximal-drop (x ∷ rs) zero low a b h le first = (first (omega arith), h.1)
-maximal-drop (x ∷ rs) (suc n) low a b h le first =
-    maximal-drop rs n low (end_of x + 1) b h.1 le (λ lt. first (omega arith))
+pub maximal-drop : (rs : List Run) (n low b : ℕ) (from : Bound) → AreMaximalIn from (any_from b) rs
+    → low ≤ b → (n < length rs → low ≤ start_of rs n) → AreMaximal low b (drop n rs)
+maximal-drop [] zero low b from h le first = λ kind. le
+maximal-drop [] (suc n) low b from h le first = λ kind. le
+maximal-drop (x ∷ rs) zero low b from h le first = (first (omega arith), h.1, h.2)
+maximal-drop (x ∷ rs) (suc n) low b from h le first =
+    maximal-drop rs n low b (behind x) h.2 le (λ lt. first (omega arith))
 
 pub near-by : (ms : List Run) (low high : ℕ) → ((i : ℕ) → i < length ms → (low ≤ end_at ms i)
     × (start_of ms i ≤ high)) → AreNear low high ms
@@ -211,11 +215,13 @@ all-gathered rs begun gathered index low high bound b p order from grows within 
     record {
       within = within;
       same = same;
-      before = maximal-take rs gathered.from 0 bound low maximal (omega arith) (λ _. omega arith)
+      before = maximal-take rs gathered.from (any_from 0) (any_from bound) low maximal (omega arith)
+          (λ _ kind. omega arith)
           (λ m is. elim (cases_lt gathered.from index) [
             | inl below ↦
-                let up : end_at rs m < start_of rs gathered.from =
-                rw (sym is) at (maximal-step rs 0 bound m maximal (omega arith)) in
+                let up : end_at rs m ≤ start_of rs gathered.from =
+                rw (sym is) at (maximal-step rs (any_from 0) (any_from bound) m maximal
+                (omega arith)) in
                 let low_there = p.before gathered.from below in omega arith
             | inr above ↦
                 let here : begun.from ≡ index = omega arith in
@@ -235,7 +241,7 @@ all-gathered rs begun gathered index low high bound b p order from grows within 
                 let q = end_at-past rs (gathered.from + i) in
                 (omega arith, omega arith)
           ]);
-      after = maximal-drop rs (end_index gathered) (high + 1) 0 bound maximal le
+      after = maximal-drop rs (end_index gathered) (high + 1) bound (any_from 0) maximal le
           (λ lt. let a = after lt in omega arith);
     }
 
@@ -267,11 +273,11 @@ count-starts (x ∷ rs) (suc index) low high after =
     omega arith
 
 -- a run ends within the bound
-pub end-within : (rs : List Run) (a b i : ℕ) (d : Run) → AreMaximal a b rs → i < length rs
-    → end_of (get_or rs i d) < b
+pub end-within : (rs : List Run) (a b i : ℕ) (d : Run) → AreApart a b rs → i < length rs
+    → end_of (get_or rs i d) ≤ b
 end-within [] a b i d h lt = absurd (omega arith)
-end-within (x ∷ rs) a b zero d h lt = let le = maximal-le rs (end_of x + 1) b h.1 in omega arith
-end-within (x ∷ rs) a b (suc i) d h lt = end-within rs (end_of x + 1) b i d h.1 (omega arith)
+end-within (x ∷ rs) a b zero d h lt = apart-le rs (end_of x) b h.2
+end-within (x ∷ rs) a b (suc i) d h lt = end-within rs (end_of x) b i d h.2 (omega arith)
 
 -- what was gathered up to an index, and on from it
 pub gathered-on : (rs : List Run) (old now : Drafted) (index at high : ℕ) → now.from ≡ old.from

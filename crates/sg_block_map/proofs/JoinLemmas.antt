@@ -9,10 +9,12 @@ use Rattle.sg_pool.specs.Slots.{Slots}
 use Rattle.sg_table.specs.Records.{slots_of}
 use Rattle.sg_table.specs.Occurrences.{occurrences}
 use Rattle.sg_pool.specs.MappedRecords.{IsConsistent}
+use Rattle.sg_table.specs.declared.run.Kind.TheVariants.{Data as DataRun}
 use Rattle.sg_table.specs.declared.run.Run.{Run}
 use Rattle.sg_store.specs.declared.store.TheConstants.{MAX_CAPACITY}
 use Rattle.sg_block_map.specs.Joining.{joined, linked, IsWriting}
 use Rattle.sg_block_map.specs.Runs.{end_of, singles, singles_of, expanded, AreChained, AreMaximal}
+use Rattle.sg_block_map.specs.Runs.{any_from, begins, AreMaximalIn}
 use Rattle.sg_pool.proofs.LinkLemmas.{chain-last, slot_after-add, linked-front, linked-on}
 use Rattle.sg_table.proofs.OccurrenceLemmas.{same_slot, occurrences-append, occurrences-one}
 use Rattle.sg_table.proofs.OccurrenceLemmas.{once-le, below_count}
@@ -97,23 +99,25 @@ last_once next done n e is once =
     (ends, omega arith)
 
 join_singles : (next : List ℕ) (done other : Run) (n : ℕ) → done.count ≡ n
-    → end_of done ≡ other.start → (0 < done.count → IsChain next done.first done.last done.count)
+    → end_of done ≡ other.start → done.kind ≡ other.kind
+    → (0 < done.count → IsChain next done.first done.last done.count)
     → (0 < done.count → done.last < length next)
     → (0 < done.count → occurrences done.last
     (chain next done.first done.count) + occurrences done.last
     (chain next other.first other.count) ≤ 1)
     → singles_of (linked next done other.first) (joined done other) ≡
     singles_of next done ++ singles_of next other
-join_singles next done other zero e ends is low once =
+join_singles next done other zero e ends kind is low once =
     let all : done.count + other.count ≡ other.count = omega (arith, e) in
     let at : done.start ≡ other.start = omega (arith, e, ends) in
-    let none : singles_of next done ≡ [] = ap (singles next done.start done.first) e
-    ∙ singles-none next done.start done.first in
-    ap₂ (λ ns f. singles ns done.start f (done.count + other.count))
+    let none : singles_of next done ≡ [] = ap (λ n. singles next done.start done.first n done.kind) e
+    ∙ singles-none next done.start done.first done.kind in
+    ap₂ (λ ns f. singles ns done.start f (done.count + other.count) done.kind)
     (no_link next done other.first e) (no_first done other e)
-    ∙ ap₂ (λ a k. singles next a other.first k) at all
+    ∙ ap₂ (λ a k. singles next a other.first k done.kind) at all
+    ∙ ap (singles next other.start other.first other.count) kind
     ∙ ap (λ xs. xs ++ singles_of next other) (sym none)
-join_singles next done other (suc n) e ends is low once =
+join_singles next done other (suc n) e ends kind is low once =
     let pos : 0 < done.count = omega (arith, e) in
     let o = once pos in
     let l = last_once next done n e (is pos) (omega arith) in
@@ -125,13 +129,15 @@ join_singles next done other (suc n) e ends is low once =
     rw k at (linked-front next done.last other.first done.first n l.0 (low pos) l.1) in
     let on : slot_after now done.first done.count ≡ other.first =
     rw k at (linked-on next done.last other.first done.first n l.0 (low pos) l.1) in
-    ap₂ (λ ns f. singles ns done.start f (done.count + other.count))
+    ap₂ (λ ns f. singles ns done.start f (done.count + other.count) done.kind)
     (a_link next done other.first n e) (a_first done other n e)
-    ∙ singles-append now done.start done.first done.count other.count
+    ∙ singles-append now done.start done.first done.count other.count done.kind
     ∙ ap₂ (λ xs ys. xs ++ ys)
-    (singles-by now next done.start done.first done.first done.count front)
-    (ap₂ (λ a f. singles now a f other.count) ends on
-    ∙ singles-set next done.last other.first other.start other.first other.count other_none)
+    (singles-by now next done.start done.first done.first done.count done.kind front)
+    (ap₂ (λ a f. singles now a f other.count done.kind) ends on
+    ∙ ap (singles now other.start other.first other.count) kind
+    ∙ singles-set next done.last other.first other.start other.first other.count other.kind
+    other_none)
 
 join_chain : (next : List ℕ) (done other : Run) (n : ℕ) → done.count ≡ n
     → IsChain next other.first other.last other.count
@@ -215,15 +221,15 @@ module _ (before : List Run) (done other : Run) (rest : List Run) (slots : Slots
   rest_none pos = let l = last_there pos in let some =
       last-in slots.next done.first done.last done.count (front pos) in omega (arith, l.1)
 
-  pub join-expanded : end_of done ≡ other.start
+  pub join-expanded : end_of done ≡ other.start → done.kind ≡ other.kind
       → expanded (linked slots.next done other.first) (before ++ joined done other ∷ rest) ≡
       expanded slots.next was
-  join-expanded ends =
+  join-expanded ends kind =
       let now : List ℕ = linked slots.next done other.first in
       expanded-append now before (joined done other ∷ rest)
       ∙ ap₂ (λ xs ys. xs ++ ys) (expanded-linked slots.next done other.first before before_none)
       (expanded-more now (joined done other) rest
-      ∙ ap₂ (λ xs ys. xs ++ ys) (join_singles slots.next done other done.count refl ends front
+      ∙ ap₂ (λ xs ys. xs ++ ys) (join_singles slots.next done other done.count refl ends kind front
       (λ pos. (last_there pos).0) once_there)
       (expanded-linked slots.next done other.first rest rest_none)
       ∙ append_assoc (singles_of slots.next done) (singles_of slots.next other)
@@ -232,17 +238,19 @@ module _ (before : List Run) (done other : Run) (rest : List Run) (slots : Slots
       ∙ sym (expanded-more slots.next done (other ∷ rest)))
       ∙ sym (expanded-append slots.next before (done ∷ (other ∷ rest)))
 
-  pub join-writing : end_of done ≡ other.start → AreMaximal 0 done.start before
+  pub join-writing : end_of done ≡ other.start → done.kind ≡ other.kind
+      → other.kind ≡ DataRun → AreMaximalIn (any_from 0) (begins done.kind done.start) before
       → AreMaximal (end_of other) (MAX_CAPACITY + 1) rest → AreChained slots.next before
       → IsChain slots.next other.first other.last other.count → AreChained slots.next rest
       → IsWriting before (joined done other) rest
       (record slots { next = linked slots.next done other.first }) (end_of other)
-  join-writing ends low after cb co cr =
+  join-writing ends kind is_data low after cb co cr =
       let now : List ℕ = linked slots.next done other.first in
       let len = length-linked slots.next done other.first in
       record {
-        consistent = rw (join-expanded ends, len) consistent;
+        consistent = rw (join-expanded ends kind, len) consistent;
         maximal_before = low;
+        is_data = kind ∙ is_data;
         ends = omega (arith, ends);
         after = after;
         chained_before = chained-linked slots.next done other.first before before_none cb;

@@ -1,4 +1,5 @@
 pub mod BetweenLemmas
+pub mod OrderLemmas
 pub mod ExpandedLemmas
 pub mod ContentsLemmas
 pub mod GatheringLemmas

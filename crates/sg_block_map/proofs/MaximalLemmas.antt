@@ -1,6 +1,6 @@
 -- The records are the maximal runs of the contents that they stand for.
 use Rattle.std.proofs.Common.{◌≡◌, ℕ, ◌+◌, ◌-◌, ◌<◌, ◌≤◌, zero, suc, List, [], ◌∷◌, ◌++◌, length}
-use Rattle.std.proofs.Common.{take, drop, arith, refl, sym, ap, ◌∙◌, cond, true, false}
+use Rattle.std.proofs.Common.{take, drop, arith, refl, sym, ap, ap₂, ◌∙◌, cond, Bool, true, false}
 use Rattle.std.proofs.lemmas.Bool.Decides.{nat_tests}
 use Rattle.std.proofs.lemmas.List.{map-append, length-map, nil_from_length}
 use Rattle.std.proofs.lemmas.List.Sums.{sum_by-append, sum_by-cons, count_by-le-length}
@@ -9,113 +9,152 @@ use Rattle.std.specs.FinMap as map'
 use Rattle.std.specs.FinMap.{entries, entries-insert, put, len-entries, len-empty}
 use Rattle.std.specs.List.{count_by, sum_by}
 use Rattle.std.specs.Ordering.{nat_cmp}
-use Rattle.std.specs.Prelude.{map, slice_index, slice_index_or, nat_lt, nat_le, ◌==◌, ◌&&◌, min}
+use Rattle.std.specs.Prelude.{map, slice_index, nat_lt, nat_le, ◌==◌, ◌&&◌, min}
 use Rattle.std.specs.Prelude.{max}
 use Rattle.std.specs.declared.cmp.Ordering.TheVariants.{Less}
-use Rattle.sg_store.specs.Disk.{zero_block}
+use Rattle.sg_store.specs.Disk.{Mapping}
 use Rattle.sg_table.specs.Draft.{Drafted}
-use Rattle.sg_pool.specs.MappedRecords.{mapped_blocks, contents_of}
+use Rattle.sg_pool.specs.MappedRecords.{Seen, mapping_in, entries_by, contents_by, contents_of}
+use Rattle.sg_table.specs.declared.run.Kind.{Kind}
+use Rattle.sg_table.specs.declared.run.Kind.TheVariants.{Data as DataRun, Anchored as AnchoredRun}
 use Rattle.sg_table.specs.declared.run.Run.{Run}
 use Rattle.sg_block_map.specs.Gathering.{starts_in, AreNear, AreGathered, end_index}
-use Rattle.sg_block_map.specs.MaximalRuns.{with_address, runs_of, runs, meets, meet, blocks_near}
-use Rattle.sg_block_map.specs.Runs.{end_of, singles, singles_of, expanded, AreChained, AreMaximal}
-use Rattle.sg_block_map.specs.Runs.{AreBetween, extent_of, blocks_of}
-use Rattle.sg_block_map.proofs.BetweenLemmas.{between-expanded, maximal-le}
+use Rattle.sg_block_map.specs.MaximalRuns.{Extent, kind_of, same_kind, with_address, runs_of, runs}
+use Rattle.sg_block_map.specs.MaximalRuns.{meets, meet, blocks_near}
+use Rattle.sg_block_map.specs.Runs.{end_of, singles, singles_of, expanded, AreApart, AreMaximal}
+use Rattle.sg_block_map.specs.Runs.{AreBetween, Bound, any_from, behind, AreMaximalIn, extent_of}
+use Rattle.sg_block_map.specs.Runs.{blocks_of}
+use Rattle.sg_block_map.proofs.BetweenLemmas.{between-expanded, apart-le}
+use Rattle.sg_block_map.proofs.OrderLemmas.{apart-loose}
 use Rattle.sg_block_map.proofs.ExpandedLemmas.{expanded-more, expanded-none}
 use Rattle.sg_block_map.proofs.GatheringLemmas.{count-more, count-append}
 
+-- what is seen of blocks shows the kinds
+blocks-show : (bs : List (List ℕ)) (slot : ℕ) (kind : Kind) → kind_of (mapping_in bs slot kind) ≡ kind
+blocks-show bs slot DataRun = refl
+blocks-show bs slot AnchoredRun = refl
+
 -- a list whose addresses rise has its entries in order
-put-first : (x : Run) (xs : List Run) (v : List ℕ) (bs : List (List ℕ)) (b : ℕ)
-    → AreBetween (x.start + 1) b xs → put nat_cmp x.start v (mapped_blocks xs bs) ≡
-    (x.start, v) ∷ mapped_blocks xs bs
-put-first x [] v bs b h = refl
-put-first x (y ∷ xs) v bs b h = let less : Less ≡ nat_cmp x.start y.start =
+put-first : (f : Seen) (x : Run) (xs : List Run) (v : Mapping) (b : ℕ)
+    → AreBetween (x.start + 1) b xs → put nat_cmp x.start v (entries_by f xs) ≡
+    (x.start, v) ∷ entries_by f xs
+put-first f x [] v b h = refl
+put-first f x (y ∷ xs) v b h = let less : Less ≡ nat_cmp x.start y.start =
     nat_cmp_is x.start y.start Less (omega (arith, h.0)) in rw (sym less) refl
 
-nothing : entries {X = List ℕ} {R = nat_cmp} map'.empty ≡ []
-nothing = nil_from_length (entries {X = List ℕ} {R = nat_cmp} map'.empty)
-    (sym (len-entries map'.empty) ∙ len-empty nat_cmp (List ℕ))
+nothing : entries {X = Mapping} {R = nat_cmp} map'.empty ≡ []
+nothing = nil_from_length (entries {X = Mapping} {R = nat_cmp} map'.empty)
+    (sym (len-entries map'.empty) ∙ len-empty nat_cmp Mapping)
 
-entries-contents_of : (xs : List Run) (bs : List (List ℕ)) (a b : ℕ) → AreBetween a b xs
-    → entries (contents_of xs bs) ≡ mapped_blocks xs bs
-entries-contents_of [] bs a b h = nothing
-entries-contents_of (x ∷ xs) bs a b h =
-    entries-insert nat_cmp_total (contents_of xs bs) x.start (slice_index_or bs x.first zero_block)
-    ∙ ap (put nat_cmp x.start (slice_index_or bs x.first zero_block))
-    (entries-contents_of xs bs (x.start + 1) b h.1)
-    ∙ put-first x xs (slice_index_or bs x.first zero_block) bs b h.1
+entries-contents : (f : Seen) (xs : List Run) (a b : ℕ) → AreBetween a b xs
+    → entries (contents_by f xs) ≡ entries_by f xs
+entries-contents f [] a b h = nothing
+entries-contents f (x ∷ xs) a b h =
+    entries-insert nat_cmp_total (contents_by f xs) x.start (f x.first x.kind)
+    ∙ ap (put nat_cmp x.start (f x.first x.kind)) (entries-contents f xs (x.start + 1) b h.1)
+    ∙ put-first f x xs (f x.first x.kind) b h.1
 
-keys-blocks : (xs : List Run) (bs : List (List ℕ))
-    → map (λ (e : ℕ × List ℕ). e.0) (mapped_blocks xs bs) ≡ map (λ (x : Run). x.start) xs
-keys-blocks [] bs = refl
-keys-blocks (x ∷ xs) bs = ap (λ ks. x.start ∷ ks) (keys-blocks xs bs)
+entries-append : (f : Seen) (xs ys : List Run)
+    → entries_by f (xs ++ ys) ≡ entries_by f xs ++ entries_by f ys
+entries-append f [] ys = refl
+entries-append f (x ∷ xs) ys = ap (λ es. (x.start, f x.first x.kind) ∷ es) (entries-append f xs ys)
 
--- runs that begin at an address or past it
-abbrev ArePast : ℕ → List (ℕ × ℕ) → Type 0
-ArePast low [] = Unit
-ArePast low (run ∷ rs) = low ≤ run.0
+-- the first of some runs begins at a bound or past it
+abbrev IsPast : Bound → List Extent → Type 0
+IsPast low [] = Unit
+IsPast low (run ∷ rs) = low run.2 ≤ run.0
 
-off : (m n : ℕ) → n < m → (m == n) ≡ false
-off m n lt = grind (arith, nat_tests)
+-- it could be joined to none that ends at an address and has a kind
+off : (a start : ℕ) (j k : Kind) → cond (same_kind k j) (a + 1) a ≤ start → a ≤ start
+    → (start == a && same_kind j k) ≡ false
+off a start DataRun DataRun h l = grind (arith, nat_tests)
+off a start DataRun AnchoredRun h l = no (start == a)
+  where
+    no : (b : Bool) → (b && false) ≡ false
+    no true = refl
+    no false = refl
+off a start AnchoredRun DataRun h l = no (start == a)
+  where
+    no : (b : Bool) → (b && false) ≡ false
+    no true = refl
+    no false = refl
+off a start AnchoredRun AnchoredRun h l = grind (arith, nat_tests)
 
-on : (m : ℕ) → (m == m) ≡ true
-on m = grind (arith, nat_tests)
+low_end : (a start : ℕ) (j k : Kind) → cond (same_kind k j) (a + 1) a ≤ start → a ≤ start
+low_end a start DataRun DataRun h = omega arith
+low_end a start DataRun AnchoredRun h = h
+low_end a start AnchoredRun DataRun h = h
+low_end a start AnchoredRun AnchoredRun h = omega arith
 
-alone : (a : ℕ) (rs : List (ℕ × ℕ)) → ArePast (a + 2) rs → with_address a rs ≡ (a, 1) ∷ rs
-alone a [] h = refl
-alone a ((start, n) ∷ rs) h = rw (off start (a + 1) (omega arith)) refl
+on : (m : ℕ) (k : Kind) → (m == m && same_kind k k) ≡ true
+on m DataRun = grind (arith, nat_tests)
+on m AnchoredRun = grind (arith, nat_tests)
 
-one-run : (next : List ℕ) (start first n : ℕ) (more : List ℕ)
-    → ArePast (start + n + 2) (runs_of more) → runs_of
-    (map (λ (x : Run). x.start) (singles next start first (suc n)) ++ more) ≡
-    (start, suc n) ∷ runs_of more
-unfolding singles
-one-run next start first zero more h = let e : start + 0 + 2 ≡ start + 2 = omega arith in
-    alone start (runs_of more) (rw e at h)
-one-run next start first (suc n) more h =
-    let e : start + suc n + 2 ≡ start + 1 + n + 2 = omega arith in
-    let f : suc n + 1 ≡ suc (suc n) = omega arith in
-    let rest = one-run next (start + 1) (slice_index next first) n more (rw e at h) in
-    ap (with_address start) rest ∙ rw (on (start + 1)) (ap (λ k. (start, k) ∷ runs_of more) f)
+alone : (a : ℕ) (k : Kind) (rs : List Extent)
+    → IsPast (λ j. cond (same_kind j k) (a + 1 + 1) (a + 1)) rs
+    → with_address a k rs ≡ (a, 1, k) ∷ rs
+alone a k [] h = refl
+alone a k (run ∷ rs) h = rw (off (a + 1) run.0 k run.2 h (low_end (a + 1) run.0 k run.2 h)) refl
 
-past-extents : (rs : List Run) (a b : ℕ) → AreMaximal a b rs → ArePast a (map extent_of rs)
-past-extents [] a b h = tt
-past-extents (run ∷ rs) a b h = h.0
+past_at : (rs : List Extent) (k : Kind) (m n : ℕ) → m ≡ n
+    → IsPast (λ j. cond (same_kind j k) (m + 1) m) rs
+    → IsPast (λ j. cond (same_kind j k) (n + 1) n) rs
+past_at rs k m n e h = rw e at h
 
-a_run : (next : List ℕ) (run : Run) (n : ℕ) (more : List ℕ) → run.count ≡ suc n
-    → ArePast (end_of run + 1) (runs_of more)
-    → runs_of (map (λ (x : Run). x.start) (singles_of next run) ++ more) ≡
-    extent_of run ∷ runs_of more
-a_run next run n more e h =
-    let f : end_of run + 1 ≡ run.start + n + 2 = omega (arith, e) in
-    ap (λ k. runs_of (map (λ (x : Run). x.start) (singles next run.start run.first k) ++ more)) e
-    ∙ one-run next run.start run.first n more (rw f at h)
-    ∙ ap (λ k. (run.start, k) ∷ runs_of more) (sym e)
+module _ (f : Seen) (shows : (slot : ℕ) (kind : Kind) → kind_of (f slot kind) ≡ kind) (next : List ℕ)
+  where
+    one-run : (start first n : ℕ) (kind : Kind) (more : List (ℕ × Mapping))
+        → IsPast (λ j. cond (same_kind j kind) (start + suc n + 1) (start + suc n)) (runs_of more)
+        → runs_of (entries_by f (singles next start first (suc n) kind) ++ more)
+        ≡ (start, suc n, kind) ∷ runs_of more
+    unfolding singles
+    one-run start first zero kind more h =
+        ap (λ k. with_address start k (runs_of more)) (shows first kind)
+        ∙ alone start kind (runs_of more) (past_at (runs_of more) kind (start + suc 0) (start + 1)
+        (omega arith) h)
+    one-run start first (suc n) kind more h =
+        let g : suc n + 1 ≡ suc (suc n) = omega arith in
+        let rest = one-run (start + 1) (slice_index next first) n kind more
+        (past_at (runs_of more) kind (start + suc (suc n)) (start + 1 + suc n) (omega arith) h) in
+        ap₂ (λ k rs. with_address start k rs) (shows first kind) rest
+        ∙ rw (on (start + 1) kind) (ap (λ k. (start, k, kind) ∷ runs_of more) g)
 
-runs-expanded : (next : List ℕ) (rs : List Run) (a b : ℕ) → AreMaximal a b rs → AreChained next rs
-    → runs_of (map (λ (x : Run). x.start) (expanded next rs)) ≡ map extent_of rs
-runs-expanded next [] a b h k = ap (λ xs. runs_of (map (λ (x : Run). x.start) xs))
-    (expanded-none next)
-runs-expanded next (run ∷ rs) a b h k =
-    let rest = runs-expanded next rs (end_of run + 1) b h.1 k.1 in
-    let some = k.0.not_empty in
-    let e : run.count ≡ suc (run.count - 1) = omega arith in
-    let later : ArePast (end_of run + 1) (runs_of (map (λ (x : Run). x.start) (expanded next rs))) =
-    rw rest (past-extents rs (end_of run + 1) b h.1) in
-    ap (λ xs. runs_of (map (λ (x : Run). x.start) xs)) (expanded-more next run rs)
-    ∙ ap runs_of (map-append (λ (x : Run). x.start) (singles_of next run) (expanded next rs))
-    ∙ a_run next run (run.count - 1) (map (λ (x : Run). x.start) (expanded next rs)) e later
-    ∙ ap (λ xs. extent_of run ∷ xs) rest
+    past-extents : (rs : List Run) (low high : Bound) → AreMaximalIn low high rs
+        → IsPast low (map extent_of rs)
+    past-extents [] low high h = tt
+    past-extents (run ∷ rs) low high h = h.0
+
+    a_run : (run : Run) (n : ℕ) (more : List (ℕ × Mapping)) → run.count ≡ suc n
+        → IsPast (behind run) (runs_of more)
+        → runs_of (entries_by f (singles_of next run) ++ more) ≡ extent_of run ∷ runs_of more
+    a_run run n more e h =
+        let g : end_of run ≡ run.start + suc n = omega (arith, e) in
+        ap (λ k. runs_of (entries_by f (singles next run.start run.first k run.kind) ++ more)) e
+        ∙ one-run run.start run.first n run.kind more
+        (past_at (runs_of more) run.kind (end_of run) (run.start + suc n) g h)
+        ∙ ap (λ k. (run.start, k, run.kind) ∷ runs_of more) (sym e)
+
+    runs-expanded : (rs : List Run) (low high : Bound) → AreMaximalIn low high rs
+        → runs_of (entries_by f (expanded next rs)) ≡ map extent_of rs
+    runs-expanded [] low high h = ap (λ xs. runs_of (entries_by f xs)) (expanded-none next)
+    runs-expanded (run ∷ rs) low high h =
+        let rest = runs-expanded rs (behind run) high h.2 in
+        let e : run.count ≡ suc (run.count - 1) = omega (arith, h.1) in
+        let later : IsPast (behind run) (runs_of (entries_by f (expanded next rs))) =
+        rw rest (past-extents rs (behind run) high h.2) in
+        ap (λ xs. runs_of (entries_by f xs)) (expanded-more next run rs)
+        ∙ ap runs_of (entries-append f (singles_of next run) (expanded next rs))
+        ∙ a_run run (run.count - 1) (entries_by f (expanded next rs)) e later
+        ∙ ap (λ xs. extent_of run ∷ xs) rest
 
 -- the records are the maximal runs
 pub runs-extents : (next : List ℕ) (rs : List Run) (bs : List (List ℕ)) (a b : ℕ)
-    → AreMaximal a b rs → AreChained next rs → runs (contents_of (expanded next rs) bs) ≡
-    map extent_of rs
+    → AreMaximal a b rs → runs (contents_of (expanded next rs) bs) ≡ map extent_of rs
 unfolding runs
-runs-extents next rs bs a b h k =
-    ap (λ es. runs_of (map (λ (e : ℕ × List ℕ). e.0) es))
-    (entries-contents_of (expanded next rs) bs a b (between-expanded next rs a b h))
-    ∙ ap runs_of (keys-blocks (expanded next rs) bs) ∙ runs-expanded next rs a b h k
+runs-extents next rs bs a b h =
+    ap runs_of (entries-contents (mapping_in bs) (expanded next rs) a b
+    (between-expanded next rs a b (apart-loose rs a a b (omega arith) h)))
+    ∙ runs-expanded (mapping_in bs) (blocks-show bs) next rs (any_from a) (any_from b) h
 
 -- a run that begins in the range meets it
 starts_meets : (lba count start n : ℕ) → 0 < n
@@ -123,31 +162,31 @@ starts_meets : (lba count start n : ℕ) → 0 < n
     (nat_lt (max start lba) (min (start + n) (lba + count))) 1 0
 starts_meets lba count start n some = grind (arith, nat_tests)
 
-starts-le : (next : List ℕ) (rs : List Run) (lba count : ℕ) → AreChained next rs
+starts-le : (rs : List Run) (low high : Bound) (lba count : ℕ) → AreMaximalIn low high rs
     → count_by (starts_in lba (lba + count)) rs ≤ count_by (meets lba count) (map extent_of rs)
-starts-le next [] lba count k = omega arith
-starts-le next (run ∷ rs) lba count k =
+starts-le [] low high lba count k = omega arith
+starts-le (run ∷ rs) low high lba count k =
     omega (
       arith,
-      starts_meets lba count run.start run.count k.0.not_empty,
-      starts-le next rs lba count k.1,
+      starts_meets lba count run.start run.count k.1,
+      starts-le rs (behind run) high lba count k.2,
       count-more (starts_in lba (lba + count)) run rs,
       count-more (meets lba count) (extent_of run) (map extent_of rs),
     )
 
 pub starts-meet : (next : List ℕ) (rs : List Run) (bs : List (List ℕ)) (a b lba count : ℕ)
-    → AreMaximal a b rs → AreChained next rs → count_by (starts_in lba (lba + count)) rs ≤ meet
+    → AreMaximal a b rs → count_by (starts_in lba (lba + count)) rs ≤ meet
     (contents_of (expanded next rs) bs) lba count
 unfolding meet
-starts-meet next rs bs a b lba count h k = rw (runs-extents next rs bs a b h k)
-    (starts-le next rs lba count k)
+starts-meet next rs bs a b lba count h = rw (runs-extents next rs bs a b h)
+    (starts-le rs (any_from a) (any_from b) lba count h)
 
 -- the runs that were gathered are near
 near_block : (lba high start n : ℕ) → lba ≤ start + n → start ≤ high
     → cond {A = ℕ} (nat_le lba (start + n) && nat_le start high) n 0 ≡ n
 near_block lba high start n h k = grind (arith, nat_tests)
 
-abbrev near_blocks : (lba count : ℕ) → ℕ × ℕ → ℕ
+abbrev near_blocks : (lba count : ℕ) → Extent → ℕ
 near_blocks lba count run = cond (nat_le lba (run.0 + run.1) && nat_le run.0 (lba + count)) run.1 0
 
 near-extents : (ms : List Run) (lba count : ℕ) → AreNear lba (lba + count) ms
@@ -161,13 +200,13 @@ near-extents (run ∷ ms) lba count h =
     omega arith
 
 pub near-gathered : (next : List ℕ) (rs : List Run) (bs : List (List ℕ)) (gathered : Drafted)
-    (lba count bound : ℕ) → AreMaximal 0 bound rs → AreChained next rs
+    (lba count bound : ℕ) → AreMaximal 0 bound rs
     → AreGathered rs gathered lba (lba + count) bound
     → blocks_of gathered.records ≤ blocks_near (contents_of (expanded next rs) bs) lba count
 unfolding blocks_near
-near-gathered next rs bs gathered lba count bound h k g =
+near-gathered next rs bs gathered lba count bound h g =
     let f = near_blocks lba count in
-    let told_runs = runs-extents next rs bs 0 bound h k in
+    let told_runs = runs-extents next rs bs 0 bound h in
     let parts : map extent_of rs ≡ map extent_of (take gathered.from rs) ++
     (map extent_of gathered.records ++ map extent_of (drop (end_index gathered) rs))
     = ap (map extent_of) (sym g.same) ∙ map-append extent_of (take gathered.from rs)
@@ -190,37 +229,37 @@ pub begins_past : (lba count start n : ℕ) → lba + count ≤ start
     → cond {A = ℕ} (nat_lt (max start lba) (min (start + n) (lba + count))) 1 0 ≡ 0
 begins_past lba count start n le = grind (arith, nat_tests)
 
-none-before : (rs : List Run) (a lba count : ℕ) → AreMaximal a lba rs
+none-before : (rs : List Run) (a lba count : ℕ) → AreApart a lba rs
     → count_by (meets lba count) (map extent_of rs) ≡ 0
 none-before [] a lba count h = omega arith
 none-before (run ∷ rs) a lba count h =
-    let le = maximal-le rs (end_of run + 1) lba h.1 in
+    let le = apart-le rs (end_of run) lba h.2 in
     omega (
       arith,
       ends_before lba count run.start run.count (omega (arith, le)),
-      none-before rs (end_of run + 1) lba count h.1,
+      none-before rs (end_of run) lba count h.2,
       count-more (meets lba count) (extent_of run) (map extent_of rs),
     )
 
-none-after : (rs : List Run) (a b lba count : ℕ) → AreMaximal a b rs → lba + count ≤ a
+none-after : (rs : List Run) (a b lba count : ℕ) → AreApart a b rs → lba + count ≤ a
     → count_by (meets lba count) (map extent_of rs) ≡ 0
 none-after [] a b lba count h le = omega arith
 none-after (run ∷ rs) a b lba count h le =
     omega (
       arith,
       begins_past lba count run.start run.count (omega (arith, h.0)),
-      none-after rs (end_of run + 1) b lba count h.1 (omega (arith, h.0)),
+      none-after rs (end_of run) b lba count h.2 (omega (arith, h.0)),
       count-more (meets lba count) (extent_of run) (map extent_of rs),
     )
 
 -- the runs that meet a range are among those that were gathered
 pub meet-gathered : (next : List ℕ) (rs : List Run) (bs : List (List ℕ)) (gathered : Drafted)
-    (lba count bound : ℕ) → AreMaximal 0 bound rs → AreChained next rs
+    (lba count bound : ℕ) → AreMaximal 0 bound rs
     → AreGathered rs gathered lba (lba + count) bound
     → meet (contents_of (expanded next rs) bs) lba count ≤ length gathered.records
 unfolding meet
-meet-gathered next rs bs gathered lba count bound h k g =
-    let extents = runs-extents next rs bs 0 bound h k in
+meet-gathered next rs bs gathered lba count bound h g =
+    let extents = runs-extents next rs bs 0 bound h in
     let front = map extent_of (take gathered.from rs) in
     let back = map extent_of (drop (end_index gathered) rs) in
     let parts : map extent_of rs ≡ front ++ (map extent_of gathered.records ++ back)
@@ -230,9 +269,11 @@ meet-gathered next rs bs gathered lba count bound h k g =
     (drop (end_index gathered) rs)) in
     let a = count-append (meets lba count) front (map extent_of gathered.records ++ back) in
     let b = count-append (meets lba count) (map extent_of gathered.records) back in
-    let x = none-before (take gathered.from rs) 0 lba count g.before in
-    let y = none-after (drop (end_index gathered) rs) (lba + count + 1) bound lba count g.after
-    (omega arith) in
+    let x = none-before (take gathered.from rs) 0 lba count
+    (apart-loose (take gathered.from rs) 0 0 lba (omega arith) g.before) in
+    let y = none-after (drop (end_index gathered) rs) (lba + count) bound lba count
+    (apart-loose (drop (end_index gathered) rs) (lba + count + 1) (lba + count) bound (omega arith)
+    g.after) (omega arith) in
     let z = count_by-le-length (meets lba count) (map extent_of gathered.records) in
     rw (extents, parts) (omega (arith, length-map gathered.records extent_of))
 
@@ -241,7 +282,7 @@ meets_none : (lba count start n : ℕ) → count ≡ 0
 meets_none lba count start n e = grind (arith, nat_tests)
 
 -- no run meets a range of no address
-pub none-meet : (rs : List (ℕ × ℕ)) (lba count : ℕ) → count ≡ 0 → count_by (meets lba count) rs ≡ 0
+pub none-meet : (rs : List Extent) (lba count : ℕ) → count ≡ 0 → count_by (meets lba count) rs ≡ 0
 none-meet [] lba count e = omega arith
 none-meet (run ∷ rs) lba count e = omega (
   arith,

@@ -69,4 +69,4 @@ pub meet-records : (rs : List Run) (slots : Slots) (room lba count : ℕ) → Ar
     → meet (chained_contents rs slots) lba count ≡ records_met rs lba count
 unfolding meet
 meet-records rs slots room lba count h =
-    rw (runs-extents slots.next rs slots.blocks 0 (MAX_CAPACITY + 1) h.maximal h.chained) refl
+    rw (runs-extents slots.next rs slots.blocks 0 (MAX_CAPACITY + 1) h.maximal) refl

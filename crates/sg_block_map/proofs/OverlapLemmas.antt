@@ -9,27 +9,29 @@ use Rattle.std.specs.Cmp.{nat_cmp_total}
 use Rattle.std.specs.FinMap as map
 use Rattle.std.specs.List.{count_by, sum_by}
 use Rattle.std.specs.Ordering.{nat_cmp, eq_by_cmp}
-use Rattle.std.specs.Prelude.{slice_index, slice_index_or, is_some, min, max}
-use Rattle.sg_store.specs.Disk.{Contents, zero_block, blocks, lies_in, mapped_among}
+use Rattle.std.specs.Prelude.{slice_index, is_some, min, max}
+use Rattle.sg_store.specs.Disk.{Contents, Mapping, blocks, lies_in, used_among}
 use Rattle.sg_table.specs.Draft.{Drafted}
-use Rattle.sg_pool.specs.MappedRecords.{contents_of}
-use Rattle.sg_store.specs.Disk.{mapped_at}
+use Rattle.sg_pool.specs.MappedRecords.{Seen, mapping_in, contents_by, contents_of}
+use Rattle.sg_store.specs.Disk.{used_at}
 use Rattle.sg_table.specs.Records.{single}
 use Rattle.sg_pool.specs.Slots.{Slots}
+use Rattle.sg_table.specs.declared.run.Kind.{Kind}
 use Rattle.sg_table.specs.declared.run.Run.{Run}
 use Rattle.sg_block_map.specs.Gathering.{overlap, AreGathered, end_index}
-use Rattle.sg_block_map.specs.Runs.{singles, singles_of, expanded, AreMaximal, AreBetween}
+use Rattle.sg_block_map.specs.Runs.{singles, singles_of, expanded, AreApart, AreBetween}
 use Rattle.sg_block_map.specs.Runs.{chained_contents}
-use Rattle.sg_store.proofs.DiskLemmas.{mapped_among-none, mapped_among-more, eq_other}
+use Rattle.sg_store.proofs.DiskLemmas.{used_among-none, used_among-more, eq_other}
 use Rattle.sg_store.proofs.DiskLemmas.{eq_same}
-use Rattle.sg_pool.proofs.MappedLemmas.{none_mapped}
+use Rattle.sg_pool.proofs.MappedLemmas.{none_used}
 use Rattle.sg_block_map.proofs.BetweenLemmas.{between-expanded, between-low}
-use Rattle.sg_block_map.proofs.ContentsLemmas.{inside, below, above, blocks-same, mapped_among-same}
+use Rattle.sg_block_map.proofs.OrderLemmas.{apart-loose}
+use Rattle.sg_block_map.proofs.ContentsLemmas.{inside, below, above, blocks-same, used_among-same}
 use Rattle.sg_block_map.proofs.ContentsLemmas.{get-middle}
 use Rattle.sg_block_map.proofs.ExpandedLemmas.{expanded-more, expanded-none, expanded-append}
 use Rattle.sg_block_map.proofs.GatheringLemmas.{count-append, count-more}
 
-either_some : (b : Bool) (v : List ℕ) (o : Option (List ℕ))
+either_some : (b : Bool) (v : Mapping) (o : Option Mapping)
     → cond {A = ℕ} (is_some (cond b (Some v) o)) 1 0 ≡ cond b 1 (cond (is_some o) 1 0)
 either_some true v o = refl
 either_some false v o = refl
@@ -37,40 +39,40 @@ either_some false v o = refl
 outside : (a x : ℕ) → lies_in a 0 x ≡ false
 outside a x = grind (arith, nat_tests)
 
-empty_at : (bs : List (List ℕ)) (q : ℕ) → mapped_at (contents_of [] bs) q ≡ 0
-empty_at bs q = none_mapped [] bs q (λ j lt. absurd (omega arith))
+empty_at : (f : Seen) (q : ℕ) → used_at (contents_by f []) q ≡ 0
+empty_at f q = none_used f [] q (λ j lt. absurd (omega arith))
 
-empty_among : (bs : List (List ℕ)) (a k : ℕ) → mapped_among (contents_of [] bs) a k ≡ 0
-empty_among bs a zero = mapped_among-none (contents_of [] bs) a
-empty_among bs a (suc k) =
+empty_among : (f : Seen) (a k : ℕ) → used_among (contents_by f []) a k ≡ 0
+empty_among f a zero = used_among-none (contents_by f []) a
+empty_among f a (suc k) =
     let e : suc k ≡ k + 1 = omega arith in
-    let rest = empty_among bs a k in
-    let more = mapped_among-more (contents_of [] bs) a k in
-    let last = empty_at bs (a + k) in
+    let rest = empty_among f a k in
+    let more = used_among-more (contents_by f []) a k in
+    let last = empty_at f (a + k) in
     rw e (omega arith)
 
 -- one address more
-at_insert : (m : Contents) (x q : ℕ) (v : List ℕ)
-    → mapped_at (map.insert m x v) q ≡ cond (eq_by_cmp nat_cmp q x) 1 (mapped_at m q)
+at_insert : (m : Contents) (x q : ℕ) (v : Mapping)
+    → used_at (map.insert m x v) q ≡ cond (eq_by_cmp nat_cmp q x) 1 (used_at m q)
 at_insert m x q v = ap (λ o. cond (is_some o) 1 0) (map.get-insert nat_cmp_total m x v q)
     ∙ either_some (eq_by_cmp nat_cmp q x) v (map.get m q)
 
-among_insert : (m : Contents) (x : ℕ) (v : List ℕ) (a k : ℕ) → mapped_at m x ≡ 0
-    → mapped_among (map.insert m x v) a k ≡ mapped_among m a k + cond (lies_in a k x) 1 0
-among_insert m x v a zero none = mapped_among-none (map.insert m x v) a
-    ∙ sym (ap₂ (λ n c. n + cond c 1 0) (mapped_among-none m a) (outside a x))
+among_insert : (m : Contents) (x : ℕ) (v : Mapping) (a k : ℕ) → used_at m x ≡ 0
+    → used_among (map.insert m x v) a k ≡ used_among m a k + cond (lies_in a k x) 1 0
+among_insert m x v a zero none = used_among-none (map.insert m x v) a
+    ∙ sym (ap₂ (λ n c. n + cond c 1 0) (used_among-none m a) (outside a x))
 among_insert m x v a (suc k) none =
     let e : suc k ≡ k + 1 = omega arith in
     let rest = among_insert m x v a k none in
-    let w = mapped_among-more (map.insert m x v) a k in
-    let n = mapped_among-more m a k in
+    let w = used_among-more (map.insert m x v) a k in
+    let n = used_among-more m a k in
     let at = at_insert m x (a + k) v in
     rw e (elim (cases_lt x (a + k)) [
       | inl lt ↦
           let c : eq_by_cmp nat_cmp (a + k) x ≡ false =
           eq_other (a + k) x (λ same. absurd (omega arith)) in
-          let here : mapped_at (map.insert m x v) (a + k) ≡ mapped_at m (a + k) = at
-          ∙ ap (λ b. cond b 1 (mapped_at m (a + k))) c in
+          let here : used_at (map.insert m x v) (a + k) ≡ used_at m (a + k) = at
+          ∙ ap (λ b. cond b 1 (used_at m (a + k))) c in
           let wide : cond {A = ℕ} (lies_in a (k + 1) x) 1 0 ≡ cond (lies_in a k x) 1 0 =
           elim (cases_lt x a) [
             | inl low ↦ rw (below a (k + 1) x low, below a k x low) refl
@@ -80,15 +82,15 @@ among_insert m x v a (suc k) none =
         | inl lt ↦
             let c : eq_by_cmp nat_cmp (a + k) x ≡ false =
             eq_other (a + k) x (λ same. absurd (omega arith)) in
-            let here : mapped_at (map.insert m x v) (a + k) ≡ mapped_at m (a + k) = at
-            ∙ ap (λ b. cond b 1 (mapped_at m (a + k))) c in
+            let here : used_at (map.insert m x v) (a + k) ≡ used_at m (a + k) = at
+            ∙ ap (λ b. cond b 1 (used_at m (a + k))) c in
             let wide : cond {A = ℕ} (lies_in a (k + 1) x) 1 0 ≡ cond (lies_in a k x) 1 0 =
             rw (above a (k + 1) x (omega arith), above a k x (omega arith)) refl in omega arith
         | inr le ↦
             let same : a + k ≡ x = omega arith in
-            let here : mapped_at (map.insert m x v) (a + k) ≡ 1 = at
-            ∙ ap (λ b. cond b 1 (mapped_at m (a + k))) (eq_same (a + k) x same) in
-            let not_yet : mapped_at m (a + k) ≡ 0 = ap (mapped_at m) same ∙ none in
+            let here : used_at (map.insert m x v) (a + k) ≡ 1 = at
+            ∙ ap (λ b. cond b 1 (used_at m (a + k))) (eq_same (a + k) x same) in
+            let not_yet : used_at m (a + k) ≡ 0 = ap (used_at m) same ∙ none in
             let new : cond {A = ℕ} (lies_in a (k + 1) x) 1 0 ≡ 1 =
             ap (λ b. cond b 1 0) (inside a (k + 1) x (omega arith) (omega arith)) in
             let old : cond {A = ℕ} (lies_in a k x) 1 0 ≡ 0 =
@@ -97,15 +99,15 @@ among_insert m x v a (suc k) none =
     ])
 
 -- addresses that rise, one by one
-among_count : (xs : List Run) (bs : List (List ℕ)) (low high a k : ℕ) → AreBetween low high xs
-    → mapped_among (contents_of xs bs) a k ≡ count_by (λ (x : Run). lies_in a k x.start) xs
-among_count [] bs low high a k h = empty_among bs a k
-among_count (x ∷ xs) bs low high a k h =
-    let none = none_mapped xs bs x.start (λ j lt same. let up =
+among_count : (xs : List Run) (f : Seen) (low high a k : ℕ) → AreBetween low high xs
+    → used_among (contents_by f xs) a k ≡ count_by (λ (x : Run). lies_in a k x.start) xs
+among_count [] f low high a k h = empty_among f a k
+among_count (x ∷ xs) f low high a k h =
+    let none = none_used f xs x.start (λ j lt same. let up =
     between-low xs (x.start + 1) high j h.1 lt in absurd (omega arith)) in
-    let rest = among_count xs bs (x.start + 1) high a k h.1 in
-    let more = among_insert (contents_of xs bs) x.start
-    (slice_index_or bs x.first zero_block) a k none in
+    let rest = among_count xs f (x.start + 1) high a k h.1 in
+    let more = among_insert (contents_by f xs) x.start
+    (f x.first x.kind) a k none in
     let count = count-more (λ (x : Run). lies_in a k x.start) x xs in
     omega arith
 
@@ -120,15 +122,15 @@ overlap_step a k start n = elim (cases_lt start a) [
   ]
 ]
 
-count_run : (next : List ℕ) (a k start first n : ℕ)
-    → count_by (λ (x : Run). lies_in a k x.start) (singles next start first n) ≡
+count_run : (next : List ℕ) (a k start first n : ℕ) (kind : Kind)
+    → count_by (λ (x : Run). lies_in a k x.start) (singles next start first n kind) ≡
     min (start + n) (a + k) - max start a
 unfolding singles
-count_run next a k start first zero = omega arith
-count_run next a k start first (suc n) =
-    let rest = count_run next a k (start + 1) (slice_index next first) n in
-    let count = count-more (λ (x : Run). lies_in a k x.start) (single start first)
-    (singles next (start + 1) (slice_index next first) n) in
+count_run next a k start first zero kind = omega arith
+count_run next a k start first (suc n) kind =
+    let rest = count_run next a k (start + 1) (slice_index next first) n kind in
+    let count = count-more (λ (x : Run). lies_in a k x.start) (single start first kind)
+    (singles next (start + 1) (slice_index next first) n kind) in
     let step = overlap_step a k start n in
     omega arith
 
@@ -137,7 +139,7 @@ count_apart : (next : List ℕ) (a k : ℕ) (runs : List Run)
     sum_by (overlap a (a + k)) runs
 count_apart next a k [] = ap (count_by (λ (x : Run). lies_in a k x.start)) (expanded-none next)
 count_apart next a k (run ∷ runs) =
-    let one = count_run next a k run.start run.first run.count in
+    let one = count_run next a k run.start run.first run.count run.kind in
     let rest = count_apart next a k runs in
     let both = ap (count_by (λ (x : Run). lies_in a k x.start)) (expanded-more next run runs)
     ∙ count-append (λ (x : Run). lies_in a k x.start) (singles_of next run)
@@ -145,10 +147,10 @@ count_apart next a k (run ∷ runs) =
     let sum = sum_by-cons (overlap a (a + k)) run runs in
     omega arith
 
-pub mapped-overlap : (next : List ℕ) (runs : List Run) (bs : List (List ℕ)) (low high a k : ℕ)
-    → AreMaximal low high runs → mapped_among (contents_of (expanded next runs) bs) a k ≡
+pub mapped-overlap : (next : List ℕ) (runs : List Run) (f : Seen) (low high a k : ℕ)
+    → AreApart low high runs → used_among (contents_by f (expanded next runs)) a k ≡
     sum_by (overlap a (a + k)) runs
-mapped-overlap next runs bs low high a k h = among_count (expanded next runs) bs low high a k
+mapped-overlap next runs f low high a k h = among_count (expanded next runs) f low high a k
     (between-expanded next runs low high h) ∙ count_apart next a k runs
 
 -- in the range the contents are those of the runs that were gathered
@@ -164,9 +166,10 @@ get-gathered rs gathered slots lba count bound q g le lt =
     (expanded-append slots.next gathered.records ys) in
     ap (λ zs. map.get (contents_of zs slots.blocks) q) parts
     ∙ get-middle (expanded slots.next xs) (expanded slots.next gathered.records)
-    (expanded slots.next ys) slots.blocks 0 lba (lba + count + 1) bound q
-    (between-expanded slots.next xs 0 lba g.before) le
-    (between-expanded slots.next ys (lba + count + 1) bound g.after) (omega arith)
+    (expanded slots.next ys) (mapping_in slots.blocks) 0 lba (lba + count) bound q
+    (between-expanded slots.next xs 0 lba (apart-loose xs 0 0 lba (omega arith) g.before)) le
+    (between-expanded slots.next ys (lba + count) bound
+    (apart-loose ys (lba + count + 1) (lba + count) bound (omega arith) g.after)) (omega arith)
 
 pub blocks-gathered : (rs : List Run) (gathered : Drafted) (slots : Slots) (lba count bound : ℕ)
     → AreGathered rs gathered lba (lba + count) bound
@@ -177,8 +180,8 @@ blocks-gathered rs gathered slots lba count bound g =
 
 pub mapped-gathered : (rs : List Run) (gathered : Drafted) (slots : Slots) (lba count bound : ℕ)
     → AreGathered rs gathered lba (lba + count) bound
-    → mapped_among (chained_contents rs slots) lba count ≡
-    mapped_among (chained_contents gathered.records slots) lba count
+    → used_among (chained_contents rs slots) lba count ≡
+    used_among (chained_contents gathered.records slots) lba count
 mapped-gathered rs gathered slots lba count bound g =
-    mapped_among-same _ _ lba count
+    used_among-same _ _ lba count
     (λ q le lt. get-gathered rs gathered slots lba count bound q g le lt)

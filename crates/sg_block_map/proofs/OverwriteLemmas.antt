@@ -4,11 +4,13 @@ use Rattle.std.proofs.Common.{◌∙◌, append_assoc, length-append, take, drop
 use Rattle.std.proofs.Math.Seq.{get_or-append_seam}
 use Rattle.std.specs.FinMap as map
 use Rattle.sg_pool.specs.Chains.{chain, slot_after, AreBelow}
+use Rattle.sg_store.specs.Disk.Mapping.{Data}
 use Rattle.sg_table.specs.Draft.{Drafted}
 use Rattle.sg_table.specs.Records.{single}
 use Rattle.sg_pool.specs.MappedRecords.{contents_of}
 use Rattle.sg_pool.specs.Slots.{Slots}
 use Rattle.sg_pool.specs.MappedRecords.{IsConsistent}
+use Rattle.sg_table.specs.declared.run.Kind.TheVariants.{Data as DataRun}
 use Rattle.sg_table.specs.declared.run.Run.{Run}
 use Rattle.sg_store.specs.declared.store.TheConstants.{MAX_CAPACITY}
 use Rattle.sg_block_map.specs.Gathering.{AreGathered, end_index}
@@ -31,38 +33,38 @@ consistent-other rs bs bs' free room len h = record {
 }
 
 module _ (next : List ℕ) (before : List Run) (run : Run) (after : List Run) (k : ℕ)
-    (lt : k < run.count) where
+    (lt : k < run.count) (is_data : run.kind ≡ DataRun) where
   abbrev slot : ℕ
   slot = slot_after next run.first k
 
   abbrev here : Run
-  here = single (run.start + k) slot
+  here = single (run.start + k) slot run.kind
 
   abbrev left : List Run
-  left = expanded next before ++ singles next run.start run.first k
+  left = expanded next before ++ singles next run.start run.first k run.kind
 
   abbrev right : List Run
-  right = singles next (run.start + k + 1) (slot_after next slot 1) (run.count - (k + 1))
+  right = singles next (run.start + k + 1) (slot_after next slot 1) (run.count - (k + 1)) run.kind
       ++ expanded next after
 
   -- the addresses of the run, one of them apart
-  singles-apart : singles_of next run ≡ singles next run.start run.first k ++ here ∷
-      singles next (run.start + k + 1) (slot_after next slot 1) (run.count - (k + 1))
+  singles-apart : singles_of next run ≡ singles next run.start run.first k run.kind ++ here ∷
+      singles next (run.start + k + 1) (slot_after next slot 1) (run.count - (k + 1)) run.kind
   singles-apart =
       let m = run.count - (k + 1) in
       let e : k + (1 + m) ≡ run.count = omega arith in
-      ap (singles next run.start run.first) (sym e)
-      ∙ singles-append next run.start run.first k (1 + m)
-      ∙ ap (λ xs. singles next run.start run.first k ++ xs)
-      (singles-append next (run.start + k) slot 1 m
-      ∙ ap (λ xs. xs ++ singles next (run.start + k + 1) (slot_after next slot 1) m)
-      (singles-one next (run.start + k) slot))
+      ap (λ n. singles next run.start run.first n run.kind) (sym e)
+      ∙ singles-append next run.start run.first k (1 + m) run.kind
+      ∙ ap (λ xs. singles next run.start run.first k run.kind ++ xs)
+      (singles-append next (run.start + k) slot 1 m run.kind
+      ∙ ap (λ xs. xs ++ singles next (run.start + k + 1) (slot_after next slot 1) m run.kind)
+      (singles-one next (run.start + k) slot run.kind))
 
   apart : expanded next (before ++ run ∷ after) ≡ left ++ here ∷ right
   apart =
       let m = run.count - (k + 1) in
-      let ks : List Run = singles next run.start run.first k in
-      let ms : List Run = singles next (run.start + k + 1) (slot_after next slot 1) m in
+      let ks : List Run = singles next run.start run.first k run.kind in
+      let ms : List Run = singles next (run.start + k + 1) (slot_after next slot 1) m run.kind in
       expanded-append next before (run ∷ after)
       ∙ ap (λ xs. expanded next before ++ xs) (expanded-more next run after
       ∙ ap (λ xs. xs ++ expanded next after) singles-apart
@@ -72,12 +74,12 @@ module _ (next : List ℕ) (before : List Run) (run : Run) (after : List Run) (k
   pub over-contents : (bs : List (List ℕ)) (free : List ℕ) (room : ℕ) (b : List ℕ)
       → IsConsistent (expanded next (before ++ run ∷ after)) bs free room
       → contents_of (expanded next (before ++ run ∷ after)) (set bs slot b) ≡
-      map.insert (contents_of (expanded next (before ++ run ∷ after)) bs) (run.start + k) b
+      map.insert (contents_of (expanded next (before ++ run ∷ after)) bs) (run.start + k) (Data b)
   over-contents bs free room b h =
       let consistent = rw apart at h in
       let len = length-append left (here ∷ right) in
       rw apart (contents-over (left ++ here ∷ right) bs free room (length left) here b consistent
-      (omega arith) (sym (get_or-append_seam left here right here)))
+      (omega arith) (sym (get_or-append_seam left here right here)) is_data)
 
 -- the first of the gathered runs has slots of the pool
 pub first-below : (rs : List Run) (gathered : Drafted) (slots : Slots) (room low high : ℕ)

@@ -1,124 +1,143 @@
 -- The maximal runs, address by address.
-use Rattle.std.proofs.Common.{◌≡◌, ℕ, ◌+◌, ◌-◌, ◌<◌, ◌≤◌, zero, suc, List, [], ◌∷◌, length}
-use Rattle.std.proofs.Common.{arith, eq-eqb, refl, sym, ap, ap₂, ◌∙◌, inl, inr, Bool, true, false, cond}
+use Rattle.std.proofs.Common.{◌≡◌, ℕ, ◌+◌, ◌-◌, ◌<◌, ◌≤◌, zero, suc, List, [], ◌∷◌, length, Option}
+use Rattle.std.proofs.Common.{arith, refl, sym, ap, ap₂, ◌∙◌, inl, inr, Bool, true, false, cond}
+use Rattle.std.proofs.Common.{Some}
 use Rattle.std.proofs.lemmas.Bool.{cases_lt}
 use Rattle.std.proofs.lemmas.Bool.Decides.{nat_tests}
-use Rattle.std.specs.Prelude.{◌==◌, ◌||◌, slice_index_or}
+use Rattle.std.specs.Prelude.{◌==◌, ◌&&◌, ◌||◌, slice_index_or}
 use Rattle.std.specs.List.{list_any, Contains}
 use Rattle.std.specs.Ordering.{nat_cmp, eq_by_cmp}
 use Rattle.std.specs.Cmp.{unsigned_tied}
-use Rattle.std.specs.FinMap.{keys, contains_key, contains_key-keys, entries, entries_sorted}
-use Rattle.sg_store.specs.Disk.{Contents, lies_in}
-use Rattle.sg_block_map.specs.MaximalRuns.{with_address, runs_of, runs}
-use Rattle.sg_block_map.specs.RunLaws.{HasExactlyTheMaximalRuns, RunsRise}
+use Rattle.std.specs.FinMap.{find, get-entries, entries, entries_sorted}
+use Rattle.sg_store.specs.Disk.{Contents, Mapping, lies_in}
+use Rattle.sg_table.specs.declared.run.Kind.{Kind}
+use Rattle.sg_table.specs.declared.run.Kind.TheVariants.{Data as DataRun, Anchored as AnchoredRun}
+use Rattle.sg_block_map.specs.MaximalRuns.{Extent, kind_of, same_kind, with_address, runs_of, runs}
+use Rattle.sg_block_map.specs.RunLaws.{is_kind, has_kind, HasExactlyTheMaximalRuns, RunsRise}
 use Rattle.sg_block_map.specs.RunCostLaws.{AreRising, rising}
+use Rattle.sg_block_map.specs.Runs.{Bound, any_from}
 
--- whether a run has an address, and whether one of several does
-abbrev has : ℕ → (ℕ × ℕ) → Bool
-has a run = lies_in run.0 run.1 a
+-- ---- The runs rise, and none could be joined to the next
 
-abbrev covers : List (ℕ × ℕ) → ℕ → Bool
-covers rs a = list_any (has a) rs
+abbrev behind_it : Extent → Bound
+behind_it run kind = cond (same_kind kind run.2) (run.0 + run.1 + 1) (run.0 + run.1)
 
--- ---- What the list covers
-
-one_lies : (x a : ℕ) → lies_in x 1 a ≡ (a == x)
-one_lies x a = grind (arith, nat_tests)
-
-more_lies : (x n a : ℕ) → lies_in x (n + 1) a ≡ ((a == x) || lies_in (x + 1) n a)
-more_lies x n a = grind (arith, nat_tests)
-
-or_more : (b c d e : Bool) → b ≡ (c || d) → (b || e) ≡ (c || (d || e))
-or_more b true d e is = rw is refl
-or_more b false d e is = rw is refl
-
-is_number : (m n : ℕ) → (m == n) ≡ true → m ≡ n
-is_number m n e = grind (arith, nat_tests)
-
-not_number : (m n : ℕ) → (m == n) ≡ false → m ≡ n → ⊥
-not_number m n e same = let on = eq-eqb m n same in let wrong : true ≡ false = sym on ∙ e in cc
+abbrev Rise : Bound → List Extent → Type 0
+Rise low [] = Unit
+Rise low (run ∷ rs) = (low run.2 ≤ run.0) × (0 < run.1) × Rise (behind_it run) rs
 
 either_way : {A : Type 0} (P : A → Type 0) (b : Bool) (x y : A) → (b ≡ true → P x)
     → (b ≡ false → P y) → P (cond b x y)
 either_way P true x y f g = f refl
 either_way P false x y f g = g refl
 
-covers-address : (x a : ℕ) (rs : List (ℕ × ℕ))
-    → covers (with_address x rs) a ≡ ((a == x) || covers rs a)
-covers-address x a [] = or_more (lies_in x 1 a) (a == x) false false (one_lies x a ∙ or_none (a == x))
+is_number : (m n : ℕ) → (m == n) ≡ true → m ≡ n
+is_number m n e = grind (arith, nat_tests)
+
+both_true : (a b : Bool) → (a && b) ≡ true → (a ≡ true) × (b ≡ true)
+both_true true b e = (refl, e)
+both_true false b e = let wrong = e in cc
+
+alike : (j k : Kind) → same_kind j k ≡ true → j ≡ k
+alike DataRun DataRun e = refl
+alike DataRun AnchoredRun e = let wrong = e in cc
+alike AnchoredRun DataRun e = let wrong = e in cc
+alike AnchoredRun AnchoredRun e = refl
+
+-- a run that an address is not joined to begins behind it
+past : (x start : ℕ) (j k : Kind) → x + 1 ≤ start → (start == x + 1 && same_kind j k) ≡ false
+    → cond (same_kind k j) (x + 1 + 1) (x + 1) ≤ start
+past x start DataRun DataRun le e = apart (x + 1) start le e
   where
-    or_none : (b : Bool) → b ≡ (b || false)
-    or_none true = refl
-    or_none false = refl
-covers-address x a ((s, n) ∷ rs) = either_way
-    (λ xs. covers xs a ≡ ((a == x) || covers ((s, n) ∷ rs) a)) (s == x + 1)
-    ((x, n + 1) ∷ rs) ((x, 1) ∷ (s, n) ∷ rs)
-    (λ e. or_more (lies_in x (n + 1) a) (a == x) (lies_in s n a) (covers rs a)
-    (more_lies x n a ∙ ap (λ k. (a == x) || lies_in k n a) (sym (is_number s (x + 1) e))))
-    (λ _. ap (λ b. b || covers ((s, n) ∷ rs) a) (one_lies x a))
+    apart : (m n : ℕ) → m ≤ n → (n == m && true) ≡ false → m + 1 ≤ n
+    apart m n le e = grind (arith, nat_tests)
+past x start DataRun AnchoredRun le e = le
+past x start AnchoredRun DataRun le e = le
+past x start AnchoredRun AnchoredRun le e = apart (x + 1) start le e
+  where
+    apart : (m n : ℕ) → m ≤ n → (n == m && true) ≡ false → m + 1 ≤ n
+    apart m n le e = grind (arith, nat_tests)
 
-covers-keys : (xs : List ℕ) (a : ℕ) → list_any (eq_by_cmp nat_cmp a) xs ≡ covers (runs_of xs) a
-covers-keys [] a = refl
-covers-keys (x ∷ xs) a = ap₂ (λ b c. b || c) (unsigned_tied a x) (covers-keys xs a)
-    ∙ sym (covers-address x a (runs_of xs))
+rise-address : (low : Bound) (x : ℕ) (k : Kind) (rs : List Extent) → low k ≤ x
+    → Rise (any_from (x + 1)) rs → Rise low (with_address x k rs)
+rise-address low x k [] le h = (le, omega arith, tt)
+rise-address low x k (run ∷ rs) le h = either_way (Rise low)
+    (run.0 == x + 1 && same_kind k run.2) ((x, run.1 + 1, k) ∷ rs) ((x, 1, k) ∷ run ∷ rs)
+    (λ e.
+    let both = both_true (run.0 == x + 1) (same_kind k run.2) e in
+    let start = is_number run.0 (x + 1) both.0 in
+    let kind = alike k run.2 both.1 in
+    let on : run.0 + run.1 ≡ x + (run.1 + 1) = omega (arith, start) in
+    (le, omega arith, same_rise rs run.2 k (run.0 + run.1) (x + (run.1 + 1)) (sym kind) on h.2))
+    (λ e. (le, omega arith, (past x run.0 k run.2 h.0 e, h.1, h.2)))
+  where
+    same_rise : (rs : List Extent) (j k : Kind) (m n : ℕ) → j ≡ k → m ≡ n
+        → Rise (λ kind. cond (same_kind kind j) (m + 1) m) rs
+        → Rise (λ kind. cond (same_kind kind k) (n + 1) n) rs
+    same_rise rs j k m n e f h = rw (e, f) at h
 
-covers-runs : (m : Contents) (a : ℕ) → contains_key m a ≡ covers (runs m) a
-unfolding runs
-covers-runs m a = contains_key-keys m a ∙ covers-keys (keys m) a
-
--- ---- The runs rise, with an address between two of them
-
-abbrev Rise : (low : ℕ) → List (ℕ × ℕ) → Type 0
-Rise low [] = Unit
-Rise low (run ∷ rs) = (low ≤ run.0) × (0 < run.1) × Rise (run.0 + run.1 + 1) rs
-
-rise-address : (low x : ℕ) (rs : List (ℕ × ℕ)) → low ≤ x → Rise (x + 1) rs
-    → Rise low (with_address x rs)
-rise-address low x [] le h = (le, omega arith, tt)
-rise-address low x ((s, n) ∷ rs) le h = either_way (Rise low) (s == x + 1) ((x, n + 1) ∷ rs)
-    ((x, 1) ∷ (s, n) ∷ rs)
-    (λ e. let on : s + n + 1 ≡ x + (n + 1) + 1 = omega (arith, is_number s (x + 1) e) in
-    (le, omega arith, rw on at h.2))
-    (λ e. (
-      le,
-      omega arith,
-      elim (cases_lt (x + 1) s) [
-        | inl lt ↦ (omega (arith, lt), h.1, h.2)
-        | inr ge ↦ absurd (not_number s (x + 1) e (omega (arith, ge, h.0)))
-      ],
-    ))
-
-rise-runs : (low : ℕ) (xs : List ℕ) → AreRising low xs → Rise low (runs_of xs)
+rise-runs : (low : ℕ) (es : List (ℕ × Mapping)) → AreRising low es → Rise (any_from low) (runs_of es)
 rise-runs low [] h = tt
-rise-runs low (x ∷ xs) h = rise-address low x (runs_of xs) h.0 (rise-runs (x + 1) xs h.1)
+rise-runs low (e ∷ es) h =
+    rise-address (any_from low) e.0 (kind_of e.1) (runs_of es) h.0 (rise-runs (e.0 + 1) es h.1)
 
-all-rise : (m : Contents) → Rise 0 (runs m)
+all-rising : (m : Contents) → AreRising 0 (entries m)
+all-rising m = rising 0 (entries m) (entries_sorted m) (λ e more same. omega arith)
+
+all-rise : (m : Contents) → Rise (any_from 0) (runs m)
 unfolding runs
-all-rise m = rise-runs 0 (keys m)
-    (rising 0 (entries m) (entries_sorted m) (λ e more same. omega arith))
+all-rise m = rise-runs 0 (entries m) (all-rising m)
 
-abbrev at : List (ℕ × ℕ) → ℕ → ℕ × ℕ
-at rs i = slice_index_or rs i (0, 0)
+abbrev at : List Extent → ℕ → Extent
+at rs i = slice_index_or rs i (0, 0, DataRun)
 
-rise-low : (low : ℕ) (rs : List (ℕ × ℕ)) (j : ℕ) → Rise low rs → j < length rs → low ≤ (at rs j).0
-rise-low low [] j h lt = absurd (omega arith)
-rise-low low (r ∷ rs) zero h lt = h.0
-rise-low low (r ∷ rs) (suc j) h lt =
-    let more = rise-low (r.0 + r.1 + 1) rs j h.2 (omega arith) in omega (arith, more, h.0)
+abbrev IsNarrow : Bound → Type 0
+IsNarrow low = (j k : Kind) → low j ≤ low k + 1
 
-rise-order : (low : ℕ) (rs : List (ℕ × ℕ)) (i j : ℕ) → Rise low rs → i < j → j < length rs
-    → (at rs i).0 + (at rs i).1 < (at rs j).0
+behind_low : (run : Extent) (kind : Kind) → run.0 + run.1 ≤ behind_it run kind
+behind_low run kind = either (same_kind kind run.2) (run.0 + run.1)
+  where
+    either : (b : Bool) (n : ℕ) → n ≤ cond b (n + 1) n
+    either true n = omega arith
+    either false n = omega arith
+
+behind_high : (run : Extent) (kind : Kind) → behind_it run kind ≤ run.0 + run.1 + 1
+behind_high run kind = either (same_kind kind run.2) (run.0 + run.1)
+  where
+    either : (b : Bool) (n : ℕ) → cond b (n + 1) n ≤ n + 1
+    either true n = omega arith
+    either false n = omega arith
+
+narrow_behind : (run : Extent) → IsNarrow (behind_it run)
+narrow_behind run j k = omega (arith, behind_high run j, behind_low run k)
+
+rise-low : (low : Bound) (a : ℕ) (rs : List Extent) (j : ℕ) → ((k : Kind) → a ≤ low k) → Rise low rs
+    → j < length rs → a ≤ (at rs j).0
+rise-low low a [] j le h lt = absurd (omega arith)
+rise-low low a (r ∷ rs) zero le h lt = omega (arith, le r.2, h.0)
+rise-low low a (r ∷ rs) (suc j) le h lt =
+    rise-low (behind_it r) a rs j (λ k. omega (arith, behind_low r k, le r.2, h.0)) h.2 (omega arith)
+
+rise-order : (low : Bound) (rs : List Extent) (i j : ℕ) → Rise low rs → i < j → j < length rs
+    → (at rs i).0 + (at rs i).1 ≤ (at rs j).0
 rise-order low [] i j h lt within = absurd (omega arith)
 rise-order low (r ∷ rs) i zero h lt within = absurd (omega arith)
 rise-order low (r ∷ rs) zero (suc j) h lt within =
-    let more = rise-low (r.0 + r.1 + 1) rs j h.2 (omega arith) in omega (arith, more)
+    rise-low (behind_it r) (r.0 + r.1) rs j (λ k. behind_low r k) h.2 (omega arith)
 rise-order low (r ∷ rs) (suc i) (suc j) h lt within =
-    rise-order (r.0 + r.1 + 1) rs i j h.2 (omega arith) (omega arith)
+    rise-order (behind_it r) rs i j h.2 (omega arith) (omega arith)
 
 pub runs-rise : RunsRise
-runs-rise m i j lt within = rise-order 0 (runs m) i j (all-rise m) lt within
+runs-rise m i j lt within = rise-order (any_from 0) (runs m) i j (all-rise m) lt within
 
--- ---- Each of them is maximal
+-- ---- What the list covers
+
+-- whether a run has an address and is of a kind, and whether one of several is
+abbrev has : Kind → ℕ → Extent → Bool
+has k a run = lies_in run.0 run.1 a && same_kind k run.2
+
+abbrev covers : Kind → List Extent → ℕ → Bool
+covers k rs a = list_any (has k a) rs
 
 or_right : (b c : Bool) → b ≡ false → (b || c) ≡ c
 or_right true c e = let wrong = e in cc
@@ -132,6 +151,18 @@ or_none : (b c : Bool) → (b || c) ≡ false → (b ≡ false) × (c ≡ false)
 or_none true c e = let wrong = e in cc
 or_none false c e = (refl, e)
 
+and_none : (b c : Bool) → b ≡ false → (b && c) ≡ false
+and_none true c e = let wrong = e in cc
+and_none false c e = refl
+
+and_other : (b c : Bool) → c ≡ false → (b && c) ≡ false
+and_other true c e = e
+and_other false c e = refl
+
+and_both : (b c : Bool) → b ≡ true → c ≡ true → (b && c) ≡ true
+and_both true c e f = f
+and_both false c e f = let wrong = e in cc
+
 inside : (s n a : ℕ) → s ≤ a → a < s + n → lies_in s n a ≡ true
 inside s n a ge lt = grind (arith, nat_tests)
 
@@ -141,122 +172,245 @@ before s n a lt = grind (arith, nat_tests)
 behind : (s n a : ℕ) → s + n ≤ a → lies_in s n a ≡ false
 behind s n a ge = grind (arith, nat_tests)
 
-covers-below : (low : ℕ) (rs : List (ℕ × ℕ)) (a : ℕ) → Rise low rs → a < low
-    → covers rs a ≡ false
-covers-below low [] a h lt = refl
-covers-below low (r ∷ rs) a h lt =
-    or_right (has a r) (covers rs a) (before r.0 r.1 a (omega (arith, h.0)))
-    ∙ covers-below (r.0 + r.1 + 1) rs a h.2 (omega (arith, h.0))
+-- an address before the runs of a kind
+has_none : (k : Kind) (low : Bound) (r : Extent) (a : ℕ) → low r.2 ≤ r.0 → a < low k
+    → has k a r ≡ false
+has_none k low r a le lt = by_kind (same_kind k r.2) refl
+  where
+    by_kind : (b : Bool) → same_kind k r.2 ≡ b → has k a r ≡ false
+    by_kind false e = and_other (lies_in r.0 r.1 a) (same_kind k r.2) e
+    by_kind true e = and_none (lies_in r.0 r.1 a) (same_kind k r.2)
+        (before r.0 r.1 a (omega (arith, le, lt, ap low (alike k r.2 e))))
 
-module _ (s n : ℕ) where
-  covers-inside : (rs : List (ℕ × ℕ)) (k : ℕ) → k < length rs → slice_index_or rs k (s, n) ≡ (s, n)
-      → (a : ℕ) → s ≤ a → a < s + n → covers rs a ≡ true
-  covers-inside [] k lt is a ge high = absurd (omega arith)
+covers-below : (k : Kind) (low : Bound) (rs : List Extent) (a : ℕ) → IsNarrow low → Rise low rs
+    → a < low k → covers k rs a ≡ false
+covers-below k low [] a narrow h lt = refl
+covers-below k low (r ∷ rs) a narrow h lt =
+    or_right (has k a r) (covers k rs a) (has_none k low r a h.0 lt)
+    ∙ covers-below k (behind_it r) rs a (narrow_behind r) h.2
+    (omega (arith, h.0, h.1, narrow k r.2, behind_low r k))
+
+one_lies : (x a : ℕ) → lies_in x 1 a ≡ (a == x)
+one_lies x a = grind (arith, nat_tests)
+
+more_lies : (x n a : ℕ) → lies_in x (n + 1) a ≡ ((a == x) || lies_in (x + 1) n a)
+more_lies x n a = grind (arith, nat_tests)
+
+or_and : (b c d e : Bool) → b ≡ (c || d) → ((b && e)) ≡ ((c && e) || (d && e))
+or_and b true d true is = rw is refl
+or_and b true true false is = rw is refl
+or_and b true false false is = rw is refl
+or_and b false d e is = rw is refl
+
+or_assoc : (b c d : Bool) → ((b || c) || d) ≡ (b || (c || d))
+or_assoc true c d = refl
+or_assoc false c d = refl
+
+covers-address : (k : Kind) (x a : ℕ) (kx : Kind) (rs : List Extent)
+    → covers k (with_address x kx rs) a ≡ (((a == x) && same_kind k kx) || covers k rs a)
+covers-address k x a kx [] = ap (λ b. (b && same_kind k kx) || false) (one_lies x a)
+covers-address k x a kx (run ∷ rs) = either_way
+    (λ xs. covers k xs a ≡ (((a == x) && same_kind k kx) || covers k (run ∷ rs) a))
+    (run.0 == x + 1 && same_kind kx run.2) ((x, run.1 + 1, kx) ∷ rs) ((x, 1, kx) ∷ run ∷ rs)
+    (λ e.
+    let both = both_true (run.0 == x + 1) (same_kind kx run.2) e in
+    let start = is_number run.0 (x + 1) both.0 in
+    let kind = alike kx run.2 both.1 in
+    ap (λ b. b || covers k rs a)
+    (or_and (lies_in x (run.1 + 1) a) (a == x) (lies_in (x + 1) run.1 a) (same_kind k kx)
+    (more_lies x run.1 a))
+    ∙ or_assoc ((a == x) && same_kind k kx) (lies_in (x + 1) run.1 a && same_kind k kx)
+    (covers k rs a)
+    ∙ ap₂ (λ s j. ((a == x) && same_kind k kx) || ((lies_in s run.1 a && same_kind k j)
+    || covers k rs a)) (sym start) kind)
+    (λ _. ap (λ b. (b && same_kind k kx) || covers k (run ∷ rs) a) (one_lies x a))
+
+seen_by : (b s c : Bool) (o : Option Mapping) (k : Kind) (m : Mapping) → s ≡ same_kind k (kind_of m)
+    → (b ≡ true → c ≡ false) → is_kind k o ≡ c
+    → is_kind k (cond b (Some m) o) ≡ ((b && s) || c)
+seen_by true s c o k m is none rest = sym is ∙ or_false s c (none refl)
+  where
+    or_false : (s c : Bool) → c ≡ false → s ≡ (s || c)
+    or_false true c e = refl
+    or_false false c e = sym e
+seen_by false s c o k m is none rest = rest
+
+covers-entries : (k : Kind) (low a : ℕ) (es : List (ℕ × Mapping)) → AreRising low es
+    → is_kind k (find nat_cmp a es) ≡ covers k (runs_of es) a
+covers-entries k low a [] h = refl
+covers-entries k low a (e ∷ es) h =
+    seen_by (eq_by_cmp nat_cmp a e.0) (same_kind k (kind_of e.1)) (covers k (runs_of es) a)
+    (find nat_cmp a es) k e.1 refl
+    (λ same. let here = is_number a e.0 (sym (unsigned_tied a e.0) ∙ same) in
+    covers-below k (any_from (e.0 + 1)) (runs_of es) a (λ i j. omega arith)
+    (rise-runs (e.0 + 1) es h.1) (omega (arith, here)))
+    (covers-entries k (e.0 + 1) a es h.1)
+    ∙ ap (λ b. (b && same_kind k (kind_of e.1)) || covers k (runs_of es) a) (unsigned_tied a e.0)
+    ∙ sym (covers-address k e.0 a (kind_of e.1) (runs_of es))
+
+covers-runs : (m : Contents) (k : Kind) (a : ℕ) → has_kind m k a ≡ covers k (runs m) a
+unfolding runs
+covers-runs m k a = ap (is_kind k) (get-entries m a) ∙ covers-entries k 0 a (entries m) (all-rising m)
+
+-- ---- Each of them is maximal
+
+own_kind : (k : Kind) → same_kind k k ≡ true
+own_kind DataRun = refl
+own_kind AnchoredRun = refl
+
+own_behind : (run : Extent) (k : Kind) → run.2 ≡ k → behind_it run k ≡ run.0 + run.1 + 1
+own_behind run k e = rw e (ap (λ b. cond b (run.0 + run.1 + 1) (run.0 + run.1)) (own_kind k))
+
+module _ (s n : ℕ) (k : Kind) where
+  covers-inside : (rs : List Extent) (i : ℕ) → i < length rs
+      → slice_index_or rs i (s, n, k) ≡ (s, n, k)
+      → (a : ℕ) → s ≤ a → a < s + n → covers k rs a ≡ true
+  covers-inside [] i lt is a ge high = absurd (omega arith)
   covers-inside (r ∷ rs) zero lt is a ge high =
-      let start = ap (λ (x : ℕ × ℕ). x.0) is in
-      let count = ap (λ (x : ℕ × ℕ). x.1) is in
-      ap (λ b. b || covers rs a) (inside r.0 r.1 a (omega (arith, start)) (omega (arith, start, count)))
-  covers-inside (r ∷ rs) (suc k) lt is a ge high =
-      or_true (has a r) (covers rs a) (covers-inside rs k (omega arith) is a ge high)
+      let start = ap (λ (x : Extent). x.0) is in
+      let count = ap (λ (x : Extent). x.1) is in
+      let kind = ap (λ (x : Extent). x.2) is in
+      ap (λ b. b || covers k rs a) (and_both (lies_in r.0 r.1 a) (same_kind k r.2)
+      (inside r.0 r.1 a (omega (arith, start)) (omega (arith, start, count)))
+      (ap (same_kind k) kind ∙ own_kind k))
+  covers-inside (r ∷ rs) (suc i) lt is a ge high =
+      or_true (has k a r) (covers k rs a) (covers-inside rs i (omega arith) is a ge high)
 
-  found-low : (low : ℕ) (rs : List (ℕ × ℕ)) (k : ℕ) → Rise low rs → k < length rs
-      → slice_index_or rs k (s, n) ≡ (s, n) → (low ≤ s) × (0 < n)
-  found-low low [] k h lt is = absurd (omega arith)
-  found-low low (r ∷ rs) zero h lt is = (
-    omega (arith, h.0, ap (λ (x : ℕ × ℕ). x.0) is),
-    omega (arith, h.1, ap (λ (x : ℕ × ℕ). x.1) is),
+  found-low : (low : Bound) (rs : List Extent) (i : ℕ) → IsNarrow low → Rise low rs → i < length rs
+      → slice_index_or rs i (s, n, k) ≡ (s, n, k) → (low k ≤ s) × (0 < n)
+  found-low low [] i narrow h lt is = absurd (omega arith)
+  found-low low (r ∷ rs) zero narrow h lt is = (
+    omega (arith, h.0, ap (λ (x : Extent). x.0) is, ap (λ (x : Extent). low x.2) is),
+    omega (arith, h.1, ap (λ (x : Extent). x.1) is),
   )
-  found-low low (r ∷ rs) (suc k) h lt is =
-      let more = found-low (r.0 + r.1 + 1) rs k h.2 (omega arith) is in
-      (omega (arith, more.0, h.0), more.1)
+  found-low low (r ∷ rs) (suc i) narrow h lt is =
+      let more = found-low (behind_it r) rs i (narrow_behind r) h.2 (omega arith) is in
+      (omega (arith, more.0, h.0, h.1, narrow k r.2, behind_low r k), more.1)
 
-  covers-behind : (low : ℕ) (rs : List (ℕ × ℕ)) (k : ℕ) → Rise low rs → k < length rs
-      → slice_index_or rs k (s, n) ≡ (s, n) → covers rs (s + n) ≡ false
-  covers-behind low [] k h lt is = absurd (omega arith)
-  covers-behind low (r ∷ rs) zero h lt is =
-      let start = ap (λ (x : ℕ × ℕ). x.0) is in
-      let count = ap (λ (x : ℕ × ℕ). x.1) is in
-      or_right (has (s + n) r) (covers rs (s + n))
-      (behind r.0 r.1 (s + n) (omega (arith, start, count)))
-      ∙ covers-below (r.0 + r.1 + 1) rs (s + n) h.2 (omega (arith, start, count))
-  covers-behind low (r ∷ rs) (suc k) h lt is =
-      let more = found-low (r.0 + r.1 + 1) rs k h.2 (omega arith) is in
-      or_right (has (s + n) r) (covers rs (s + n))
-      (behind r.0 r.1 (s + n) (omega (arith, more.0)))
-      ∙ covers-behind (r.0 + r.1 + 1) rs k h.2 (omega arith) is
+  covers-behind : (low : Bound) (rs : List Extent) (i : ℕ) → IsNarrow low → Rise low rs
+      → i < length rs → slice_index_or rs i (s, n, k) ≡ (s, n, k) → covers k rs (s + n) ≡ false
+  covers-behind low [] i narrow h lt is = absurd (omega arith)
+  covers-behind low (r ∷ rs) zero narrow h lt is =
+      let start = ap (λ (x : Extent). x.0) is in
+      let count = ap (λ (x : Extent). x.1) is in
+      let own = own_behind r k (ap (λ (x : Extent). x.2) is) in
+      or_right (has k (s + n) r) (covers k rs (s + n))
+      (and_none (lies_in r.0 r.1 (s + n)) (same_kind k r.2)
+      (behind r.0 r.1 (s + n) (omega (arith, start, count))))
+      ∙ covers-below k (behind_it r) rs (s + n) (narrow_behind r) h.2
+      (omega (arith, start, count, own))
+  covers-behind low (r ∷ rs) (suc i) narrow h lt is =
+      let more = found-low (behind_it r) rs i (narrow_behind r) h.2 (omega arith) is in
+      or_right (has k (s + n) r) (covers k rs (s + n))
+      (and_none (lies_in r.0 r.1 (s + n)) (same_kind k r.2)
+      (behind r.0 r.1 (s + n) (omega (arith, more.0, behind_low r k))))
+      ∙ covers-behind (behind_it r) rs i (narrow_behind r) h.2 (omega arith) is
 
-  covers-before : (low : ℕ) (rs : List (ℕ × ℕ)) (k : ℕ) → Rise low rs → k < length rs
-      → slice_index_or rs k (s, n) ≡ (s, n) → 0 < s → covers rs (s - 1) ≡ false
-  covers-before low [] k h lt is pos = absurd (omega arith)
-  covers-before low (r ∷ rs) zero h lt is pos =
-      let start = ap (λ (x : ℕ × ℕ). x.0) is in
-      or_right (has (s - 1) r) (covers rs (s - 1))
-      (before r.0 r.1 (s - 1) (omega (arith, start, pos)))
-      ∙ covers-below (r.0 + r.1 + 1) rs (s - 1) h.2 (omega (arith, start, pos))
-  covers-before low (r ∷ rs) (suc k) h lt is pos =
-      let more = found-low (r.0 + r.1 + 1) rs k h.2 (omega arith) is in
-      or_right (has (s - 1) r) (covers rs (s - 1))
-      (behind r.0 r.1 (s - 1) (omega (arith, more.0)))
-      ∙ covers-before (r.0 + r.1 + 1) rs k h.2 (omega arith) is pos
+  covers-before : (low : Bound) (rs : List Extent) (i : ℕ) → IsNarrow low → Rise low rs
+      → i < length rs → slice_index_or rs i (s, n, k) ≡ (s, n, k) → 0 < s
+      → covers k rs (s - 1) ≡ false
+  covers-before low [] i narrow h lt is pos = absurd (omega arith)
+  covers-before low (r ∷ rs) zero narrow h lt is pos =
+      let start = ap (λ (x : Extent). x.0) is in
+      let count = ap (λ (x : Extent). x.1) is in
+      or_right (has k (s - 1) r) (covers k rs (s - 1))
+      (and_none (lies_in r.0 r.1 (s - 1)) (same_kind k r.2)
+      (before r.0 r.1 (s - 1) (omega (arith, start, pos))))
+      ∙ covers-below k (behind_it r) rs (s - 1) (narrow_behind r) h.2
+      (omega (arith, start, pos, behind_low r k))
+  covers-before low (r ∷ rs) (suc i) narrow h lt is pos =
+      let more = found-low (behind_it r) rs i (narrow_behind r) h.2 (omega arith) is in
+      or_right (has k (s - 1) r) (covers k rs (s - 1)) (at_end (same_kind k r.2) refl more.0)
+      ∙ covers-before (behind_it r) rs i (narrow_behind r) h.2 (omega arith) is pos
+    where
+      at_end : (b : Bool) → same_kind k r.2 ≡ b → behind_it r k ≤ s → has k (s - 1) r ≡ false
+      at_end false e le = and_other (lies_in r.0 r.1 (s - 1)) (same_kind k r.2) e
+      at_end true e le = and_none (lies_in r.0 r.1 (s - 1)) (same_kind k r.2)
+          (behind r.0 r.1 (s - 1) (omega (arith, le, own_behind r k (sym (alike k r.2 e)))))
 
   -- ---- And each that is maximal is there
 
-  found : (low : ℕ) (rs : List (ℕ × ℕ)) → Rise low rs → 0 < n
-      → ((a : ℕ) → s ≤ a → a < s + n → covers rs a ≡ true)
-      → (0 < s → covers rs (s - 1) ≡ false) → covers rs (s + n) ≡ false → Contains rs (s, n)
-  found low [] h some all first last = let wrong = all s (omega arith) (omega arith) in cc
-  found low (r ∷ rs) h some all first last = elim (cases_lt s (r.0 + r.1)) [
-    | inl high ↦ elim (cases_lt s r.0) [
-      | inl low' ↦
-          let none = or_right (has s r) (covers rs s) (before r.0 r.1 s low')
-          ∙ covers-below (r.0 + r.1 + 1) rs s h.2 (omega arith) in
+  found : (low : Bound) (rs : List Extent) → IsNarrow low → Rise low rs → 0 < n
+      → ((a : ℕ) → s ≤ a → a < s + n → covers k rs a ≡ true)
+      → (0 < s → covers k rs (s - 1) ≡ false) → covers k rs (s + n) ≡ false
+      → Contains rs (s, n, k)
+  found low [] narrow h some all first last =
+      let wrong = all s (omega arith) (omega arith) in cc
+  found low (r ∷ rs) narrow h some all first last = elim (cases_lt s (r.0 + r.1)) [
+    | inl high ↦
+        let later : covers k rs s ≡ false = covers-below k (behind_it r) rs s (narrow_behind r) h.2
+        (omega (arith, behind_low r k)) in
+        in_run (same_kind k r.2) refl high later
+    | inr past ↦
+        let none : (a : ℕ) → s ≤ a → has k a r ≡ false = λ a ge.
+        and_none (lies_in r.0 r.1 a) (same_kind k r.2) (behind r.0 r.1 a (omega arith)) in
+        let rest : Contains rs (s, n, k) = found (behind_it r) rs (narrow_behind r) h.2 some
+        (λ a ge lt. sym (or_right (has k a r) (covers k rs a) (none a ge)) ∙ all a ge lt)
+        (λ pos. (or_none (has k (s - 1) r) (covers k rs (s - 1)) (first pos)).1)
+        (or_none (has k (s + n) r) (covers k rs (s + n)) last).1 in
+        (suc rest.0, omega (arith, rest.1), rest.2)
+  ]
+    where
+      same : r.0 ≡ s → r.1 ≡ n → r.2 ≡ k → r ≡ (s, n, k)
+      same a b c = ap₂ (λ (x : ℕ) (y : ℕ). (x, y, r.2)) a b ∙ ap (λ (x : Kind). (s, n, x)) c
+
+      in_run : (b : Bool) → same_kind k r.2 ≡ b → s < r.0 + r.1 → covers k rs s ≡ false
+          → Contains (r ∷ rs) (s, n, k)
+      in_run false e high later =
+          let none = or_right (has k s r) (covers k rs s)
+          (and_other (lies_in r.0 r.1 s) (same_kind k r.2) e) ∙ later in
           let wrong : true ≡ false = sym (all s (omega arith) (omega arith)) ∙ none in cc
-      | inr ge ↦ elim (cases_lt r.0 s) [
-        | inl past ↦
-            let mapped : covers (r ∷ rs) (s - 1) ≡ true = ap (λ b. b || covers rs (s - 1))
-            (inside r.0 r.1 (s - 1) (omega arith) (omega arith)) in
-            let wrong : true ≡ false = sym mapped ∙ first (omega arith) in cc
-        | inr le ↦ elim (cases_lt n r.1) [
-          | inl less ↦
-              let mapped : covers (r ∷ rs) (s + n) ≡ true = ap (λ b. b || covers rs (s + n))
-              (inside r.0 r.1 (s + n) (omega arith) (omega arith)) in
-              let wrong : true ≡ false = sym mapped ∙ last in cc
-          | inr enough ↦ elim (cases_lt r.1 n) [
-            | inl more ↦
-                let end = r.0 + r.1 in
-                let none = or_right (has end r) (covers rs end) (behind r.0 r.1 end (omega arith))
-                ∙ covers-below (r.0 + r.1 + 1) rs end h.2 (omega arith) in
-                let wrong : true ≡ false = sym (all end (omega arith) (omega arith)) ∙ none in cc
-            | inr fits ↦
-                let start : r.0 ≡ s = omega arith in
-                let count : r.1 ≡ n = omega arith in
-                (0, omega arith, ap₂ (λ x y. (x, y)) start count)
+      in_run true e high later = elim (cases_lt s r.0) [
+        | inl low' ↦
+            let none = or_right (has k s r) (covers k rs s)
+            (and_none (lies_in r.0 r.1 s) (same_kind k r.2) (before r.0 r.1 s low')) ∙ later in
+            let wrong : true ≡ false = sym (all s (omega arith) (omega arith)) ∙ none in cc
+        | inr ge ↦ elim (cases_lt r.0 s) [
+          | inl past ↦
+              let mapped : covers k (r ∷ rs) (s - 1) ≡ true = ap (λ b. b || covers k rs (s - 1))
+              (and_both (lies_in r.0 r.1 (s - 1)) (same_kind k r.2)
+              (inside r.0 r.1 (s - 1) (omega arith) (omega arith)) e) in
+              let wrong : true ≡ false = sym mapped ∙ first (omega arith) in cc
+          | inr le ↦ elim (cases_lt n r.1) [
+            | inl less ↦
+                let mapped : covers k (r ∷ rs) (s + n) ≡ true = ap (λ b. b || covers k rs (s + n))
+                (and_both (lies_in r.0 r.1 (s + n)) (same_kind k r.2)
+                (inside r.0 r.1 (s + n) (omega arith) (omega arith)) e) in
+                let wrong : true ≡ false = sym mapped ∙ last in cc
+            | inr enough ↦ elim (cases_lt r.1 n) [
+              | inl more ↦
+                  let end = r.0 + r.1 in
+                  let own = own_behind r k (sym (alike k r.2 e)) in
+                  let none = or_right (has k end r) (covers k rs end)
+                  (and_none (lies_in r.0 r.1 end) (same_kind k r.2)
+                  (behind r.0 r.1 end (omega arith)))
+                  ∙ covers-below k (behind_it r) rs end (narrow_behind r) h.2 (omega (arith, own)) in
+                  let wrong : true ≡ false = sym (all end (omega arith) (omega arith)) ∙ none in cc
+              | inr fits ↦
+                  let start : r.0 ≡ s = omega arith in
+                  let count : r.1 ≡ n = omega arith in
+                  (0, omega arith, same start count (sym (alike k r.2 e)))
+            ]
           ]
         ]
       ]
-    ]
-    | inr behind' ↦
-        let later : Contains rs (s, n) = found (r.0 + r.1 + 1) rs h.2 some
-        (λ a ge lt. sym (or_right (has a r) (covers rs a) (behind r.0 r.1 a (omega arith)))
-        ∙ all a ge lt)
-        (λ pos. (or_none (has (s - 1) r) (covers rs (s - 1)) (first pos)).1)
-        (or_none (has (s + n) r) (covers rs (s + n)) last).1 in
-        (suc later.0, omega (arith, later.1), later.2)
-  ]
+
+narrow : IsNarrow (any_from 0)
+narrow i j = omega arith
 
 pub maximal-runs : HasExactlyTheMaximalRuns
-maximal-runs m s n = (
+maximal-runs m s n k = (
   λ there. record {
-    not_empty = (found-low s n 0 (runs m) there.0 (all-rise m) there.1 there.2).1;
-    mapped = λ a ge lt. covers-runs m a
-        ∙ covers-inside s n (runs m) there.0 there.1 there.2 a ge lt;
-    before = λ pos. covers-runs m (s - 1)
-        ∙ covers-before s n 0 (runs m) there.0 (all-rise m) there.1 there.2 pos;
-    behind = covers-runs m (s + n)
-        ∙ covers-behind s n 0 (runs m) there.0 (all-rise m) there.1 there.2;
+    not_empty = (found-low s n k (any_from 0) (runs m) there.0 narrow (all-rise m) there.1 there.2).1;
+    alike = λ a ge lt. covers-runs m k a
+        ∙ covers-inside s n k (runs m) there.0 there.1 there.2 a ge lt;
+    before = λ pos. covers-runs m k (s - 1)
+        ∙ covers-before s n k (any_from 0) (runs m) there.0 narrow (all-rise m) there.1 there.2 pos;
+    behind = covers-runs m k (s + n)
+        ∙ covers-behind s n k (any_from 0) (runs m) there.0 narrow (all-rise m) there.1 there.2;
   },
-  λ run. found s n 0 (runs m) (all-rise m) run.not_empty
-      (λ a ge lt. sym (covers-runs m a) ∙ run.mapped a ge lt)
-      (λ pos. sym (covers-runs m (s - 1)) ∙ run.before pos)
-      (sym (covers-runs m (s + n)) ∙ run.behind),
+  λ run. found s n k (any_from 0) (runs m) narrow (all-rise m) run.not_empty
+      (λ a ge lt. sym (covers-runs m k a) ∙ run.alike a ge lt)
+      (λ pos. sym (covers-runs m k (s - 1)) ∙ run.before pos)
+      (sym (covers-runs m k (s + n)) ∙ run.behind),
 )

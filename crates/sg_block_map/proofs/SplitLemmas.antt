@@ -50,8 +50,8 @@ pub split-parts : (next : List ℕ) (run : Run) (n : ℕ) → n ≤ run.count
     singles_of next run
 split-parts next run n le =
     let e : n + (run.count - n) ≡ run.count = omega arith in
-    sym (ap (singles next run.start run.first) (sym e)
-    ∙ singles-append next run.start run.first n (run.count - n))
+    sym (ap (λ k. singles next run.start run.first k run.kind) (sym e)
+    ∙ singles-append next run.start run.first n (run.count - n) run.kind)
 
 pub rest-chain : (next : List ℕ) (run : Run) (n : ℕ) → n < run.count
     → IsChain next run.first run.last run.count → let rest = rest_of next run n in
@@ -70,7 +70,7 @@ is_split-none next run lba le is = record {
   parts = expanded-one next run;
   chained = (is, tt);
   before = tt;
-  after = (omega arith, le, refl, omega arith);
+  after = (omega arith, le, refl, omega arith, refl);
 }
 
 pub is_split-all : (next : List ℕ) (run : Run) (lba : ℕ) → run.start < lba → end_of run ≤ lba
@@ -78,7 +78,7 @@ pub is_split-all : (next : List ℕ) (run : Run) (lba : ℕ) → run.start < lba
 is_split-all next run lba lt le is = record {
   parts = expanded-one next run;
   chained = (is, tt);
-  before = (refl, omega arith, lt);
+  before = (refl, omega arith, lt, refl);
   after = tt;
 }
 
@@ -96,13 +96,13 @@ is_split-both next run lba l r is =
         record { not_empty = omega arith; ends = refl },
         (rest-chain next run n (omega arith) is, tt),
       );
-      before = (refl, omega arith, omega arith);
-      after = (omega arith, omega arith, omega arith, omega arith);
+      before = (refl, omega arith, omega arith, refl);
+      after = (omega arith, omega arith, omega arith, omega arith, refl);
     }
 
 pub length-one : (next : List ℕ) (run : Run) → length (expanded next (run ∷ [])) ≡ run.count
 length-one next run = ap length (expanded-one next run)
-    ∙ length-singles next run.start run.first run.count
+    ∙ length-singles next run.start run.first run.count run.kind
 
 -- links that are followed after others
 pub followed-more : (slots : Slots) (n m : ℕ)

@@ -1,38 +1,69 @@
 -- The descriptors of runs, and the visits that they take.
-use Rattle.std.proofs.Common.{◌≡◌, ℕ, ◌+◌, ◌-◌, ◌<◌, ◌≤◌, zero, suc, List, [], ◌∷◌, length}
+use Rattle.std.proofs.Common.{◌≡◌, ◌≢◌, ℕ, ◌+◌, ◌-◌, ◌<◌, ◌≤◌, zero, suc, List, [], ◌∷◌, length}
 use Rattle.std.proofs.Common.{arith, refl, sym, ap, ◌∙◌, ◌⊎◌, inl}
 use Rattle.std.proofs.Common.{inr, cond, Bool, true, false, Option, Some, None}
 use Rattle.std.proofs.lemmas.Bool.{cases_lt}
 use Rattle.std.proofs.lemmas.Bool.Decides.{nat_tests}
 use Rattle.std.proofs.lemmas.List.Sums.{sum_by-cons}
-use Rattle.std.specs.FinMap.{get, contains_key}
+use Rattle.std.specs.FinMap.{get}
 use Rattle.std.specs.Prelude.{slice_index_or, unwrap_or, min}
 use Rattle.std.specs.Prelude.{nat_le}
 use Rattle.sg_store.specs.Disk.{IsWellFormed}
-use Rattle.sg_store.specs.LbaStatus.{descriptor_at}
+use Rattle.sg_store.specs.LbaStatus.{descriptor_at, status_at, status_in}
 use Rattle.sg_table.specs.Records.{start_of, IsSorted, IsLowerBound, IsNext, ahead, end_of_gap}
-use Rattle.sg_pool.specs.MappedRecords.{contents_of}
+use Rattle.sg_pool.specs.MappedRecords.{mapping_in, contents_of, status_of_kind}
 use Rattle.sg_pool.specs.Slots.{Slots}
 use Rattle.sg_table.specs.Table.{Table, visited, probed}
 use Rattle.sg_table.specs.declared.cursor.Cursor.{Cursor}
-use Rattle.sg_store.specs.declared.lba_status.ProvisioningStatus.TheVariants.{Mapped, Deallocated}
+use Rattle.sg_store.specs.declared.lba_status.ProvisioningStatus.TheVariants.{Deallocated}
 use Rattle.sg_store.specs.declared.lba_status.StatusDescriptor.{StatusDescriptor}
 use Rattle.sg_store.specs.declared.lba_status.TheConstants.{MAX_ADDRESSES}
+use Rattle.sg_table.specs.declared.run.Kind.{Kind}
+use Rattle.sg_table.specs.declared.run.Kind.TheVariants.{Data as DataRun, Anchored as AnchoredRun}
 use Rattle.sg_table.specs.declared.run.Run.{Run}
 use Rattle.sg_store.specs.declared.store.TheConstants.{MAX_CAPACITY, MAX_POOL}
 use Rattle.sg_block_map.specs.Gathering.{end_at}
-use Rattle.sg_block_map.specs.Runs.{end_of, expanded, AreMaximal, AreChained}
+use Rattle.sg_block_map.specs.Runs.{end_of, expanded, any_from, behind, Bound, AreApart, AreChained}
+use Rattle.sg_block_map.specs.Runs.{AreMaximalIn}
 use Rattle.sg_block_map.specs.Runs.{AreRuns, chained_contents, blocks_of}
 use Rattle.sg_block_map.specs.Status.{IsRunTable, IsOver, run_over, AreMet, AreFrom}
 use Rattle.sg_store.proofs.DescriptorLemmas.{described}
 use Rattle.sg_store.proofs.WellFormedLemmas.{below-some}
 use Rattle.sg_table.proofs.RecordLemmas.{start_of-read}
 use Rattle.sg_table.proofs.TableLemmas.{visited-more, visited-less}
-use Rattle.sg_block_map.proofs.BetweenLemmas.{maximal-sorted}
+use Rattle.sg_block_map.proofs.OrderLemmas.{maximal-sorted, apart-maximal}
+use Rattle.sg_block_map.proofs.OrderLemmas.{behind-high}
 use Rattle.sg_block_map.proofs.CutRunsLemmas.{runs-fit, blocks-fit}
 use Rattle.sg_block_map.proofs.GatheringLemmas.{end_at-read}
-use Rattle.sg_block_map.proofs.AddressLemmas.{contains-inside, contains-outside, maximal-order}
-use Rattle.sg_block_map.proofs.AddressLemmas.{ends-below}
+use Rattle.sg_block_map.proofs.AddressLemmas.{kind_at, kinds-differ, get-inside, get-outside}
+use Rattle.sg_block_map.proofs.AddressLemmas.{contains-inside, apart-order, ends-within}
+
+-- the runs of a disk have no address in common
+apart : {capacity : ℕ} {rs : List Run} → IsRunTable capacity rs → AreApart 0 capacity rs
+apart {capacity} {rs} t = apart-maximal rs 0 capacity (omega arith) t.maximal
+
+-- the status that is seen
+status_seen : (bs : List (List ℕ)) (slot : ℕ) (kind : Kind)
+    → status_in (Some (mapping_in bs slot kind)) ≡ status_of_kind kind
+status_seen bs slot DataRun = refl
+status_seen bs slot AnchoredRun = refl
+
+status_kind : (bs : List (List ℕ)) (slot : ℕ) (j k : Kind)
+    → status_in (Some (mapping_in bs slot j)) ≡ status_of_kind k → j ≡ k
+status_kind bs slot DataRun DataRun e = refl
+status_kind bs slot DataRun AnchoredRun e = let wrong = e in cc
+status_kind bs slot AnchoredRun DataRun e = let wrong = e in cc
+status_kind bs slot AnchoredRun AnchoredRun e = refl
+
+none_status : (kind : Kind) → Deallocated ≡ status_of_kind kind → ⊥
+none_status DataRun e = let wrong = e in cc
+none_status AnchoredRun e = let wrong = e in cc
+
+kind_at-read : (rs : List Run) (i : ℕ) (r : Run) → i < length rs → slice_index_or rs i r ≡ r
+    → kind_at rs i ≡ r.kind
+kind_at-read [] i r lt e = absurd (omega arith)
+kind_at-read (x ∷ rs) zero r lt e = ap (λ (y : Run). y.kind) e
+kind_at-read (x ∷ rs) (suc i) r lt e = kind_at-read rs i r (omega arith) e
 
 -- the run of an address, from the cursor
 picked : (b : Bool) (r run : Run) → cond b (Some r) None ≡ Some run → (b ≡ true) × (r ≡ run)
@@ -87,42 +118,82 @@ module _ (rs : List Run) (capacity lba : ℕ) (cursor : Cursor) (t : IsRunTable 
   over-within = omega (
     arith,
     over-end,
-    ends-below rs 0
-        (capacity + 1) cursor.index t.maximal there.0,
+    ends-within rs 0 capacity cursor.index (apart t) there.0,
   )
 
   pub over-short : end_of run ≤ run.start + 65536
   over-short = omega (arith, over-end, over-start, t.short cursor.index there.0)
 
-  outside : (i : ℕ) → i < length rs → (end_of run < start_of rs i) ⊎ (end_at rs i ≤ end_of run)
-  outside i lt = elim (cases_lt cursor.index i) [
-    | inl behind ↦ inl (omega (
-      arith,
-      over-end,
-      maximal-order rs 0 (capacity + 1) cursor.index i t.maximal behind lt,
-    ))
-    | inr up ↦ elim (cases_lt i cursor.index) [
-      | inl before ↦ inr (omega (arith, over-high, at.before i before))
-      | inr same ↦ let e : i ≡ cursor.index = omega arith in
-          inr (omega (arith, over-end, ap (end_at rs) e))
+  over_kind : kind_at rs cursor.index ≡ run.kind
+  over_kind = kind_at-read rs cursor.index run there.0 there.1
+
+  -- the next run, if there is one right behind, is of the other kind
+  over_stop : (next : List ℕ) (bs : List (List ℕ))
+      → status_at (contents_of (expanded next rs) bs) (end_of run) ≢ status_of_kind run.kind
+  over_stop next bs same = elim (cases_lt (suc cursor.index) (length rs)) [
+    | inl lt ↦ elim (cases_lt (end_of run) (start_of rs (suc cursor.index))) [
+      | inl gap ↦ nothing_there (λ i low. elim (cases_lt cursor.index i) [
+        | inl behind ↦ inl (later i behind low gap)
+        | inr up ↦ inr (ended i low up)
+      ])
+      | inr touches ↦
+          let order = apart-order rs 0 capacity cursor.index (suc cursor.index) (apart t)
+          (omega arith) lt in
+          let start : start_of rs (suc cursor.index) ≡ end_of run =
+          omega (arith, over-end, order, touches) in
+          let filled = t.filled (suc cursor.index) lt in
+          let found = get-inside next rs (mapping_in bs) 0 capacity (suc cursor.index) (end_of run)
+          (apart t) lt (omega (arith, start)) (omega (arith, start, filled)) in
+          kinds-differ rs (any_from 0) (any_from (capacity + 1)) cursor.index t.maximal lt
+          (omega (arith, start, over-end))
+          (status_kind bs found.0 (kind_at rs (suc cursor.index)) (kind_at rs cursor.index)
+          (sym (ap status_in found.1) ∙ same ∙ ap status_of_kind (sym over_kind)))
     ]
+    | inr last ↦ nothing_there (λ i low. inr (ended i low (omega (arith, last, low))))
   ]
+    where
+      ended : (i : ℕ) → i < length rs → i ≤ cursor.index → end_at rs i ≤ end_of run
+      ended i low le = elim (cases_lt i cursor.index) [
+        | inl before ↦ omega (arith, over-high, at.before i before)
+        | inr same ↦ let e : i ≡ cursor.index = omega arith in
+            omega (arith, over-end, ap (end_at rs) e)
+      ]
+
+      later : (i : ℕ) → cursor.index < i → i < length rs
+          → end_of run < start_of rs (suc cursor.index) → end_of run < start_of rs i
+      later i behind low gap = elim (cases_lt (suc cursor.index) i) [
+        | inl past ↦
+            let order = apart-order rs 0 capacity (suc cursor.index) i (apart t) past low in
+            let filled = t.filled (suc cursor.index) (omega arith) in
+            omega (arith, order, filled, gap)
+        | inr here ↦ let e : i ≡ suc cursor.index = omega arith in
+            omega (arith, gap, ap (start_of rs) e)
+      ]
+
+      nothing_there : ((i : ℕ) → i < length rs
+          → (end_of run < start_of rs i) ⊎ (end_at rs i ≤ end_of run)) → ⊥
+      nothing_there h = none_status run.kind
+          (sym (ap status_in (get-outside next rs (mapping_in bs) (end_of run) h)) ∙ same)
 
   module _ (k : ℕ) (long : lba + k ≡ end_of run) where
     pub over-described : (next : List ℕ) (bs : List (List ℕ))
-        → ◌≡◌ {A = StatusDescriptor} (record { lba = lba; count = k; status = Mapped })
+        → ◌≡◌ {A = StatusDescriptor}
+        (record { lba = lba; count = k; status = status_of_kind run.kind })
         (descriptor_at (contents_of (expanded next rs) bs) capacity lba)
     over-described next bs =
         let first : lba + 0 ≡ lba = omega arith in
-        let all : (i : ℕ) → i < k → contains_key (contents_of (expanded next rs) bs) (lba + i) ≡
-        true
-        = λ i lt. contains-inside next rs bs cursor.index (lba + i) there.0
-        (omega (arith, over-start, over-low)) (omega (arith, over-end)) in
-        described (contents_of (expanded next rs) bs) capacity lba k true
+        let all : (i : ℕ) → i < k
+        → status_at (contents_of (expanded next rs) bs) (lba + i) ≡ status_of_kind run.kind
+        = λ i lt.
+        let found = get-inside next rs (mapping_in bs) 0 capacity cursor.index (lba + i) (apart t)
+        there.0 (omega (arith, over-start, over-low)) (omega (arith, over-end)) in
+        ap status_in found.1 ∙ status_seen bs found.0 (kind_at rs cursor.index)
+        ∙ ap status_of_kind over_kind in
+        described (contents_of (expanded next rs) bs) capacity lba k (status_of_kind run.kind)
         (rw first at (all 0 (omega (arith, over-high))))
         (omega (arith, over-within, over-short, over-low))
         all
-        (λ _. rw long (contains-outside next rs bs (end_of run) outside))
+        (λ _. rw long (over_stop next bs))
 
     pub over-met : AreMet rs cursor.index (cursor.index + 1) lba (lba + k)
     over-met i ge lt = let e : i ≡ cursor.index = omega arith in
@@ -132,7 +203,7 @@ module _ (rs : List Run) (capacity lba : ℕ) (cursor : Cursor) (t : IsRunTable 
     over-rest i ge lt = omega (
       arith,
       over-end,
-      maximal-order rs 0 (capacity + 1) cursor.index i t.maximal (omega arith) lt,
+      apart-order rs 0 capacity cursor.index i (apart t) (omega arith) lt,
     )
 
     pub over-on : (end : Cursor) → end.index ≡ cursor.index + 1
@@ -165,7 +236,7 @@ gap-after rs capacity index (Some r) t n i ge lt =
         arith,
         start,
         t.filled index n.0,
-        maximal-order rs 0 (capacity + 1) index i t.maximal behind lt,
+        apart-order rs 0 capacity index i (apart t) behind lt,
       )
       | inr up ↦ let e : i ≡ index = omega arith in omega (arith, start, ap (start_of rs) e)
     ]
@@ -175,19 +246,22 @@ gap-within : (rs : List Run) (capacity index : ℕ) (next : Option Run) → IsRu
 gap-within rs capacity index None t n = omega arith
 gap-within rs capacity index (Some r) t n =
     let start = start_of-read rs index r n.0 (sym n.1) in
-    omega (arith, start, t.filled index n.0, ends-below rs 0 (capacity + 1) index t.maximal n.0)
+    omega (arith, start, t.filled index n.0, ends-within rs 0 capacity index (apart t) n.0)
 
 gap-stop : (next : List ℕ) (rs : List Run) (bs : List (List ℕ)) (capacity index lba k : ℕ)
     (o : Option Run) → IsRunTable capacity rs → IsNext rs index o → lba < end_of_gap o capacity
     → k ≡ min MAX_ADDRESSES (end_of_gap o capacity - lba)
-    → k < min MAX_ADDRESSES (capacity - lba) → contains_key (contents_of (expanded next rs) bs)
-    (lba + k) ≡ true
+    → k < min MAX_ADDRESSES (capacity - lba)
+    → status_at (contents_of (expanded next rs) bs) (lba + k) ≢ Deallocated
 gap-stop next rs bs capacity index lba k None t n low is lt = absurd (omega arith)
 gap-stop next rs bs capacity index lba k (Some r) t n low is lt =
     let start = start_of-read rs index r n.0 (sym n.1) in
     let here : lba + k ≡ start_of rs index = omega arith in
-    rw here (contains-inside next rs bs index (start_of rs index) n.0 (omega arith)
-    (t.filled index n.0))
+    let found = get-inside next rs (mapping_in bs) 0 capacity index (start_of rs index) (apart t)
+    n.0 (omega arith) (t.filled index n.0) in
+    λ same. none_status (kind_at rs index) (sym same
+    ∙ ap (status_at (contents_of (expanded next rs) bs)) here
+    ∙ ap status_in found.1 ∙ status_seen bs found.0 (kind_at rs index))
 
 module _ (rs : List Run) (capacity lba k : ℕ) (cursor : Cursor) (t : IsRunTable capacity rs)
     (at : IsOver rs cursor lba) (none : run_over cursor.next lba ≡ None)
@@ -211,11 +285,11 @@ module _ (rs : List Run) (capacity lba k : ℕ) (cursor : Cursor) (t : IsRunTabl
         (descriptor_at (contents_of (expanded next rs) bs) capacity lba)
     gap-described next bs =
         let high = gap-within rs capacity cursor.index cursor.next t at.next in
-        described (contents_of (expanded next rs) bs) capacity lba k false
-        (contains-outside next rs bs lba (nowhere lba (omega arith) gap-low))
+        described (contents_of (expanded next rs) bs) capacity lba k Deallocated
+        (ap status_in (get-outside next rs (mapping_in bs) lba (nowhere lba (omega arith) gap-low)))
         (omega (arith, high))
-        (λ i lt. contains-outside next rs bs (lba + i)
-        (nowhere (lba + i) (omega arith) (omega (arith, is, lt, gap-low))))
+        (λ i lt. ap status_in (get-outside next rs (mapping_in bs) (lba + i)
+        (nowhere (lba + i) (omega arith) (omega (arith, is, lt, gap-low)))))
         (gap-stop next rs bs capacity cursor.index lba k cursor.next t at.next gap-low is)
 
     pub gap-rest : AreFrom rs cursor.index (lba + k)
@@ -244,8 +318,8 @@ cursor-before rs capacity index lba run t p some is lt =
       before = λ i low. omega (
         arith,
         start,
-        maximal-order rs 0 (capacity + 1) i
-            (index - 1) t.maximal low (omega arith),
+        apart-order rs 0 capacity i
+            (index - 1) (apart t) low (omega arith),
       );
       after = λ i ge low. elim (cases_lt i index) [
         | inl here ↦ let e : i ≡ index - 1 = omega arith in omega (arith, lt, end, ap (end_at rs) e)
@@ -267,7 +341,7 @@ cursor-at rs capacity index lba cursor t p before is next = record {
         omega (
           arith,
           start,
-          maximal-order rs 0 (capacity + 1) i (index - 1) t.maximal (omega arith)
+          apart-order rs 0 capacity i (index - 1) (apart t) (omega arith)
               (omega arith),
         )
     | inr last ↦ let e : i ≡ index - 1 = omega (arith, is) in
@@ -314,12 +388,16 @@ short-by (x ∷ rs) (suc i) lt = omega (
   short-by rs i (omega arith),
 )
 
-maximal-within : (rs : List Run) (a b capacity : ℕ) → AreMaximal a b rs → a ≤ capacity + 1
-    → ((i : ℕ) → i < length rs → end_at rs i ≤ capacity) → AreMaximal a (capacity + 1) rs
-maximal-within [] a b capacity h le ends = le
-maximal-within (x ∷ rs) a b capacity h le ends = (
+maximal-within : (rs : List Run) (low bound : Bound) (capacity : ℕ) → AreMaximalIn low bound rs
+    → ((kind : Kind) → low kind ≤ capacity + 1)
+    → ((i : ℕ) → i < length rs → end_at rs i ≤ capacity)
+    → AreMaximalIn low (any_from (capacity + 1)) rs
+maximal-within [] low bound capacity h le ends = le
+maximal-within (x ∷ rs) low bound capacity h le ends = (
   h.0,
-  maximal-within rs (end_of x + 1) b capacity h.1 (omega (arith, ends 0 (omega arith)))
+  h.1,
+  maximal-within rs (behind x) bound capacity h.2
+      (λ kind. omega (arith, ends 0 (omega arith), behind-high x kind))
       (λ i lt. ends (suc i) (omega arith)),
 )
 
@@ -332,13 +410,15 @@ run_table-of capacity rs slots room h whole small fits =
     λ i lt. chained-filled slots.next rs i h.chained lt in
     let ends : (i : ℕ) → i < length rs → end_at rs i ≤ capacity = λ i lt.
     let some = filled i lt in
-    let mapped = contains-inside slots.next rs slots.blocks i (end_at rs i - 1) lt (omega arith)
+    let mapped = contains-inside slots.next rs (mapping_in slots.blocks) 0 MAX_CAPACITY i
+    (end_at rs i - 1) (apart-maximal rs 0 MAX_CAPACITY (omega arith) h.maximal) lt (omega arith)
     (omega arith) in
     let below = below-some (get m (end_at rs i - 1)) (end_at rs i - 1) capacity
     (λ b e. (whole.each (end_at rs i - 1) b e).0) mapped in
     omega arith in
     record {
-      maximal = maximal-within rs 0 (MAX_CAPACITY + 1) capacity h.maximal (omega arith) ends;
+      maximal = maximal-within rs (any_from 0) (any_from (MAX_CAPACITY + 1)) capacity h.maximal
+          (λ kind. omega arith) ends;
       filled = filled;
       short = λ i lt. omega (arith, short-by rs i lt, blocks-fit rs slots room h);
       table_size = omega (arith, runs-fit rs slots room h);

@@ -7,10 +7,10 @@ use Rattle.std.proofs.lemmas.Nat.{pow-add}
 use Rattle.std.proofs.lemmas.List.{length-map, nil_from_length}
 use Rattle.std.specs.FinMap as map
 use Rattle.std.specs.List.{count_by, range_with_len, sum_by}
-use Rattle.sg_store.specs.Disk.{Contents, Disk, IsWellFormed, mapped_among, replaced}
+use Rattle.sg_store.specs.Disk.{Contents, Disk, Mapping, IsWellFormed, used_among, remapped}
 use Rattle.sg_table.specs.Draft.{Drafted}
 use Rattle.sg_store.specs.Meter.{Meter, Costs}
-use Rattle.sg_pool.specs.MappedRecords.{contents_of}
+use Rattle.sg_pool.specs.MappedRecords.{mapping_in, contents_of}
 use Rattle.sg_table.specs.Records.{IsSorted}
 use Rattle.sg_table.specs.Search.{CostsSearch}
 use Rattle.sg_pool.specs.Slots.{Slots}
@@ -24,12 +24,12 @@ use Rattle.sg_block_map.specs.RunCost.{block_price, CostsRuns, CostsRange}
 use Rattle.sg_block_map.specs.Runs.{extent_of, expanded, AreRuns, chained_contents, blocks_of}
 use Rattle.sg_block_map.specs.State.{disk_at, meter_at}
 use Rattle.sg_block_map.specs.Walking.{AreAhead}
-use Rattle.sg_store.proofs.DiskLemmas.{len-replaced}
+use Rattle.sg_store.proofs.DiskLemmas.{len-remapped}
 use Rattle.sg_table.proofs.HalvingLemmas.{probes-le}
 use Rattle.sg_pool.proofs.ConsistencyLemmas.{consistent-empty}
-use Rattle.sg_pool.proofs.MappedLemmas.{len-contents_of}
+use Rattle.sg_pool.proofs.MappedLemmas.{len-contents_by}
 use Rattle.sg_store.proofs.WellFormedLemmas.{well_formed-empty}
-use Rattle.sg_block_map.proofs.BetweenLemmas.{maximal-sorted}
+use Rattle.sg_block_map.proofs.OrderLemmas.{maximal-sorted}
 use Rattle.sg_block_map.proofs.CutRunsLemmas.{runs-fit, gathered-blocks, length-expanded}
 use Rattle.sg_block_map.proofs.ExpandedLemmas.{expanded-none}
 use Rattle.sg_block_map.proofs.FinishLemmas.{gathered-ahead}
@@ -44,7 +44,7 @@ runs-sorted rs slots room h = maximal-sorted rs 0 (MAX_CAPACITY + 1) h.maximal
 pub no-runs : (slots : Slots) (room : ℕ) → length slots.blocks ≡ room
     → slots.free ≡ range_with_len 0 room → length slots.next ≡ room → AreRuns [] slots room
 no-runs slots room blocks free next = record {
-  maximal = omega arith;
+  maximal = λ kind. omega arith;
   chained = tt;
   consistent = rw (expanded-none slots.next)
       (consistent-empty slots.blocks slots.free room blocks free);
@@ -76,15 +76,15 @@ new-contents slots = ap (λ xs. contents_of xs slots.blocks) (expanded-none slot
 -- how many addresses are mapped
 pub size : (rs : List Run) (slots : Slots) (room : ℕ) → AreRuns rs slots room
     → map.len (chained_contents rs slots) + length slots.free ≡ room
-size rs slots room h = let all = len-contents_of
-    (expanded slots.next rs) slots.blocks h.consistent.sorted in omega (arith, h.consistent.count)
+size rs slots room h = let all = len-contents_by (mapping_in slots.blocks)
+    (expanded slots.next rs) h.consistent.sorted in omega (arith, h.consistent.count)
 
-pub size-replaced : (rs : List Run) (slots : Slots) (room lba count : ℕ) (f : ℕ → List ℕ)
+pub size-replaced : (rs : List Run) (slots : Slots) (room lba count : ℕ) (f : ℕ → Mapping)
     → AreRuns rs slots room
-    → map.len (replaced (chained_contents rs slots) lba count f) + length slots.free + mapped_among
+    → map.len (remapped (chained_contents rs slots) lba count f) + length slots.free + used_among
     (chained_contents rs slots) lba count ≡ room + count
 size-replaced rs slots room lba count f h = let all = size rs slots room h in
-    let more = len-replaced (chained_contents rs slots) lba count f in omega arith
+    let more = len-remapped (chained_contents rs slots) lba count f in omega arith
 
 -- the runs that were gathered
 module _ (rs : List Run) (slots : Slots) (room : ℕ) (gathered : Drafted) (lba count : ℕ)
@@ -102,20 +102,20 @@ module _ (rs : List Run) (slots : Slots) (room : ℕ) (gathered : Drafted) (lba 
     gathered-length = let few = gathered-blocks rs gathered slots room lba (lba + count)
         (MAX_CAPACITY + 1) h g in omega (arith, length-expanded slots.next gathered.records)
 
-    pub gathered-mapped : mapped_among (chained_contents rs slots) lba count ≡
+    pub gathered-mapped : used_among (chained_contents rs slots) lba count ≡
         sum_by (overlap lba (lba + count)) gathered.records
     gathered-mapped = mapped-gathered rs gathered slots lba count (MAX_CAPACITY + 1) g
-        ∙ mapped-overlap slots.next gathered.records slots.blocks 0
-        (MAX_CAPACITY + 1) lba count runs-ahead.maximal
+        ∙ mapped-overlap slots.next gathered.records (mapping_in slots.blocks) 0
+        MAX_CAPACITY lba count runs-ahead.apart
 
     -- the runs that meet the range were gathered
     pub gathered-meet : meet (chained_contents rs slots) lba count ≤ length gathered.records
     gathered-meet = meet-gathered slots.next rs slots.blocks gathered lba count
-        (MAX_CAPACITY + 1) h.maximal h.chained g
+        (MAX_CAPACITY + 1) h.maximal g
 
     pub gathered-near : blocks_of gathered.records ≤ blocks_near (chained_contents rs slots) lba count
     gathered-near = near-gathered slots.next rs slots.blocks gathered lba count
-        (MAX_CAPACITY + 1) h.maximal h.chained g
+        (MAX_CAPACITY + 1) h.maximal g
 
 -- a search of a count that has `digits` binary digits takes at most one probe more
 searched : (probes count digits : ℕ) → CostsSearch count probes → count < 2 ^ digits
@@ -160,7 +160,7 @@ module _ (rs : List Run) (slots after_slots : Slots) (room lba count : ℕ) (bef
       → after.total ≤ before.total + block_price (chained_contents rs slots) lba count
   gathered-price most =
       let meets = starts-meet slots.next rs slots.blocks 0
-      (MAX_CAPACITY + 1) lba count h.maximal h.chained in
+      (MAX_CAPACITY + 1) lba count h.maximal in
       let begun = ap (λ xs. count_by (starts_in lba (lba + count)) xs) same in
       omega arith
 
@@ -169,7 +169,7 @@ module _ (rs : List Run) (slots after_slots : Slots) (room lba count : ℕ) (bef
       (meter_at before slots) (meter_at after after_slots)
   gathered-runs links =
       let len = ap length (runs-extents slots.next rs slots.blocks 0
-      (MAX_CAPACITY + 1) h.maximal h.chained) ∙ length-map rs extent_of
+      (MAX_CAPACITY + 1) h.maximal) ∙ length-map rs extent_of
       ∙ ap length (sym same) in
       record {
         probes = λ digits lt. let p = searched (after.probes - before.probes)

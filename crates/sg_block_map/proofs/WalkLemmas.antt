@@ -1,23 +1,23 @@
 -- Going over the addresses of runs.
 use Rattle.std.proofs.Common.{◌≡◌, ◌≢◌, ℕ, ◌+◌, ◌-◌, ◌<◌, ◌≤◌, List, [], ◌∷◌, ◌++◌, length, drop}
 use Rattle.std.proofs.Common.{arith, refl, sym, ap, ◌∙◌, append_assoc, Option, Some, None, cond}
-use Rattle.std.proofs.Common.{Bool, true, false, eq-eqb, length-append}
+use Rattle.std.proofs.Common.{Bool, true, false, eq-eqb, length-append, replicate}
 use Rattle.std.proofs.lemmas.Bool.Decides.{nat_tests}
-use Rattle.std.proofs.lemmas.List.{append-nil}
 use Rattle.std.specs.Cmp.{nat_cmp_total}
 use Rattle.std.specs.FinMap as map
 use Rattle.std.specs.FinMap.{find, get-from_entries}
 use Rattle.std.specs.Ordering.{nat_cmp}
-use Rattle.std.specs.Prelude.{slice_index, slice_index_or, option_to_list, IfSome, unwrap_or, ◌==◌}
+use Rattle.std.specs.Prelude.{slice_index, option_to_list, IfSome, unwrap_or, ◌==◌}
 use Rattle.sg_pool.specs.Chains.{chain, AreBelow}
-use Rattle.sg_store.specs.Disk.{zero_block, block}
-use Rattle.sg_pool.specs.MappedRecords.{mapped_blocks, contents_of}
+use Rattle.sg_store.specs.Disk.{data_in, zero_block, block}
+use Rattle.sg_pool.specs.MappedRecords.{Seen, entries_by, contents_by}
 use Rattle.sg_table.specs.Records.{run_at, single}
 use Rattle.sg_table.specs.Records.{slots_of}
 use Rattle.sg_table.specs.declared.run.Run.{Run}
 use Rattle.sg_store.specs.declared.store.TheConstants.{MAX_CAPACITY}
 use Rattle.sg_block_map.specs.Gathering.{AreNear}
-use Rattle.sg_block_map.specs.Runs.{end_of, singles, singles_of, expanded, AreChained, AreMaximal}
+use Rattle.sg_block_map.specs.Runs.{end_of, singles, singles_of, expanded, AreApart, AreChained}
+use Rattle.sg_block_map.specs.Runs.{Bound, any_from, behind, AreMaximalIn}
 use Rattle.sg_block_map.specs.Runs.{AreBetween}
 use Rattle.sg_block_map.specs.Splitting.{rest_of, IsFront, IsRest}
 use Rattle.sg_block_map.specs.Walking.{ahead_of, passed, AreAhead, IsWalkFrom}
@@ -25,7 +25,8 @@ use Rattle.sg_store.proofs.DiskLemmas.{eq_other}
 use Rattle.sg_pool.proofs.LinkLemmas.{slot_after-none, slot_after-one}
 use Rattle.sg_store.proofs.DiskLemmas.{eq_same}
 use Rattle.sg_block_map.proofs.BetweenLemmas.{between-expanded, between-singles, between-weaker}
-use Rattle.sg_block_map.proofs.BetweenLemmas.{maximal-weaker, maximal-le}
+use Rattle.sg_block_map.proofs.BetweenLemmas.{apart-weaker, apart-le}
+use Rattle.sg_block_map.proofs.OrderLemmas.{maximal-from, behind-low, behind-at-most}
 use Rattle.sg_block_map.proofs.ContentsLemmas.{find-below, find-above, find-right}
 use Rattle.sg_block_map.proofs.ExpandedLemmas.{expanded-more, expanded-none, expanded-append}
 use Rattle.sg_block_map.proofs.ExpandedLemmas.{singles-one, slots-append, chained-append}
@@ -58,16 +59,16 @@ pub passed-rest : (next : List ℕ) (run : Run) (more : List Run) (first : ℕ) 
       start = run.start + 1;
       count = run.count - 1;
       first = first;
-      last =
-          run.last;
+      last = run.last;
+      kind = run.kind;
     } ∷ more ≡ passed next run more
 passed-rest next run more first other e = either_way
     (λ xs. record {
       start = run.start + 1;
       count = run.count - 1;
       first = first;
-      last =
-          run.last;
+      last = run.last;
+      kind = run.kind;
     } ∷ more ≡ xs) (run.count == 1) more (rest_of next run 1 ∷ more)
     (λ wrong. absurd (other (is_number run.count 1 wrong)))
     (λ _. ap (λ s. record {
@@ -76,22 +77,26 @@ passed-rest next run more first other e = either_way
       first = s;
       last =
           run.last;
+      kind = run.kind;
     } ∷ more) (e ∙ sym (slot_after-one next run.first)))
 
 singles-first : (next : List ℕ) (run : Run) → 1 < run.count
-    → singles_of next run ≡ single run.start run.first ∷ singles_of next (rest_of next run 1)
+    → singles_of next run ≡ single run.start run.first run.kind ∷ singles_of next (rest_of next run 1)
 singles-first next run some = sym (split-parts next run 1 (omega arith))
-    ∙ ap (λ xs. xs ++ singles_of next (rest_of next run 1)) (singles-one next run.start run.first)
+    ∙ ap (λ xs. xs ++ singles_of next (rest_of next run 1)) (singles-one next run.start run.first run.kind)
 
 pub passed-expanded : (next : List ℕ) (run : Run) (more : List Run) → 0 < run.count
-    → expanded next (run ∷ more) ≡ single run.start run.first ∷ expanded next (passed next run more)
+    → expanded next (run ∷ more) ≡ single run.start run.first run.kind
+    ∷ expanded next (passed next run more)
 passed-expanded next run more some = passed-by
-    (λ xs. expanded next (run ∷ more) ≡ single run.start run.first ∷ expanded next xs) next run more
+    (λ xs. expanded next (run ∷ more) ≡ single run.start run.first run.kind ∷ expanded next xs)
+    next run more
     some
     (λ one. expanded-more next run more ∙ ap (λ xs. xs ++ expanded next more)
-    (ap (singles next run.start run.first) one ∙ singles-one next run.start run.first))
+    (ap (λ n. singles next run.start run.first n run.kind) one
+    ∙ singles-one next run.start run.first run.kind))
     (λ many. expanded-more next run more ∙ ap (λ xs. xs ++ expanded next more)
-    (singles-first next run many) ∙ ap (λ xs. single run.start run.first ∷ xs)
+    (singles-first next run many) ∙ ap (λ xs. single run.start run.first run.kind ∷ xs)
     (sym (expanded-more next (rest_of next run 1) more)))
 
 pub passed-ahead : (next : List ℕ) (count lba : ℕ) (run : Run) (more : List Run)
@@ -101,11 +106,11 @@ passed-ahead next count lba run more h at =
     let some = h.chained.0.not_empty in
     let below = rw (ap slots_of (passed-expanded next run more some)) at h.below in
     record {
-      maximal = passed-by (AreMaximal (lba + 1) (MAX_CAPACITY + 1)) next run more some
-          (λ one. maximal-weaker more (end_of run + 1) (MAX_CAPACITY + 1) (lba + 1)
-          (MAX_CAPACITY + 1) (omega arith) (omega arith) h.maximal.1)
-          (λ many. let same : run.start + 1 + (run.count - 1) + 1 ≡ end_of run + 1 = omega arith in
-          (omega arith, rw same h.maximal.1));
+      apart = passed-by (AreApart (lba + 1) MAX_CAPACITY) next run more some
+          (λ one. apart-weaker more (end_of run) MAX_CAPACITY (lba + 1) MAX_CAPACITY (omega arith)
+          (omega arith) h.apart.2)
+          (λ many. let same : run.start + 1 + (run.count - 1) ≡ end_of run = omega arith in
+          (omega arith, omega arith, rw same h.apart.2));
       chained = passed-by (AreChained next) next run more some (λ one. h.chained.1)
           (λ many. (rest-chain next run 1 many h.chained.0, h.chained.1));
       below = below-right count (run.first ∷ [])
@@ -139,13 +144,13 @@ ahead-first next count lba run more h =
     = ap slots_of (expanded-more next run more)
     ∙ slots-append (singles_of next run) (expanded next more)
     ∙ ap (λ xs. xs ++ slots_of (expanded next more))
-    (slots-singles next run.start run.first run.count) in
+    (slots-singles next run.start run.first run.count run.kind) in
     let below = below-left count (chain next run.first run.count) (slots_of (expanded next more))
     (rw slots at h.below) in
-    let rest = maximal-le more (end_of run + 1) (MAX_CAPACITY + 1) h.maximal.1 in
+    let rest = apart-le more (end_of run) MAX_CAPACITY h.apart.2 in
     let len = ap length (expanded-more next run more)
     ∙ length-append (singles_of next run) (expanded next more) in
-    let own = length-singles next run.start run.first run.count in
+    let own = length-singles next run.start run.first run.count run.kind in
     let first = rw (slot_after-none next run.first) at
     (slot-below count next run.first 0 run.count some below) in
     (below, omega arith, omega arith, first)
@@ -155,39 +160,44 @@ pub ahead-skip : (next : List ℕ) (count lba at : ℕ) (runs : List Run) (run :
     → AreAhead next count lba (ahead_of runs run at) → lba < MAX_CAPACITY → run_at run lba ≡ None
     → AreAhead next count (lba + 1) (ahead_of runs run at)
 ahead-skip next count lba at runs None h low none =
-    record { maximal = omega arith; chained = h.chained; below = h.below }
+    record { apart = omega arith; chained = h.chained; below = h.below }
 ahead-skip next count lba at runs (Some run) h low none =
     let off : run.start ≢ lba = λ same. not_there run lba none same in
     record {
-      maximal = (omega (arith, h.maximal.0), h.maximal.1);
+      apart = (omega (arith, h.apart.0), h.apart.1, h.apart.2);
       chained = h.chained;
       below =
           h.below;
     }
 
--- the first address ahead
-pub block-first : (bs : List (List ℕ)) (r : Run) (more : List Run)
-    → block (contents_of (r ∷ more) bs) r.start ≡ slice_index_or bs r.first zero_block
-block-first bs r more = ap (λ o. unwrap_or o zero_block)
-    (get-from_entries nat_cmp_total (mapped_blocks (r ∷ more) bs) r.start
-    ∙ ap (λ b. cond b (Some (slice_index_or bs r.first zero_block))
-    (find nat_cmp r.start (mapped_blocks more bs))) (eq_same r.start r.start refl))
+-- zeros that are as many as a block has bytes
+pub zeros : (n : ℕ) (xs : List ℕ) → n ≡ 512 → xs ≡ replicate n 0 → xs ≡ zero_block
+unfolding zero_block
+zeros n xs e is = is ∙ ap (λ k. replicate k 0) e
 
-pub get-later : (bs : List (List ℕ)) (r : Run) (more : List Run) (q : ℕ) → q ≢ r.start
-    → map.get (contents_of (r ∷ more) bs) q ≡ map.get (contents_of more bs) q
-get-later bs r more q other = get-from_entries nat_cmp_total (mapped_blocks (r ∷ more) bs) q
-    ∙ ap (λ b. cond b (Some (slice_index_or bs r.first zero_block))
-    (find nat_cmp q (mapped_blocks more bs))) (eq_other q r.start other)
-    ∙ sym (get-from_entries nat_cmp_total (mapped_blocks more bs) q)
+-- the first address ahead
+pub block-first : (f : Seen) (r : Run) (more : List Run)
+    → block (contents_by f (r ∷ more)) r.start ≡ data_in (Some (f r.first r.kind))
+block-first f r more = ap data_in
+    (get-from_entries nat_cmp_total (entries_by f (r ∷ more)) r.start
+    ∙ ap (λ b. cond b (Some (f r.first r.kind))
+    (find nat_cmp r.start (entries_by f more))) (eq_same r.start r.start refl))
+
+pub get-later : (f : Seen) (r : Run) (more : List Run) (q : ℕ) → q ≢ r.start
+    → map.get (contents_by f (r ∷ more)) q ≡ map.get (contents_by f more) q
+get-later f r more q other = get-from_entries nat_cmp_total (entries_by f (r ∷ more)) q
+    ∙ ap (λ b. cond b (Some (f r.first r.kind))
+    (find nat_cmp q (entries_by f more))) (eq_other q r.start other)
+    ∙ sym (get-from_entries nat_cmp_total (entries_by f more) q)
 
 -- an address before those that are ahead
-pub get-none : (next : List ℕ) (count lba q : ℕ) (runs : List Run) (bs : List (List ℕ))
-    → AreAhead next count lba runs → q < lba → map.get (contents_of (expanded next runs) bs) q ≡
+pub get-none : (next : List ℕ) (count lba q : ℕ) (runs : List Run) (f : Seen)
+    → AreAhead next count lba runs → q < lba → map.get (contents_by f (expanded next runs)) q ≡
     None
-get-none next count lba q runs bs h lt = get-from_entries nat_cmp_total
-    (mapped_blocks (expanded next runs) bs) q
-    ∙ find-below (expanded next runs) bs lba (MAX_CAPACITY + 1) q
-    (between-expanded next runs lba (MAX_CAPACITY + 1) h.maximal) lt
+get-none next count lba q runs f h lt = get-from_entries nat_cmp_total
+    (entries_by f (expanded next runs)) q
+    ∙ find-below (expanded next runs) f lba MAX_CAPACITY q
+    (between-expanded next runs lba MAX_CAPACITY h.apart) lt
 
 -- the runs from an address on
 pub walk_from-parts : (next : List ℕ) (runs : List Run) (lba : ℕ) (front : Option Run)
@@ -208,21 +218,49 @@ walk_from-chained next (run ∷ runs) lba front more k h =
     let fs : List Run = option_to_list front in let rs : List Run = option_to_list h.0 in
     rw (h.2, sym (append_assoc fs rs runs)) (chained-append next (fs ++ rs) runs h.1.chained k.1)
 
-walk_from-rest : (run : Run) (rest : Option Run) (runs ys : List Run) (lba bound : ℕ)
+walk_from-rest : (run : Run) (rest : Option Run) (runs ys : List Run) (lba : ℕ) (bound : Bound)
     → IfSome rest (IsRest run lba) → lba ≤ end_of run
-    → AreMaximal (end_of run + 1) bound (runs ++ ys)
-    → AreMaximal lba bound ((option_to_list rest ++ runs) ++ ys)
-walk_from-rest run None runs ys lba bound after reach h =
-    maximal-weaker (runs ++ ys) (end_of run + 1) bound lba bound (omega arith) (omega arith) h
-walk_from-rest run (Some rest) runs ys lba bound after reach h = (after.1, rw (sym after.2) at h)
+    → IfSome rest (λ (part : Run). 0 < part.count)
+    → AreMaximalIn (behind run) bound (runs ++ ys)
+    → AreMaximalIn (any_from lba) bound ((option_to_list rest ++ runs) ++ ys)
+walk_from-rest run None runs ys lba bound after reach some h =
+    maximal-from (runs ++ ys) (behind run) bound (any_from lba)
+    (λ kind. omega (arith, behind-low run kind)) h
+walk_from-rest run (Some rest) runs ys lba bound after reach some h = (
+  after.1,
+  some,
+  maximal-from (runs ++ ys) (behind run) bound (behind rest)
+      (behind-at-most rest run after.4 (omega (arith, after.2))) h,
+)
 
-pub walk_from-maximal : (next : List ℕ) (runs ys : List Run) (lba high bound : ℕ)
-    (front : Option Run) (more : List Run) → AreMaximal 0 bound (runs ++ ys)
-    → AreMaximal lba bound ys → AreNear lba high runs → IsWalkFrom next runs lba front more
-    → AreMaximal lba bound (more ++ ys)
-walk_from-maximal next [] ys lba high bound front more h k near t = rw t.1 k
-walk_from-maximal next (run ∷ runs) ys lba high bound front more h k near t =
-    rw t.2 (walk_from-rest run t.0 runs ys lba bound t.1.after near.0 h.1)
+rest-some : (next : List ℕ) (front rest : Option Run)
+    → AreChained next (option_to_list front ++ option_to_list rest)
+    → IfSome rest (λ (part : Run). 0 < part.count)
+rest-some next front None k = tt
+rest-some next front (Some rest) k =
+    (chained-right next (option_to_list front) (rest ∷ []) k).0.not_empty
+
+pub walk_from-maximal : (next : List ℕ) (runs ys : List Run) (lba high : ℕ) (low bound : Bound)
+    (front : Option Run) (more : List Run) → AreMaximalIn low bound (runs ++ ys)
+    → AreMaximalIn (any_from lba) bound ys → AreNear lba high runs
+    → IsWalkFrom next runs lba front more → AreMaximalIn (any_from lba) bound (more ++ ys)
+walk_from-maximal next [] ys lba high low bound front more h k near t = rw t.1 k
+walk_from-maximal next (run ∷ runs) ys lba high low bound front more h k near t =
+    rw t.2 (walk_from-rest run t.0 runs ys lba bound t.1.after near.0
+    (rest-some next front t.0 t.1.chained) h.2)
+
+-- the runs ahead have no address in common
+walk_from-apart : (next : List ℕ) (runs : List Run) (lba high a b : ℕ) (front : Option Run)
+    (more : List Run) → AreApart a b runs → lba ≤ b → AreNear lba high runs
+    → IsWalkFrom next runs lba front more → AreApart lba b more
+walk_from-apart next [] lba high a b front more h le near t = rw t.1 le
+walk_from-apart next (run ∷ runs) lba high a b front more h le near t =
+    rw t.2 (rest_apart t.0 t.1.after (rest-some next front t.0 t.1.chained))
+  where
+    rest_apart : (rest : Option Run) → IfSome rest (IsRest run lba)
+        → IfSome rest (λ (part : Run). 0 < part.count) → AreApart lba b (option_to_list rest ++ runs)
+    rest_apart None after some = apart-weaker runs (end_of run) b lba b near.0 (omega arith) h.2
+    rest_apart (Some rest) after some = (after.1, some, rw (sym after.2) at h.2)
 
 -- what is ahead of the address is a part of all
 pub walk_from-ahead : (next : List ℕ) (count : ℕ) (runs : List Run) (lba high : ℕ)
@@ -236,8 +274,7 @@ walk_from-ahead next count runs lba high front more h near low t =
     slots_of (expanded next fs) ++ slots_of (expanded next more) = ap slots_of parts
     ∙ slots-append (expanded next fs) (expanded next more) in
     record {
-      maximal = rw (append-nil more) at (walk_from-maximal next runs [] lba high
-          (MAX_CAPACITY + 1) front more (rw (append-nil runs) h.maximal) (omega arith) near t);
+      apart = walk_from-apart next runs lba high 0 MAX_CAPACITY front more h.apart low near t;
       chained = chained-right next fs more (walk_from-chained next runs lba front more h.chained t);
       below = below-right count (slots_of (expanded next fs)) (slots_of (expanded next more))
           (rw (sym slots) h.below);
@@ -257,23 +294,23 @@ walk_from-between next (run ∷ runs) lba high (Some front) more t =
     let f = t.1.before in
     rw (expanded-one next front) (between-weaker (singles_of next front) front.start
     (end_of front) 0 lba (omega arith) (omega (arith, f.1))
-    (between-singles next front.start front.first front.count))
+    (between-singles next front.start front.first front.count front.kind))
 
 -- from the address on the contents are those of what is ahead
 pub get-walk_from : (next : List ℕ) (runs : List Run) (lba high q : ℕ) (front : Option Run)
-    (more : List Run) (bs : List (List ℕ)) → IsWalkFrom next runs lba front more → lba ≤ q
-    → map.get (contents_of (expanded next runs) bs) q ≡
-    map.get (contents_of (expanded next more) bs) q
-get-walk_from next runs lba high q front more bs t le =
+    (more : List Run) (f : Seen) → IsWalkFrom next runs lba front more → lba ≤ q
+    → map.get (contents_by f (expanded next runs)) q ≡
+    map.get (contents_by f (expanded next more)) q
+get-walk_from next runs lba high q front more f t le =
     let fs : List Run = option_to_list front in
     let parts : expanded next runs ≡ expanded next fs ++ expanded next more =
     sym (walk_from-parts next runs lba front more t) ∙ expanded-append next fs more in
-    ap (λ xs. map.get (contents_of xs bs) q) parts
-    ∙ get-from_entries nat_cmp_total (mapped_blocks (expanded next fs ++ expanded next more) bs) q
-    ∙ find-right (expanded next fs) (expanded next more) bs q
-    (find-above (expanded next fs) bs 0 lba q
+    ap (λ xs. map.get (contents_by f xs) q) parts
+    ∙ get-from_entries nat_cmp_total (entries_by f (expanded next fs ++ expanded next more)) q
+    ∙ find-right (expanded next fs) (expanded next more) f q
+    (find-above (expanded next fs) f 0 lba q
     (walk_from-between next runs lba high front more t) le)
-    ∙ sym (get-from_entries nat_cmp_total (mapped_blocks (expanded next more) bs) q)
+    ∙ sym (get-from_entries nat_cmp_total (entries_by f (expanded next more)) q)
 
 -- the address is that of the run that is ahead first
 module _ (next : List ℕ) (count lba at : ℕ) (runs : List Run) (run : Option Run) (found : Run)
@@ -284,33 +321,33 @@ module _ (next : List ℕ) (count lba at : ℕ) (runs : List Run) (run : Option 
   pub first-slot : found.first < count
   first-slot = (ahead-first next count lba found (drop at runs) first-there).3
 
-  pub first-block : (bs : List (List ℕ)) → block
-      (contents_of (expanded next (ahead_of runs run at)) bs) lba ≡
-      slice_index_or bs found.first zero_block
-  first-block bs =
+  pub first-block : (f : Seen) → block
+      (contents_by f (expanded next (ahead_of runs run at))) lba ≡
+      data_in (Some (f found.first found.kind))
+  first-block f =
       let t = there run lba found is in
-      ap (λ o. block (contents_of (expanded next (ahead_of runs o at)) bs) lba) t.0
-      ∙ ap (λ xs. block (contents_of xs bs) lba)
+      ap (λ o. block (contents_by f (expanded next (ahead_of runs o at))) lba) t.0
+      ∙ ap (λ xs. block (contents_by f xs) lba)
       (passed-expanded next found (drop at runs) first-there.chained.0.not_empty)
-      ∙ ap (λ q. block (contents_of (single found.start found.first ∷ expanded next
-      (passed next found (drop at runs))) bs) q) (sym t.1)
-      ∙ block-first bs (single found.start found.first)
+      ∙ ap (λ q. block (contents_by f (single found.start found.first found.kind ∷ expanded next
+      (passed next found (drop at runs)))) q) (sym t.1)
+      ∙ block-first f (single found.start found.first found.kind)
       (expanded next (passed next found (drop at runs)))
 
   pub first-ahead : AreAhead next count (lba + 1) (passed next found (drop at runs))
   first-ahead = passed-ahead next count lba found (drop at runs) first-there
       (there run lba found is).1
 
-  pub first-later : (bs : List (List ℕ)) (q : ℕ) → lba + 1 ≤ q
-      → map.get (contents_of (expanded next (passed next found (drop at runs))) bs) q ≡
-      map.get (contents_of (expanded next (ahead_of runs run at)) bs) q
-  first-later bs q le =
+  pub first-later : (f : Seen) (q : ℕ) → lba + 1 ≤ q
+      → map.get (contents_by f (expanded next (passed next found (drop at runs)))) q ≡
+      map.get (contents_by f (expanded next (ahead_of runs run at))) q
+  first-later f q le =
       let t = there run lba found is in
       let other : q ≢ found.start = λ same. let at = t.1 in absurd (omega arith) in
-      sym (ap (λ o. map.get (contents_of (expanded next (ahead_of runs o at)) bs) q) t.0
-      ∙ ap (λ xs. map.get (contents_of xs bs) q)
+      sym (ap (λ o. map.get (contents_by f (expanded next (ahead_of runs o at))) q) t.0
+      ∙ ap (λ xs. map.get (contents_by f xs) q)
       (passed-expanded next found (drop at runs) first-there.chained.0.not_empty)
-      ∙ get-later bs (single found.start found.first)
+      ∙ get-later f (single found.start found.first found.kind)
       (expanded next (passed next found (drop at runs))) q other)
 
   pub first-length : length (expanded next (ahead_of runs run at)) ≡
@@ -322,9 +359,9 @@ module _ (next : List ℕ) (count lba at : ℕ) (runs : List Run) (run : Option 
 
 -- no run is there
 pub skip-block : (next : List ℕ) (count lba at : ℕ) (runs : List Run) (run : Option Run)
-    (bs : List (List ℕ)) → AreAhead next count lba (ahead_of runs run at) → lba < MAX_CAPACITY
+    (f : Seen) → AreAhead next count lba (ahead_of runs run at) → lba < MAX_CAPACITY
     → run_at run lba ≡ None
-    → map.get (contents_of (expanded next (ahead_of runs run at)) bs) lba ≡ None
-skip-block next count lba at runs run bs h low none =
-    get-none next count (lba + 1) lba (ahead_of runs run at) bs
+    → map.get (contents_by f (expanded next (ahead_of runs run at))) lba ≡ None
+skip-block next count lba at runs run f h low none =
+    get-none next count (lba + 1) lba (ahead_of runs run at) f
     (ahead-skip next count lba at runs run h low none) (omega arith)

@@ -1,5 +1,5 @@
 -- One address of a range that is written.
-use Rattle.std.proofs.Common.{◌≡◌, ◌≢◌, ℕ, ◌+◌, ◌-◌, ◌<◌, List, [], ◌∷◌, ◌++◌, length, set, drop}
+use Rattle.std.proofs.Common.{◌≡◌, ◌≢◌, ℕ, ◌+◌, ◌<◌, List, [], ◌∷◌, ◌++◌, length, set, drop}
 use Rattle.std.proofs.Common.{arith, refl, sym, ap, ap₂, ◌∙◌, subst, append_assoc, length-append}
 use Rattle.std.proofs.Common.{cond, Bool, true, false, Some, None, Option}
 use Rattle.std.proofs.Math.Seq.{take-append_seam, drop-append_seam, get_or-append_seam}
@@ -7,31 +7,37 @@ use Rattle.std.specs.Cmp.{nat_cmp_total}
 use Rattle.std.specs.FinMap as map
 use Rattle.std.specs.FinMap.{find, get-from_entries}
 use Rattle.std.specs.Ordering.{nat_cmp}
-use Rattle.std.specs.Prelude.{insert, slice_index_or, ◌==◌}
+use Rattle.std.specs.Prelude.{insert, ◌==◌}
 use Rattle.sg_pool.specs.Chains.{IsChain}
-use Rattle.sg_store.specs.Disk.{zero_block}
+use Rattle.sg_store.specs.Disk.{Mapping}
+use Rattle.sg_store.specs.Disk.Mapping.{Data}
 use Rattle.sg_table.specs.Records.{start_of, single, run_at}
-use Rattle.sg_pool.specs.MappedRecords.{mapped_blocks, contents_of}
+use Rattle.sg_pool.specs.MappedRecords.{Seen, entries_by, contents_by, contents_of, number_in, slot_numbers}
 use Rattle.sg_pool.specs.Slots.{Slots, followed}
 use Rattle.sg_table.specs.Records.{slots_of}
 use Rattle.sg_table.specs.Occurrences.{occurrences, IsEachOnce}
 use Rattle.sg_pool.specs.MappedRecords.{IsConsistent}
+use Rattle.sg_table.specs.declared.run.Kind.{Kind}
+use Rattle.sg_table.specs.declared.run.Kind.TheVariants.{Data as DataRun}
 use Rattle.sg_table.specs.declared.run.Run.{Run}
 use Rattle.sg_store.specs.declared.store.TheConstants.{MAX_CAPACITY}
 use Rattle.sg_block_map.specs.Joining.{joined, linked, IsWriting, KeepSlots}
-use Rattle.sg_block_map.specs.Runs.{end_of, singles_of, expanded, AreChained, AreMaximal}
+use Rattle.sg_block_map.specs.Runs.{end_of, singles_of, expanded, any_from, behind, begins, AreChained, AreMaximal}
+use Rattle.sg_block_map.specs.Runs.{AreMaximalIn}
 use Rattle.sg_block_map.specs.Runs.{AreBetween, chained_contents}
 use Rattle.sg_block_map.specs.Splitting.{rest_of}
 use Rattle.sg_block_map.specs.Walking.{passed, ahead_of}
 use Rattle.sg_pool.proofs.BlockLemmas.{find-added}
 use Rattle.sg_pool.proofs.ConsistencyLemmas.{taken_below, consistent-added, contents-added}
-use Rattle.sg_pool.proofs.ConsistencyLemmas.{consistent-over, contents-over}
+use Rattle.sg_pool.proofs.ConsistencyLemmas.{consistent-over, consistent-kind, contents-changed}
 use Rattle.sg_store.proofs.DiskLemmas.{eq_other}
 use Rattle.sg_pool.proofs.LinkLemmas.{slot_after-none, slot_after-in}
 use Rattle.sg_table.proofs.OccurrenceLemmas.{occurrences-append, once-le, below_count}
 use Rattle.sg_pool.proofs.MappedLemmas.{find-unmapped}
 use Rattle.sg_block_map.proofs.BetweenLemmas.{between-expanded, between-append, between-singles}
-use Rattle.sg_block_map.proofs.BetweenLemmas.{index-between, none-between, maximal-weaker}
+use Rattle.sg_block_map.proofs.BetweenLemmas.{index-between, none-between}
+use Rattle.sg_block_map.proofs.OrderLemmas.{apart-in, apart-loose, begins-high, behind-low}
+use Rattle.sg_block_map.proofs.OrderLemmas.{behind-at-most, maximal-from}
 use Rattle.sg_block_map.proofs.ExpandedLemmas.{expanded-append, expanded-more, singles-one}
 use Rattle.sg_block_map.proofs.ExpandedLemmas.{slots-both, slots-more, last-in}
 use Rattle.sg_block_map.proofs.JoinLemmas.{join-expanded, join-writing, link-slot, link-used}
@@ -44,10 +50,10 @@ insert-seam xs ys r = ap₂ (λ a b. a ++ r ∷ b) (take-append_seam xs ys) (dro
 one-chain : (next : List ℕ) (slot : ℕ) → IsChain next slot slot 1
 one-chain next slot = record { not_empty = omega arith; ends = sym (slot_after-none next slot) }
 
-single-more : (next : List ℕ) (lba slot : ℕ) (rest : List Run)
-    → expanded next (single lba slot ∷ rest) ≡ single lba slot ∷ expanded next rest
-single-more next lba slot rest = expanded-more next (single lba slot) rest
-    ∙ ap (λ xs. xs ++ expanded next rest) (singles-one next lba slot)
+single-more : (next : List ℕ) (lba slot : ℕ) (kind : Kind) (rest : List Run)
+    → expanded next (single lba slot kind ∷ rest) ≡ single lba slot kind ∷ expanded next rest
+single-more next lba slot kind rest = expanded-more next (single lba slot kind) rest
+    ∙ ap (λ xs. xs ++ expanded next rest) (singles-one next lba slot kind)
 
 -- the table to be, in the part before the address and the one from it on
 pub parted : (next : List ℕ) (before : List Run) (done : Run) (rest : List Run)
@@ -57,32 +63,46 @@ parted next before done rest = ap (expanded next) (sym (append_assoc before (don
     ∙ expanded-append next (before ++ done ∷ []) rest
 
 pub before-between : (next : List ℕ) (before : List Run) (done : Run) (lba : ℕ)
-    → AreMaximal 0 done.start before → end_of done ≡ lba
+    → AreMaximalIn (any_from 0) (begins done.kind done.start) before → end_of done ≡ lba
     → AreBetween 0 lba (expanded next (before ++ done ∷ []))
 before-between next before done lba h e =
+    let apart = apart-in before (any_from 0) (begins done.kind done.start) 0 done.start
+    (λ kind. omega arith) (omega arith) (λ kind. begins-high done.kind kind done.start) h in
     rw (expanded-append next before (done ∷ []), expanded-one next done, sym e)
     (between-append (expanded next before) (singles_of next done) 0 done.start (end_of done)
-    (between-expanded next before 0 done.start h)
-    (between-singles next done.start done.first done.count))
+    (between-expanded next before 0 done.start apart)
+    (between-singles next done.start done.first done.count done.kind))
 
-none_there : {o : Option (List ℕ)} {block : List ℕ} → o ≡ None → o ≡ Some block → ⊥
+none_there : {o : Option Mapping} {slot : Mapping} → o ≡ None → o ≡ Some slot → ⊥
 none_there e f = cc
 
-keep-insert : (xs ys : List Run) (r : Run) (blocks : List (List ℕ)) (q : ℕ) (block : List ℕ)
+keep-insert : (xs ys : List Run) (r : Run) (f : Seen) (q : ℕ) (slot : Mapping)
     → ((j : ℕ) → j < length (xs ++ ys) → start_of (xs ++ ys) j ≢ r.start)
-    → map.get (contents_of (xs ++ ys) blocks) q ≡ Some block
-    → map.get (contents_of (xs ++ r ∷ ys) blocks) q ≡ Some block
-keep-insert xs ys r blocks q block none h =
-    let was = sym (get-from_entries nat_cmp_total (mapped_blocks (xs ++ ys) blocks) q) ∙ h in
-    let other : q ≢ r.start = λ same. none_there (find-unmapped (xs ++ ys) blocks r.start none)
-    (ap (λ k. find nat_cmp k (mapped_blocks (xs ++ ys) blocks)) (sym same) ∙ was) in
-    get-from_entries nat_cmp_total (mapped_blocks (xs ++ r ∷ ys) blocks) q
-    ∙ ap (λ zs. find nat_cmp q (mapped_blocks zs blocks)) (sym (insert-seam xs ys r))
-    ∙ find-added (xs ++ ys) blocks (length xs) r q none
-    ∙ ap (λ b. cond b (Some (slice_index_or blocks r.first zero_block))
-    (find nat_cmp q (mapped_blocks (xs ++ ys) blocks))) (eq_other q r.start other) ∙ was
+    → map.get (contents_by f (xs ++ ys)) q ≡ Some slot
+    → map.get (contents_by f (xs ++ r ∷ ys)) q ≡ Some slot
+keep-insert xs ys r f q slot none h =
+    let was = sym (get-from_entries nat_cmp_total (entries_by f (xs ++ ys)) q) ∙ h in
+    let other : q ≢ r.start = λ same. none_there (find-unmapped f (xs ++ ys) r.start none)
+    (ap (λ k. find nat_cmp k (entries_by f (xs ++ ys))) (sym same) ∙ was) in
+    get-from_entries nat_cmp_total (entries_by f (xs ++ r ∷ ys)) q
+    ∙ ap (λ zs. find nat_cmp q (entries_by f zs)) (sym (insert-seam xs ys r))
+    ∙ find-added f (xs ++ ys) (length xs) r q none
+    ∙ ap (λ b. cond b (Some (f r.first r.kind))
+    (find nat_cmp q (entries_by f (xs ++ ys)))) (eq_other q r.start other) ∙ was
 
--- a block that was not mapped, in a slot that was free
+-- a record of another kind has the same slot
+set-seam : (xs ys : List Run) (r s : Run) → set (xs ++ r ∷ ys) (length xs) s ≡ xs ++ s ∷ ys
+set-seam [] ys r s = refl
+set-seam (x ∷ xs) ys r s = ap (λ zs. x ∷ zs) (set-seam xs ys r s)
+
+numbers-kind : (xs ys : List Run) (lba slot : ℕ) (j k : Kind)
+    → entries_by number_in (xs ++ single lba slot j ∷ ys)
+    ≡ entries_by number_in (xs ++ single lba slot k ∷ ys)
+numbers-kind [] ys lba slot j k = refl
+numbers-kind (x ∷ xs) ys lba slot j k =
+    ap (λ es. (x.start, number_in x.first x.kind) ∷ es) (numbers-kind xs ys lba slot j k)
+
+-- an address without a slot, that takes one that was free
 module _ (before : List Run) (done : Run) (rest : List Run) (slots : Slots) (lba slot : ℕ)
     (free : List ℕ) (b : List ℕ) (h : IsWriting before done rest slots lba)
     (taken : slots.free ≡ slot ∷ free) (none : AreMaximal (lba + 1) (MAX_CAPACITY + 1) rest) where
@@ -92,18 +112,22 @@ module _ (before : List Run) (done : Run) (rest : List Run) (slots : Slots) (lba
   abbrev ys : List Run
   ys = expanded slots.next rest
 
+  abbrev new : Run
+  new = single lba slot DataRun
+
   low : AreBetween 0 lba xs
   low = before-between slots.next before done lba h.maximal_before h.ends
 
   high : AreBetween (lba + 1) (MAX_CAPACITY + 1) ys
-  high = between-expanded slots.next rest (lba + 1) (MAX_CAPACITY + 1) none
+  high = between-expanded slots.next rest (lba + 1) (MAX_CAPACITY + 1)
+      (apart-loose rest (lba + 1) (lba + 1) (MAX_CAPACITY + 1) (omega arith) none)
 
   was : expanded slots.next (before ++ done ∷ rest) ≡ xs ++ ys
   was = parted slots.next before done rest
 
-  is : expanded slots.next (before ++ done ∷ (single lba slot ∷ rest)) ≡ xs ++ single lba slot ∷ ys
-  is = parted slots.next before done (single lba slot ∷ rest)
-      ∙ ap (λ zs. xs ++ zs) (single-more slots.next lba slot rest)
+  is : expanded slots.next (before ++ done ∷ (new ∷ rest)) ≡ xs ++ new ∷ ys
+  is = parted slots.next before done (new ∷ rest)
+      ∙ ap (λ zs. xs ++ zs) (single-more slots.next lba slot DataRun rest)
 
   together_was : IsConsistent (xs ++ ys) slots.blocks (slot ∷ free) (length slots.next)
   together_was = rw (was, taken) at h.consistent
@@ -112,18 +136,19 @@ module _ (before : List Run) (done : Run) (rest : List Run) (slots : Slots) (lba
   nowhere = none-between xs ys 0 lba (lba + 1) (MAX_CAPACITY + 1) lba low high (omega arith)
       (omega arith)
 
-  taken_together : IsConsistent (expanded slots.next (before ++ done ∷ (single lba slot ∷ rest)))
+  taken_together : IsConsistent (expanded slots.next (before ++ done ∷ (new ∷ rest)))
       (set slots.blocks slot b) free (length slots.next)
-  taken_together = rw (is, sym (insert-seam xs ys (single lba slot)))
+  taken_together = rw (is, sym (insert-seam xs ys new))
       (consistent-added (xs ++ ys) slots.blocks free (length slots.next) (length xs)
-      (single lba slot) b together_was
+      new b together_was
       (index-between xs ys 0 lba (lba + 1) (MAX_CAPACITY + 1) low high (omega arith)) nowhere)
 
-  taken_contents : contents_of (expanded slots.next (before ++ done ∷ (single lba slot ∷ rest)))
-      (set slots.blocks slot b) ≡ map.insert (chained_contents (before ++ done ∷ rest) slots) lba b
-  taken_contents = rw (is, was, sym (insert-seam xs ys (single lba slot)))
+  taken_contents : contents_of (expanded slots.next (before ++ done ∷ (new ∷ rest)))
+      (set slots.blocks slot b)
+      ≡ map.insert (chained_contents (before ++ done ∷ rest) slots) lba (Data b)
+  taken_contents = rw (is, was, sym (insert-seam xs ys new))
       (contents-added (xs ++ ys) slots.blocks free (length slots.next) (length xs)
-      (single lba slot) b together_was nowhere)
+      new b together_was nowhere refl)
 
   abbrev after_taken : Slots
   after_taken = record slots { blocks = set slots.blocks slot b; free = free }
@@ -132,36 +157,35 @@ module _ (before : List Run) (done : Run) (rest : List Run) (slots : Slots) (lba
   after_new = record slots {
     blocks = set slots.blocks slot b;
     free = free;
-    next =
-        linked slots.next done slot;
+    next = linked slots.next done slot;
   }
 
-  pub new-writing : IsWriting before (joined done (single lba slot)) rest after_new (lba + 1)
-  new-writing = join-writing before done (single lba slot) rest after_taken taken_together h.front
-      h.ends h.maximal_before none h.chained_before (one-chain slots.next slot) h.chained_after
+  pub new-writing : IsWriting before (joined done new) rest after_new (lba + 1)
+  new-writing = join-writing before done new rest after_taken taken_together h.front
+      h.ends h.is_data refl h.maximal_before none h.chained_before (one-chain slots.next slot)
+      h.chained_after
 
-  pub new-contents : chained_contents (before ++ joined done (single lba slot) ∷ rest) after_new ≡
-      map.insert (chained_contents (before ++ done ∷ rest) slots) lba b
+  pub new-contents : chained_contents (before ++ joined done new ∷ rest) after_new ≡
+      map.insert (chained_contents (before ++ done ∷ rest) slots) lba (Data b)
   new-contents = ap (λ zs. contents_of zs (set slots.blocks slot b))
-      (join-expanded before done (single lba slot) rest after_taken taken_together h.front h.ends)
+      (join-expanded before done new rest after_taken taken_together h.front h.ends h.is_data)
       ∙ taken_contents
 
   pub new-keeps : KeepSlots slots.next (before ++ done ∷ rest) (linked slots.next done slot)
-      (before ++ joined done (single lba slot) ∷ rest)
-  new-keeps blocks q block e =
-      ap (λ zs. map.get (contents_of zs blocks) q)
-      (join-expanded before done (single lba slot) rest after_taken taken_together h.front
-      h.ends ∙ is)
-      ∙ keep-insert xs ys (single lba slot) blocks q block nowhere
-      (ap (λ zs. map.get (contents_of zs blocks) q) (sym was) ∙ e)
+      (before ++ joined done new ∷ rest)
+  new-keeps q seen e =
+      ap (λ zs. map.get (slot_numbers zs) q)
+      (join-expanded before done new rest after_taken taken_together h.front h.ends h.is_data ∙ is)
+      ∙ keep-insert xs ys new number_in q seen nowhere
+      (ap (λ zs. map.get (slot_numbers zs) q) (sym was) ∙ e)
 
   pub new-slot : 0 < done.count → done.last < length slots.next
-  new-slot = link-slot before done (single lba slot) rest after_taken taken_together h.front
+  new-slot = link-slot before done new rest after_taken taken_together h.front
 
   pub new-used : 0 < done.count → occurrences done.last free ≡ 0
-  new-used = link-used before done (single lba slot) rest after_taken taken_together h.front
+  new-used = link-used before done new rest after_taken taken_together h.front
 
--- a block that is written over, in the slot that it has
+-- an address that has a slot, and keeps it
 module _ (before : List Run) (done run : Run) (tail : List Run) (slots : Slots) (lba : ℕ)
     (b : List ℕ) (h : IsWriting before done (run ∷ tail) slots lba) (start : run.start ≡ lba) where
   abbrev xs' : List Run
@@ -173,41 +197,57 @@ module _ (before : List Run) (done run : Run) (tail : List Run) (slots : Slots) 
   abbrev ys' : List Run
   ys' = expanded slots.next rest'
 
+  abbrev old' : Run
+  old' = single lba run.first run.kind
+
+  abbrev new' : Run
+  new' = single lba run.first DataRun
+
   some' : 0 < run.count
   some' = h.chained_after.0.not_empty
 
-  was' : expanded slots.next (before ++ done ∷ (run ∷ tail)) ≡ xs' ++ single lba run.first ∷ ys'
+  was' : expanded slots.next (before ++ done ∷ (run ∷ tail)) ≡ xs' ++ old' ∷ ys'
   was' = parted slots.next before done (run ∷ tail)
       ∙ ap (λ zs. xs' ++ zs) (passed-expanded slots.next run tail some'
-      ∙ ap (λ a. single a run.first ∷ ys') start)
+      ∙ ap (λ a. single a run.first run.kind ∷ ys') start)
 
-  is' : expanded slots.next (before ++ done ∷ (single lba run.first ∷ rest')) ≡
-      expanded slots.next (before ++ done ∷ (run ∷ tail))
-  is' = parted slots.next before done (single lba run.first ∷ rest')
-      ∙ ap (λ zs. xs' ++ zs) (single-more slots.next lba run.first rest') ∙ sym was'
+  is' : expanded slots.next (before ++ done ∷ (new' ∷ rest')) ≡ xs' ++ new' ∷ ys'
+  is' = parted slots.next before done (new' ∷ rest')
+      ∙ ap (λ zs. xs' ++ zs) (single-more slots.next lba run.first DataRun rest')
+
+  consistent_was : IsConsistent (xs' ++ old' ∷ ys') slots.blocks slots.free (length slots.next)
+  consistent_was = rw was' at h.consistent
+
+  within' : length xs' < length (xs' ++ old' ∷ ys')
+  within' = let len = length-append xs' (old' ∷ ys') in omega arith
 
   over_together : IsConsistent (expanded slots.next
-      (before ++ done ∷ (single lba run.first ∷ rest'))) (set slots.blocks run.first b) slots.free
+      (before ++ done ∷ (new' ∷ rest'))) (set slots.blocks run.first b) slots.free
       (length slots.next)
-  over_together = rw is' (consistent-over (expanded slots.next (before ++ done ∷ (run ∷ tail)))
-      slots.blocks slots.free (length slots.next) run.first b h.consistent)
+  over_together = rw (is', sym (set-seam xs' ys' old' new'))
+      (consistent-over (set (xs' ++ old' ∷ ys') (length xs') new') slots.blocks slots.free
+      (length slots.next) run.first b
+      (consistent-kind (xs' ++ old' ∷ ys') slots.blocks slots.free (length slots.next) (length xs')
+      old' DataRun consistent_was within' (sym (get_or-append_seam xs' old' ys' old'))))
 
-  over_contents : contents_of (expanded slots.next (before ++ done ∷ (run ∷ tail)))
-      (set slots.blocks run.first b) ≡ map.insert
-      (chained_contents (before ++ done ∷ (run ∷ tail)) slots) lba b
+  over_contents : contents_of (xs' ++ new' ∷ ys') (set slots.blocks run.first b) ≡ map.insert
+      (chained_contents (before ++ done ∷ (run ∷ tail)) slots) lba (Data b)
   over_contents =
-      let consistent = rw was' at h.consistent in
-      let len = length-append xs' (single lba run.first ∷ ys') in
-      rw was' (contents-over (xs' ++ single lba run.first ∷ ys') slots.blocks slots.free
-      (length slots.next) (length xs') (single lba run.first) b consistent (omega arith)
-      (sym (get_or-append_seam xs' (single lba run.first) ys' (single lba run.first))))
+      rw (was', sym (set-seam xs' ys' old' new'))
+      (contents-changed (xs' ++ old' ∷ ys') slots.blocks slots.free (length slots.next)
+      (length xs') old' b consistent_was within' (sym (get_or-append_seam xs' old' ys' old')))
 
   passed_maximal : AreMaximal (lba + 1) (MAX_CAPACITY + 1) rest'
   passed_maximal = passed-by (AreMaximal (lba + 1) (MAX_CAPACITY + 1)) slots.next run tail some'
-      (λ one. maximal-weaker tail (end_of run + 1) (MAX_CAPACITY + 1) (lba + 1) (MAX_CAPACITY + 1)
-      (omega arith) (omega arith) h.after.1)
-      (λ many. let same : run.start + 1 + (run.count - 1) + 1 ≡ end_of run + 1 = omega arith in
-      (omega arith, rw same h.after.1))
+      (λ one. maximal-from tail (behind run) (any_from (MAX_CAPACITY + 1)) (any_from (lba + 1))
+      (λ kind. omega (arith, behind-low run kind)) h.after.2)
+      (λ many. (
+        omega arith,
+        omega arith,
+        maximal-from tail (behind run) (any_from (MAX_CAPACITY + 1))
+            (behind (rest_of slots.next run 1))
+            (behind-at-most (rest_of slots.next run 1) run refl (omega arith)) h.after.2,
+      ))
 
   passed_chained : AreChained slots.next rest'
   passed_chained = passed-by (AreChained slots.next) slots.next run tail some'
@@ -222,36 +262,36 @@ module _ (before : List Run) (done run : Run) (tail : List Run) (slots : Slots) 
   abbrev after_over : Slots
   after_over = record slots {
     blocks = set slots.blocks run.first b;
-    next =
-        linked slots.next done run.first;
+    next = linked slots.next done run.first;
   }
 
-  pub over-writing : IsWriting before (joined done (single lba run.first)) rest' after_over
-      (lba + 1)
-  over-writing = join-writing before done (single lba run.first) rest' after_set over_together
-      h.front h.ends h.maximal_before passed_maximal h.chained_before
+  pub over-writing : IsWriting before (joined done new') rest' after_over (lba + 1)
+  over-writing = join-writing before done new' rest' after_set over_together
+      h.front h.ends h.is_data refl h.maximal_before passed_maximal h.chained_before
       (one-chain slots.next run.first) passed_chained
 
-  over_apart : expanded (linked slots.next done run.first)
-      (before ++ joined done (single lba run.first) ∷ rest') ≡
-      expanded slots.next (before ++ done ∷ (run ∷ tail))
-  over_apart = join-expanded before done (single lba run.first) rest' after_set over_together
-      h.front h.ends ∙ is'
+  over_apart : expanded (linked slots.next done run.first) (before ++ joined done new' ∷ rest') ≡
+      xs' ++ new' ∷ ys'
+  over_apart = join-expanded before done new' rest' after_set over_together
+      h.front h.ends h.is_data ∙ is'
 
-  pub over-contents : chained_contents (before ++ joined done (single lba run.first) ∷ rest')
-      after_over ≡ map.insert (chained_contents (before ++ done ∷ (run ∷ tail)) slots) lba b
+  pub over-contents : chained_contents (before ++ joined done new' ∷ rest')
+      after_over ≡ map.insert (chained_contents (before ++ done ∷ (run ∷ tail)) slots) lba (Data b)
   over-contents = ap (λ zs. contents_of zs (set slots.blocks run.first b)) over_apart
       ∙ over_contents
 
   pub over-keeps : KeepSlots slots.next (before ++ done ∷ (run ∷ tail))
-      (linked slots.next done run.first) (before ++ joined done (single lba run.first) ∷ rest')
-  over-keeps blocks q block e = ap (λ zs. map.get (contents_of zs blocks) q) over_apart ∙ e
+      (linked slots.next done run.first) (before ++ joined done new' ∷ rest')
+  over-keeps q seen e = ap (λ zs. map.get (slot_numbers zs) q) over_apart
+      ∙ ap (λ (es : List (ℕ × Mapping)). map.get {R = nat_cmp} (map.from_entries {R = nat_cmp} es) q)
+      (numbers-kind xs' ys' lba run.first DataRun run.kind)
+      ∙ ap (λ zs. map.get (slot_numbers zs) q) (sym was') ∙ e
 
   pub over-slot : 0 < done.count → done.last < length slots.next
-  over-slot = link-slot before done (single lba run.first) rest' after_set over_together h.front
+  over-slot = link-slot before done new' rest' after_set over_together h.front
 
   pub over-used : 0 < done.count → occurrences done.last slots.free ≡ 0
-  over-used = link-used before done (single lba run.first) rest' after_set over_together h.front
+  over-used = link-used before done new' rest' after_set over_together h.front
 
 -- links that are followed change nothing else
 pub writing-followed : (before : List Run) (done : Run) (rest : List Run) (slots now : Slots)
@@ -260,6 +300,7 @@ pub writing-followed : (before : List Run) (done : Run) (rest : List Run) (slots
 writing-followed before done rest slots now lba n e h = rw e (record {
   consistent = h.consistent;
   maximal_before = h.maximal_before;
+  is_data = h.is_data;
   ends = h.ends;
   after = h.after;
   chained_before = h.chained_before;
@@ -321,7 +362,7 @@ pub skip-maximal : (runs after : List Run) (run : Option Run) (at lba : ℕ)
     → AreMaximal (lba + 1) (MAX_CAPACITY + 1) (ahead_of runs run at ++ after)
 skip-maximal runs after None at lba h k none = k
 skip-maximal runs after (Some run) at lba h k none = let off : run.start ≢ lba =
-    λ same. not_there run lba none same in (omega (arith, h.0), h.1)
+    λ same. not_there run lba none same in (omega (arith, h.0), h.1, h.2)
 
 pub passed-append : (next : List ℕ) (run : Run) (xs ys : List Run)
     → passed next run xs ++ ys ≡ passed next run (xs ++ ys)
@@ -357,31 +398,30 @@ module _ (before after runs more : List Run) (done found : Run) (run : Option Ru
         linked now.next done found.first;
   }
 
-  pub walked-writing : IsWriting before (joined done (single lba found.first))
+  pub walked-writing : IsWriting before (joined done (single lba found.first DataRun))
       (more ++ after) over_slots (lba + 1)
   walked-writing = rw same_more (over-writing before done found tail_of now lba b now_writing
       (there run lba found is).1)
 
-  pub walked-contents : chained_contents (before ++ joined done (single lba found.first) ∷
+  pub walked-contents : chained_contents (before ++ joined done (single lba found.first DataRun) ∷
       (more ++ after)) over_slots ≡ map.insert
-      (chained_contents (before ++ done ∷ (ahead_of runs run at ++ after)) p) lba b
+      (chained_contents (before ++ done ∷ (ahead_of runs run at ++ after)) p) lba (Data b)
   walked-contents =
-      ap (λ zs. chained_contents (before ++ joined done (single lba found.first) ∷ zs) over_slots)
+      ap (λ zs. chained_contents (before ++ joined done (single lba found.first DataRun) ∷ zs) over_slots)
       same_more
       ∙ over-contents before done found tail_of now lba b now_writing (there run lba found is).1
-      ∙ ap₂ (λ zs ns. map.insert (contents_of (expanded ns (before ++ done ∷ zs)) now.blocks) lba b)
+      ∙ ap₂ (λ zs ns. map.insert (contents_of (expanded ns (before ++ done ∷ zs)) now.blocks) lba (Data b))
       (sym here) (sym same_next)
       ∙ ap (λ bs. map.insert (contents_of (expanded p.next
-      (before ++ done ∷ (ahead_of runs run at ++ after))) bs) lba b)
+      (before ++ done ∷ (ahead_of runs run at ++ after))) bs) lba (Data b))
       (ap (λ (s : Slots). s.blocks) e)
 
   pub walked-keeps : KeepSlots p.next (before ++ done ∷ (ahead_of runs run at ++ after))
-      (linked now.next done found.first) (before ++ joined done (single lba found.first) ∷
+      (linked now.next done found.first) (before ++ joined done (single lba found.first DataRun) ∷
       (more ++ after))
-  walked-keeps blocks q block f =
-      ap (λ zs. map.get (contents_of (expanded (linked now.next done found.first)
-      (before ++ joined done (single lba found.first) ∷ zs)) blocks) q) same_more
-      ∙ over-keeps before done found tail_of now lba b now_writing
-      (there run lba found is).1 blocks q block
-      (ap₂ (λ zs ns. map.get (contents_of (expanded ns (before ++ done ∷ zs)) blocks) q) (sym here)
+  walked-keeps q seen f =
+      ap (λ zs. map.get (slot_numbers (expanded (linked now.next done found.first)
+      (before ++ joined done (single lba found.first DataRun) ∷ zs))) q) same_more
+      ∙ over-keeps before done found tail_of now lba b now_writing (there run lba found is).1 q seen
+      (ap₂ (λ zs ns. map.get (slot_numbers (expanded ns (before ++ done ∷ zs))) q) (sym here)
       (sym same_next) ∙ f)

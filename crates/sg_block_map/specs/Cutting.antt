@@ -39,7 +39,8 @@ pub record IsCut (old new : Slots) (kept kept' : List Run) (run : Run) (low high
   pub before : IfSome front (IsFront run low)
   pub inside : IfSome gone (λ part. (low ≤ part.start) × (end_of part ≤ high))
   pub behind : IfSome back
-      (λ part. (high ≤ part.start) × (run.start ≤ part.start) × (end_of part ≡ end_of run))
+      (λ part. (high ≤ part.start) × (run.start ≤ part.start) × (end_of part ≡ end_of run)
+      × (part.kind ≡ run.kind))
   pub keeps : kept' ≡ kept ++ (option_to_list front ++ option_to_list back)
   pub frees : new.free ≡ slots_of (expanded old.next (option_to_list gone)) ++ old.free
   pub stays : StaysBut old.next new.next (slots_of (expanded old.next (option_to_list gone)))

@@ -1,18 +1,22 @@
--- A run to which others are joined.
+-- A run of data to which others are joined.
 use Rattle.std.specs.Prelude.{◌≡◌, ℕ, ◌+◌, ◌<◌, ◌≤◌, List, ◌∷◌, ◌++◌, length, slice_set}
 use Rattle.std.specs.Prelude.{if◌then◌else◌, ◌==◌, Option, Some, None}
 use Rattle.std.specs.FinMap.{get, insert}
+use Rattle.sg_store.specs.Disk.{Mapping}
+use Rattle.sg_store.specs.Disk.Mapping.{Data}
 use Rattle.sg_pool.specs.Chains.{IsChain}
-use Rattle.sg_pool.specs.MappedRecords.{contents_of}
+use Rattle.sg_pool.specs.MappedRecords.{slot_numbers}
 use Rattle.sg_pool.specs.Slots.{Slots}
 use Rattle.sg_pool.specs.MappedRecords.{IsConsistent}
 use Rattle.sg_table.specs.Draft.{Drafted}
 use Rattle.sg_table.specs.Table.{Table}
+use Rattle.sg_table.specs.declared.run.Kind.{Kind}
+use Rattle.sg_table.specs.declared.run.Kind.TheVariants.{Data as DataRun, Anchored as AnchoredRun}
 use Rattle.sg_table.specs.declared.run.Run.{Run}
 use Rattle.sg_store.specs.declared.store.TheConstants.{MAX_CAPACITY, MAX_COUNT, MAX_POOL}
 use Rattle.sg_block_map.specs.Gathering.{AreGathered, AreNear}
 use Rattle.sg_block_map.specs.Runs.{end_of, expanded, AreChained, AreMaximal, AreRuns}
-use Rattle.sg_block_map.specs.Runs.{chained_contents}
+use Rattle.sg_block_map.specs.Runs.{chained_contents, any_from, begins, AreMaximalIn}
 
 -- Two runs as one. The first may have no address yet.
 abbrev pub joined : Run → Run → Run
@@ -21,6 +25,7 @@ joined done other = record {
   count = done.count + other.count;
   first = if done.count == 0 then other.first else done.first;
   last = other.last;
+  kind = done.kind;
 }
 
 -- The links with one from the last slot of a run to another, if the run has an address.
@@ -34,18 +39,19 @@ pub record IsWriting (before : List Run) (done : Run) (rest : List Run) (slots :
   pub consistent : IsConsistent (expanded slots.next (before ++ done ∷ rest)) slots.blocks
       slots.free
       (length slots.next)
-  pub maximal_before : AreMaximal 0 done.start before
+  pub maximal_before : AreMaximalIn (any_from 0) (begins done.kind done.start) before
+  pub is_data : done.kind ≡ DataRun
   pub ends : end_of done ≡ lba
   pub after : AreMaximal lba (MAX_CAPACITY + 1) rest
   pub chained_before : AreChained slots.next before
   pub chained_after : AreChained slots.next rest
   pub front : 0 < done.count → IsChain slots.next done.first done.last done.count
 
--- Each mapped address keeps its slot: whatever blocks the slots have, it has the same one.
+-- Each address that has a slot keeps it.
 abbrev pub KeepSlots : (next : List ℕ) → List Run → (next' : List ℕ) → List Run → Type 0
-KeepSlots next runs next' runs' = (blocks : List (List ℕ)) (lba : ℕ) (block : List ℕ)
-    → get (contents_of (expanded next runs) blocks) lba ≡ Some block
-    → get (contents_of (expanded next' runs') blocks) lba ≡ Some block
+KeepSlots next runs next' runs' = (lba : ℕ) (slot : Mapping)
+    → get (slot_numbers (expanded next runs)) lba ≡ Some slot
+    → get (slot_numbers (expanded next' runs')) lba ≡ Some slot
 
 -- The block at an address was put, whatever runs are before and after: the write has come to the next
 -- address, the contents have the block, and each mapped address has its slot.
@@ -53,7 +59,7 @@ pub record IsPut (before : List Run) (done done' : Run) (rest rest' : List Run) 
     (lba : ℕ) (block : List ℕ) : Type 0 where
   pub writing : IsWriting before done' rest' new (lba + 1)
   pub contents : chained_contents (before ++ done' ∷ rest') new
-      ≡ insert (chained_contents (before ++ done ∷ rest) old) lba block
+      ≡ insert (chained_contents (before ++ done ∷ rest) old) lba (Data block)
   pub keeps : KeepSlots old.next (before ++ done ∷ rest) new.next (before ++ done' ∷ rest')
 
 abbrev pub PutsAddress : (done done' : Run) → (ahead ahead' : List Run) → (old new : Slots)
@@ -86,12 +92,32 @@ pub record ChangesRuns (most_moves : ℕ) (before after : Table) (slots : Slots)
   pub table : after ≡ record before { records = after.records; moved = after.moved }
   pub moves : after.moved ≤ before.moved + most_moves
 
--- A run that is to begin at an address, and has none yet.
+-- A run of data that is to begin at an address, and has none yet.
 abbrev pub no_run : (lba : ℕ) → Run
-no_run lba = record { start = lba; count = 0; first = 0; last = 0 }
+no_run lba = record { start = lba; count = 0; first = 0; last = 0; kind = DataRun }
 
--- The run ahead, if there is one, is joined.
-abbrev pub IsFinished : (old new : Slots) → (done : Run) → Option Run → Run → Type 0
-IsFinished old new done None result = (result ≡ done) × (new ≡ old)
-IsFinished old new done (Some run) result =
-    (result ≡ joined done run) × (new ≡ record old { next = linked old.next done run.first })
+-- The part of a run before a range is kept apart if it is anchored. If it is data, the range is
+-- joined to it.
+abbrev pub begun_by : Kind → (front : Run) → (lba : ℕ) → Option Run × Run
+begun_by DataRun front lba = (None, front)
+begun_by AnchoredRun front lba = (Some front, no_run lba)
+
+-- What is kept before a range, and the run that is to take up the range.
+abbrev pub begun : (front : Option Run) → (lba : ℕ) → Option Run × Run
+begun None lba = (None, no_run lba)
+begun (Some front) lba = begun_by front.kind front lba
+
+-- The run behind a range is joined if it is data, and is kept apart if it is anchored.
+abbrev pub IsFinishedBy : Kind → (old new : Slots) → (done run result : Run) → (back : Option Run)
+    → Type 0
+IsFinishedBy DataRun old new done run result back = (result ≡ joined done run) × (back ≡ None)
+    × (new ≡ record old { next = linked old.next done run.first })
+IsFinishedBy AnchoredRun old new done run result back =
+    (result ≡ done) × (back ≡ Some run) × (new ≡ old)
+
+-- So is the run ahead, if there is one.
+abbrev pub IsFinished : (old new : Slots) → (done : Run) → Option Run → Run → (back : Option Run)
+    → Type 0
+IsFinished old new done None result back = (result ≡ done) × (back ≡ None) × (new ≡ old)
+IsFinished old new done (Some run) result back =
+    IsFinishedBy run.kind old new done run result back

@@ -1,36 +1,54 @@
--- The maximal runs of mapped addresses, and which of them a range meets.
-use Rattle.std.specs.Prelude.{ℕ, ◌+◌, List, [], ◌∷◌, Bool, nat_lt, nat_le, ◌&&◌, ◌==◌}
+-- The maximal runs of addresses that have data, or are anchored, and which of them a range meets.
+use Rattle.std.specs.Prelude.{ℕ, ◌+◌, List, [], ◌∷◌, Bool, true, false, nat_lt, nat_le, ◌&&◌, ◌==◌}
 use Rattle.std.specs.Prelude.{if◌then◌else◌, min, max}
 use Rattle.std.specs.List.{count_by, sum_by}
-use Rattle.std.specs.FinMap.{keys}
-use Rattle.sg_store.specs.Disk.{Contents}
+use Rattle.std.specs.FinMap.{entries}
+use Rattle.sg_store.specs.Disk.{Contents, Mapping}
+use Rattle.sg_store.specs.Disk.Mapping.{Data, Anchored}
+use Rattle.sg_table.specs.declared.run.Kind.{Kind}
+use Rattle.sg_table.specs.declared.run.Kind.TheVariants.{Data as DataRun, Anchored as AnchoredRun}
 
--- Runs with an address before them: joined to the first run if that begins right behind it, and a
--- run of its own if not.
-abbrev pub with_address : ℕ → List (ℕ × ℕ) → List (ℕ × ℕ)
-with_address lba [] = (lba, 1) ∷ []
-with_address lba ((start, count) ∷ runs) =
-    if start == lba + 1 then (lba, count + 1) ∷ runs else (lba, 1) ∷ (start, count) ∷ runs
+abbrev pub kind_of : Mapping → Kind
+kind_of (Data block) = DataRun
+kind_of Anchored = AnchoredRun
 
--- The runs of addresses that rise: the first address of each, and its count.
-abbrev pub runs_of : List ℕ → List (ℕ × ℕ)
+abbrev pub same_kind : Kind → Kind → Bool
+same_kind DataRun DataRun = true
+same_kind DataRun AnchoredRun = false
+same_kind AnchoredRun DataRun = false
+same_kind AnchoredRun AnchoredRun = true
+
+-- A run: its first address, its count and its kind.
+abbrev pub Extent : Type 0
+Extent = ℕ × ℕ × Kind
+
+-- Runs with an address before them: joined to the first run if that begins right behind it and is of
+-- its kind, and a run of its own if not.
+abbrev pub with_address : ℕ → Kind → List Extent → List Extent
+with_address lba kind [] = (lba, 1, kind) ∷ []
+with_address lba kind (run ∷ runs) =
+    if run.0 == lba + 1 && same_kind kind run.2
+    then (lba, run.1 + 1, kind) ∷ runs else (lba, 1, kind) ∷ run ∷ runs
+
+-- The runs of addresses that rise.
+abbrev pub runs_of : List (ℕ × Mapping) → List Extent
 runs_of [] = []
-runs_of (lba ∷ more) = with_address lba (runs_of more)
+runs_of (entry ∷ more) = with_address entry.0 (kind_of entry.1) (runs_of more)
 
--- The maximal runs of mapped addresses, rising.
-unfoldable pub runs : Contents → List (ℕ × ℕ)
-runs contents = runs_of (keys contents)
+-- The maximal runs of one kind, rising.
+unfoldable pub runs : Contents → List Extent
+runs contents = runs_of (entries contents)
 
 -- Whether a run and a range have an address in common.
-abbrev pub meets : (lba count : ℕ) → (ℕ × ℕ) → Bool
+abbrev pub meets : (lba count : ℕ) → Extent → Bool
 meets lba count run = nat_lt (max run.0 lba) (min (run.0 + run.1) (lba + count))
 
--- How many of the maximal runs have an address in common with a range.
+-- How many of the maximal runs, of both kinds, have an address in common with a range.
 unfoldable pub meet : Contents → (lba count : ℕ) → ℕ
 meet contents lba count = count_by (meets lba count) (runs contents)
 
 -- How many blocks a run has, if it meets a range or touches one of its ends.
-abbrev pub blocks_if_near : (lba count : ℕ) → (ℕ × ℕ) → ℕ
+abbrev pub blocks_if_near : (lba count : ℕ) → Extent → ℕ
 blocks_if_near lba count run =
     if nat_le lba (run.0 + run.1) && nat_le run.0 (lba + count) then run.1 else 0
 

@@ -1,11 +1,13 @@
 -- A range that is written inside one run.
 use Rattle.std.specs.Prelude.{◌≡◌, ℕ, ◌+◌, ◌<◌, ◌≤◌, length}
 use Rattle.sg_pool.specs.Slots.{Slots}
+use Rattle.sg_table.specs.declared.run.Kind.TheVariants.{Data}
 use Rattle.sg_table.specs.declared.run.Run.{Run}
 use Rattle.sg_block_map.specs.Runs.{end_of}
 
--- A range that is not empty, and of which a run has all addresses.
+-- A range that is not empty, and of which a run of data has all addresses.
 pub record LiesInRun (run : Run) (lba count : ℕ) : Type 0 where
+  pub is_data : run.kind ≡ Data
   pub not_empty : 0 < count
   pub after_start : run.start ≤ lba
   pub before_end : lba + count ≤ end_of run

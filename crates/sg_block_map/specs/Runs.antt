@@ -1,5 +1,6 @@
--- Runs of mapped addresses over chains of slots, and the single addresses that they stand for.
-use Rattle.std.specs.Prelude.{◌≡◌, ℕ, ◌+◌, ◌≤◌, zero, suc, List, [], ◌∷◌, ◌++◌, slice_index, length}
+-- Runs of addresses of one kind over chains of slots, and the single addresses that they stand for.
+use Rattle.std.specs.Prelude.{◌≡◌, ℕ, ◌+◌, ◌<◌, ◌≤◌, zero, suc, List, [], ◌∷◌, ◌++◌, slice_index}
+use Rattle.std.specs.Prelude.{length, if◌then◌else◌}
 use Rattle.std.specs.List.{sum_by}
 use Rattle.sg_pool.specs.Chains.{IsChain}
 use Rattle.sg_store.specs.Disk.{Contents}
@@ -7,26 +8,28 @@ use Rattle.sg_table.specs.Records.{single}
 use Rattle.sg_pool.specs.MappedRecords.{contents_of}
 use Rattle.sg_pool.specs.Slots.{Slots}
 use Rattle.sg_pool.specs.MappedRecords.{IsConsistent}
+use Rattle.sg_table.specs.declared.run.Kind.{Kind}
 use Rattle.sg_table.specs.declared.run.Run.{Run}
 use Rattle.sg_store.specs.declared.store.TheConstants.{MAX_CAPACITY}
+use Rattle.sg_block_map.specs.MaximalRuns.{Extent, same_kind}
 
 -- The address past a run.
 abbrev pub end_of : Run → ℕ
 end_of run = run.start + run.count
 
--- The first address of a run, and its count.
-abbrev pub extent_of : Run → ℕ × ℕ
-extent_of run = (run.start, run.count)
+-- The first address of a run, its count and its kind.
+abbrev pub extent_of : Run → Extent
+extent_of run = (run.start, run.count, run.kind)
 
--- `count` addresses from one on, each with its slot, in the chain from a slot on.
-unfoldable pub singles : (next : List ℕ) → (start first count : ℕ) → List Run
-singles next start first zero = []
-singles next start first (suc count) =
-    single start first ∷ singles next (start + 1) (slice_index next first) count
+-- `count` addresses of a kind from one on, each with its slot, in the chain from a slot on.
+unfoldable pub singles : (next : List ℕ) → (start first count : ℕ) → Kind → List Run
+singles next start first zero kind = []
+singles next start first (suc count) kind =
+    single start first kind ∷ singles next (start + 1) (slice_index next first) count kind
 
 -- The addresses of a run, each with the slot at its place of the chain.
 abbrev pub singles_of : (next : List ℕ) → Run → List Run
-singles_of next run = singles next run.start run.first run.count
+singles_of next run = singles next run.start run.first run.count run.kind
 
 -- The addresses of runs, each with its slot.
 unfoldable pub expanded : (next : List ℕ) → List Run → List Run
@@ -38,11 +41,38 @@ abbrev pub AreChained : (next : List ℕ) → List Run → Type 0
 AreChained next [] = Unit
 AreChained next (run ∷ runs) = IsChain next run.first run.last run.count × AreChained next runs
 
--- The runs rise, from one address and below another. Past the end of each there is an address that
--- none of them has.
+-- The runs rise, from one address to another. None is empty, and no two have an address in common.
+abbrev pub AreApart : (low high : ℕ) → List Run → Type 0
+AreApart low high [] = low ≤ high
+AreApart low high (run ∷ runs) =
+    (low ≤ run.start) × (0 < run.count) × AreApart (end_of run) high runs
+
+-- From which address on a run of each kind may begin.
+abbrev pub Bound : Type 0
+Bound = Kind → ℕ
+
+-- A run of either kind may begin at an address.
+abbrev pub any_from : ℕ → Bound
+any_from lba kind = lba
+
+-- Right behind a run one of the other kind may begin. One of its own would be a part of it, so there
+-- is an address between them.
+abbrev pub behind : Run → Bound
+behind run kind = if same_kind kind run.kind then end_of run + 1 else end_of run
+
+-- Runs before one of a kind that begins at an address do not reach it if they are of its kind.
+abbrev pub begins : Kind → ℕ → Bound
+begins kind lba other = if same_kind other kind then lba else lba + 1
+
+-- The runs rise between two bounds. None is empty, and none could be joined to the next.
+abbrev pub AreMaximalIn : (low high : Bound) → List Run → Type 0
+AreMaximalIn low high [] = (kind : Kind) → low kind ≤ high kind
+AreMaximalIn low high (run ∷ runs) =
+    (low run.kind ≤ run.start) × (0 < run.count) × AreMaximalIn (behind run) high runs
+
+-- They rise from one address and below another.
 abbrev pub AreMaximal : (low high : ℕ) → List Run → Type 0
-AreMaximal low high [] = low ≤ high
-AreMaximal low high (run ∷ runs) = (low ≤ run.start) × AreMaximal (end_of run + 1) high runs
+AreMaximal low high runs = AreMaximalIn (any_from low) (any_from high) runs
 
 -- Single addresses rise, from one address and below another.
 abbrev pub AreBetween : (low high : ℕ) → List Run → Type 0

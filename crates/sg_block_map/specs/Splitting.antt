@@ -12,6 +12,7 @@ front_of next run count = record {
   count = count;
   first = run.first;
   last = slot_after next run.first (count - 1);
+  kind = run.kind;
 }
 
 -- and those behind them.
@@ -21,17 +22,19 @@ rest_of next run count = record {
   count = run.count - count;
   first = slot_after next run.first count;
   last = run.last;
+  kind = run.kind;
 }
 
 -- The part of a run before an address.
 abbrev pub IsFront : (run : Run) (lba : ℕ) → Run → Type 0
 IsFront run lba front =
     (front.start ≡ run.start) × (end_of front ≡ min (end_of run) lba) × (front.start < lba)
+    × (front.kind ≡ run.kind)
 
 -- The part of a run from an address on.
 abbrev pub IsRest : (run : Run) (lba : ℕ) → Run → Type 0
 IsRest run lba rest = (run.start ≤ rest.start) × (lba ≤ rest.start)
-    × (end_of rest ≡ end_of run) × (rest.start ≤ max run.start lba)
+    × (end_of rest ≡ end_of run) × (rest.start ≤ max run.start lba) × (rest.kind ≡ run.kind)
 
 -- The addresses of a run before an address, and those from it on, each with its slot.
 pub record IsSplit (next : List ℕ) (run : Run) (lba : ℕ) (front rest : Option Run) : Type 0 where

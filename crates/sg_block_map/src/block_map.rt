@@ -1,8 +1,7 @@
-// The store itself: a record for each maximal run of mapped addresses, in a table, and the blocks of a
-// run in a chain of slots. What its calls do to the runs is in the other files.
+// The store itself: a record for each maximal run of addresses of one kind, in a table, and the
+// blocks of a run in a chain of slots. What its calls do to the runs is in the other files.
 ghost use Rattle.std.specs.Prelude.{◌≡◌, ◌+◌, ◌*◌, ◌<◌, ◌≤◌, ◌↔◌, length};
 ghost use Rattle.std.specs.Prelude.{IsErr, OnOk, OnErr};
-ghost use Rattle.std.proofs.Props.{props};
 ghost use Rattle.std.specs.FinMap.{len};
 ghost use Rattle.sg_store.specs.Disk.{IsWellFormed, IsOverfull, blocks};
 ghost use Rattle.sg_store.specs.Disk.{disk_replaced, disk_written, disk_filled, disk_unmapped};
@@ -14,11 +13,11 @@ ghost use Rattle.sg_block_map.specs.MaximalRuns.{runs};
 ghost use Rattle.sg_block_map.specs.RunCost.{block_price, block_least, CostsRange};
 ghost use Rattle.sg_block_map.specs.RunCostLaws.{block_price-within, block_least-positive};
 ghost use Rattle.sg_block_map.specs.Runs.{AreRuns, chained_contents};
-ghost use Rattle.sg_block_map.specs.RunsProps.{AreMaximal-IsProp, AreChained-IsProp};
+ghost use Rattle.sg_block_map.specs.RunsProps.{AreRuns-IsProp, IsWellFormed-IsProp};
 ghost use Rattle.sg_table.specs.Draft.{empty_draft};
 ghost use Rattle.sg_store.specs.declared.store.TheConstants.{MAX_CAPACITY, MAX_POOL};
 
-use crate::gather::{Gathered, gather, mapped_in};
+use crate::gather::{Gathered, gather, used_in};
 use crate::read::read_runs;
 use crate::status::{cursor_over, write_descriptors};
 use crate::unmap::{renew_slots, unmap_runs};
@@ -30,8 +29,8 @@ use sg_table::{Draft, RunTable};
 use sg_wire::Cut;
 use std::alloc::{AllocError, Global};
 
-/// A disk of which each maximal run of mapped addresses has one record (SBC-3, 4.7). The slots of a
-/// run are a chain, and no block is moved when runs are joined or cut.
+/// A disk of which each maximal run of addresses that are mapped, or are anchored, has one record
+/// (SBC-3, 4.7). The slots of a run are a chain, and no block is moved when runs are joined or cut.
 ///
 /// A call over a range visits the records of the runs that the range meets, and at most two more.
 #[derive(Drop)]
@@ -46,8 +45,8 @@ pub struct BlockMap {
     ghost pool_fits: { table.room ≤ MAX_POOL },
     ghost gathered_empty: { gathered ≡ empty_draft table.room },
     ghost remaining_empty: { remaining ≡ empty_draft table.room },
-    ghost well_formed: { IsWellFormed capacity (chained_contents table.records pool) },
-    ghost runs: { AreRuns table.records pool table.room } by { Prim.hlevel (props, AreMaximal-IsProp, AreChained-IsProp) },
+    ghost well_formed: { IsWellFormed capacity (chained_contents table.records pool) } by { IsWellFormed-IsProp capacity (chained_contents table.records pool) },
+    ghost runs: { AreRuns table.records pool table.room } by { AreRuns-IsProp table.records pool table.room },
 }
 
 impl BlockMap {
@@ -55,8 +54,8 @@ impl BlockMap {
     ghost use Rattle.sg_block_map.specs.State.{disk_of, meter_of, records_of, slots_by_address};
     ghost use Rattle.sg_block_map.specs.State.{Keeps};
 
-    /// How many maximal runs of mapped addresses there are. Each has one record, and the table has
-    /// no others.
+    /// How many maximal runs of addresses of one kind there are. Each has one record, and the table
+    /// has no others.
     pub fn run_count(&self) -> usize
         ensures records { records_of self.now ≡ runs (disk_of self.now).contents }
         ensures count { result ≡ length (runs (disk_of self.now).contents) }
@@ -67,7 +66,7 @@ impl BlockMap {
     // Replaces the blocks from an address on by those of a source.
     //
     // # Errors
-    // More addresses would be mapped than the pool has blocks. Nothing is replaced then.
+    // More addresses would have a block of the pool than it has. Nothing is replaced then.
     fn replace(&mut self, lba: u64, count: u32, source: &Source) -> Result<(), Space>
         requires range { lba + count ≤ (disk_of self.old).capacity }
         requires blocks { HasBlocks source.now count }
@@ -81,7 +80,7 @@ impl BlockMap {
             (disk_of self.new ≡ disk_replaced (disk_of self.old) lba count (block_of source.now)) }
         ensures err { OnErr result (disk_of self.new ≡ disk_of self.old) }
 
-        // Each address that was mapped keeps its slot.
+        // Each address that has a slot keeps it.
         ensures keeps { Keeps (slots_by_address self.old) (slots_by_address self.new) }
 
         // What the call costs.
@@ -92,8 +91,8 @@ impl BlockMap {
             return Ok(());
         }
         gather(&mut self.table, &mut self.gathered, lba, count);
-        let mapped = mapped_in(self.gathered.records(), lba, count);
-        if u64::from(count) > self.pool.free_count() as u64 + mapped {
+        let used = used_in(self.gathered.records(), lba, count);
+        if u64::from(count) > self.pool.free_count() as u64 + used {
             self.gathered.clear();
             return Err(Space);
         }
@@ -164,7 +163,7 @@ impl Store for BlockMap {
             (disk_of self.new ≡ disk_written (disk_of self.old) lba count bytes.now) }
         ensures err { OnErr result (disk_of self.new ≡ disk_of self.old) }
 
-        // Each address that was mapped keeps its slot.
+        // Each address that has a slot keeps it.
         ensures keeps { Keeps (slots_by_address self.old) (slots_by_address self.new) }
 
         // What the call costs.
@@ -186,7 +185,7 @@ impl Store for BlockMap {
             (disk_of self.new ≡ disk_filled (disk_of self.old) lba count block.now) }
         ensures err { OnErr result (disk_of self.new ≡ disk_of self.old) }
 
-        // Each address that was mapped keeps its slot.
+        // Each address that has a slot keeps it.
         ensures keeps { Keeps (slots_by_address self.old) (slots_by_address self.new) }
 
         // What the call costs.
@@ -200,7 +199,7 @@ impl Store for BlockMap {
         requires range { lba + count ≤ (disk_of self.old).capacity }
         requires headroom { HasHeadroom (meter_of self.old).counts }
 
-        // The addresses are mapped no more, and all others keep their slots.
+        // The addresses have no slot any more, and all others keep theirs.
         ensures disk { disk_of self.new ≡ disk_unmapped (disk_of self.old) lba count }
         ensures keeps { slots_by_address self.new ≡ unmapped (slots_by_address self.old) lba count }
 

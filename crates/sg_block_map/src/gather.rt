@@ -6,7 +6,7 @@ ghost use Rattle.sg_table.specs.Records.{IsLowerBound};
 ghost use Rattle.sg_block_map.specs.Gathering.{AreBegun, AreGathered, AreGatheredOn, AreGatheredTo};
 ghost use Rattle.sg_block_map.specs.Gathering.{HaveRoom, end_index, overlap, starts_in};
 ghost use Rattle.sg_block_map.specs.Metering.{Visits, SearchesAndVisits};
-ghost use Rattle.sg_block_map.specs.Runs.{AreMaximal, blocks_of};
+ghost use Rattle.sg_block_map.specs.Runs.{AreApart, AreMaximal, blocks_of};
 
 use sg_store::{MAX_CAPACITY, MAX_COUNT, MAX_POOL};
 use sg_table::{Draft, Run, RunTable};
@@ -60,8 +60,8 @@ fn gather_from(table: &mut RunTable, gathered: &mut Gathered, index: usize, high
             return;
         }
         gathered.push(run);
-        // The next run begins past the end of this one.
-        if run.start + u64::from(run.count) >= high {
+        // The next run begins at the end of this one or past it.
+        if run.start + u64::from(run.count) > high {
             return;
         }
     }
@@ -88,18 +88,18 @@ pub(crate) fn gather(table: &mut RunTable, gathered: &mut Gathered, lba: u64, co
 }
 
 /// How many of the addresses from one on the runs have.
-pub(crate) fn mapped_in(runs: &[Run], lba: u64, count: u32) -> u64
+pub(crate) fn used_in(runs: &[Run], lba: u64, count: u32) -> u64
     requires fits { blocks_of runs.now ≤ MAX_POOL }
-    requires runs { AreMaximal 0 (MAX_CAPACITY + 1) runs.now }
+    requires runs { AreApart 0 MAX_CAPACITY runs.now }
     requires range { lba + count ≤ MAX_CAPACITY }
     ensures value { result ≡ sum_by (overlap lba (lba + count)) runs.now }
     ensures fits { result ≤ MAX_POOL }
 {
     let high = lba + u64::from(count);
-    let mut mapped = 0;
+    let mut used = 0;
     for run in runs {
         let end = (run.start + u64::from(run.count)).min(high);
-        mapped += end.saturating_sub(run.start.max(lba));
+        used += end.saturating_sub(run.start.max(lba));
     }
-    mapped
+    used
 }

@@ -9,9 +9,9 @@ pub fn a_block_map_is_made_of_its_parts()
 {}
 
 /// The maximal runs, which the records of a [`BlockMap`](crate::BlockMap) are, have a first address
-/// with a count exactly where as many addresses from it on are mapped, one at least, while neither
-/// the address before them nor the one behind them is.
-pub fn the_runs_are_those_that_no_mapped_address_touches()
+/// with a count and a kind exactly where as many addresses from it on are of the kind, one at least,
+/// while neither the address before them nor the one behind them is.
+pub fn the_runs_are_those_that_no_address_of_their_kind_touches()
     ensures { HasExactlyTheMaximalRuns }
 {}
 

@@ -1,5 +1,5 @@
-//! A store of blocks with a record for each maximal run of mapped addresses, whose blocks are in a
-//! chain of slots.
+//! A store of blocks with a record for each maximal run of addresses that are mapped, or are
+//! anchored. The blocks of a run are in a chain of slots.
 #![tactic(auto)]
 
 mod block_map;

@@ -3,6 +3,7 @@
 ghost use Rattle.std.specs.Prelude.{◌≡◌, ◌+◌, ◌≤◌, ◌++◌, ◌∷◌, List, length, drop, IfSome};
 ghost use Rattle.sg_pool.specs.Chains.{chain, AreBelow};
 ghost use Rattle.sg_store.specs.Disk.{replaced};
+ghost use Rattle.sg_table.specs.declared.run.Kind.TheVariants.{Data};
 ghost use Rattle.sg_pool.specs.MappedRecords.{IsConsistent};
 ghost use Rattle.sg_pool.specs.Source.{HasBlocks, block_of};
 ghost use Rattle.sg_block_map.specs.Metering.{FollowsLinks};
@@ -12,17 +13,21 @@ ghost use Rattle.sg_block_map.specs.Runs.{end_of, expanded, chained_contents};
 use crate::split::follow;
 use sg_pool::{Pool, Source};
 use sg_store::MAX_CAPACITY;
-use sg_table::Run;
+use sg_table::{Kind, Run};
 
-/// The first of some runs, if it has all addresses of a range.
+/// The first of some runs, if it is data and has all addresses of a range.
 pub(crate) fn covering(runs: &[Run], lba: u64, count: u32) -> Option<Run>
     requires range { lba + count ≤ MAX_CAPACITY }
     ensures first { IfSome result (λ run. runs.now ≡ run ∷ drop 1 runs.now) }
-    ensures covers { IfSome result (λ run. (run.start ≤ lba) × (lba + count ≤ end_of run)) }
+    ensures covers { IfSome result
+        (λ run. (run.kind ≡ Data) × (run.start ≤ lba) × (lba + count ≤ end_of run)) }
 {
     let run = *runs.first()?;
     let covers = run.start <= lba && lba - run.start + u64::from(count) <= u64::from(run.count);
-    if covers { Some(run) } else { None }
+    match run.kind {
+        Kind::Data if covers => Some(run),
+        _ => None,
+    }
 }
 
 /// Replaces the blocks of addresses that a run has. No slot is taken, and no link is changed.

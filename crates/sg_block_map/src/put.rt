@@ -1,6 +1,6 @@
 // Putting runs in the place of the gathered ones: the only place that changes records. What the runs
 // stand for is for its callers to know.
-ghost use Rattle.std.specs.Prelude.{◌≡◌, ◌+◌, ◌≤◌, length};
+ghost use Rattle.std.specs.Prelude.{◌≡◌, ◌+◌, ◌≤◌, ◌++◌, ◌∷◌, length, option_to_list};
 ghost use Rattle.std.specs.List.{splice};
 ghost use Rattle.sg_table.specs.Leaves.{move_bound};
 ghost use Rattle.sg_table.specs.Table.{spliced};
@@ -32,4 +32,33 @@ pub(crate) fn put_runs(table: &mut RunTable, gathered: &Gathered, runs: &[Run])
     }
     let from = gathered.from();
     table.splice(from, from + old.len(), runs);
+}
+
+/// Replaces the gathered runs in the table by one, and by what is kept before it and behind it.
+pub(crate) fn put_parts(
+    table: &mut RunTable,
+    gathered: &Gathered,
+    front: Option<Run>,
+    run: Run,
+    back: Option<Run>,
+)
+    requires table_size { length table.old.records ≤ MAX_POOL }
+    requires within { end_index gathered.now ≤ length table.old.records }
+    requires same { splice table.old.records gathered.now.from (end_index gathered.now)
+        gathered.now.records ≡ table.old.records }
+    requires room { length table.old.records
+        + length (option_to_list front ++ run ∷ option_to_list back)
+        ≤ table.old.room + length gathered.now.records }
+
+    ensures table { table.new
+        ≡ record (spliced table.old gathered.now.from (end_index gathered.now)
+        (option_to_list front ++ run ∷ option_to_list back)) { moved = table.new.moved } }
+    ensures moves { table.new.moved ≤ table.old.moved + move_bound + 3 }
+{
+    match (front, back) {
+        (None, None) => put_runs(table, gathered, &[run]),
+        (Some(front), None) => put_runs(table, gathered, &[front, run]),
+        (None, Some(back)) => put_runs(table, gathered, &[run, back]),
+        (Some(front), Some(back)) => put_runs(table, gathered, &[front, run, back]),
+    }
 }

@@ -41,12 +41,14 @@ fn split(pool: &mut Pool, run: Run, count: u32) -> (Run, Run)
         count,
         first: run.first,
         last,
+        kind: run.kind,
     };
     let rest = Run {
         start: run.start + u64::from(count),
         count: run.count - count,
         first,
         last: run.last,
+        kind: run.kind,
     };
     (front, rest)
 }

@@ -1,5 +1,5 @@
 // GET LBA STATUS over a table of runs: where the runs of a range begin, and the descriptors one by
-// one. It knows no slot and no block: which addresses are mapped is in the table.
+// one. It knows no slot and no block: the status of addresses is in the table.
 ghost use Rattle.std.specs.Prelude.{◌≡◌, ◌+◌, ◌-◌, ◌<◌, ◌≤◌, ℕ, length};
 ghost use Rattle.sg_store.specs.LbaStatus.{covered, descriptor_at, descriptors_from};
 ghost use Rattle.sg_store.specs.LbaStatus.{PutsDescriptors};
@@ -12,6 +12,7 @@ ghost use Rattle.sg_block_map.specs.Runs.{chained_contents};
 ghost use Rattle.sg_block_map.specs.Status.{IsOver, IsRunTable, MeetsRange};
 ghost use Rattle.sg_block_map.specs.Status.{records_met, run_over};
 
+use sg_pool::status_of;
 use sg_store::lba_status::{MAX_ADDRESSES, MAX_DESCRIPTORS, ProvisioningStatus, StatusDescriptor};
 use sg_store::{MAX_COUNT, MAX_POOL};
 use sg_table::{Cursor, Run, RunTable};
@@ -62,7 +63,7 @@ fn describe(
     requires address { lba < capacity }
     requires headroom { table.old.visits < u64.MAX }
 
-    // Which addresses are mapped does not depend on their slots.
+    // The status of addresses does not depend on their slots.
     ensures descriptor { (slots : Slots) →
         result.0 ≡ descriptor_at (chained_contents table.old.records slots) capacity lba }
     ensures cursor { IsOver table.old.records result.1 (lba + result.0.count) }
@@ -77,7 +78,7 @@ fn describe(
         return (StatusDescriptor { lba, count, status }, cursor);
     };
     let count = (run.start + u64::from(run.count) - lba) as u32;
-    let status = ProvisioningStatus::Mapped;
+    let status = status_of(run.kind);
     let end = Cursor::new(table, cursor.index + 1);
     (StatusDescriptor { lba, count, status }, end)
 }
@@ -94,7 +95,7 @@ pub(crate) fn write_descriptors(
     requires table { IsRunTable capacity table.old.records }
     requires headroom { table.old.visits ≤ MAX_COUNT + MAX_POOL }
 
-    // Which addresses are mapped does not depend on their slots.
+    // The status of addresses does not depend on their slots.
     ensures descriptors { (slots : Slots) → PutsDescriptors
         (chained_contents table.old.records slots) capacity lba cut.old cut.new result }
     ensures at_most { result ≤ MAX_DESCRIPTORS }

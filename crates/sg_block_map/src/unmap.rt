@@ -1,11 +1,11 @@
 // Unmapping a range: the slots of its addresses are freed chain by chain, and the parts of runs before
 // and behind it remain. No block is touched.
-ghost use Rattle.std.specs.Prelude.{◌≡◌, ◌+◌, ◌-◌, ◌<◌, ◌≤◌, ◌++◌, ℕ, List, length};
+ghost use Rattle.std.specs.Prelude.{◌≡◌, ◌+◌, ◌-◌, ◌<◌, ◌≤◌, ◌++◌, length};
 ghost use Rattle.std.specs.Prelude.{option_to_list, IfSome};
 ghost use Rattle.sg_pool.specs.Chains.{AreBelow, IsChain};
 ghost use Rattle.sg_store.specs.Disk.{unmapped};
 ghost use Rattle.sg_table.specs.Leaves.{move_bound};
-ghost use Rattle.sg_pool.specs.MappedRecords.{contents_of};
+ghost use Rattle.sg_pool.specs.MappedRecords.{Seen, contents_by};
 ghost use Rattle.sg_table.specs.Records.{slots_of};
 ghost use Rattle.sg_block_map.specs.Cutting.{AreDistinct, HasOwnSlots, StaysBut, IsCut};
 ghost use Rattle.sg_block_map.specs.Joining.{ChangesRuns, IsReadyFor};
@@ -91,11 +91,10 @@ pub(crate) fn unmap_runs(
     requires room { remaining.old.room ≡ table.old.room }
     requires order { low < high }
 
-    // The addresses are unmapped. This holds whatever the blocks are, so the others keep their
-    // slots.
-    ensures contents { (blocks : List (List ℕ)) →
-        contents_of (expanded pool.new.next table.new.records) blocks
-        ≡ unmapped (contents_of (expanded pool.old.next table.old.records) blocks)
+    // The addresses are unmapped. This holds whatever is seen of slots, so the others keep theirs.
+    ensures contents { (seen : Seen) →
+        contents_by seen (expanded pool.new.next table.new.records)
+        ≡ unmapped (contents_by seen (expanded pool.old.next table.old.records))
         low (high - low) }
     ensures table { ChangesRuns (move_bound + length remaining.new.records)
         table.old table.new pool.new }
@@ -117,7 +116,7 @@ pub(crate) fn unmap_runs(
     put_runs(table, gathered, remaining.records());
 }
 
-/// Has the slots taken in ascending order again where no address is mapped: what was written and
+/// Has the slots taken in ascending order again where no address has one: what was written and
 /// unmapped before has scattered them, and the blocks of a range lie side by side no more.
 pub(crate) fn renew_slots(table: &RunTable, pool: &mut Pool)
     requires { AreRuns table.now.records pool.old table.now.room }

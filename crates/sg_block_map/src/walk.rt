@@ -65,6 +65,7 @@ impl Walk {
             count: run.count - 1,
             first,
             last: run.last,
+            kind: run.kind,
         };
         Walk {
             run: Some(rest),

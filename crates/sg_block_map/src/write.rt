@@ -1,14 +1,14 @@
 // Writing a range: the runs near it and its addresses become one run. That there are slots enough is for
 // the store to know, and which runs are near is for `gather`.
 ghost use Rattle.std.specs.Prelude.{◌≡◌, ◌+◌, ◌-◌, ◌^◌, ◌<◌, ◌≤◌, ◌++◌, ◌∷◌, ℕ, List, length};
-ghost use Rattle.std.specs.Prelude.{None, Option, option_to_list, unwrap_or, IfSome};
-ghost use Rattle.sg_store.specs.Disk.{replaced, mapped_among};
+ghost use Rattle.std.specs.Prelude.{None, Option, option_to_list, IfSome};
+ghost use Rattle.sg_store.specs.Disk.{replaced, used_among};
 ghost use Rattle.sg_table.specs.Leaves.{move_bound};
 ghost use Rattle.sg_table.specs.Records.{run_at};
 ghost use Rattle.sg_table.specs.Occurrences.{occurrences};
 ghost use Rattle.sg_pool.specs.Slots.{followed};
 ghost use Rattle.sg_pool.specs.Source.{HasBlocks, block_of};
-ghost use Rattle.sg_block_map.specs.Joining.{joined, linked, no_run, IsWriting, IsFinished};
+ghost use Rattle.sg_block_map.specs.Joining.{begun, joined, linked, IsWriting, IsFinished};
 ghost use Rattle.sg_block_map.specs.Joining.{ChangesRuns, GoesOn, IsReadyFor, KeepSlots, PutsAddress};
 ghost use Rattle.sg_block_map.specs.Metering.{FollowsLinks, FollowsPassed};
 ghost use Rattle.sg_block_map.specs.Runs.{expanded, chained_contents};
@@ -17,19 +17,19 @@ ghost use Rattle.sg_block_map.specs.Walking.{ahead_of, AreAhead, IsWalkFrom};
 
 use crate::gather::Gathered;
 use crate::overwrite::{covering, overwrite};
-use crate::put::put_runs;
+use crate::put::put_parts;
 use crate::walk::{Walk, walk_from};
 use sg_pool::{Pool, Source};
 use sg_store::{BLOCK_LENGTH, MAX_CAPACITY};
-use sg_table::{Run, RunTable};
+use sg_table::{Kind, Run, RunTable};
 
 /// How far a range is written.
 #[derive(Clone, Copy)]
 struct Progress {
-    /// The run of the addresses that are written, with the mapped ones right before the range. At
+    /// The run of the addresses that are written, with the data right before the range. At
     /// first it may have none.
     done: Run,
-    /// The mapped addresses from the next one on.
+    /// The addresses from the next one on that have a slot.
     walk: Walk,
 }
 
@@ -44,6 +44,7 @@ fn join(pool: &mut Pool, done: Run, other: Run) -> Run
     if done.count == 0 {
         return Run {
             start: done.start,
+            kind: done.kind,
             ..other
         };
     }
@@ -53,11 +54,12 @@ fn join(pool: &mut Pool, done: Run, other: Run) -> Run
         count: done.count + other.count,
         first: done.first,
         last: other.last,
+        kind: done.kind,
     }
 }
 
 // Writes the block at the address where the run ends, and joins the address to the run. A block that
-// is mapped is written over in its slot, and any other takes a free one.
+// has a slot is written over in it, and any other takes a free one.
 fn put_address(
     pool: &mut Pool,
     runs: &[Run],
@@ -85,7 +87,7 @@ fn put_address(
     let Some(run) = progress.walk.run_at(lba) else {
         let slot = pool.take();
         pool.set(slot, bytes);
-        let done = join(pool, progress.done, Run::single(lba, slot));
+        let done = join(pool, progress.done, Run::single(lba, slot, Kind::Data));
         return Progress {
             done,
             walk: progress.walk,
@@ -93,18 +95,19 @@ fn put_address(
     };
     let walk = progress.walk.pass(pool, runs, run);
     pool.set(run.first, bytes);
-    let done = join(pool, progress.done, Run::single(lba, run.first));
+    let done = join(pool, progress.done, Run::single(lba, run.first, Kind::Data));
     Progress { done, walk }
 }
 
-// Splits the runs at the first address of a range: the part before it is to be joined.
-fn begin(pool: &mut Pool, runs: &[Run], lba: u64) -> Progress
+// Splits the runs at the first address of a range. The part before it is to be joined if it is data,
+// and is kept apart if it is anchored.
+fn begin(pool: &mut Pool, runs: &[Run], lba: u64) -> (Option<Run>, Progress)
     requires ahead { AreAhead pool.old.next (length pool.old.next) 0 runs.now }
     requires headroom { pool.old.links + length (expanded pool.old.next runs.now) ≤ u64.MAX }
     ensures front { (front : Option Run)
         × IsWalkFrom pool.old.next runs.now lba front
-        (ahead_of runs.now result.walk.run result.walk.at)
-        × (result.done ≡ unwrap_or front (no_run lba))
+        (ahead_of runs.now result.1.walk.run result.1.walk.at)
+        × ((result.0, result.1.done) ≡ begun front lba)
         × (pool.new.links ≤ pool.old.links
         + length (expanded pool.old.next (option_to_list front))) }
     ensures pool { pool.new ≡ followed pool.old (pool.new.links - pool.old.links) }
@@ -116,29 +119,37 @@ fn begin(pool: &mut Pool, runs: &[Run], lba: u64) -> Progress
         count: 0,
         first: 0,
         last: 0,
+        kind: Kind::Data,
     };
-    Progress {
-        done: front.unwrap_or(none),
-        walk,
+    match front {
+        Some(run) => match run.kind {
+            Kind::Data => (None, Progress { done: run, walk }),
+            Kind::Anchored => (front, Progress { done: none, walk }),
+        },
+        None => (None, Progress { done: none, walk }),
     }
 }
 
-// Joins the run that is ahead, which meets or touches the end of the range.
-fn finish(pool: &mut Pool, progress: Progress) -> Run
+// Joins the run that is ahead, which meets or touches the end of the range, if it is data. If it is
+// anchored, it is kept apart.
+fn finish(pool: &mut Pool, progress: Progress) -> (Run, Option<Run>)
     requires slot { 0 < progress.done.count → progress.done.last < length pool.old.next }
     requires used { 0 < progress.done.count → occurrences progress.done.last pool.old.free ≡ 0 }
     requires fits { IfSome progress.walk.run (λ run. progress.done.count + run.count < 2 ^ 32) }
-    ensures { IsFinished pool.old pool.new progress.done progress.walk.run result }
+    ensures { IsFinished pool.old pool.new progress.done progress.walk.run result.0 result.1 }
 {
-    match progress.walk.run {
-        Some(run) => join(pool, progress.done, run),
-        None => progress.done,
+    let Some(run) = progress.walk.run else {
+        return (progress.done, None);
+    };
+    match run.kind {
+        Kind::Data => (join(pool, progress.done, run), None),
+        Kind::Anchored => (progress.done, Some(run)),
     }
 }
 
-/// Replaces the blocks from an address on by those of a source. The runs near the range and its
-/// addresses become one run of the table. There have to be free slots for the addresses that are
-/// not mapped.
+/// Replaces the blocks from an address on by those of a source. The runs of data near the range and
+/// its addresses become one run of the table. There have to be free slots for the addresses that
+/// have none.
 pub(crate) fn write_runs(
     table: &mut RunTable,
     pool: &mut Pool,
@@ -151,13 +162,13 @@ pub(crate) fn write_runs(
     requires range { (0 < count) × (lba + count ≤ MAX_CAPACITY) }
     requires blocks { HasBlocks source.now count }
     requires free { count ≤ length pool.old.free
-        + mapped_among (chained_contents table.old.records pool.old) lba count }
+        + used_among (chained_contents table.old.records pool.old) lba count }
 
-    // The blocks are replaced, and each mapped address keeps its slot.
+    // The blocks are replaced, and each address that has a slot keeps it.
     ensures contents { chained_contents table.new.records pool.new
         ≡ replaced (chained_contents table.old.records pool.old) lba count (block_of source.now) }
     ensures keeps { KeepSlots pool.old.next table.old.records pool.new.next table.new.records }
-    ensures table { ChangesRuns (move_bound + 1) table.old table.new pool.new }
+    ensures table { ChangesRuns (move_bound + 3) table.old table.new pool.new }
 
     // At most as many links are followed as the gathered runs have blocks.
     ensures links { FollowsLinks (blocks_of gathered.now.records) pool.old pool.new }
@@ -167,11 +178,11 @@ pub(crate) fn write_runs(
         overwrite(pool, run, lba, count, source);
         return;
     }
-    let mut progress = begin(pool, runs, lba);
+    let (front, mut progress) = begin(pool, runs, lba);
     for i in 0..count {
         let block = source.block(i as usize);
         progress = put_address(pool, runs, progress, lba + u64::from(i), block);
     }
-    let run = finish(pool, progress);
-    put_runs(table, gathered, &[run]);
+    let (run, back) = finish(pool, progress);
+    put_parts(table, gathered, front, run, back);
 }

@@ -1,7 +1,7 @@
 use Rattle.std.proofs.Common.{◌≡◌, ◌+◌, ap, ◌∙◌, arith}
 use Rattle.sg_table.specs.Table.{Table}
 use Rattle.sg_store.specs.declared.store.TheConstants.{MAX_CAPACITY}
-use Rattle.sg_block_map.proofs.BetweenLemmas.{maximal-sorted}
+use Rattle.sg_block_map.proofs.OrderLemmas.{maximal-sorted}
 use Rattle.sg_block_map.proofs.GatheringLemmas.{all-gathered, count-starts, searched-visits}
 use Rattle.sg_block_map.proofs.gather.gather.Goals as goal
 

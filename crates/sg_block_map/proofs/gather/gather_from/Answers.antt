@@ -11,7 +11,8 @@ use Rattle.sg_block_map.specs.Runs.{end_of}
 use Rattle.sg_table.proofs.RecordLemmas.{start_of-read}
 use Rattle.sg_table.proofs.SpliceLemmas.{same-splice}
 use Rattle.sg_table.proofs.TableLemmas.{visited-more}
-use Rattle.sg_block_map.proofs.AddressLemmas.{maximal-order, ends-below}
+use Rattle.sg_block_map.proofs.AddressLemmas.{apart-order, apart-filled, ends-within}
+use Rattle.sg_block_map.proofs.OrderLemmas.{apart-maximal}
 use Rattle.sg_block_map.proofs.GatheringLemmas.{count-begun, near-more, begun-more, end_at-read}
 use Rattle.sg_block_map.proofs.GatheringLemmas.{gathered-on, visits-of}
 use Rattle.sg_block_map.proofs.gather.gather_from.Goals as goal
@@ -69,7 +70,8 @@ overflow_add-run c =
     record {
       fits = omega (
         arith,
-        ends-below rs 0 (MAX_CAPACITY + 1) at c.requires.runs low,
+        ends-within rs 0 MAX_CAPACITY at
+            (apart-maximal rs 0 MAX_CAPACITY (omega arith) c.requires.runs) low,
         end,
         c.from.ensures,
       );
@@ -100,7 +102,8 @@ returns-then-run-from-clause-gathered c =
       c.if-run-from.true,
       c.from.ensures,
       end,
-      maximal-order rs 0 (MAX_CAPACITY + 1) at (at + 1) c.requires.runs (omega arith) next,
+      apart-order rs 0 MAX_CAPACITY at (at + 1)
+          (apart-maximal rs 0 MAX_CAPACITY (omega arith) c.requires.runs) (omega arith) next,
     ))
 
 pub returns-then-run-from-clause-visits : goal.returns-then-run-from-clause-visits
@@ -127,6 +130,9 @@ loop-at-preserved c =
     let read : run ≡ slice_index_or rs at run = sym c.visit-run.ensures.value
     ∙ ap (λ xs. slice_index_or xs at run) same in
     let start = start_here rs c.loop-at.table.records at run same low c.visit-run.ensures.value in
+    let end = end_here rs c.loop-at.table.records at run same low c.visit-run.ensures.value in
+    let filled = apart-filled rs 0 MAX_CAPACITY at
+    (apart-maximal rs 0 MAX_CAPACITY (omega arith) c.requires.runs) low in
     let on : at - c.args.index + 1 ≡ at + 1 - c.args.index = omega arith in
     record {
       from = rw c.push.ensures inv.from;
@@ -135,7 +141,7 @@ loop-at-preserved c =
       same = rw c.push.ensures (same-splice rs c.loop-at.gathered.records c.loop-at.gathered.from at
           run low read ∙ inv.same);
       near = begun-more rs c.args.index at c.args.high run.start inv.near start
-          (omega (arith, c.if-run-from.false, c.from.ensures));
+          (omega (arith, c.if-run-from.false, c.from.ensures, start, end, filled));
       table = c.visit-run.ensures.table ∙ ap (λ t. visited t 1) inv.table
           ∙ visited-more c.args.table.now (at - c.args.index) 1 ∙ ap (visited c.args.table.now) on;
     }

@@ -2,12 +2,13 @@ use Rattle.std.proofs.Common.{◌≡◌, ◌+◌, ◌-◌, List, ◌∷◌, ◌+
 use Rattle.std.proofs.Common.{ap₂, sym, ◌∙◌, add-zero}
 use Rattle.std.specs.Prelude.{slice_index}
 use Rattle.sg_pool.specs.Chains.{slot_after}
+use Rattle.sg_store.specs.Disk.Mapping.{Data}
 use Rattle.sg_pool.specs.MappedRecords.{contents_of}
 use Rattle.sg_pool.specs.Slots.{Slots}
 use Rattle.sg_pool.specs.Source.{block_of}
 use Rattle.sg_table.specs.declared.run.Run.{Run}
 use Rattle.sg_block_map.specs.Runs.{expanded, chained_contents}
-use Rattle.sg_store.proofs.DiskLemmas.{replaced-none, replaced-more}
+use Rattle.sg_store.proofs.DiskLemmas.{remapped-none, remapped-more}
 use Rattle.sg_pool.proofs.LinkLemmas.{slot_after-more}
 use Rattle.sg_block_map.proofs.OverwriteLemmas.{consistent-other, over-contents}
 use Rattle.sg_block_map.proofs.SplitLemmas.{below-part_of_chain, slot-below}
@@ -33,7 +34,8 @@ loop-i-init c =
       contents = λ before after consistent.
           let rs : List Run = before ++ c.args.run ∷ after in
           ap (λ (s : Slots). chained_contents rs s) c.follow-slot.ensures.pool
-          ∙ sym (replaced-none (chained_contents rs p) c.args.lba (block_of c.args.source.now));
+          ∙ sym (remapped-none (chained_contents rs p) c.args.lba
+          (λ index. Data (block_of c.args.source.now index)));
       length = ap length blocks;
     }
 
@@ -108,10 +110,11 @@ loop-i-preserved c =
             c.requires.range.after_start,
             c.requires.range.before_end,
             c.loop-i-test.true,
-          )) now.blocks p.free (length p.next)
+          )) c.requires.range.is_data now.blocks p.free (length p.next)
           b (consistent-other xs p.blocks now.blocks p.free (length p.next) inv.length consistent)
           ∙ rw (was, here, c.block.ensures)
-          (sym (replaced-more (chained_contents rs p) lba i (block_of c.args.source.now)));
+          (sym (remapped-more (chained_contents rs p) lba i
+          (λ index. Data (block_of c.args.source.now index))));
       length = ap length blocks ∙ length-set now.blocks (slot_after p.next run.first k) b
           ∙ inv.length;
     }

@@ -1,29 +1,45 @@
-use Rattle.std.proofs.Common.{◌≡◌, sym, ap, ◌∙◌, ◌==◌, ◌&&◌}
+use Rattle.std.proofs.Common.{◌≡◌, refl, sym, ap, ◌∙◌, ◌==◌, ◌&&◌}
 use Rattle.std.specs.Bool.{Decides}
 use Rattle.std.specs.List.{splice}
 use Rattle.std.proofs.lemmas.Bool.Decides.{Decides-and, Decides-eqb}
 use Rattle.std.proofs.lemmas.Slice.Eq.{slice_eq-Decides}
+use Rattle.sg_table.specs.contracts.run.KindPartialEq.TheImpl.{eq-value}
+use Rattle.sg_table.specs.declared.run.Kind.{Kind}
+use Rattle.sg_table.specs.declared.run.Kind.TheVariants.{Data, Anchored}
 use Rattle.sg_table.specs.declared.run.Run.{Run}
 use Rattle.sg_block_map.specs.Gathering.{end_index}
 use Rattle.sg_block_map.proofs.put.put_runs.Goals as goal
 
+-- two kinds are equal where they have one name
+kind-Decides : (j k : Kind) → Decides (eq-value.it j k) (j ≡ k)
+kind-Decides Data Data = (λ t. refl, λ e. refl)
+kind-Decides Data Anchored = (λ t. let wrong = t in cc, λ e. cc)
+kind-Decides Anchored Data = (λ t. let wrong = t in cc, λ e. cc)
+kind-Decides Anchored Anchored = (λ t. refl, λ e. refl)
+
 -- two runs are equal where each of their fields is
 run-Decides : (a b : Run)
-    → Decides (a.start == b.start && (a.count == b.count && (a.first == b.first && a.last == b.last))) (a ≡ b)
+    → Decides (a.start == b.start && (a.count == b.count && (a.first == b.first
+    && (a.last == b.last && eq-value.it a.kind b.kind)))) (a ≡ b)
 run-Decides a b =
     let fields = Decides-and _ _ (Decides-eqb a.start b.start)
     (Decides-and _ _ (Decides-eqb a.count b.count)
-    (Decides-and _ _ (Decides-eqb a.first b.first) (Decides-eqb a.last b.last))) in (
+    (Decides-and _ _ (Decides-eqb a.first b.first)
+    (Decides-and _ _ (Decides-eqb a.last b.last) (kind-Decides a.kind b.kind)))) in (
       λ t. let e = fields.0 t in
           ap (λ n. record a { start = n }) e.0
-          ∙ ap (λ n. record b { count = n; first = a.first; last = a.last }) e.1.0
-          ∙ ap (λ n. record b { first = n; last = a.last }) e.1.1.0
-          ∙ ap (λ n. record b { last = n }) e.1.1.1,
+          ∙ ap (λ n. record b { count = n; first = a.first; last = a.last; kind = a.kind }) e.1.0
+          ∙ ap (λ n. record b { first = n; last = a.last; kind = a.kind }) e.1.1.0
+          ∙ ap (λ n. record b { last = n; kind = a.kind }) e.1.1.1.0
+          ∙ ap (λ k. record b { kind = k }) e.1.1.1.1,
       λ e. fields.1 (
         ap (λ (r : Run). r.start) e,
         (
           ap (λ (r : Run). r.count) e,
-          (ap (λ (r : Run). r.first) e, ap (λ (r : Run). r.last) e),
+          (
+            ap (λ (r : Run). r.first) e,
+            (ap (λ (r : Run). r.last) e, ap (λ (r : Run). r.kind) e),
+          ),
         ),
       ),
     )

@@ -1,28 +1,23 @@
-use Rattle.std.proofs.Common.{◌≡◌, ℕ, List, length, ap, sym, ◌∙◌, arith, replicate, Option}
+use Rattle.std.proofs.Common.{length, ap, sym, ◌∙◌, arith}
 use Rattle.std.specs.FinMap as map
-use Rattle.std.specs.Prelude.{unwrap_or}
-use Rattle.sg_store.specs.Disk.{zero_block}
-use Rattle.sg_pool.specs.MappedRecords.{contents_of}
+use Rattle.sg_store.specs.Disk.{data_in}
+use Rattle.sg_pool.specs.MappedRecords.{mapping_in, contents_of}
 use Rattle.sg_block_map.specs.Runs.{expanded}
-use Rattle.sg_block_map.proofs.WalkLemmas.{first-slot, first-block, first-ahead, first-later}
+use Rattle.sg_block_map.proofs.WalkLemmas.{zeros, first-slot, first-block, first-ahead, first-later}
 use Rattle.sg_block_map.proofs.WalkLemmas.{first-length, skip-block}
 use Rattle.sg_block_map.proofs.read.read_address.Goals as goal
-
-zeros : (n : ℕ) (xs : List ℕ) → n ≡ 512 → xs ≡ replicate n 0 → xs ≡ zero_block
-unfolding zero_block
-zeros n xs e is = is ∙ ap (λ k. replicate k 0) e
 
 pub returns-in_default-clause-bytes : goal.returns-in_default-clause-bytes
 returns-in_default-clause-bytes c =
     let p = c.args.pool.now in
     let w = c.args.walk in
-    let none = skip-block p.next (length p.next) c.args.lba w.at c.args.runs.now w.run p.blocks
-    c.requires.ahead c.requires.range (sym c.run_at.ensures ∙ c.in_default.is) in
+    let none = skip-block p.next (length p.next) c.args.lba w.at c.args.runs.now w.run
+    (mapping_in p.blocks) c.requires.ahead c.requires.range (sym c.run_at.ensures ∙ c.in_default.is) in
     zeros _ _ c.requires.byte_count (c.fill.ensures.after (λ y e. e))
-    ∙ sym (ap (λ (o : Option (List ℕ)). unwrap_or o zero_block) none)
+    ∙ sym (ap data_in none)
 
-pub bytes-requires : goal.bytes-requires
-bytes-requires c =
+pub read_first-requires-clause-slot : goal.read_first-requires-clause-slot
+read_first-requires-clause-slot c =
     let p = c.args.pool.now in
     let w = c.args.walk in
     rw c.requires.pool (first-slot p.next (length p.next) c.args.lba w.at c.args.runs.now w.run
@@ -39,9 +34,9 @@ pub returns-clause-bytes : goal.returns-clause-bytes
 returns-clause-bytes c =
     let p = c.args.pool.now in
     let w = c.args.walk in
-    c.copy_from_slice.ensures.after ∙ c.bytes.ensures
+    c.read_first.ensures
     ∙ sym (first-block p.next (length p.next) c.args.lba w.at c.args.runs.now w.run c.in-Some.run'
-    c.requires.ahead (sym c.run_at.ensures ∙ c.in-Some.is) p.blocks)
+    c.requires.ahead (sym c.run_at.ensures ∙ c.in-Some.is) (mapping_in p.blocks))
 
 pub returns-clause-goes_past : goal.returns-clause-goes_past
 returns-clause-goes_past c =
@@ -54,7 +49,7 @@ returns-clause-goes_past c =
       later = λ q le. ap (λ xs. map.get (contents_of (expanded p.next xs) p.blocks) q)
           c.pass.ensures.ahead
           ∙ first-later p.next (length p.next) c.args.lba w.at c.args.runs.now w.run
-          c.in-Some.run' c.requires.ahead is p.blocks q le;
+          c.in-Some.run' c.requires.ahead is (mapping_in p.blocks) q le;
     }
 
 pub returns-clause-links : goal.returns-clause-links

@@ -1,9 +1,10 @@
-use Rattle.std.proofs.Common.{◌≡◌, ℕ, ◌+◌, ◌*◌, List, length, ap, ap₂, sym, ◌∙◌, arith, ◌++◌}
-use Rattle.std.proofs.Common.{add-zero, length-append, Option}
+use Rattle.std.proofs.Common.{◌≡◌, ◌+◌, ◌*◌, length, ap, ap₂, sym, ◌∙◌, arith, ◌++◌}
+use Rattle.std.proofs.Common.{add-zero, length-append}
 use Rattle.std.proofs.lemmas.Slice.{take-put_mid}
 use Rattle.std.specs.FinMap as map
-use Rattle.std.specs.Prelude.{unwrap_or, option_to_list}
-use Rattle.sg_store.specs.Disk.{block, zero_block}
+use Rattle.std.specs.Prelude.{option_to_list}
+use Rattle.sg_store.specs.Disk.{block, data_in}
+use Rattle.sg_pool.specs.MappedRecords.{mapping_in}
 use Rattle.sg_pool.specs.Slots.{Slots}
 use Rattle.sg_block_map.specs.Runs.{expanded, chained_contents}
 use Rattle.sg_block_map.specs.Walking.{ahead_of}
@@ -30,7 +31,7 @@ loop-i-init c =
           c.requires.near (omega (arith, c.requires.range)) t);
       bytes = sym (blocks-none (chained_contents runs p) c.args.lba);
       later = λ q le. sym (get-walk_from p.next runs c.args.lba
-          (c.args.lba + c.args.count) q c.walk_from-before.result.0 more p.blocks t (omega arith));
+          (c.args.lba + c.args.count) q c.walk_from-before.result.0 more (mapping_in p.blocks) t (omega arith));
       pool = c.walk_from-before.ensures.pool;
       rise = c.walk_from-before.ensures.rise;
       links = omega (arith, len, c.walk_from-before.ensures.links);
@@ -56,7 +57,7 @@ loop-i-preserved c =
     inv.later (c.args.lba + i) (omega arith) in
     let block_read : read ≡ block (chained_contents runs p) (c.args.lba + i) =
     rw (next, bs, here) at e.bytes
-    ∙ ap (λ (o : Option (List ℕ)). unwrap_or o zero_block) found in
+    ∙ ap data_in found in
     let ahead = rw (next, here, on) at e.goes_past.still_ahead in
     let later = rw (next, bs, here, on) at e.goes_past.later in
     let links = rw next at e.links.most_links in

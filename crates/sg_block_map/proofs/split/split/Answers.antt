@@ -33,4 +33,5 @@ returns-clause-rest c =
       count = c.args.run.count - c.args.count;
       first = f;
       last = c.args.run.last;
+      kind = c.args.run.kind;
     }) c.from.ensures first

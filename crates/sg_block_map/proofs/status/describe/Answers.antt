@@ -1,4 +1,4 @@
-use Rattle.std.proofs.Common.{◌≡◌, ◌+◌, ◌-◌, sym, ◌∙◌, arith}
+use Rattle.std.proofs.Common.{◌≡◌, ◌+◌, ◌-◌, ap, sym, ◌∙◌, arith}
 use Rattle.sg_block_map.specs.Runs.{end_of}
 use Rattle.sg_block_map.proofs.StatusLemmas.{gap-low, gap-described, gap-rest, gap-on, over-high}
 use Rattle.sg_block_map.proofs.StatusLemmas.{over-described, over-met, over-rest, over-on}
@@ -57,7 +57,11 @@ returns-clause-descriptor c =
     let is = sym c.run_over.ensures ∙ c.in-Some.is in
     let high = over-high rs c.args.capacity c.args.lba c.args.cursor c.requires.table
     c.requires.cursor c.in-Some.run' is in
-    λ slots. over-described rs c.args.capacity c.args.lba c.args.cursor c.requires.table
+    λ slots. ap (λ s. record {
+      lba = c.args.lba;
+      count = c.in-Some.run'.start + c.from.result - c.args.lba;
+      status = s;
+    }) c.status_of-status.ensures ∙ over-described rs c.args.capacity c.args.lba c.args.cursor c.requires.table
     c.requires.cursor c.in-Some.run' is
     (c.in-Some.run'.start + c.from.result - c.args.lba)
     (omega (arith, high, c.from.ensures)) slots.next slots.blocks

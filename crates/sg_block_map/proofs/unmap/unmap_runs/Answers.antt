@@ -9,9 +9,10 @@ use Rattle.std.specs.Ordering.{nat_cmp}
 use Rattle.std.specs.Prelude.{slice_index_or}
 use Rattle.sg_store.specs.Disk.{unmapped}
 use Rattle.sg_table.specs.Draft.{Drafted}
-use Rattle.sg_pool.specs.MappedRecords.{mapped_blocks, contents_of}
+use Rattle.sg_pool.specs.MappedRecords.{entries_by, contents_by}
 use Rattle.sg_pool.specs.Slots.{Slots}
 use Rattle.sg_table.specs.Table.{Table}
+use Rattle.sg_table.specs.declared.run.Kind.TheVariants.{Data}
 use Rattle.sg_table.specs.declared.run.Run.{Run}
 use Rattle.sg_store.specs.declared.store.TheConstants.{MAX_CAPACITY}
 use Rattle.sg_block_map.specs.Gathering.{end_index, AreGathered}
@@ -21,10 +22,11 @@ use Rattle.sg_block_map.proofs.CutRunsLemmas.{run-distinct, run-below, run-lengt
 use Rattle.sg_block_map.proofs.CutRunsLemmas.{runs-fit, gathered-here, nothing-left}
 use Rattle.sg_block_map.proofs.CutRunsLemmas.{gathered-blocks}
 use Rattle.sg_block_map.proofs.ExpandedLemmas.{expanded-none}
+use Rattle.sg_block_map.proofs.OrderLemmas.{apart-loose}
 use Rattle.sg_block_map.proofs.unmap.unmap_runs.Goals as goal
 
 abbrev no_run : Run
-no_run = record { start = 0; count = 0; first = 0; last = 0 }
+no_run = record { start = 0; count = 0; first = 0; last = 0; kind = Data }
 
 -- the table with the runs so far cut, where another run follows
 here : (rs kept runs : List Run) (gathered : Drafted) (slots : Slots)
@@ -50,11 +52,12 @@ returns-then-is_empty-clause-contents c =
     (let empty = sym c.if-is_empty.true ∙ c.is_empty.ensures in
     let same = ap length c.records-runs.ensures in grind (arith, nat_tests)) in
     let parts : rs ≡ before ++ after = sym g.same ∙ ap (λ zs. before ++ (zs ++ after)) none in
-    λ blocks. subst (λ zs. contents_of (expanded next zs) blocks ≡ unmapped
-    (contents_of (expanded next zs) blocks) c.args.low (c.args.high - c.args.low)) (sym parts)
-    (nothing-left next before [] after blocks c.args.low c.args.high (MAX_CAPACITY + 1)
-    (omega (arith, c.requires.order)) g.before g.after
-    (λ q low high. ap (λ zs. find nat_cmp q (mapped_blocks zs blocks)) (expanded-none next)))
+    λ see. subst (λ zs. contents_by see (expanded next zs) ≡ unmapped
+    (contents_by see (expanded next zs)) c.args.low (c.args.high - c.args.low)) (sym parts)
+    (nothing-left next before [] after see c.args.low c.args.high (MAX_CAPACITY + 1)
+    (omega (arith, c.requires.order)) (apart-loose before 0 0 c.args.low (omega arith) g.before)
+    (apart-loose after (c.args.high + 1) c.args.high (MAX_CAPACITY + 1) (omega arith) g.after)
+    (λ q low high. ap (λ zs. find nat_cmp q (entries_by see zs)) (expanded-none next)))
 
 pub loop-i-init : goal.loop-i-init
 loop-i-init c =
@@ -66,8 +69,8 @@ loop-i-init c =
     ∙ take-append-drop c.from-from.result rs in
     record {
       runs = rw whole c.requires.ready.runs;
-      same = λ blocks. rw whole refl;
-      none = λ blocks q le lt. rw (none, expanded-none c.args.pool.now.next) refl;
+      same = λ see. rw whole refl;
+      none = λ see q le lt. rw (none, expanded-none c.args.pool.now.next) refl;
       remaining = rw c.begin.ensures (refl, c.requires.room);
       blocks = refl;
       rise = omega arith;
@@ -169,13 +172,12 @@ loop-i-preserved c =
     let count = ap (λ rs. (slice_index_or rs c.loop-i.i no_run).count) c.records-runs.ensures in
     record {
       runs = rw is (cut-runs e.cut xs tail now c.requires.order);
-      same = λ blocks. ap (λ zs. unmapped (contents_of
-          (expanded c.unmap_run.new.pool.next zs) blocks) c.args.low (c.args.high - c.args.low)) is
-          ∙ cut-contents e.cut xs tail now order blocks
-          ∙ ap (λ zs. unmapped (contents_of (expanded c.loop-i.pool.next zs) blocks) c.args.low
-          (c.args.high - c.args.low)) (sym was) ∙ inv.same blocks;
-      none = λ blocks q le lt. cut-outside e.cut xs tail now blocks q le lt
-          (inv.none blocks q le lt);
+      same = λ see. ap (λ zs. unmapped (contents_by see (expanded c.unmap_run.new.pool.next zs)) c.args.low (c.args.high - c.args.low)) is
+          ∙ cut-contents e.cut xs tail now order see
+          ∙ ap (λ zs. unmapped (contents_by see (expanded c.loop-i.pool.next zs)) c.args.low
+          (c.args.high - c.args.low)) (sym was) ∙ inv.same see;
+      none = λ see q le lt. cut-outside e.cut xs tail now see q le lt
+          (inv.none see q le lt);
       remaining = rw e.draft inv.remaining;
       blocks = e.cut.blocks ∙ inv.blocks;
       rise = omega (arith, inv.rise, e.links.links_rise);
@@ -222,9 +224,12 @@ returns-clause-contents c =
     let now : splice rs c.from-from.result (c.from-from.result + c.loop-i.i) kept ≡
     take gathered.from rs ++ (kept ++ drop (gathered.from + length gathered.records) rs) =
     rw (c.from-from.ensures, all) refl in
-    λ blocks. ap (λ zs. contents_of (expanded c.loop-i.pool.next zs) blocks) is
+    λ see. ap (λ zs. contents_by see (expanded c.loop-i.pool.next zs)) is
     ∙ nothing-left c.loop-i.pool.next (take gathered.from rs) kept
-    (drop (gathered.from + length gathered.records) rs) blocks c.args.low c.args.high
-    (MAX_CAPACITY + 1) (omega (arith, c.requires.order)) g.before g.after (inv.none blocks)
-    ∙ ap (λ zs. unmapped (contents_of (expanded c.loop-i.pool.next zs) blocks) c.args.low
-    (c.args.high - c.args.low)) (sym now) ∙ inv.same blocks
+    (drop (gathered.from + length gathered.records) rs) see c.args.low c.args.high
+    (MAX_CAPACITY + 1) (omega (arith, c.requires.order))
+    (apart-loose (take gathered.from rs) 0 0 c.args.low (omega arith) g.before)
+    (apart-loose (drop (end_index gathered) rs) (c.args.high + 1) c.args.high (MAX_CAPACITY + 1)
+    (omega arith) g.after) (inv.none see)
+    ∙ ap (λ zs. unmapped (contents_by see (expanded c.loop-i.pool.next zs)) c.args.low
+    (c.args.high - c.args.low)) (sym now) ∙ inv.same see

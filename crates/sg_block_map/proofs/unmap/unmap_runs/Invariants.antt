@@ -1,9 +1,9 @@
-use Rattle.std.proofs.Common.{◌≡◌, ℕ, ◌+◌, ◌-◌, ◌<◌, ◌≤◌, List, take, None}
+use Rattle.std.proofs.Common.{◌≡◌, ℕ, ◌+◌, ◌-◌, ◌<◌, ◌≤◌, take, None}
 use Rattle.std.specs.FinMap.{find}
 use Rattle.std.specs.List.{splice}
 use Rattle.std.specs.Ordering.{nat_cmp}
 use Rattle.sg_store.specs.Disk.{unmapped}
-use Rattle.sg_pool.specs.MappedRecords.{mapped_blocks, contents_of}
+use Rattle.sg_pool.specs.MappedRecords.{Seen, entries_by, contents_by}
 use Rattle.sg_block_map.specs.Runs.{expanded, AreRuns, blocks_of}
 use Rattle.sg_block_map.proofs.unmap.unmap_runs.Given as goal
 
@@ -15,11 +15,11 @@ invariant-loop-i l =
     let now = splice rs l.from (l.from + l.i) l.remaining.records in
     record {
       runs : AreRuns now l.pool l.fn.table.room;
-      same : (blocks : List (List ℕ)) → unmapped
-          (contents_of (expanded l.pool.next now) blocks) l.low (l.high - l.low) ≡
-          unmapped (contents_of (expanded l.fn.pool.next rs) blocks) l.low (l.high - l.low);
-      none : (blocks : List (List ℕ)) (q : ℕ) → l.low ≤ q → q < l.high
-          → find nat_cmp q (mapped_blocks (expanded l.pool.next l.remaining.records) blocks) ≡ None;
+      same : (see : Seen) → unmapped
+          (contents_by see (expanded l.pool.next now)) l.low (l.high - l.low) ≡
+          unmapped (contents_by see (expanded l.fn.pool.next rs)) l.low (l.high - l.low);
+      none : (see : Seen) (q : ℕ) → l.low ≤ q → q < l.high
+          → find nat_cmp q (entries_by see (expanded l.pool.next l.remaining.records)) ≡ None;
       remaining : (l.remaining.from ≡ l.from) × (l.remaining.room ≡ l.fn.table.room);
       blocks : l.pool.blocks ≡ l.fn.pool.blocks;
       rise : l.fn.pool.links ≤ l.pool.links;

@@ -3,6 +3,7 @@ use Rattle.std.proofs.Common.{arith, Some, Option}
 use Rattle.sg_table.specs.Records.{single}
 use Rattle.sg_pool.specs.Slots.{Slots}
 use Rattle.sg_table.specs.Occurrences.{occurrences}
+use Rattle.sg_table.specs.declared.run.Kind.TheVariants.{Data}
 use Rattle.sg_table.specs.declared.run.Run.{Run}
 use Rattle.sg_block_map.specs.Joining.{joined, linked, KeepSlots}
 use Rattle.sg_block_map.specs.Runs.{chained_contents}
@@ -56,7 +57,7 @@ returns-in_default-clause-puts c =
     let w = c.args.progress.walk in
     let lba = c.args.lba in
     let slot = c.take-slot.result in
-    let run_is : c.join-done.result ≡ joined done (single lba slot) = c.join-done.ensures.run
+    let run_is : c.join-done.result ≡ joined done (single lba slot Data) = c.join-done.ensures.run
     ∙ ap (joined done) c.single.ensures in
     let set_is : c.set.new.self ≡ record p {
       blocks = set p.blocks slot c.args.bytes.now;
@@ -87,7 +88,7 @@ returns-in_default-clause-puts c =
       keeps = subst (λ (r : Run). KeepSlots p.next (before ++ done ∷ rest)
           c.join-done.new.pool.next (before ++ r ∷ rest)) (sym run_is)
           (subst (λ (s : Slots). KeepSlots p.next (before ++ done ∷ rest) s.next
-          (before ++ joined done (single lba slot) ∷ rest)) (sym pool_is)
+          (before ++ joined done (single lba slot Data) ∷ rest)) (sym pool_is)
           (new-keeps before done rest p lba slot c.take-slot.new.self.free c.args.bytes.now h
           c.take-slot.ensures.free skipped));
     }
@@ -151,7 +152,7 @@ returns-clause-puts c =
     let now = c.pass-walk.new.pool in
     let more : List Run = ahead_of runs c.pass-walk.result.run c.pass-walk.result.at in
     let is = sym c.run_at.ensures ∙ c.in-Some.is in
-    let run_is : c.join-done-2.result ≡ joined done (single lba found.first) =
+    let run_is : c.join-done-2.result ≡ joined done (single lba found.first Data) =
     c.join-done-2.ensures.run ∙ ap (joined done) c.single-2.ensures in
     let pool_is : c.join-done-2.new.pool ≡ record now {
       blocks =
@@ -176,7 +177,7 @@ returns-clause-puts c =
       keeps = subst (λ (r : Run). KeepSlots p.next (before ++ done ∷ rest)
           c.join-done-2.new.pool.next (before ++ r ∷ (more ++ after))) (sym run_is)
           (subst (λ (s : Slots). KeepSlots p.next (before ++ done ∷ rest) s.next
-          (before ++ joined done (single lba found.first) ∷ (more ++ after))) (sym pool_is)
+          (before ++ joined done (single lba found.first Data) ∷ (more ++ after))) (sym pool_is)
           (walked-keeps before after runs more done found w.run w.at p now lba
           (now.links - p.links) c.args.bytes.now h is c.pass-walk.ensures.pool
           c.pass-walk.ensures.ahead));

@@ -1,4 +1,5 @@
 use Rattle.std.proofs.Common.{◌≡◌, ◌+◌, ◌≤◌, ◌++◌, ◌∷◌, take, drop, length}
+use Rattle.std.specs.Prelude.{option_to_list}
 use Rattle.sg_store.specs.Disk.{replaced}
 use Rattle.sg_pool.specs.Source.{block_of}
 use Rattle.sg_block_map.specs.Gathering.{AreNear, end_index}
@@ -12,7 +13,7 @@ abbrev pub invariant-loop-i : goal.invariant-loop-i
 invariant-loop-i l =
     let rs = l.fn.table.records in
     let old = l.fn.pool in
-    let before = take l.gathered.from rs in
+    let before = take l.gathered.from rs ++ option_to_list l.front in
     let after = drop (end_index l.gathered) rs in
     let ahead = ahead_of l.gathered.records l.progress.walk.run l.progress.walk.at in
     record {

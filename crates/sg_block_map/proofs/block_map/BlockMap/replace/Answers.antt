@@ -1,10 +1,9 @@
-use Rattle.std.proofs.Common.{◌≡◌, ◌+◌, [], ◌∷◌, ap, sym, subst, ◌∙◌, arith}
+use Rattle.std.proofs.Common.{◌≡◌, ℕ, ◌+◌, ap, sym, subst, ◌∙◌, arith}
 use Rattle.std.specs.FinMap as map'
-use Rattle.std.specs.List.{range_with_len}
-use Rattle.std.specs.Prelude.{map}
-use Rattle.sg_store.specs.Disk.{Contents, IsWellFormed, replaced, mapped_among}
+use Rattle.sg_store.specs.Disk.{Contents, IsWellFormed, remapped, used_among}
+use Rattle.sg_store.specs.Disk.Mapping.{Data}
 use Rattle.sg_store.specs.Meter.{Meter}
-use Rattle.sg_pool.specs.MappedRecords.{contents_of}
+use Rattle.sg_pool.specs.MappedRecords.{slot_numbers}
 use Rattle.sg_pool.specs.Source.{block_of}
 use Rattle.sg_table.specs.Table.{Table}
 use Rattle.sg_store.specs.declared.store.TheConstants.{MAX_CAPACITY}
@@ -12,8 +11,8 @@ use Rattle.sg_table.specs.Draft.{Drafted}
 use Rattle.sg_block_map.specs.RunCost.{CostsRange}
 use Rattle.sg_block_map.specs.Runs.{expanded, chained_contents}
 use Rattle.sg_block_map.specs.State.{disk_of, meter_at, slot_map}
-use Rattle.sg_store.proofs.DiskLemmas.{replaced-none}
-use Rattle.sg_store.proofs.WellFormedLemmas.{well_formed-replaced}
+use Rattle.sg_store.proofs.DiskLemmas.{remapped-none}
+use Rattle.sg_store.proofs.WellFormedLemmas.{well_formed-remapped}
 use Rattle.sg_block_map.proofs.CutRunsLemmas.{runs-fit, gathered-blocks}
 use Rattle.sg_block_map.proofs.StoreLemmas.{runs-ahead, gathered-mapped}
 use Rattle.sg_block_map.proofs.StoreLemmas.{size, size-replaced}
@@ -25,9 +24,9 @@ pub returns-then-count-eq0-clause-space : goal.returns-then-count-eq0-clause-spa
 returns-then-count-eq0-clause-space c =
     let s = c.args.self.now in
     let was : Contents = chained_contents s.table.records s.pool in
-    let f = block_of c.args.source.now in
-    let none = ap (λ k. map'.len (replaced was c.args.lba k f)) c.if-count-eq0.true
-    ∙ ap map'.len (replaced-none was c.args.lba f) in
+    let f = λ (index : ℕ). Data (block_of c.args.source.now index) in
+    let none = ap (λ k. map'.len (remapped was c.args.lba k f)) c.if-count-eq0.true
+    ∙ ap map'.len (remapped-none was c.args.lba f) in
     let all = size s.table.records s.pool s.table.room s.runs in
     (λ wrong. cc, λ more. absurd (omega arith))
 
@@ -35,9 +34,9 @@ pub returns-then-count-eq0-clause-ok : goal.returns-then-count-eq0-clause-ok
 returns-then-count-eq0-clause-ok c =
     let s = c.args.self.now in
     let was : Contents = chained_contents s.table.records s.pool in
-    let f = block_of c.args.source.now in
-    let none = ap (λ k. replaced was c.args.lba k f) c.if-count-eq0.true
-    ∙ replaced-none was c.args.lba f in
+    let f = λ (index : ℕ). Data (block_of c.args.source.now index) in
+    let none = ap (λ k. remapped was c.args.lba k f) c.if-count-eq0.true
+    ∙ remapped-none was c.args.lba f in
     ap (λ m. record { capacity = s.capacity; pool = s.table.room; contents = m }) (sym none)
 
 pub returns-then-count-eq0-clause-costs : goal.returns-then-count-eq0-clause-costs
@@ -54,8 +53,8 @@ gather-requires-clause-room c =
       room = ap (λ (d : Drafted). d.room) s.gathered_empty;
     }
 
-pub mapped_in-mapped-requires-clause-fits : goal.mapped_in-mapped-requires-clause-fits
-mapped_in-mapped-requires-clause-fits c =
+pub used_in-used-requires-clause-fits : goal.used_in-used-requires-clause-fits
+used_in-used-requires-clause-fits c =
     let s = c.args.self.now in
     let lba = c.args.lba in
     let blocks = gathered-blocks s.table.records c.gather.new.gathered s.pool s.table.room lba
@@ -63,22 +62,22 @@ mapped_in-mapped-requires-clause-fits c =
     (MAX_CAPACITY + 1) s.runs c.gather.ensures.gathered in
     rw c.records.ensures (omega (arith, blocks, s.pool_fits))
 
-pub mapped_in-mapped-requires-clause-runs : goal.mapped_in-mapped-requires-clause-runs
-mapped_in-mapped-requires-clause-runs c =
+pub used_in-used-requires-clause-runs : goal.used_in-used-requires-clause-runs
+used_in-used-requires-clause-runs c =
     let s = c.args.self.now in
     rw c.records.ensures (runs-ahead s.table.records s.pool s.table.room c.gather.new.gathered
     c.args.lba c.args.count
-    s.runs c.gather.ensures.gathered).maximal
+    s.runs c.gather.ensures.gathered).apart
 
 -- there are too few slots
 pub returns-then-from-free_count-clause-space : goal.returns-then-from-free_count-clause-space
 returns-then-from-free_count-clause-space c =
     let s = c.args.self.now in
     let grown = size-replaced s.table.records s.pool s.table.room c.args.lba c.args.count
-    (block_of c.args.source.now) s.runs in
+    (λ index. Data (block_of c.args.source.now index)) s.runs in
     let mapped = gathered-mapped s.table.records s.pool s.table.room c.gather.new.gathered
     c.args.lba c.args.count s.runs c.gather.ensures.gathered in
-    let value = rw c.records.ensures at c.mapped_in-mapped.ensures.value in
+    let value = rw c.records.ensures at c.used_in-used.ensures.value in
     (λ _. omega arith, λ _. cc)
 
 pub returns-then-from-free_count-clause-keeps : goal.returns-then-from-free_count-clause-keeps
@@ -113,8 +112,8 @@ write_runs-requires-clause-free c =
     let count = c.args.count in
     let mapped = gathered-mapped s.table.records s.pool s.table.room c.gather.new.gathered lba count
     s.runs c.gather.ensures.gathered in
-    let value = rw c.records.ensures at c.mapped_in-mapped.ensures.value in
-    let same = ap (λ (t : Table). mapped_among (chained_contents t.records s.pool) lba count)
+    let value = rw c.records.ensures at c.used_in-used.ensures.value in
+    let same = ap (λ (t : Table). used_among (chained_contents t.records s.pool) lba count)
     c.gather.ensures.visits.table in
     omega arith
 
@@ -126,28 +125,25 @@ invariant_of-self-2-clause-well_formed c =
     ap (λ (t : Table). chained_contents t.records s.pool) c.gather.ensures.visits.table in
     let before = subst (IsWellFormed s.capacity) (sym same) s.well_formed in
     subst (IsWellFormed s.capacity) (sym c.write_runs.ensures.contents)
-    (well_formed-replaced s.capacity _ c.args.lba c.args.count
-    (block_of c.args.source.now) before c.requires.range c.requires.blocks)
+    (well_formed-remapped s.capacity _ c.args.lba c.args.count
+    (λ index. Data (block_of c.args.source.now index)) before c.requires.range c.requires.blocks)
 
 pub returns-clause-space : goal.returns-clause-space
 returns-clause-space c =
     let s = c.args.self.now in
     let grown = size-replaced s.table.records s.pool s.table.room c.args.lba c.args.count
-    (block_of c.args.source.now) s.runs in
+    (λ index. Data (block_of c.args.source.now index)) s.runs in
     let mapped = gathered-mapped s.table.records s.pool s.table.room c.gather.new.gathered
     c.args.lba c.args.count s.runs c.gather.ensures.gathered in
-    let value = rw c.records.ensures at c.mapped_in-mapped.ensures.value in
+    let value = rw c.records.ensures at c.used_in-used.ensures.value in
     (λ wrong. cc, λ more. absurd (omega arith))
 
 pub returns-clause-keeps : goal.returns-clause-keeps
 returns-clause-keeps c =
     let s = c.args.self.now in
-    let numbers = map (λ slot. slot ∷ []) (range_with_len 0 s.table.room) in
-    let room = ap (λ (t : Table). t.room) c.write_runs.ensures.table.table
-    ∙ ap (λ (t : Table). t.room) c.gather.ensures.visits.table in
-    λ q slot e. rw room (c.write_runs.ensures.keeps numbers q slot
-    (ap (λ (t : Table). map'.get (contents_of (expanded s.pool.next t.records) numbers) q)
-    c.gather.ensures.visits.table ∙ e))
+    λ q slot e. c.write_runs.ensures.keeps q slot
+    (ap (λ (t : Table). map'.get (slot_numbers (expanded s.pool.next t.records)) q)
+    c.gather.ensures.visits.table ∙ e)
 
 pub returns-clause-costs : goal.returns-clause-costs
 returns-clause-costs c =

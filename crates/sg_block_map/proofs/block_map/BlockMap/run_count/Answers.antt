@@ -9,11 +9,11 @@ pub returns-clause-records : goal.returns-clause-records
 returns-clause-records c =
     let s = c.args.self.now in
     sym (runs-extents s.pool.next s.table.records s.pool.blocks 0
-    (MAX_CAPACITY + 1) s.runs.maximal s.runs.chained)
+    (MAX_CAPACITY + 1) s.runs.maximal)
 
 pub returns-clause-count : goal.returns-clause-count
 returns-clause-count c =
     let s = c.args.self.now in
     c.count.ensures.value
     ∙ sym (ap length (runs-extents s.pool.next s.table.records s.pool.blocks 0
-    (MAX_CAPACITY + 1) s.runs.maximal s.runs.chained) ∙ length-map s.table.records extent_of)
+    (MAX_CAPACITY + 1) s.runs.maximal) ∙ length-map s.table.records extent_of)

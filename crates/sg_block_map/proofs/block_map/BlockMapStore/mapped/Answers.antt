@@ -14,4 +14,4 @@ pub returns-clause-records : goal.returns-clause-records
 returns-clause-records c =
     let s = c.args.self.now in
     sym (runs-extents s.pool.next s.table.records s.pool.blocks 0
-    (MAX_CAPACITY + 1) s.runs.maximal s.runs.chained)
+    (MAX_CAPACITY + 1) s.runs.maximal)

@@ -1,9 +1,7 @@
-use Rattle.std.proofs.Common.{◌≡◌, ◌+◌, ◌-◌, [], ◌∷◌, ap, ap₂, sym, subst, ◌∙◌, arith}
-use Rattle.std.specs.List.{range_with_len}
-use Rattle.std.specs.Prelude.{map}
+use Rattle.std.proofs.Common.{◌≡◌, ◌+◌, ◌-◌, ap, ap₂, sym, subst, ◌∙◌, arith}
 use Rattle.sg_store.specs.Disk.{Contents, IsWellFormed, unmapped}
 use Rattle.sg_store.specs.Meter.{Meter}
-use Rattle.sg_pool.specs.MappedRecords.{contents_of}
+use Rattle.sg_pool.specs.MappedRecords.{mapping_in, contents_of, number_in, slot_numbers}
 use Rattle.sg_pool.specs.Slots.{Slots}
 use Rattle.sg_table.specs.Table.{Table}
 use Rattle.sg_table.specs.Draft.{Drafted}
@@ -67,7 +65,7 @@ invariant_of-self-clause-well_formed c =
     unmapped (chained_contents rs s.pool) lba count =
     ap (chained_contents after.table.records) c.renew_slots.ensures.pool
     ∙ ap (contents_of (expanded after.pool.next after.table.records)) c.unmap_runs.ensures.blocks
-    ∙ c.unmap_runs.ensures.contents s.pool.blocks
+    ∙ c.unmap_runs.ensures.contents (mapping_in s.pool.blocks)
     ∙ ap (λ (t : Table). unmapped (chained_contents t.records s.pool) lba
     (lba + c.from.result - lba)) c.gather.ensures.visits.table
     ∙ ap (unmapped (chained_contents rs s.pool) lba) (omega (arith, c.from.ensures)) in
@@ -85,7 +83,7 @@ returns-clause-disk c =
     unmapped (chained_contents rs s.pool) lba count =
     ap (chained_contents after.table.records) c.renew_slots.ensures.pool
     ∙ ap (contents_of (expanded after.pool.next after.table.records)) c.unmap_runs.ensures.blocks
-    ∙ c.unmap_runs.ensures.contents s.pool.blocks
+    ∙ c.unmap_runs.ensures.contents (mapping_in s.pool.blocks)
     ∙ ap (λ (t : Table). unmapped (chained_contents t.records s.pool) lba
     (lba + c.from.result - lba)) c.gather.ensures.visits.table
     ∙ ap (unmapped (chained_contents rs s.pool) lba) (omega (arith, c.from.ensures)) in
@@ -97,17 +95,13 @@ pub returns-clause-keeps : goal.returns-clause-keeps
 returns-clause-keeps c =
     let s = c.args.self.now in
     let lba = c.args.lba in
-    let numbers = map (λ slot. slot ∷ []) (range_with_len 0 s.table.room) in
-    let room = ap (λ (t : Table). t.room) c.unmap_runs.ensures.table.table
-    ∙ ap (λ (t : Table). t.room) c.gather.ensures.visits.table in
     let after = c.unmap_runs.new in
-    let links = ap (λ (p : Slots). contents_of (expanded p.next after.table.records) numbers)
-    c.renew_slots.ensures.pool in
-    rw room (links ∙ c.unmap_runs.ensures.contents numbers
-    ∙ ap (λ (t : Table). unmapped (contents_of (expanded s.pool.next t.records) numbers) lba
+    ap (λ (p : Slots). slot_numbers (expanded p.next after.table.records)) c.renew_slots.ensures.pool
+    ∙ c.unmap_runs.ensures.contents number_in
+    ∙ ap (λ (t : Table). unmapped (slot_numbers (expanded s.pool.next t.records)) lba
     (lba + c.from.result - lba)) c.gather.ensures.visits.table
-    ∙ ap (unmapped (contents_of (expanded s.pool.next s.table.records) numbers) lba)
-    (omega (arith, c.from.ensures)))
+    ∙ ap (unmapped (slot_numbers (expanded s.pool.next s.table.records)) lba)
+    (omega (arith, c.from.ensures))
 
 pub returns-clause-costs : goal.returns-clause-costs
 returns-clause-costs c =
