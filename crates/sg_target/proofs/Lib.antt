@@ -3,7 +3,7 @@ pub mod CapacityLemmas
 pub mod ExtentLemmas
 mod Lemmas
 pub mod LiftLemmas
-pub mod LimitLemmas
+mod LimitLemmas
 pub mod ModeLemmas
 pub mod RangeLemmas
 pub mod RunLemmas

@@ -10,6 +10,7 @@ mod data_in;
 mod data_out;
 mod event;
 mod extent;
+pub mod laws;
 mod mode;
 mod operation;
 mod primary;
