@@ -12,7 +12,6 @@ use Rattle.sg_target.specs.State.{IsWithinLimits, State}
 use Rattle.sg_target.specs.Step.{Answer, step}
 use Rattle.sg_target.specs.declared.call.Call.{Call}
 use Rattle.sg_fencing.proofs.AlikeLemmas.{StepsAlike}
-use Rattle.sg_target.proofs.LimitLemmas.{step-within}
 use Rattle.sg_fencing.proofs.OwnLemmas.{own-alike}
 
 abbrev answers_in : List (Call × Answer) → List Answer
@@ -51,6 +50,3 @@ module _ (i : ℕ) where
       (λ (j : ℕ). StepsAlike (shows_others (command_of cdb)) i (step first j cdb data_out)
       (step second j cdb data_out))
       (sym e) (own-alike first second i cdb data_out w w' identity view held)
-
-  pub within : (state : State) (call : Call) → IsWithinLimits state → IsWithinLimits (step_of state call).state
-  within state call w = step-within state call.initiator call.cdb.now call.data_out.now w

@@ -31,7 +31,7 @@ use Rattle.sg_target.specs.declared.refusal.Reason.TheVariants.{UnitAttention as
 use Rattle.sg_target.specs.declared.refusal.Refusal.{Refusal}
 use Rattle.sg_target.specs.declared.refusal.Refusal.TheVariants.{Check}
 use Rattle.sg_target.proofs.LiftLemmas.{lifted}
-use Rattle.sg_target.proofs.LimitLemmas.{step-within}
+use Rattle.sg_target.specs.Laws.{LimitsAreKept}
 use Rattle.sg_fencing.specs.Fencing.{holds_alone, view_of}
 use Rattle.sg_fencing.proofs.AccessLemmas.{asked-is-allowed}
 use Rattle.sg_fencing.proofs.HolderLemmas.{HoldsAlone, alone, cleared-other, differ, one-holder}
@@ -175,13 +175,13 @@ module _ (state : State) (i j : ℕ) (other : j ≡ i → ⊥) (h : HoldsAlone s
       (out-leaves action scope_type list)
 
 -- a command of another, after which i still holds
-pub others-keep : (state : State) (i j : ℕ) (cdb data_out : List ℕ) → IsWithinLimits state
+pub others-keep : LimitsAreKept → (state : State) (i j : ℕ) (cdb data_out : List ℕ) → IsWithinLimits state
     → (j ≡ i → ⊥) → holds_alone state i ≡ true
     → holds_alone (step state j cdb data_out).state i ≡ true
     → Keeps state (step state j cdb data_out).state i
-others-keep state i j cdb data_out w other before after =
+others-keep limits state i j cdb data_out w other before after =
     let done = (step state j cdb data_out).state in
-    let still = alone done i (step-within state j cdb data_out w) after in
+    let still = alone done i (limits.command state j cdb data_out w) after in
     let h = alone state i w before in
     step-keeps (IsOneHolder state i j other h w) state i j other
     (refuses-others state.reservations i j other h).writes

@@ -12,7 +12,7 @@ use Rattle.sg_target.specs.State.{IsWithinLimits, State}
 use Rattle.sg_target.specs.Step.{Answer}
 use Rattle.sg_target.specs.declared.call.Call.{Call}
 use Rattle.sg_target.specs.declared.reply.Status.TheVariants.{Good}
-use Rattle.sg_target.proofs.LimitLemmas.{step-within}
+use Rattle.sg_target.specs.Laws.{LimitsAreKept}
 use Rattle.sg_fencing.specs.Fencing.{View, is_from, view_of}
 use Rattle.sg_fencing.specs.Registrants.{has_registering, is_from_outside, is_registrant, is_reserved}
 use Rattle.sg_fencing.specs.Registrants.{registers}
@@ -74,13 +74,13 @@ not-written state i (first ∷ calls) (suc n) call answer unknown silent e f fro
 
 -- ---- Nothing is changed
 
-pub nothing-changed : (start state : State) (i : ℕ) (calls : List Call) → IsWithinLimits state
+pub nothing-changed : LimitsAreKept → (start state : State) (i : ℕ) (calls : List Call) → IsWithinLimits state
     → is_reserved state ≡ true
     → ((j : ℕ) → is_registrant start j ≡ false → is_registrant state j ≡ false)
     → list_all (is_from_outside start) calls ≡ true → list_any (is_from i) calls ≡ false
     → view_of (state_after_all state calls) i ≡ view_of state i
-nothing-changed start state i [] w held unknown outside others = refl
-nothing-changed start state i (call ∷ calls) w held unknown outside others =
+nothing-changed limits start state i [] w held unknown outside others = refl
+nothing-changed limits start state i (call ∷ calls) w held unknown outside others =
     let j = call.initiator in
     let cdb = call.cdb.now in
     let data_out = call.data_out.now in
@@ -92,7 +92,7 @@ nothing-changed start state i (call ∷ calls) w held unknown outside others =
     let kept =
     outsider-keeps state i j (different j i other.0) (record { held = held; unknown = known }) w cdb
     data_out in
-    nothing-changed start (step_of state call).state i calls (step-within state j cdb data_out w)
+    nothing-changed limits start (step_of state call).state i calls (limits.command state j cdb data_out w)
     (ap (λ (v : View). is_some v.reservation) kept.view ∙ held)
     (λ k before. stays-unknown state k j (unknown k before) cdb data_out (λ own. silent))
     outsiders.1 other.1

@@ -25,9 +25,9 @@ use Rattle.sg_target.specs.Step.{Answer}
 use Rattle.sg_target.specs.declared.call.Call.{Call}
 use Rattle.sg_target.specs.declared.event.Event.{Event}
 use Rattle.sg_target.specs.declared.event.Event.TheVariants as event
-use Rattle.sg_target.proofs.RunLemmas.{cycle-within}
+use Rattle.sg_target.specs.Laws.{LimitsAreKept}
 use Rattle.sg_fencing.proofs.AlikeLemmas.{StepsAlike}
-use Rattle.sg_fencing.proofs.FencedRunLemmas.{both-more, different, equal, none-more, own-step, within}
+use Rattle.sg_fencing.proofs.FencedRunLemmas.{both-more, different, equal, none-more, own-step}
 use Rattle.sg_fencing.proofs.OthersLemmas.{others-keep}
 use Rattle.sg_fencing.proofs.PowerLemmas.{keeps}
 
@@ -43,7 +43,7 @@ pub record LookAlike (first second : State) (i : ℕ) : Type 0 where
   pub identity : first.identity ≡ second.identity
   pub view : view_of first i ≡ view_of second i
 
-module _ (i : ℕ) where
+module _ (limits : LimitsAreKept) (i : ℕ) where
   -- ---- a power cycle
 
   abbrev holding : ReservationState → Bool
@@ -81,8 +81,8 @@ module _ (i : ℕ) where
   cycle-alike : (first second : State) → LookAlike first second i → persists first ≡ true
       → persists second ≡ true → LookAlike (after_power_cycle first) (after_power_cycle second) i
   cycle-alike first second h p q = record {
-    first_within = cycle-within first h.first_within;
-    second_within = cycle-within second h.second_within;
+    first_within = limits.power_cycle first h.first_within;
+    second_within = limits.power_cycle second h.second_within;
     identity = h.identity;
     view = view-powered first p ∙ ap powered h.view ∙ sym (view-powered second q);
   }
@@ -135,8 +135,8 @@ module _ (i : ℕ) where
       let h = own-step i first second call a.first_within a.second_within a.identity a.view (held 0)
       (equal call.initiator i e) in
       let next : LookAlike (step_of first call).state (step_of second call).state i = record {
-        first_within = within i first call a.first_within;
-        second_within = within i second call a.second_within;
+        first_within = limits.command first call.initiator call.cdb.now call.data_out.now a.first_within;
+        second_within = limits.command second call.initiator call.cdb.now call.data_out.now a.second_within;
         identity = h.identity;
         view = h.view;
       } in
@@ -144,10 +144,10 @@ module _ (i : ℕ) where
       (rest (step_of first call).state (step_of second call).state next (λ n. held (suc n))
       (λ n at. persist (suc n) at))
   by-caller call events own false e rest first second a held persist =
-      let h = others-keep first i call.initiator call.cdb.now call.data_out.now a.first_within
+      let h = others-keep limits first i call.initiator call.cdb.now call.data_out.now a.first_within
       (different call.initiator i e) (held 0) (held 1) in
       let next : LookAlike (step_of first call).state second i = record {
-        first_within = within i first call a.first_within;
+        first_within = limits.command first call.initiator call.cdb.now call.data_out.now a.first_within;
         second_within = a.second_within;
         identity = h.identity ∙ a.identity;
         view = h.view ∙ a.view;

@@ -1,4 +1,5 @@
-//! Laws of the definitions: each is the contract of a function that does nothing.
+//! Laws of the definitions: each is the contract of a function that does nothing, or calls those whose
+//! laws it follows from.
 ghost use Rattle.sg_fencing.specs.Fencing.{EqualViewsEndAlike, HolderIsAsIfAlone};
 ghost use Rattle.sg_fencing.specs.Fencing.{OthersAreShutOut, OthersLeaveTheView, OthersReadNothing};
 ghost use Rattle.sg_fencing.specs.Fencing.{OnlyPreemptionEnds, OthersSeeNoBlock};
@@ -13,6 +14,8 @@ ghost use Rattle.sg_fencing.specs.Registrants.{FencedOffAreKeptOut, FencedOffLea
 ghost use Rattle.sg_fencing.specs.Registrants.{FencedOffSeeNoBlock, FencedOffWriteNothing};
 ghost use Rattle.sg_fencing.specs.Registrants.{OnlyRegisteringRegisters, OutsidersChangeNothing};
 ghost use Rattle.sg_fencing.specs.Registrants.{PreemptedAreUnregistered, PreemptedWriteNothing};
+
+use sg_target::laws::limits_are_kept;
 
 /// An operation that does not write to the medium leaves the blocks as they are, so that write
 /// protection need not stop a command that asks for it.
@@ -47,7 +50,9 @@ pub fn refused_by_reservation()
 /// its unit attentions, its reservation key and the reservation.
 pub fn others_leave_the_view_of_a_holder()
     ensures { OthersLeaveTheView }
-{}
+{
+    limits_are_kept();
+}
 
 /// Of the commands of other initiators only PERSISTENT RESERVE OUT with CLEAR, PREEMPT or PREEMPT
 /// AND ABORT ends such a reservation.
@@ -79,13 +84,17 @@ pub fn others_see_no_block()
 /// RESERVE OUT, are those of a run of its own commands alone.
 pub fn a_holder_is_served_as_if_alone()
     ensures { HolderIsAsIfAlone }
-{}
+{
+    limits_are_kept();
+}
 
 /// Over a list of commands, while an initiator holds an exclusive access reservation, no command of
 /// another that reads ends with GOOD.
 pub fn others_read_nothing()
     ensures { OthersReadNothing }
-{}
+{
+    limits_are_kept();
+}
 
 /// Fencing by registration. While a reservation of any type is held, no command of an initiator
 /// that is not registered ends with GOOD where it writes, nor where it reads, under the exclusive
@@ -122,7 +131,9 @@ pub fn the_unregistered_write_nothing()
 /// registered, none of which registers, leaves the view of every initiator that sends none of them.
 pub fn the_unregistered_change_nothing()
     ensures { OutsidersChangeNothing }
-{}
+{
+    limits_are_kept();
+}
 
 /// After a PREEMPT or a PREEMPT AND ABORT that ends with GOOD, no initiator but its sender is
 /// registered that was registered under its key.
@@ -176,4 +187,6 @@ pub fn the_unregistered_write_nothing_through_power_cycles()
 /// holder sees nothing but what it would see alone: POWER ON, and the saved mode pages.
 pub fn a_holder_is_served_as_if_alone_through_power_cycles()
     ensures { HolderIsAsIfAloneThroughPowerCycles }
-{}
+{
+    limits_are_kept();
+}

@@ -6,7 +6,7 @@ pub mod ExtentLemmas
 mod JoiningLemmas
 mod Lemmas
 pub mod LiftLemmas
-pub mod LimitLemmas
+mod LimitLemmas
 pub mod ModeLemmas
 mod NeedLemmas
 pub mod RangeLemmas

@@ -1,29 +1,26 @@
 -- No command takes a table of the disk past its limit.
-use Rattle.std.proofs.Common.{◌≡◌, ◌≤◌, ℕ, zero, suc, List, [], ◌∷◌, drop, set, get_or}
-use Rattle.std.proofs.Common.{Bool, true, false, Option, Some, None, Result, Ok, Err, refl, ◌∙◌, arith}
+use Rattle.std.proofs.Common.{◌≡◌, ◌≤◌, ℕ, List}
+use Rattle.std.proofs.Common.{Bool, true, false, Option, Some, None, Result, Ok, Err, refl, arith}
 use Rattle.std.specs.Result.{result_map_both}
 use Rattle.std.specs.FinMap.{len}
-use Rattle.std.proofs.Math.ListN.{length-set}
 use Rattle.std.proofs.lemmas.Bool.Decides.{nat_tests}
 use Rattle.sg_wire.specs.declared.command.out_action.OutAction.{OutAction}
 use Rattle.sg_store.specs.Disk.{Disk}
 use Rattle.sg_pages.specs.ModeSelect.{changed_by}
-use Rattle.sg_units.specs.Attentions.{ArePending, AreQueues, IsQueue, Pending, without_oldest}
-use Rattle.sg_units.specs.Attentions.{pending_for}
-use Rattle.sg_units.specs.Raised.{Conditions, queue_after, raised_for_each, raised_for_others}
+use Rattle.sg_units.specs.Attentions.{ArePending, Pending, without_oldest}
+use Rattle.sg_units.specs.Laws.{QueuesKeepTheirLimits, ReservationsStayConsistent}
+use Rattle.sg_units.specs.Raised.{raised_for_others}
 use Rattle.sg_units.specs.ReserveOut.{Outcome, outcome, raised_by}
 use Rattle.sg_units.specs.Reservations.{IsConsistent}
 use Rattle.sg_wire.specs.declared.out_list.OutList.{OutList}
 use Rattle.sg_units.specs.declared.reservation_change.ReservationChange.{ReservationChange}
-use Rattle.sg_units.specs.declared.unit_attention.UnitAttention.{UnitAttention}
 use Rattle.sg_units.specs.declared.unit_attention.UnitAttention.TheVariants.{ModeParametersChanged}
-use Rattle.sg_units.proofs.AttentionLemmas.{IsQueue-drop, IsQueue-pending_for, IsQueue-with_optional}
-use Rattle.sg_units.proofs.ConsistencyLemmas.{consistent-outcome}
 use Rattle.sg_target.proofs.BlocksLemmas.{KeepsBlocks, keeps-blocks}
 use Rattle.sg_target.specs.Checks.{checked_cdb, checked_effect, no_space}
 use Rattle.sg_target.specs.Effect.{Effect, returning_up_to}
 use Rattle.sg_target.specs.ModeCommands.{attentions_after, changing_modes, mode_parameters}
 use Rattle.sg_target.specs.ModeCommands.{selected_modes}
+use Rattle.sg_target.specs.PowerCycle.{after_power_cycle}
 use Rattle.sg_target.specs.Refusal.{checked_next, when_sound}
 use Rattle.sg_target.specs.ReservationCommands.{changing_reservations, out_refusal}
 use Rattle.sg_target.specs.ReservationCommands.{reservation_change}
@@ -42,125 +39,108 @@ space : (disk : Disk) → no_space disk ≡ None → len disk.contents ≤ disk.
 unfolding no_space
 space disk e = grind (arith, nat_tests)
 
--- ---- the queues of unit attentions
+module _ (reservations : ReservationsStayConsistent) (queues : QueuesKeepTheirLimits) where
+  attentions-after : (pending : Pending) (i : ℕ) (changed : Bool) → ArePending pending
+      → ArePending (attentions_after pending i changed)
+  attentions-after pending i true h = queues.raised pending (raised_for_others i ModeParametersChanged) h
+  attentions-after pending i false h = h
 
-queue-set : (pending : Pending) (i : ℕ) (queue : List UnitAttention) → AreQueues pending
-    → IsQueue queue → AreQueues (set pending i queue)
-queue-set [] i queue h q = h
-queue-set (first ∷ more) zero queue h q = (q, h.1)
-queue-set (first ∷ more) (suc i) queue h q = (h.0, queue-set more i queue h.1 q)
+  -- ---- commands
 
-without-oldest : (pending : Pending) (i : ℕ) → ArePending pending → ArePending (without_oldest pending i)
-without-oldest pending i h = record {
-  one_for_each = length-set pending i (drop 1 (get_or pending i [])) ∙ h.one_for_each;
-  queues =
-      queue-set pending i (drop 1 (get_or pending i [])) h.queues
-      (IsQueue-drop (get_or pending i []) (IsQueue-pending_for pending i h.queues));
-}
+  without-oldest-within : (state : State) (i : ℕ) → IsWithinLimits state
+      → IsWithinLimits (record state { attentions = without_oldest state.attentions i })
+  without-oldest-within state i h =
+      record {
+        mapped = h.mapped;
+        pending = queues.cleared state.attentions i h.pending;
+        registered = h.registered;
+        blocks = h.blocks;
+      }
 
--- one of each queue is put, if any
-raised-each : (pending : Pending) (conditions : Conditions) → ArePending pending
-    → ArePending (raised_for_each pending conditions)
-unfolding raised_for_each
-raised-each pending conditions h =
-    let q : (i : ℕ) → IsQueue (queue_after pending conditions i) =
-    λ i. IsQueue-with_optional (pending_for pending i) (get_or conditions i None)
-    (IsQueue-pending_for pending i h.queues) in
-    record { one_for_each = refl; queues = (q 0, (q 1, (q 2, (q 3, (q 4, (q 5, (q 6, (q 7, tt)))))))) }
+  refused-within : (state : State) (i : ℕ) (refusal : Refusal) → IsWithinLimits state
+      → IsWithinLimits (refused state i refusal).state
+  refused-within state i (Check (Attention condition)) h = without-oldest-within state i h
+  refused-within state i _ h = h
 
-attentions-after : (pending : Pending) (i : ℕ) (changed : Bool) → ArePending pending
-    → ArePending (attentions_after pending i changed)
-attentions-after pending i true h = raised-each pending (raised_for_others i ModeParametersChanged) h
-attentions-after pending i false h = h
+  -- the tables but that of the mapped blocks, which the check for space keeps
+  abbrev KeepsOthers : State → Type 0
+  KeepsOthers state = ArePending state.attentions × IsConsistent state.reservations
 
--- ---- commands
+  others : (state : State) → IsWithinLimits state → KeepsOthers state
+  others state h = (h.pending, h.registered)
 
-without-oldest-within : (state : State) (i : ℕ) → IsWithinLimits state
-    → IsWithinLimits (record state { attentions = without_oldest state.attentions i })
-without-oldest-within state i h =
-    record {
-      mapped = h.mapped;
-      pending = without-oldest state.attentions i h.pending;
-      registered = h.registered;
-      blocks = h.blocks;
-    }
+  -- an effect, if there is one, keeps them
+  abbrev EffectKeeps : Result Effect Refusal → Type 0
+  EffectKeeps (Ok effect) = KeepsOthers effect.after
+  EffectKeeps (Err refusal) = Unit {0}
 
-refused-within : (state : State) (i : ℕ) (refusal : Refusal) → IsWithinLimits state
-    → IsWithinLimits (refused state i refusal).state
-refused-within state i (Check (Attention condition)) h = without-oldest-within state i h
-refused-within state i _ h = h
+  sound-keeps : {A : Type 0} (sound : Result A Refusal) (becomes : A → Effect)
+      → ((value : A) → sound ≡ Ok value → KeepsOthers (becomes value).after)
+      → EffectKeeps (when_sound sound becomes)
+  sound-keeps (Ok value) becomes h = h value refl
+  sound-keeps (Err refusal) becomes h = tt
 
--- the tables but that of the mapped blocks, which the check for space keeps
-abbrev KeepsOthers : State → Type 0
-KeepsOthers state = ArePending state.attentions × IsConsistent state.reservations
+  pub changed : (state : State) (o : Outcome) (change : ReservationChange)
+      → result_map_both (λ change. change) out_refusal o ≡ Ok change → o ≡ Ok change
+  changed state (Ok change) other e = cc
+  changed state (Err fault) other e = cc
 
-others : (state : State) → IsWithinLimits state → KeepsOthers state
-others state h = (h.pending, h.registered)
+  changing-keeps : (state : State) (i : ℕ) (action : OutAction) (scope_type : ℕ) (list : OutList)
+      (change : ReservationChange) → KeepsOthers state
+      → reservation_change state i action scope_type list ≡ Ok change
+      → KeepsOthers (changing_reservations state i change).after
+  unfolding reservation_change
+  changing-keeps state i action scope_type list change h e =
+      let raised = raised_by state.reservations.registrations i change in
+      let o = outcome state.reservations i action scope_type list in (
+        queues.raised state.attentions raised h.0,
+        reservations.changed state.reservations i action scope_type list change h.1
+            (changed state o change e),
+      )
 
--- an effect, if there is one, keeps them
-abbrev EffectKeeps : Result Effect Refusal → Type 0
-EffectKeeps (Ok effect) = KeepsOthers effect.after
-EffectKeeps (Err refusal) = Unit {0}
+  operation-keeps : (state : State) (i : ℕ) (operation : Operation) → KeepsOthers state
+      → EffectKeeps (effect_of state i operation)
+  operation-keeps state i (ReturnSense format n) h = (queues.cleared state.attentions i h.0, h.1)
+  operation-keeps state i (ReturnModes request n) h =
+      sound-keeps (mode_parameters state.modes request) (returning_up_to state n) (λ list e. h)
+  operation-keeps state i (ChangeModes ten sp list) h =
+      sound-keeps (selected_modes state ten sp list) (changing_modes state i)
+      (λ modes e. (attentions-after state.attentions i (changed_by state.modes modes).0 h.0, h.1))
+  operation-keeps state i (ChangeReservations action scope_type list) h =
+      sound-keeps (reservation_change state i action scope_type list) (changing_reservations state i)
+      (λ change e. changing-keeps state i action scope_type list change h e)
+  operation-keeps state i _ h = h
 
-sound-keeps : {A : Type 0} (sound : Result A Refusal) (becomes : A → Effect)
-    → ((value : A) → sound ≡ Ok value → KeepsOthers (becomes value).after)
-    → EffectKeeps (when_sound sound becomes)
-sound-keeps (Ok value) becomes h = h value refl
-sound-keeps (Err refusal) becomes h = tt
+  checked-keeps : (state : State) (i : ℕ) (checked : Result Operation Refusal) → KeepsOthers state
+      → EffectKeeps (checked_next checked (effect_of state i))
+  checked-keeps state i (Ok operation) h = operation-keeps state i operation h
+  checked-keeps state i (Err refusal) h = tt
 
-pub changed : (state : State) (o : Outcome) (change : ReservationChange)
-    → result_map_both (λ change. change) out_refusal o ≡ Ok change → o ≡ Ok change
-changed state (Ok change) other e = cc
-changed state (Err fault) other e = cc
+  by-space : (state : State) (i : ℕ) (effect : Effect) (refusal : Option Refusal)
+      → IsWithinLimits state → KeepsOthers effect.after → KeepsBlocks (Ok effect)
+      → no_space effect.after.disk ≡ refusal
+      → IsWithinLimits (unless_no_space state i effect refusal).state
+  by-space state i effect None h k blocks e =
+      record { mapped = space effect.after.disk e; pending = k.0; registered = k.1; blocks = blocks }
+  by-space state i effect (Some refusal) h k blocks e = refused-within state i refusal h
 
-changing-keeps : (state : State) (i : ℕ) (action : OutAction) (scope_type : ℕ) (list : OutList)
-    (change : ReservationChange) → KeepsOthers state
-    → reservation_change state i action scope_type list ≡ Ok change
-    → KeepsOthers (changing_reservations state i change).after
-unfolding reservation_change
-changing-keeps state i action scope_type list change h e =
-    let raised = raised_by state.reservations.registrations i change in
-    let o = outcome state.reservations i action scope_type list in (
-      raised-each state.attentions raised h.0,
-      (consistent-outcome state.reservations i action scope_type list h.1).shown change
-          (changed state o change e),
-    )
+  outcome-within : (state : State) (i : ℕ) (effect : Result Effect Refusal) → IsWithinLimits state
+      → EffectKeeps effect → KeepsBlocks effect → IsWithinLimits (step_outcome state i effect).state
+  outcome-within state i (Err refusal) h k blocks = refused-within state i refusal h
+  outcome-within state i (Ok effect) h k blocks =
+      by-space state i effect (no_space effect.after.disk) h k blocks refl
 
-operation-keeps : (state : State) (i : ℕ) (operation : Operation) → KeepsOthers state
-    → EffectKeeps (effect_of state i operation)
-operation-keeps state i (ReturnSense format n) h = (without-oldest state.attentions i h.0, h.1)
-operation-keeps state i (ReturnModes request n) h =
-    sound-keeps (mode_parameters state.modes request) (returning_up_to state n) (λ list e. h)
-operation-keeps state i (ChangeModes ten sp list) h =
-    sound-keeps (selected_modes state ten sp list) (changing_modes state i)
-    (λ modes e. (attentions-after state.attentions i (changed_by state.modes modes).0 h.0, h.1))
-operation-keeps state i (ChangeReservations action scope_type list) h =
-    sound-keeps (reservation_change state i action scope_type list) (changing_reservations state i)
-    (λ change e. changing-keeps state i action scope_type list change h e)
-operation-keeps state i _ h = h
+  pub step-within : (state : State) (i : ℕ) (cdb data_out : List ℕ) → IsWithinLimits state
+      → IsWithinLimits (step state i cdb data_out).state
+  step-within state i cdb data_out h =
+      outcome-within state i (checked_effect state i cdb data_out) h
+      (checked-keeps state i (checked_cdb state i cdb data_out) (others state h))
+      (keeps-blocks state i cdb data_out h.blocks)
 
-checked-keeps : (state : State) (i : ℕ) (checked : Result Operation Refusal) → KeepsOthers state
-    → EffectKeeps (checked_next checked (effect_of state i))
-checked-keeps state i (Ok operation) h = operation-keeps state i operation h
-checked-keeps state i (Err refusal) h = tt
-
-by-space : (state : State) (i : ℕ) (effect : Effect) (refusal : Option Refusal)
-    → IsWithinLimits state → KeepsOthers effect.after → KeepsBlocks (Ok effect)
-    → no_space effect.after.disk ≡ refusal
-    → IsWithinLimits (unless_no_space state i effect refusal).state
-by-space state i effect None h k blocks e =
-    record { mapped = space effect.after.disk e; pending = k.0; registered = k.1; blocks = blocks }
-by-space state i effect (Some refusal) h k blocks e = refused-within state i refusal h
-
-outcome-within : (state : State) (i : ℕ) (effect : Result Effect Refusal) → IsWithinLimits state
-    → EffectKeeps effect → KeepsBlocks effect → IsWithinLimits (step_outcome state i effect).state
-outcome-within state i (Err refusal) h k blocks = refused-within state i refusal h
-outcome-within state i (Ok effect) h k blocks =
-    by-space state i effect (no_space effect.after.disk) h k blocks refl
-
-pub step-within : (state : State) (i : ℕ) (cdb data_out : List ℕ) → IsWithinLimits state
-    → IsWithinLimits (step state i cdb data_out).state
-step-within state i cdb data_out h =
-    outcome-within state i (checked_effect state i cdb data_out) h
-    (checked-keeps state i (checked_cdb state i cdb data_out) (others state h))
-    (keeps-blocks state i cdb data_out h.blocks)
+  pub cycle-within : (state : State) → IsWithinLimits state → IsWithinLimits (after_power_cycle state)
+  cycle-within state h = record {
+    mapped = h.mapped;
+    pending = queues.power_cycle;
+    registered = reservations.power_cycle state.reservations h.registered;
+    blocks = h.blocks;
+  }

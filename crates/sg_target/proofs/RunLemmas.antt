@@ -6,8 +6,6 @@ use Rattle.std.specs.Prelude.{OnErr}
 use Rattle.std.proofs.Math.Seq.{take-append_seam}
 use Rattle.std.proofs.lemmas.List.{map-append, map_more}
 use Rattle.sg_store.specs.Meter.{Meter}
-use Rattle.sg_units.proofs.AttentionLemmas.{ArePending-power_on}
-use Rattle.sg_units.proofs.PowerLemmas.{consistent-power_on}
 use Rattle.sg_target.specs.PowerCycle.{after_power_cycle}
 use Rattle.sg_target.specs.Ranges.{CostBounds, IsCharged}
 use Rattle.sg_target.specs.Reply.{Carries}
@@ -20,7 +18,7 @@ use Rattle.sg_target.specs.declared.call.Call.{Call}
 use Rattle.sg_target.specs.declared.event.Event.{Event}
 use Rattle.sg_target.specs.declared.event.Event.TheVariants as event
 use Rattle.sg_target.specs.declared.reply.Reply.{Reply}
-use Rattle.sg_target.proofs.LimitLemmas.{step-within}
+use Rattle.sg_target.specs.Laws.{LimitsAreKept}
 
 pub state-more : (state : State) (events : List Event) (last : Event)
     → state_after_events state (events ++ last ∷ []) ≡
@@ -132,25 +130,16 @@ pub on-err : {T E : Type 0} (r : Result T E) (P : Type 0) → P → OnErr r P
 on-err (Ok x) P p = tt
 on-err (Err e) P p = p
 
--- no table passes its limit in a power cycle
-pub cycle-within : (state : State) → IsWithinLimits state → IsWithinLimits (after_power_cycle state)
-cycle-within state h = record {
-  mapped = h.mapped;
-  pending = ArePending-power_on;
-  registered = consistent-power_on state.reservations h.registered;
-  blocks = h.blocks;
-}
-
--- nor on the way
-pub all-within : (state : State) (events : List Event) (n : ℕ) → IsWithinLimits state
+-- no table passes its limit on the way
+pub all-within : LimitsAreKept → (state : State) (events : List Event) (n : ℕ) → IsWithinLimits state
     → IsWithinLimits (state_after_events state (take n events))
-all-within state events zero h = h
-all-within state [] (suc n) h = h
-all-within state (event.Call call ∷ events) (suc n) h =
-    all-within (step_of state call).state events n
-    (step-within state call.initiator call.cdb.now call.data_out.now h)
-all-within state (event.Power ∷ events) (suc n) h =
-    all-within (after_power_cycle state) events n (cycle-within state h)
+all-within limits state events zero h = h
+all-within limits state [] (suc n) h = h
+all-within limits state (event.Call call ∷ events) (suc n) h =
+    all-within limits (step_of state call).state events n
+    (limits.command state call.initiator call.cdb.now call.data_out.now h)
+all-within limits state (event.Power ∷ events) (suc n) h =
+    all-within limits (after_power_cycle state) events n (limits.power_cycle state h)
 
 -- the data-in of a reply is at the beginning of the buffer
 pub answer-carried : (answer : Answer) (reply : Reply) (before after : List ℕ)

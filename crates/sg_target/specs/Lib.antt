@@ -18,6 +18,7 @@ pub mod Reply
 pub mod Ranges
 pub mod PowerCycle
 pub mod Runs
+pub mod Laws
 pub mod Target
 -- What private contracts cite alone.
 pub mod DataIn

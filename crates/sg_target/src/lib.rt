@@ -12,6 +12,7 @@ mod data_out;
 mod event;
 mod extent;
 mod joining;
+pub mod laws;
 mod mode;
 mod operation;
 mod primary;

@@ -8,6 +8,7 @@ ghost use Rattle.sg_target.specs.State.{IsWithinLimits};
 
 use crate::call::Call;
 use crate::event::{Event, ToEvent};
+use crate::laws::limits_are_kept;
 use crate::reply::Reply;
 use crate::target::{BUFFER_LENGTH, Target};
 use sg_store::Store;
@@ -126,6 +127,7 @@ impl<S: Store> Target<S> {
         // The store's contract says that its blocks are well formed, and the type's invariant, which is
         // known where a field is used, that the tables are within their limits.
         let _ = self.store.used();
+        limits_are_kept();
         for item in list {
             match item.to_event() {
                 Event::Call(call) => {

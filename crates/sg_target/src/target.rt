@@ -1,5 +1,6 @@
 // The target over a store.
 use crate::config::Config;
+use crate::laws::limits_are_kept;
 use crate::refusal::{Reason, Refusal};
 use crate::reply::{Reply, format_of};
 use sg_pages::ModePages;
@@ -112,6 +113,7 @@ impl<S: Store> Target<S> {
         ensures charge { IsCharged (cost_bounds S.price S.least) self.old.state.disk.pool
             (ranges self.old.state initiator cdb.now data_out.now) self.old.meter self.new.meter result }
     {
+        limits_are_kept();
         match self.check_command(initiator, cdb, data_out) {
             Ok(operation) => self.execute_checked(initiator, operation, buf),
             Err(refusal) => self.refuse(initiator, refusal, Counts::default()),

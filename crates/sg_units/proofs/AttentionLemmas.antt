@@ -11,7 +11,7 @@ use Rattle.std.proofs.lemmas.Bool.Decides.{nat_tests}
 use Rattle.arrayvec.specs.ArrayVec.{ArrayVec}
 use Rattle.sg_units.specs.Attentions.{AreDistinct, ArePending, AreQueues, IsNotAmong, IsQueue}
 use Rattle.sg_units.specs.Attentions.{Pending, is_pending, pending_for, power_on_pending}
-use Rattle.sg_units.specs.Attentions.{with_optional}
+use Rattle.sg_units.specs.Attentions.{with_optional, without_oldest}
 use Rattle.sg_units.specs.Raised.{Conditions, queue_after, raised_for_each}
 use Rattle.sg_units.specs.UnitAttention.{number_of}
 use Rattle.sg_units.specs.declared.unit_attention.UnitAttention.{UnitAttention}
@@ -290,6 +290,23 @@ ArePending-set pending i queue h q = record {
   one_for_each = omega (arith, h.one_for_each, length-set pending i queue);
   queues = queues-set pending i queue h.queues q;
 }
+
+-- the oldest of a queue is dropped, if any
+pub ArePending-cleared : (pending : Pending) (i : ℕ) → ArePending pending
+    → ArePending (without_oldest pending i)
+ArePending-cleared pending i h =
+    ArePending-set pending i (drop 1 (pending_for pending i)) h
+    (IsQueue-drop (pending_for pending i) (IsQueue-pending_for pending i h.queues))
+
+-- one is put to each, if any
+pub ArePending-raised : (pending : Pending) (conditions : Conditions) → ArePending pending
+    → ArePending (raised_for_each pending conditions)
+unfolding raised_for_each
+ArePending-raised pending conditions h =
+    let q : (i : ℕ) → IsQueue (queue_after pending conditions i) =
+    λ i. IsQueue-with_optional (pending_for pending i) (get_or conditions i None)
+    (IsQueue-pending_for pending i h.queues) in
+    record { one_for_each = refl; queues = (q 0, (q 1, (q 2, (q 3, (q 4, (q 5, (q 6, (q 7, tt)))))))) }
 
 pub ArePending-replaced : (queues : List (ArrayVec UnitAttention)) (i : ℕ)
     (d new : ArrayVec UnitAttention) → i < length queues → ArePending (map items_of queues)

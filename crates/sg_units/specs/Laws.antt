@@ -1,15 +1,18 @@
 -- Laws of the definitions, in the words of the standard.
 use Rattle.std.specs.Prelude.{◌≡◌, ◌⊎◌, ◌<◌, ◌+◌, ◌%◌, ◌^◌, ℕ, ◌==◌, Bool, true, false}
 use Rattle.std.specs.Prelude.{◌&&◌, ◌||◌, List, length, is_some}
-use Rattle.std.specs.Prelude.{Option, Some, None}
+use Rattle.std.specs.Prelude.{Option, Some, None, Ok}
 use Rattle.sg_wire.specs.declared.command.Class.{Class}
 use Rattle.sg_wire.specs.declared.command.out_action.OutAction.{OutAction}
 use Rattle.sg_wire.specs.declared.command.out_action.OutAction.TheVariants.{Clear, Preempt}
 use Rattle.sg_wire.specs.declared.command.out_action.OutAction.TheVariants.{PreemptAndAbort}
 use Rattle.sg_wire.specs.declared.command.Class.TheVariants.{Reads, Writes}
 use Rattle.sg_units.specs.Access.{allows}
-use Rattle.sg_units.specs.Attentions.{Pending, pending_for, raised}
-use Rattle.sg_units.specs.ReserveOut.{outcome, raised_for, state_after}
+use Rattle.sg_units.specs.Attentions.{ArePending, Pending, pending_for, power_on_pending, raised}
+use Rattle.sg_units.specs.Attentions.{without_oldest}
+use Rattle.sg_units.specs.PowerOn.{after_power_on}
+use Rattle.sg_units.specs.Raised.{Conditions, raised_for_each}
+use Rattle.sg_units.specs.ReserveOut.{IsConsistentChange, outcome, raised_for, state_after}
 use Rattle.sg_units.specs.Registrations.{is_registered, is_registered_under}
 use Rattle.sg_units.specs.ReservationType.{is_all_registrants, is_exclusive_access, is_shared}
 use Rattle.sg_units.specs.Reservations.{IsConsistent, is_holder}
@@ -121,3 +124,22 @@ ends_for_others Clear = true
 ends_for_others Preempt = true
 ends_for_others PreemptAndAbort = true
 ends_for_others _ = false
+
+-- ---- What stays true
+
+-- Where registrations and reservation belong together they still do after PERSISTENT RESERVE OUT, and
+-- after a power cycle.
+pub record ReservationsStayConsistent : Type 0 where
+  pub changed : (state : ReservationState) (initiator : ℕ) (action : OutAction) (scope_type : ℕ)
+      (list : OutList) (change : ReservationChange) → IsConsistent state
+      → outcome state initiator action scope_type list ≡ Ok change → IsConsistentChange change
+  pub power_cycle : (state : ReservationState) → IsConsistent state → IsConsistent (after_power_on state)
+
+-- The queues of unit attentions stay within their limits as the oldest of one is cleared, and as
+-- conditions are raised; and they are so after a power cycle.
+pub record QueuesKeepTheirLimits : Type 0 where
+  pub cleared : (pending : Pending) (initiator : ℕ) → ArePending pending
+      → ArePending (without_oldest pending initiator)
+  pub raised : (pending : Pending) (conditions : Conditions) → ArePending pending
+      → ArePending (raised_for_each pending conditions)
+  pub power_cycle : ArePending power_on_pending

@@ -1,7 +1,8 @@
 //! Laws of the definitions: each is the contract of a function that does nothing.
 ghost use Rattle.sg_units.specs.Laws.{EachRegistrantHolds, GenerationCountsChanges};
 ghost use Rattle.sg_units.specs.Laws.{NoConditionForAnother, NothingRaisedForCaller, OneHolder};
-ghost use Rattle.sg_units.specs.Laws.{OneKeyEach, OthersAreRefused, SharersAreAllowed};
+ghost use Rattle.sg_units.specs.Laws.{OneKeyEach, OthersAreRefused, QueuesKeepTheirLimits};
+ghost use Rattle.sg_units.specs.Laws.{ReservationsStayConsistent, SharersAreAllowed};
 
 /// A unit attention condition that is established for one initiator is pending for no other.
 pub fn no_condition_for_another()
@@ -42,4 +43,16 @@ pub fn sharers_are_allowed()
 /// PRGENERATION is incremented by each command that changes a registration, and by at most one.
 pub fn generation_counts_changes()
     ensures { GenerationCountsChanges }
+{}
+
+/// Registrations and reservation that belong together still do after PERSISTENT RESERVE OUT, and
+/// after a power cycle.
+pub fn reservations_stay_consistent()
+    ensures { ReservationsStayConsistent }
+{}
+
+/// The queues of unit attentions stay within their limits as the oldest of one is cleared, as
+/// conditions are raised, and in a power cycle.
+pub fn queues_keep_their_limits()
+    ensures { QueuesKeepTheirLimits }
 {}

@@ -11,7 +11,7 @@ use Rattle.sg_target.specs.Step.{Answer}
 use Rattle.sg_target.specs.declared.call.Call.{Call}
 use Rattle.sg_target.specs.declared.reply.Status.TheVariants.{Good}
 use Rattle.sg_fencing.proofs.HolderLemmas.{alone, is-exclusive, or_right, refuses-others}
-use Rattle.sg_target.proofs.LimitLemmas.{step-within}
+use Rattle.sg_target.specs.Laws.{LimitsAreKept}
 use Rattle.sg_fencing.proofs.AccessLemmas.{shut-out}
 use Rattle.sg_fencing.proofs.laws.others_read_nothing.Goals as goal
 
@@ -26,24 +26,24 @@ not-first state holder call w other reads exclusive =
     shut-out state call.initiator call.cdb.now call.data_out.now Reads reads
     (refused.reads (is-exclusive state holder h exclusive))
 
-not-at : (state : State) (holder : ℕ) (calls : List Call) (n : ℕ) (call : Call) (answer : Answer)
+not-at : LimitsAreKept → (state : State) (holder : ℕ) (calls : List Call) (n : ℕ) (call : Call) (answer : Answer)
     → IsWithinLimits state → slice_get calls n ≡ Some call
     → slice_get (answers state calls) n ≡ Some answer → (call.initiator ≡ holder → ⊥)
     → class_of call.cdb.now ≡ Some Reads
     → holds_type (state_after_all state (take n calls)) holder ExclusiveAccess ≡ true
     → answer.status ≡ Good → ⊥
-not-at state holder [] n call answer w e f other reads exclusive good = cc
-not-at state holder (first ∷ calls) zero call answer w e f other reads exclusive good =
+not-at limits state holder [] n call answer w e f other reads exclusive good = cc
+not-at limits state holder (first ∷ calls) zero call answer w e f other reads exclusive good =
     let same : first ≡ call = cc in
     let answered : (step_of state first).answer ≡ answer = cc in
     not-first state holder call w other reads exclusive
     (ap (λ (c : Call). (step_of state c).answer.status) (sym same)
     ∙ (ap (λ (a : Answer). a.status) answered ∙ good))
-not-at state holder (first ∷ calls) (suc n) call answer w e f other reads exclusive good =
-    not-at (step_of state first).state holder calls n call answer
-    (step-within state first.initiator first.cdb.now first.data_out.now w) e f other reads exclusive
+not-at limits state holder (first ∷ calls) (suc n) call answer w e f other reads exclusive good =
+    not-at limits (step_of state first).state holder calls n call answer
+    (limits.command state first.initiator first.cdb.now first.data_out.now w) e f other reads exclusive
     good
 
 pub returns : goal.returns
 returns c state holder calls n call answer w e f other reads exclusive good =
-    not-at state holder calls n call answer w e f other reads exclusive good
+    not-at c.limits_are_kept.ensures state holder calls n call answer w e f other reads exclusive good

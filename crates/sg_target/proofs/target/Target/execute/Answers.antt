@@ -3,7 +3,6 @@ use Rattle.sg_target.specs.Semantics.{effect_of}
 use Rattle.sg_target.specs.Ranges.{ranges_in, visit_bound}
 use Rattle.sg_target.specs.State.{IsWithinLimits}
 use Rattle.sg_target.specs.Step.{Step}
-use Rattle.sg_target.proofs.LimitLemmas.{step-within}
 use Rattle.sg_target.proofs.RangeLemmas.{price-within}
 use Rattle.sg_target.proofs.StepLemmas.{ranges-checked, step-checked}
 use Rattle.sg_target.proofs.target.Target.execute.Goals as goal
@@ -15,7 +14,7 @@ returns-in-Ok-clause-limits g c =
     _ (sym a.checked) in
     let here = c.execute_checked.ensures.state ∙ sym (ap (λ (s : Step). s.state) step) in
     subst IsWithinLimits (sym here)
-    (step-within _ c.args.initiator c.args.cdb.now c.args.data_out.now a.limits)
+    (c.limits_are_kept.ensures.command _ c.args.initiator c.args.cdb.now c.args.data_out.now a.limits)
 
 pub returns-in-Err-clause-limits : goal.returns-in-Err-clause-limits
 returns-in-Err-clause-limits g c =
@@ -24,7 +23,7 @@ returns-in-Err-clause-limits g c =
     c.args.data_out.now _ (sym a.checked) in
     let here = c.refuse.ensures.state ∙ sym (ap (λ (s : Step). s.state) step) in
     subst IsWithinLimits (sym here)
-    (step-within _ c.args.initiator c.args.cdb.now c.args.data_out.now a.limits)
+    (c.limits_are_kept.ensures.command _ c.args.initiator c.args.cdb.now c.args.data_out.now a.limits)
 
 pub returns-in-Ok-clause-visits : goal.returns-in-Ok-clause-visits
 returns-in-Ok-clause-visits g c =

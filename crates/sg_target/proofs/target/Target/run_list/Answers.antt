@@ -54,7 +54,7 @@ returns-in_err-take-in-Call-clause-stopped g c =
 
 pub returns-in_err-take-in-Call-clause-limits : goal.returns-in_err-take-in-Call-clause-limits
 returns-in_err-take-in-Call-clause-limits g c n =
-    all-within _ (map g.E.ToEvent.event c.args.list.now) n
+    all-within c.limits_are_kept.ensures _ (map g.E.ToEvent.event c.args.list.now) n
     (subst (λ (t : TargetFields). IsWithinLimits t.state) c.self.view_is
     (record {
       mapped = c.self.invariant.1;
@@ -110,7 +110,7 @@ loop-item-preserved g c =
 
 pub returns-clause-limits : goal.returns-clause-limits
 returns-clause-limits g c n =
-    all-within _ (map g.E.ToEvent.event c.args.list.now) n
+    all-within c.limits_are_kept.ensures _ (map g.E.ToEvent.event c.args.list.now) n
     (subst (λ (t : TargetFields). IsWithinLimits t.state) c.self.view_is
     (record {
       mapped = c.self.invariant.1;

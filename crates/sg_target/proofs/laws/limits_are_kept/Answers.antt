@@ -1,0 +1,11 @@
+use Rattle.sg_target.proofs.LimitLemmas.{cycle-within, step-within}
+use Rattle.sg_target.proofs.laws.limits_are_kept.Goals as goal
+
+pub returns : goal.returns
+returns c =
+    let reservations = c.reservations_stay_consistent.ensures in
+    let queues = c.queues_keep_their_limits.ensures in
+    record {
+      command = step-within reservations queues;
+      power_cycle = cycle-within reservations queues;
+    }

@@ -1,0 +1,9 @@
+use Rattle.sg_units.proofs.AttentionLemmas.{ArePending-cleared, ArePending-power_on, ArePending-raised}
+use Rattle.sg_units.proofs.laws.queues_keep_their_limits.Goals as goal
+
+pub returns : goal.returns
+returns c = record {
+  cleared = ArePending-cleared;
+  raised = ArePending-raised;
+  power_cycle = ArePending-power_on;
+}
