@@ -1,10 +1,10 @@
 -- The steps of the proofs of a slot: what it owns, by its two cases.
-use Rattle.std.proofs.Common.{◌≡◌, ℕ, List, [], ◌∷◌, ◌++◌, refl, sym, subst, lit<}
+use Rattle.std.proofs.Common.{◌≡◌, ℕ, List, [], ◌∷◌, ◌++◌, refl, subst, lit<}
 use lib.Dec.{T}
 use seplogic.Ra.Ura.{Ura}
 use mir.Syntax.{impl, tnil, dnil}
 use mir.Raw.{raw as bare}
-use mir.Val.{Val, vnull, vptr, vstruct, vcons, vnil, of_list, has_ty, WT}
+use mir.Val.{Val, vnull, vstruct, vcons, vnil, of_list, has_ty, WT}
 use base.Logic.{ent, guard, guard_i}
 use types.Logic.{Logic, sem}
 use types.Kit.{Item, Goal, Seq, Step, step, ‵, given, ◌$◌, move, drop, fsplit, fjoin, fpick, fpack, feq_i, feq_l, use1, learn}
@@ -25,7 +25,7 @@ use Rattle.std.proofs.alloc.Global.TheLaws as heap
 use Rattle.std.proofs.GlobalToken.{dealloc_token-Testable}
 use Rattle.std.proofs.ResultValues.{and_tt}
 use Rattle.std.proofs.alloc.Calls.{α, Fits, handle_tells}
-use Rattle.std.proofs.BoxSteps.Form.{Bx, B, R, τ, box_ty, word}
+use Rattle.std.proofs.BoxSteps.Form.{Bx, R, τ, box_ty, word}
 use Rattle.std.proofs.BoxSteps.Steps.{box_out}
 use Rattle.sg_embed.specs.contracts.kept.Kept as kept
 use Rattle.sg_embed.proofs.kept.Kept.TheLaws as kept-laws
@@ -60,7 +60,7 @@ module _ {M : Type 1} {𝓤 : Ura M} {𝓛 : Logic 𝓤} {K : Type 0} {Γ : List
   -- An empty slot is null beside the allocator's handle.
   pub bare_in : K → (a : Global) (h : Val)
       → Step K 𝓛 (‵ (slot.the_row.own_val (record { at = null_ptr; alloc = a; held = None }) (bare_word h ∷ [])) ∷ Γ) G
-        (‵ (Heap.the_row.own_val a (h ∷ [])) ∷ Γ) G
+      (‵ (Heap.the_row.own_val a (h ∷ [])) ∷ Γ) G
   bare_in t a h = step (λ s.
       feq_i t Ptr null_ptr null_ptr refl $ nothing t $ move t (2 ∷ 0 ∷ []) $ fjoin t $
       feq_i t (List Val) (vnull ∷ []) (vnull ∷ []) refl $ fjoin t $
@@ -73,8 +73,8 @@ module _ {M : Type 1} {𝓤 : Ura M} {𝓛 : Logic 𝓤} {K : Type 0} {Γ : List
   pub slot_out : K → (p : Ptr) (a : Global) (k : Option E.row.Denot) (vs : List Val)
       → ((h : Val) → k ≡ None → vs ≡ bare_word h ∷ [] → Fits E.al h → Seq K 𝓛 (‵ (Heap.the_row.own_val a (h ∷ [])) ∷ Γ) G)
       → ((x : E.row.Denot) (b o : ℕ) (h : Val) → k ≡ Some x → vs ≡ word E h b o ∷ [] → Fits E.al h → Testable (block_ptr b o)
-        → Seq K 𝓛 (‵ (part_at (R E) full_share x b o) ∷ ‵ (ghosts.dealloc_token a (bare (τ E)) (block_ptr b o))
-          ∷ ‵ (Heap.the_row.own_val a (h ∷ [])) ∷ Γ) G)
+      → Seq K 𝓛 (‵ (part_at (R E) full_share x b o) ∷ ‵ (ghosts.dealloc_token a (bare (τ E)) (block_ptr b o))
+      ∷ ‵ (Heap.the_row.own_val a (h ∷ [])) ∷ Γ) G)
       → Seq K 𝓛 (‵ (slot.the_row.own_val (record { at = p; alloc = a; held = k }) vs) ∷ Γ) G
   slot_out t p a None vs none some =
       fsplit t $ fpick t (λ vss. fsplit t $ feq_l t (λ ev. fsplit t $ feq_l t (λ ep. fsplit t $

@@ -34,7 +34,7 @@ pub record IsExecuted (initiator : ℕ) (cdb data_out : List ℕ) (old new : Opt
   pub limits : IsWithinLimits left.target.state
   pub visits : reply.counts.visits ≤ visit_bound (ranges disk.target.state initiator cdb data_out)
   pub charge : IsCharged (cost_bounds block_price block_least) disk.target.state.disk.pool
-    (ranges disk.target.state initiator cdb data_out) disk.target.meter left.target.meter reply
+      (ranges disk.target.state initiator cdb data_out) disk.target.meter left.target.meter reply
 
 -- The disk that was there has lost power and has it again.
 pub record IsPowerCycled (old new : Option Kept) : Type 0 where

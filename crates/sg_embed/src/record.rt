@@ -74,6 +74,12 @@ impl IdentityRecord {
     pub fn read(&self) -> Result<Identity, IdentityFault>
         ensures { result ≡ asked_identity self.now }
     {
-        Identity::new(self.vendor, self.product, self.revision, self.serial, self.local)
+        Identity::new(
+            self.vendor,
+            self.product,
+            self.revision,
+            self.serial,
+            self.local,
+        )
     }
 }

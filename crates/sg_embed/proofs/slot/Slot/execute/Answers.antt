@@ -1,4 +1,4 @@
-use Rattle.std.proofs.Common.{rules, sym}
+use Rattle.std.proofs.Common.{rules}
 use Rattle.sg_embed.proofs.slot.Slot.execute.Goals as goal
 
 pub returns-clause-executed : goal.returns-clause-executed

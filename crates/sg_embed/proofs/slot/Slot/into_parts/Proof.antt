@@ -1,5 +1,5 @@
 -- `into_parts` tests the pointer, and what the slot owned goes into the parts.
-use Rattle.std.proofs.Common.{◌≡◌, ℕ, List, [], ◌∷◌, ◌++◌, refl, sym, ap, subst, lit<}
+use Rattle.std.proofs.Common.{◌≡◌, ℕ, List, [], ◌∷◌, ◌++◌, refl, sym, subst, lit<}
 use seplogic.Ra.Ura.{Ura}
 use base.Fraction.{full_share}
 use mir.Raw.{raw as bare}
@@ -36,7 +36,7 @@ use Rattle.std.proofs.alloc.Shapes.{after}
 use Rattle.std.proofs.cell.Inside.{Good}
 use Rattle.std.proofs.option.Made.{Some-of, none_of}
 use Rattle.std.proofs.ResultValues.{and_tt}
-use Rattle.std.proofs.BoxSteps.Form.{D, B, R, τ, word, box_typed}
+use Rattle.std.proofs.BoxSteps.Form.{D, R, τ, word, box_typed}
 use Rattle.std.proofs.BoxSteps.Steps.{box_in}
 use Rattle.sg_embed.specs.contracts.slot.Slot as slot
 use Rattle.sg_embed.proofs.SlotSteps.{E, Parted, bare_word, bare_typed, slot_out}

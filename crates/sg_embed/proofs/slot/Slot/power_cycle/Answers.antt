@@ -1,4 +1,4 @@
-use Rattle.std.proofs.Common.{rules, sym}
+use Rattle.std.proofs.Common.{rules}
 use Rattle.sg_embed.proofs.slot.Slot.power_cycle.Goals as goal
 
 pub returns-clause-cycled : goal.returns-clause-cycled
