@@ -2,11 +2,11 @@
 ghost use Rattle.std.specs.Prelude.{◌≡◌, false};
 ghost use Rattle.sg_wire.specs.Watched.{has_failed};
 ghost use Rattle.sg_run.specs.ScriptRun.{snapshot};
-ghost use Rattle.sgrun.specs.NewDisk.{RunsUnlessOutOfMemory};
+ghost use Rattle.sgrun.specs.NewDisk.{RunsUnlessOutOfMemory, by_run};
 
 use crate::stop::Stop;
 use sg_block_map::BlockMap;
-use sg_run::{Session, run_script};
+use sg_run::{RunFault, Session, run_script};
 use sg_target::{Config, Target};
 use sg_wire::Watched;
 use std::alloc::Global;
@@ -31,6 +31,13 @@ pub(crate) fn run_on_new_disk<'a, R: Read, W: Write>(
 {
     let mut target: Target<BlockMap> = Target::new(alloc, disk)?;
     let mut session = Session::new(alloc)?;
-    let status = run_script(alloc, reader, writer, &mut session, &mut target)?;
-    Ok(status)
+    outcome_of_run(run_script(alloc, reader, writer, &mut session, &mut target))
+}
+
+// The outcome of a run. Apart, so that the disk and the session are dropped in one place: the prover
+// follows that once.
+fn outcome_of_run<'a>(ran: Result<u8, RunFault>) -> Result<u8, Stop<'a>>
+    ensures { result ≡ by_run ran }
+{
+    Ok(ran?)
 }

@@ -1,15 +1,12 @@
-use Rattle.std.proofs.Common.{rules, refl, Ok, Err}
+use Rattle.std.proofs.Common.{rules}
+use Rattle.sg_run.specs.ScriptRun.{snapshot}
 use Rattle.sgrun.proofs.NewDiskLemmas.{runs_on_new_disk}
 use Rattle.sgrun.proofs.new_disk.run_on_new_disk.Goals as goal
 
-pub returns-in_err-status : goal.returns-in_err-status
-returns-in_err-status g c =
-    let fault = c.in_err-status.field-0.0 in
-    runs_on_new_disk _ _ _ c.in_ok-target.target.state _ (Err fault) _
-    (search rules) c.in_err-status.ensures.ran (search rules)
-
 pub returns : goal.returns
 returns g c =
-    let status = c.in_ok-status.status in
-    runs_on_new_disk _ _ _ c.in_ok-target.target.state _ (Ok status) _
-    (search rules) c.in_ok-status.ensures.ran refl
+    let at = snapshot g.R.Read.remaining g.W.Write.contents in
+    runs_on_new_disk c.args.disk (at c.args.reader.now c.args.writer.now)
+    (at c.run_script.new.reader c.run_script.new.writer) c.in_ok-target.target.state
+    c.run_script.new.target.state c.run_script.result _
+    (search rules) c.run_script.ensures.ran c.outcome_of_run.ensures

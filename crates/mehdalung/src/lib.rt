@@ -1,0 +1,118 @@
+//! The disk for programs in other languages: each function is one of C, which
+//! `embed/mehdalung.h` describes, and is carried out by its namesake of `sg_embed`.
+//!
+//! `embed/mehdalung.c` tests the pointers of C, and calls these.
+#![tactic(auto)]
+
+ghost use Rattle.std.specs.Prelude.{◌≡◌, ◌≢◌, ◌⊎◌, None, Some, IfOk, length};
+ghost use Rattle.sg_pages.specs.Identity.{standard_identity};
+ghost use Rattle.sg_tools.specs.ExitStatus.{exit_status};
+ghost use Rattle.sg_wire.specs.SenseData.{read_sense};
+ghost use Rattle.sg_embed.specs.Executed.{IsAnswered, IsPowerCycled, disk_config, new_disk};
+ghost use Rattle.sg_embed.specs.Outcome.{execute_outcome, make_outcome, outcome_code};
+ghost use Rattle.sg_embed.specs.Outcome.{make_as_outcome, power_cycle_outcome};
+ghost use Rattle.sg_embed.specs.Records.{asked_identity};
+ghost use Rattle.sg_embed.specs.Text.{text_in};
+
+use sg_embed::{IdentityRecord, Outcome, ReplyRecord, Slot, VERSION, copy_text};
+use sg_pages::Identity;
+use sg_tools::status_of;
+use std::alloc::Global;
+
+/// Makes a disk with the standard identity.
+#[unsafe(no_mangle)]
+pub extern "C" fn mehdalung_make(alloc: Global, disk: &mut Slot, blocks: u64, pool: u32) -> u32
+    ensures outcome { (result ≡ outcome_code Outcome.OutOfMemory) ⊎ (result ≡ outcome_code
+        (make_outcome disk.old.held (disk_config blocks pool standard_identity))) }
+    ensures made { result ≡ 0 → disk.new.held
+        ≡ Some (new_disk (disk_config blocks pool standard_identity)) }
+    ensures refused { result ≢ 0 → disk.new.held ≡ disk.old.held }
+{
+    disk.make(alloc, blocks, pool, Identity::standard()).code()
+}
+
+/// Makes a disk with an identity of its own.
+#[unsafe(no_mangle)]
+pub extern "C" fn mehdalung_make_as(
+    alloc: Global,
+    disk: &mut Slot,
+    blocks: u64,
+    pool: u32,
+    identity: &IdentityRecord,
+) -> u32
+    ensures outcome { (result ≡ outcome_code Outcome.OutOfMemory) ⊎ (result ≡ outcome_code
+        (make_as_outcome disk.old.held blocks pool (asked_identity identity.now))) }
+    ensures made { result ≡ 0 → IfOk (asked_identity identity.now)
+        (λ names. disk.new.held ≡ Some (new_disk (disk_config blocks pool names))) }
+    ensures refused { result ≢ 0 → disk.new.held ≡ disk.old.held }
+{
+    match identity.read() {
+        Ok(names) => disk.make(alloc, blocks, pool, names).code(),
+        Err(fault) => Outcome::of_identity(fault).code(),
+    }
+}
+
+/// Frees a disk, if there is one.
+#[unsafe(no_mangle)]
+pub extern "C" fn mehdalung_free(alloc: Global, disk: &mut Slot)
+    ensures { disk.new.held ≡ None }
+{
+    *disk = Slot::empty(alloc);
+}
+
+/// Executes a command.
+#[unsafe(no_mangle)]
+pub extern "C" fn mehdalung_execute(
+    alloc: Global,
+    disk: &mut Slot,
+    initiator: u32,
+    cdb: &[u8],
+    data_out: &[u8],
+    data_in: &mut [u8],
+    reply: &mut ReplyRecord,
+) -> u32
+    ensures outcome { result
+        ≡ outcome_code (execute_outcome disk.old.held initiator (length data_in.old)) }
+    ensures executed { result ≡ 0 → IsAnswered initiator cdb.now data_out.now
+        disk.old.held disk.new.held data_in.old data_in.new reply.new }
+
+    // Refused, it changes nothing.
+    ensures kept { result ≢ 0 → disk.new.held ≡ disk.old.held }
+    ensures untouched { result ≢ 0 → data_in.new ≡ data_in.old }
+    ensures silent { result ≢ 0 → reply.new ≡ reply.old }
+{
+    match disk.execute(alloc, initiator, cdb, data_out, data_in) {
+        Ok(done) => {
+            *reply = ReplyRecord::of(&done);
+            Outcome::Done.code()
+        }
+        Err(outcome) => outcome.code(),
+    }
+}
+
+/// Takes the power of a disk away, and gives it back.
+#[unsafe(no_mangle)]
+pub extern "C" fn mehdalung_power_cycle(alloc: Global, disk: &mut Slot) -> u32
+    ensures outcome { result ≡ outcome_code (power_cycle_outcome disk.old.held) }
+    ensures cycled { result ≡ 0 → IsPowerCycled disk.old.held disk.new.held }
+    ensures refused { result ≢ 0 → disk.new.held ≡ disk.old.held }
+{
+    disk.power_cycle(alloc).code()
+}
+
+/// The exit status that sg3_utils(8) give a reply with this status code and sense data.
+#[unsafe(no_mangle)]
+pub extern "C" fn mehdalung_exit_status(status: u8, sense: &[u8]) -> u8
+    ensures { result ≡ exit_status status (read_sense sense.now) }
+{
+    status_of(status, sense)
+}
+
+/// Writes the version of the library and of the proof to the beginning of a buffer.
+#[unsafe(no_mangle)]
+pub extern "C" fn mehdalung_version(text: &mut [u8]) -> usize
+    ensures length { result ≡ length VERSION.now }
+    ensures text { text.new ≡ text_in VERSION.now text.old }
+{
+    copy_text(VERSION, text)
+}

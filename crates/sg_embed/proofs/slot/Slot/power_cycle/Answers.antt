@@ -1,0 +1,13 @@
+use Rattle.std.proofs.Common.{rules}
+use Rattle.sg_embed.proofs.slot.Slot.power_cycle.Goals as goal
+
+pub returns-clause-cycled : goal.returns-clause-cycled
+returns-clause-cycled c _ = record {
+  disk = c.in-Some.kept.value;
+  left = record { target = c.power_cycle.new.self };
+  was = search rules;
+  is = search rules;
+  state = search rules;
+  meter = search rules;
+  limits = search rules;
+}

@@ -1,0 +1,69 @@
+-- How calls end.
+use Rattle.std.specs.Prelude.{ℕ, Option, None, Some, Result, Ok, Err, if◌then◌else◌, not, nat_le, nat_lt}
+use Rattle.sg_pages.specs.declared.identity.IdentityFault.{IdentityFault}
+use Rattle.sg_pages.specs.declared.identity.IdentityFault.TheVariants.{Text, Local}
+use Rattle.sg_target.specs.Config.{ConfigFields, checked_config}
+use Rattle.sg_target.specs.declared.config.ConfigFault.{ConfigFault}
+use Rattle.sg_target.specs.declared.config.ConfigFault.TheVariants.{Blocks, Pool}
+use Rattle.sg_target.specs.declared.target.TheConstants.{BUFFER_LENGTH}
+use Rattle.sg_pages.specs.Identity.{IdentityFields}
+use Rattle.sg_embed.specs.Executed.{disk_config}
+use Rattle.sg_embed.specs.declared.kept.Kept.{Kept}
+use Rattle.sg_embed.specs.declared.outcome.Outcome.{Outcome}
+use Rattle.sg_embed.specs.declared.outcome.Outcome.TheVariants.{Done, NoDisk, DiskExists, BlockCount, PoolSize}
+use Rattle.sg_embed.specs.declared.outcome.Outcome.TheVariants.{IdentityText, IdentityLocal, OutOfMemory}
+use Rattle.sg_embed.specs.declared.outcome.Outcome.TheVariants.{UnknownInitiator, BufferTooShort}
+
+-- The numbers of the header.
+abbrev pub outcome_code : Outcome → ℕ
+outcome_code Done = 0
+outcome_code NoDisk = 1
+outcome_code DiskExists = 2
+outcome_code BlockCount = 3
+outcome_code PoolSize = 4
+outcome_code IdentityText = 5
+outcome_code IdentityLocal = 6
+outcome_code OutOfMemory = 7
+outcome_code UnknownInitiator = 8
+outcome_code BufferTooShort = 9
+
+abbrev pub identity_outcome : IdentityFault → Outcome
+identity_outcome Text = IdentityText
+identity_outcome Local = IdentityLocal
+
+abbrev pub config_outcome : ConfigFault → Outcome
+config_outcome Blocks = BlockCount
+config_outcome Pool = PoolSize
+
+abbrev checked_outcome : Result ConfigFields ConfigFault → Outcome
+checked_outcome (Ok config) = Done
+checked_outcome (Err fault) = config_outcome fault
+
+-- How making a disk ends where memory is there.
+abbrev pub make_outcome : Option Kept → ConfigFields → Outcome
+make_outcome (Some disk) config = DiskExists
+make_outcome None config = checked_outcome (checked_config config)
+
+abbrev disk_outcome : Option Kept → Outcome
+disk_outcome (Some disk) = Done
+disk_outcome None = NoDisk
+
+-- How a command ends for an initiator, with a buffer for data-in of a length. Each is checked before
+-- anything is executed.
+abbrev pub execute_outcome : Option Kept → (initiator room : ℕ) → Outcome
+execute_outcome held initiator room =
+    if not (nat_lt initiator 8) then UnknownInitiator else
+    (if not (nat_le BUFFER_LENGTH room) then BufferTooShort else disk_outcome held)
+
+abbrev pub power_cycle_outcome : Option Kept → Outcome
+power_cycle_outcome = disk_outcome
+
+-- The same with an identity, which is looked at first.
+abbrev pub make_as_outcome : Option Kept → (blocks pool : ℕ) → Result IdentityFields IdentityFault → Outcome
+make_as_outcome held blocks pool (Ok identity) = make_outcome held (disk_config blocks pool identity)
+make_as_outcome held blocks pool (Err fault) = identity_outcome fault
+
+-- How a call ended that returns a reply, or why it is refused.
+abbrev pub outcome_of : {T : Type 0} → Result T Outcome → Outcome
+outcome_of (Ok value) = Done
+outcome_of (Err outcome) = outcome

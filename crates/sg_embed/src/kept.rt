@@ -1,0 +1,26 @@
+// The disk as it is kept behind a slot's pointer.
+ghost use Rattle.std.specs.Prelude.{◌≡◌, IfOk};
+ghost use Rattle.sg_embed.specs.Executed.{new_disk};
+
+use sg_block_map::BlockMap;
+use sg_target::{Config, Target};
+use std::alloc::{AllocError, Global};
+
+/// A target over the store with a record for each run.
+#[derive(Drop)]
+pub struct Kept {
+    pub(crate) target: Target<BlockMap>,
+}
+
+impl Kept {
+    /// A disk as it is after power on. All memory is taken here.
+    ///
+    /// # Errors
+    /// Memory was refused.
+    pub(crate) fn new(alloc: Global, config: Config) -> Result<Box<Kept>, AllocError>
+        ensures { IfOk result (λ kept. kept.value ≡ new_disk config) }
+    {
+        let target = Target::new(alloc, config)?;
+        Ok(Box::new(alloc, Kept { target })?)
+    }
+}

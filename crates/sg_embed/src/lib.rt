@@ -1,0 +1,15 @@
+//! A disk for programs in other languages, as the exports of `mehdalung` hand it to C.
+#![tactic(auto)]
+
+mod kept;
+mod outcome;
+mod parts;
+mod record;
+mod slot;
+mod text;
+
+pub use kept::Kept;
+pub use outcome::Outcome;
+pub use record::{IdentityRecord, ReplyRecord, SENSE_LENGTH};
+pub use slot::Slot;
+pub use text::{VERSION, copy_text};

@@ -1,0 +1,61 @@
+// How a call of the library ends.
+use sg_pages::IdentityFault;
+use sg_target::ConfigFault;
+
+/// How a call ends: as it should, or refused with nothing changed.
+#[derive(Clone, Copy, Debug, PartialEq, Eq)]
+pub enum Outcome {
+    /// The call has done what it is for.
+    Done = 0,
+    /// There is no disk.
+    NoDisk = 1,
+    /// There is a disk already.
+    DiskExists = 2,
+    /// The number of blocks is not 1 to 2^40.
+    BlockCount = 3,
+    /// The size of the pool is not 1 to 65,536 blocks.
+    PoolSize = 4,
+    /// A text of the identity has a byte outside 20h to 7Eh.
+    IdentityText = 5,
+    /// The local identifier has more than 60 bits.
+    IdentityLocal = 6,
+    /// Memory was refused.
+    OutOfMemory = 7,
+    /// The initiator is not 0 to 7.
+    UnknownInitiator = 8,
+    /// The buffer for data-in is too short.
+    BufferTooShort = 9,
+}
+
+ghost use Rattle.std.specs.Prelude.{◌≡◌};
+ghost use Rattle.sg_embed.specs.Outcome.{config_outcome, identity_outcome, outcome_code};
+
+impl Outcome {
+    /// Its number, as C has it.
+    pub fn code(self) -> u32
+        ensures value { result ≡ outcome_code self }
+        ensures zero { result ≡ 0 → self ≡ Outcome.Done }
+    {
+        self as u32
+    }
+
+    /// That an identity is refused.
+    pub fn of_identity(fault: IdentityFault) -> Outcome
+        ensures { result ≡ identity_outcome fault }
+    {
+        match fault {
+            IdentityFault::Text => Outcome::IdentityText,
+            IdentityFault::Local => Outcome::IdentityLocal,
+        }
+    }
+
+    /// That a configuration is refused.
+    pub(crate) fn of_config(fault: ConfigFault) -> Outcome
+        ensures { result ≡ config_outcome fault }
+    {
+        match fault {
+            ConfigFault::Blocks => Outcome::BlockCount,
+            ConfigFault::Pool => Outcome::PoolSize,
+        }
+    }
+}

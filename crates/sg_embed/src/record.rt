@@ -1,0 +1,85 @@
+// The records that C reads and writes.
+ghost use Rattle.std.specs.Prelude.{◌≡◌};
+ghost use Rattle.sg_embed.specs.Records.{Shows, asked_identity};
+
+use sg_pages::{Identity, IdentityFault};
+use sg_target::Reply;
+
+/// The most bytes that the sense data of a reply has.
+pub const SENSE_LENGTH: usize = 20;
+
+/// What C declares as `mdl_reply`.
+#[repr(C)]
+#[derive(Drop)]
+pub struct ReplyRecord {
+    /// The status code (SAM-5, 5.3.1).
+    pub status: u8,
+    /// The length of the sense data, in bytes.
+    pub sense_length: u8,
+    /// The sense data, and zeros behind it.
+    pub sense: [u8; SENSE_LENGTH],
+    /// The length of data-in, in bytes from the beginning of the buffer.
+    pub data_in_length: usize,
+    /// Whole records of the map that were read.
+    pub visits: u64,
+    /// First addresses of records that were compared.
+    pub probes: u64,
+    /// Links that were followed to reach a mapped block.
+    pub links: u64,
+}
+
+impl ReplyRecord {
+    /// The record of a reply.
+    pub fn of(reply: &Reply) -> ReplyRecord
+        ensures { Shows result reply.now }
+    {
+        let mut sense = [0; SENSE_LENGTH];
+        let bytes = reply.sense.as_slice();
+        let count = bytes.len().min(SENSE_LENGTH);
+        sense[..count].copy_from_slice(&bytes[..count]);
+        ReplyRecord {
+            status: reply.status.code(),
+            sense_length: count as u8,
+            sense,
+            data_in_length: reply.data_in,
+            visits: reply.counts.visits,
+            probes: reply.counts.probes,
+            links: reply.counts.links,
+        }
+    }
+}
+
+/// What C declares as `mdl_identity`: texts padded with spaces, and the 60 bits of a locally assigned
+/// identifier.
+#[repr(C)]
+#[derive(Drop)]
+pub struct IdentityRecord {
+    /// The T10 vendor identification.
+    pub vendor: [u8; 8],
+    /// The product identification.
+    pub product: [u8; 16],
+    /// The product revision level.
+    pub revision: [u8; 4],
+    /// The unit serial number.
+    pub serial: [u8; 8],
+    /// The locally assigned identifier.
+    pub local: u64,
+}
+
+impl IdentityRecord {
+    /// The identity that it describes.
+    ///
+    /// # Errors
+    /// The first fault of [`IdentityFault`].
+    pub fn read(&self) -> Result<Identity, IdentityFault>
+        ensures { result ≡ asked_identity self.now }
+    {
+        Identity::new(
+            self.vendor,
+            self.product,
+            self.revision,
+            self.serial,
+            self.local,
+        )
+    }
+}

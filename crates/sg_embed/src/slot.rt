@@ -1,0 +1,192 @@
+// The disk that C holds.
+ghost use Rattle.std.specs.Coded.{coded_option};
+ghost use Rattle.std.specs.Prelude.{◌≡◌, Option, None, Some, option_map};
+ghost use Rattle.sg_embed.specs.Holds.{holds};
+ghost use Rattle.sg_embed.specs.contracts.kept.Kept.{the_row};
+ghost use Rattle.sg_embed.specs.declared.kept.Kept.{Kept};
+
+use crate::kept::Kept;
+use crate::outcome::Outcome;
+use crate::parts::Parts;
+use sg_pages::Identity;
+use sg_target::{BUFFER_LENGTH, Config, Reply};
+use sg_wire::Initiator;
+use std::alloc::Global;
+use std::marker::Model;
+use std::mem::replace;
+use std::ptr::null_mut;
+
+/// What C declares as `mdl_disk`: the address of a disk, or null.
+#[repr(C)]
+pub struct Slot {
+    at: *mut u8,
+    alloc: Global,
+    pub ghost held: { Option Kept } by { coded_option the_row.coded },
+}
+
+impl Model for Slot {
+    ghost also_owns = { λ s. holds the_row s.alloc s.at s.held };
+}
+
+impl Slot {
+    /// No disk.
+    pub fn empty(alloc: Global) -> Slot
+        ensures { result.held ≡ None }
+    {
+        Slot {
+            at: null_mut(),
+            alloc,
+        }
+    }
+
+    /// A disk.
+    pub fn of(kept: Box<Kept>) -> Slot
+        ensures { result.held ≡ Some kept.value }
+    {
+        Slot::of_parts(Parts::of(kept))
+    }
+
+    /// The disk, if there is one.
+    pub fn into_kept(self) -> Option<Box<Kept>>
+        ensures { option_map (λ b. b.value) result ≡ self.held }
+    {
+        match self.into_parts() {
+            Some(parts) => Some(parts.into_box()),
+            None => None,
+        }
+    }
+
+    fn of_parts(parts: Parts<Kept, Global>) -> Slot
+        ensures { result.held ≡ Some parts.value }
+    {
+        let Parts { at, alloc } = parts;
+        Slot {
+            at: at as *mut u8,
+            alloc,
+        }
+    }
+
+    fn into_parts(self) -> Option<Parts<Kept, Global>>
+        ensures { option_map (λ p. p.value) result ≡ self.held }
+    {
+        let Slot { at, alloc } = self;
+        if at.is_null() {
+            None
+        } else {
+            Some(Parts {
+                at: at as *mut Kept,
+                alloc,
+            })
+        }
+    }
+}
+
+impl Drop for Slot {
+    fn drop(self) {
+        drop(self.into_kept());
+    }
+}
+
+impl Slot {
+    ghost use Rattle.std.specs.Prelude.{◌≢◌, ◌≡◌, ◌⊎◌, Ok, Err, IfOk, IfErr, OnErr, length};
+    ghost use Rattle.sg_embed.specs.Executed.{IsExecuted, IsPowerCycled, disk_config, new_disk};
+    ghost use Rattle.sg_embed.specs.Outcome.{execute_outcome, make_outcome, outcome_of};
+    ghost use Rattle.sg_embed.specs.Outcome.{power_cycle_outcome};
+
+    /// Makes a disk as it is after power on, of `blocks` logical blocks, of which `pool` can be
+    /// mapped at once. All memory is taken here. The disk stays as it was where another outcome than
+    /// `Done` is returned.
+    pub fn make(&mut self, alloc: Global, blocks: u64, pool: u32, identity: Identity) -> Outcome
+        ensures outcome { (result ≡ Outcome.OutOfMemory) ⊎ (result ≡ make_outcome self.old.held
+            (disk_config blocks pool identity)) }
+        ensures made { result ≡ Outcome.Done → self.new.held
+            ≡ Some (new_disk (disk_config blocks pool identity)) }
+        ensures refused { result ≢ Outcome.Done → self.new.held ≡ self.old.held }
+    {
+        if let Some(kept) = self.take(alloc) {
+            *self = Slot::of(kept);
+            return Outcome::DiskExists;
+        }
+        match Config::new(blocks, pool, identity) {
+            Ok(config) => match Kept::new(alloc, config) {
+                Ok(kept) => {
+                    *self = Slot::of(kept);
+                    Outcome::Done
+                }
+                Err(_) => Outcome::OutOfMemory,
+            },
+            Err(fault) => Outcome::of_config(fault),
+        }
+    }
+
+    /// Executes a command. The buffer has [`BUFFER_LENGTH`] bytes at least; data-in is the first
+    /// bytes of it, and those after it stay as they were.
+    ///
+    /// # Errors
+    /// The first outcome that applies of an initiator that is not 0 to 7, a buffer that is too short
+    /// and no disk. Nothing is executed then, and disk and buffer are as they were.
+    pub fn execute(
+        &mut self,
+        alloc: Global,
+        initiator: u32,
+        cdb: &[u8],
+        data_out: &[u8],
+        data_in: &mut [u8],
+    ) -> Result<Reply, Outcome>
+        ensures outcome { outcome_of result ≡ execute_outcome self.old.held initiator (length data_in.old) }
+        ensures executed { IfOk result (λ reply. IsExecuted initiator cdb.now data_out.now
+            self.old.held self.new.held data_in.old data_in.new reply) }
+        ensures refused { IfErr result (λ outcome. outcome ≢ Outcome.Done) }
+        ensures kept { OnErr result (self.new.held ≡ self.old.held) }
+        ensures untouched { OnErr result (data_in.new ≡ data_in.old) }
+    {
+        let Some(initiator) = known_initiator(initiator) else {
+            return Err(Outcome::UnknownInitiator);
+        };
+        if data_in.len() < BUFFER_LENGTH {
+            return Err(Outcome::BufferTooShort);
+        }
+        let Some(mut kept) = self.take(alloc) else {
+            return Err(Outcome::NoDisk);
+        };
+        let reply = kept.target.execute(initiator, cdb, data_out, data_in);
+        *self = Slot::of(kept);
+        Ok(reply)
+    }
+
+    /// A power cycle. The disk stays as it was where another outcome than `Done` is returned.
+    pub fn power_cycle(&mut self, alloc: Global) -> Outcome
+        ensures outcome { result ≡ power_cycle_outcome self.old.held }
+        ensures cycled { result ≡ Outcome.Done → IsPowerCycled self.old.held self.new.held }
+        ensures refused { result ≢ Outcome.Done → self.new.held ≡ self.old.held }
+    {
+        let Some(mut kept) = self.take(alloc) else {
+            return Outcome::NoDisk;
+        };
+        kept.target.power_cycle();
+        *self = Slot::of(kept);
+        Outcome::Done
+    }
+
+    // Takes the disk out of the slot, if there is one.
+    fn take(&mut self, alloc: Global) -> Option<Box<Kept>>
+        ensures value { option_map (λ b. b.value) result ≡ self.old.held }
+        ensures taken { self.new.held ≡ None }
+    {
+        replace(self, Slot::empty(alloc)).into_kept()
+    }
+}
+
+ghost use Rattle.std.specs.Prelude.{◌<◌};
+ghost use Rattle.std.specs.Option.{SomeIff};
+
+// The initiator with a number, if it has one.
+fn known_initiator(number: u32) -> Option<Initiator>
+    ensures { SomeIff result (number < 8) number }
+{
+    if number < 8 {
+        Initiator::new(number as u8)
+    } else {
+        None
+    }
+}

@@ -1,0 +1,20 @@
+// Texts for C.
+ghost use Rattle.std.specs.Prelude.{◌≡◌, length};
+ghost use Rattle.sg_embed.specs.Text.{text_in};
+
+/// The library's version, and the proof kit's identity.
+pub const VERSION: &[u8] = b"mehdalung 1.0.0, proved with rattle-kit-13b logic dac8208d650f15bf";
+
+/// Writes a text to the beginning of a buffer, cut to it, and a zero behind it. Returns the length of
+/// the whole text without the zero, as snprintf(3) does.
+pub fn copy_text(text: &[u8], out: &mut [u8]) -> usize
+    ensures length { result ≡ length text.now }
+    ensures text { out.new ≡ text_in text.now out.old }
+{
+    if !out.is_empty() {
+        let count = text.len().min(out.len() - 1);
+        out[..count].copy_from_slice(&text[..count]);
+        out[count] = 0;
+    }
+    text.len()
+}

@@ -1,0 +1,101 @@
+#!/usr/bin/env python3
+"""The first minute of README, from Python: each line's status is printed as sgrun prints it.
+
+It needs nothing but Python 3.8 and libmehdalung.so, which MEHDALUNG_LIBRARY names, or ../../build
+has. `Disk` is the disk: `execute` returns (status, sense data, data-in)."""
+import ctypes
+import os
+import sys
+from pathlib import Path
+
+BUFFER_LENGTH = 131_072
+ERRORS = ["OK", "NO_DISK", "DISK_EXISTS", "BLOCKS", "POOL", "IDENTITY_TEXT", "IDENTITY_LOCAL",
+          "OUT_OF_MEMORY", "INITIATOR", "BUFFER_TOO_SHORT", "NULL_POINTER"]
+STATUSES = {0x00: "GOOD", 0x02: "CHECK CONDITION", 0x18: "RESERVATION CONFLICT"}
+
+
+class Slot(ctypes.Structure):
+    """mdl_disk."""
+    _fields_ = [("target", ctypes.c_void_p)]
+
+
+class Reply(ctypes.Structure):
+    """mdl_reply."""
+    _fields_ = [("status", ctypes.c_uint8), ("sense_length", ctypes.c_uint8),
+                ("sense", ctypes.c_uint8 * 20), ("data_in_length", ctypes.c_size_t),
+                ("visits", ctypes.c_uint64), ("probes", ctypes.c_uint64),
+                ("links", ctypes.c_uint64)]
+
+
+def load():
+    beside = Path(__file__).resolve().parents[2] / "build" / "libmehdalung.so"
+    library = ctypes.CDLL(os.environ.get("MEHDALUNG_LIBRARY", str(beside)))
+    slot = ctypes.POINTER(Slot)
+    library.mdl_make.argtypes = [slot, ctypes.c_uint64, ctypes.c_uint32, ctypes.c_void_p]
+    library.mdl_free.argtypes = [slot]
+    library.mdl_free.restype = None
+    library.mdl_execute.argtypes = [slot, ctypes.c_uint32, ctypes.c_char_p, ctypes.c_size_t,
+                                    ctypes.c_char_p, ctypes.c_size_t, ctypes.c_void_p,
+                                    ctypes.c_size_t, ctypes.POINTER(Reply)]
+    library.mdl_power_cycle.argtypes = [slot]
+    library.mdl_exit_status.argtypes = [ctypes.POINTER(Reply)]
+    return library
+
+
+class Disk:
+    """A disk of `blocks` blocks, of which `pool` can be mapped at once."""
+
+    def __init__(self, blocks=4096, pool=4):
+        self.library = load()
+        self.slot = Slot()
+        self.reply = Reply()
+        self.data_in = (ctypes.c_uint8 * BUFFER_LENGTH)()
+        self._check(self.library.mdl_make(self.slot, blocks, pool, None))
+
+    def _check(self, error):
+        if error:
+            raise RuntimeError("MDL_" + ERRORS[error])
+
+    def execute(self, initiator, cdb, data_out=b""):
+        self._check(self.library.mdl_execute(
+            self.slot, initiator, cdb, len(cdb), data_out, len(data_out), self.data_in,
+            BUFFER_LENGTH, self.reply))
+        reply = self.reply
+        return (reply.status, bytes(reply.sense[:reply.sense_length]),
+                bytes(self.data_in[:reply.data_in_length]))
+
+    def exit_status(self):
+        """That of the last reply."""
+        return self.library.mdl_exit_status(self.reply)
+
+    def power_cycle(self):
+        self._check(self.library.mdl_power_cycle(self.slot))
+
+    def close(self):
+        self.library.mdl_free(self.slot)
+
+    def __enter__(self):
+        return self
+
+    def __exit__(self, *_):
+        self.close()
+
+
+MINUTE = [
+    (0, "030000000000", b""),
+    (0, "1201b200fc00", b""),
+    (0, "2a000000000000000400", b"\xab" * 2048),
+    (0, "42000000000000001800", bytes.fromhex("0016001000000000" "0000000000000001" "0000000200000000")),
+    (0, "9e12" + "00" * 11 + "480000", b""),
+    (0, "5f000000000000001800", bytes(15) + b"\xa1" + bytes(8)),
+    (0, "5f010100000000001800", bytes(7) + b"\xa1" + bytes(16)),
+    (1, "030000000000", b""),
+    (1, "2a000000000000000100", bytes(512)),
+]
+
+if __name__ == "__main__":
+    with Disk() as disk:
+        for line, (initiator, cdb, data_out) in enumerate(MINUTE, 1):
+            status, _sense, _data_in = disk.execute(initiator, bytes.fromhex(cdb), data_out)
+            print(f"line {line}: {STATUSES[status]}")
+        sys.exit(disk.exit_status())

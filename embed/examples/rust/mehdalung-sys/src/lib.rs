@@ -1,0 +1,50 @@
+//! The functions of mehdalung.h, which says what each asks of its caller.
+#![allow(non_camel_case_types)]
+use std::ffi::{c_char, c_int, c_uint};
+
+pub const BUFFER_LENGTH: usize = 131_072;
+
+#[repr(C)]
+pub struct mdl_disk {
+    pub target: *mut u8,
+}
+
+#[repr(C)]
+pub struct mdl_identity {
+    pub vendor: [u8; 8],
+    pub product: [u8; 16],
+    pub revision: [u8; 4],
+    pub serial: [u8; 8],
+    pub local: u64,
+}
+
+#[repr(C)]
+#[derive(Clone, Copy, Default)]
+pub struct mdl_reply {
+    pub status: u8,
+    pub sense_length: u8,
+    pub sense: [u8; 20],
+    pub data_in_length: usize,
+    pub visits: u64,
+    pub probes: u64,
+    pub links: u64,
+}
+
+extern "C" {
+    pub fn mdl_make(disk: *mut mdl_disk, blocks: u64, pool: u32, identity: *const mdl_identity) -> c_uint;
+    pub fn mdl_free(disk: *mut mdl_disk);
+    pub fn mdl_execute(
+        disk: *mut mdl_disk,
+        initiator: u32,
+        cdb: *const u8,
+        cdb_length: usize,
+        data_out: *const u8,
+        data_out_length: usize,
+        data_in: *mut u8,
+        data_in_length: usize,
+        reply: *mut mdl_reply,
+    ) -> c_uint;
+    pub fn mdl_power_cycle(disk: *mut mdl_disk) -> c_uint;
+    pub fn mdl_exit_status(reply: *const mdl_reply) -> c_int;
+    pub fn mdl_version(text: *mut c_char, text_length: usize) -> usize;
+}

@@ -1,0 +1,64 @@
+/* The functions of mehdalung.h: they test pointers and call the archive's, which are proved. This
+ * file is not. */
+#include "mehdalung.h"
+
+/* Of crates/mehdalung. Their pointers are not null. */
+uint32_t mehdalung_make(mdl_disk *disk, uint64_t blocks, uint32_t pool);
+uint32_t mehdalung_make_as(mdl_disk *disk, uint64_t blocks, uint32_t pool, const mdl_identity *identity);
+void mehdalung_free(mdl_disk *disk);
+uint32_t mehdalung_execute(mdl_disk *disk, uint32_t initiator, const uint8_t *cdb, size_t cdb_length,
+                           const uint8_t *data_out, size_t data_out_length, uint8_t *data_in,
+                           size_t data_in_length, mdl_reply *reply);
+uint32_t mehdalung_power_cycle(mdl_disk *disk);
+uint8_t mehdalung_exit_status(uint8_t status, const uint8_t *sense, size_t sense_length);
+size_t mehdalung_version(uint8_t *text, size_t text_length);
+
+/* What no bytes are at. */
+static const uint8_t nothing[1];
+
+mdl_error mdl_make(mdl_disk *disk, uint64_t blocks, uint32_t pool, const mdl_identity *identity)
+{
+    if (!disk)
+        return MDL_NULL_POINTER;
+    if (!identity)
+        return (mdl_error)mehdalung_make(disk, blocks, pool);
+    return (mdl_error)mehdalung_make_as(disk, blocks, pool, identity);
+}
+
+void mdl_free(mdl_disk *disk)
+{
+    if (disk)
+        mehdalung_free(disk);
+}
+
+mdl_error mdl_execute(mdl_disk *disk, uint32_t initiator, const uint8_t *cdb, size_t cdb_length,
+                      const uint8_t *data_out, size_t data_out_length, uint8_t *data_in,
+                      size_t data_in_length, mdl_reply *reply)
+{
+    if (!disk || !data_in || !reply || (!cdb && cdb_length) || (!data_out && data_out_length))
+        return MDL_NULL_POINTER;
+    return (mdl_error)mehdalung_execute(disk, initiator, cdb ? cdb : nothing, cdb_length,
+                                        data_out ? data_out : nothing, data_out_length, data_in,
+                                        data_in_length, reply);
+}
+
+mdl_error mdl_power_cycle(mdl_disk *disk)
+{
+    return disk ? (mdl_error)mehdalung_power_cycle(disk) : MDL_NULL_POINTER;
+}
+
+int mdl_exit_status(const mdl_reply *reply)
+{
+    if (!reply)
+        return 99;
+    return mehdalung_exit_status(reply->status, reply->sense, reply->sense_length);
+}
+
+size_t mdl_version(char *text, size_t text_length)
+{
+    uint8_t none[1];
+
+    if (!text)
+        return mehdalung_version(none, 0);
+    return mehdalung_version((uint8_t *)text, text_length);
+}

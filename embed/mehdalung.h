@@ -1,0 +1,130 @@
+/* Mehdalung: a thin-provisioned SCSI disk in memory, with persistent reservations.
+ *
+ * The disk itself is proved: for every disk and every command, status, sense data, data-in and the
+ * state afterwards are those of a written definition. What this header says of a function holds
+ * where its caller keeps the conditions that are stated beside it; nothing checks that it does.
+ *
+ * Every size is in bytes, but where a function says blocks. A block has 512 bytes.
+ *
+ * Memory. mdl_make and mdl_make_as take all memory of a disk from malloc, mdl_free gives it back,
+ * and no other function takes or frees any. malloc and free come from one allocator, which aligns a
+ * block to each power of two up to 16 that divides its size. None of these functions is called from
+ * a signal handler, or from the forked child of a process with threads.
+ *
+ * Pointers. A pointer is null, or points to as many bytes as the function says, which nobody else
+ * reads or writes until the function returns. Memory that it may write does not overlap any other
+ * that it is passed. A null pointer is refused by MDL_NULL_POINTER, or serves where this says so.
+ *
+ * Threads. A disk is used by one thread at a time, and stays with the thread that made it, unless
+ * the program orders its use by a lock or by starting and joining threads. Many disks may be used
+ * at once. The library has no state of its own.
+ */
+#ifndef MEHDALUNG_H
+#define MEHDALUNG_H
+
+#include <stddef.h>
+#include <stdint.h>
+
+#ifdef __cplusplus
+extern "C" {
+#endif
+
+#define MDL_VERSION_MAJOR 1
+#define MDL_VERSION_MINOR 0
+#define MDL_VERSION_PATCH 0
+
+#define MDL_BLOCK_LENGTH 512u
+#define MDL_INITIATORS 8u
+#define MDL_SENSE_LENGTH 20u
+
+/* The least length of the buffer for data-in: the 256 blocks that a READ returns at most. */
+#define MDL_BUFFER_LENGTH 131072u
+
+/* How a call ends. Where it does not end in MDL_OK, it has changed nothing. */
+typedef enum mdl_error {
+    MDL_OK = 0,
+    MDL_NO_DISK = 1,          /* there is no disk: it was not made, or it was freed */
+    MDL_DISK_EXISTS = 2,      /* there is a disk already */
+    MDL_BLOCKS = 3,           /* the number of blocks is not 1 to 2^40 */
+    MDL_POOL = 4,             /* the size of the pool is not 1 to 65,536 blocks */
+    MDL_IDENTITY_TEXT = 5,    /* a text of the identity has a byte outside 20h to 7Eh */
+    MDL_IDENTITY_LOCAL = 6,   /* the local identifier has more than 60 bits */
+    MDL_OUT_OF_MEMORY = 7,    /* memory was refused */
+    MDL_INITIATOR = 8,        /* the initiator is not 0 to 7 */
+    MDL_BUFFER_TOO_SHORT = 9, /* the buffer for data-in has less than MDL_BUFFER_LENGTH bytes */
+    MDL_NULL_POINTER = 10     /* a pointer is null that must not be */
+} mdl_error;
+
+/* A disk, or none. It begins as MDL_NONE. The caller owns this variable and may move it, but it
+ * neither reads nor writes nor copies what is inside: a copy that is used frees a disk twice. */
+typedef struct mdl_disk {
+    void *target;
+} mdl_disk;
+
+#define MDL_NONE { 0 }
+
+/* Texts padded with spaces, without a zero, and the 60 bits of a locally assigned identifier. */
+typedef struct mdl_identity {
+    uint8_t vendor[8];
+    uint8_t product[16];
+    uint8_t revision[4];
+    uint8_t serial[8];
+    uint64_t local;
+} mdl_identity;
+
+#define MDL_GOOD 0x00
+#define MDL_CHECK_CONDITION 0x02
+#define MDL_RESERVATION_CONFLICT 0x18
+
+/* The reply to a command. */
+typedef struct mdl_reply {
+    uint8_t status;                  /* MDL_GOOD, MDL_CHECK_CONDITION, MDL_RESERVATION_CONFLICT */
+    uint8_t sense_length;            /* 0 but under MDL_CHECK_CONDITION */
+    uint8_t sense[MDL_SENSE_LENGTH]; /* sense data, and zeros behind it */
+    size_t data_in_length;           /* data-in is the first bytes of the buffer */
+    uint64_t visits;                 /* whole records of the map that were read */
+    uint64_t probes;                 /* first addresses of records that were compared */
+    uint64_t links;                  /* links that were followed to reach a block */
+} mdl_reply;
+
+/* Makes a disk of `blocks` blocks, of which `pool` can be mapped at once, as it is after power on:
+ * no block is mapped, a unit attention, POWER ON, is pending for each initiator.
+ *     disk      MDL_NONE, or freed. It is to be freed by mdl_free
+ *     identity  read during the call; null for the standard identity
+ * MDL_NULL_POINTER, MDL_IDENTITY_TEXT, MDL_IDENTITY_LOCAL, MDL_DISK_EXISTS, MDL_BLOCKS, MDL_POOL or
+ * MDL_OUT_OF_MEMORY: the first that applies, and `disk` is as it was. */
+mdl_error mdl_make(mdl_disk *disk, uint64_t blocks, uint32_t pool, const mdl_identity *identity);
+
+/* Frees a disk, which is MDL_NONE then. Null and MDL_NONE serve, and nothing is done. */
+void mdl_free(mdl_disk *disk);
+
+/* Executes a command for an initiator, 0 to 7.
+ *     cdb       cdb_length bytes, read during the call; any bytes may be sent. Null if there are 0
+ *     data_out  data_out_length bytes, read during the call. Null if there are 0
+ *     data_in   data_in_length bytes, MDL_BUFFER_LENGTH at least. Data-in is written to the first
+ *               reply->data_in_length of them, and those behind it are as they were
+ *     reply     is written
+ * MDL_NULL_POINTER, MDL_INITIATOR, MDL_BUFFER_TOO_SHORT or MDL_NO_DISK: the first that applies.
+ * Nothing is executed then, and disk, buffer and reply are as they were. */
+mdl_error mdl_execute(mdl_disk *disk, uint32_t initiator, const uint8_t *cdb, size_t cdb_length,
+                      const uint8_t *data_out, size_t data_out_length, uint8_t *data_in,
+                      size_t data_in_length, mdl_reply *reply);
+
+/* Takes the power of a disk away and gives it back. The blocks are as they were. Registrations and
+ * reservation are as they were where they persist through a power loss (APTPL), and gone where not.
+ * MDL_NULL_POINTER or MDL_NO_DISK. */
+mdl_error mdl_power_cycle(mdl_disk *disk);
+
+/* The exit status that the tools of sg3_utils have for a reply. A null pointer serves as a reply
+ * that has neither a known status nor sense data: 99. */
+int mdl_exit_status(const mdl_reply *reply);
+
+/* Writes the version of the library and of the proof, in one line, into `text`, cut to
+ * `text_length` bytes, of which the last one is a zero. Returns the whole length without the zero,
+ * as snprintf does. A null pointer serves, and nothing is written. */
+size_t mdl_version(char *text, size_t text_length);
+
+#ifdef __cplusplus
+}
+#endif
+#endif

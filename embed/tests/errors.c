@@ -1,0 +1,111 @@
+/* Each named error, and that the call has then changed nothing; and that no command takes memory. */
+#include <stdio.h>
+#include <stdlib.h>
+#include <string.h>
+
+#include "mehdalung.h"
+
+extern void *__libc_malloc(size_t), *__libc_realloc(void *, size_t);
+static unsigned long requests, refused;
+
+void *malloc(size_t size)
+{
+    return ++requests == refused ? NULL : __libc_malloc(size);
+}
+
+void *realloc(void *old, size_t size)
+{
+    return ++requests == refused ? NULL : __libc_realloc(old, size);
+}
+
+static int failures;
+#define WANT(condition) \
+    do { \
+        if (!(condition)) { \
+            failures++; \
+            fprintf(stderr, "line %d: not so: %s\n", __LINE__, #condition); \
+        } \
+    } while (0)
+
+static uint8_t data_in[MDL_BUFFER_LENGTH], before_in[MDL_BUFFER_LENGTH];
+static mdl_reply reply, before;
+
+/* A refused call leaves the reply and the buffer as they were. */
+static int is_untouched(void)
+{
+    return memcmp(&reply, &before, sizeof reply) == 0 && memcmp(data_in, before_in, sizeof data_in) == 0;
+}
+
+int main(void)
+{
+    static const uint8_t ready[6] = { 0 }, inquiry[6] = { 0x12, 0, 0, 0, 36 };
+    mdl_identity own = { "ACME    ", "DISK            ", "0200", "00000042", 42 };
+    mdl_disk disk = MDL_NONE, other = MDL_NONE;
+    void *target;
+    unsigned long needed, taken;
+    char text[200], short_text[10];
+    size_t length;
+
+    memset(data_in, 0xEE, sizeof data_in);
+    memset(before_in, 0xEE, sizeof before_in);
+    memset(&reply, 0xDD, sizeof reply);
+    memcpy(&before, &reply, sizeof reply);
+
+    WANT(mdl_make(NULL, 64, 4, NULL) == MDL_NULL_POINTER);
+    WANT(mdl_make(&disk, 0, 4, NULL) == MDL_BLOCKS && !disk.target);
+    WANT(mdl_make(&disk, ((uint64_t)1 << 40) + 1, 4, NULL) == MDL_BLOCKS && !disk.target);
+    WANT(mdl_make(&disk, 64, 0, NULL) == MDL_POOL && !disk.target);
+    WANT(mdl_make(&disk, 64, 65537, NULL) == MDL_POOL && !disk.target);
+    own.vendor[0] = 0x1F;
+    WANT(mdl_make(&disk, 64, 4, &own) == MDL_IDENTITY_TEXT && !disk.target);
+    own.vendor[0] = 'A';
+    own.local = (uint64_t)1 << 60;
+    WANT(mdl_make(&disk, 64, 4, &own) == MDL_IDENTITY_LOCAL && !disk.target);
+    own.local = 42;
+
+    requests = 0;
+    WANT(mdl_make(&disk, 64, 4, &own) == MDL_OK && disk.target);
+    needed = requests;
+    for (refused = requests = 1; refused <= needed; refused++) {
+        requests = 0;
+        WANT(mdl_make(&other, 64, 4, NULL) == MDL_OUT_OF_MEMORY && !other.target);
+    }
+    refused = 0;
+    target = disk.target;
+    WANT(mdl_make(&disk, 64, 4, NULL) == MDL_DISK_EXISTS && disk.target == target);
+
+    WANT(mdl_execute(NULL, 0, ready, 6, NULL, 0, data_in, sizeof data_in, &reply) == MDL_NULL_POINTER);
+    WANT(mdl_execute(&disk, 0, NULL, 6, NULL, 0, data_in, sizeof data_in, &reply) == MDL_NULL_POINTER);
+    WANT(mdl_execute(&disk, 0, ready, 6, NULL, 1, data_in, sizeof data_in, &reply) == MDL_NULL_POINTER);
+    WANT(mdl_execute(&disk, 0, ready, 6, NULL, 0, NULL, sizeof data_in, &reply) == MDL_NULL_POINTER);
+    WANT(mdl_execute(&disk, 0, ready, 6, NULL, 0, data_in, sizeof data_in, NULL) == MDL_NULL_POINTER);
+    WANT(mdl_execute(&disk, 8, ready, 6, NULL, 0, data_in, sizeof data_in, &reply) == MDL_INITIATOR);
+    WANT(mdl_execute(&disk, 256, ready, 6, NULL, 0, data_in, sizeof data_in, &reply) == MDL_INITIATOR);
+    WANT(mdl_execute(&disk, 0, ready, 6, NULL, 0, data_in, sizeof data_in - 1, &reply) == MDL_BUFFER_TOO_SHORT);
+    WANT(mdl_execute(&other, 0, ready, 6, NULL, 0, data_in, sizeof data_in, &reply) == MDL_NO_DISK);
+    WANT(mdl_power_cycle(NULL) == MDL_NULL_POINTER && mdl_power_cycle(&other) == MDL_NO_DISK);
+    WANT(is_untouched() && disk.target == target);
+
+    /* The unit attention, POWER ON, is still pending: none of these was executed. */
+    taken = requests;
+    WANT(mdl_execute(&disk, 0, ready, 6, NULL, 0, data_in, sizeof data_in, &reply) == MDL_OK);
+    WANT(reply.status == MDL_CHECK_CONDITION && reply.sense[2] == 6 && reply.sense[12] == 0x29);
+    WANT(mdl_exit_status(&reply) == 6 && mdl_exit_status(NULL) == 99);
+    WANT(mdl_execute(&disk, 0, NULL, 0, NULL, 0, data_in, sizeof data_in, &reply) == MDL_OK);
+    WANT(reply.status == MDL_CHECK_CONDITION);
+    WANT(mdl_execute(&disk, 0, inquiry, 6, NULL, 0, data_in, sizeof data_in, &reply) == MDL_OK);
+    WANT(reply.status == MDL_GOOD && reply.data_in_length == 36 && !memcmp(data_in + 8, "ACME    DISK", 12));
+    WANT(data_in[36] == 0xEE && mdl_power_cycle(&disk) == MDL_OK && requests == taken);
+
+    mdl_free(&disk);
+    WANT(!disk.target && mdl_power_cycle(&disk) == MDL_NO_DISK);
+    mdl_free(&disk);
+    mdl_free(NULL);
+
+    length = mdl_version(text, sizeof text);
+    WANT(length == strlen(text) && !strncmp(text, "mehdalung ", 10));
+    WANT(mdl_version(short_text, sizeof short_text) == length && !strcmp(short_text, "mehdalung"));
+    WANT(mdl_version(NULL, 0) == length && mdl_version(text, 0) == length);
+    puts(text);
+    return failures != 0;
+}
