@@ -1,21 +1,27 @@
 -- One step of an edit.
 use Rattle.std.proofs.Common.{◌≡◌, ◌≢◌, ℕ, ◌+◌, ◌<◌, List, [], ◌∷◌, ◌++◌, length, set, arith, sym}
-use Rattle.std.proofs.Common.{ap, ◌∙◌, Some, None, length-append, length-set, true, refl, get_or, drop}
-use Rattle.std.proofs.Common.{append_assoc, take, add-one, ◌≤◌}
+use Rattle.std.proofs.Common.{ap, ◌∙◌, Some, None, length-append, length-set, refl, get_or, drop}
+use Rattle.std.proofs.Common.{Option, append_assoc, take, add-one, ◌≤◌}
 use Rattle.std.proofs.Math.Seq.{drop-cons, set-append_seam}
 use Rattle.std.specs.FinMap as map
 use Rattle.std.specs.Prelude.{slice_index_or, insert}
 use Rattle.std.specs.List.{splice}
 use Rattle.sg_store.specs.Disk.{Contents}
-use Rattle.sg_store.specs.Disk.Mapping.{Data}
+use Rattle.sg_store.specs.Disk.{Mapping}
+use Rattle.sg_store.specs.Disk.Mapping.{Data, Anchored}
+use Rattle.std.proofs.lemmas.List.Sums.{sum_by-insert, sum_by-set}
 use Rattle.sg_pool.specs.MappedRecords.{contents_of, mapping_in}
 use Rattle.sg_table.specs.Records.{start_of, IsLowerBound, IsNext, with_kind}
 use Rattle.sg_store.specs.Disk.{used_at}
 use Rattle.sg_pool.specs.Slots.{Slots}
 use Rattle.sg_pool.specs.MappedRecords.{IsConsistent}
 use Rattle.sg_table.specs.Draft.{Drafted, pushed}
-use Rattle.sg_plain_map.specs.Editing.{edited, has_data, is_data, IsEditing}
+use Rattle.sg_plain_map.specs.Editing.{data_at, data_records, edited, one_if_data, IsEditing}
+use Rattle.sg_plain_map.specs.Content.{data_for, filled_slot, kind_for, mapping_for}
+use Rattle.sg_plain_map.specs.declared.content.Content.{Content}
+use Rattle.sg_plain_map.specs.declared.content.Content.TheVariants.{Blocks, Anchor}
 use Rattle.sg_table.specs.Records.{run_at}
+use Rattle.sg_table.specs.declared.run.Kind.{Kind}
 use Rattle.sg_table.specs.declared.run.Kind.TheVariants.{Data as DataKind, Anchored as AnchoredKind}
 use Rattle.sg_table.specs.declared.run.Run.{Run}
 use Rattle.sg_table.specs.declared.cursor.Cursor.{Cursor}
@@ -23,8 +29,9 @@ use Rattle.sg_table.proofs.RecordLemmas.{none_at, index-mapped}
 use Rattle.sg_pool.proofs.MappedLemmas.{none_used, one_used}
 use Rattle.sg_table.proofs.IndexLemmas.{index-insert}
 use Rattle.sg_table.proofs.SpliceLemmas.{front_of, insert-splice, same-splice, next-splice}
-use Rattle.sg_pool.proofs.ConsistencyLemmas.{have_slots, consistent-added, contents-added}
+use Rattle.sg_pool.proofs.ConsistencyLemmas.{have_slots, contents-added}
 use Rattle.sg_pool.proofs.ConsistencyLemmas.{consistent-kind, consistent-over, contents-changed}
+use Rattle.sg_pool.proofs.ConsistencyLemmas.{consistent-inserted, contents-inserted, contents-anchored}
 use Rattle.sg_pool.proofs.ConsistencyLemmas.{starts-kind}
 use Rattle.sg_plain_map.proofs.CursorLemmas.{found, missed}
 
@@ -41,12 +48,63 @@ set-splice rs done from i r h lt =
     sym (rw (next, whole, n) (set-append_seam (p ++ done) (get_or rs i r) t r
     ∙ append_assoc p done (r ∷ t) ∙ ap (λ x. p ++ x) (sym (append_assoc done (r ∷ []) t))))
 
+pub one_if_data-le : (kind : Kind) → one_if_data kind ≤ 1
+one_if_data-le DataKind = omega arith
+one_if_data-le AnchoredKind = omega arith
+
+pub data_at-le : (o : Option Run) → data_at o ≤ 1
+data_at-le None = omega arith
+data_at-le (Some run) = one_if_data-le run.kind
+
+-- ---- What an address is to have
+
+-- the kind of its record
+abbrev pub kind_in : Mapping → Kind
+kind_in (Data block) = DataKind
+kind_in Anchored = AnchoredKind
+
+pub kind-of : (content : Content) (index : ℕ) → kind_for content ≡ kind_in (mapping_for content index)
+kind-of (Blocks source) index = refl
+kind-of Anchor index = refl
+
+pub data_for-le : (content : Content) (count : ℕ) → data_for content count ≤ count
+data_for-le (Blocks source) count = omega arith
+data_for-le Anchor count = omega arith
+
+-- a record more, or one of another kind, with its block
+consistent-filled : (rs : List Run) (bs : List (List ℕ)) (free : List ℕ) (room s : ℕ) (x : Mapping)
+    → IsConsistent rs bs free room → IsConsistent rs (filled_slot bs s x) free room
+consistent-filled rs bs free room s (Data b) consistent = consistent-over rs bs free room s b consistent
+consistent-filled rs bs free room s Anchored consistent = consistent
+
+filled-inserted : (rs : List Run) (bs : List (List ℕ)) (free : List ℕ) (room i : ℕ) (r : Run)
+    (x : Mapping) → IsConsistent rs bs (r.first ∷ free) room
+    → ((j : ℕ) → j < length rs → start_of rs j ≢ r.start) → r.kind ≡ kind_in x
+    → contents_of (insert rs i r) (filled_slot bs r.first x) ≡ map.insert (contents_of rs bs) r.start x
+filled-inserted rs bs free room i r (Data b) consistent none kind =
+    contents-added rs bs free room i r b consistent none kind
+filled-inserted rs bs free room i r Anchored consistent none kind =
+    contents-inserted rs bs free room i r consistent none
+    ∙ ap (λ k. map.insert (contents_of rs bs) r.start (mapping_in bs r.first k)) kind
+
+filled-changed : (rs : List Run) (bs : List (List ℕ)) (free : List ℕ) (room i : ℕ) (r : Run)
+    (x : Mapping) → IsConsistent rs bs free room → i < length rs → r ≡ get_or rs i r
+    → contents_of (set rs i (with_kind (kind_in x) r)) (filled_slot bs r.first x)
+    ≡ map.insert (contents_of rs bs) r.start x
+filled-changed rs bs free room i r (Data b) consistent h e =
+    contents-changed rs bs free room i r b consistent h e
+filled-changed rs bs free room i r Anchored consistent h e =
+    contents-anchored rs bs free room i r consistent h e
+
 -- what is data already does not change
-same-kind : (run : Run) → is_data run.kind ≡ true → with_kind DataKind run ≡ run
-same-kind run e = elim run.kind as (λ k. is_data k ≡ true → with_kind DataKind run ≡ with_kind k run) [
-  | DataKind ↦ λ is. refl
-  | AnchoredKind ↦ λ is. let wrong = is in cc
-] e
+same-kind : (run : Run) (kind : Kind) → kind ≡ DataKind → one_if_data run.kind ≡ 1
+    → with_kind kind run ≡ run
+same-kind run kind data_kind e =
+    ap (λ k. with_kind k run) data_kind
+    ∙ (elim run.kind as (λ k. one_if_data k ≡ 1 → with_kind DataKind run ≡ with_kind k run) [
+      | DataKind ↦ λ is. refl
+      | AnchoredKind ↦ λ is. absurd (omega arith)
+    ]) e
 
 module _ {rs : List Run} {room : ℕ} {slots : Slots} {draft : Drafted} {cursor : Cursor} {lba : ℕ}
     (h : IsEditing rs room slots draft cursor lba) where
@@ -76,13 +134,13 @@ module _ {rs : List Run} {room : ℕ} {slots : Slots} {draft : Drafted} {cursor 
     pub unmapped-there : used_at (contents slots draft cursor) lba ≡ 0
     unmapped-there = none_used (mapping_in slots.blocks) now lba not-there
 
-    pub unmapped-same : {A : Type 0} → has_data (run_at cursor.next lba) ≡ true → A
-    unmapped-same e = let wrong = rw none at e in cc
+    pub unmapped-data : data_at (run_at cursor.next lba) ≡ 0
+    unmapped-data = ap data_at none
 
-    module _ (slots' : Slots) (draft' : Drafted) (run : Run) (b : List ℕ)
+    module _ (slots' : Slots) (draft' : Drafted) (run : Run) (x : Mapping)
         (taken : slots.free ≡ run.first ∷ slots'.free)
-        (put : slots'.blocks ≡ set slots.blocks run.first b) (start : run.start ≡ lba)
-        (kind : run.kind ≡ DataKind) (drafted : draft' ≡ pushed draft run) where
+        (put : slots'.blocks ≡ filled_slot slots.blocks run.first x) (start : run.start ≡ lba)
+        (kind : run.kind ≡ kind_in x) (drafted : draft' ≡ pushed draft run) where
       consistent : IsConsistent now slots.blocks (run.first ∷ slots'.free) room
       consistent = rw taken at h.consistent
 
@@ -95,19 +153,23 @@ module _ {rs : List Run} {room : ℕ} {slots : Slots} {draft : Drafted} {cursor 
       inserted : edited rs (pushed draft run) cursor ≡ insert now at run
       inserted = sym (insert-splice rs draft.records draft.from cursor.index run (omega (arith, h.within)))
 
-      pub added-contents : contents slots' draft' cursor
-          ≡ map.insert (contents slots draft cursor) lba (Data b)
+      pub added-contents : contents slots' draft' cursor ≡ map.insert (contents slots draft cursor) lba x
       added-contents = rw (drafted, put, inserted, sym start)
-          (contents-added now slots.blocks slots'.free room at run b consistent other kind)
+          (filled-inserted now slots.blocks slots'.free room at run x consistent other kind)
 
       pub added-editing : IsEditing rs room slots' draft' cursor (lba + 1)
       added-editing = rw (drafted, sym start) (record {
         consistent = rw (put, inserted)
-            (consistent-added now slots.blocks slots'.free room at run b consistent index other);
+            (consistent-filled (insert now at run) slots.blocks slots'.free room run.first x
+            (consistent-inserted now slots.blocks slots'.free room at run consistent index other));
         within = h.within;
         next = h.next;
         index = rw (inserted, on run) (index-insert now at run index other);
       })
+
+      pub added-data : data_records (edited rs draft' cursor)
+          ≡ data_records now + one_if_data run.kind
+      added-data = rw (drafted, inserted) (sum_by-insert (λ (r : Run). one_if_data r.kind) now at run)
 
   -- the address is mapped
   module _ (run : Run) (is : run_at cursor.next lba ≡ Some run) where
@@ -124,18 +186,20 @@ module _ {rs : List Run} {room : ℕ} {slots : Slots} {draft : Drafted} {cursor 
     pub mapped-there : used_at (contents slots draft cursor) lba ≡ 1
     mapped-there = one_used (mapping_in slots.blocks) now at lba run h.consistent.sorted there.0 (sym there.1) here.2
 
-    abbrev new : Run
-    new = with_kind DataKind run
+    module _ (slots' : Slots) (draft' : Drafted) (x : Mapping) (kind : Kind) (cursor' : Cursor)
+        (free : slots'.free ≡ slots.free)
+        (put : slots'.blocks ≡ filled_slot slots.blocks run.first x) (kinds : kind ≡ kind_in x)
+        (drafted : draft' ≡ pushed draft (with_kind kind run))
+        (moved : cursor'.index ≡ cursor.index + 1) where
+      abbrev new : Run
+      new = with_kind kind run
 
-    module _ (slots' : Slots) (draft' : Drafted) (b : List ℕ) (cursor' : Cursor)
-        (free : slots'.free ≡ slots.free) (put : slots'.blocks ≡ set slots.blocks run.first b)
-        (drafted : draft' ≡ pushed draft new) (moved : cursor'.index ≡ cursor.index + 1) where
       changed : edited rs draft' cursor' ≡ set now at new
       changed = rw (drafted, moved) (set-splice rs draft.records draft.from cursor.index new
           (omega (arith, h.within)) here.0)
 
       consistent' : IsConsistent (set now at new) slots.blocks slots.free room
-      consistent' = consistent-kind now slots.blocks slots.free room at run DataKind h.consistent
+      consistent' = consistent-kind now slots.blocks slots.free room at run kind h.consistent
           there.0 (sym there.1)
 
       starts : draft'.from ≡ draft.from
@@ -146,31 +210,37 @@ module _ {rs : List Run} {room : ℕ} {slots : Slots} {draft : Drafted} {cursor 
           let p = index-mapped now at lba run h.consistent.sorted h.index there.0 (sym there.1) here.2 in
           record {
             within = rw length-set p.within;
-            before = λ j lt. rw (starts-kind now at run DataKind j (sym there.1) there.0) (p.before j lt);
+            before = λ j lt. rw (starts-kind now at run kind j (sym there.1) there.0) (p.before j lt);
             after = λ j le lt.
-                rw (starts-kind now at run DataKind j (sym there.1) there.0)
+                rw (starts-kind now at run kind j (sym there.1) there.0)
                 (p.after j le (rw length-set at lt));
           }
 
-      pub over-contents : contents slots' draft' cursor'
-          ≡ map.insert (contents slots draft cursor) lba (Data b)
-      over-contents = rw (changed, put, sym here.2)
-          (contents-changed now slots.blocks slots.free room at run b h.consistent there.0
+      pub over-contents : contents slots' draft' cursor' ≡ map.insert (contents slots draft cursor) lba x
+      over-contents = rw (changed, put, kinds, sym here.2)
+          (filled-changed now slots.blocks slots.free room at run x h.consistent there.0
           (sym there.1))
 
       pub over-editing : IsNext rs cursor'.index cursor'.next
           → IsEditing rs room slots' draft' cursor' (lba + 1)
       over-editing next = record {
         consistent = rw (changed, put, free)
-            (consistent-over (set now at new) slots.blocks slots.free room run.first b consistent');
+            (consistent-filled (set now at new) slots.blocks slots.free room run.first x consistent');
         within = (omega (arith, starts, moved, h.within), omega (arith, moved, here.0));
         next = next;
         index = rw (changed, drafted, on new) index';
       }
 
       -- an address that has data keeps its record
-      pub over-same : has_data (run_at cursor.next lba) ≡ true → edited rs draft' cursor' ≡ now
-      over-same e =
-          let kept = same-kind run (rw is at e) in
+      pub over-same : kind ≡ DataKind → data_at (run_at cursor.next lba) ≡ 1 → edited rs draft' cursor' ≡ now
+      over-same data_kind e =
+          let kept = same-kind run kind data_kind (rw is at e) in
           rw (drafted, moved, kept)
           (same-splice rs draft.records draft.from cursor.index run here.0 (sym here.1))
+
+      pub over-data : data_records (edited rs draft' cursor') + data_at (run_at cursor.next lba)
+          ≡ data_records now + one_if_data kind
+      over-data =
+          let sum = sum_by-set (λ (r : Run). one_if_data r.kind) now at new run there.0 in
+          rw (changed, is) (ap (λ (r : Run). data_records (set now at new) + one_if_data r.kind)
+          (sym there.1) ∙ sum)

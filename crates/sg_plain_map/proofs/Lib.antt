@@ -3,3 +3,4 @@ pub mod CursorLemmas
 pub mod EditingLemmas
 pub mod RemovalLemmas
 pub mod DescribedLemmas
+pub mod CountLemmas

@@ -1,6 +1,6 @@
 -- Reading and editing the table in the order of addresses.
 use Rattle.std.specs.Prelude.{◌≡◌, ℕ, ◌+◌, ◌-◌, ◌<◌, ◌≤◌, List, length}
-use Rattle.std.specs.Prelude.{Bool, true, false, Option, Some, None}
+use Rattle.std.specs.Prelude.{Bool, true, false, Option, Some, None, if◌then◌else◌, sum_by}
 use Rattle.std.specs.List.{splice}
 use Rattle.sg_store.specs.Disk.{Contents, used_at}
 use Rattle.sg_plain_map.specs.PlainCost.{plain_least, plain_price}
@@ -19,6 +19,18 @@ use Rattle.sg_store.specs.declared.store.TheConstants.{MAX_CAPACITY, MAX_COUNT, 
 -- The contents that a table and slots stand for.
 abbrev pub stored : Table → Slots → Contents
 stored table slots = contents_of table.records slots.blocks
+
+-- Whether a record of a kind has data.
+abbrev pub is_data : Kind → Bool
+is_data Data = true
+is_data Anchored = false
+
+-- One for a record of data, and how many of these there are.
+abbrev pub one_if_data : Kind → ℕ
+one_if_data kind = if is_data kind then 1 else 0
+
+abbrev pub data_records : List Run → ℕ
+data_records records = sum_by (λ (run : Run). one_if_data run.kind) records
 
 -- The cursor is at the first record that is not before the address, which was visited if there is
 -- one.
@@ -43,24 +55,21 @@ pub record IsReadable (records : List Run) (slots : Slots) : Type 0 where
   pub table_size : length records ≤ MAX_POOL
 
 -- The table has other records over the pool, of which no more than `most_moves` were moved, and
--- visits were counted.
-pub record ChangesRecords (most_moves : ℕ) (before after : Table) (slots : Slots) : Type 0 where
+-- visits were counted. `lost` addresses had data, and `gained` have it now.
+pub record ChangesRecords (most_moves lost gained : ℕ) (before after : Table) (slots : Slots) :
+    Type 0 where
   pub consistent : IsConsistent after.records slots.blocks slots.free after.room
   pub table : after ≡ record (visited before (after.total - before.total)) {
     records = after.records;
     moved = after.moved;
   }
   pub moves : after.moved ≤ before.moved + most_moves
+  pub data_count : data_records after.records + lost ≡ data_records before.records + gained
 
 -- The visits to the records of a range lie between the bounds.
 pub record VisitsRange (contents : Contents) (lba count : ℕ) (before after : Table) : Type 0 where
   pub least : before.total + plain_least contents lba count ≤ after.total
   pub price : after.total ≤ before.total + plain_price contents lba count
-
--- Whether a record of a kind has data.
-abbrev pub is_data : Kind → Bool
-is_data Data = true
-is_data Anchored = false
 
 -- The table with the drafted records in place of those up to the cursor.
 abbrev pub edited : List Run → Drafted → Cursor → List Run
@@ -70,10 +79,10 @@ edited records draft cursor = splice records draft.from cursor.index draft.recor
 abbrev pub edited_contents : Table → Slots → Drafted → Cursor → Contents
 edited_contents table slots draft cursor = contents_of (edited table.records draft cursor) slots.blocks
 
--- Whether the record of an address, if it has one, has data.
-abbrev pub has_data : Option Run → Bool
-has_data None = false
-has_data (Some run) = is_data run.kind
+-- One where the address has a record of data.
+abbrev pub data_at : Option Run → ℕ
+data_at None = 0
+data_at (Some run) = one_if_data run.kind
 
 -- The edited table and the slots are consistent, and the next record to be drafted is that of the
 -- address or one past it.
@@ -93,13 +102,15 @@ pub record HasRoom (table : Table) (slots : Slots) (draft : Drafted) (cursor : C
   pub table_size : length table.records ≤ MAX_POOL
 
 -- An address is passed, which has a slot or not, and its record drafted: the cursor goes past the
--- record that it has, and else a slot is taken. A record of data is drafted as it is.
-pub record Drafts (records : List Run) (lba used : ℕ) (cursor cursor' : Cursor)
+-- record that it has, and else a slot is taken. It is drafted with a kind, which it may have already.
+pub record Drafts (records : List Run) (lba used : ℕ) (kind : Kind) (cursor cursor' : Cursor)
     (slots slots' : Slots) (draft draft' : Drafted) : Type 0 where
   pub index : cursor'.index ≡ cursor.index + used
   pub free : length slots'.free + 1 + cursor.index ≡ length slots.free + cursor'.index
   pub from : draft'.from ≡ draft.from
   pub drafted : length draft'.records ≡ length draft.records + 1
   pub room : draft'.room ≡ draft.room
-  pub same : has_data (run_at cursor.next lba) ≡ true
+  pub same : kind ≡ Data → data_at (run_at cursor.next lba) ≡ 1
       → edited records draft' cursor' ≡ edited records draft cursor
+  pub data_count : data_records (edited records draft' cursor') + data_at (run_at cursor.next lba)
+      ≡ data_records (edited records draft cursor) + one_if_data kind

@@ -2,5 +2,6 @@
 pub mod State
 pub mod PlainCost
 -- What only private contracts cite: how the table is read and edited.
+pub mod Content
 pub mod Editing
 pub mod Status

@@ -2,19 +2,21 @@
 // slot of a pool. What its calls do to the records is in the other files.
 ghost use Rattle.std.specs.Prelude.{◌≡◌, ◌+◌, ◌≤◌, ◌↔◌, IsErr, OnOk, OnErr};
 ghost use Rattle.std.proofs.Props.{props};
-ghost use Rattle.sg_store.specs.Disk.{IsWellFormed, IsOverfull, disk_replaced};
+ghost use Rattle.sg_store.specs.Disk.{IsWellFormed, IsOverfull};
 ghost use Rattle.sg_store.specs.DiskProps.{IsWhole-IsProp};
 ghost use Rattle.sg_store.specs.Meter.{HasHeadroom, ChargedOnOk};
 ghost use Rattle.sg_plain_map.specs.PlainCost.{plain_price, plain_price-within, plain_least};
-ghost use Rattle.sg_plain_map.specs.PlainCost.{plain_least-positive};
-ghost use Rattle.sg_plain_map.specs.Editing.{stored};
+ghost use Rattle.sg_plain_map.specs.PlainCost.{plain_least-positive, plain_price-joined};
+ghost use Rattle.sg_plain_map.specs.Editing.{data_records, stored};
 ghost use Rattle.sg_pool.specs.MappedRecords.{IsConsistent};
 ghost use Rattle.sg_store.specs.declared.store.TheConstants.{MAX_CAPACITY, MAX_POOL};
 
+use crate::content::Content;
+use crate::need::visit_records;
 use crate::read::read_blocks;
 use crate::status::write_descriptors;
 use crate::unmap::unmap_records;
-use crate::write::write_blocks;
+use crate::write::put_range;
 use sg_pool::{Pool, Source};
 use sg_store::lba_status::status_header;
 use sg_store::{BLOCK_LENGTH, Counts, Space, Store};
@@ -31,32 +33,35 @@ pub struct PlainMap {
     table: RunTable,
     pool: Pool,
     draft: Draft,
+    /// How many records have data.
+    mapped: u32,
     ghost capacity_fits: { capacity ≤ MAX_CAPACITY },
     ghost pool_fits: { table.room ≤ MAX_POOL },
     ghost draft_fits: { draft.room ≡ table.room },
     ghost well_formed: { IsWellFormed capacity (stored table pool) } by { Prim.hlevel (props, IsWhole-IsProp) },
     ghost consistent: { IsConsistent table.records pool.blocks pool.free table.room },
+    ghost counted: { mapped ≡ data_records table.records },
 }
 
 impl PlainMap {
-    ghost use Rattle.sg_pool.specs.Source.{HasBlocks, block_of};
-    ghost use Rattle.sg_plain_map.specs.State.{disk_of, meter_of};
+    ghost use Rattle.sg_plain_map.specs.Content.{HasMappings, mapping_for};
+    ghost use Rattle.sg_plain_map.specs.State.{disk_of, disk_remapped, meter_of};
 
-    // Replaces the blocks from an address on by those of a source.
+    // Gives the addresses from one on what they are to have.
     //
     // # Errors
-    // More addresses would be mapped than the pool has blocks. Nothing is replaced then.
-    fn replace(&mut self, lba: u64, count: u32, source: &Source) -> Result<(), Space>
+    // More addresses would have a slot than the pool has. Nothing changes then.
+    fn remap(&mut self, lba: u64, count: u32, content: &Content) -> Result<(), Space>
         requires range { lba + count ≤ (disk_of self.old).capacity }
-        requires blocks { HasBlocks source.now count }
+        requires whole { HasMappings content.now count }
         requires headroom { HasHeadroom (meter_of self.old).counts }
 
-        // Either the pool has too few blocks and the disk stays as it is, or all blocks are
-        // replaced.
+        // Either the pool has too few blocks and the disk stays as it is, or all addresses are
+        // remapped.
         ensures space { IsErr result
-            ↔ IsOverfull (disk_replaced (disk_of self.old) lba count (block_of source.now)) }
+            ↔ IsOverfull (disk_remapped (disk_of self.old) lba count (mapping_for content.now)) }
         ensures ok { OnOk result
-            (disk_of self.new ≡ disk_replaced (disk_of self.old) lba count (block_of source.now)) }
+            (disk_of self.new ≡ disk_remapped (disk_of self.old) lba count (mapping_for content.now)) }
         ensures err { OnErr result (disk_of self.new ≡ disk_of self.old) }
 
         // What the call costs, and between which bounds its visits lie.
@@ -67,19 +72,20 @@ impl PlainMap {
     {
         let from = self.table.lower_bound(lba);
         let to = self.table.lower_bound(lba + u64::from(count));
-        let mapped = to - from;
-        if count as usize > self.pool.free_count() + mapped {
+        let used = to - from;
+        if count as usize > self.pool.free_count() + used {
             return Err(Space);
         }
-        write_blocks(
+        let had_data = put_range(
             &mut self.table,
             &mut self.pool,
             &mut self.draft,
             from,
             lba,
             count,
-            source,
+            content,
         );
+        self.mapped = self.mapped + content.data(count) - had_data;
         Ok(())
     }
 }
@@ -101,6 +107,7 @@ impl Store for PlainMap {
             table: RunTable::new(alloc, pool)?,
             pool: Pool::new(alloc, pool)?,
             draft: Draft::new(alloc, pool)?,
+            mapped: 0,
         })
     }
 
@@ -110,17 +117,29 @@ impl Store for PlainMap {
     }
 
     fn write(&mut self, lba: u64, count: u32, bytes: &[u8]) -> Result<(), Space> {
-        self.replace(lba, count, &Source::Joined(bytes))
+        self.remap(lba, count, &Content::Blocks(&Source::Joined(bytes)))
     }
 
     fn fill(&mut self, lba: u64, count: u32, block: &[u8; BLOCK_LENGTH]) -> Result<(), Space> {
-        self.replace(lba, count, &Source::Repeated(block))
+        self.remap(lba, count, &Content::Blocks(&Source::Repeated(block)))
     }
 
     fn unmap(&mut self, lba: u64, count: u32) {
         let from = self.table.lower_bound(lba);
         let to = self.table.lower_bound(lba + u64::from(count));
-        unmap_records(&mut self.table, &mut self.pool, from, to, lba, count);
+        let had_data = unmap_records(&mut self.table, &mut self.pool, from, to, lba, count);
+        self.mapped -= had_data;
+    }
+
+    fn anchor(&mut self, lba: u64, count: u32) -> Result<(), Space> {
+        self.remap(lba, count, &Content::Anchor)
+    }
+
+    fn need(&mut self, lba: u64, count: u64) -> u64 {
+        let from = self.table.lower_bound(lba);
+        let to = self.table.lower_bound(lba + count);
+        visit_records(&mut self.table, from, to);
+        count - (to - from) as u64
     }
 
     fn status(&mut self, lba: u64, cut: &mut Cut) {
@@ -133,6 +152,10 @@ impl Store for PlainMap {
     }
 
     fn mapped(&self) -> u32 {
+        self.mapped
+    }
+
+    fn used(&self) -> u32 {
         self.table.count() as u32
     }
 
@@ -151,4 +174,6 @@ impl Store for PlainMap {
     ghost price_within = { plain_price-within };
 
     ghost least_positive = { plain_least-positive };
+
+    ghost price_joined = { plain_price-joined };
 }

@@ -1,108 +1,120 @@
-// Writing a range: the records that it is to have are drafted, and put into the table all at once. That
-// there are slots enough is for the store to know.
+// Writing or anchoring a range: the records that it is to have are drafted, and put into the table all
+// at once. That there are slots enough is for the store to know.
 ghost use Rattle.std.specs.Prelude.{◌≡◌, ◌+◌, ◌<◌, ◌≤◌, length};
 ghost use Rattle.std.specs.FinMap.{insert};
-ghost use Rattle.sg_store.specs.Disk.{replaced, used_among};
+ghost use Rattle.sg_store.specs.Disk.{IsWhole, remapped, used_among};
 ghost use Rattle.sg_table.specs.Leaves.{move_bound};
 ghost use Rattle.sg_store.specs.Disk.{used_at};
-ghost use Rattle.sg_store.specs.Disk.Mapping.{Data};
-ghost use Rattle.sg_pool.specs.Source.{HasBlocks, block_of};
+ghost use Rattle.sg_plain_map.specs.Content.{HasMappings, data_for, kind_for, mapping_for};
 ghost use Rattle.sg_table.specs.Table.{visited};
 ghost use Rattle.sg_plain_map.specs.Editing.{Drafts, HasRoom, IsEditing, IsReady, VisitsRange, stored};
 ghost use Rattle.sg_plain_map.specs.Editing.{ChangesRecords};
 ghost use Rattle.sg_table.specs.Records.{passed, run_at};
-ghost use Rattle.sg_plain_map.specs.Editing.{edited_contents, has_data};
+ghost use Rattle.sg_plain_map.specs.Editing.{data_at, edited_contents, one_if_data};
 
-use sg_pool::{Pool, Source};
-use sg_store::BLOCK_LENGTH;
+use crate::content::Content;
+use sg_pool::Pool;
 use sg_table::{Cursor, Draft, Kind, Run, RunTable};
 
-// Whether an address has data, so that it keeps its record when it is written.
-fn has_data(cursor: Cursor, lba: u64) -> bool
-    ensures { result ≡ has_data (run_at cursor.next lba) }
+// One where an address has data.
+fn data_at(cursor: Cursor, lba: u64) -> u32
+    ensures { result ≡ data_at (run_at cursor.next lba) }
 {
     match cursor.run_at(lba) {
-        Some(run) => matches!(run.kind, Kind::Data),
-        None => false,
+        Some(run) => data_count(run.kind),
+        None => 0,
     }
 }
 
-// Writes the block at the cursor's address, drafts its record, and goes on to the next address. A
-// block that has a slot is written over there, anchored or not, and any other takes a free one.
-fn put_block(
+/// One for a record of data.
+pub(crate) fn data_count(kind: Kind) -> u32
+    ensures { result ≡ one_if_data kind }
+{
+    match kind {
+        Kind::Data => 1,
+        Kind::Anchored => 0,
+    }
+}
+
+// Drafts the record of the cursor's address, puts its block, and goes on to the next address. An
+// address that has a slot keeps it, and any other takes a free one.
+fn put_address(
     table: &mut RunTable,
     pool: &mut Pool,
     draft: &mut Draft,
     cursor: Cursor,
     lba: u64,
-    bytes: &[u8],
+    content: &Content,
+    index: usize,
 ) -> Cursor
     // The edit has come to the address, and there is room for its record and its block.
     requires editing { IsEditing table.old.records table.old.room pool.old draft.old cursor lba }
     requires room { HasRoom table.old pool.old draft.old cursor lba }
-    requires byte_count { length bytes.now ≡ BLOCK_LENGTH }
+    requires whole { IsWhole (mapping_for content.now index) }
     requires headroom { table.old.visits < u64.MAX }
 
-    // The block is written, and the edit comes to the next address.
+    // The address has what it is to have, and the edit comes to the next one.
     ensures contents { let before = edited_contents table.old pool.old draft.old cursor in
-        edited_contents table.old pool.new draft.new result ≡ insert before lba (Data bytes.now) }
+        edited_contents table.old pool.new draft.new result
+        ≡ insert before lba (mapping_for content.now index) }
     ensures editing { IsEditing table.old.records table.old.room pool.new draft.new result (lba + 1) }
     ensures drafts { let before = edited_contents table.old pool.old draft.old cursor in
-        Drafts table.old.records lba (used_at before lba) cursor result pool.old pool.new
-        draft.old draft.new }
+        Drafts table.old.records lba (used_at before lba) (kind_for content.now) cursor result
+        pool.old pool.new draft.old draft.new }
 
     // Only the visits on the cursor's way are counted.
     ensures cost { visited table.new (passed cursor) ≡ visited table.old (passed result) }
 {
     let Some(run) = cursor.run_at(lba) else {
         let slot = pool.take();
-        pool.set(slot, bytes);
-        draft.push(Run::single(lba, slot, Kind::Data));
+        content.fill(pool, slot, index);
+        draft.push(Run::single(lba, slot, content.kind()));
         return cursor;
     };
-    pool.set(run.first, bytes);
+    content.fill(pool, run.first, index);
     draft.push(Run {
-        kind: Kind::Data,
+        kind: content.kind(),
         ..run
     });
     Cursor::new(table, cursor.index + 1)
 }
 
-/// Replaces the blocks from an address on, of which the records begin at an index. There have to be
-/// free slots for those that are not mapped.
-pub(crate) fn write_blocks(
+/// Gives the addresses from one on what they are to have, of which the records begin at an index, and
+/// returns how many had data. There have to be free slots for those that have none.
+pub(crate) fn put_range(
     table: &mut RunTable,
     pool: &mut Pool,
     draft: &mut Draft,
     from: usize,
     lba: u64,
     count: u32,
-    source: &Source,
-)
+    content: &Content,
+) -> u32
     requires ready { IsReady table.old pool.old from lba count }
-    requires blocks { HasBlocks source.now count }
+    requires whole { HasMappings content.now count }
     requires free { count ≤ length pool.old.free + used_among (stored table.old pool.old) lba count }
     requires room { (count ≤ draft.old.room) × (draft.old.room ≡ table.old.room) }
 
-    // The blocks are written, and the table changes by its records, their moves and its visits
+    // The addresses are remapped, and the table changes by its records, their moves and its visits
     // alone.
     ensures contents { stored table.new pool.new
-        ≡ replaced (stored table.old pool.old) lba count (block_of source.now) }
-    ensures changes { ChangesRecords (move_bound + count) table.old table.new pool.new }
+        ≡ remapped (stored table.old pool.old) lba count (mapping_for content.now) }
+    ensures changes { ChangesRecords (move_bound + count) result (data_for content.now count)
+        table.old table.new pool.new }
     ensures room { draft.new.room ≡ draft.old.room }
     ensures visits { VisitsRange (stored table.old pool.old) lba count table.old table.new }
 {
     draft.begin(from);
     let mut cursor = Cursor::new(table, from);
-    let mut is_same = true;
+    let mut had_data = 0;
     for i in 0..count {
-        let block = source.block(i as usize);
         let address = lba + u64::from(i);
-        is_same &= has_data(cursor, address);
-        cursor = put_block(table, pool, draft, cursor, address, block);
+        had_data += data_at(cursor, address);
+        cursor = put_address(table, pool, draft, cursor, address, content, i as usize);
     }
-    // Where each address had data, the drafted records are those of the table.
-    if !is_same {
+    // Otherwise the drafted records are those of the table.
+    if !content.keeps_records(had_data, count) {
         table.splice(draft.from(), cursor.index, draft.records());
     }
+    had_data
 }

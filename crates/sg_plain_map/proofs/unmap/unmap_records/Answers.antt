@@ -7,7 +7,8 @@ use Rattle.sg_table.specs.Table.{Table, visited}
 use Rattle.sg_table.specs.declared.run.Run.{Run}
 use Rattle.sg_table.proofs.TableLemmas.{visited-more}
 use Rattle.sg_plain_map.proofs.RangeLemmas.{used_among-indices}
-use Rattle.sg_plain_map.proofs.RemovalLemmas.{unmapped-slot, unmapped-consistent, contents-unmapped}
+use Rattle.sg_plain_map.proofs.RemovalLemmas.{less-data, unmapped-slot, unmapped-consistent, contents-unmapped}
+use Rattle.sg_plain_map.proofs.EditingLemmas.{one_if_data-le}
 use Rattle.sg_plain_map.proofs.unmap.unmap_records.Goals as goal
 
 -- the record that was visited is that of the table before the loop
@@ -51,6 +52,14 @@ loop-index-preserved c =
           (unmapped-consistent t.records c.args.from index run (omega arith)
           (omega (arith, c.requires.end.within)) at c.loop-index.pool.blocks
           c.loop-index.pool.free t.room inv.consistent);
+      had = omega (arith, inv.had, c.data_count-had_data.ensures, one_if_data-le run.kind);
+      data_count = omega (
+        arith,
+        inv.data_count,
+        c.data_count-had_data.ensures,
+        less-data t.records c.args.from index run (omega arith)
+            (omega (arith, c.requires.end.within)) at,
+      );
       blocks = given ∙ inv.blocks;
     }
 

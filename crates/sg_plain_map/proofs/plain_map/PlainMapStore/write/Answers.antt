@@ -1,5 +1,5 @@
 use Rattle.sg_pool.proofs.SourceLemmas.{blocks-whole}
 use Rattle.sg_plain_map.proofs.plain_map.PlainMapStore.write.Goals as goal
 
-pub replace-requires-clause-blocks : goal.replace-requires-clause-blocks
-replace-requires-clause-blocks c = blocks-whole c.args.bytes.now c.args.count c.requires.byte_count
+pub remap-requires-clause-whole : goal.remap-requires-clause-whole
+remap-requires-clause-whole c = blocks-whole c.args.bytes.now c.args.count c.requires.byte_count

@@ -1,23 +1,31 @@
-use Rattle.std.proofs.Common.{◌≡◌, ◌+◌, ◌-◌, ap, ap₂, sym, ◌∙◌, arith, refl, [], Bool, true, false}
-use Rattle.std.specs.Prelude.{◌&&◌}
+use Rattle.std.proofs.Common.{◌≡◌, ◌+◌, ◌-◌, ap, ap₂, sym, ◌∙◌, arith, refl, [], ℕ}
 use Rattle.std.proofs.lemmas.List.{take-append-drop}
 use Rattle.std.specs.List.{splice}
 use Rattle.sg_store.specs.Disk.{used_among}
 use Rattle.sg_pool.specs.MappedRecords.{contents_of}
 use Rattle.sg_store.specs.Disk.{used_at}
-use Rattle.sg_store.specs.Disk.Mapping.{Data}
+use Rattle.sg_plain_map.specs.Content.{data_for, kind_for, mapping_for}
+use Rattle.sg_plain_map.specs.Editing.{one_if_data}
+use Rattle.sg_plain_map.specs.declared.content.Content.{Content}
+use Rattle.sg_plain_map.specs.declared.content.Content.TheVariants.{Blocks, Anchor}
+use Rattle.sg_table.specs.Records.{run_at}
+use Rattle.sg_plain_map.proofs.EditingLemmas.{data_at-le}
 use Rattle.sg_table.specs.Records.{ahead}
-use Rattle.sg_pool.specs.Source.{block_of}
 use Rattle.sg_table.specs.Table.{visited}
 use Rattle.sg_store.proofs.DiskLemmas.{remapped-none, remapped-more, used_among-none}
 use Rattle.sg_store.proofs.DiskLemmas.{used_among-more, used_among-rest, used_at-past}
 use Rattle.sg_table.proofs.TableLemmas.{visited-more, visited-less}
-use Rattle.sg_plain_map.proofs.write.write_blocks.Goals as goal
+use Rattle.sg_plain_map.proofs.write.put_range.Goals as goal
 
-both : {A : Type 0} (p q : Bool) → (p ≡ true → q ≡ true → A) → (p && q) ≡ true → A
-both true true f e = f refl refl
-both true false f e = let wrong = e in cc
-both false q f e = let wrong = e in cc
+-- a further address that is to have what the content says
+more-data : (content : Content) (i : ℕ)
+    → data_for content (i + 1) ≡ data_for content i + one_if_data (kind_for content)
+more-data (Blocks source) i = refl
+more-data Anchor i = refl
+
+no-data : (content : Content) → data_for content 0 ≡ 0
+no-data (Blocks source) = refl
+no-data Anchor = refl
 
 pub loop-i-init : goal.loop-i-init
 loop-i-init c =
@@ -37,23 +45,25 @@ loop-i-init c =
         index = rw (e.index, whole, begin, first) c.requires.ready.index;
       });
       contents = rw (c.begin.ensures, e.index, whole)
-          (sym (remapped-none contents c.args.lba (λ index. Data (block_of c.args.source.now index))));
+          (sym (remapped-none contents c.args.lba (mapping_for c.args.content.now)));
       draft = rw c.begin.ensures (refl, refl, c.requires.room.1);
       index = omega (arith, e.index, none);
-      same = λ _. rw (c.begin.ensures, e.index, whole) refl;
+      same = λ _ _. rw (c.begin.ensures, e.index, whole) refl;
+      had = omega arith;
+      data_count = rw (c.begin.ensures, e.index, whole) (omega (arith, no-data c.args.content.now));
       free = omega (arith, none);
       table = e.table ∙ ap (visited t) (omega (arith, none));
     }
 
-pub put_block-cursor-requires-clause-room : goal.put_block-cursor-requires-clause-room
-put_block-cursor-requires-clause-room c =
+pub put_address-cursor-requires-clause-room : goal.put_address-cursor-requires-clause-room
+put_address-cursor-requires-clause-room c =
     let t = c.args.table.now in
     let contents = contents_of t.records c.args.pool.now.blocks in
     let inv = c.loop-i.invariant in
     let i = c.loop-i.i in
     let here : c.args.lba + c.from.result ≡ c.args.lba + i = ap (λ x. c.args.lba + x) c.from.ensures in
     let same = ap₂ used_at inv.contents here
-    ∙ used_at-past contents c.args.lba i (λ index. Data (block_of c.args.source.now index)) in
+    ∙ used_at-past contents c.args.lba i (mapping_for c.args.content.now) in
     let on : i + 1 + (c.args.count - (i + 1)) ≡ c.args.count = omega arith in
     let rest = rw on at (used_among-rest contents c.args.lba (i + 1) (c.args.count - (i + 1))) in
     record {
@@ -77,33 +87,44 @@ loop-i-preserved c =
     let contents = contents_of t.records c.args.pool.now.blocks in
     let inv = c.loop-i.invariant in
     let i = c.loop-i.i in
-    let e = c.put_block-cursor.ensures in
+    let e = c.put_address-cursor.ensures in
     let here : c.args.lba + c.from.result ≡ c.args.lba + i = ap (λ x. c.args.lba + x) c.from.ensures in
     let on : c.args.lba + i + 1 ≡ c.args.lba + (i + 1) = omega arith in
     let same = ap₂ used_at inv.contents here
-    ∙ used_at-past contents c.args.lba i (λ index. Data (block_of c.args.source.now index)) in
+    ∙ used_at-past contents c.args.lba i (mapping_for c.args.content.now) in
     let drafts = rw (inv.table, same) at e.drafts in
     let index = drafts.index in
+    let address = c.args.lba + c.from.result in
+    let at = c.data_at-had_data.ensures in
     let before = used_among contents c.args.lba i + ahead c.loop-i.cursor.next in
     let passed = c.loop-i.cursor.index + ahead c.loop-i.cursor.next in
-    let after = c.put_block-cursor.result.index + ahead c.put_block-cursor.result.next in
+    let after = c.put_address-cursor.result.index + ahead c.put_address-cursor.result.next in
     let more = used_among-more contents c.args.lba i in
-    let paid : visited c.put_block-cursor.new.table passed ≡ visited t (before + after) =
+    let paid : visited c.put_address-cursor.new.table passed ≡ visited t (before + after) =
     rw inv.table at e.cost ∙ visited-more t before after in
     record {
       editing = rw (inv.table, here, on) at e.editing;
       contents = rw inv.table at e.contents
-          ∙ rw (inv.contents, here, c.block-block.ensures)
-          (sym (remapped-more contents c.args.lba i (λ index. Data (block_of c.args.source.now index))));
+          ∙ rw (inv.contents, here)
+          (sym (remapped-more contents c.args.lba i (mapping_for c.args.content.now)));
       draft = (
         drafts.from ∙ inv.draft.0,
         omega (arith, drafts.drafted, inv.draft.1),
         drafts.room ∙ inv.draft.2,
       );
       index = omega (arith, index, inv.index, more);
-      same = both c.loop-i.is_same c.has_data-is_same.result (λ was has.
-          drafts.same (sym c.has_data-is_same.ensures ∙ has) ∙ inv.same was);
+      same = λ kind all.
+          drafts.same kind (omega (arith, inv.had, at, data_at-le (run_at c.loop-i.cursor.next address), all))
+          ∙ inv.same kind (omega (arith, inv.had, at, data_at-le (run_at c.loop-i.cursor.next address), all));
+      had = omega (arith, inv.had, at, data_at-le (run_at c.loop-i.cursor.next address));
+      data_count = omega (
+        arith,
+        drafts.data_count,
+        inv.data_count,
+        at,
+        more-data c.args.content.now i,
+      );
       free = omega (arith, drafts.free, index, inv.free, more);
-      table = visited-less c.put_block-cursor.new.table t passed (before + after) _ paid
+      table = visited-less c.put_address-cursor.new.table t passed (before + after) _ paid
           (omega (arith, index, more));
     }

@@ -1,0 +1,32 @@
+-- What the addresses of a range are to have.
+use Rattle.std.specs.Prelude.{ℕ, ◌<◌, List, slice_set}
+use Rattle.sg_store.specs.Disk.{IsWhole, Mapping}
+use Rattle.sg_store.specs.Disk.Mapping.{Data, Anchored}
+use Rattle.sg_pool.specs.Source.{block_of}
+use Rattle.sg_table.specs.declared.run.Kind.{Kind}
+use Rattle.sg_table.specs.declared.run.Kind.TheVariants.{Data as DataKind, Anchored as AnchoredKind}
+use Rattle.sg_plain_map.specs.declared.content.Content.{Content}
+use Rattle.sg_plain_map.specs.declared.content.Content.TheVariants.{Blocks, Anchor}
+
+-- What the address at an index of the range is to have.
+abbrev pub mapping_for : Content → (index : ℕ) → Mapping
+mapping_for (Blocks source) index = Data (block_of source.now index)
+mapping_for Anchor index = Anchored
+
+-- For each index below `count` it is a whole block, or none.
+abbrev pub HasMappings : Content → (count : ℕ) → Type 0
+HasMappings content count = (index : ℕ) → index < count → IsWhole (mapping_for content index)
+
+-- The kind of the records, and how many of `count` addresses have data then.
+abbrev pub kind_for : Content → Kind
+kind_for (Blocks source) = DataKind
+kind_for Anchor = AnchoredKind
+
+abbrev pub data_for : Content → (count : ℕ) → ℕ
+data_for (Blocks source) count = count
+data_for Anchor count = 0
+
+-- The blocks of the slots, with that of an address in its slot. An anchored address has none.
+abbrev pub filled_slot : (blocks : List (List ℕ)) → (slot : ℕ) → Mapping → List (List ℕ)
+filled_slot blocks slot (Data block) = slice_set blocks slot block
+filled_slot blocks slot Anchored = blocks

@@ -1,0 +1,64 @@
+// What the addresses of a range are to have, for each the same way. It knows no address and no record.
+ghost use Rattle.std.specs.Prelude.{◌≡◌, ◌<◌, length, true};
+ghost use Rattle.sg_store.specs.Disk.{IsWhole};
+ghost use Rattle.sg_plain_map.specs.Content.{data_for, filled_slot, kind_for, mapping_for};
+ghost use Rattle.sg_table.specs.declared.run.Kind.TheVariants.{Data};
+
+use sg_pool::{Pool, Source};
+use sg_table::Kind;
+
+/// What the addresses of a range are to have.
+#[derive(Drop)]
+pub(crate) enum Content<'a> {
+    /// The blocks of a source.
+    Blocks(&'a Source<'a>),
+    /// No data: they are anchored.
+    Anchor,
+}
+
+impl Content<'_> {
+    /// The kind of the records.
+    pub(crate) fn kind(&self) -> Kind
+        ensures { result ≡ kind_for self.now }
+    {
+        match self {
+            Content::Blocks(_) => Kind::Data,
+            Content::Anchor => Kind::Anchored,
+        }
+    }
+
+    /// How many of `count` addresses have data then.
+    pub(crate) fn data(&self, count: u32) -> u32
+        ensures { result ≡ data_for self.now count }
+    {
+        match self {
+            Content::Blocks(_) => count,
+            Content::Anchor => 0,
+        }
+    }
+
+    /// Whether the records stay as they are, where `had_data` of `count` addresses had data.
+    pub(crate) fn keeps_records(&self, had_data: u32, count: u32) -> bool
+        ensures { result ≡ true → (had_data ≡ count) × (kind_for self.now ≡ Data) }
+    {
+        match self {
+            Content::Blocks(_) => had_data == count,
+            Content::Anchor => false,
+        }
+    }
+
+    /// Puts the block for an index of the range into a slot. What an anchored slot holds stays there,
+    /// and is not seen.
+    pub(crate) fn fill(&self, pool: &mut Pool, slot: u32, index: usize)
+        requires slot { slot < length pool.old.blocks }
+        requires whole { IsWhole (mapping_for self.now index) }
+        ensures { pool.new ≡ record pool.old {
+          blocks = filled_slot pool.old.blocks slot (mapping_for self.now index);
+        } }
+    {
+        match self {
+            Content::Blocks(source) => pool.set(slot, source.block(index)),
+            Content::Anchor => {}
+        }
+    }
+}
