@@ -13,6 +13,7 @@ ghost use Rattle.sg_store.specs.Meter.{Charged, ChargedOnOk};
 
 use sg_wire::Cut;
 use std::alloc::{AllocError, Global};
+use thiserror::Error;
 
 /// The length of a block, in bytes.
 pub const BLOCK_LENGTH: usize = 512;
@@ -39,7 +40,8 @@ pub struct Counts {
 }
 
 /// More addresses would be mapped or anchored than the pool has blocks.
-#[derive(Clone, Copy, Debug, PartialEq)]
+#[derive(Clone, Copy, Debug, Error, PartialEq)]
+#[error("the pool has too few blocks")]
 pub struct Space;
 
 /// A disk of blocks of 512 bytes, of which those that were written are mapped to the blocks of a
