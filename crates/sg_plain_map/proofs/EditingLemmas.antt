@@ -106,10 +106,24 @@ same-kind run kind data_kind e =
       | AnchoredKind ↦ λ is. absurd (omega arith)
     ]) e
 
+abbrev edited_contents : List Run → Slots → Drafted → Cursor → Contents
+edited_contents rs slots draft cursor = contents_of (edited rs draft cursor) slots.blocks
+
+-- An address was drafted with what it is to have.
+pub record IsPut (rs : List Run) (room : ℕ) (slots slots' : Slots) (draft draft' : Drafted)
+    (cursor cursor' : Cursor) (lba : ℕ) (x : Mapping) (kind : Kind) : Type 0 where
+  pub contents : edited_contents rs slots' draft' cursor'
+      ≡ map.insert (edited_contents rs slots draft cursor) lba x
+  pub editing : IsEditing rs room slots' draft' cursor' (lba + 1)
+  pub data_count : data_records (edited rs draft' cursor') + data_at (run_at cursor.next lba)
+      ≡ data_records (edited rs draft cursor) + one_if_data kind
+  pub same : kind ≡ DataKind → data_at (run_at cursor.next lba) ≡ 1
+      → edited rs draft' cursor' ≡ edited rs draft cursor
+
 module _ {rs : List Run} {room : ℕ} {slots : Slots} {draft : Drafted} {cursor : Cursor} {lba : ℕ}
     (h : IsEditing rs room slots draft cursor lba) where
   abbrev contents : Slots → Drafted → Cursor → Contents
-  contents slots draft cursor = contents_of (edited rs draft cursor) slots.blocks
+  contents = edited_contents rs
 
   abbrev at : ℕ
   at = draft.from + length draft.records
@@ -134,7 +148,7 @@ module _ {rs : List Run} {room : ℕ} {slots : Slots} {draft : Drafted} {cursor 
     pub unmapped-there : used_at (contents slots draft cursor) lba ≡ 0
     unmapped-there = none_used (mapping_in slots.blocks) now lba not-there
 
-    pub unmapped-data : data_at (run_at cursor.next lba) ≡ 0
+    unmapped-data : data_at (run_at cursor.next lba) ≡ 0
     unmapped-data = ap data_at none
 
     module _ (slots' : Slots) (draft' : Drafted) (run : Run) (x : Mapping)
@@ -153,11 +167,11 @@ module _ {rs : List Run} {room : ℕ} {slots : Slots} {draft : Drafted} {cursor 
       inserted : edited rs (pushed draft run) cursor ≡ insert now at run
       inserted = sym (insert-splice rs draft.records draft.from cursor.index run (omega (arith, h.within)))
 
-      pub added-contents : contents slots' draft' cursor ≡ map.insert (contents slots draft cursor) lba x
+      added-contents : contents slots' draft' cursor ≡ map.insert (contents slots draft cursor) lba x
       added-contents = rw (drafted, put, inserted, sym start)
           (filled-inserted now slots.blocks slots'.free room at run x consistent other kind)
 
-      pub added-editing : IsEditing rs room slots' draft' cursor (lba + 1)
+      added-editing : IsEditing rs room slots' draft' cursor (lba + 1)
       added-editing = rw (drafted, sym start) (record {
         consistent = rw (put, inserted)
             (consistent-filled (insert now at run) slots.blocks slots'.free room run.first x
@@ -167,9 +181,16 @@ module _ {rs : List Run} {room : ℕ} {slots : Slots} {draft : Drafted} {cursor 
         index = rw (inserted, on run) (index-insert now at run index other);
       })
 
-      pub added-data : data_records (edited rs draft' cursor)
-          ≡ data_records now + one_if_data run.kind
+      added-data : data_records (edited rs draft' cursor) ≡ data_records now + one_if_data run.kind
       added-data = rw (drafted, inserted) (sum_by-insert (λ (r : Run). one_if_data r.kind) now at run)
+
+      pub added : IsPut rs room slots slots' draft draft' cursor cursor lba x run.kind
+      added = record {
+        contents = added-contents;
+        editing = added-editing;
+        data_count = omega (arith, added-data, unmapped-data);
+        same = λ is e. absurd (omega (arith, unmapped-data, e));
+      }
 
   -- the address is mapped
   module _ (run : Run) (is : run_at cursor.next lba ≡ Some run) where
@@ -216,12 +237,12 @@ module _ {rs : List Run} {room : ℕ} {slots : Slots} {draft : Drafted} {cursor 
                 (p.after j le (rw length-set at lt));
           }
 
-      pub over-contents : contents slots' draft' cursor' ≡ map.insert (contents slots draft cursor) lba x
+      over-contents : contents slots' draft' cursor' ≡ map.insert (contents slots draft cursor) lba x
       over-contents = rw (changed, put, kinds, sym here.2)
           (filled-changed now slots.blocks slots.free room at run x h.consistent there.0
           (sym there.1))
 
-      pub over-editing : IsNext rs cursor'.index cursor'.next
+      over-editing : IsNext rs cursor'.index cursor'.next
           → IsEditing rs room slots' draft' cursor' (lba + 1)
       over-editing next = record {
         consistent = rw (changed, put, free)
@@ -232,15 +253,24 @@ module _ {rs : List Run} {room : ℕ} {slots : Slots} {draft : Drafted} {cursor 
       }
 
       -- an address that has data keeps its record
-      pub over-same : kind ≡ DataKind → data_at (run_at cursor.next lba) ≡ 1 → edited rs draft' cursor' ≡ now
+      over-same : kind ≡ DataKind → data_at (run_at cursor.next lba) ≡ 1 → edited rs draft' cursor' ≡ now
       over-same data_kind e =
           let kept = same-kind run kind data_kind (rw is at e) in
           rw (drafted, moved, kept)
           (same-splice rs draft.records draft.from cursor.index run here.0 (sym here.1))
 
-      pub over-data : data_records (edited rs draft' cursor') + data_at (run_at cursor.next lba)
+      over-data : data_records (edited rs draft' cursor') + data_at (run_at cursor.next lba)
           ≡ data_records now + one_if_data kind
       over-data =
           let sum = sum_by-set (λ (r : Run). one_if_data r.kind) now at new run there.0 in
           rw (changed, is) (ap (λ (r : Run). data_records (set now at new) + one_if_data r.kind)
           (sym there.1) ∙ sum)
+
+      pub over : IsNext rs cursor'.index cursor'.next
+          → IsPut rs room slots slots' draft draft' cursor cursor' lba x kind
+      over next = record {
+        contents = over-contents;
+        editing = over-editing next;
+        data_count = over-data;
+        same = over-same;
+      }

@@ -3,7 +3,8 @@ use Rattle.std.proofs.Common.{◌≡◌, ℕ, ◌+◌, ◌-◌, ◌<◌, ◌≤�
 use Rattle.std.proofs.Common.{get_or, arith, refl, sym, ap, ◌∙◌, inl, inr, cond, Bool, true}
 use Rattle.std.proofs.lemmas.Bool.{cases_lt}
 use Rattle.std.specs.FinMap.{contains_key}
-use Rattle.sg_store.specs.Disk.{used_among}
+use Rattle.sg_store.specs.Disk.{need, used_among}
+use Rattle.sg_store.proofs.NeedLemmas.{need-used}
 use Rattle.sg_table.specs.Records.{start_of, IsSorted, IsLowerBound}
 use Rattle.sg_pool.specs.MappedRecords.{contents_of, mapping_in}
 use Rattle.sg_store.specs.Disk.{used_at}
@@ -114,3 +115,12 @@ pub used_between : (rs : List Run) (bs : List (List ℕ)) (i j a k : ℕ) → Is
     → IsLowerBound rs i a → IsLowerBound rs j (a + k) → used_among (contents_of rs bs) a k ≡ j - i
 used_between rs bs i j a k rises p q = let mapped =
     used_among-indices rs bs i a k j rises p q in omega arith
+
+-- and how many it needs, where each record of the range has one
+pub need_between : (rs : List Run) (bs : List (List ℕ)) (i j a k : ℕ) → IsSorted rs
+    → IsLowerBound rs i a → IsLowerBound rs j (a + k)
+    → (used_among (contents_of rs bs) a k ≡ j - i) × (need (contents_of rs bs) a k + (j - i) ≡ k)
+need_between rs bs i j a k rises p q =
+    let used = used_between rs bs i j a k rises p q in
+    let all = need-used (contents_of rs bs) a k in
+    (used, omega (arith, used, all))

@@ -1,35 +1,31 @@
 use Rattle.std.proofs.Common.{arith, ap, ◌∙◌}
-use Rattle.sg_plain_map.specs.Editing.{stored}
 use Rattle.sg_table.specs.Table.{Table}
-use Rattle.sg_store.proofs.NeedLemmas.{need-used}
-use Rattle.sg_plain_map.proofs.RangeLemmas.{used_between}
+use Rattle.sg_plain_map.proofs.RangeLemmas.{need_between}
 use Rattle.sg_plain_map.proofs.plain_map.PlainMapStore.need.Goals as goal
 
 pub overflow_sub-result-2 : goal.overflow_sub-result-2
 overflow_sub-result-2 c =
     let s = c.args.self.now in
     let to = rw c.lower_bound-from.ensures.table at c.lower_bound-to.ensures.index in
-    let used = used_between s.table.records s.pool.blocks c.lower_bound-from.result
+    let used = need_between s.table.records s.pool.blocks c.lower_bound-from.result
     c.lower_bound-to.result c.args.lba c.args.count s.consistent.sorted
     c.lower_bound-from.ensures.index to in
-    let all = need-used (stored s.table s.pool) c.args.lba c.args.count in
-    omega (arith, used, all)
+    omega (arith, used)
 
 pub returns-clause-value : goal.returns-clause-value
 returns-clause-value c =
     let s = c.args.self.now in
     let to = rw c.lower_bound-from.ensures.table at c.lower_bound-to.ensures.index in
-    let used = used_between s.table.records s.pool.blocks c.lower_bound-from.result
+    let used = need_between s.table.records s.pool.blocks c.lower_bound-from.result
     c.lower_bound-to.result c.args.lba c.args.count s.consistent.sorted
     c.lower_bound-from.ensures.index to in
-    let all = need-used (stored s.table s.pool) c.args.lba c.args.count in
-    omega (arith, used, all)
+    omega (arith, used)
 
 pub returns-clause-costs : goal.returns-clause-costs
 returns-clause-costs c =
     let s = c.args.self.now in
     let to = rw c.lower_bound-from.ensures.table at c.lower_bound-to.ensures.index in
-    let used = used_between s.table.records s.pool.blocks c.lower_bound-from.result
+    let used = need_between s.table.records s.pool.blocks c.lower_bound-from.result
     c.lower_bound-to.result c.args.lba c.args.count s.consistent.sorted
     c.lower_bound-from.ensures.index to in
     let searched = c.lower_bound-from.ensures.table in
