@@ -26,6 +26,7 @@ use crate::reply::Reply;
 use crate::target::{BUFFER_LENGTH, Target};
 use sg_pages::MAXIMUM_WRITE_SAME_LENGTH;
 use sg_store::{BLOCK_LENGTH, MAX_CAPACITY, MAX_POOL, Store};
+use sg_wire::laws::answers_are_in_their_buffers;
 use sg_wire::{
     Cut, Extent, Initiator, ListedExtents, Unmap, UnmapList, UnmapListFault, WriteSame10,
     WriteSame16,
@@ -294,6 +295,7 @@ impl<S: Store> Target<S> {
     {
         let limit = BUFFER_LENGTH.min(allocation_length as usize);
         self.store.restart_counts();
+        answers_are_in_their_buffers();
         let mut cut = Cut::new(buf, limit);
         self.store.status(start, &mut cut);
         Reply::good(cut.written(), self.store.counts())
