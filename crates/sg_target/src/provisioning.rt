@@ -275,9 +275,7 @@ impl<S: Store> Target<S> {
 // ---- GET LBA STATUS
 
 impl<S: Store> Target<S> {
-    /// Returns which blocks are mapped, from an address on. A store may gather what it reports: room for
-    /// that would else be made for every command.
-    #[inline(never)]
+    /// Returns which blocks are mapped, from an address on.
     pub(crate) fn return_lba_status(
         &mut self,
         start: u64,
