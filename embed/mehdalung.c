@@ -10,6 +10,7 @@ uint32_t mehdalung_execute(mdl_disk *disk, uint32_t initiator, const uint8_t *cd
                            const uint8_t *data_out, size_t data_out_length, uint8_t *data_in,
                            size_t data_in_length, mdl_reply *reply);
 uint32_t mehdalung_power_cycle(mdl_disk *disk);
+uint32_t mehdalung_sense(const uint8_t *sense, size_t length, mdl_sense *fields);
 uint8_t mehdalung_exit_status(uint8_t status, const uint8_t *sense, size_t sense_length);
 size_t mehdalung_version(uint8_t *text, size_t text_length);
 
@@ -45,6 +46,13 @@ mdl_error mdl_execute(mdl_disk *disk, uint32_t initiator, const uint8_t *cdb, si
 mdl_error mdl_power_cycle(mdl_disk *disk)
 {
     return disk ? (mdl_error)mehdalung_power_cycle(disk) : MDL_NULL_POINTER;
+}
+
+mdl_error mdl_read_sense(const uint8_t *sense, size_t length, mdl_sense *fields)
+{
+    if (!sense || !fields)
+        return MDL_NULL_POINTER;
+    return (mdl_error)mehdalung_sense(sense, length, fields);
 }
 
 int mdl_exit_status(const mdl_reply *reply)

@@ -52,7 +52,8 @@ typedef enum mdl_error {
     MDL_OUT_OF_MEMORY = 7,    /* memory was refused */
     MDL_INITIATOR = 8,        /* the initiator is not 0 to 7 */
     MDL_BUFFER_TOO_SHORT = 9, /* the buffer for data-in has less than MDL_BUFFER_LENGTH bytes */
-    MDL_NULL_POINTER = 10     /* a pointer is null that must not be */
+    MDL_NULL_POINTER = 10,    /* a pointer is null that must not be */
+    MDL_UNREADABLE = 11       /* sense data can't be read */
 } mdl_error;
 
 /* A disk, or none. It begins as MDL_NONE. The caller owns this variable and may move it, but it
@@ -114,6 +115,22 @@ mdl_error mdl_execute(mdl_disk *disk, uint32_t initiator, const uint8_t *cdb, si
  * reservation are as they were where they persist through a power loss (APTPL), and gone where not.
  * MDL_NULL_POINTER or MDL_NO_DISK. */
 mdl_error mdl_power_cycle(mdl_disk *disk);
+
+/* The fields of sense data. A field that is not there is 0. */
+typedef struct mdl_sense {
+    uint8_t key;              /* the sense key, at most 15 */
+    uint8_t asc;              /* additional sense code */
+    uint8_t ascq;             /* additional sense code qualifier */
+    uint8_t has_information;  /* 1 where there is an INFORMATION field, else 0 */
+    uint8_t has_pointer;      /* 1 where there is a field pointer, else 0 */
+    uint8_t in_command;       /* 1 where it points into the CDB, 0 into the parameter list */
+    uint16_t byte;            /* the byte in error, from 0 */
+    uint64_t information;     /* for this disk a logical block address */
+} mdl_sense;
+
+/* Reads the fields of `length` bytes of sense data, in fixed or descriptor format.
+ * MDL_NULL_POINTER, or MDL_UNREADABLE, also for deferred errors: `fields` are as they were. */
+mdl_error mdl_read_sense(const uint8_t *sense, size_t length, mdl_sense *fields);
 
 /* The exit status that the tools of sg3_utils have for a reply. A null pointer serves as a reply
  * that has neither a known status nor sense data: 99. */

@@ -39,10 +39,12 @@ static int is_untouched(void)
 int main(void)
 {
     static const uint8_t ready[6] = { 0 }, inquiry[6] = { 0x12, 0, 0, 0, 36 };
+    static const uint8_t past[10] = { 0x28, [5] = 63, [8] = 2 };
     mdl_identity own = { "ACME    ", "DISK            ", "0200", "00000042", 42 };
     mdl_disk disk = MDL_NONE, other = MDL_NONE;
     void *target;
     unsigned long needed, taken;
+    mdl_sense fields = { 0 };
     char text[200], short_text[10];
     size_t length;
 
@@ -90,9 +92,17 @@ int main(void)
     taken = requests;
     WANT(mdl_execute(&disk, 0, ready, 6, NULL, 0, data_in, sizeof data_in, &reply) == MDL_OK);
     WANT(reply.status == MDL_CHECK_CONDITION && reply.sense[2] == 6 && reply.sense[12] == 0x29);
+    WANT(mdl_read_sense(reply.sense, reply.sense_length, &fields) == MDL_OK);
+    WANT(fields.key == 6 && fields.asc == 0x29 && fields.ascq == 0 && !fields.has_pointer);
+    WANT(mdl_read_sense(reply.sense, 3, &fields) == MDL_UNREADABLE && fields.key == 6);
+    WANT(mdl_read_sense(NULL, 0, &fields) == MDL_NULL_POINTER);
+    WANT(mdl_read_sense(reply.sense, 18, NULL) == MDL_NULL_POINTER);
     WANT(mdl_exit_status(&reply) == 6 && mdl_exit_status(NULL) == 99);
     WANT(mdl_execute(&disk, 0, NULL, 0, NULL, 0, data_in, sizeof data_in, &reply) == MDL_OK);
     WANT(reply.status == MDL_CHECK_CONDITION);
+    WANT(mdl_execute(&disk, 0, past, 10, NULL, 0, data_in, sizeof data_in, &reply) == MDL_OK);
+    WANT(mdl_read_sense(reply.sense, reply.sense_length, &fields) == MDL_OK);
+    WANT(fields.key == 5 && fields.asc == 0x21 && fields.has_information && fields.information == 64);
     WANT(mdl_execute(&disk, 0, inquiry, 6, NULL, 0, data_in, sizeof data_in, &reply) == MDL_OK);
     WANT(reply.status == MDL_GOOD && reply.data_in_length == 36 && !memcmp(data_in + 8, "ACME    DISK", 12));
     WANT(data_in[36] == 0xEE && mdl_power_cycle(&disk) == MDL_OK && requests == taken);

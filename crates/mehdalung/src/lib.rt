@@ -4,17 +4,17 @@
 //! `embed/mehdalung.c` tests the pointers of C, and calls these.
 #![tactic(auto)]
 
-ghost use Rattle.std.specs.Prelude.{◌≡◌, ◌≢◌, ◌⊎◌, None, Some, IfOk, length};
+ghost use Rattle.std.specs.Prelude.{◌≡◌, ◌≢◌, ◌⊎◌, None, Some, IfOk, MatchOption, length};
 ghost use Rattle.sg_pages.specs.Identity.{standard_identity};
 ghost use Rattle.sg_tools.specs.ExitStatus.{exit_status};
 ghost use Rattle.sg_wire.specs.SenseData.{read_sense};
 ghost use Rattle.sg_embed.specs.Executed.{IsAnswered, IsPowerCycled, disk_config, new_disk};
 ghost use Rattle.sg_embed.specs.Outcome.{execute_outcome, make_outcome, outcome_code};
 ghost use Rattle.sg_embed.specs.Outcome.{make_as_outcome, power_cycle_outcome};
-ghost use Rattle.sg_embed.specs.Records.{asked_identity};
+ghost use Rattle.sg_embed.specs.Records.{asked_identity, sense_record};
 ghost use Rattle.sg_embed.specs.Text.{text_in};
 
-use sg_embed::{IdentityRecord, Outcome, ReplyRecord, Slot, VERSION, copy_text};
+use sg_embed::{IdentityRecord, Outcome, ReplyRecord, SenseRecord, Slot, VERSION, copy_text};
 use sg_pages::Identity;
 use sg_tools::status_of;
 use std::alloc::Global;
@@ -98,6 +98,22 @@ pub extern "C" fn mehdalung_power_cycle(alloc: Global, disk: &mut Slot) -> u32
     ensures refused { result ≢ 0 → disk.new.held ≡ disk.old.held }
 {
     disk.power_cycle(alloc).code()
+}
+
+/// Reads the fields of sense data. They stay as they were where it can't be read.
+#[unsafe(no_mangle)]
+pub extern "C" fn mehdalung_sense(sense: &[u8], fields: &mut SenseRecord) -> u32
+    ensures { MatchOption (read_sense sense.now)
+        ((result ≡ outcome_code Outcome.Unreadable) × (fields.new ≡ fields.old))
+        (λ read. (result ≡ 0) × (fields.new ≡ sense_record read)) }
+{
+    match SenseRecord::read(sense) {
+        Some(record) => {
+            *fields = record;
+            Outcome::Done.code()
+        }
+        None => Outcome::Unreadable.code(),
+    }
 }
 
 /// The exit status that sg3_utils(8) give a reply with this status code and sense data.

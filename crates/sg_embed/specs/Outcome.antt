@@ -10,9 +10,10 @@ use Rattle.sg_pages.specs.Identity.{IdentityFields}
 use Rattle.sg_embed.specs.Executed.{disk_config}
 use Rattle.sg_embed.specs.declared.kept.Kept.{Kept}
 use Rattle.sg_embed.specs.declared.outcome.Outcome.{Outcome}
-use Rattle.sg_embed.specs.declared.outcome.Outcome.TheVariants.{Done, NoDisk, DiskExists, BlockCount, PoolSize}
+use Rattle.sg_embed.specs.declared.outcome.Outcome.TheVariants.{Done, NoDisk, DiskExists}
+use Rattle.sg_embed.specs.declared.outcome.Outcome.TheVariants.{BlockCount, PoolSize}
 use Rattle.sg_embed.specs.declared.outcome.Outcome.TheVariants.{IdentityText, IdentityLocal, OutOfMemory}
-use Rattle.sg_embed.specs.declared.outcome.Outcome.TheVariants.{UnknownInitiator, BufferTooShort}
+use Rattle.sg_embed.specs.declared.outcome.Outcome.TheVariants.{UnknownInitiator, BufferTooShort, Unreadable}
 
 -- The numbers of the header.
 abbrev pub outcome_code : Outcome → ℕ
@@ -26,6 +27,7 @@ outcome_code IdentityLocal = 6
 outcome_code OutOfMemory = 7
 outcome_code UnknownInitiator = 8
 outcome_code BufferTooShort = 9
+outcome_code Unreadable = 11
 
 abbrev pub identity_outcome : IdentityFault → Outcome
 identity_outcome Text = IdentityText

@@ -1,11 +1,14 @@
 -- What the records of the header contain.
-use Rattle.std.specs.Prelude.{◌≡◌, Result, length, min, take}
+use Rattle.std.specs.Prelude.{◌≡◌, ℕ, Bool, true, false, Option, Some, None, Result, length, min, take}
 use Rattle.sg_pages.specs.Identity.{IdentityFields, checked_identity, identity_fields}
 use Rattle.sg_pages.specs.declared.identity.IdentityFault.{IdentityFault}
+use Rattle.sg_wire.specs.SenseData.{SenseFields}
+use Rattle.sg_wire.specs.declared.sense.Pointer.{Pointer}
 use Rattle.sg_target.specs.Status.{status_code}
 use Rattle.sg_target.specs.declared.reply.Reply.{Reply}
 use Rattle.sg_embed.specs.declared.record.IdentityRecord.{IdentityRecord}
 use Rattle.sg_embed.specs.declared.record.ReplyRecord.{ReplyRecord}
+use Rattle.sg_embed.specs.declared.record.SenseRecord.{SenseRecord}
 use Rattle.sg_embed.specs.declared.record.TheConstants.{SENSE_LENGTH}
 
 -- A record shows a reply.
@@ -21,3 +24,32 @@ pub record Shows (shown : ReplyRecord) (reply : Reply) : Type 0 where
 -- The identity that a record describes, or its first fault.
 abbrev pub asked_identity : IdentityRecord → Result IdentityFields IdentityFault
 asked_identity i = checked_identity (identity_fields i.vendor i.product i.revision i.serial i.local)
+
+abbrev is_present : {T : Type 0} → Option T → Bool
+is_present (Some value) = true
+is_present None = false
+
+abbrev number_or_zero : Option ℕ → ℕ
+number_or_zero (Some number) = number
+number_or_zero None = 0
+
+abbrev points_into_command : Option Pointer → Bool
+points_into_command (Some pointer) = pointer.in_command
+points_into_command None = false
+
+abbrev pointed_byte : Option Pointer → ℕ
+pointed_byte (Some pointer) = pointer.byte
+pointed_byte None = 0
+
+-- The record of the fields of sense data. A field that is not there is zero.
+abbrev pub sense_record : SenseFields → SenseRecord
+sense_record fields = record {
+  key = fields.key;
+  asc = fields.asc;
+  ascq = fields.ascq;
+  has_information = is_present fields.information;
+  has_pointer = is_present fields.pointer;
+  in_command = points_into_command fields.pointer;
+  byte = pointed_byte fields.pointer;
+  information = number_or_zero fields.information;
+}

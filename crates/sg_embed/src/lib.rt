@@ -10,6 +10,6 @@ mod text;
 
 pub use kept::Kept;
 pub use outcome::Outcome;
-pub use record::{IdentityRecord, ReplyRecord, SENSE_LENGTH};
+pub use record::{IdentityRecord, ReplyRecord, SENSE_LENGTH, SenseRecord};
 pub use slot::Slot;
 pub use text::{VERSION, copy_text};

@@ -25,6 +25,8 @@ pub enum Outcome {
     UnknownInitiator = 8,
     /// The buffer for data-in is too short.
     BufferTooShort = 9,
+    /// Sense data can't be read. Number 10 is that of a null pointer, which C tests.
+    Unreadable = 11,
 }
 
 ghost use Rattle.std.specs.Prelude.{◌≡◌};

@@ -1,9 +1,13 @@
 // The records that C reads and writes.
 ghost use Rattle.std.specs.Prelude.{◌≡◌};
-ghost use Rattle.sg_embed.specs.Records.{Shows, asked_identity};
+ghost use Rattle.sg_embed.specs.Records.{Shows, asked_identity, sense_record};
+ghost use Rattle.std.specs.Prelude.{option_map};
+ghost use Rattle.sg_wire.specs.Sense.{fields_of};
+ghost use Rattle.sg_wire.specs.SenseData.{read_sense};
 
 use sg_pages::{Identity, IdentityFault};
 use sg_target::Reply;
+use sg_wire::Sense;
 
 /// The most bytes that the sense data of a reply has.
 pub const SENSE_LENGTH: usize = 20;
@@ -81,5 +85,58 @@ impl IdentityRecord {
             self.serial,
             self.local,
         )
+    }
+}
+
+/// What C declares as `mdl_sense`.
+#[repr(C)]
+#[derive(Drop)]
+pub struct SenseRecord {
+    /// The sense key, at most 15.
+    pub key: u8,
+    /// The additional sense code.
+    pub asc: u8,
+    /// The additional sense code qualifier.
+    pub ascq: u8,
+    /// Whether there is an INFORMATION field.
+    pub has_information: bool,
+    /// Whether there is a field pointer.
+    pub has_pointer: bool,
+    /// Whether the field pointer points into the CDB, and not into the parameter list.
+    pub in_command: bool,
+    /// The byte in error, from 0.
+    pub byte: u16,
+    /// The INFORMATION field, for this disk a logical block address.
+    pub information: u64,
+}
+
+impl SenseRecord {
+    /// The fields of sense data, in either format. None where it can't be read.
+    pub fn read(bytes: &[u8]) -> Option<SenseRecord>
+        ensures { result ≡ option_map sense_record (read_sense bytes.now) }
+    {
+        match Sense::read(bytes) {
+            Some(sense) => Some(SenseRecord::of(&sense)),
+            None => None,
+        }
+    }
+
+    fn of(sense: &Sense) -> SenseRecord
+        ensures { result ≡ sense_record (fields_of sense.now) }
+    {
+        let (has_pointer, in_command, byte) = match sense.pointer {
+            Some(pointer) => (true, pointer.in_command, pointer.byte),
+            None => (false, false, 0),
+        };
+        SenseRecord {
+            key: sense.key,
+            asc: sense.asc,
+            ascq: sense.ascq,
+            has_information: sense.information.is_some(),
+            has_pointer,
+            in_command,
+            byte,
+            information: sense.information.unwrap_or(0),
+        }
     }
 }

@@ -14,6 +14,7 @@ use crate::reservation::write_reserve_in_data;
 use crate::target::Target;
 use sg_store::Store;
 use sg_units::{Reservations, UnitAttention};
+use sg_wire::laws::answers_are_in_their_buffers;
 use sg_wire::{Cut, Format, InAction};
 
 /// The data-in of a command that can't be refused any more and goes over no blocks.
@@ -48,6 +49,7 @@ impl DataIn {
         ensures data_in { let full = data_of config.now.identity config.now.blocks reservations.now self in
             buf.new ≡ overwritten (first_bytes limit full) buf.old }
     {
+        answers_are_in_their_buffers();
         let mut cut = Cut::new(buf, limit);
         self.write(config, reservations, &mut cut);
         cut.written()

@@ -28,6 +28,7 @@ use crate::reply::Reply;
 use crate::target::{BUFFER_LENGTH, Target};
 use sg_pages::MAXIMUM_WRITE_SAME_LENGTH;
 use sg_store::{BLOCK_LENGTH, MAX_CAPACITY, MAX_POOL, Store};
+use sg_wire::laws::answers_are_in_their_buffers;
 use sg_wire::{
     Cut, Extent, Initiator, ListedExtents, Unmap, UnmapList, UnmapListFault, WriteSame10,
     WriteSame16,
@@ -329,9 +330,7 @@ impl<S: Store> Target<S> {
 // ---- GET LBA STATUS
 
 impl<S: Store> Target<S> {
-    /// Returns which blocks are mapped, from an address on. A store may gather what it reports: room for
-    /// that would else be made for every command.
-    #[inline(never)]
+    /// Returns which blocks are mapped, from an address on.
     pub(crate) fn return_lba_status(
         &mut self,
         start: u64,
@@ -349,6 +348,7 @@ impl<S: Store> Target<S> {
     {
         let limit = BUFFER_LENGTH.min(allocation_length as usize);
         self.store.restart_counts();
+        answers_are_in_their_buffers();
         let mut cut = Cut::new(buf, limit);
         self.store.status(start, &mut cut);
         Reply::good(cut.written(), self.store.counts())

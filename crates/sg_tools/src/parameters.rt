@@ -3,6 +3,7 @@ ghost use Rattle.std.specs.Prelude.{◌≡◌, ◌≤◌, length, take};
 ghost use Rattle.sg_wire.specs.Cut.{Puts};
 ghost use Rattle.sg_tools.specs.ParameterLists.{max_data_out, parameter_list};
 
+use sg_wire::laws::answers_are_in_their_buffers;
 use sg_wire::{Cut, OutList, UnmapList};
 
 /// The length of the longest data-out of a tool, in bytes: that of UNMAP with the most descriptors.
@@ -26,6 +27,7 @@ impl Parameters {
         ensures list { take result data_out.new ≡ parameter_list self.now }
         ensures length { result ≤ max_data_out }
     {
+        answers_are_in_their_buffers();
         let mut cut = Cut::new(data_out, MAX_DATA_OUT);
         self.put(&mut cut);
         cut.written()

@@ -1,9 +1,13 @@
 -- Laws of the definitions.
-use Rattle.std.specs.Prelude.{◌≡◌, ◌<◌, ℕ, ◌==◌, length, take, Err, if◌then◌else◌}
+use Rattle.std.specs.Prelude.{◌≡◌, ◌<◌, ℕ, ◌==◌, List, length, take, Err, if◌then◌else◌}
+use Rattle.std.specs.Borrow.{GName}
+use Rattle.sg_wire.specs.Cut.{IsLeftIn, Puts, answer_of}
+use Rattle.sg_wire.specs.CutAnswer.{empty_answer, first_bytes, overwritten}
 use Rattle.sg_wire.specs.Layout.{cdb_of, command_of}
 use Rattle.sg_wire.specs.declared.command.CdbFault.{CdbFault}
 use Rattle.sg_wire.specs.declared.command.CdbFault.TheVariants.{Empty, Short}
 use Rattle.sg_wire.specs.declared.command.Command.{Command}
+use Rattle.sg_wire.specs.declared.cut.Cut.{Cut}
 
 -- The fault of a CDB that ends early, after `count` bytes.
 abbrev pub cut_at : (count : ℕ) → CdbFault
@@ -14,3 +18,13 @@ abbrev pub PrefixesAreRefused : Type 0
 PrefixesAreRefused =
     (command : Command) (count : ℕ) → count < length (cdb_of command)
     → command_of (take count (cdb_of command)) ≡ Err (cut_at count)
+
+-- Of an answer that is put whole its first bytes are written, as many as the limit lets through, and
+-- then are in the buffer, before those of its bytes that they have not replaced.
+pub record AnswersAreInTheirBuffers : Type 0 where
+  pub written : (buffer : GName) (bytes full : List ℕ) (limit : ℕ) (begun done : Cut)
+      → answer_of begun ≡ empty_answer buffer bytes limit → Puts begun done full
+      → length (answer_of done).written ≡ length (first_bytes limit full)
+  pub left : (buffer : GName) (bytes after full : List ℕ) (limit : ℕ) (begun done : Cut)
+      → answer_of begun ≡ empty_answer buffer bytes limit → Puts begun done full
+      → IsLeftIn done buffer after → after ≡ overwritten (first_bytes limit full) bytes

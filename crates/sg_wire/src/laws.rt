@@ -1,8 +1,14 @@
 //! Laws of the definitions: each is the contract of a function that does nothing.
-ghost use Rattle.sg_wire.specs.Laws.{PrefixesAreRefused};
+ghost use Rattle.sg_wire.specs.Laws.{AnswersAreInTheirBuffers, PrefixesAreRefused};
 
 /// A proper prefix of a command's CDB is no command: without a byte it is refused as empty, and
 /// otherwise as cut at its end.
 pub fn prefixes_are_refused()
     ensures { PrefixesAreRefused }
+{}
+
+/// Of an answer that was put whole, its first bytes, up to the limit, are at the beginning of the
+/// buffer, and those after them are as they were.
+pub fn answers_are_in_their_buffers()
+    ensures { AnswersAreInTheirBuffers }
 {}

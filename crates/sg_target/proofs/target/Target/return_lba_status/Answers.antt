@@ -1,5 +1,4 @@
 use Rattle.std.proofs.Common.{rules, ap, ◌∙◌, arith}
-use Rattle.sg_wire.proofs.CutLemmas.{filled, filled-length}
 use Rattle.sg_target.specs.Target.{TargetFields}
 use Rattle.sg_target.proofs.StatusLemmas.{status-carried}
 use Rattle.sg_target.proofs.target.Target.return_lba_status.Goals as goal
@@ -10,6 +9,6 @@ returns-clause-reply g c =
     let done = c.status.ensures.data in
     status-carried _ _ _ _ _ _ _ _ _ _ _ (omega arith) c.min-limit.ensures
     (c.restart_counts.ensures.disk ∙ ap (λ (t : TargetFields). t.state.disk) c.self.view_is)
-    (c.written.ensures ∙ filled-length _ _ _ _ _ _ begun done)
-    (filled _ _ _ _ _ _ _ begun done (λ e. search rules))
+    (c.written.ensures ∙ c.answers_are_in_their_buffers.ensures.written _ _ _ _ _ _ begun done)
+    (c.answers_are_in_their_buffers.ensures.left _ _ _ _ _ _ _ begun done (λ e. search rules))
     c.good.ensures

@@ -1,5 +1,5 @@
 use Rattle.std.proofs.Common.{[], rules, ap, sym, ◌∙◌}
-use Rattle.sg_wire.proofs.CutLemmas.{filled, filled-length, put-nil}
+use Rattle.sg_wire.proofs.CutLemmas.{put-nil}
 use Rattle.sg_target.specs.Reply.{refused_reply}
 use Rattle.sg_target.specs.Step.{sense_format}
 use Rattle.sg_target.specs.Target.{TargetFields}
@@ -13,8 +13,8 @@ returns-in-Ok-clause-reply g c =
     let s = sensed-list _ _ _ (sym c.sense.ensures.fault ∙ c.in-Ok.is) c.sense.ensures.list in
     list-carried _ _ _ _ _ _ _ _ _ (ap (λ (t : TargetFields). t.state.modes) c.self.view_is)
     c.requested.view_is s.list _ _ c.from.ensures c.requires.limits s.is
-    (c.written.ensures ∙ filled-length _ _ _ _ _ _ c.new-cut.ensures s.has)
-    (filled _ _ _ _ _ _ _ c.new-cut.ensures s.has (λ e. search rules))
+    (c.written.ensures ∙ c.answers_are_in_their_buffers.ensures.written _ _ _ _ _ _ c.new-cut.ensures s.has)
+    (c.answers_are_in_their_buffers.ensures.left _ _ _ _ _ _ _ c.new-cut.ensures s.has (λ e. search rules))
     c.without_blocks.ensures
 
 pub returns-in-Err-clause-reply : goal.returns-in-Err-clause-reply
@@ -23,7 +23,7 @@ returns-in-Err-clause-reply g c =
     let none = if-fault _ _ _ e c.sense.ensures.nothing in
     fault-carried _ _ _ _ _ _ _ _ _ (ap (λ (t : TargetFields). t.state.modes) c.self.view_is)
     c.requested.view_is _ _ e
-    (filled _ _ _ [] _ _ _ c.new-cut.ensures (none ∙ sym (put-nil _)) (λ e. search rules) ∙ nothing-put _ _)
+    (c.answers_are_in_their_buffers.ensures.left _ _ _ [] _ _ _ c.new-cut.ensures (none ∙ sym (put-nil _)) (λ e. search rules) ∙ nothing-put _ _)
     (c.refuse.ensures.reply
     ∙ ap (λ (r : Refusal). refused_reply (sense_format c.args.self.now.state) r c.default.result)
     c.from-in-Err.ensures)
