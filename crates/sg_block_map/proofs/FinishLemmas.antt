@@ -1,7 +1,7 @@
 -- The first and the last step of writing a range.
 use Rattle.std.proofs.Common.{◌≡◌, ℕ, ◌+◌, ◌-◌, ◌<◌, ◌≤◌, ◌^◌, List, [], ◌∷◌, ◌++◌, length, drop}
 use Rattle.std.proofs.Common.{arith, refl, sym, ap, ◌∙◌, append_assoc, length-append, Some}
-use Rattle.std.proofs.Common.{None, Option, subst}
+use Rattle.std.proofs.Common.{None, Option, subst, Bool, true, false}
 use Rattle.std.proofs.lemmas.List.{append-nil}
 use Rattle.std.specs.FinMap as map
 use Rattle.std.specs.Prelude.{unwrap_or, option_to_list, IfSome}
@@ -13,7 +13,6 @@ use Rattle.sg_pool.specs.Slots.{Slots}
 use Rattle.sg_table.specs.Records.{slots_of}
 use Rattle.sg_pool.specs.MappedRecords.{IsConsistent}
 use Rattle.sg_table.specs.declared.run.Kind.{Kind}
-use Rattle.sg_table.specs.declared.run.Kind.TheVariants.{Data as DataRun, Anchored as AnchoredRun}
 use Rattle.sg_table.specs.declared.run.Run.{Run}
 use Rattle.sg_store.specs.declared.store.TheConstants.{MAX_CAPACITY}
 use Rattle.sg_block_map.specs.Gathering.{AreNear}
@@ -34,7 +33,7 @@ use Rattle.sg_block_map.proofs.BetweenLemmas.{apart-left, apart-right, apart-le,
 use Rattle.sg_block_map.proofs.OrderLemmas.{apart-loose, apart-maximal, behind-low, behind-high}
 use Rattle.sg_block_map.proofs.OrderLemmas.{behind-at-most, behind_all, begins-low, front-kept}
 use Rattle.sg_block_map.proofs.OrderLemmas.{maximal-before, maximal-from, maximal-right, maximal-to}
-use Rattle.sg_block_map.proofs.OrderLemmas.{narrow-any, written-maximal}
+use Rattle.sg_block_map.proofs.OrderLemmas.{alike, narrow-any, same_kind-swap, written-maximal}
 use Rattle.sg_block_map.proofs.CutRunsLemmas.{below-sub, length-expanded}
 use Rattle.sg_block_map.proofs.ExpandedLemmas.{expanded-append, expanded-more, singles-none}
 use Rattle.sg_block_map.proofs.ExpandedLemmas.{length-singles, chained-append, chained-left}
@@ -44,10 +43,10 @@ use Rattle.sg_block_map.proofs.WalkLemmas.{walk_from-parts, walk_from-chained, w
 use Rattle.sg_block_map.proofs.WriteLemmas.{skip-maximal, parted, before-between}
 
 -- a run without an address has none
-pub no_run-expanded : (next : List ℕ) (lba : ℕ) (runs : List Run)
-    → expanded next (no_run lba ∷ runs) ≡ expanded next runs
-no_run-expanded next lba runs = expanded-more next (no_run lba) runs
-    ∙ ap (λ xs. xs ++ expanded next runs) (singles-none next lba 0 DataRun)
+pub no_run-expanded : (next : List ℕ) (lba : ℕ) (kind : Kind) (runs : List Run)
+    → expanded next (no_run lba kind ∷ runs) ≡ expanded next runs
+no_run-expanded next lba kind runs = expanded-more next (no_run lba kind) runs
+    ∙ ap (λ xs. xs ++ expanded next runs) (singles-none next lba 0 kind)
 
 front_end : (next : List ℕ) (runs more : List Run) (lba high : ℕ) (front : Run)
     → AreNear lba high runs → IsWalkFrom next runs lba (Some front) more → end_of front ≡ lba
@@ -56,20 +55,21 @@ front_end next (run ∷ runs) more lba high front near t = let f = t.1.before in
     omega (arith, f.1, near.0)
 
 -- the kind of what is before the range decides
-pub by_kind : (P : Option Run × Run → Type 0) (front : Run) (lba : ℕ)
-    → (front.kind ≡ DataRun → P (None, front))
-    → (front.kind ≡ AnchoredRun → P (Some front, no_run lba)) → P (begun (Some front) lba)
-by_kind P front lba is_data anchored = elim front.kind as
-    (λ k. front.kind ≡ k → P (begun_by k front lba)) [
-      | DataRun ↦ is_data
-      | AnchoredRun ↦ anchored
+pub by_kind : (P : Option Run × Run → Type 0) (kind : Kind) (front : Run) (lba : ℕ)
+    → (same_kind front.kind kind ≡ true → P (None, front))
+    → (same_kind front.kind kind ≡ false → P (Some front, no_run lba kind))
+    → P (begun kind (Some front) lba)
+by_kind P kind front lba same other = elim (same_kind front.kind kind) as
+    (λ b. same_kind front.kind kind ≡ b → P (begun_by b kind front lba)) [
+      | true ↦ same
+      | false ↦ other
     ] refl
 
 -- nothing is written yet
 module _ (before runs after more : List Run) (slots : Slots) (lba high room : ℕ)
     (h : AreRuns (before ++ (runs ++ after)) slots room)
     (low : AreMaximal 0 lba before) (up : AreMaximal lba (MAX_CAPACITY + 1) after)
-    (near : AreNear lba high runs) where
+    (near : AreNear lba high runs) (kind : Kind) where
   abbrev kept : Option Run × Run → List Run
   kept parts = before ++ option_to_list parts.0
 
@@ -113,10 +113,10 @@ module _ (before runs after more : List Run) (slots : Slots) (lba high room : �
   before_chained = chained-left slots.next before (runs ++ after) h.chained
 
   -- the table to be, where a run without an address is put behind some others
-  none_put : (xs : List Run) → expanded slots.next (xs ++ no_run lba ∷ (more ++ after)) ≡
+  none_put : (xs : List Run) → expanded slots.next (xs ++ no_run lba kind ∷ (more ++ after)) ≡
       expanded slots.next (xs ++ (more ++ after))
-  none_put xs = expanded-append slots.next xs (no_run lba ∷ (more ++ after))
-      ∙ ap (λ zs. expanded slots.next xs ++ zs) (no_run-expanded slots.next lba (more ++ after))
+  none_put xs = expanded-append slots.next xs (no_run lba kind ∷ (more ++ after))
+      ∙ ap (λ zs. expanded slots.next xs ++ zs) (no_run-expanded slots.next lba kind (more ++ after))
       ∙ sym (expanded-append slots.next xs (more ++ after))
 
   abbrev IsBegun : Option Run × Run → Type 0
@@ -124,19 +124,18 @@ module _ (before runs after more : List Run) (slots : Slots) (lba high room : �
       expanded slots.next (before ++ (runs ++ after)))
       × IsWriting (kept parts) parts.1 (more ++ after) slots lba
 
-  begun_none : IsWalkFrom slots.next runs lba None more → IsBegun (None, no_run lba)
+  begun_none : IsWalkFrom slots.next runs lba None more → IsBegun (None, no_run lba kind)
   begun_none t =
       let same : before ++ [] ≡ before = append-nil before in
-      let all : expanded slots.next ((before ++ []) ++ no_run lba ∷ (more ++ after)) ≡
+      let all : expanded slots.next ((before ++ []) ++ no_run lba kind ∷ (more ++ after)) ≡
       expanded slots.next (before ++ (runs ++ after))
-      = ap (λ xs. expanded slots.next (xs ++ no_run lba ∷ (more ++ after))) same
+      = ap (λ xs. expanded slots.next (xs ++ no_run lba kind ∷ (more ++ after))) same
       ∙ none_put before ∙ begin_parts None t in (
         all,
         record {
           consistent = rw (all, h.links) h.consistent;
           maximal_before = rw same (maximal-to before (any_from 0) (any_from lba)
-              (begins DataRun lba) (λ kind. begins-low DataRun kind lba) low);
-          is_data = refl;
+              (begins kind lba) (λ k. begins-low kind k lba) low);
           ends = omega arith;
           after = begin_after None t;
           chained_before = rw same before_chained;
@@ -162,8 +161,8 @@ module _ (before runs after more : List Run) (slots : Slots) (lba high room : �
     all_maximal : AreMaximal 0 (MAX_CAPACITY + 1) (before ++ parted_at.0 ∷ (parted_at.1 ++ after))
     all_maximal = rw all_shape at h.maximal
 
-    begun_data : front.kind ≡ DataRun → IsBegun (None, front)
-    begun_data is_data =
+    begun_same : IsBegun (None, front)
+    begun_same =
         let same : before ++ [] ≡ before = append-nil before in
         let all : expanded slots.next ((before ++ []) ++ front ∷ (more ++ after)) ≡
         expanded slots.next (before ++ (runs ++ after))
@@ -178,7 +177,6 @@ module _ (before runs after more : List Run) (slots : Slots) (lba high room : �
                 (sym same) (subst (λ k. AreMaximalIn (any_from 0) (begins k front.start) before)
                 (sym parted_at.4) (subst (λ s. AreMaximalIn (any_from 0)
                 (begins parted_at.0.kind s) before) (sym parted_at.3) before_run));
-            is_data = is_data;
             ends = front_end slots.next runs more lba high front near t;
             after = begin_after (Some front) t;
             chained_before = rw same before_chained;
@@ -187,9 +185,9 @@ module _ (before runs after more : List Run) (slots : Slots) (lba high room : �
           },
         )
 
-    begun_anchored : front.kind ≡ AnchoredRun → IsBegun (Some front, no_run lba)
-    begun_anchored anchored =
-        let all : expanded slots.next ((before ++ front ∷ []) ++ no_run lba ∷ (more ++ after)) ≡
+    begun_other : same_kind front.kind kind ≡ false → IsBegun (Some front, no_run lba kind)
+    begun_other other =
+        let all : expanded slots.next ((before ++ front ∷ []) ++ no_run lba kind ∷ (more ++ after)) ≡
         expanded slots.next (before ++ (runs ++ after))
         = none_put (before ++ front ∷ [])
         ∙ ap (expanded slots.next) (append_assoc before (front ∷ []) (more ++ after))
@@ -199,11 +197,10 @@ module _ (before runs after more : List Run) (slots : Slots) (lba high room : �
           all,
           record {
             consistent = rw (all, h.links) h.consistent;
-            maximal_before = front-kept before (parted_at.1 ++ after) parted_at.0 front DataRun
+            maximal_before = front-kept before (parted_at.1 ++ after) parted_at.0 front kind
                 (any_from 0) (any_from (MAX_CAPACITY + 1)) lba (narrow-any 0) all_maximal
                 parted_at.3 parted_at.4 chain.not_empty (omega (arith, ends))
-                (ap (same_kind DataRun) anchored);
-            is_data = refl;
+                (same_kind-swap kind front.kind ∙ other);
             ends = omega arith;
             after = begin_after (Some front) t;
             chained_before = chained-append slots.next before (front ∷ []) before_chained
@@ -214,10 +211,10 @@ module _ (before runs after more : List Run) (slots : Slots) (lba high room : �
         )
 
   pub begin-range : (front : Option Run) → IsWalkFrom slots.next runs lba front more
-      → IsBegun (begun front lba)
+      → IsBegun (begun kind front lba)
   begin-range None t = begun_none t
-  begin-range (Some front) t = by_kind IsBegun front lba (begun_data front t)
-      (begun_anchored front t)
+  begin-range (Some front) t = by_kind IsBegun kind front lba (λ same. begun_same front t)
+      (begun_other front t)
 
 -- the range is written
 written-runs : (before after : List Run) (done : Run) (slots : Slots) (lba room : ℕ)
@@ -280,18 +277,18 @@ kept-written before after rest done result back high room old new is w some up l
       links = refl;
     })
 
--- a run of data that is ahead is joined
+-- a run of its kind that is ahead is joined
 joined-written : (before after : List Run) (done found result : Run) (high room : ℕ)
     (old new : Slots) → IsWriting before done (found ∷ after) old high → found.start ≡ high
-    → found.kind ≡ DataRun → length old.next ≡ room → result ≡ joined done found
+    → found.kind ≡ done.kind → length old.next ≡ room → result ≡ joined done found
     → new ≡ record old { next = linked old.next done found.first }
     → IsWritten before after done (found ∷ after) result None old new room
-joined-written before after done found result high room old new w start is_data len same pool =
+joined-written before after done found result high room old new w start alike_kind len same pool =
     let ends : end_of done ≡ found.start = w.ends ∙ sym start in
-    let kind : done.kind ≡ found.kind = w.is_data ∙ sym is_data in
+    let kind : done.kind ≡ found.kind = sym alike_kind in
     let all = join-expanded before done found after old w.consistent w.front ends kind in
     let next : List ℕ = linked old.next done found.first in
-    let writing = join-writing before done found after old w.consistent w.front ends kind is_data
+    let writing = join-writing before done found after old w.consistent w.front ends kind
     w.maximal_before
     (maximal-from after (behind found) (any_from (MAX_CAPACITY + 1)) (any_from (end_of found))
     (λ k. behind-low found k) w.after.2)
@@ -309,10 +306,9 @@ joined-written before after done found result high room old new w start is_data 
       links = refl;
     })
 
-finished_by : (P : Kind → Type 0) (kind : Kind) → (kind ≡ DataRun → P DataRun)
-    → (kind ≡ AnchoredRun → P AnchoredRun) → P kind
-finished_by P DataRun is_data anchored = is_data refl
-finished_by P AnchoredRun is_data anchored = anchored refl
+finished_by : (P : Bool → Type 0) (b : Bool) → (b ≡ true → P true) → (b ≡ false → P false) → P b
+finished_by P true same other = same refl
+finished_by P false same other = other refl
 
 -- the range is written, and what is behind it is joined or kept
 pub finished : (before after runs : List Run) (done result : Run) (run back : Option Run)
@@ -332,24 +328,21 @@ finished before after runs done result (Some found) back at high room old new w 
     let shape : found ∷ drop at runs ++ after ≡ found ∷ after =
     ap (λ xs. found ∷ (xs ++ after)) last.1 in
     let w' = rw shape at w in
-    let all = finished_by (λ kind. IsFinishedBy kind old new done found result back
-    → found.kind ≡ kind → IsWritten before after done (found ∷ after) result back old new room)
-    found.kind
-    (λ _ g is_data. rw g.1 (joined-written before after done found result high room old new w' last.0
-    is_data len g.0 g.2))
-    (λ _ g anchored. kept-written before after (found ∷ after) done result back high room old new
+    let all = finished_by (λ b. IsFinishedBy b old new done found result back
+    → same_kind found.kind done.kind ≡ b
+    → IsWritten before after done (found ∷ after) result back old new room)
+    (same_kind found.kind done.kind)
+    (λ _ g same. rw g.1 (joined-written before after done found result high room old new w' last.0
+    (alike found.kind done.kind same) len g.0 g.2))
+    (λ _ g other. kept-written before after (found ∷ after) done result back high room old new
     (ap (λ o. behind_it o after) (sym g.1)) w' some
     (rw g.1 (
-      at_kind done found w.is_data anchored (omega (arith, w.ends, last.0)),
+      rw other (omega (arith, w.ends, last.0)),
       w'.after.1,
       w'.after.2,
     )) len g.0 g.2)
     f refl in
     rw shape all
-  where
-    at_kind : (a b : Run) → a.kind ≡ DataRun → b.kind ≡ AnchoredRun → end_of a ≤ b.start
-        → behind a b.kind ≤ b.start
-    at_kind a b is_data anchored le = rw (is_data, anchored) le
 
 -- the table that is put, from what is kept before the range on
 pub parts-shape : (before fs bs after : List Run) (run : Run)
@@ -460,13 +453,14 @@ walk_from-near next (run ∷ runs) more lba high front le near t =
     rw t.2 (rest-near run t.0 runs lba high le (near.1)
     (near-weaker runs lba high near.2) t.1.after)
 
-pub walk_from-start : (next : List ℕ) (runs more : List Run) (lba : ℕ) (front : Option Run)
-    → IsWalkFrom next runs lba front more → (begun front lba).1.start ≤ lba
-walk_from-start next runs more lba None t = omega arith
-walk_from-start next [] more lba (Some front) t = let wrong = t.0 in cc
-walk_from-start next (run ∷ runs) more lba (Some front) t =
+pub walk_from-start : (next : List ℕ) (runs more : List Run) (lba : ℕ) (kind : Kind)
+    (front : Option Run) → IsWalkFrom next runs lba front more
+    → (begun kind front lba).1.start ≤ lba
+walk_from-start next runs more lba kind None t = omega arith
+walk_from-start next [] more lba kind (Some front) t = let wrong = t.0 in cc
+walk_from-start next (run ∷ runs) more lba kind (Some front) t =
     let f = t.1.before in
-    by_kind (λ parts. parts.1.start ≤ lba) front lba (λ _. omega (arith, f.2)) (λ _. omega arith)
+    by_kind (λ parts. parts.1.start ≤ lba) kind front lba (λ _. omega (arith, f.2)) (λ _. omega arith)
 
 pub walk_from-blocks : (next : List ℕ) (runs more : List Run) (lba : ℕ) (front : Option Run)
     → IsWalkFrom next runs lba front more → length
@@ -479,6 +473,13 @@ walk_from-blocks next runs more lba front t =
     let b = length-expanded next more in
     let d = length-expanded next runs in
     omega arith
+
+-- the run that takes up the range is of its kind
+pub walk_from-kind : (kind : Kind) (front : Option Run) (lba : ℕ)
+    → (begun kind front lba).1.kind ≡ kind
+walk_from-kind kind None lba = refl
+walk_from-kind kind (Some front) lba = by_kind (λ parts. parts.1.kind ≡ kind) kind front lba
+    (λ same. alike front.kind kind same) (λ _. refl)
 
 pub ahead-fits : (before after runs : List Run) (done : Run) (run : Option Run) (at lba : ℕ)
     (slots : Slots) → IsWriting before done (ahead_of runs run at ++ after) slots lba

@@ -9,7 +9,6 @@ use Rattle.sg_pool.specs.Slots.{Slots}
 use Rattle.sg_table.specs.Records.{slots_of}
 use Rattle.sg_table.specs.Occurrences.{occurrences}
 use Rattle.sg_pool.specs.MappedRecords.{IsConsistent}
-use Rattle.sg_table.specs.declared.run.Kind.TheVariants.{Data as DataRun}
 use Rattle.sg_table.specs.declared.run.Run.{Run}
 use Rattle.sg_store.specs.declared.store.TheConstants.{MAX_CAPACITY}
 use Rattle.sg_block_map.specs.Joining.{joined, linked, IsWriting}
@@ -239,18 +238,17 @@ module _ (before : List Run) (done other : Run) (rest : List Run) (slots : Slots
       ∙ sym (expanded-append slots.next before (done ∷ (other ∷ rest)))
 
   pub join-writing : end_of done ≡ other.start → done.kind ≡ other.kind
-      → other.kind ≡ DataRun → AreMaximalIn (any_from 0) (begins done.kind done.start) before
+      → AreMaximalIn (any_from 0) (begins done.kind done.start) before
       → AreMaximal (end_of other) (MAX_CAPACITY + 1) rest → AreChained slots.next before
       → IsChain slots.next other.first other.last other.count → AreChained slots.next rest
       → IsWriting before (joined done other) rest
       (record slots { next = linked slots.next done other.first }) (end_of other)
-  join-writing ends kind is_data low after cb co cr =
+  join-writing ends kind low after cb co cr =
       let now : List ℕ = linked slots.next done other.first in
       let len = length-linked slots.next done other.first in
       record {
         consistent = rw (join-expanded ends kind, len) consistent;
         maximal_before = low;
-        is_data = kind ∙ is_data;
         ends = omega (arith, ends);
         after = after;
         chained_before = chained-linked slots.next done other.first before before_none cb;

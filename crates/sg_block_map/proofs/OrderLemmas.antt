@@ -84,6 +84,19 @@ behind-at-most a b same le kind = rw same (less (same_kind kind b.kind) (end_of 
     less true m n le = omega arith
     less false m n le = le
 
+-- kinds that are the same
+pub alike : (j k : Kind) → same_kind j k ≡ true → j ≡ k
+alike Data Data e = refl
+alike Data Anchored e = let wrong = e in cc
+alike Anchored Data e = let wrong = e in cc
+alike Anchored Anchored e = refl
+
+pub same_kind-swap : (j k : Kind) → same_kind j k ≡ same_kind k j
+same_kind-swap Data Data = refl
+same_kind-swap Data Anchored = refl
+same_kind-swap Anchored Data = refl
+same_kind-swap Anchored Anchored = refl
+
 -- ---- Runs
 
 pub maximal-le : (runs : List Run) (low high : Bound) → IsNarrow low → AreMaximalIn low high runs

@@ -22,16 +22,6 @@ use Rattle.sg_block_map.proofs.WalkLemmas.{ahead-first}
 use Rattle.sg_block_map.proofs.ExpandedLemmas.{expanded-append, expanded-more, singles-append}
 use Rattle.sg_block_map.proofs.ExpandedLemmas.{singles-one}
 
--- only the number of the blocks matters
-pub consistent-other : (rs : List Run) (bs bs' : List (List ℕ)) (free : List ℕ) (room : ℕ)
-    → length bs' ≡ length bs → IsConsistent rs bs free room → IsConsistent rs bs' free room
-consistent-other rs bs bs' free room len h = record {
-  sorted = h.sorted;
-  once = rw len h.once;
-  count = h.count;
-  pool = rw len h.pool;
-}
-
 module _ (next : List ℕ) (before : List Run) (run : Run) (after : List Run) (k : ℕ)
     (lt : k < run.count) (is_data : run.kind ≡ DataRun) where
   abbrev slot : ℕ

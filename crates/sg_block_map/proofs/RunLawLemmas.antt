@@ -16,6 +16,7 @@ use Rattle.sg_block_map.specs.MaximalRuns.{Extent, kind_of, same_kind, with_addr
 use Rattle.sg_block_map.specs.RunLaws.{is_kind, has_kind, HasExactlyTheMaximalRuns, RunsRise}
 use Rattle.sg_block_map.specs.RunCostLaws.{AreRising, rising}
 use Rattle.sg_block_map.specs.Runs.{Bound, any_from}
+use Rattle.sg_block_map.proofs.OrderLemmas.{alike}
 
 -- ---- The runs rise, and none could be joined to the next
 
@@ -37,12 +38,6 @@ is_number m n e = grind (arith, nat_tests)
 both_true : (a b : Bool) → (a && b) ≡ true → (a ≡ true) × (b ≡ true)
 both_true true b e = (refl, e)
 both_true false b e = let wrong = e in cc
-
-alike : (j k : Kind) → same_kind j k ≡ true → j ≡ k
-alike DataRun DataRun e = refl
-alike DataRun AnchoredRun e = let wrong = e in cc
-alike AnchoredRun DataRun e = let wrong = e in cc
-alike AnchoredRun AnchoredRun e = refl
 
 -- a run that an address is not joined to begins behind it
 past : (x start : ℕ) (j k : Kind) → x + 1 ≤ start → (start == x + 1 && same_kind j k) ≡ false

@@ -7,7 +7,7 @@ use Rattle.std.proofs.lemmas.Nat.{pow-add}
 use Rattle.std.proofs.lemmas.List.{length-map, nil_from_length}
 use Rattle.std.specs.FinMap as map
 use Rattle.std.specs.List.{count_by, range_with_len, sum_by}
-use Rattle.sg_store.specs.Disk.{Contents, Disk, Mapping, IsWellFormed, used_among, remapped}
+use Rattle.sg_store.specs.Disk.{Contents, Disk, Mapping, IsWellFormed, IsWhole, used_among, remapped}
 use Rattle.sg_table.specs.Draft.{Drafted}
 use Rattle.sg_store.specs.Meter.{Meter, Costs}
 use Rattle.sg_pool.specs.MappedRecords.{mapping_in, contents_of}
@@ -15,10 +15,13 @@ use Rattle.sg_table.specs.Records.{IsSorted}
 use Rattle.sg_table.specs.Search.{CostsSearch}
 use Rattle.sg_pool.specs.Slots.{Slots}
 use Rattle.sg_table.specs.Table.{Table, visited, probed}
+use Rattle.sg_table.specs.declared.run.Kind.{Kind}
+use Rattle.sg_table.specs.declared.run.Kind.TheVariants.{Data, Anchored}
 use Rattle.sg_table.specs.declared.run.Run.{Run}
 use Rattle.sg_store.specs.declared.store.TheConstants.{MAX_POOL, MAX_CAPACITY}
 use Rattle.sg_block_map.specs.Metering.{SearchesAndVisits}
 use Rattle.sg_block_map.specs.Gathering.{starts_in, overlap, AreGathered, end_index}
+use Rattle.sg_block_map.specs.Joining.{mapping_as}
 use Rattle.sg_block_map.specs.MaximalRuns.{runs, meet, blocks_near}
 use Rattle.sg_block_map.specs.RunCost.{block_price, CostsRuns, CostsRange}
 use Rattle.sg_block_map.specs.Runs.{extent_of, expanded, AreRuns, chained_contents, blocks_of}
@@ -72,6 +75,11 @@ no-contents capacity slots = rw (expanded-none slots.next) (well_formed-empty ca
 
 pub new-contents : (slots : Slots) → chained_contents [] slots ≡ map.empty
 new-contents slots = ap (λ xs. contents_of xs slots.blocks) (expanded-none slots.next)
+
+-- what an address gets is a whole block, or none
+pub whole-as : (kind : Kind) (block : List ℕ) → length block ≡ 512 → IsWhole (mapping_as kind block)
+whole-as Data block e = e
+whole-as Anchored block e = tt
 
 -- how many addresses are mapped
 pub size : (rs : List Run) (slots : Slots) (room : ℕ) → AreRuns rs slots room

@@ -1,5 +1,5 @@
 -- One address of a range that is written.
-use Rattle.std.proofs.Common.{◌≡◌, ◌≢◌, ℕ, ◌+◌, ◌<◌, List, [], ◌∷◌, ◌++◌, length, set, drop}
+use Rattle.std.proofs.Common.{◌≡◌, ◌≢◌, ℕ, ◌+◌, ◌<◌, ◌≤◌, List, [], ◌∷◌, ◌++◌, length, length-set, set, drop}
 use Rattle.std.proofs.Common.{arith, refl, sym, ap, ap₂, ◌∙◌, subst, append_assoc, length-append}
 use Rattle.std.proofs.Common.{cond, Bool, true, false, Some, None, Option}
 use Rattle.std.proofs.Math.Seq.{take-append_seam, drop-append_seam, get_or-append_seam}
@@ -10,29 +10,29 @@ use Rattle.std.specs.Ordering.{nat_cmp}
 use Rattle.std.specs.Prelude.{insert, ◌==◌}
 use Rattle.sg_pool.specs.Chains.{IsChain}
 use Rattle.sg_store.specs.Disk.{Mapping}
-use Rattle.sg_store.specs.Disk.Mapping.{Data}
 use Rattle.sg_table.specs.Records.{start_of, single, run_at}
-use Rattle.sg_pool.specs.MappedRecords.{Seen, entries_by, contents_by, contents_of, number_in, slot_numbers}
+use Rattle.sg_pool.specs.MappedRecords.{Seen, entries_by, contents_by, contents_of, mapping_in, number_in}
+use Rattle.sg_pool.specs.MappedRecords.{slot_numbers}
 use Rattle.sg_pool.specs.Slots.{Slots, followed}
 use Rattle.sg_table.specs.Records.{slots_of}
 use Rattle.sg_table.specs.Occurrences.{occurrences, IsEachOnce}
 use Rattle.sg_pool.specs.MappedRecords.{IsConsistent}
 use Rattle.sg_table.specs.declared.run.Kind.{Kind}
-use Rattle.sg_table.specs.declared.run.Kind.TheVariants.{Data as DataRun}
+use Rattle.sg_table.specs.declared.run.Kind.TheVariants.{Data as DataRun, Anchored as AnchoredRun}
 use Rattle.sg_table.specs.declared.run.Run.{Run}
 use Rattle.sg_store.specs.declared.store.TheConstants.{MAX_CAPACITY}
-use Rattle.sg_block_map.specs.Joining.{joined, linked, IsWriting, KeepSlots}
+use Rattle.sg_block_map.specs.Joining.{joined, linked, mapping_as, put_block, IsWriting, KeepSlots}
 use Rattle.sg_block_map.specs.Runs.{end_of, singles_of, expanded, any_from, behind, begins, AreChained, AreMaximal}
 use Rattle.sg_block_map.specs.Runs.{AreMaximalIn}
 use Rattle.sg_block_map.specs.Runs.{AreBetween, chained_contents}
 use Rattle.sg_block_map.specs.Splitting.{rest_of}
 use Rattle.sg_block_map.specs.Walking.{passed, ahead_of}
-use Rattle.sg_pool.proofs.BlockLemmas.{find-added}
-use Rattle.sg_pool.proofs.ConsistencyLemmas.{taken_below, consistent-added, contents-added}
-use Rattle.sg_pool.proofs.ConsistencyLemmas.{consistent-over, consistent-kind, contents-changed}
+use Rattle.sg_pool.proofs.BlockLemmas.{AreSameBut, added, changed, data-set, find-added, seen-set}
+use Rattle.sg_pool.proofs.ConsistencyLemmas.{parted as apart-slots, taken_below, consistent-inserted}
+use Rattle.sg_pool.proofs.ConsistencyLemmas.{consistent-kind}
 use Rattle.sg_store.proofs.DiskLemmas.{eq_other}
 use Rattle.sg_pool.proofs.LinkLemmas.{slot_after-none, slot_after-in}
-use Rattle.sg_table.proofs.OccurrenceLemmas.{occurrences-append, once-le, below_count}
+use Rattle.sg_table.proofs.OccurrenceLemmas.{occurrences-append, once-le, below_count, same_slot}
 use Rattle.sg_pool.proofs.MappedLemmas.{find-unmapped}
 use Rattle.sg_block_map.proofs.BetweenLemmas.{between-expanded, between-append, between-singles}
 use Rattle.sg_block_map.proofs.BetweenLemmas.{index-between, none-between}
@@ -102,10 +102,38 @@ numbers-kind [] ys lba slot j k = refl
 numbers-kind (x ∷ xs) ys lba slot j k =
     ap (λ es. (x.start, number_in x.first x.kind) ∷ es) (numbers-kind xs ys lba slot j k)
 
+-- what is seen of the slot of an address that was put
+pub put-length : (kind : Kind) (slot : ℕ) (b : List ℕ) (bs : List (List ℕ))
+    → length (put_block kind slot b bs) ≡ length bs
+put-length DataRun slot b bs = length-set bs slot b
+put-length AnchoredRun slot b bs = refl
+
+pub put-others : (kind : Kind) (slot : ℕ) (b : List ℕ) (bs : List (List ℕ))
+    → AreSameBut slot (mapping_in bs) (mapping_in (put_block kind slot b bs))
+put-others DataRun slot b bs = seen-set bs slot b
+put-others AnchoredRun slot b bs = λ t kind other. refl
+
+pub put-seen : (kind : Kind) (slot : ℕ) (b : List ℕ) (bs : List (List ℕ)) → slot < length bs
+    → mapping_in (put_block kind slot b bs) slot kind ≡ mapping_as kind b
+put-seen DataRun slot b bs low = data-set bs slot b low
+put-seen AnchoredRun slot b bs low = refl
+
+-- only the number of the blocks matters
+pub consistent-other : (rs : List Run) (bs bs' : List (List ℕ)) (free : List ℕ) (room : ℕ)
+    → length bs' ≡ length bs → IsConsistent rs bs free room → IsConsistent rs bs' free room
+consistent-other rs bs bs' free room len h = record {
+  sorted = h.sorted;
+  once = rw len h.once;
+  count = h.count;
+  pool = rw len h.pool;
+}
+
 -- an address without a slot, that takes one that was free
 module _ (before : List Run) (done : Run) (rest : List Run) (slots : Slots) (lba slot : ℕ)
-    (free : List ℕ) (b : List ℕ) (h : IsWriting before done rest slots lba)
-    (taken : slots.free ≡ slot ∷ free) (none : AreMaximal (lba + 1) (MAX_CAPACITY + 1) rest) where
+    (free : List ℕ) (bs : List (List ℕ)) (m : Mapping) (h : IsWriting before done rest slots lba)
+    (taken : slots.free ≡ slot ∷ free) (len : length bs ≡ length slots.blocks)
+    (same : AreSameBut slot (mapping_in slots.blocks) (mapping_in bs))
+    (seen : mapping_in bs slot done.kind ≡ m) (none : AreMaximal (lba + 1) (MAX_CAPACITY + 1) rest) where
   abbrev xs : List Run
   xs = expanded slots.next (before ++ done ∷ [])
 
@@ -113,7 +141,7 @@ module _ (before : List Run) (done : Run) (rest : List Run) (slots : Slots) (lba
   ys = expanded slots.next rest
 
   abbrev new : Run
-  new = single lba slot DataRun
+  new = single lba slot done.kind
 
   low : AreBetween 0 lba xs
   low = before-between slots.next before done lba h.maximal_before h.ends
@@ -127,7 +155,7 @@ module _ (before : List Run) (done : Run) (rest : List Run) (slots : Slots) (lba
 
   is : expanded slots.next (before ++ done ∷ (new ∷ rest)) ≡ xs ++ new ∷ ys
   is = parted slots.next before done (new ∷ rest)
-      ∙ ap (λ zs. xs ++ zs) (single-more slots.next lba slot DataRun rest)
+      ∙ ap (λ zs. xs ++ zs) (single-more slots.next lba slot done.kind rest)
 
   together_was : IsConsistent (xs ++ ys) slots.blocks (slot ∷ free) (length slots.next)
   together_was = rw (was, taken) at h.consistent
@@ -136,46 +164,52 @@ module _ (before : List Run) (done : Run) (rest : List Run) (slots : Slots) (lba
   nowhere = none-between xs ys 0 lba (lba + 1) (MAX_CAPACITY + 1) lba low high (omega arith)
       (omega arith)
 
-  taken_together : IsConsistent (expanded slots.next (before ++ done ∷ (new ∷ rest)))
-      (set slots.blocks slot b) free (length slots.next)
+  taken_together : IsConsistent (expanded slots.next (before ++ done ∷ (new ∷ rest))) bs free
+      (length slots.next)
   taken_together = rw (is, sym (insert-seam xs ys new))
-      (consistent-added (xs ++ ys) slots.blocks free (length slots.next) (length xs)
-      new b together_was
-      (index-between xs ys 0 lba (lba + 1) (MAX_CAPACITY + 1) low high (omega arith)) nowhere)
+      (consistent-other (insert (xs ++ ys) (length xs) new) slots.blocks bs free (length slots.next)
+      len (consistent-inserted (xs ++ ys) slots.blocks free (length slots.next) (length xs)
+      new together_was
+      (index-between xs ys 0 lba (lba + 1) (MAX_CAPACITY + 1) low high (omega arith)) nowhere))
 
-  taken_contents : contents_of (expanded slots.next (before ++ done ∷ (new ∷ rest)))
-      (set slots.blocks slot b)
-      ≡ map.insert (chained_contents (before ++ done ∷ rest) slots) lba (Data b)
+  not_used : occurrences slot (slots_of (xs ++ ys)) ≡ 0
+  not_used =
+      let once = once-le (length slots.blocks) (slots_of (xs ++ ys) ++ slot ∷ free) slot
+      together_was.once in
+      omega (arith, once, apart-slots slot slot (slots_of (xs ++ ys)) free, same_slot slot)
+
+  taken_contents : contents_of (expanded slots.next (before ++ done ∷ (new ∷ rest))) bs
+      ≡ map.insert (chained_contents (before ++ done ∷ rest) slots) lba m
   taken_contents = rw (is, was, sym (insert-seam xs ys new))
-      (contents-added (xs ++ ys) slots.blocks free (length slots.next) (length xs)
-      new b together_was nowhere refl)
+      (added (mapping_in slots.blocks) (mapping_in bs) (xs ++ ys) (length xs) new nowhere same not_used
+      ∙ ap (map.insert (contents_of (xs ++ ys) slots.blocks) lba) seen)
 
   abbrev after_taken : Slots
-  after_taken = record slots { blocks = set slots.blocks slot b; free = free }
+  after_taken = record slots { blocks = bs; free = free }
 
   abbrev after_new : Slots
   after_new = record slots {
-    blocks = set slots.blocks slot b;
+    blocks = bs;
     free = free;
     next = linked slots.next done slot;
   }
 
   pub new-writing : IsWriting before (joined done new) rest after_new (lba + 1)
   new-writing = join-writing before done new rest after_taken taken_together h.front
-      h.ends h.is_data refl h.maximal_before none h.chained_before (one-chain slots.next slot)
+      h.ends refl h.maximal_before none h.chained_before (one-chain slots.next slot)
       h.chained_after
 
   pub new-contents : chained_contents (before ++ joined done new ∷ rest) after_new ≡
-      map.insert (chained_contents (before ++ done ∷ rest) slots) lba (Data b)
-  new-contents = ap (λ zs. contents_of zs (set slots.blocks slot b))
-      (join-expanded before done new rest after_taken taken_together h.front h.ends h.is_data)
+      map.insert (chained_contents (before ++ done ∷ rest) slots) lba m
+  new-contents = ap (λ zs. contents_of zs bs)
+      (join-expanded before done new rest after_taken taken_together h.front h.ends refl)
       ∙ taken_contents
 
   pub new-keeps : KeepSlots slots.next (before ++ done ∷ rest) (linked slots.next done slot)
       (before ++ joined done new ∷ rest)
   new-keeps q seen e =
       ap (λ zs. map.get (slot_numbers zs) q)
-      (join-expanded before done new rest after_taken taken_together h.front h.ends h.is_data ∙ is)
+      (join-expanded before done new rest after_taken taken_together h.front h.ends refl ∙ is)
       ∙ keep-insert xs ys new number_in q seen nowhere
       (ap (λ zs. map.get (slot_numbers zs) q) (sym was) ∙ e)
 
@@ -187,7 +221,10 @@ module _ (before : List Run) (done : Run) (rest : List Run) (slots : Slots) (lba
 
 -- an address that has a slot, and keeps it
 module _ (before : List Run) (done run : Run) (tail : List Run) (slots : Slots) (lba : ℕ)
-    (b : List ℕ) (h : IsWriting before done (run ∷ tail) slots lba) (start : run.start ≡ lba) where
+    (bs : List (List ℕ)) (m : Mapping) (h : IsWriting before done (run ∷ tail) slots lba)
+    (start : run.start ≡ lba) (len : length bs ≡ length slots.blocks)
+    (same : AreSameBut run.first (mapping_in slots.blocks) (mapping_in bs))
+    (seen : mapping_in bs run.first done.kind ≡ m) where
   abbrev xs' : List Run
   xs' = expanded slots.next (before ++ done ∷ [])
 
@@ -201,7 +238,7 @@ module _ (before : List Run) (done run : Run) (tail : List Run) (slots : Slots) 
   old' = single lba run.first run.kind
 
   abbrev new' : Run
-  new' = single lba run.first DataRun
+  new' = single lba run.first done.kind
 
   some' : 0 < run.count
   some' = h.chained_after.0.not_empty
@@ -213,7 +250,7 @@ module _ (before : List Run) (done run : Run) (tail : List Run) (slots : Slots) 
 
   is' : expanded slots.next (before ++ done ∷ (new' ∷ rest')) ≡ xs' ++ new' ∷ ys'
   is' = parted slots.next before done (new' ∷ rest')
-      ∙ ap (λ zs. xs' ++ zs) (single-more slots.next lba run.first DataRun rest')
+      ∙ ap (λ zs. xs' ++ zs) (single-more slots.next lba run.first done.kind rest')
 
   consistent_was : IsConsistent (xs' ++ old' ∷ ys') slots.blocks slots.free (length slots.next)
   consistent_was = rw was' at h.consistent
@@ -222,20 +259,27 @@ module _ (before : List Run) (done run : Run) (tail : List Run) (slots : Slots) 
   within' = let len = length-append xs' (old' ∷ ys') in omega arith
 
   over_together : IsConsistent (expanded slots.next
-      (before ++ done ∷ (new' ∷ rest'))) (set slots.blocks run.first b) slots.free
-      (length slots.next)
+      (before ++ done ∷ (new' ∷ rest'))) bs slots.free (length slots.next)
   over_together = rw (is', sym (set-seam xs' ys' old' new'))
-      (consistent-over (set (xs' ++ old' ∷ ys') (length xs') new') slots.blocks slots.free
-      (length slots.next) run.first b
+      (consistent-other (set (xs' ++ old' ∷ ys') (length xs') new') slots.blocks bs slots.free
+      (length slots.next) len
       (consistent-kind (xs' ++ old' ∷ ys') slots.blocks slots.free (length slots.next) (length xs')
-      old' DataRun consistent_was within' (sym (get_or-append_seam xs' old' ys' old'))))
+      old' done.kind consistent_was within' (sym (get_or-append_seam xs' old' ys' old'))))
 
-  over_contents : contents_of (xs' ++ new' ∷ ys') (set slots.blocks run.first b) ≡ map.insert
-      (chained_contents (before ++ done ∷ (run ∷ tail)) slots) lba (Data b)
+  once' : occurrences run.first (slots_of (xs' ++ old' ∷ ys')) ≤ 1
+  once' =
+      let all : List Run = xs' ++ old' ∷ ys' in
+      let once = once-le (length slots.blocks) (slots_of all ++ slots.free) run.first
+      consistent_was.once in
+      omega (arith, once, occurrences-append run.first (slots_of all) slots.free)
+
+  over_contents : contents_of (xs' ++ new' ∷ ys') bs ≡ map.insert
+      (chained_contents (before ++ done ∷ (run ∷ tail)) slots) lba m
   over_contents =
       rw (was', sym (set-seam xs' ys' old' new'))
-      (contents-changed (xs' ++ old' ∷ ys') slots.blocks slots.free (length slots.next)
-      (length xs') old' b consistent_was within' (sym (get_or-append_seam xs' old' ys' old')))
+      (changed (mapping_in slots.blocks) (mapping_in bs) (xs' ++ old' ∷ ys') (length xs') old'
+      done.kind consistent_was.sorted within' (sym (get_or-append_seam xs' old' ys' old')) same once'
+      ∙ ap (map.insert (contents_of (xs' ++ old' ∷ ys') slots.blocks) lba) seen)
 
   passed_maximal : AreMaximal (lba + 1) (MAX_CAPACITY + 1) rest'
   passed_maximal = passed-by (AreMaximal (lba + 1) (MAX_CAPACITY + 1)) slots.next run tail some'
@@ -257,34 +301,34 @@ module _ (before : List Run) (done run : Run) (tail : List Run) (slots : Slots) 
       ))
 
   abbrev after_set : Slots
-  after_set = record slots { blocks = set slots.blocks run.first b }
+  after_set = record slots { blocks = bs }
 
   abbrev after_over : Slots
   after_over = record slots {
-    blocks = set slots.blocks run.first b;
+    blocks = bs;
     next = linked slots.next done run.first;
   }
 
   pub over-writing : IsWriting before (joined done new') rest' after_over (lba + 1)
   over-writing = join-writing before done new' rest' after_set over_together
-      h.front h.ends h.is_data refl h.maximal_before passed_maximal h.chained_before
+      h.front h.ends refl h.maximal_before passed_maximal h.chained_before
       (one-chain slots.next run.first) passed_chained
 
   over_apart : expanded (linked slots.next done run.first) (before ++ joined done new' ∷ rest') ≡
       xs' ++ new' ∷ ys'
   over_apart = join-expanded before done new' rest' after_set over_together
-      h.front h.ends h.is_data ∙ is'
+      h.front h.ends refl ∙ is'
 
   pub over-contents : chained_contents (before ++ joined done new' ∷ rest')
-      after_over ≡ map.insert (chained_contents (before ++ done ∷ (run ∷ tail)) slots) lba (Data b)
-  over-contents = ap (λ zs. contents_of zs (set slots.blocks run.first b)) over_apart
+      after_over ≡ map.insert (chained_contents (before ++ done ∷ (run ∷ tail)) slots) lba m
+  over-contents = ap (λ zs. contents_of zs bs) over_apart
       ∙ over_contents
 
   pub over-keeps : KeepSlots slots.next (before ++ done ∷ (run ∷ tail))
       (linked slots.next done run.first) (before ++ joined done new' ∷ rest')
   over-keeps q seen e = ap (λ zs. map.get (slot_numbers zs) q) over_apart
       ∙ ap (λ (es : List (ℕ × Mapping)). map.get {R = nat_cmp} (map.from_entries {R = nat_cmp} es) q)
-      (numbers-kind xs' ys' lba run.first DataRun run.kind)
+      (numbers-kind xs' ys' lba run.first done.kind run.kind)
       ∙ ap (λ zs. map.get (slot_numbers zs) q) (sym was') ∙ e
 
   pub over-slot : 0 < done.count → done.last < length slots.next
@@ -300,7 +344,6 @@ pub writing-followed : (before : List Run) (done : Run) (rest : List Run) (slots
 writing-followed before done rest slots now lba n e h = rw e (record {
   consistent = h.consistent;
   maximal_before = h.maximal_before;
-  is_data = h.is_data;
   ends = h.ends;
   after = h.after;
   chained_before = h.chained_before;
@@ -370,10 +413,12 @@ passed-append next run xs ys = append_if (run.count == 1) xs (rest_of next run 1
 
 -- the same for what is ahead of a walk
 module _ (before after runs more : List Run) (done found : Run) (run : Option Run) (at : ℕ)
-    (p now : Slots) (lba n : ℕ) (b : List ℕ)
+    (p now : Slots) (lba n : ℕ) (bs : List (List ℕ)) (m : Mapping)
     (h : IsWriting before done (ahead_of runs run at ++ after) p lba)
     (is : run_at run lba ≡ Some found) (e : now ≡ followed p n)
-    (m : more ≡ passed p.next found (drop at runs)) where
+    (next_runs : more ≡ passed p.next found (drop at runs)) (len : length bs ≡ length now.blocks)
+    (same : AreSameBut found.first (mapping_in now.blocks) (mapping_in bs))
+    (seen : mapping_in bs found.first done.kind ≡ m) where
   abbrev tail_of : List Run
   tail_of = drop at runs ++ after
 
@@ -388,40 +433,40 @@ module _ (before after runs more : List Run) (done found : Run) (run : Option Ru
   same_next = sym (ap (λ (s : Slots). s.next) e)
 
   same_more : more ++ after ≡ passed now.next found tail_of
-  same_more = ap (λ zs. zs ++ after) m ∙ passed-append p.next found (drop at runs) after
+  same_more = ap (λ zs. zs ++ after) next_runs ∙ passed-append p.next found (drop at runs) after
       ∙ ap (λ ns. passed ns found tail_of) same_next
 
   abbrev over_slots : Slots
   over_slots = record now {
-    blocks = set now.blocks found.first b;
+    blocks = bs;
     next =
         linked now.next done found.first;
   }
 
-  pub walked-writing : IsWriting before (joined done (single lba found.first DataRun))
+  pub walked-writing : IsWriting before (joined done (single lba found.first done.kind))
       (more ++ after) over_slots (lba + 1)
-  walked-writing = rw same_more (over-writing before done found tail_of now lba b now_writing
-      (there run lba found is).1)
+  walked-writing = rw same_more (over-writing before done found tail_of now lba bs m now_writing
+      (there run lba found is).1 len same seen)
 
-  pub walked-contents : chained_contents (before ++ joined done (single lba found.first DataRun) ∷
+  pub walked-contents : chained_contents (before ++ joined done (single lba found.first done.kind) ∷
       (more ++ after)) over_slots ≡ map.insert
-      (chained_contents (before ++ done ∷ (ahead_of runs run at ++ after)) p) lba (Data b)
+      (chained_contents (before ++ done ∷ (ahead_of runs run at ++ after)) p) lba m
   walked-contents =
-      ap (λ zs. chained_contents (before ++ joined done (single lba found.first DataRun) ∷ zs) over_slots)
+      ap (λ zs. chained_contents (before ++ joined done (single lba found.first done.kind) ∷ zs) over_slots)
       same_more
-      ∙ over-contents before done found tail_of now lba b now_writing (there run lba found is).1
-      ∙ ap₂ (λ zs ns. map.insert (contents_of (expanded ns (before ++ done ∷ zs)) now.blocks) lba (Data b))
+      ∙ over-contents before done found tail_of now lba bs m now_writing (there run lba found is).1 len same seen
+      ∙ ap₂ (λ zs ns. map.insert (contents_of (expanded ns (before ++ done ∷ zs)) now.blocks) lba m)
       (sym here) (sym same_next)
-      ∙ ap (λ bs. map.insert (contents_of (expanded p.next
-      (before ++ done ∷ (ahead_of runs run at ++ after))) bs) lba (Data b))
+      ∙ ap (λ zs. map.insert (contents_of (expanded p.next
+      (before ++ done ∷ (ahead_of runs run at ++ after))) zs) lba m)
       (ap (λ (s : Slots). s.blocks) e)
 
   pub walked-keeps : KeepSlots p.next (before ++ done ∷ (ahead_of runs run at ++ after))
-      (linked now.next done found.first) (before ++ joined done (single lba found.first DataRun) ∷
+      (linked now.next done found.first) (before ++ joined done (single lba found.first done.kind) ∷
       (more ++ after))
-  walked-keeps q seen f =
+  walked-keeps q slot f =
       ap (λ zs. map.get (slot_numbers (expanded (linked now.next done found.first)
-      (before ++ joined done (single lba found.first DataRun) ∷ zs))) q) same_more
-      ∙ over-keeps before done found tail_of now lba b now_writing (there run lba found is).1 q seen
+      (before ++ joined done (single lba found.first done.kind) ∷ zs))) q) same_more
+      ∙ over-keeps before done found tail_of now lba bs m now_writing (there run lba found is).1 len same seen q slot
       (ap₂ (λ zs ns. map.get (slot_numbers (expanded ns (before ++ done ∷ zs))) q) (sym here)
       (sym same_next) ∙ f)

@@ -1,9 +1,9 @@
--- A run of data to which others are joined.
+-- A run to which others of its kind are joined.
 use Rattle.std.specs.Prelude.{◌≡◌, ℕ, ◌+◌, ◌<◌, ◌≤◌, List, ◌∷◌, ◌++◌, length, slice_set}
-use Rattle.std.specs.Prelude.{if◌then◌else◌, ◌==◌, Option, Some, None}
+use Rattle.std.specs.Prelude.{if◌then◌else◌, ◌==◌, Bool, true, false, Option, Some, None}
 use Rattle.std.specs.FinMap.{get, insert}
 use Rattle.sg_store.specs.Disk.{Mapping}
-use Rattle.sg_store.specs.Disk.Mapping.{Data}
+use Rattle.sg_store.specs.Disk.Mapping.{Data, Anchored}
 use Rattle.sg_pool.specs.Chains.{IsChain}
 use Rattle.sg_pool.specs.MappedRecords.{slot_numbers}
 use Rattle.sg_pool.specs.Slots.{Slots}
@@ -15,6 +15,7 @@ use Rattle.sg_table.specs.declared.run.Kind.TheVariants.{Data as DataRun, Anchor
 use Rattle.sg_table.specs.declared.run.Run.{Run}
 use Rattle.sg_store.specs.declared.store.TheConstants.{MAX_CAPACITY, MAX_COUNT, MAX_POOL}
 use Rattle.sg_block_map.specs.Gathering.{AreGathered, AreNear}
+use Rattle.sg_block_map.specs.MaximalRuns.{same_kind}
 use Rattle.sg_block_map.specs.Runs.{end_of, expanded, AreChained, AreMaximal, AreRuns}
 use Rattle.sg_block_map.specs.Runs.{chained_contents, any_from, begins, AreMaximalIn}
 
@@ -40,7 +41,6 @@ pub record IsWriting (before : List Run) (done : Run) (rest : List Run) (slots :
       slots.free
       (length slots.next)
   pub maximal_before : AreMaximalIn (any_from 0) (begins done.kind done.start) before
-  pub is_data : done.kind ≡ DataRun
   pub ends : end_of done ≡ lba
   pub after : AreMaximal lba (MAX_CAPACITY + 1) rest
   pub chained_before : AreChained slots.next before
@@ -53,27 +53,38 @@ KeepSlots next runs next' runs' = (lba : ℕ) (slot : Mapping)
     → get (slot_numbers (expanded next runs)) lba ≡ Some slot
     → get (slot_numbers (expanded next' runs')) lba ≡ Some slot
 
--- The block at an address was put, whatever runs are before and after: the write has come to the next
--- address, the contents have the block, and each mapped address has its slot.
+-- What an address gets in a run of a kind: a block of data, or none.
+abbrev pub mapping_as : Kind → (block : List ℕ) → Mapping
+mapping_as DataRun block = Data block
+mapping_as AnchoredRun block = Anchored
+
+-- The blocks of the slots, where it gets it. No block is touched where it is anchored.
+abbrev pub put_block : Kind → (slot : ℕ) → (block : List ℕ) → List (List ℕ) → List (List ℕ)
+put_block DataRun slot block blocks = slice_set blocks slot block
+put_block AnchoredRun slot block blocks = blocks
+
+-- An address was put, whatever runs are before and after: the run has come to the next address, the
+-- contents have the mapping, and each address that had a slot has it.
 pub record IsPut (before : List Run) (done done' : Run) (rest rest' : List Run) (old new : Slots)
-    (lba : ℕ) (block : List ℕ) : Type 0 where
+    (lba : ℕ) (mapping : Mapping) : Type 0 where
   pub writing : IsWriting before done' rest' new (lba + 1)
   pub contents : chained_contents (before ++ done' ∷ rest') new
-      ≡ insert (chained_contents (before ++ done ∷ rest) old) lba (Data block)
+      ≡ insert (chained_contents (before ++ done ∷ rest) old) lba mapping
   pub keeps : KeepSlots old.next (before ++ done ∷ rest) new.next (before ++ done' ∷ rest')
 
 abbrev pub PutsAddress : (done done' : Run) → (ahead ahead' : List Run) → (old new : Slots)
-    → (lba : ℕ) → (block : List ℕ) → Type 0
-PutsAddress done done' ahead ahead' old new lba block = (before after : List Run)
+    → (lba : ℕ) → Mapping → Type 0
+PutsAddress done done' ahead ahead' old new lba mapping = (before after : List Run)
     → IsWriting before done (ahead ++ after) old lba
     → AreMaximal (lba + 1) (MAX_CAPACITY + 1) after
-    → IsPut before done done' (ahead ++ after) (ahead' ++ after) old new lba block
+    → IsPut before done done' (ahead ++ after) (ahead' ++ after) old new lba mapping
 
--- The run that takes up the range has one address more, and the runs ahead are as near as before.
+-- The run that takes up the range has one address more of its kind, and the runs ahead are as near as before.
 pub record GoesOn (done done' : Run) (ahead ahead' : List Run) (old new : Slots) (lba : ℕ) : Type 0
   where
     pub start : done'.start ≡ done.start
     pub count : done'.count ≡ done.count + 1
+    pub kind : done'.kind ≡ done.kind
     pub near : (high : ℕ) → lba < high → AreNear 0 high ahead → AreNear 0 high ahead'
     pub slots : length new.next ≡ length old.next
 
@@ -92,27 +103,26 @@ pub record ChangesRuns (most_moves : ℕ) (before after : Table) (slots : Slots)
   pub table : after ≡ record before { records = after.records; moved = after.moved }
   pub moves : after.moved ≤ before.moved + most_moves
 
--- A run of data that is to begin at an address, and has none yet.
-abbrev pub no_run : (lba : ℕ) → Run
-no_run lba = record { start = lba; count = 0; first = 0; last = 0; kind = DataRun }
+-- A run of a kind that is to begin at an address, and has none yet.
+abbrev pub no_run : (lba : ℕ) → Kind → Run
+no_run lba kind = record { start = lba; count = 0; first = 0; last = 0; kind = kind }
 
--- The part of a run before a range is kept apart if it is anchored. If it is data, the range is
--- joined to it.
-abbrev pub begun_by : Kind → (front : Run) → (lba : ℕ) → Option Run × Run
-begun_by DataRun front lba = (None, front)
-begun_by AnchoredRun front lba = (Some front, no_run lba)
+-- The range is joined to the part of a run before it that is of its kind. Any other is kept apart.
+abbrev pub begun_by : (alike : Bool) → Kind → (front : Run) → (lba : ℕ) → Option Run × Run
+begun_by true kind front lba = (None, front)
+begun_by false kind front lba = (Some front, no_run lba kind)
 
 -- What is kept before a range, and the run that is to take up the range.
-abbrev pub begun : (front : Option Run) → (lba : ℕ) → Option Run × Run
-begun None lba = (None, no_run lba)
-begun (Some front) lba = begun_by front.kind front lba
+abbrev pub begun : Kind → (front : Option Run) → (lba : ℕ) → Option Run × Run
+begun kind None lba = (None, no_run lba kind)
+begun kind (Some front) lba = begun_by (same_kind front.kind kind) kind front lba
 
--- The run behind a range is joined if it is data, and is kept apart if it is anchored.
-abbrev pub IsFinishedBy : Kind → (old new : Slots) → (done run result : Run) → (back : Option Run)
-    → Type 0
-IsFinishedBy DataRun old new done run result back = (result ≡ joined done run) × (back ≡ None)
+-- The run behind a range is joined if it is of its kind, and is kept apart if not.
+abbrev pub IsFinishedBy : (alike : Bool) → (old new : Slots) → (done run result : Run)
+    → (back : Option Run) → Type 0
+IsFinishedBy true old new done run result back = (result ≡ joined done run) × (back ≡ None)
     × (new ≡ record old { next = linked old.next done run.first })
-IsFinishedBy AnchoredRun old new done run result back =
+IsFinishedBy false old new done run result back =
     (result ≡ done) × (back ≡ Some run) × (new ≡ old)
 
 -- So is the run ahead, if there is one.
@@ -120,4 +130,4 @@ abbrev pub IsFinished : (old new : Slots) → (done : Run) → Option Run → Ru
     → Type 0
 IsFinished old new done None result back = (result ≡ done) × (back ≡ None) × (new ≡ old)
 IsFinished old new done (Some run) result back =
-    IsFinishedBy run.kind old new done run result back
+    IsFinishedBy (same_kind run.kind done.kind) old new done run result back

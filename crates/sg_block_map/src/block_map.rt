@@ -4,7 +4,7 @@ ghost use Rattle.std.specs.Prelude.{◌≡◌, ◌+◌, ◌*◌, ◌<◌, ◌≤
 ghost use Rattle.std.specs.Prelude.{IsErr, OnOk, OnErr};
 ghost use Rattle.std.specs.FinMap.{len};
 ghost use Rattle.sg_store.specs.Disk.{IsWellFormed, IsOverfull, blocks};
-ghost use Rattle.sg_store.specs.Disk.{disk_replaced, disk_written, disk_filled, disk_unmapped};
+ghost use Rattle.sg_store.specs.Disk.{disk_written, disk_filled, disk_unmapped, disk_anchored};
 ghost use Rattle.sg_store.specs.Disk.{unmapped};
 ghost use Rattle.sg_store.specs.LbaStatus.{lba_status, covered, status_data};
 ghost use Rattle.sg_store.specs.Meter.{HasHeadroom, restarted};
@@ -25,7 +25,7 @@ use crate::write::write_runs;
 use sg_pool::{Pool, Source};
 use sg_store::lba_status::status_header;
 use sg_store::{BLOCK_LENGTH, Counts, MAX_CAPACITY, MAX_POOL, Space, Store};
-use sg_table::{Draft, RunTable};
+use sg_table::{Draft, Kind, RunTable};
 use sg_wire::Cut;
 use std::alloc::{AllocError, Global};
 
@@ -51,8 +51,9 @@ pub struct BlockMap {
 
 impl BlockMap {
     ghost use Rattle.sg_pool.specs.Source.{HasBlocks, block_of};
-    ghost use Rattle.sg_block_map.specs.State.{disk_of, meter_of, records_of, slots_by_address};
-    ghost use Rattle.sg_block_map.specs.State.{Keeps};
+    ghost use Rattle.sg_block_map.specs.Joining.{mapping_as};
+    ghost use Rattle.sg_block_map.specs.State.{disk_of, disk_remapped, meter_of, records_of};
+    ghost use Rattle.sg_block_map.specs.State.{slots_by_address, Keeps};
 
     /// How many maximal runs of addresses of one kind there are. Each has one record, and the table
     /// has no others.
@@ -63,21 +64,50 @@ impl BlockMap {
         self.table.count()
     }
 
-    // Replaces the blocks from an address on by those of a source.
+    /// Anchors the addresses from one on (SBC-3, 4.7.4): each keeps its block of the pool or takes
+    /// one, and reads as zeros from then on. Data there is lost.
+    ///
+    /// # Errors
+    /// More addresses would have a block than the pool has. Nothing is anchored then.
+    pub fn anchor(&mut self, lba: u64, count: u32) -> Result<(), Space>
+        requires range { lba + count ≤ (disk_of self.old).capacity }
+        requires headroom { HasHeadroom (meter_of self.old).counts }
+
+        // Either the pool has too few blocks and the disk stays as it is, or all are anchored.
+        ensures space { IsErr result ↔ IsOverfull (disk_anchored (disk_of self.old) lba count) }
+        ensures ok { OnOk result (disk_of self.new ≡ disk_anchored (disk_of self.old) lba count) }
+        ensures err { OnErr result (disk_of self.new ≡ disk_of self.old) }
+
+        // Each address that has a slot keeps it.
+        ensures keeps { Keeps (slots_by_address self.old) (slots_by_address self.new) }
+
+        // What the call costs.
+        ensures costs { CostsRange (disk_of self.old) lba count
+            (meter_of self.old) (meter_of self.new) }
+    {
+        self.remap(
+            lba,
+            count,
+            Kind::Anchored,
+            &Source::Repeated(&[0; BLOCK_LENGTH]),
+        )
+    }
+
+    // Makes the addresses from one on data, with the blocks of a source, or anchors them.
     //
     // # Errors
-    // More addresses would have a block of the pool than it has. Nothing is replaced then.
-    fn replace(&mut self, lba: u64, count: u32, source: &Source) -> Result<(), Space>
+    // More addresses would have a block of the pool than it has. Nothing is changed then.
+    fn remap(&mut self, lba: u64, count: u32, kind: Kind, source: &Source) -> Result<(), Space>
         requires range { lba + count ≤ (disk_of self.old).capacity }
         requires blocks { HasBlocks source.now count }
         requires headroom { HasHeadroom (meter_of self.old).counts }
 
-        // Either the pool has too few blocks and the disk stays as it is, or all blocks are
-        // replaced.
-        ensures space { IsErr result
-            ↔ IsOverfull (disk_replaced (disk_of self.old) lba count (block_of source.now)) }
-        ensures ok { OnOk result
-            (disk_of self.new ≡ disk_replaced (disk_of self.old) lba count (block_of source.now)) }
+        // Either the pool has too few blocks and the disk stays as it is, or all addresses are
+        // remapped.
+        ensures space { IsErr result ↔ IsOverfull (disk_remapped (disk_of self.old) lba count
+            (λ index. mapping_as kind (block_of source.now index))) }
+        ensures ok { OnOk result (disk_of self.new ≡ disk_remapped (disk_of self.old) lba count
+            (λ index. mapping_as kind (block_of source.now index))) }
         ensures err { OnErr result (disk_of self.new ≡ disk_of self.old) }
 
         // Each address that has a slot keeps it.
@@ -102,6 +132,7 @@ impl BlockMap {
             &self.gathered,
             lba,
             count,
+            kind,
             source,
         );
         self.gathered.clear();
@@ -170,7 +201,7 @@ impl Store for BlockMap {
         ensures costs { CostsRange (disk_of self.old) lba count
             (meter_of self.old) (meter_of self.new) }
     {
-        self.replace(lba, count, &Source::Joined(bytes))
+        self.remap(lba, count, Kind::Data, &Source::Joined(bytes))
     }
 
     fn fill(&mut self, lba: u64, count: u32, block: &[u8; BLOCK_LENGTH]) -> Result<(), Space>
@@ -192,7 +223,7 @@ impl Store for BlockMap {
         ensures costs { CostsRange (disk_of self.old) lba count
             (meter_of self.old) (meter_of self.new) }
     {
-        self.replace(lba, count, &Source::Repeated(block))
+        self.remap(lba, count, Kind::Data, &Source::Repeated(block))
     }
 
     fn unmap(&mut self, lba: u64, count: u32)

@@ -2,14 +2,15 @@
 // the store to know, and which runs are near is for `gather`.
 ghost use Rattle.std.specs.Prelude.{◌≡◌, ◌+◌, ◌-◌, ◌^◌, ◌<◌, ◌≤◌, ◌++◌, ◌∷◌, ℕ, List, length};
 ghost use Rattle.std.specs.Prelude.{None, Option, option_to_list, IfSome};
-ghost use Rattle.sg_store.specs.Disk.{replaced, used_among};
+ghost use Rattle.sg_store.specs.Disk.{remapped, used_among};
+ghost use Rattle.sg_block_map.specs.MaximalRuns.{same_kind};
 ghost use Rattle.sg_table.specs.Leaves.{move_bound};
 ghost use Rattle.sg_table.specs.Records.{run_at};
 ghost use Rattle.sg_table.specs.Occurrences.{occurrences};
 ghost use Rattle.sg_pool.specs.Slots.{followed};
 ghost use Rattle.sg_pool.specs.Source.{HasBlocks, block_of};
-ghost use Rattle.sg_block_map.specs.Joining.{begun, joined, linked, IsWriting, IsFinished};
-ghost use Rattle.sg_block_map.specs.Joining.{ChangesRuns, GoesOn, IsReadyFor, KeepSlots, PutsAddress};
+ghost use Rattle.sg_block_map.specs.Joining.{begun, joined, linked, mapping_as, put_block, IsWriting};
+ghost use Rattle.sg_block_map.specs.Joining.{ChangesRuns, GoesOn, IsFinished, IsReadyFor, KeepSlots, PutsAddress};
 ghost use Rattle.sg_block_map.specs.Metering.{FollowsLinks, FollowsPassed};
 ghost use Rattle.sg_block_map.specs.Runs.{expanded, chained_contents};
 ghost use Rattle.sg_block_map.specs.Runs.{blocks_of};
@@ -58,8 +59,21 @@ fn join(pool: &mut Pool, done: Run, other: Run) -> Run
     }
 }
 
-// Writes the block at the address where the run ends, and joins the address to the run. A block that
-// has a slot is written over in it, and any other takes a free one.
+// Puts a block into a slot, if it is for a run of data. No block is touched for one that is anchored.
+fn set_block(pool: &mut Pool, slot: u32, kind: Kind, bytes: &[u8])
+    requires slot { slot < length pool.old.blocks }
+    requires byte_count { length bytes.now ≡ BLOCK_LENGTH }
+    ensures { pool.new
+        ≡ record pool.old { blocks = put_block kind slot bytes.now pool.old.blocks } }
+{
+    match kind {
+        Kind::Data => pool.set(slot, bytes),
+        Kind::Anchored => {}
+    }
+}
+
+// Puts the address where the run ends, and joins the address to the run. One that has a slot keeps
+// it, and any other takes a free one. A run of data gets the block there.
 fn put_address(
     pool: &mut Pool,
     runs: &[Run],
@@ -74,10 +88,11 @@ fn put_address(
     requires byte_count { length bytes.now ≡ BLOCK_LENGTH }
     requires headroom { (progress.done.count < u32.MAX) × (pool.old.links < u64.MAX) }
 
-    // The write comes to the next address.
+    // The run comes to the next address.
     ensures puts { PutsAddress progress.done result.done
         (ahead_of runs.now progress.walk.run progress.walk.at)
-        (ahead_of runs.now result.walk.run result.walk.at) pool.old pool.new lba bytes.now }
+        (ahead_of runs.now result.walk.run result.walk.at) pool.old pool.new lba
+        (mapping_as progress.done.kind bytes.now) }
     ensures goes_on { GoesOn progress.done result.done
         (ahead_of runs.now progress.walk.run progress.walk.at)
         (ahead_of runs.now result.walk.run result.walk.at) pool.old pool.new lba }
@@ -86,28 +101,46 @@ fn put_address(
 {
     let Some(run) = progress.walk.run_at(lba) else {
         let slot = pool.take();
-        pool.set(slot, bytes);
-        let done = join(pool, progress.done, Run::single(lba, slot, Kind::Data));
+        set_block(pool, slot, progress.done.kind, bytes);
+        let done = join(
+            pool,
+            progress.done,
+            Run::single(lba, slot, progress.done.kind),
+        );
         return Progress {
             done,
             walk: progress.walk,
         };
     };
     let walk = progress.walk.pass(pool, runs, run);
-    pool.set(run.first, bytes);
-    let done = join(pool, progress.done, Run::single(lba, run.first, Kind::Data));
+    set_block(pool, run.first, progress.done.kind, bytes);
+    let done = join(
+        pool,
+        progress.done,
+        Run::single(lba, run.first, progress.done.kind),
+    );
     Progress { done, walk }
 }
 
-// Splits the runs at the first address of a range. The part before it is to be joined if it is data,
-// and is kept apart if it is anchored.
-fn begin(pool: &mut Pool, runs: &[Run], lba: u64) -> (Option<Run>, Progress)
+// Whether two kinds are the same.
+fn same_kind(first: Kind, second: Kind) -> bool
+    ensures { result ≡ same_kind first second }
+{
+    match first {
+        Kind::Data => matches!(second, Kind::Data),
+        Kind::Anchored => matches!(second, Kind::Anchored),
+    }
+}
+
+// Splits the runs at the first address of a range. The part before it is to be joined if it is of the
+// range's kind, and is kept apart if not.
+fn begin(pool: &mut Pool, runs: &[Run], lba: u64, kind: Kind) -> (Option<Run>, Progress)
     requires ahead { AreAhead pool.old.next (length pool.old.next) 0 runs.now }
     requires headroom { pool.old.links + length (expanded pool.old.next runs.now) ≤ u64.MAX }
     ensures front { (front : Option Run)
         × IsWalkFrom pool.old.next runs.now lba front
         (ahead_of runs.now result.1.walk.run result.1.walk.at)
-        × ((result.0, result.1.done) ≡ begun front lba)
+        × ((result.0, result.1.done) ≡ begun kind front lba)
         × (pool.new.links ≤ pool.old.links
         + length (expanded pool.old.next (option_to_list front))) }
     ensures pool { pool.new ≡ followed pool.old (pool.new.links - pool.old.links) }
@@ -119,19 +152,19 @@ fn begin(pool: &mut Pool, runs: &[Run], lba: u64) -> (Option<Run>, Progress)
         count: 0,
         first: 0,
         last: 0,
-        kind: Kind::Data,
+        kind,
     };
-    match front {
-        Some(run) => match run.kind {
-            Kind::Data => (None, Progress { done: run, walk }),
-            Kind::Anchored => (front, Progress { done: none, walk }),
-        },
-        None => (None, Progress { done: none, walk }),
+    let Some(run) = front else {
+        return (None, Progress { done: none, walk });
+    };
+    if same_kind(run.kind, kind) {
+        return (None, Progress { done: run, walk });
     }
+    (front, Progress { done: none, walk })
 }
 
-// Joins the run that is ahead, which meets or touches the end of the range, if it is data. If it is
-// anchored, it is kept apart.
+// Joins the run that is ahead, which meets or touches the end of the range, if it is of the range's
+// kind. Any other is kept apart.
 fn finish(pool: &mut Pool, progress: Progress) -> (Run, Option<Run>)
     requires slot { 0 < progress.done.count → progress.done.last < length pool.old.next }
     requires used { 0 < progress.done.count → occurrences progress.done.last pool.old.free ≡ 0 }
@@ -141,21 +174,22 @@ fn finish(pool: &mut Pool, progress: Progress) -> (Run, Option<Run>)
     let Some(run) = progress.walk.run else {
         return (progress.done, None);
     };
-    match run.kind {
-        Kind::Data => (join(pool, progress.done, run), None),
-        Kind::Anchored => (progress.done, Some(run)),
+    if same_kind(run.kind, progress.done.kind) {
+        return (join(pool, progress.done, run), None);
     }
+    (progress.done, Some(run))
 }
 
-/// Replaces the blocks from an address on by those of a source. The runs of data near the range and
-/// its addresses become one run of the table. There have to be free slots for the addresses that
-/// have none.
-pub(crate) fn write_runs(
+// Puts the addresses from one on into a run of a kind, with the blocks of a source if it is data. The
+// runs of this kind near the range and its addresses become one run of the table. There have to be
+// free slots for the addresses that have none.
+fn put_range(
     table: &mut RunTable,
     pool: &mut Pool,
     gathered: &Gathered,
     lba: u64,
     count: u32,
+    kind: Kind,
     source: &Source,
 )
     requires ready { IsReadyFor table.old pool.old gathered.now lba (lba + count) }
@@ -164,9 +198,10 @@ pub(crate) fn write_runs(
     requires free { count ≤ length pool.old.free
         + used_among (chained_contents table.old.records pool.old) lba count }
 
-    // The blocks are replaced, and each address that has a slot keeps it.
+    // The range is remapped, and each address that has a slot keeps it.
     ensures contents { chained_contents table.new.records pool.new
-        ≡ replaced (chained_contents table.old.records pool.old) lba count (block_of source.now) }
+        ≡ remapped (chained_contents table.old.records pool.old) lba count
+        (λ index. mapping_as kind (block_of source.now index)) }
     ensures keeps { KeepSlots pool.old.next table.old.records pool.new.next table.new.records }
     ensures table { ChangesRuns (move_bound + 3) table.old table.new pool.new }
 
@@ -174,15 +209,46 @@ pub(crate) fn write_runs(
     ensures links { FollowsLinks (blocks_of gathered.now.records) pool.old pool.new }
 {
     let runs = gathered.records();
-    if let Some(run) = covering(runs, lba, count) {
-        overwrite(pool, run, lba, count, source);
-        return;
-    }
-    let (front, mut progress) = begin(pool, runs, lba);
+    let (front, mut progress) = begin(pool, runs, lba, kind);
     for i in 0..count {
         let block = source.block(i as usize);
         progress = put_address(pool, runs, progress, lba + u64::from(i), block);
     }
     let (run, back) = finish(pool, progress);
     put_parts(table, gathered, front, run, back);
+}
+
+/// Makes the addresses from one on data, with the blocks of a source, or anchors them. There have to be
+/// free slots for the addresses that have none.
+pub(crate) fn write_runs(
+    table: &mut RunTable,
+    pool: &mut Pool,
+    gathered: &Gathered,
+    lba: u64,
+    count: u32,
+    kind: Kind,
+    source: &Source,
+)
+    requires ready { IsReadyFor table.old pool.old gathered.now lba (lba + count) }
+    requires range { (0 < count) × (lba + count ≤ MAX_CAPACITY) }
+    requires blocks { HasBlocks source.now count }
+    requires free { count ≤ length pool.old.free
+        + used_among (chained_contents table.old.records pool.old) lba count }
+
+    // The range is remapped, and each address that has a slot keeps it.
+    ensures contents { chained_contents table.new.records pool.new
+        ≡ remapped (chained_contents table.old.records pool.old) lba count
+        (λ index. mapping_as kind (block_of source.now index)) }
+    ensures keeps { KeepSlots pool.old.next table.old.records pool.new.next table.new.records }
+    ensures table { ChangesRuns (move_bound + 3) table.old table.new pool.new }
+
+    // At most as many links are followed as the gathered runs have blocks.
+    ensures links { FollowsLinks (blocks_of gathered.now.records) pool.old pool.new }
+{
+    let runs = gathered.records();
+    if let Some(run) = covering(runs, lba, count, kind) {
+        overwrite(pool, run, lba, count, source);
+        return;
+    }
+    put_range(table, pool, gathered, lba, count, kind, source);
 }

@@ -10,7 +10,8 @@ use Rattle.sg_table.specs.declared.run.Run.{Run}
 use Rattle.sg_block_map.specs.Runs.{expanded, chained_contents}
 use Rattle.sg_store.proofs.DiskLemmas.{remapped-none, remapped-more}
 use Rattle.sg_pool.proofs.LinkLemmas.{slot_after-more}
-use Rattle.sg_block_map.proofs.OverwriteLemmas.{consistent-other, over-contents}
+use Rattle.sg_block_map.proofs.OverwriteLemmas.{over-contents}
+use Rattle.sg_block_map.proofs.WriteLemmas.{consistent-other}
 use Rattle.sg_block_map.proofs.SplitLemmas.{below-part_of_chain, slot-below}
 use Rattle.sg_block_map.proofs.overwrite.overwrite.Goals as goal
 

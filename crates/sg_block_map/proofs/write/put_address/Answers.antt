@@ -1,23 +1,22 @@
-use Rattle.std.proofs.Common.{◌≡◌, ℕ, ◌-◌, List, ◌∷◌, ◌++◌, set, drop, ap, ap₂, sym, subst, ◌∙◌}
+use Rattle.std.proofs.Common.{◌≡◌, ℕ, ◌-◌, List, ◌∷◌, ◌++◌, drop, ap, ap₂, sym, subst, ◌∙◌}
 use Rattle.std.proofs.Common.{arith, Some, Option}
 use Rattle.sg_table.specs.Records.{single}
 use Rattle.sg_pool.specs.Slots.{Slots}
 use Rattle.sg_table.specs.Occurrences.{occurrences}
-use Rattle.sg_table.specs.declared.run.Kind.TheVariants.{Data}
 use Rattle.sg_table.specs.declared.run.Run.{Run}
-use Rattle.sg_block_map.specs.Joining.{joined, linked, KeepSlots}
+use Rattle.sg_block_map.specs.Joining.{joined, linked, mapping_as, put_block, KeepSlots}
 use Rattle.sg_block_map.specs.Runs.{chained_contents}
 use Rattle.sg_block_map.specs.Walking.{ahead_of}
 use Rattle.sg_table.proofs.OccurrenceLemmas.{occurrences-more}
 use Rattle.sg_block_map.proofs.WalkLemmas.{there}
 use Rattle.sg_block_map.proofs.WriteLemmas.{new-writing, new-contents, new-keeps, walked-writing}
 use Rattle.sg_block_map.proofs.WriteLemmas.{walked-contents, walked-keeps, done-last, slot-taken}
-use Rattle.sg_block_map.proofs.WriteLemmas.{slot-there, skip-maximal}
+use Rattle.sg_block_map.proofs.WriteLemmas.{slot-there, skip-maximal, put-length, put-others, put-seen}
 use Rattle.sg_block_map.proofs.write.put_address.Goals as goal
 
 -- the address is not mapped
-pub set-requires-clause-slot : goal.set-requires-clause-slot
-set-requires-clause-slot c =
+pub set_block-requires-clause-slot : goal.set_block-requires-clause-slot
+set_block-requires-clause-slot c =
     let w = c.requires.writing in
     let p = c.args.pool.now in
     rw (ap (λ (s : Slots). s.blocks) c.take-slot.ensures.pool)
@@ -29,7 +28,7 @@ pub join-done-requires-clause-slot : goal.join-done-requires-clause-slot
 join-done-requires-clause-slot c =
     let w = c.requires.writing in
     let p = c.args.pool.now in
-    let next : c.set.new.self.next ≡ p.next = ap (λ (s : Slots). s.next) c.set.ensures
+    let next : c.set_block.new.pool.next ≡ p.next = ap (λ (s : Slots). s.next) c.set_block.ensures
     ∙ ap (λ (s : Slots). s.next) c.take-slot.ensures.pool in
     λ pos. rw next ((done-last w.0 c.args.progress.done
     (ahead_of c.args.runs.now c.args.progress.walk.run c.args.progress.walk.at ++ w.1) p
@@ -40,8 +39,8 @@ join-done-requires-clause-used c =
     let w = c.requires.writing in
     let p = c.args.pool.now in
     let done = c.args.progress.done in
-    let free : c.set.new.self.free ≡ c.take-slot.new.self.free =
-    ap (λ (s : Slots). s.free) c.set.ensures in
+    let free : c.set_block.new.pool.free ≡ c.take-slot.new.self.free =
+    ap (λ (s : Slots). s.free) c.set_block.ensures in
     λ pos.
     let none = (done-last w.0 done
     (ahead_of c.args.runs.now c.args.progress.walk.run c.args.progress.walk.at ++ w.1) p
@@ -57,17 +56,17 @@ returns-in_default-clause-puts c =
     let w = c.args.progress.walk in
     let lba = c.args.lba in
     let slot = c.take-slot.result in
-    let run_is : c.join-done.result ≡ joined done (single lba slot Data) = c.join-done.ensures.run
+    let run_is : c.join-done.result ≡ joined done (single lba slot done.kind) = c.join-done.ensures.run
     ∙ ap (joined done) c.single.ensures in
-    let set_is : c.set.new.self ≡ record p {
-      blocks = set p.blocks slot c.args.bytes.now;
+    let set_is : c.set_block.new.pool ≡ record p {
+      blocks = put_block done.kind slot c.args.bytes.now p.blocks;
       free =
           c.take-slot.new.self.free;
-    } = c.set.ensures
-    ∙ ap (λ (s : Slots). record s { blocks = set s.blocks slot c.args.bytes.now })
+    } = c.set_block.ensures
+    ∙ ap (λ (s : Slots). record s { blocks = put_block done.kind slot c.args.bytes.now s.blocks })
     c.take-slot.ensures.pool in
     let pool_is : c.join-done.new.pool ≡ record p {
-      blocks = set p.blocks slot c.args.bytes.now;
+      blocks = put_block done.kind slot c.args.bytes.now p.blocks;
       free = c.take-slot.new.self.free;
       next = linked p.next done slot;
     }
@@ -78,19 +77,25 @@ returns-in_default-clause-puts c =
     let rest : List Run = ahead_of c.args.runs.now w.run w.at ++ after in
     let skipped = skip-maximal c.args.runs.now after w.run w.at lba h.after k
     (sym c.run_at.ensures ∙ c.in_default.is) in
+    let block = c.args.bytes.now in
+    let bs = put_block done.kind slot block p.blocks in
+    let len = put-length done.kind slot block p.blocks in
+    let same = put-others done.kind slot block p.blocks in
+    let seen = put-seen done.kind slot block p.blocks (slot-taken before done rest p lba slot
+    c.take-slot.new.self.free h c.take-slot.ensures.free) in
     record {
       writing = rw (run_is, pool_is) (new-writing before done rest p lba slot
-          c.take-slot.new.self.free c.args.bytes.now h c.take-slot.ensures.free skipped);
+          c.take-slot.new.self.free bs (mapping_as done.kind block) h c.take-slot.ensures.free len same seen skipped);
       contents = ap₂ (λ (r : Run) (s : Slots). chained_contents (before ++ r ∷ rest) s) run_is
           pool_is
-          ∙ new-contents before done rest p lba slot c.take-slot.new.self.free c.args.bytes.now h
-          c.take-slot.ensures.free skipped;
+          ∙ new-contents before done rest p lba slot c.take-slot.new.self.free bs (mapping_as done.kind block) h
+          c.take-slot.ensures.free len same seen skipped;
       keeps = subst (λ (r : Run). KeepSlots p.next (before ++ done ∷ rest)
           c.join-done.new.pool.next (before ++ r ∷ rest)) (sym run_is)
           (subst (λ (s : Slots). KeepSlots p.next (before ++ done ∷ rest) s.next
-          (before ++ joined done (single lba slot Data) ∷ rest)) (sym pool_is)
-          (new-keeps before done rest p lba slot c.take-slot.new.self.free c.args.bytes.now h
-          c.take-slot.ensures.free skipped));
+          (before ++ joined done (single lba slot done.kind) ∷ rest)) (sym pool_is)
+          (new-keeps before done rest p lba slot c.take-slot.new.self.free bs (mapping_as done.kind block) h
+          c.take-slot.ensures.free len same seen skipped));
     }
 
 -- the address is mapped
@@ -98,8 +103,8 @@ here : (runs after : List Run) (run : Option Run) (found : Run) (at : ℕ) → r
     → ahead_of runs run at ++ after ≡ found ∷ (drop at runs ++ after)
 here runs after run found at e = ap (λ o. ahead_of runs o at ++ after) e
 
-pub set-requires-2-clause-slot : goal.set-requires-2-clause-slot
-set-requires-2-clause-slot c =
+pub set_block-requires-2-clause-slot : goal.set_block-requires-2-clause-slot
+set_block-requires-2-clause-slot c =
     let x = c.requires.writing in
     let p = c.args.pool.now in
     let w = c.args.progress.walk in
@@ -126,7 +131,7 @@ join-done-requires-2-clause-slot c =
     let x = c.requires.writing in
     let p = c.args.pool.now in
     let w = c.args.progress.walk in
-    let next : c.set-2.new.self.next ≡ p.next = ap (λ (s : Slots). s.next) c.set-2.ensures
+    let next : c.set_block-2.new.pool.next ≡ p.next = ap (λ (s : Slots). s.next) c.set_block-2.ensures
     ∙ ap (λ (s : Slots). s.next) c.pass-walk.ensures.pool in
     λ pos. rw next ((done-last x.0 c.args.progress.done
     (ahead_of c.args.runs.now w.run w.at ++ x.1) p c.args.lba x.2 pos).0)
@@ -136,7 +141,7 @@ join-done-requires-2-clause-used c =
     let x = c.requires.writing in
     let p = c.args.pool.now in
     let w = c.args.progress.walk in
-    let free : c.set-2.new.self.free ≡ p.free = ap (λ (s : Slots). s.free) c.set-2.ensures
+    let free : c.set_block-2.new.pool.free ≡ p.free = ap (λ (s : Slots). s.free) c.set_block-2.ensures
     ∙ ap (λ (s : Slots). s.free) c.pass-walk.ensures.pool in
     λ pos. rw free ((done-last x.0 c.args.progress.done
     (ahead_of c.args.runs.now w.run w.at ++ x.1) p c.args.lba x.2 pos).1)
@@ -152,33 +157,42 @@ returns-clause-puts c =
     let now = c.pass-walk.new.pool in
     let more : List Run = ahead_of runs c.pass-walk.result.run c.pass-walk.result.at in
     let is = sym c.run_at.ensures ∙ c.in-Some.is in
-    let run_is : c.join-done-2.result ≡ joined done (single lba found.first Data) =
+    let run_is : c.join-done-2.result ≡ joined done (single lba found.first done.kind) =
     c.join-done-2.ensures.run ∙ ap (joined done) c.single-2.ensures in
     let pool_is : c.join-done-2.new.pool ≡ record now {
       blocks =
-          set now.blocks found.first c.args.bytes.now;
+          put_block done.kind found.first c.args.bytes.now now.blocks;
       next = linked now.next done found.first;
     }
     = c.join-done-2.ensures.pool
     ∙ ap₂ (λ (s : Slots) (o : Run). record s { next = linked s.next done o.first })
-    c.set-2.ensures c.single-2.ensures in
+    c.set_block-2.ensures c.single-2.ensures in
     λ before after h k.
     let rest : List Run = ahead_of runs w.run w.at ++ after in
+    let block = c.args.bytes.now in
+    let bs = put_block done.kind found.first block now.blocks in
+    let len = put-length done.kind found.first block now.blocks in
+    let same = put-others done.kind found.first block now.blocks in
+    let t = there w.run lba found is in
+    let low = slot-there before done found (drop w.at runs ++ after) p lba
+    (rw (here runs after w.run found w.at t.0) at h) in
+    let blocks = ap (λ (s : Slots). s.blocks) c.pass-walk.ensures.pool in
+    let seen = put-seen done.kind found.first block now.blocks (rw blocks low) in
     record {
       writing = rw (run_is, pool_is)
           (walked-writing before after runs more done found w.run w.at p now lba
-          (now.links - p.links) c.args.bytes.now h is c.pass-walk.ensures.pool
-          c.pass-walk.ensures.ahead);
+          (now.links - p.links) bs (mapping_as done.kind block) h is c.pass-walk.ensures.pool
+          c.pass-walk.ensures.ahead len same seen);
       contents = ap₂ (λ (r : Run) (s : Slots). chained_contents
           (before ++ r ∷ (more ++ after)) s) run_is pool_is
           ∙ walked-contents before after runs more done found w.run w.at p now lba
-          (now.links - p.links) c.args.bytes.now h is c.pass-walk.ensures.pool
-          c.pass-walk.ensures.ahead;
+          (now.links - p.links) bs (mapping_as done.kind block) h is c.pass-walk.ensures.pool
+          c.pass-walk.ensures.ahead len same seen;
       keeps = subst (λ (r : Run). KeepSlots p.next (before ++ done ∷ rest)
           c.join-done-2.new.pool.next (before ++ r ∷ (more ++ after))) (sym run_is)
           (subst (λ (s : Slots). KeepSlots p.next (before ++ done ∷ rest) s.next
-          (before ++ joined done (single lba found.first Data) ∷ (more ++ after))) (sym pool_is)
+          (before ++ joined done (single lba found.first done.kind) ∷ (more ++ after))) (sym pool_is)
           (walked-keeps before after runs more done found w.run w.at p now lba
-          (now.links - p.links) c.args.bytes.now h is c.pass-walk.ensures.pool
-          c.pass-walk.ensures.ahead));
+          (now.links - p.links) bs (mapping_as done.kind block) h is c.pass-walk.ensures.pool
+          c.pass-walk.ensures.ahead len same seen));
     }

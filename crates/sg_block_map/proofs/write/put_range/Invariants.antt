@@ -1,12 +1,12 @@
 use Rattle.std.proofs.Common.{◌≡◌, ◌+◌, ◌≤◌, ◌++◌, ◌∷◌, take, drop, length}
 use Rattle.std.specs.Prelude.{option_to_list}
-use Rattle.sg_store.specs.Disk.{replaced}
+use Rattle.sg_store.specs.Disk.{remapped}
 use Rattle.sg_pool.specs.Source.{block_of}
 use Rattle.sg_block_map.specs.Gathering.{AreNear, end_index}
-use Rattle.sg_block_map.specs.Joining.{IsWriting, KeepSlots}
+use Rattle.sg_block_map.specs.Joining.{mapping_as, IsWriting, KeepSlots}
 use Rattle.sg_block_map.specs.Runs.{chained_contents, blocks_of}
 use Rattle.sg_block_map.specs.Walking.{ahead_of}
-use Rattle.sg_block_map.proofs.write.write_runs.Given as goal
+use Rattle.sg_block_map.proofs.write.put_range.Given as goal
 
 -- the blocks so far are written
 abbrev pub invariant-loop-i : goal.invariant-loop-i
@@ -19,10 +19,12 @@ invariant-loop-i l =
     record {
       writing : IsWriting before l.progress.done (ahead ++ after) l.pool (l.lba + l.i);
       contents : chained_contents (before ++ l.progress.done ∷ (ahead ++ after)) l.pool ≡
-          replaced (chained_contents rs old) l.lba l.i (block_of l.source);
+          remapped (chained_contents rs old) l.lba l.i
+          (λ index. mapping_as l.fn.kind (block_of l.source index));
       keeps : KeepSlots old.next rs l.pool.next (before ++ l.progress.done ∷ (ahead ++ after));
       near : AreNear 0 (l.lba + l.count) ahead;
       start : l.progress.done.start ≤ l.lba;
+      kind : l.progress.done.kind ≡ l.fn.kind;
       length : length l.pool.next ≡ length old.next;
       rise : old.links ≤ l.pool.links;
       links : l.pool.links + blocks_of ahead ≤ old.links + blocks_of l.gathered.records;

@@ -1,13 +1,13 @@
 use Rattle.std.proofs.Common.{◌≡◌, ℕ, ◌+◌, ap, sym, subst, ◌∙◌, arith}
 use Rattle.std.specs.FinMap as map'
 use Rattle.sg_store.specs.Disk.{Contents, IsWellFormed, remapped, used_among}
-use Rattle.sg_store.specs.Disk.Mapping.{Data}
 use Rattle.sg_store.specs.Meter.{Meter}
 use Rattle.sg_pool.specs.MappedRecords.{slot_numbers}
 use Rattle.sg_pool.specs.Source.{block_of}
 use Rattle.sg_table.specs.Table.{Table}
 use Rattle.sg_store.specs.declared.store.TheConstants.{MAX_CAPACITY}
 use Rattle.sg_table.specs.Draft.{Drafted}
+use Rattle.sg_block_map.specs.Joining.{mapping_as}
 use Rattle.sg_block_map.specs.RunCost.{CostsRange}
 use Rattle.sg_block_map.specs.Runs.{expanded, chained_contents}
 use Rattle.sg_block_map.specs.State.{disk_of, meter_at, slot_map}
@@ -15,16 +15,16 @@ use Rattle.sg_store.proofs.DiskLemmas.{remapped-none}
 use Rattle.sg_store.proofs.WellFormedLemmas.{well_formed-remapped}
 use Rattle.sg_block_map.proofs.CutRunsLemmas.{runs-fit, gathered-blocks}
 use Rattle.sg_block_map.proofs.StoreLemmas.{runs-ahead, gathered-mapped}
-use Rattle.sg_block_map.proofs.StoreLemmas.{size, size-replaced}
+use Rattle.sg_block_map.proofs.StoreLemmas.{size, size-replaced, whole-as}
 use Rattle.sg_block_map.proofs.StoreLemmas.{gathered-range, nothing-costs}
-use Rattle.sg_block_map.proofs.block_map.BlockMap.replace.Goals as goal
+use Rattle.sg_block_map.proofs.block_map.BlockMap.remap.Goals as goal
 
 -- no address is written
 pub returns-then-count-eq0-clause-space : goal.returns-then-count-eq0-clause-space
 returns-then-count-eq0-clause-space c =
     let s = c.args.self.now in
     let was : Contents = chained_contents s.table.records s.pool in
-    let f = λ (index : ℕ). Data (block_of c.args.source.now index) in
+    let f = λ (index : ℕ). mapping_as c.args.kind (block_of c.args.source.now index) in
     let none = ap (λ k. map'.len (remapped was c.args.lba k f)) c.if-count-eq0.true
     ∙ ap map'.len (remapped-none was c.args.lba f) in
     let all = size s.table.records s.pool s.table.room s.runs in
@@ -34,7 +34,7 @@ pub returns-then-count-eq0-clause-ok : goal.returns-then-count-eq0-clause-ok
 returns-then-count-eq0-clause-ok c =
     let s = c.args.self.now in
     let was : Contents = chained_contents s.table.records s.pool in
-    let f = λ (index : ℕ). Data (block_of c.args.source.now index) in
+    let f = λ (index : ℕ). mapping_as c.args.kind (block_of c.args.source.now index) in
     let none = ap (λ k. remapped was c.args.lba k f) c.if-count-eq0.true
     ∙ remapped-none was c.args.lba f in
     ap (λ m. record { capacity = s.capacity; pool = s.table.room; contents = m }) (sym none)
@@ -74,7 +74,7 @@ pub returns-then-from-free_count-clause-space : goal.returns-then-from-free_coun
 returns-then-from-free_count-clause-space c =
     let s = c.args.self.now in
     let grown = size-replaced s.table.records s.pool s.table.room c.args.lba c.args.count
-    (λ index. Data (block_of c.args.source.now index)) s.runs in
+    (λ index. mapping_as c.args.kind (block_of c.args.source.now index)) s.runs in
     let mapped = gathered-mapped s.table.records s.pool s.table.room c.gather.new.gathered
     c.args.lba c.args.count s.runs c.gather.ensures.gathered in
     let value = rw c.records.ensures at c.used_in-used.ensures.value in
@@ -126,13 +126,14 @@ invariant_of-self-2-clause-well_formed c =
     let before = subst (IsWellFormed s.capacity) (sym same) s.well_formed in
     subst (IsWellFormed s.capacity) (sym c.write_runs.ensures.contents)
     (well_formed-remapped s.capacity _ c.args.lba c.args.count
-    (λ index. Data (block_of c.args.source.now index)) before c.requires.range c.requires.blocks)
+    (λ index. mapping_as c.args.kind (block_of c.args.source.now index)) before c.requires.range
+    (λ i lt. whole-as c.args.kind (block_of c.args.source.now i) (c.requires.blocks i lt)))
 
 pub returns-clause-space : goal.returns-clause-space
 returns-clause-space c =
     let s = c.args.self.now in
     let grown = size-replaced s.table.records s.pool s.table.room c.args.lba c.args.count
-    (λ index. Data (block_of c.args.source.now index)) s.runs in
+    (λ index. mapping_as c.args.kind (block_of c.args.source.now index)) s.runs in
     let mapped = gathered-mapped s.table.records s.pool s.table.room c.gather.new.gathered
     c.args.lba c.args.count s.runs c.gather.ensures.gathered in
     let value = rw c.records.ensures at c.used_in-used.ensures.value in
