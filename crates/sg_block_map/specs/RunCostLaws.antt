@@ -253,3 +253,32 @@ used-meets contents lba count (suc n) le some =
 pub block_least-positive : (contents : Contents) (lba count : ℕ)
     → 0 < used_among contents lba count → 0 < block_least contents lba count
 block_least-positive contents lba count some = used-meets contents lba count count (omega arith) some
+
+-- What passes one test passes one of two others.
+count-two : {X : Type 0} (p q r : X → Bool) (xs : List X)
+    → ((x : X) → cond {A = ℕ} (p x) 1 0 ≤ cond (q x) 1 0 + cond (r x) 1 0)
+    → count_by p xs ≤ count_by q xs + count_by r xs
+count-two p q r [] h = omega arith
+count-two p q r (x ∷ xs) h = omega (
+  arith,
+  h x,
+  count-two p q r xs h,
+  count-more p x xs,
+  count-more q x xs,
+  count-more r x xs,
+)
+
+joined_range : (a n offset more : ℕ) → offset ≤ n → (run : Extent)
+    → cond {A = ℕ} (meets a (max n (offset + more)) run) 1 0
+    ≤ cond (meets a n run) 1 0 + cond (meets (a + offset) more run) 1 0
+joined_range a n offset more le run = grind (arith, nat_tests)
+
+-- Two ranges that overlap or touch cost at most as much joined as they cost together.
+pub block_price-joined : (contents : Contents) (lba count offset more : ℕ) → offset ≤ count
+    → block_price contents lba (max count (offset + more))
+    ≤ block_price contents lba count + block_price contents (lba + offset) more
+unfolding meet
+block_price-joined contents lba count offset more le =
+    let n = count-two (meets lba (max count (offset + more))) (meets lba count)
+    (meets (lba + offset) more) (runs contents) (joined_range lba count offset more le) in
+    omega arith

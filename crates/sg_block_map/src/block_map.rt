@@ -5,19 +5,19 @@ ghost use Rattle.std.specs.Prelude.{IsErr, OnOk, OnErr};
 ghost use Rattle.std.specs.FinMap.{len};
 ghost use Rattle.sg_store.specs.Disk.{IsWellFormed, IsOverfull, blocks};
 ghost use Rattle.sg_store.specs.Disk.{disk_written, disk_filled, disk_unmapped, disk_anchored};
-ghost use Rattle.sg_store.specs.Disk.{unmapped};
+ghost use Rattle.sg_store.specs.Disk.{data_count, need, unmapped};
 ghost use Rattle.sg_store.specs.LbaStatus.{lba_status, covered, status_data};
 ghost use Rattle.sg_store.specs.Meter.{HasHeadroom, restarted};
 ghost use Rattle.sg_wire.specs.Cut.{Puts};
 ghost use Rattle.sg_block_map.specs.MaximalRuns.{runs};
 ghost use Rattle.sg_block_map.specs.RunCost.{block_price, block_least, CostsRange};
-ghost use Rattle.sg_block_map.specs.RunCostLaws.{block_price-within, block_least-positive};
+ghost use Rattle.sg_block_map.specs.RunCostLaws.{block_price-within, block_price-joined, block_least-positive};
 ghost use Rattle.sg_block_map.specs.Runs.{AreRuns, chained_contents};
 ghost use Rattle.sg_block_map.specs.RunsProps.{AreRuns-IsProp, IsWellFormed-IsProp};
 ghost use Rattle.sg_table.specs.Draft.{empty_draft};
 ghost use Rattle.sg_store.specs.declared.store.TheConstants.{MAX_CAPACITY, MAX_POOL};
 
-use crate::gather::{Gathered, gather, used_in};
+use crate::gather::{Gathered, gather, gather_between, used_between};
 use crate::read::read_runs;
 use crate::status::{cursor_over, write_descriptors};
 use crate::unmap::{renew_slots, unmap_runs};
@@ -64,35 +64,6 @@ impl BlockMap {
         self.table.count()
     }
 
-    /// Anchors the addresses from one on (SBC-3, 4.7.4): each keeps its block of the pool or takes
-    /// one, and reads as zeros from then on. Data there is lost.
-    ///
-    /// # Errors
-    /// More addresses would have a block than the pool has. Nothing is anchored then.
-    pub fn anchor(&mut self, lba: u64, count: u32) -> Result<(), Space>
-        requires range { lba + count ≤ (disk_of self.old).capacity }
-        requires headroom { HasHeadroom (meter_of self.old).counts }
-
-        // Either the pool has too few blocks and the disk stays as it is, or all are anchored.
-        ensures space { IsErr result ↔ IsOverfull (disk_anchored (disk_of self.old) lba count) }
-        ensures ok { OnOk result (disk_of self.new ≡ disk_anchored (disk_of self.old) lba count) }
-        ensures err { OnErr result (disk_of self.new ≡ disk_of self.old) }
-
-        // Each address that has a slot keeps it.
-        ensures keeps { Keeps (slots_by_address self.old) (slots_by_address self.new) }
-
-        // What the call costs.
-        ensures costs { CostsRange (disk_of self.old) lba count
-            (meter_of self.old) (meter_of self.new) }
-    {
-        self.remap(
-            lba,
-            count,
-            Kind::Anchored,
-            &Source::Repeated(&[0; BLOCK_LENGTH]),
-        )
-    }
-
     // Makes the addresses from one on data, with the blocks of a source, or anchors them.
     //
     // # Errors
@@ -121,7 +92,7 @@ impl BlockMap {
             return Ok(());
         }
         gather(&mut self.table, &mut self.gathered, lba, count);
-        let used = used_in(self.gathered.records(), lba, count);
+        let used = used_between(self.gathered.records(), lba, lba + u64::from(count));
         if u64::from(count) > self.pool.free_count() as u64 + used {
             self.gathered.clear();
             return Err(Space);
@@ -255,6 +226,49 @@ impl Store for BlockMap {
         self.remaining.clear();
     }
 
+    fn anchor(&mut self, lba: u64, count: u32) -> Result<(), Space>
+        requires range { lba + count ≤ (disk_of self.old).capacity }
+        requires headroom { HasHeadroom (meter_of self.old).counts }
+
+        // Either the pool has too few blocks and the disk stays as it is, or all are anchored.
+        ensures space { IsErr result ↔ IsOverfull (disk_anchored (disk_of self.old) lba count) }
+        ensures ok { OnOk result (disk_of self.new ≡ disk_anchored (disk_of self.old) lba count) }
+        ensures err { OnErr result (disk_of self.new ≡ disk_of self.old) }
+
+        // Each address that has a slot keeps it.
+        ensures keeps { Keeps (slots_by_address self.old) (slots_by_address self.new) }
+
+        // What the call costs.
+        ensures costs { CostsRange (disk_of self.old) lba count
+            (meter_of self.old) (meter_of self.new) }
+    {
+        self.remap(
+            lba,
+            count,
+            Kind::Anchored,
+            &Source::Repeated(&[0; BLOCK_LENGTH]),
+        )
+    }
+
+    fn need(&mut self, lba: u64, count: u64) -> u64
+        requires range { lba + count ≤ (disk_of self.old).capacity }
+        requires headroom { HasHeadroom (meter_of self.old).counts }
+
+        ensures value { result ≡ need (disk_of self.old).contents lba count }
+        ensures disk { disk_of self.new ≡ disk_of self.old }
+        ensures keeps { slots_by_address self.new ≡ slots_by_address self.old }
+
+        // What the call costs.
+        ensures costs { CostsRange (disk_of self.old) lba count
+            (meter_of self.old) (meter_of self.new) }
+    {
+        let high = lba + count;
+        gather_between(&mut self.table, &mut self.gathered, lba, high);
+        let used = used_between(self.gathered.records(), lba, high);
+        self.gathered.clear();
+        count - used
+    }
+
     fn status(&mut self, lba: u64, cut: &mut Cut)
         requires address { lba < (disk_of self.old).capacity }
         requires headroom { HasHeadroom (meter_of self.old).counts }
@@ -277,6 +291,12 @@ impl Store for BlockMap {
     }
 
     fn mapped(&self) -> u32
+        ensures value { result ≡ data_count (disk_of self.now).contents }
+    {
+        (self.pool.count() - self.pool.free_count()) as u32
+    }
+
+    fn used(&self) -> u32
         ensures value { result ≡ len (disk_of self.now).contents }
         ensures within { result ≤ (disk_of self.now).pool }
         ensures well_formed { IsWellFormed (disk_of self.now).capacity (disk_of self.now).contents }
@@ -307,4 +327,6 @@ impl Store for BlockMap {
     ghost price_within = { block_price-within };
 
     ghost least_positive = { block_least-positive };
+
+    ghost price_joined = { block_price-joined };
 }

@@ -67,6 +67,25 @@ fn gather_from(table: &mut RunTable, gathered: &mut Gathered, index: usize, high
     }
 }
 
+/// Gathers the runs that meet or touch the range from an address to another.
+pub(crate) fn gather_between(table: &mut RunTable, gathered: &mut Gathered, low: u64, high: u64)
+    requires runs { AreMaximal 0 (MAX_CAPACITY + 1) table.old.records }
+    requires room { HaveRoom table.old gathered.old }
+    requires range { (low ≤ high) × (high ≤ MAX_CAPACITY) }
+    requires headroom { (table.old.probes ≤ MAX_COUNT) × (table.old.visits ≤ MAX_COUNT) }
+
+    ensures gathered { AreGathered table.old.records gathered.new low high (MAX_CAPACITY + 1) }
+    ensures room { gathered.new.room ≡ gathered.old.room }
+
+    // The gathered records are visited, and at most two more than the runs that begin in the range.
+    ensures visits { SearchesAndVisits (length gathered.new.records)
+        (count_by (starts_in low high) table.old.records + 2) table.old table.new }
+{
+    let index = table.lower_bound(low);
+    gather_before(table, gathered, index, low);
+    gather_from(table, gathered, index, high);
+}
+
 /// Gathers the runs that meet or touch the range from an address on.
 pub(crate) fn gather(table: &mut RunTable, gathered: &mut Gathered, lba: u64, count: u32)
     requires runs { AreMaximal 0 (MAX_CAPACITY + 1) table.old.records }
@@ -82,24 +101,20 @@ pub(crate) fn gather(table: &mut RunTable, gathered: &mut Gathered, lba: u64, co
     ensures visits { SearchesAndVisits (length gathered.new.records)
         (count_by (starts_in lba (lba + count)) table.old.records + 2) table.old table.new }
 {
-    let index = table.lower_bound(lba);
-    gather_before(table, gathered, index, lba);
-    gather_from(table, gathered, index, lba + u64::from(count));
+    gather_between(table, gathered, lba, lba + u64::from(count));
 }
 
-/// How many of the addresses from one on the runs have.
-pub(crate) fn used_in(runs: &[Run], lba: u64, count: u32) -> u64
+/// How many of the addresses from one to another the runs have.
+pub(crate) fn used_between(runs: &[Run], low: u64, high: u64) -> u64
     requires fits { blocks_of runs.now ≤ MAX_POOL }
     requires runs { AreApart 0 MAX_CAPACITY runs.now }
-    requires range { lba + count ≤ MAX_CAPACITY }
-    ensures value { result ≡ sum_by (overlap lba (lba + count)) runs.now }
+    ensures value { result ≡ sum_by (overlap low high) runs.now }
     ensures fits { result ≤ MAX_POOL }
 {
-    let high = lba + u64::from(count);
     let mut used = 0;
     for run in runs {
         let end = (run.start + u64::from(run.count)).min(high);
-        used += end.saturating_sub(run.start.max(lba));
+        used += end.saturating_sub(run.start.max(low));
     }
     used
 }

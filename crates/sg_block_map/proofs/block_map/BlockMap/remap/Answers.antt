@@ -53,8 +53,8 @@ gather-requires-clause-room c =
       room = ap (λ (d : Drafted). d.room) s.gathered_empty;
     }
 
-pub used_in-used-requires-clause-fits : goal.used_in-used-requires-clause-fits
-used_in-used-requires-clause-fits c =
+pub used_between-used-requires-clause-fits : goal.used_between-used-requires-clause-fits
+used_between-used-requires-clause-fits c =
     let s = c.args.self.now in
     let lba = c.args.lba in
     let blocks = gathered-blocks s.table.records c.gather.new.gathered s.pool s.table.room lba
@@ -62,8 +62,8 @@ used_in-used-requires-clause-fits c =
     (MAX_CAPACITY + 1) s.runs c.gather.ensures.gathered in
     rw c.records.ensures (omega (arith, blocks, s.pool_fits))
 
-pub used_in-used-requires-clause-runs : goal.used_in-used-requires-clause-runs
-used_in-used-requires-clause-runs c =
+pub used_between-used-requires-clause-runs : goal.used_between-used-requires-clause-runs
+used_between-used-requires-clause-runs c =
     let s = c.args.self.now in
     rw c.records.ensures (runs-ahead s.table.records s.pool s.table.room c.gather.new.gathered
     c.args.lba c.args.count
@@ -77,7 +77,7 @@ returns-then-from-free_count-clause-space c =
     (λ index. mapping_as c.args.kind (block_of c.args.source.now index)) s.runs in
     let mapped = gathered-mapped s.table.records s.pool s.table.room c.gather.new.gathered
     c.args.lba c.args.count s.runs c.gather.ensures.gathered in
-    let value = rw c.records.ensures at c.used_in-used.ensures.value in
+    let value = rw (c.records.ensures, c.from.ensures) at c.used_between-used.ensures.value in
     (λ _. omega arith, λ _. cc)
 
 pub returns-then-from-free_count-clause-keeps : goal.returns-then-from-free_count-clause-keeps
@@ -112,7 +112,7 @@ write_runs-requires-clause-free c =
     let count = c.args.count in
     let mapped = gathered-mapped s.table.records s.pool s.table.room c.gather.new.gathered lba count
     s.runs c.gather.ensures.gathered in
-    let value = rw c.records.ensures at c.used_in-used.ensures.value in
+    let value = rw (c.records.ensures, c.from.ensures) at c.used_between-used.ensures.value in
     let same = ap (λ (t : Table). used_among (chained_contents t.records s.pool) lba count)
     c.gather.ensures.visits.table in
     omega arith
@@ -136,7 +136,7 @@ returns-clause-space c =
     (λ index. mapping_as c.args.kind (block_of c.args.source.now index)) s.runs in
     let mapped = gathered-mapped s.table.records s.pool s.table.room c.gather.new.gathered
     c.args.lba c.args.count s.runs c.gather.ensures.gathered in
-    let value = rw c.records.ensures at c.used_in-used.ensures.value in
+    let value = rw (c.records.ensures, c.from.ensures) at c.used_between-used.ensures.value in
     (λ wrong. cc, λ more. absurd (omega arith))
 
 pub returns-clause-keeps : goal.returns-clause-keeps

@@ -2,7 +2,7 @@ use Rattle.std.proofs.Common.{◌+◌, sym, arith}
 use Rattle.sg_store.specs.declared.store.TheConstants.{MAX_CAPACITY}
 use Rattle.sg_block_map.proofs.MaximalLemmas.{runs-extents}
 use Rattle.sg_block_map.proofs.StoreLemmas.{size}
-use Rattle.sg_block_map.proofs.block_map.BlockMapStore.mapped.Goals as goal
+use Rattle.sg_block_map.proofs.block_map.BlockMapStore.used.Goals as goal
 
 pub returns-clause-value : goal.returns-clause-value
 returns-clause-value c =

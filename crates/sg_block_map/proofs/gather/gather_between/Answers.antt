@@ -3,7 +3,7 @@ use Rattle.sg_table.specs.Table.{Table}
 use Rattle.sg_store.specs.declared.store.TheConstants.{MAX_CAPACITY}
 use Rattle.sg_block_map.proofs.OrderLemmas.{maximal-sorted}
 use Rattle.sg_block_map.proofs.GatheringLemmas.{all-gathered, count-starts, searched-visits}
-use Rattle.sg_block_map.proofs.gather.gather.Goals as goal
+use Rattle.sg_block_map.proofs.gather.gather_between.Goals as goal
 
 pub lower_bound-index-requires-clause-sorted : goal.lower_bound-index-requires-clause-sorted
 lower_bound-index-requires-clause-sorted c = maximal-sorted c.args.table.now.records 0
@@ -35,13 +35,11 @@ returns-clause-gathered c =
     let two : c.gather_before.new.table.records ≡ rs =
     ap (λ (t : Table). t.records) c.gather_before.ensures.visits.table ∙ one in
     let begun = rw one at c.gather_before.ensures.gathered in
-    let high : c.args.lba + c.from.result ≡ c.args.lba + c.args.count =
-    ap (λ x. c.args.lba + x) c.from.ensures in
-    let on = rw (two, high) at c.gather_from.ensures.gathered in
+    let on = rw two at c.gather_from.ensures.gathered in
     all-gathered rs c.gather_before.new.gathered c.gather_from.new.gathered
-    c.lower_bound-index.result c.args.lba (c.args.lba + c.args.count) (MAX_CAPACITY + 1) begun index
-    (omega arith) on.from on.order on.within on.same on.near on.after c.requires.runs
-    (omega (arith, c.requires.range))
+    c.lower_bound-index.result c.args.low c.args.high (MAX_CAPACITY + 1) begun index
+    c.requires.range.0 on.from on.order on.within on.same on.near on.after c.requires.runs
+    (omega (arith, c.requires.range.1))
 
 pub returns-clause-visits : goal.returns-clause-visits
 returns-clause-visits c =
@@ -51,13 +49,11 @@ returns-clause-visits c =
     let one = ap (λ (t : Table). t.records) e.table in
     let two : c.gather_before.new.table.records ≡ rs =
     ap (λ (t : Table). t.records) c.gather_before.ensures.visits.table ∙ one in
-    let high : c.args.lba + c.from.result ≡ c.args.lba + c.args.count =
-    ap (λ x. c.args.lba + x) c.from.ensures in
-    let starts = count-starts rs index c.args.lba (c.args.lba + c.args.count) e.index.after in
+    let starts = count-starts rs index c.args.low c.args.high e.index.after in
     let all = searched-visits c.args.table.now c.lower_bound-index.new.self
     c.gather_before.new.table c.gather_from.new.table _ _ _ _ e.table e.probes_rise e.search
     c.gather_before.ensures.visits c.gather_from.ensures.visits in
-    let most = rw (two, high) at all.most_visits in
+    let most = rw two at all.most_visits in
     let on = c.gather_from.ensures.gathered in
     let begun = c.gather_before.ensures.gathered in
     let from = on.from in
