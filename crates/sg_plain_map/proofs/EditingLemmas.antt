@@ -205,7 +205,8 @@ module _ {rs : List Run} {room : ℕ} {slots : Slots} {draft : Drafted} {cursor 
     slot-there = have_slots now slots.blocks slots.free room h.consistent at run there.0 there.1
 
     pub mapped-there : used_at (contents slots draft cursor) lba ≡ 1
-    mapped-there = one_used (mapping_in slots.blocks) now at lba run h.consistent.sorted there.0 (sym there.1) here.2
+    mapped-there =
+        one_used (mapping_in slots.blocks) now at lba run h.consistent.sorted there.0 (sym there.1) here.2
 
     module _ (slots' : Slots) (draft' : Drafted) (x : Mapping) (kind : Kind) (cursor' : Cursor)
         (free : slots'.free ≡ slots.free)

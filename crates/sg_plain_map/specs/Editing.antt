@@ -102,7 +102,7 @@ pub record HasRoom (table : Table) (slots : Slots) (draft : Drafted) (cursor : C
   pub table_size : length table.records ≤ MAX_POOL
 
 -- An address is passed, which has a slot or not, and its record drafted: the cursor goes past the
--- record that it has, and else a slot is taken. It is drafted with a kind, which it may have already.
+-- record that it has, and else a slot is taken. It is drafted with a kind.
 pub record Drafts (records : List Run) (lba used : ℕ) (kind : Kind) (cursor cursor' : Cursor)
     (slots slots' : Slots) (draft draft' : Drafted) : Type 0 where
   pub index : cursor'.index ≡ cursor.index + used

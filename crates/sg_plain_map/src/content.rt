@@ -1,4 +1,4 @@
-// What the addresses of a range are to have, for each the same way. It knows no address and no record.
+// What the addresses of a range are to have. It knows no address and no record.
 ghost use Rattle.std.specs.Prelude.{◌≡◌, ◌<◌, length, true};
 ghost use Rattle.sg_store.specs.Disk.{IsWhole};
 ghost use Rattle.sg_plain_map.specs.Content.{data_for, filled_slot, kind_for, mapping_for};
@@ -47,8 +47,8 @@ impl Content<'_> {
         }
     }
 
-    /// Puts the block for an index of the range into a slot. What an anchored slot holds stays there,
-    /// and is not seen.
+    /// Puts the block for an index of the range into a slot. What the slot of an anchored address
+    /// holds stays there, and is not seen.
     pub(crate) fn fill(&self, pool: &mut Pool, slot: u32, index: usize)
         requires slot { slot < length pool.old.blocks }
         requires whole { IsWhole (mapping_for self.now index) }

@@ -1,4 +1,4 @@
-//! The reference store, for tests: each address that has a block of the pool has a record of its own.
+//! The reference store, for tests: each mapped or anchored address has a record of its own.
 #![tactic(auto)]
 
 mod content;

@@ -1,5 +1,5 @@
-// The store itself: a record for each address that is mapped or anchored, in a table, and its block in a
-// slot of a pool. What its calls do to the records is in the other files.
+// The store itself: a record for each mapped or anchored address, in a table, and its block in a slot
+// of a pool. What its calls do to the records is in the other files.
 ghost use Rattle.std.specs.Prelude.{◌≡◌, ◌+◌, ◌≤◌, ◌↔◌, IsErr, OnOk, OnErr};
 ghost use Rattle.std.proofs.Props.{props};
 ghost use Rattle.sg_store.specs.Disk.{IsWellFormed, IsOverfull};

@@ -1,5 +1,5 @@
-// The descriptors of GET LBA STATUS one by one: records of one kind with addresses in a row, and the
-// gaps between them. It knows no slot and no block.
+// The descriptors of GET LBA STATUS one by one: records of one kind with addresses in a row, and
+// the gaps between them. It knows no slot and no block.
 ghost use Rattle.std.specs.Prelude.{◌≡◌, ℕ, ◌+◌, ◌-◌, ◌<◌, ◌≤◌, List, None};
 ghost use Rattle.sg_store.specs.LbaStatus.{covered, descriptor_at, descriptors_from};
 ghost use Rattle.sg_store.specs.LbaStatus.{PutsDescriptors};

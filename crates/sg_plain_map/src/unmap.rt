@@ -9,8 +9,8 @@ use crate::write::data_count;
 use sg_pool::Pool;
 use sg_table::RunTable;
 
-/// Frees the slots of a range, and removes its records, which are those from one index to another. It
-/// returns how many had data.
+/// Frees the slots of a range and removes its records, which are those from one index to another.
+/// Returns how many had data.
 pub(crate) fn unmap_records(
     table: &mut RunTable,
     pool: &mut Pool,

@@ -1,5 +1,5 @@
-// Writing or anchoring a range: the records that it is to have are drafted, and put into the table all
-// at once. That there are slots enough is for the store to know.
+// Writing or anchoring a range: the records that it is to have are drafted, and put into the table at
+// once. That there are slots enough is for the store to know.
 ghost use Rattle.std.specs.Prelude.{◌≡◌, ◌+◌, ◌<◌, ◌≤◌, length};
 ghost use Rattle.std.specs.FinMap.{insert};
 ghost use Rattle.sg_store.specs.Disk.{IsWhole, remapped, used_among};
@@ -79,8 +79,8 @@ fn put_address(
     Cursor::new(table, cursor.index + 1)
 }
 
-/// Gives the addresses from one on what they are to have, of which the records begin at an index, and
-/// returns how many had data. There have to be free slots for those that have none.
+/// Gives the addresses from one on what they are to have, and returns how many had data. Their
+/// records begin at an index. There have to be free slots for the addresses without one.
 pub(crate) fn put_range(
     table: &mut RunTable,
     pool: &mut Pool,
@@ -92,7 +92,8 @@ pub(crate) fn put_range(
 ) -> u32
     requires ready { IsReady table.old pool.old from lba count }
     requires whole { HasMappings content.now count }
-    requires free { count ≤ length pool.old.free + used_among (stored table.old pool.old) lba count }
+    requires free { count ≤ length pool.old.free
+        + used_among (stored table.old pool.old) lba count }
     requires room { (count ≤ draft.old.room) × (draft.old.room ≡ table.old.room) }
 
     // The addresses are remapped, and the table changes by its records, their moves and its visits

@@ -1,5 +1,5 @@
 -- What contracts cite: the records in their order, what a search compares, the table, records that
--- are prepared for it, and what these are made of: leaves in their slots, each of which occurs once.
+-- are prepared for it, and what these are made of: leaves in slots, each of which occurs once.
 pub mod Records
 pub mod Search
 pub mod Table
