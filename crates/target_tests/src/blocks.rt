@@ -25,6 +25,24 @@ fn unmap<S: Store>(store: &mut S, lba: u64, count: u32)
     store.unmap(lba, count);
 }
 
+/// Anchors the addresses from one on.
+fn anchor<S: Store>(store: &mut S, lba: u64, count: u32) -> Result<(), Space>
+    requires { lba + count ≤ (S.disk store.old).capacity }
+    ensures { (S.disk store.new).capacity ≡ (S.disk store.old).capacity }
+{
+    store.restart_counts();
+    store.anchor(lba, count)
+}
+
+/// How many addresses have no block.
+fn need<S: Store>(store: &mut S, lba: u64, count: u64) -> u64
+    requires { lba + count ≤ (S.disk store.old).capacity }
+    ensures { (S.disk store.new).capacity ≡ (S.disk store.old).capacity }
+{
+    store.restart_counts();
+    store.need(lba, count)
+}
+
 /// Reports the provisioning status of the addresses from one on.
 fn report_status<S: Store>(store: &mut S, lba: u64)
     requires { lba < (S.disk store.old).capacity }
@@ -97,5 +115,36 @@ fn an_unmap_and_a_status_visit_the_records_of_their_range(rt: HostRuntime) -> Re
             links: 0
         }
     );
+    Ok(())
+}
+
+// Of the four blocks three are anchored. They read as zeros, and one of them is written: its record is
+// there, and no block is taken. An anchoring that needs two more finds one.
+#[test]
+fn an_anchored_address_has_its_block_before_it_is_written(rt: HostRuntime) -> Result<(), Fail> {
+    let mut disk = PlainMap::make(rt.alloc(), 1000, 4)?;
+    assert_eq!(rt; anchor(&mut disk, 0, 3), Ok(()));
+    assert_eq!(rt; disk.used(), 3);
+    assert_eq!(rt; disk.mapped(), 0);
+    assert_eq!(rt; put(&mut disk, 1, 1, &[0xA1; 512]), Ok(()));
+    assert_eq!(rt; disk.used(), 3);
+    assert_eq!(rt; disk.mapped(), 1);
+    assert_eq!(rt; need(&mut disk, 0, 5), 2);
+    assert_eq!(rt;
+        disk.counts(),
+        Counts {
+            visits: 3,
+            probes: 4,
+            links: 0
+        }
+    );
+    assert_eq!(rt; anchor(&mut disk, 2, 3), Err(Space));
+    assert_eq!(rt; anchor(&mut disk, 0, 4), Ok(()));
+    assert_eq!(rt; disk.used(), 4);
+    assert_eq!(rt; disk.mapped(), 0);
+    let mut bytes = [0xFF; 512];
+    disk.restart_counts();
+    disk.read(1, 1, &mut bytes);
+    assert_eq!(rt; bytes, [0; 512]);
     Ok(())
 }
