@@ -17,4 +17,5 @@ pub mod OverlapLemmas
 pub mod AddressLemmas
 pub mod MeetingLemmas
 pub mod StatusLemmas
+pub mod DataLemmas
 pub mod StoreLemmas

@@ -46,7 +46,7 @@ nothing : entries {X = Mapping} {R = nat_cmp} map'.empty ≡ []
 nothing = nil_from_length (entries {X = Mapping} {R = nat_cmp} map'.empty)
     (sym (len-entries map'.empty) ∙ len-empty nat_cmp Mapping)
 
-entries-contents : (f : Seen) (xs : List Run) (a b : ℕ) → AreBetween a b xs
+pub entries-contents : (f : Seen) (xs : List Run) (a b : ℕ) → AreBetween a b xs
     → entries (contents_by f xs) ≡ entries_by f xs
 entries-contents f [] a b h = nothing
 entries-contents f (x ∷ xs) a b h =
@@ -54,7 +54,7 @@ entries-contents f (x ∷ xs) a b h =
     ∙ ap (put nat_cmp x.start (f x.first x.kind)) (entries-contents f xs (x.start + 1) b h.1)
     ∙ put-first f x xs (f x.first x.kind) b h.1
 
-entries-append : (f : Seen) (xs ys : List Run)
+pub entries-append : (f : Seen) (xs ys : List Run)
     → entries_by f (xs ++ ys) ≡ entries_by f xs ++ entries_by f ys
 entries-append f [] ys = refl
 entries-append f (x ∷ xs) ys = ap (λ es. (x.start, f x.first x.kind) ∷ es) (entries-append f xs ys)

@@ -293,7 +293,7 @@ impl Store for BlockMap {
     fn mapped(&self) -> u32
         ensures value { result ≡ data_count (disk_of self.now).contents }
     {
-        (self.pool.count() - self.pool.free_count()) as u32
+        self.table.data_count() as u32
     }
 
     fn used(&self) -> u32

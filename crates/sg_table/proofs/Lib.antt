@@ -5,6 +5,7 @@ pub mod OccurrenceLemmas
 pub mod SpliceLemmas
 pub mod TableLemmas
 pub mod HalvingLemmas
+pub mod DataLemmas
 -- For the table alone: its leaves, and the search of them.
 pub mod GhostNumberSteps
 pub mod LeafListLemmas

@@ -3,6 +3,7 @@ use Rattle.std.specs.Prelude.{◌≡◌, ℕ, ◌+◌, ◌<◌, ◌≤◌, zero,
 use Rattle.std.specs.Prelude.{Option, Some, None, if◌then◌else◌, ◌==◌}
 use Rattle.sg_table.specs.declared.cursor.Cursor.{Cursor}
 use Rattle.sg_table.specs.declared.run.Kind.{Kind}
+use Rattle.sg_table.specs.declared.run.Kind.TheVariants.{Data, Anchored}
 use Rattle.sg_table.specs.declared.run.Run.{Run}
 
 -- A record of one address.
@@ -13,6 +14,16 @@ single start slot kind =
 -- A record whose slots hold something else.
 abbrev pub with_kind : Kind → Run → Run
 with_kind kind run = record run { kind = kind }
+
+-- How many addresses of a record have data, by its kind and its count, and how many those of
+-- records.
+abbrev pub count_if_data : Kind → (count : ℕ) → ℕ
+count_if_data Data count = count
+count_if_data Anchored count = 0
+
+abbrev pub data_in : List Run → ℕ
+data_in [] = 0
+data_in (run ∷ records) = count_if_data run.kind run.count + data_in records
 
 -- The address of the record at an index.
 abbrev pub start_of : List Run → ℕ → ℕ

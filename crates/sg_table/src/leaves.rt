@@ -11,6 +11,7 @@ ghost use Rattle.std.specs.List.{All};
 ghost use Rattle.std.specs.List.{splice as splice_list};
 ghost use Rattle.sg_table.specs.Leaves.{FitsLeaf, IsLeafOf, IsPlace, IsSpan, addresses};
 ghost use Rattle.sg_table.specs.Leaves.{count_before, first_addresses, joined, leaf_at};
+ghost use Rattle.sg_table.specs.Records.{data_in};
 
 use crate::ghost_number::GhostNumber;
 use crate::leaf::MAX_LEAF;
@@ -160,6 +161,17 @@ impl Leaves {
         ensures { result ≡ length (joined self.now.leaves) }
     {
         self.starts[self.starts.len() - 1] as usize
+    }
+
+    /// How many addresses of all records have data.
+    pub(crate) fn data_count(&self) -> u64
+        ensures { result ≡ data_in (joined self.now.leaves) }
+    {
+        let mut data = 0;
+        for index in 0..self.used() {
+            data += self.leaves.leaf(index).data_count();
+        }
+        data
     }
 
     /// How many leaves there are.

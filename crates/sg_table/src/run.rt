@@ -1,7 +1,7 @@
 // A record of the table: addresses in a row. It knows no order, and of its slots no more than their
 // numbers.
-ghost use Rattle.std.specs.Prelude.{◌≡◌};
-ghost use Rattle.sg_table.specs.Records.{single};
+ghost use Rattle.std.specs.Prelude.{◌≡◌, ◌≤◌};
+ghost use Rattle.sg_table.specs.Records.{count_if_data, single};
 
 /// What the addresses of a run have in their slots.
 #[derive(Clone, Copy, Default, PartialEq)]
@@ -39,6 +39,17 @@ impl Run {
             first: slot,
             last: slot,
             kind,
+        }
+    }
+
+    /// How many of its addresses have data.
+    pub(crate) fn data_count(self) -> u64
+        ensures value { result ≡ count_if_data self.kind self.count }
+        ensures fits { result ≤ u32.MAX }
+    {
+        match self.kind {
+            Kind::Data => u64::from(self.count),
+            Kind::Anchored => 0,
         }
     }
 }

@@ -1,7 +1,7 @@
 // The table of records: what is read of it is counted here, and nowhere else. Where its records lie is
 // for the leaves to know.
 ghost use Rattle.std.specs.Prelude.{◌≡◌, ◌+◌, ◌-◌, ◌<◌, ◌≤◌, length, slice_index_or, IfOk};
-ghost use Rattle.sg_table.specs.Records.{start_of, IsSorted, IsLowerBound};
+ghost use Rattle.sg_table.specs.Records.{data_in, start_of, IsSorted, IsLowerBound};
 ghost use Rattle.sg_table.specs.Search.{CostsSearch};
 ghost use Rattle.sg_table.specs.Table.{new_table, visited, probed, search_bound, restarted_table};
 ghost use Rattle.sg_table.specs.Leaves.{move_bound};
@@ -93,6 +93,14 @@ impl RunTable {
         ensures { result ≡ self.now.probes }
     {
         self.probes
+    }
+
+    /// How many addresses of the records have data. No record is returned, and so none is visited:
+    /// this is for whoever shows a disk, and goes over all records.
+    pub fn data_count(&self) -> u64
+        ensures { result ≡ data_in self.now.records }
+    {
+        self.leaves.data_count()
     }
 
     /// Counts from nothing.

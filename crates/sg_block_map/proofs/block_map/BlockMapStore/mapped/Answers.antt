@@ -1,0 +1,24 @@
+use Rattle.std.proofs.Common.{◌≡◌, ◌+◌, sym, ◌∙◌, arith}
+use Rattle.sg_store.specs.declared.store.TheConstants.{MAX_CAPACITY}
+use Rattle.sg_block_map.proofs.CutRunsLemmas.{blocks-fit}
+use Rattle.sg_block_map.proofs.DataLemmas.{data-le, data-of-runs}
+use Rattle.sg_block_map.proofs.block_map.BlockMapStore.mapped.Goals as goal
+
+pub overflow_cast-result : goal.overflow_cast-result
+overflow_cast-result c =
+    let s = c.args.self.now in
+    omega (
+      arith,
+      c.data_count.ensures,
+      data-le s.table.records,
+      blocks-fit s.table.records s.pool s.table.room s.runs,
+      s.pool_fits,
+    )
+
+pub returns : goal.returns
+returns c =
+    let s = c.args.self.now in
+    record {
+      value = c.data_count.ensures ∙ sym (data-of-runs s.pool.next s.table.records s.pool.blocks 0
+          (MAX_CAPACITY + 1) s.runs.maximal);
+    }
