@@ -22,7 +22,8 @@ use Rattle.sg_table.specs.declared.run.Kind.TheVariants.{Data as DataRun, Anchor
 use Rattle.sg_table.specs.declared.run.Run.{Run}
 use Rattle.sg_store.specs.declared.store.TheConstants.{MAX_CAPACITY}
 use Rattle.sg_block_map.specs.Joining.{joined, linked, mapping_as, put_block, IsWriting, KeepSlots}
-use Rattle.sg_block_map.specs.Runs.{end_of, singles_of, expanded, any_from, behind, begins, AreChained, AreMaximal}
+use Rattle.sg_block_map.specs.Runs.{end_of, singles_of, expanded, any_from, behind, begins}
+use Rattle.sg_block_map.specs.Runs.{AreChained, AreMaximal}
 use Rattle.sg_block_map.specs.Runs.{AreMaximalIn}
 use Rattle.sg_block_map.specs.Runs.{AreBetween, chained_contents}
 use Rattle.sg_block_map.specs.Splitting.{rest_of}
@@ -454,7 +455,8 @@ module _ (before after runs more : List Run) (done found : Run) (run : Option Ru
   walked-contents =
       ap (λ zs. chained_contents (before ++ joined done (single lba found.first done.kind) ∷ zs) over_slots)
       same_more
-      ∙ over-contents before done found tail_of now lba bs m now_writing (there run lba found is).1 len same seen
+      ∙ over-contents before done found tail_of now lba bs m now_writing (there run lba found is).1
+      len same seen
       ∙ ap₂ (λ zs ns. map.insert (contents_of (expanded ns (before ++ done ∷ zs)) now.blocks) lba m)
       (sym here) (sym same_next)
       ∙ ap (λ zs. map.insert (contents_of (expanded p.next
@@ -467,6 +469,7 @@ module _ (before after runs more : List Run) (done found : Run) (run : Option Ru
   walked-keeps q slot f =
       ap (λ zs. map.get (slot_numbers (expanded (linked now.next done found.first)
       (before ++ joined done (single lba found.first done.kind) ∷ zs))) q) same_more
-      ∙ over-keeps before done found tail_of now lba bs m now_writing (there run lba found is).1 len same seen q slot
+      ∙ over-keeps before done found tail_of now lba bs m now_writing (there run lba found is).1 len
+      same seen q slot
       (ap₂ (λ zs ns. map.get (slot_numbers (expanded ns (before ++ done ∷ zs))) q) (sym here)
       (sym same_next) ∙ f)

@@ -1,10 +1,8 @@
--- That runs are maximal and chained, and that contents are well formed, holds in at most one way.
+-- That runs are maximal and chained holds in at most one way.
 use Rattle.std.specs.Prelude.{ℕ, List, [], ◌∷◌}
 use Rattle.std.proofs.Props.{props}
 use Rattle.sg_block_map.specs.Runs.{Bound, behind, AreMaximalIn, AreChained, AreRuns}
 use Rattle.sg_pool.specs.Slots.{Slots}
-use Rattle.sg_store.specs.Disk.{Contents, Mapping, IsWellFormed, IsWhole}
-use Rattle.sg_store.specs.Disk.Mapping.{Data, Anchored}
 use Rattle.sg_table.specs.declared.run.Run.{Run}
 
 pub AreMaximalIn-IsProp : (low high : Bound) (runs : List Run) → IsProp (AreMaximalIn low high runs)
@@ -15,13 +13,6 @@ AreMaximalIn-IsProp low high (run ∷ runs) = hlevel
 pub AreChained-IsProp : (next : List ℕ) (runs : List Run) → IsProp (AreChained next runs)
 AreChained-IsProp next [] = hlevel props
 AreChained-IsProp next (run ∷ runs) = hlevel (props, AreChained-IsProp next runs)
-
-pub IsWhole-IsProp : (mapping : Mapping) → IsProp (IsWhole mapping)
-IsWhole-IsProp (Data block) = hlevel props
-IsWhole-IsProp Anchored = hlevel props
-
-pub IsWellFormed-IsProp : (capacity : ℕ) (contents : Contents) → IsProp (IsWellFormed capacity contents)
-IsWellFormed-IsProp capacity contents = hlevel (props, IsWhole-IsProp)
 
 pub AreRuns-IsProp : (records : List Run) (slots : Slots) (room : ℕ)
     → IsProp (AreRuns records slots room)

@@ -1,9 +1,8 @@
 // The store itself: a record for each mapped or anchored address, in a table, and its block in a slot
 // of a pool. What its calls do to the records is in the other files.
 ghost use Rattle.std.specs.Prelude.{◌≡◌, ◌+◌, ◌≤◌, ◌↔◌, IsErr, OnOk, OnErr};
-ghost use Rattle.std.proofs.Props.{props};
 ghost use Rattle.sg_store.specs.Disk.{IsWellFormed, IsOverfull};
-ghost use Rattle.sg_store.specs.DiskProps.{IsWhole-IsProp};
+ghost use Rattle.sg_store.specs.DiskProps.{IsWellFormed-IsProp};
 ghost use Rattle.sg_store.specs.Meter.{HasHeadroom, ChargedOnOk};
 ghost use Rattle.sg_plain_map.specs.PlainCost.{plain_price, plain_price-within, plain_least};
 ghost use Rattle.sg_plain_map.specs.PlainCost.{plain_least-positive, plain_price-joined};
@@ -38,7 +37,7 @@ pub struct PlainMap {
     ghost capacity_fits: { capacity ≤ MAX_CAPACITY },
     ghost pool_fits: { table.room ≤ MAX_POOL },
     ghost draft_fits: { draft.room ≡ table.room },
-    ghost well_formed: { IsWellFormed capacity (stored table pool) } by { Prim.hlevel (props, IsWhole-IsProp) },
+    ghost well_formed: { IsWellFormed capacity (stored table pool) } by { IsWellFormed-IsProp _ _ },
     ghost consistent: { IsConsistent table.records pool.blocks pool.free table.room },
     ghost counted: { mapped ≡ data_records table.records },
 }

@@ -34,7 +34,8 @@ pub used_among-none : (m : Contents) (a : ℕ) → used_among m a 0 ≡ 0
 unfolding used_among
 used_among-none m a = refl
 
-pub count-more : (p : ℕ → Bool) (xs : List ℕ) (x : ℕ) → count_by p (xs ++ x ∷ []) ≡ count_by p xs + cond (p x) 1 0
+pub count-more : (p : ℕ → Bool) (xs : List ℕ) (x : ℕ) → count_by p (xs ++ x ∷ [])
+    ≡ count_by p xs + cond (p x) 1 0
 count-more p xs x = fold-append (λ n y. n + cond (p y) 1 0) 0 xs (x ∷ [])
 
 pub used_among-more : (m : Contents) (a k : ℕ) → used_among m a (k + 1) ≡

@@ -17,7 +17,8 @@ use Rattle.sg_store.specs.LbaStatus.{code_of, status_at, count_alike, covered, d
 use Rattle.sg_store.specs.LbaStatus.{descriptors_from}
 use Rattle.sg_store.specs.declared.lba_status.StatusDescriptor.{StatusDescriptor}
 use Rattle.sg_store.specs.declared.lba_status.TheConstants.{MAX_ADDRESSES}
-use Rattle.sg_store.proofs.DescriptorLemmas.{same_status, descriptors-first, descriptors-none, descriptors-end}
+use Rattle.sg_store.proofs.DescriptorLemmas.{same_status, descriptors-first, descriptors-none}
+use Rattle.sg_store.proofs.DescriptorLemmas.{descriptors-end}
 
 -- the addresses that a descriptor covers
 alike-within : (m : Contents) (capacity a : ℕ) → count_alike m capacity a ≤ min MAX_ADDRESSES (capacity - a)

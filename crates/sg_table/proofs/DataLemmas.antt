@@ -24,7 +24,8 @@ data-within Data count = omega arith
 data-within Anchored count = omega arith
 
 -- one leaf more
-joined-append : (xs ys : List (List Run)) → data_in (joined (xs ++ ys)) ≡ data_in (joined xs) + data_in (joined ys)
+joined-append : (xs ys : List (List Run)) → data_in (joined (xs ++ ys))
+    ≡ data_in (joined xs) + data_in (joined ys)
 joined-append [] ys = omega arith
 joined-append (x ∷ xs) ys =
     let rest = joined-append xs ys in

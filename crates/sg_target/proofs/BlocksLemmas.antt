@@ -83,7 +83,8 @@ whole : (n : ℕ) (data_out : List ℕ) → n ≤ length data_out → length (ta
 whole n data_out h = omega (arith, length-take n data_out)
 
 write-sound : (extent : Extent) (unsupported : Option ℕ) (data_out : List ℕ)
-    → Sound (requested (takes (bytes_of extent) unsupported (Ok (operation.Write (blocks_out extent data_out))))
+    → Sound (requested (takes (bytes_of extent) unsupported (Ok
+    (operation.Write (blocks_out extent data_out))))
     data_out)
 write-sound extent unsupported data_out =
     takes-sound (bytes_of extent) unsupported (Ok (operation.Write (blocks_out extent data_out))) data_out

@@ -31,7 +31,8 @@ loop-i-init c =
           c.requires.near (omega (arith, c.requires.range)) t);
       bytes = sym (blocks-none (chained_contents runs p) c.args.lba);
       later = λ q le. sym (get-walk_from p.next runs c.args.lba
-          (c.args.lba + c.args.count) q c.walk_from-before.result.0 more (mapping_in p.blocks) t (omega arith));
+          (c.args.lba + c.args.count) q c.walk_from-before.result.0 more (mapping_in p.blocks) t
+          (omega arith));
       pool = c.walk_from-before.ensures.pool;
       rise = c.walk_from-before.ensures.rise;
       links = omega (arith, len, c.walk_from-before.ensures.links);

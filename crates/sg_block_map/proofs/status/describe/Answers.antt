@@ -61,7 +61,8 @@ returns-clause-descriptor c =
       lba = c.args.lba;
       count = c.in-Some.run'.start + c.from.result - c.args.lba;
       status = s;
-    }) c.status_of-status.ensures ∙ over-described rs c.args.capacity c.args.lba c.args.cursor c.requires.table
+    }) c.status_of-status.ensures ∙ over-described rs c.args.capacity c.args.lba c.args.cursor
+    c.requires.table
     c.requires.cursor c.in-Some.run' is
     (c.in-Some.run'.start + c.from.result - c.args.lba)
     (omega (arith, high, c.from.ensures)) slots.next slots.blocks

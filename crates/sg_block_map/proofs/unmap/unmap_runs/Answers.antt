@@ -172,7 +172,8 @@ loop-i-preserved c =
     let count = ap (λ rs. (slice_index_or rs c.loop-i.i no_run).count) c.records-runs.ensures in
     record {
       runs = rw is (cut-runs e.cut xs tail now c.requires.order);
-      same = λ see. ap (λ zs. unmapped (contents_by see (expanded c.unmap_run.new.pool.next zs)) c.args.low (c.args.high - c.args.low)) is
+      same = λ see. ap (λ zs. unmapped (contents_by see (expanded c.unmap_run.new.pool.next zs))
+          c.args.low (c.args.high - c.args.low)) is
           ∙ cut-contents e.cut xs tail now order see
           ∙ ap (λ zs. unmapped (contents_by see (expanded c.loop-i.pool.next zs)) c.args.low
           (c.args.high - c.args.low)) (sym was) ∙ inv.same see;

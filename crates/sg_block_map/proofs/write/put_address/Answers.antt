@@ -85,10 +85,12 @@ returns-in_default-clause-puts c =
     c.take-slot.new.self.free h c.take-slot.ensures.free) in
     record {
       writing = rw (run_is, pool_is) (new-writing before done rest p lba slot
-          c.take-slot.new.self.free bs (mapping_as done.kind block) h c.take-slot.ensures.free len same seen skipped);
+          c.take-slot.new.self.free bs (mapping_as done.kind block) h c.take-slot.ensures.free len
+          same seen skipped);
       contents = ap₂ (λ (r : Run) (s : Slots). chained_contents (before ++ r ∷ rest) s) run_is
           pool_is
-          ∙ new-contents before done rest p lba slot c.take-slot.new.self.free bs (mapping_as done.kind block) h
+          ∙ new-contents before done rest p lba slot c.take-slot.new.self.free bs
+          (mapping_as done.kind block) h
           c.take-slot.ensures.free len same seen skipped;
       keeps = subst (λ (r : Run). KeepSlots p.next (before ++ done ∷ rest)
           c.join-done.new.pool.next (before ++ r ∷ rest)) (sym run_is)

@@ -18,7 +18,8 @@ use Rattle.sg_store.proofs.DiskLemmas.{remapped-none, remapped-more}
 use Rattle.sg_block_map.proofs.OrderLemmas.{maximal-from}
 use Rattle.sg_block_map.proofs.CutRunsLemmas.{runs-fit, gathered-blocks, length-expanded}
 use Rattle.sg_block_map.proofs.FinishLemmas.{begin-range, finished, parts-shape, gathered-ahead}
-use Rattle.sg_block_map.proofs.FinishLemmas.{walk_from-near, walk_from-kind, walk_from-start, walk_from-blocks}
+use Rattle.sg_block_map.proofs.FinishLemmas.{walk_from-near, walk_from-kind, walk_from-start}
+use Rattle.sg_block_map.proofs.FinishLemmas.{walk_from-blocks}
 use Rattle.sg_block_map.proofs.FinishLemmas.{free-there, done-fits, ahead-fits}
 use Rattle.sg_block_map.proofs.WriteLemmas.{writing-followed, done-last}
 use Rattle.sg_block_map.proofs.write.put_range.Goals as goal
@@ -115,9 +116,11 @@ put_address-progress-requires-clause-free c =
     let len : c.args.table.now.room ≡ length c.loop-i.pool.next =
     sym (inv.length ∙ c.requires.ready.runs.links) in
     let consistent = rw len at c.requires.ready.runs.consistent in
-    rw here (λ none. free-there (take gathered.from rs ++ option_to_list c.begin-front.result.0) after gathered.records
+    rw here (λ none. free-there (take gathered.from rs ++ option_to_list c.begin-front.result.0)
+    after gathered.records
     c.loop-i.progress.done w.run w.at c.args.lba i c.args.count p c.loop-i.pool rs
-    (λ index. mapping_as c.args.kind (block_of c.args.source.now index)) inv.writing up none consistent inv.contents c.loop-i-test.true
+    (λ index. mapping_as c.args.kind (block_of c.args.source.now index)) inv.writing up none
+    consistent inv.contents c.loop-i-test.true
     c.requires.free)
 
 pub put_address-progress-requires-clause-headroom : goal.put_address-progress-requires-clause-headroom

@@ -26,7 +26,8 @@ not-first state holder call w other reads exclusive =
     shut-out state call.initiator call.cdb.now call.data_out.now Reads reads
     (refused.reads (is-exclusive state holder h exclusive))
 
-not-at : LimitsAreKept → (state : State) (holder : ℕ) (calls : List Call) (n : ℕ) (call : Call) (answer : Answer)
+not-at : LimitsAreKept → (state : State) (holder : ℕ) (calls : List Call) (n : ℕ) (call : Call)
+    (answer : Answer)
     → IsWithinLimits state → slice_get calls n ≡ Some call
     → slice_get (answers state calls) n ≡ Some answer → (call.initiator ≡ holder → ⊥)
     → class_of call.cdb.now ≡ Some Reads

@@ -7,7 +7,8 @@ use Rattle.sg_table.specs.Table.{Table, visited}
 use Rattle.sg_table.specs.declared.run.Run.{Run}
 use Rattle.sg_table.proofs.TableLemmas.{visited-more}
 use Rattle.sg_plain_map.proofs.RangeLemmas.{used_among-indices}
-use Rattle.sg_plain_map.proofs.RemovalLemmas.{less-data, unmapped-slot, unmapped-consistent, contents-unmapped}
+use Rattle.sg_plain_map.proofs.RemovalLemmas.{less-data, unmapped-slot, unmapped-consistent}
+use Rattle.sg_plain_map.proofs.RemovalLemmas.{contents-unmapped}
 use Rattle.sg_plain_map.proofs.EditingLemmas.{one_if_data-le}
 use Rattle.sg_plain_map.proofs.unmap.unmap_records.Goals as goal
 

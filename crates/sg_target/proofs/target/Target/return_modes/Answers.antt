@@ -23,7 +23,8 @@ returns-in-Err-clause-reply g c =
     let none = if-fault _ _ _ e c.sense.ensures.nothing in
     fault-carried _ _ _ _ _ _ _ _ _ (ap (λ (t : TargetFields). t.state.modes) c.self.view_is)
     c.requested.view_is _ _ e
-    (c.answers_are_in_their_buffers.ensures.left _ _ _ [] _ _ _ c.new-cut.ensures (none ∙ sym (put-nil _)) (λ e. search rules) ∙ nothing-put _ _)
+    (c.answers_are_in_their_buffers.ensures.left _ _ _ [] _ _ _ c.new-cut.ensures (none
+    ∙ sym (put-nil _)) (λ e. search rules) ∙ nothing-put _ _)
     (c.refuse.ensures.reply
     ∙ ap (λ (r : Refusal). refused_reply (sense_format c.args.self.now.state) r c.default.result)
     c.from-in-Err.ensures)
