@@ -54,6 +54,24 @@ fn unmap<S: Store>(store: &mut S, lba: u64, count: u32)
     store.unmap(lba, count);
 }
 
+/// Anchors the addresses from one on.
+fn anchor<S: Store>(store: &mut S, lba: u64, count: u32) -> Result<(), Space>
+    requires { lba + count ≤ (S.disk store.old).capacity }
+    ensures { (S.disk store.new).capacity ≡ (S.disk store.old).capacity }
+{
+    store.restart_counts();
+    store.anchor(lba, count)
+}
+
+/// How many of the addresses from one on have no block of the pool.
+fn need<S: Store>(store: &mut S, lba: u64, count: u64) -> u64
+    requires { lba + count ≤ (S.disk store.old).capacity }
+    ensures { (S.disk store.new).capacity ≡ (S.disk store.old).capacity }
+{
+    store.restart_counts();
+    store.need(lba, count)
+}
+
 #[test]
 fn a_write_between_two_runs_joins_them(rt: HostRuntime) -> Result<(), Fail> {
     let mut disk = BlockMap::make(rt.alloc(), 4096, 4)?;
@@ -118,5 +136,26 @@ fn an_unmap_in_a_run_leaves_two_and_frees_a_block(rt: HostRuntime) -> Result<(),
     unmap(&mut disk, 0, 4096);
     assert_eq!(rt; disk.run_count(), 0);
     assert_eq!(rt; disk.mapped(), 0);
+    Ok(())
+}
+
+// An anchored address has its block of the pool before it is written. Its runs have a kind of their
+// own.
+#[test]
+fn an_anchored_address_has_room_and_no_data(rt: HostRuntime) -> Result<(), Fail> {
+    let mut disk = BlockMap::make(rt.alloc(), 4096, 4)?;
+    assert_eq!(rt; put(&mut disk, 1, &A), Ok(()));
+    assert_eq!(rt; need(&mut disk, 0, 4), 3);
+    assert_eq!(rt; anchor(&mut disk, 0, 4), Ok(()));
+    assert_eq!(rt; disk.used(), 4);
+    assert_eq!(rt; disk.mapped(), 0);
+    assert_eq!(rt; disk.run_count(), 1);
+    assert_eq!(rt; get(&mut disk, 1), ZEROS);
+    assert_eq!(rt; anchor(&mut disk, 9, 1), Err(Space));
+    assert_eq!(rt; put(&mut disk, 2, &B), Ok(()));
+    assert_eq!(rt; get(&mut disk, 2), B);
+    assert_eq!(rt; disk.used(), 4);
+    assert_eq!(rt; disk.mapped(), 1);
+    assert_eq!(rt; disk.run_count(), 3);
     Ok(())
 }

@@ -1,5 +1,5 @@
 // What a table of records finds, and what it counts as read.
-use sg_table::{Run, RunTable};
+use sg_table::{Kind, Run, RunTable};
 use std::test::Fail;
 
 const THREE_AT_40: Run = Run {
@@ -7,13 +7,15 @@ const THREE_AT_40: Run = Run {
     count: 3,
     first: 1,
     last: 3,
+    kind: Kind::Data,
 };
 
 #[test]
 fn a_first_address_counts_as_a_probe_and_a_record_as_a_visit(rt: HostRuntime) -> Result<(), Fail> {
     let mut table = RunTable::new(rt.alloc(), 4)?;
-    table.splice(0, 0, &[Run::single(10, 0), THREE_AT_40]);
+    table.splice(0, 0, &[Run::single(10, 0, Kind::Anchored), THREE_AT_40]);
     assert_eq!(rt; table.count(), 2);
+    assert_eq!(rt; table.data_count(), 3);
     assert_eq!(rt; table.start(0), 10);
     assert_eq!(rt; table.start(1), 40);
     assert_eq!(rt; table.probes(), 2);
