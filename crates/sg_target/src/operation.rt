@@ -62,10 +62,8 @@ pub enum Operation<'a> {
         list: ModeList<'a>,
     },
     ReturnCapacity10,
-    ReturnCapacity16 {
-        /// In bytes.
-        allocation_length: u32,
-    },
+    /// Up to an allocation length, in bytes.
+    ReturnCapacity16(u32),
     /// Returns blocks.
     Read(BlocksIn),
     /// Replaces blocks.
@@ -147,7 +145,7 @@ impl<'a> Operation<'a> {
             | Operation::ReturnModes { .. }
             | Operation::ChangeModes { .. }
             | Operation::ReturnCapacity10
-            | Operation::ReturnCapacity16 { .. }
+            | Operation::ReturnCapacity16(_)
             | Operation::ReturnReservations { .. }
             | Operation::ChangeReservations { .. } => (None, false),
         };
@@ -182,9 +180,9 @@ pub(crate) fn operation_of<'a>(
         Command::Write10(extent) => check_write(Extent::from(extent), TRANSFER_LENGTH_10, data_out),
         Command::Write16(extent) => check_write(Extent::from(extent), TRANSFER_LENGTH_16, data_out),
         Command::ReadCapacity10 => Ok(Operation::ReturnCapacity10),
-        Command::ReadCapacity16(fields) => Ok(Operation::ReturnCapacity16 {
-            allocation_length: fields.allocation_length,
-        }),
+        Command::ReadCapacity16(fields) => {
+            Ok(Operation::ReturnCapacity16(fields.allocation_length))
+        }
         Command::SynchronizeCache10(extent) => Ok(Operation::Synchronize(Extent::from(extent))),
         Command::WriteSame10(fields) => check_write_same_10(fields, data_out),
         Command::WriteSame16(fields) => check_write_same_16(fields, data_out),
@@ -235,9 +233,7 @@ impl<S: Store> Target<S> {
                 self.change_modes(initiator, ten, sp, &list, buf)
             }
             Operation::ReturnCapacity10 => self.return_capacity_10(buf),
-            Operation::ReturnCapacity16 { allocation_length } => {
-                self.return_capacity_16(allocation_length, buf)
-            }
+            Operation::ReturnCapacity16(length) => self.return_capacity_16(length, buf),
             Operation::Read(blocks) => self.read(&blocks, buf),
             Operation::Write(blocks) => self.write(initiator, &blocks, buf),
             Operation::Fill { extent, block } => self.fill(initiator, extent, &block, buf),

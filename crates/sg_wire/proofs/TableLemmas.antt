@@ -224,4 +224,4 @@ unfolding command_of command_with
 refused-opcode [] some h = absurd (omega arith)
 refused-opcode (opcode ∷ rest) some h = ap (command_by_rows (opcode ∷ rest)) (h some)
 
-pub ruleset refused_rules = (refused-short, refused-action, refused-opcode)
+pub ruleset refusals = (refused-short, refused-action, refused-opcode)
