@@ -16,7 +16,8 @@ use std::marker::Model;
 /// The most records that a table has room for.
 pub const MAX_RECORDS: u32 = 65_536;
 
-/// The records of the map, sorted by their addresses. No record is read but by calls that count it.
+/// The records of the map, sorted by their addresses. No record is returned but by calls that count
+/// it.
 #[derive(Drop)]
 pub struct RunTable {
     leaves: Leaves,
