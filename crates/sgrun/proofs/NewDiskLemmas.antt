@@ -1,15 +1,19 @@
 -- A script on a new disk.
-use Rattle.std.proofs.Common.{◌≡◌, ℕ, Result, inl}
-use Rattle.sg_run.specs.ScriptRun.{RunsScript, Snapshot}
-use Rattle.sg_run.specs.declared.run.RunFault.{RunFault}
+use Rattle.std.proofs.Common.{◌≡◌, ℕ, Result, Err, inr, refl}
+use Rattle.sg_run.specs.ScriptRun.{Snapshot}
 use Rattle.sg_target.specs.Config.{ConfigFields}
 use Rattle.sg_target.specs.State.{State, powered_on}
-use Rattle.sgrun.specs.NewDisk.{RunsUnlessOutOfMemory, by_run}
+use Rattle.sgrun.specs.NewDisk.{RunsOnNewDisk, RunsUnlessRefused}
 use Rattle.sgrun.specs.declared.stop.Stop.{Stop}
+use Rattle.sgrun.specs.declared.stop.Stop.TheVariants.{OutOfMemory}
 
-pub runs_on_new_disk : (disk : ConfigFields) (old new : State → Snapshot) (before after : State)
-    (ran : Result ℕ RunFault) (result : Result ℕ Stop)
-    → before ≡ powered_on disk → RunsScript (old before) (new after) ran → result ≡ by_run ran
-    → RunsUnlessOutOfMemory disk old new result
-runs_on_new_disk disk old new before after ran result is runs same =
-    inl (record { ran = ran; state = after; runs = rw is at runs; result_is = same })
+pub on_new_disk : (disk : ConfigFields) (old new : State → Snapshot) (before after : State)
+    (result : Result ℕ Stop) → before ≡ powered_on disk
+    → RunsUnlessRefused before after old new result → RunsOnNewDisk disk old new result
+on_new_disk disk old new before after result is runs =
+    record { state = after; runs = rw is at runs }
+
+pub refused_on_new_disk : (disk : ConfigFields) (at : State → Snapshot) (result : Result ℕ Stop)
+    → result ≡ Err OutOfMemory → RunsOnNewDisk disk at at result
+refused_on_new_disk disk at result is =
+    record { state = powered_on disk; runs = inr (record { kept = λ state. refl; result_is = is }) }

@@ -12,13 +12,10 @@ abbrev pub by_run : Result ℕ RunFault → Result ℕ Stop
 by_run (Ok status) = Ok status
 by_run (Err fault) = Err (stop_of_run fault)
 
--- The script was run on the disk as it is after power on. `old` and `new` are what was run on, with
--- any state of the disk.
-pub record RunsOnNewDisk (disk : ConfigFields) (old new : State → Snapshot) (result : Result ℕ Stop)
-    : Type 0 where
+-- The script was run. `old` and `new` are what was run on, with any state of the disk.
+pub record Ran (old new : Snapshot) (result : Result ℕ Stop) : Type 0 where
   pub ran : Result ℕ RunFault
-  pub state : State
-  pub runs : RunsScript (old (powered_on disk)) (new state) ran
+  pub runs : RunsScript old new ran
   pub result_is : result ≡ by_run ran
 
 -- Memory was refused before anything was read or written.
@@ -26,7 +23,14 @@ pub record Refused (old new : State → Snapshot) (result : Result ℕ Stop) : T
   pub kept : (state : State) → new state ≡ old state
   pub result_is : result ≡ Err OutOfMemory
 
-abbrev pub RunsUnlessOutOfMemory : ConfigFields → (old new : State → Snapshot) → Result ℕ Stop
-    → Type 0
-RunsUnlessOutOfMemory disk old new result =
-    RunsOnNewDisk disk old new result ⊎ Refused old new result
+-- The script was run on a disk, or memory was refused.
+abbrev pub RunsUnlessRefused : (before after : State) (old new : State → Snapshot)
+    → Result ℕ Stop → Type 0
+RunsUnlessRefused before after old new result =
+    Ran (old before) (new after) result ⊎ Refused old new result
+
+-- The disk was as it is after power on.
+pub record RunsOnNewDisk (disk : ConfigFields) (old new : State → Snapshot) (result : Result ℕ Stop)
+    : Type 0 where
+  pub state : State
+  pub runs : RunsUnlessRefused (powered_on disk) state old new result

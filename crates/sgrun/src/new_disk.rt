@@ -2,11 +2,12 @@
 ghost use Rattle.std.specs.Prelude.{◌≡◌, false};
 ghost use Rattle.sg_wire.specs.Watched.{has_failed};
 ghost use Rattle.sg_run.specs.ScriptRun.{snapshot};
-ghost use Rattle.sgrun.specs.NewDisk.{RunsUnlessOutOfMemory, by_run};
+ghost use Rattle.sgrun.specs.NewDisk.{RunsOnNewDisk, RunsUnlessRefused, by_run};
 
 use crate::stop::Stop;
 use sg_block_map::BlockMap;
 use sg_run::{RunFault, Session, run_script};
+use sg_store::Store;
 use sg_target::{Config, Target};
 use sg_wire::Watched;
 use std::alloc::Global;
@@ -24,14 +25,31 @@ pub(crate) fn run_on_new_disk<'a, R: Read, W: Write>(
 ) -> Result<u8, Stop<'a>>
     requires reads { has_failed reader.old ≡ false }
     requires writes { has_failed writer.old ≡ false }
-    ensures { RunsUnlessOutOfMemory disk
+    ensures { RunsOnNewDisk disk
         (snapshot R.remaining W.contents reader.old writer.old)
         (snapshot R.remaining W.contents reader.new writer.new)
         result }
 {
     let mut target: Target<BlockMap> = Target::new(alloc, disk)?;
+    run_in_new_session(alloc, reader, writer, &mut target)
+}
+
+// Runs a script. Apart from the disk, so that each is dropped in a function of its own.
+fn run_in_new_session<'a, R: Read, W: Write, S: Store>(
+    alloc: Global,
+    reader: &mut Watched<R>,
+    writer: &mut Watched<W>,
+    target: &mut Target<S>,
+) -> Result<u8, Stop<'a>>
+    requires reads { has_failed reader.old ≡ false }
+    requires writes { has_failed writer.old ≡ false }
+    ensures { RunsUnlessRefused target.old.state target.new.state
+        (snapshot R.remaining W.contents reader.old writer.old)
+        (snapshot R.remaining W.contents reader.new writer.new)
+        result }
+{
     let mut session = Session::new(alloc)?;
-    outcome_of_run(run_script(alloc, reader, writer, &mut session, &mut target))
+    outcome_of_run(run_script(alloc, reader, writer, &mut session, target))
 }
 
 // The outcome of a run. Apart, so that the disk and the session are dropped in one place: the prover
