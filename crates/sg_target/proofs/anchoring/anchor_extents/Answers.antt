@@ -3,7 +3,7 @@ use Rattle.sg_store.specs.declared.store.TheConstants.{MAX_CAPACITY}
 use Rattle.sg_target.specs.Ranges.{cost_bounds}
 use Rattle.sg_target.specs.Joining.{range_of}
 use Rattle.sg_target.proofs.ChargingLemmas.{counted-charged, all-charged, all-least}
-use Rattle.sg_target.proofs.NeedLemmas.{need-joined, ranges-within, within-weaker}
+use Rattle.sg_target.proofs.NeedLemmas.{ranges-within, used-after, within-weaker}
 use Rattle.sg_target.proofs.anchoring.anchor_extents.Goals as goal
 
 pub joined-ranges-requires-clause-fits : goal.joined-ranges-requires-clause-fits
@@ -19,26 +19,11 @@ count_needed-needed-requires-clause-fits g c =
 
 pub returns-then-needed-from-clause-space : goal.returns-then-needed-from-clause-space
 returns-then-needed-from-clause-space g c =
-    let disk = g.S.Store.disk c.args.store.now in
     let left = c.count_needed-needed.ensures.disk in
-    let size = need-joined disk.contents c.args.extents.now c.joined-ranges.result
-    c.joined-ranges.ensures in
-    let needed = rw c.as_slice.ensures at
-    c.count_needed-needed.ensures.value in
-    let used = rw left at c.used.ensures.value in
-    let within = rw left at c.used.ensures.within in (
-      λ _. omega (
-        arith,
-        size,
-        needed,
-        used,
-        within,
-        c.requires.pool.0,
-        c.from.ensures,
-        c.if-needed-from.true,
-      ),
-      λ _. cc,
-    )
+    let after = used-after _ c.args.extents.now c.joined-ranges.result c.joined-ranges.ensures _ _
+    (rw left at c.used.ensures.value) (rw c.as_slice.ensures at c.count_needed-needed.ensures.value) in
+    let within = rw left at c.used.ensures.within in
+    (λ _. omega (arith, after, within, c.requires.pool.0, c.from.ensures, c.if-needed-from.true), λ _. cc)
 
 pub returns-then-needed-from-clause-charge : goal.returns-then-needed-from-clause-charge
 returns-then-needed-from-clause-charge g c =
@@ -51,41 +36,22 @@ returns-then-needed-from-clause-charge g c =
 
 pub anchor_in_turn-requires-clause-room : goal.anchor_in_turn-requires-clause-room
 anchor_in_turn-requires-clause-room g c =
-    let disk = g.S.Store.disk c.args.store.now in
     let left = c.count_needed-needed.ensures.disk in
-    let size = need-joined disk.contents c.args.extents.now c.joined-ranges.result
-    c.joined-ranges.ensures in
-    let needed = rw c.as_slice.ensures at
-    c.count_needed-needed.ensures.value in
-    let used = rw left at c.used.ensures.value in
+    let after = used-after _ c.args.extents.now c.joined-ranges.result c.joined-ranges.ensures _ _
+    (rw left at c.used.ensures.value) (rw c.as_slice.ensures at c.count_needed-needed.ensures.value) in
     let within = rw left at c.used.ensures.within in
-    rw left (omega (
-      arith,
-      size,
-      needed,
-      used,
-      within,
-      c.requires.pool.0,
-      c.from.ensures,
-      c.if-needed-from.false,
-    ))
+    rw left (omega (arith, after, within, c.requires.pool.0, c.from.ensures, c.if-needed-from.false))
 
 pub returns-clause-space : goal.returns-clause-space
 returns-clause-space g c =
-    let disk = g.S.Store.disk c.args.store.now in
     let left = c.count_needed-needed.ensures.disk in
-    let size = need-joined disk.contents c.args.extents.now c.joined-ranges.result
-    c.joined-ranges.ensures in
-    let needed = rw c.as_slice.ensures at
-    c.count_needed-needed.ensures.value in
-    let used = rw left at c.used.ensures.value in
+    let after = used-after _ c.args.extents.now c.joined-ranges.result c.joined-ranges.ensures _ _
+    (rw left at c.used.ensures.value) (rw c.as_slice.ensures at c.count_needed-needed.ensures.value) in
     let within = rw left at c.used.ensures.within in (
       λ wrong. cc,
       λ more. absurd (omega (
         arith,
-        size,
-        needed,
-        used,
+        after,
         within,
         more,
         c.requires.pool.0,
