@@ -2,7 +2,8 @@
 use Rattle.std.specs.Prelude.{ℕ, List, [], ◌∷◌, length, drop, filter, codes, slice_index}
 use Rattle.std.specs.Prelude.{Bool, nat_le, ◌==◌, if◌then◌else◌}
 use Rattle.byteorder.specs.Endian.{big_number}
-use Rattle.sg_decode.specs.Values.{bits, has_flag}
+use Rattle.sg_wire.specs.Layout.{has_bit}
+use Rattle.sg_decode.specs.Values.{bits}
 use Rattle.sg_decode.specs.Lines.{Line, part, line_end}
 use Rattle.sg_decode.specs.Items.{Entry}
 use Rattle.sg_decode.specs.declared.value.Value.TheVariants.{Bits, Code, Number, Address}
@@ -42,7 +43,7 @@ designator_line own =
 
 -- SPF: the page has a subpage code, and two bytes of length.
 abbrev pub has_subpage : (page : List ℕ) → Bool
-has_subpage page = has_flag (slice_index page 0) 6
+has_subpage page = has_bit (slice_index page 0) 0x40
 
 abbrev pub page_line : (page : List ℕ) → Line
 page_line page =

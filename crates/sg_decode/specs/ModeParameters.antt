@@ -2,7 +2,7 @@
 use Rattle.std.specs.Prelude.{ℕ, ◌+◌, List, [], ◌∷◌, ◌++◌, drop, codes, slice_index, Bool, false}
 use Rattle.std.specs.Prelude.{◌==◌, ◌&&◌, not, if◌then◌else◌}
 use Rattle.byteorder.specs.Endian.{big_number}
-use Rattle.sg_decode.specs.Values.{has_flag}
+use Rattle.sg_wire.specs.Layout.{has_bit}
 use Rattle.sg_decode.specs.Lines.{Line, part, line_text}
 use Rattle.sg_decode.specs.Items.{Decoder, Item, item, line_items, entries_from}
 use Rattle.sg_decode.specs.Entries.{entry_of}
@@ -70,7 +70,7 @@ mode_parameters_10 = record {
   header = line_items header_10;
   reported_end = λ bytes. 2 + big_number 2 bytes;
   body = λ bytes end.
-      mode_body 8 (has_flag (slice_index bytes 4) 0) (big_number 2 (drop 6 bytes)) bytes;
+      mode_body 8 (has_bit (slice_index bytes 4) 0x01) (big_number 2 (drop 6 bytes)) bytes;
 }
 
 abbrev pub mode_parameters : (ten : Bool) → Decoder

@@ -5,6 +5,7 @@ use Rattle.std.specs.Prelude.{Bool, ◌&&◌, ◌==◌, nat_le, nat_lt, if◌the
 use Rattle.std.specs.List.{flat_map}
 use Rattle.byteorder.specs.Endian.{big_number}
 use Rattle.hex.specs.Hex.{encode_lower}
+use Rattle.sg_wire.specs.Layout.{has_bit}
 use Rattle.sg_decode.specs.HexText.{upper_hex_byte}
 use Rattle.sg_decode.specs.declared.value.Value.{Value}
 use Rattle.sg_decode.specs.declared.value.Value.TheVariants.{Bits, Code, Number, Address}
@@ -14,9 +15,6 @@ use Rattle.sg_decode.specs.declared.value.Value.TheVariants.{ProvisioningStatus,
 -- The bits of a byte from a high one down to a low one, as a number.
 abbrev pub bits : (byte high low : ℕ) → ℕ
 bits byte high low = (byte / 2 ^ low) % 2 ^ (high + 1 - low)
-
-abbrev pub has_flag : (byte bit : ℕ) → Bool
-has_flag byte bit = bits byte bit bit == 1
 
 -- A byte of a text. One that is no printable ASCII is shown as a dot.
 abbrev pub printable : ℕ → ℕ
@@ -41,29 +39,29 @@ provisioning_text status =
 -- type of persistent reservation that it stands for.
 pub record ReservationType : Type 0 where
   pub byte : ℕ
-  pub bit : ℕ
+  pub mask : ℕ
   pub name : List ℕ
 
-abbrev reservation_type : (byte bit : ℕ) → List ℕ → ReservationType
-reservation_type byte bit name = record { byte = byte; bit = bit; name = name }
+abbrev reservation_type : (byte mask : ℕ) → List ℕ → ReservationType
+reservation_type byte mask name = record { byte = byte; mask = mask; name = name }
 
 -- In ascending order of the bits of each byte.
 abbrev pub reservation_types : List ReservationType
 reservation_types =
-    reservation_type 0 1 (codes " WE")
-    ∷ reservation_type 0 3 (codes " EA")
-    ∷ reservation_type 0 5 (codes " WE-RO")
-    ∷ reservation_type 0 6 (codes " EA-RO")
-    ∷ reservation_type 0 7 (codes " WE-AR")
-    ∷ reservation_type 1 0 (codes " EA-AR")
+    reservation_type 0 0x02 (codes " WE")
+    ∷ reservation_type 0 0x08 (codes " EA")
+    ∷ reservation_type 0 0x20 (codes " WE-RO")
+    ∷ reservation_type 0 0x40 (codes " EA-RO")
+    ∷ reservation_type 0 0x80 (codes " WE-AR")
+    ∷ reservation_type 1 0x01 (codes " EA-AR")
     ∷ []
 
-abbrev pub type_name : (mask : List ℕ) → ReservationType → List ℕ
-type_name mask t = if has_flag (slice_index mask t.byte) t.bit then t.name else []
+abbrev pub type_name : (types : List ℕ) → ReservationType → List ℕ
+type_name types t = if has_bit (slice_index types t.byte) t.mask then t.name else []
 
 -- The names of the types whose bits are set in a mask of two bytes.
-unfoldable pub type_names : (mask : List ℕ) → List ℕ
-type_names mask = flat_map (type_name mask) reservation_types
+unfoldable pub type_names : (types : List ℕ) → List ℕ
+type_names types = flat_map (type_name types) reservation_types
 
 -- The text of a value of some bytes.
 unfoldable pub value_text : Value → List ℕ → List ℕ

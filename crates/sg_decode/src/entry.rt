@@ -180,7 +180,7 @@ fn has_subpage(page: &[u8]) -> bool
     ensures { result ≡ has_subpage page.now }
 {
     match page.first() {
-        Some(byte) => bits(*byte, 6, 6) == 1,
+        Some(byte) => *byte & 0x40 != 0,
         None => false,
     }
 }

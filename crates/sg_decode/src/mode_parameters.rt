@@ -10,7 +10,7 @@ ghost use Rattle.sg_decode.specs.ModeParameters.{mode_parameters_10};
 use crate::entry::EntryKind;
 use crate::items::{is_shown, show_entries, show_lines};
 use crate::line::put_line;
-use crate::value::{Field, Value, bits, number_of_two};
+use crate::value::{Field, Value, number_of_two};
 use sg_wire::Printer;
 use std::io::Write;
 
@@ -72,7 +72,7 @@ fn put_modes_10<W: Write>(bytes: &[u8], out: &mut Printer<'_, W>)
     ensures { PrintsText W.contents out.old out.new (decoded mode_parameters_10 bytes.now) }
 {
     if show_lines(&HEADER_10, None, bytes, out) {
-        let long = bits(bytes[4], 0, 0) == 1;
+        let long = bytes[4] & 0x01 != 0;
         let size = number_of_two(6, bytes);
         show_body(8, long, size, 2 + number_of_two(0, bytes), bytes, out);
     }

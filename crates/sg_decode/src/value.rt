@@ -4,7 +4,8 @@ ghost use Rattle.std.specs.Prelude.{option_map, true, if◌then◌else◌};
 ghost use Rattle.byteorder.specs.Endian.{big_number};
 ghost use Rattle.hex.specs.Hex.{encode_lower};
 ghost use Rattle.sg_wire.specs.Printer.{PrintsText};
-ghost use Rattle.sg_decode.specs.Values.{bits, value_text, value_end, is_sound, has_flag};
+ghost use Rattle.sg_wire.specs.Layout.{has_bit};
+ghost use Rattle.sg_decode.specs.Values.{bits, value_text, value_end, is_sound};
 ghost use Rattle.sg_decode.specs.Values.{provisioning_name, provisioning_text, type_names};
 
 use crate::hex_lines::put_hex_byte;
@@ -145,25 +146,24 @@ fn provisioning_name(status: u8) -> Option<&'static [u8]>
 }
 
 // Prints the name of each type whose bit is set in a type mask.
-fn put_reservation_types<W: Write>(mask: &[u8], out: &mut Printer<'_, W>)
-    requires { 2 ≤ length mask.now }
-    ensures { PrintsText W.contents out.old out.new (type_names mask.now) }
+fn put_reservation_types<W: Write>(types: &[u8], out: &mut Printer<'_, W>)
+    requires { 2 ≤ length types.now }
+    ensures { PrintsText W.contents out.old out.new (type_names types.now) }
 {
-    put_reservation_type(mask[0], 1, b" WE", out);
-    put_reservation_type(mask[0], 3, b" EA", out);
-    put_reservation_type(mask[0], 5, b" WE-RO", out);
-    put_reservation_type(mask[0], 6, b" EA-RO", out);
-    put_reservation_type(mask[0], 7, b" WE-AR", out);
-    put_reservation_type(mask[1], 0, b" EA-AR", out);
+    put_reservation_type(types[0], 0x02, b" WE", out);
+    put_reservation_type(types[0], 0x08, b" EA", out);
+    put_reservation_type(types[0], 0x20, b" WE-RO", out);
+    put_reservation_type(types[0], 0x40, b" EA-RO", out);
+    put_reservation_type(types[0], 0x80, b" WE-AR", out);
+    put_reservation_type(types[1], 0x01, b" EA-AR", out);
 }
 
 #[tactic(auto, using(crate::proofs::TextLemmas::prints))]
-fn put_reservation_type<W: Write>(byte: u8, bit: u8, name: &[u8], out: &mut Printer<'_, W>)
-    requires { bit < 8 }
-    ensures { let text = if has_flag byte bit then name.now else [] in
+fn put_reservation_type<W: Write>(byte: u8, mask: u8, name: &[u8], out: &mut Printer<'_, W>)
+    ensures { let text = if has_bit byte mask then name.now else [] in
         PrintsText W.contents out.old out.new text }
 {
-    if bits(byte, bit, bit) == 1 {
+    if byte & mask != 0 {
         out.put(name);
     }
 }

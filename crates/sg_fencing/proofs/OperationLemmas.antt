@@ -1,5 +1,5 @@
--- What the operation that a command asks for shows of the command. This is the one module of the laws
--- with a case for each command.
+-- What the operation that a command asks for shows of the command. Of the laws' modules this one alone
+-- knows commands, and only those have a case whose operation looks at more than their fields.
 use Rattle.std.proofs.Common.{◌≡◌, ℕ, Bool, true, false, List, Option, Some, None, Result, Ok, Err}
 use Rattle.std.proofs.Common.{refl, subst}
 use Rattle.std.specs.Prelude.{if◌then◌else◌}
@@ -90,38 +90,6 @@ unmap-suits command w s false extents =
 
 pub suits : (blocks : ℕ) (command : Command) (data_out : List ℕ)
     → SuitsIf command (demands blocks command data_out).operation
-suits blocks command.TestUnitReady data_out =
-    record { class = λ class h. cc; of_kind = λ kind k. refl; shown = refl }
-suits blocks (command.RequestSense c) data_out =
-    record { class = λ class h. cc; of_kind = λ kind k. refl; shown = refl }
-suits blocks (command.ModeSelect6 c) data_out =
-    record { class = λ class h. cc; of_kind = λ kind k. refl; shown = refl }
-suits blocks (command.ModeSelect10 c) data_out =
-    record { class = λ class h. cc; of_kind = λ kind k. refl; shown = refl }
-suits blocks (command.ModeSense6 c) data_out =
-    record { class = λ class h. cc; of_kind = λ kind k. refl; shown = refl }
-suits blocks (command.ModeSense10 c) data_out =
-    record { class = λ class h. cc; of_kind = λ kind k. refl; shown = refl }
-suits blocks (command.Read6 c) data_out =
-    record { class = λ class h. cc; of_kind = λ kind k. refl; shown = refl }
-suits blocks (command.Read10 c) data_out =
-    record { class = λ class h. cc; of_kind = λ kind k. refl; shown = refl }
-suits blocks (command.Read16 c) data_out =
-    record { class = λ class h. cc; of_kind = λ kind k. refl; shown = refl }
-suits blocks (command.Write6 c) data_out =
-    record { class = λ class h. cc; of_kind = λ kind k. refl; shown = refl }
-suits blocks (command.Write10 c) data_out =
-    record { class = λ class h. cc; of_kind = λ kind k. refl; shown = refl }
-suits blocks (command.Write16 c) data_out =
-    record { class = λ class h. cc; of_kind = λ kind k. refl; shown = refl }
-suits blocks command.ReadCapacity10 data_out =
-    record { class = λ class h. cc; of_kind = λ kind k. refl; shown = refl }
-suits blocks (command.ReadCapacity16 c) data_out =
-    record { class = λ class h. cc; of_kind = λ kind k. refl; shown = refl }
-suits blocks (command.SynchronizeCache10 c) data_out =
-    record { class = λ class h. cc; of_kind = λ kind k. refl; shown = refl }
-suits blocks (command.GetLbaStatus c) data_out =
-    record { class = λ class h. cc; of_kind = λ kind k. refl; shown = refl }
 suits blocks (command.Inquiry c) data_out =
     sound-suits (command.Inquiry c) (if_supported 2 (inquiry_page c.evpd c.page_code))
     (λ page. ReturnInquiry page c.allocation_length)
@@ -135,12 +103,12 @@ suits blocks (command.WriteSame16 c) data_out =
 suits blocks (command.Unmap c) data_out =
     sound-suits (command.Unmap c) (listed_extents (first_bytes c.list_length data_out))
     (unmap_extents c.anchor) (unmap-suits (command.Unmap c) refl refl c.anchor)
-suits blocks (command.PersistentReserveIn c) data_out =
-    record { class = λ class h. cc; of_kind = λ kind k. refl; shown = refl }
 suits blocks (command.PersistentReserveOut c) data_out =
     sound-suits (command.PersistentReserveOut c)
     (fields_out (first_bytes c.list_length data_out)) (ChangeReservations c.action c.scope_type)
     (λ list. record { class = λ class h. cc; of_kind = λ kind k. k; shown = refl })
+suits blocks other data_out =
+    record { class = λ class h. cc; of_kind = λ kind k. refl; shown = refl }
 
 at-ok : (command : Command) (asked : Result Operation Refusal) (operation : Operation)
     → SuitsIf command asked → asked ≡ Ok operation → Suits command operation

@@ -35,7 +35,7 @@ pub fn an_unmap_zeroes_the_blocks_of_its_range()
 {}
 
 /// After an unmap, the addresses of the range are deallocated, and the others are as they were.
-pub fn an_unmap_leaves_no_address_of_its_range_mapped()
+pub fn an_unmap_deallocates_the_addresses_of_its_range()
     ensures { UnmapsEachAddress }
 {}
 

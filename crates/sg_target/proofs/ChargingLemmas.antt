@@ -168,42 +168,38 @@ module _ (bounds : CostBounds) (pool : ℕ) (m : Contents) (extents : List Exten
     j.count,
   )
 
-  more-links : (n k : ℕ) → n ≤ k → pool * n ≤ pool * k
-  more-links n k le = mul-le-mul {m₂ = k} (omega arith) le
+  -- what was counted over others is within the price where these cost no more and are no longer
+  within : (over : List Range) → sum_over bounds.price over ≤ sum_over bounds.price (sent ++ turn)
+      → length over ≤ length (sent ++ turn) → IsCounted bounds pool over before after
+      → IsWithinPrice bounds pool (anchoring_ranges m extents) before after
+  within over price count c =
+      let links : pool * length over ≤ pool * length (sent ++ turn) =
+      mul-le-mul {m₂ = length (sent ++ turn)} (omega arith) count in
+      record {
+        visits = omega (arith, c.visits, price);
+        probes = omega (arith, c.probes, count);
+        links = omega (arith, c.links, links);
+        visited = c.visited;
+        restarts = c.restarts;
+      }
 
   -- where there is no room, nothing but the count was done
   pub counted-charged : IsCounted bounds pool (counted_ranges m joined) before after
       → IsWithinPrice bounds pool (anchoring_ranges m extents) before after
   counted-charged c =
-      let prices = sum-append bounds.price sent turn in
-      let longer = length-append sent turn in
-      let links = more-links (length (counted_ranges m joined)) (length (sent ++ turn))
-      (omega (arith, shorter)) in
-      record {
-        visits = omega (arith, c.visits, cheaper);
-        probes = omega (arith, c.probes, shorter);
-        links = omega (arith, c.links, links);
-        visited = c.visited;
-        restarts = c.restarts;
-      }
+      let price = sum-append bounds.price sent turn in
+      let count = length-append sent turn in
+      within (counted_ranges m joined) (omega (arith, cheaper)) (omega (arith, shorter)) c
 
   -- and else each range was gone over again
   pub all-charged : IsCounted bounds pool (counted_ranges m joined ++ turn) before after
       → IsWithinPrice bounds pool (anchoring_ranges m extents) before after
   all-charged c =
-      let prices = sum-append bounds.price sent turn in
-      let prices' = sum-append bounds.price (counted_ranges m joined) turn in
-      let longer = length-append sent turn in
-      let longer' = length-append (counted_ranges m joined) turn in
-      let links = more-links (length (counted_ranges m joined ++ turn)) (length (sent ++ turn))
-      (omega (arith, shorter)) in
-      record {
-        visits = omega (arith, c.visits, cheaper);
-        probes = omega (arith, c.probes, shorter);
-        links = omega (arith, c.links, links);
-        visited = c.visited;
-        restarts = c.restarts;
-      }
+      let price = sum-append bounds.price sent turn in
+      let price' = sum-append bounds.price (counted_ranges m joined) turn in
+      let count = length-append sent turn in
+      let count' = length-append (counted_ranges m joined) turn in
+      within (counted_ranges m joined ++ turn) (omega (arith, cheaper)) (omega (arith, shorter)) c
 
   pub all-least : IsCounted bounds pool (counted_ranges m joined ++ turn) before after
       → least_over bounds.least (anchoring_ranges m extents) ≤ after.counts.visits

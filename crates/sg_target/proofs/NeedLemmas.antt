@@ -96,13 +96,16 @@ len-over m (r ∷ rs) h =
     omega arith
 
 -- what joined ranges need is what anchoring the extents takes
-pub need-joined : (m : Contents) (extents : List Extent) (joined : List AddressRange)
+pub used-after : (m : Contents) (extents : List Extent) (joined : List AddressRange)
     → AreJoined (map range_of extents) joined
-    → map.len (anchored_in_turn m extents) ≡ map.len m + need_of m joined
-need-joined m extents joined h =
+    → (used needed : ℕ) → used ≡ map.len m → needed ≡ need_of m joined
+    → map.len (anchored_in_turn m extents) ≡ used + needed
+used-after m extents joined h used needed u n =
+    let all : map.len (anchored_in_turn m extents) ≡ map.len m + need_of m joined =
     ap map.len (sym (over-extents m extents) ∙ over-same m (map range_of extents) joined
     (λ q. sym (h.same q)))
-    ∙ len-over m joined h.disjoint
+    ∙ len-over m joined h.disjoint in
+    omega (arith, all, u, n)
 
 -- ---- the extents in turn
 

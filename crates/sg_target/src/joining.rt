@@ -1,5 +1,5 @@
 // The addresses of a command's extents, in ranges that have no address in common. It knows no store.
-ghost use Rattle.std.specs.Prelude.{◌≡◌, ◌<◌, ◌≤◌, [], ◌∷◌, ◌++◌, length, map};
+ghost use Rattle.std.specs.Prelude.{◌≡◌, ◌<◌, ◌≤◌, ◌∷◌, length, map};
 ghost use Rattle.sg_target.specs.Joining.{AreDisjoint, AreJoined, AreWithin, end_of};
 ghost use Rattle.sg_target.specs.Joining.{joined_if_near, range_of};
 ghost use Rattle.sg_wire.specs.UnmapList.{maximum_unmap_descriptors};
@@ -7,7 +7,6 @@ ghost use Rattle.sg_wire.specs.UnmapList.{maximum_unmap_descriptors};
 use arrayvec::ArrayVec;
 use sg_store::MAX_CAPACITY;
 use sg_wire::{Extent, MAXIMUM_UNMAP_DESCRIPTORS};
-use std::marker::Model;
 
 /// Addresses from one on. Extents that overlap may have more together than one can name.
 #[derive(Clone, Copy, Default)]
@@ -44,53 +43,18 @@ impl AddressRange {
 }
 
 /// Ranges of addresses, as many as a command names at most.
-#[derive(Drop)]
-pub(crate) struct RangeList {
-    ranges: ArrayVec<AddressRange, MAXIMUM_UNMAP_DESCRIPTORS>,
-}
-
-impl Model for RangeList {
-    ghost use Rattle.std.specs.Prelude.{List};
-    ghost use Rattle.sg_target.specs.declared.joining.AddressRange.{AddressRange};
-
-    ghost Value = { List AddressRange };
-
-    ghost view = { λ r. r.ranges.items };
-}
-
-impl RangeList {
-    pub(crate) fn new() -> RangeList
-        ensures { result ≡ [] }
-    {
-        RangeList {
-            ranges: ArrayVec::new(),
-        }
-    }
-
-    pub(crate) fn push(&mut self, range: AddressRange)
-        requires { length self.old < maximum_unmap_descriptors }
-        ensures { self.new ≡ self.old ++ range ∷ [] }
-    {
-        self.ranges.push(range);
-    }
-
-    pub(crate) fn as_slice(&self) -> &[AddressRange]
-        ensures { result.now ≡ self.now }
-    {
-        self.ranges.as_slice()
-    }
-}
+pub(crate) type RangeList = ArrayVec<AddressRange, MAXIMUM_UNMAP_DESCRIPTORS>;
 
 // Ranges without an address in common, and one more: those that are near it are joined to it.
-fn with_range(ranges: &RangeList, range: AddressRange) -> RangeList
+fn with_range(ranges: &[AddressRange], range: AddressRange) -> RangeList
     requires disjoint { AreDisjoint ranges.now }
     requires fits { AreWithin MAX_CAPACITY (range ∷ ranges.now) }
     requires room { length ranges.now < maximum_unmap_descriptors }
-    ensures { AreJoined (range ∷ ranges.now) result }
+    ensures { AreJoined (range ∷ ranges.now) result.items }
 {
     let mut apart = RangeList::new();
     let mut grown = range;
-    for other in ranges.as_slice() {
+    for other in ranges {
         match grown.joined(*other) {
             Some(both) => grown = both,
             None => apart.push(*other),
@@ -104,11 +68,11 @@ fn with_range(ranges: &RangeList, range: AddressRange) -> RangeList
 pub(crate) fn joined(extents: &[Extent]) -> RangeList
     requires at_most { length extents.now ≤ maximum_unmap_descriptors }
     requires fits { AreWithin MAX_CAPACITY (map range_of extents.now) }
-    ensures { AreJoined (map range_of extents.now) result }
+    ensures { AreJoined (map range_of extents.now) result.items }
 {
     let mut joined = RangeList::new();
     for extent in extents {
-        joined = with_range(&joined, AddressRange::of(*extent));
+        joined = with_range(joined.as_slice(), AddressRange::of(*extent));
     }
     joined
 }

@@ -21,27 +21,7 @@ Makes l = (cdb : List ℕ) → (layout (make_from cdb l.fields l.make)).class �
 
 makes : (command : Command) → Makes (layout command)
 makes command.TestUnitReady cdb = refl
-makes (command.RequestSense c) cdb = refl
-makes (command.Inquiry c) cdb = refl
-makes (command.ModeSelect6 c) cdb = refl
-makes (command.ModeSelect10 c) cdb = refl
-makes (command.ModeSense6 c) cdb = refl
-makes (command.ModeSense10 c) cdb = refl
-makes (command.Read6 c) cdb = refl
-makes (command.Read10 c) cdb = refl
-makes (command.Read16 c) cdb = refl
-makes (command.Write6 c) cdb = refl
-makes (command.Write10 c) cdb = refl
-makes (command.Write16 c) cdb = refl
-makes command.ReadCapacity10 cdb = refl
-makes (command.ReadCapacity16 c) cdb = refl
-makes (command.SynchronizeCache10 c) cdb = refl
-makes (command.WriteSame10 c) cdb = refl
-makes (command.WriteSame16 c) cdb = refl
-makes (command.Unmap c) cdb = refl
-makes (command.GetLbaStatus c) cdb = refl
-makes (command.PersistentReserveIn c) cdb = refl
-makes (command.PersistentReserveOut c) cdb = refl
+makes other cdb = refl
 
 abbrev AllMake : List Layout → Type 0
 AllMake [] = Unit {0}

@@ -54,28 +54,11 @@ Decodes cdb named =
 
 pub decodes : (cdb : List ℕ) (named : Name) → HasAction cdb named → Decodes cdb named
 unfolding command_with
-decodes cdb name.TestUnitReady h = refl
-decodes cdb name.RequestSense h = refl
-decodes cdb name.Inquiry h = refl
-decodes cdb name.ModeSelect6 h = refl
-decodes cdb name.ModeSelect10 h = refl
-decodes cdb name.ModeSense6 h = refl
-decodes cdb name.ModeSense10 h = refl
 decodes cdb name.PersistentReserveIn h = tt
 decodes cdb name.PersistentReserveOut h = tt
-decodes cdb name.Read6 h = refl
-decodes cdb name.Read10 h = refl
-decodes cdb name.Read16 h = refl
-decodes cdb name.Write6 h = refl
-decodes cdb name.Write10 h = refl
-decodes cdb name.Write16 h = refl
-decodes cdb name.ReadCapacity10 h = refl
 decodes cdb name.ReadCapacity16 h = rw h refl
-decodes cdb name.SynchronizeCache10 h = refl
-decodes cdb name.WriteSame10 h = refl
-decodes cdb name.WriteSame16 h = refl
-decodes cdb name.Unmap h = refl
 decodes cdb name.GetLbaStatus h = rw h refl
+decodes cdb named h = refl
 
 abbrev Decides : List ℕ → Name → Type 0
 Decides cdb named = (fits_masks (masks (layout_of named)) cdb ≡ Ok (tt {0}) → IsDecoded cdb named)

@@ -6,7 +6,7 @@ pub returns-then-show_lines : goal.returns-then-show_lines
 returns-then-show_lines g c =
     goes_on mode_parameters_10 _ _ _ _ _ c.show_lines.ensures.verdict c.if-show_lines.true
     c.show_lines.ensures.text
-    (rw (c.bits-long.ensures, c.number_of_two-size.ensures.value, c.number_of_two.ensures.value) at
+    (rw (c.number_of_two-size.ensures.value, c.number_of_two.ensures.value) at
     c.show_body.ensures)
 
 pub returns-else-show_lines : goal.returns-else-show_lines

@@ -3,7 +3,7 @@ use Rattle.sg_store.specs.declared.store.TheConstants.{MAX_CAPACITY}
 use Rattle.sg_target.specs.Ranges.{cost_bounds}
 use Rattle.sg_target.specs.Joining.{range_of}
 use Rattle.sg_target.proofs.ChargingLemmas.{counted-charged, all-charged, all-least}
-use Rattle.sg_target.proofs.NeedLemmas.{need-joined, ranges-within, within-weaker}
+use Rattle.sg_target.proofs.NeedLemmas.{ranges-within, used-after, within-weaker}
 use Rattle.sg_target.proofs.anchoring.anchor_extents.Goals as goal
 
 pub joined-ranges-requires-clause-fits : goal.joined-ranges-requires-clause-fits
@@ -13,79 +13,49 @@ joined-ranges-requires-clause-fits g c =
 
 pub count_needed-needed-requires-clause-fits : goal.count_needed-needed-requires-clause-fits
 count_needed-needed-requires-clause-fits g c =
-    rw c.as_slice.ensures
+    rw c.as_slice.ensures.value
     (c.joined-ranges.ensures.within (g.S.Store.disk c.args.store.now).capacity
     (ranges-within _ c.args.extents.now c.requires.on_disk))
 
 pub returns-then-needed-from-clause-space : goal.returns-then-needed-from-clause-space
 returns-then-needed-from-clause-space g c =
-    let disk = g.S.Store.disk c.args.store.now in
     let left = c.count_needed-needed.ensures.disk in
-    let size = need-joined disk.contents c.args.extents.now c.joined-ranges.result
-    c.joined-ranges.ensures in
-    let needed = rw c.as_slice.ensures at
-    c.count_needed-needed.ensures.value in
-    let used = rw left at c.used.ensures.value in
-    let within = rw left at c.used.ensures.within in (
-      λ _. omega (
-        arith,
-        size,
-        needed,
-        used,
-        within,
-        c.requires.pool.0,
-        c.from.ensures,
-        c.if-needed-from.true,
-      ),
-      λ _. cc,
-    )
+    let after = used-after _ c.args.extents.now c.joined-ranges.result.items c.joined-ranges.ensures _ _
+    (rw left at c.used.ensures.value)
+    (rw c.as_slice.ensures.value at c.count_needed-needed.ensures.value) in
+    let within = rw left at c.used.ensures.within in
+    (λ _. omega (arith, after, within, c.requires.pool.0, c.from.ensures, c.if-needed-from.true),
+    λ _. cc)
 
 pub returns-then-needed-from-clause-charge : goal.returns-then-needed-from-clause-charge
 returns-then-needed-from-clause-charge g c =
     let disk = g.S.Store.disk c.args.store.now in
     counted-charged (cost_bounds g.S.Store.price g.S.Store.least) disk.pool
-    disk.contents c.args.extents.now c.joined-ranges.result c.joined-ranges.ensures
+    disk.contents c.args.extents.now c.joined-ranges.result.items c.joined-ranges.ensures
     (g.met.S.Store.price_joined disk.contents) _ _
-    (rw c.as_slice.ensures at
+    (rw c.as_slice.ensures.value at
     c.count_needed-needed.ensures.counted)
 
 pub anchor_in_turn-requires-clause-room : goal.anchor_in_turn-requires-clause-room
 anchor_in_turn-requires-clause-room g c =
-    let disk = g.S.Store.disk c.args.store.now in
     let left = c.count_needed-needed.ensures.disk in
-    let size = need-joined disk.contents c.args.extents.now c.joined-ranges.result
-    c.joined-ranges.ensures in
-    let needed = rw c.as_slice.ensures at
-    c.count_needed-needed.ensures.value in
-    let used = rw left at c.used.ensures.value in
+    let after = used-after _ c.args.extents.now c.joined-ranges.result.items c.joined-ranges.ensures _ _
+    (rw left at c.used.ensures.value)
+    (rw c.as_slice.ensures.value at c.count_needed-needed.ensures.value) in
     let within = rw left at c.used.ensures.within in
-    rw left (omega (
-      arith,
-      size,
-      needed,
-      used,
-      within,
-      c.requires.pool.0,
-      c.from.ensures,
-      c.if-needed-from.false,
-    ))
+    rw left (omega (arith, after, within, c.requires.pool.0, c.from.ensures, c.if-needed-from.false))
 
 pub returns-clause-space : goal.returns-clause-space
 returns-clause-space g c =
-    let disk = g.S.Store.disk c.args.store.now in
     let left = c.count_needed-needed.ensures.disk in
-    let size = need-joined disk.contents c.args.extents.now c.joined-ranges.result
-    c.joined-ranges.ensures in
-    let needed = rw c.as_slice.ensures at
-    c.count_needed-needed.ensures.value in
-    let used = rw left at c.used.ensures.value in
+    let after = used-after _ c.args.extents.now c.joined-ranges.result.items c.joined-ranges.ensures _ _
+    (rw left at c.used.ensures.value)
+    (rw c.as_slice.ensures.value at c.count_needed-needed.ensures.value) in
     let within = rw left at c.used.ensures.within in (
       λ wrong. cc,
       λ more. absurd (omega (
         arith,
-        size,
-        needed,
-        used,
+        after,
         within,
         more,
         c.requires.pool.0,
@@ -98,9 +68,9 @@ pub returns-clause-charge : goal.returns-clause-charge
 returns-clause-charge g c =
     let disk = g.S.Store.disk c.args.store.now in
     let left = c.count_needed-needed.ensures.disk in
-    let counted = rw c.as_slice.ensures at c.count_needed-needed.ensures.counted in
+    let counted = rw c.as_slice.ensures.value at c.count_needed-needed.ensures.counted in
     all-charged (cost_bounds g.S.Store.price g.S.Store.least) disk.pool
-    disk.contents c.args.extents.now c.joined-ranges.result c.joined-ranges.ensures
+    disk.contents c.args.extents.now c.joined-ranges.result.items c.joined-ranges.ensures
     (g.met.S.Store.price_joined disk.contents) _ _
     ((rw left at c.anchor_in_turn.ensures.counted) _ _ counted)
 
@@ -108,8 +78,8 @@ pub returns-clause-least : goal.returns-clause-least
 returns-clause-least g c =
     let disk = g.S.Store.disk c.args.store.now in
     let left = c.count_needed-needed.ensures.disk in
-    let counted = rw c.as_slice.ensures at c.count_needed-needed.ensures.counted in
+    let counted = rw c.as_slice.ensures.value at c.count_needed-needed.ensures.counted in
     all-least (cost_bounds g.S.Store.price g.S.Store.least) disk.pool
-    disk.contents c.args.extents.now c.joined-ranges.result c.joined-ranges.ensures
+    disk.contents c.args.extents.now c.joined-ranges.result.items c.joined-ranges.ensures
     (g.met.S.Store.price_joined disk.contents) _ _
     ((rw left at c.anchor_in_turn.ensures.counted) _ _ counted)

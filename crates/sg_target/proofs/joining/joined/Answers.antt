@@ -18,7 +18,8 @@ with_range-joined-requires-clause-fits c =
     ap (map range_of) (sym (take-append-drop i extents)
     ∙ ap (λ xs. take i extents ++ xs) (drop_more extents i none c.loop-extent-test.true))
     ∙ map-append range_of (take i extents) (get_or extents i none ∷ drop (i + 1) extents) in
-    rw c.of.ensures (within-first MAX_CAPACITY (map range_of (take i extents)) l.joined
+    rw (c.of.ensures, c.as_slice.ensures.value)
+    (within-first MAX_CAPACITY (map range_of (take i extents)) l.joined.items
     (range_of (get_or extents i none)) (map range_of (drop (i + 1) extents)) l.invariant
     (rw parts at c.requires.fits))
 
@@ -32,5 +33,6 @@ loop-extent-preserved c =
     ≡ map range_of (take i extents) ++ range_of (get_or extents i none) ∷ [] =
     ap (map range_of) (take_more extents i none c.loop-extent-test.true)
     ∙ map-append range_of (take i extents) (get_or extents i none ∷ []) in
-    rw more (joined-more (map range_of (take i extents)) l.joined (range_of (get_or extents i none))
-    c.with_range-joined.result l.invariant (rw c.of.ensures at c.with_range-joined.ensures))
+    rw more (joined-more (map range_of (take i extents)) l.joined.items
+    (range_of (get_or extents i none)) c.with_range-joined.result.items l.invariant
+    (rw (c.of.ensures, c.as_slice.ensures.value) at c.with_range-joined.ensures))

@@ -22,41 +22,10 @@ first_opcode (l ∷ ls) = Some l.opcode
 HasRow : ℕ → Type 0
 HasRow opcode = first_opcode (rows_of opcode) ≡ Some opcode
 
-rows-6 : HasRow 0x00 × HasRow 0x03 × HasRow 0x08 × HasRow 0x0A × HasRow 0x12 × HasRow 0x15 × HasRow 0x1A
-unfolding HasRow
-rows-6 = (refl, refl, refl, refl, refl, refl, refl)
-
-rows-10 : HasRow 0x25 × HasRow 0x28 × HasRow 0x2A × HasRow 0x35 × HasRow 0x41 × HasRow 0x42 × HasRow 0x55
-unfolding HasRow
-rows-10 = (refl, refl, refl, refl, refl, refl, refl)
-
-rows-16 : HasRow 0x5A × HasRow 0x5E × HasRow 0x5F × HasRow 0x88 × HasRow 0x8A × HasRow 0x93 × HasRow 0x9E
-unfolding HasRow
-rows-16 = (refl, refl, refl, refl, refl, refl, refl)
-
 has_row : (command : Command) → HasRow (layout command).opcode
-has_row command.TestUnitReady = rows-6.0
-has_row (command.RequestSense c) = rows-6.1
-has_row (command.Inquiry c) = rows-6.4
-has_row (command.ModeSelect6 c) = rows-6.5
-has_row (command.ModeSelect10 c) = rows-10.6
-has_row (command.ModeSense6 c) = rows-6.6
-has_row (command.ModeSense10 c) = rows-16.0
-has_row (command.Read6 c) = rows-6.2
-has_row (command.Read10 c) = rows-10.1
-has_row (command.Read16 c) = rows-16.3
-has_row (command.Write6 c) = rows-6.3
-has_row (command.Write10 c) = rows-10.2
-has_row (command.Write16 c) = rows-16.4
-has_row command.ReadCapacity10 = rows-10.0
-has_row (command.ReadCapacity16 c) = rows-16.6
-has_row (command.SynchronizeCache10 c) = rows-10.3
-has_row (command.WriteSame10 c) = rows-10.4
-has_row (command.WriteSame16 c) = rows-16.5
-has_row (command.Unmap c) = rows-10.5
-has_row (command.GetLbaStatus c) = rows-16.6
-has_row (command.PersistentReserveIn c) = rows-16.1
-has_row (command.PersistentReserveOut c) = rows-16.2
+unfolding HasRow
+has_row command.TestUnitReady = refl
+has_row other = refl
 
 -- a CDB is refused as cut where it is shorter than the first row of its operation code says
 cut-by_rows : (cdb : List ℕ) (opcode : ℕ) (rows : List Layout) → first_opcode rows ≡ Some opcode
