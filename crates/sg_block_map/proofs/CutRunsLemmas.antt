@@ -1,44 +1,31 @@
 -- A table of runs of which one is cut.
-use Rattle.std.proofs.Common.{◌≡◌, ℕ, ◌+◌, ◌-◌, ◌<◌, ◌≤◌, suc, List, [], ◌∷◌, ◌++◌, length, take}
-use Rattle.std.proofs.Common.{drop, get_or, arith, refl, sym, ap, ap₂, ◌∙◌, append_assoc}
-use Rattle.std.proofs.Common.{length-append, Option, Some, None, cond, inl, inr}
-use Rattle.std.proofs.lemmas.Bool.{cases_lt}
-use Rattle.std.proofs.lemmas.List.{drop_more, get_or-append-add, get_or_append_left}
-use Rattle.std.proofs.lemmas.List.Sums.{sum_by-cons, sum_by-append}
-use Rattle.std.specs.Cmp.{nat_cmp_total}
-use Rattle.std.specs.FinMap as map
-use Rattle.std.specs.FinMap.{find, get-from_entries, same_map, nat_cmp-IsAntisymmetric}
-use Rattle.std.specs.List.{splice}
-use Rattle.std.specs.Ordering.{nat_cmp, eq_by_cmp}
+use Rattle.std.proofs.Common.{◌≡◌, ℕ, ◌+◌, ◌-◌, ◌<◌, ◌≤◌, suc, List, [], ◌∷◌, ◌++◌, length}
+use Rattle.std.proofs.Common.{arith, refl, sym, ap, ap₂, ◌∙◌, append_assoc}
+use Rattle.std.proofs.Common.{length-append, Option, Some, None}
+use Rattle.std.specs.FinMap.{find}
+use Rattle.std.specs.Ordering.{nat_cmp}
 use Rattle.std.specs.Prelude.{option_to_list, IfSome}
-use Rattle.sg_pool.specs.Chains.{chain, AreBelow, IsChain}
-use Rattle.sg_store.specs.Disk.{lies_in, unmapped}
-use Rattle.sg_table.specs.Draft.{Drafted}
+use Rattle.sg_store.specs.Disk.{unmapped}
 use Rattle.sg_pool.specs.MappedRecords.{Seen, entries_by, contents_by}
 use Rattle.sg_pool.specs.Slots.{Slots}
 use Rattle.sg_table.specs.Records.{slots_of}
-use Rattle.sg_table.specs.Occurrences.{occurrences, IsEachOnce}
+use Rattle.sg_table.specs.Occurrences.{occurrences}
 use Rattle.sg_table.specs.declared.run.Run.{Run}
 use Rattle.sg_store.specs.declared.store.TheConstants.{MAX_CAPACITY}
 use Rattle.sg_block_map.specs.Cutting.{AreDistinct, IsCut}
-use Rattle.sg_block_map.specs.Gathering.{AreGathered, end_index}
-use Rattle.sg_block_map.specs.Runs.{end_of, singles_of, expanded, AreApart, AreChained, AreMaximal, any_from}
-use Rattle.sg_block_map.specs.Runs.{AreBetween, AreRuns, blocks_of}
+use Rattle.sg_block_map.specs.Runs.{end_of, singles_of, expanded, AreChained, AreMaximal, any_from}
+use Rattle.sg_block_map.specs.Runs.{AreBetween, AreRuns}
 use Rattle.sg_block_map.specs.Splitting.{IsFront}
-use Rattle.sg_table.proofs.OccurrenceLemmas.{same_slot, occurrences-append, occurrences-more}
-use Rattle.sg_table.proofs.OccurrenceLemmas.{once-le, below_count}
-use Rattle.sg_table.proofs.SpliceLemmas.{front_of}
-use Rattle.sg_block_map.proofs.BetweenLemmas.{end_of_all, apart-right, apart-le}
+use Rattle.sg_table.proofs.OccurrenceLemmas.{occurrences-append, once-le}
 use Rattle.sg_block_map.proofs.BetweenLemmas.{between-expanded, between-singles}
 use Rattle.sg_block_map.proofs.OrderLemmas.{IsPart, cut-maximal, narrow-any, apart-maximal}
 use Rattle.sg_block_map.proofs.BetweenLemmas.{between-weaker, sorted-between}
-use Rattle.sg_block_map.proofs.ContentsLemmas.{get-unmapped, inside, below, above, find-below}
-use Rattle.sg_block_map.proofs.ContentsLemmas.{find-above, find-right}
+use Rattle.sg_block_map.proofs.ContentsLemmas.{find-below, find-above}
 use Rattle.sg_block_map.proofs.ExpandedLemmas.{expanded-append, expanded-more, expanded-none}
 use Rattle.sg_block_map.proofs.ExpandedLemmas.{chained-append, chained-left, chained-right}
-use Rattle.sg_block_map.proofs.ExpandedLemmas.{slots-append, slots-both, slots-more, length-singles}
-use Rattle.sg_block_map.proofs.ExpandedLemmas.{runs-le}
+use Rattle.sg_block_map.proofs.ExpandedLemmas.{slots-append, slots-both}
 use Rattle.sg_block_map.proofs.SplitLemmas.{expanded-one}
+use Rattle.sg_block_map.proofs.RemainingLemmas.{unmapped-less, outside-append}
 
 pub slots-two : (s : ℕ) (xs ys : List Run) → occurrences s (slots_of (xs ++ ys)) ≡
     occurrences s (slots_of xs) + occurrences s (slots_of ys)
@@ -56,56 +43,6 @@ gone-between next low high None le h = rw (expanded-none next) le
 gone-between next low high (Some part) le h =
     rw (expanded-one next part) (between-weaker (singles_of next part) part.start
     (end_of part) low high h.0 h.1 (between-singles next part.start part.first part.count part.kind))
-
--- records that do not have the address
-pub find-skip : (xs ys zs : List Run) (f : Seen) (q : ℕ)
-    → find nat_cmp q (entries_by f ys) ≡ None
-    → find nat_cmp q (entries_by f (xs ++ (ys ++ zs))) ≡
-    find nat_cmp q (entries_by f (xs ++ zs))
-find-skip [] ys zs f q none = find-right ys zs f q none
-find-skip (x ∷ xs) ys zs f q none =
-    ap (cond (eq_by_cmp nat_cmp q x.start) (Some (f x.first x.kind)))
-    (find-skip xs ys zs f q none)
-
-get-skip : (xs ys zs : List Run) (f : Seen) (q : ℕ)
-    → find nat_cmp q (entries_by f ys) ≡ None
-    → map.get (contents_by f (xs ++ zs)) q ≡ map.get (contents_by f (xs ++ (ys ++ zs))) q
-get-skip xs ys zs f q none = get-from_entries nat_cmp_total (entries_by f (xs ++ zs)) q
-    ∙ sym (find-skip xs ys zs f q none) ∙ sym
-    (get-from_entries nat_cmp_total (entries_by f (xs ++ (ys ++ zs))) q)
-
-get-less : (xs ys zs : List Run) (f : Seen) (low high q : ℕ) → AreBetween low high ys
-    → low ≤ high
-    → cond (lies_in low (high - low) q) None (map.get (contents_by f (xs ++ zs)) q) ≡
-    cond (lies_in low (high - low) q) None (map.get (contents_by f (xs ++ (ys ++ zs))) q)
-get-less xs ys zs f low high q h le = elim (cases_lt q low) [
-  | inl lt ↦ ap (cond (lies_in low (high - low) q) None)
-      (get-skip xs ys zs f q (find-below ys f low high q h lt))
-  | inr ge ↦ elim (cases_lt q high) [
-    | inl lt ↦ rw (inside low (high - low) q ge (omega arith)) refl
-    | inr beyond ↦ ap (cond (lies_in low (high - low) q) None)
-        (get-skip xs ys zs f q (find-above ys f low high q h beyond))
-  ]
-]
-
--- what is unmapped anyway
-pub unmapped-less : (xs ys zs : List Run) (f : Seen) (low high : ℕ) → low ≤ high
-    → AreBetween low high ys
-    → unmapped (contents_by f (xs ++ zs)) low (high - low) ≡
-    unmapped (contents_by f (xs ++ (ys ++ zs))) low (high - low)
-unmapped-less xs ys zs f low high le h =
-    same_map nat_cmp_total nat_cmp-IsAntisymmetric _ _ (λ q.
-    get-unmapped (contents_by f (xs ++ zs)) low (high - low) q
-    ∙ get-less xs ys zs f low high q h le
-    ∙ sym (get-unmapped (contents_by f (xs ++ (ys ++ zs))) low (high - low) q))
-
-outside-append : (next : List ℕ) (xs ys : List Run) (f : Seen) (q : ℕ)
-    → find nat_cmp q (entries_by f (expanded next xs)) ≡ None
-    → find nat_cmp q (entries_by f (expanded next ys)) ≡ None
-    → find nat_cmp q (entries_by f (expanded next (xs ++ ys))) ≡ None
-outside-append next xs ys f q none other =
-    ap (λ zs. find nat_cmp q (entries_by f zs)) (expanded-append next xs ys)
-    ∙ find-right (expanded next xs) (expanded next ys) f q none ∙ other
 
 front-outside : (next : List ℕ) (run : Run) (low q : ℕ) (front : Option Run)
     (f : Seen) → IfSome front (IsFront run low) → low ≤ q
@@ -333,168 +270,3 @@ module _ {old new : Slots} {kept kept' : List Run} {run : Run} {low high : ℕ}
         (outside-append old.next fs bs f q
         (front-outside old.next run low q cut.front f cut.before le)
         (back-outside old.next run high q cut.back f cut.behind lt))
-
--- a part of a list in which each slot occurs once
-pub below-sub : (count : ℕ) (xs all : List ℕ) → IsEachOnce count all
-    → ((t : ℕ) → occurrences t xs ≤ occurrences t all) → AreBelow count xs
-unfolding AreBelow
-below-sub count [] all once sub = tt
-below-sub count (x ∷ xs) all once sub =
-    let here = sub x in
-    let more = occurrences-more x x xs in
-    let one = same_slot x in (
-      below_count count all x once (omega arith),
-      below-sub count xs all once (λ t. let s = sub t in let m = occurrences-more t x xs in
-          omega arith),
-    )
-
--- a run of the table
-module _ (xs kept tail : List Run) (run : Run) (slots : Slots) (room : ℕ)
-    (h : AreRuns (xs ++ (kept ++ run ∷ tail)) slots room) where
-  abbrev all : List Run
-  all = xs ++ (kept ++ run ∷ tail)
-
-  slots_of_run : (s : ℕ) → occurrences s (chain slots.next run.first run.count) ≤ occurrences s
-      (slots_of (expanded slots.next all))
-  slots_of_run s =
-      let a = slots-both slots.next s xs (kept ++ run ∷ tail) in
-      let b = slots-both slots.next s kept (run ∷ tail) in
-      let d = slots-more slots.next s run tail in
-      omega arith
-
-  pub run-chain : IsChain slots.next run.first run.last run.count
-  run-chain = (chained-right slots.next kept (run ∷ tail)
-      (chained-right slots.next xs (kept ++ run ∷ tail) h.chained)).0
-
-  pub run-distinct : AreDistinct (chain slots.next run.first run.count) slots.free
-  run-distinct s =
-      let once = once-le (length slots.blocks)
-      (slots_of (expanded slots.next all) ++ slots.free) s h.consistent.once in
-      let both = occurrences-append s (slots_of (expanded slots.next all)) slots.free in
-      let part = slots_of_run s in
-      omega arith
-
-  pub run-below : AreBelow (length slots.next) (chain slots.next run.first run.count)
-  run-below =
-      let same : length slots.next ≡ length slots.blocks = h.links ∙ sym h.consistent.pool in
-      rw same (below-sub (length slots.blocks) (chain slots.next run.first run.count)
-      (slots_of (expanded slots.next all) ++ slots.free) h.consistent.once (λ t.
-      let both = occurrences-append t (slots_of (expanded slots.next all)) slots.free in
-      let part = slots_of_run t in
-      omega arith))
-
-  pub run-lengths : (run.count + length slots.free ≤ room)
-      × (length xs + length kept + run.count + length tail ≤ room)
-  run-lengths =
-      let a = ap length (expanded-append slots.next xs (kept ++ run ∷ tail))
-      ∙ length-append (expanded slots.next xs) (expanded slots.next (kept ++ run ∷ tail)) in
-      let b = ap length (expanded-append slots.next kept (run ∷ tail))
-      ∙ length-append (expanded slots.next kept) (expanded slots.next (run ∷ tail)) in
-      let d = ap length (expanded-more slots.next run tail)
-      ∙ length-append (singles_of slots.next run) (expanded slots.next tail) in
-      let e = length-singles slots.next run.start run.first run.count run.kind in
-      let f = runs-le slots.next xs (chained-left slots.next xs (kept ++ run ∷ tail) h.chained) in
-      let g = runs-le slots.next kept (chained-left slots.next kept (run ∷ tail)
-      (chained-right slots.next xs (kept ++ run ∷ tail) h.chained)) in
-      let i = runs-le slots.next tail
-      ((chained-right slots.next kept (run ∷ tail)
-      (chained-right slots.next xs (kept ++ run ∷ tail) h.chained)).1) in
-      (omega (arith, h.consistent.count), omega (arith, h.consistent.count))
-
-  pub run-range : end_of run ≤ MAX_CAPACITY
-  run-range =
-      let apart = apart-maximal all 0 MAX_CAPACITY (omega arith) h.maximal in
-      let all_right = apart-right xs (kept ++ run ∷ tail) 0 MAX_CAPACITY apart in
-      let right = apart-right kept (run ∷ tail) (end_of_all 0 xs) MAX_CAPACITY all_right in
-      apart-le tail (end_of run) MAX_CAPACITY right.2
-
--- there are no more runs than the pool has slots
-pub runs-fit : (records : List Run) (slots : Slots) (room : ℕ) → AreRuns records slots room
-    → length records ≤ room
-runs-fit records slots room h = let le = runs-le slots.next records h.chained in
-    omega (arith, h.consistent.count)
-
--- the run that comes next
-pub gathered-next : (rs : List Run) (gathered : Drafted) (low high bound i : ℕ) (d : Run)
-    → AreGathered rs gathered low high bound → i < length gathered.records
-    → drop (gathered.from + i) rs ≡ get_or gathered.records i d ∷ drop (gathered.from + (i + 1)) rs
-gathered-next rs gathered low high bound i d g lt =
-    let xs : List Run = take gathered.from rs in
-    let within = g.within in
-    let lx : length xs ≡ gathered.from = front_of rs gathered.from (omega arith) in
-    let e : gathered.from + i + 1 ≡ gathered.from + (i + 1) = omega arith in
-    let here : get_or rs (gathered.from + i) d ≡ get_or gathered.records i d
-    = ap (λ zs. get_or zs (gathered.from + i) d) (sym g.same)
-    ∙ ap (λ n. get_or (xs ++ (gathered.records ++ drop (end_index gathered) rs)) (n + i) d)
-    (sym lx)
-    ∙ get_or-append-add xs (gathered.records ++ drop (end_index gathered) rs) i d
-    ∙ get_or_append_left gathered.records (drop (end_index gathered) rs) d i lt in
-    rw e at (drop_more rs (gathered.from + i) d (omega arith))
-    ∙ ap (λ r. r ∷ drop (gathered.from + (i + 1)) rs) here
-
-pub gathered-here : (rs kept : List Run) (gathered : Drafted) (low high bound i : ℕ) (d : Run)
-    → AreGathered rs gathered low high bound → i < length gathered.records
-    → splice rs gathered.from (gathered.from + i) kept ≡
-    take gathered.from rs ++ (kept ++ get_or gathered.records i d ∷ drop
-    (gathered.from + (i + 1)) rs)
-gathered-here rs kept gathered low high bound i d g lt =
-    ap (λ zs. take gathered.from rs ++ (kept ++ zs))
-    (gathered-next rs gathered low high bound i d g lt)
-
--- nothing is left in the range
-pub nothing-left : (next : List ℕ) (xs kept ys : List Run) (f : Seen)
-    (low high bound : ℕ) → low ≤ high → AreApart 0 low xs → AreApart high bound ys
-    → ((q : ℕ) → low ≤ q → q < high → find nat_cmp q (entries_by f (expanded next kept)) ≡
-    None)
-    → contents_by f (expanded next (xs ++ (kept ++ ys))) ≡
-    unmapped (contents_by f (expanded next (xs ++ (kept ++ ys)))) low (high - low)
-nothing-left next xs kept ys f low high bound le h k none =
-    same_map nat_cmp_total nat_cmp-IsAntisymmetric _ _ (λ q.
-    sym (get-unmapped (contents_by f (expanded next (xs ++ (kept ++ ys)))) low (high - low) q
-    ∙ (elim (cases_lt q low) [
-      | inl lt ↦ ap (λ b. cond b None (map.get
-          (contents_by f (expanded next (xs ++ (kept ++ ys)))) q))
-          (below low (high - low) q lt)
-      | inr ge ↦ elim (cases_lt q high) [
-        | inl lt ↦ rw (inside low (high - low) q ge (omega arith)) (sym (
-            get-from_entries nat_cmp_total (entries_by f
-            (expanded next (xs ++ (kept ++ ys)))) q
-            ∙ outside-append next xs (kept ++ ys) f q
-            (find-above (expanded next xs) f 0 low q (between-expanded next xs 0 low h) ge)
-            (outside-append next kept ys f q (none q ge lt)
-            (find-below (expanded next ys) f high bound q
-            (between-expanded next ys high bound k) (omega arith)))))
-        | inr beyond ↦ ap (λ b. cond b None (map.get
-            (contents_by f (expanded next (xs ++ (kept ++ ys)))) q))
-            (above low (high - low) q (omega arith))
-      ]
-    ])))
-
--- how many f runs have
-pub length-expanded : (next : List ℕ) (runs : List Run)
-    → length (expanded next runs) ≡ blocks_of runs
-length-expanded next [] = ap length (expanded-none next)
-length-expanded next (run ∷ runs) =
-    let a = ap length (expanded-more next run runs)
-    ∙ length-append (singles_of next run) (expanded next runs) in
-    let b = length-singles next run.start run.first run.count run.kind in
-    let d = length-expanded next runs in
-    let e = sum_by-cons (λ (r : Run). r.count) run runs in
-    omega arith
-
-pub blocks-fit : (records : List Run) (slots : Slots) (room : ℕ) → AreRuns records slots room
-    → blocks_of records ≤ room
-blocks-fit records slots room h = let e = length-expanded slots.next records in
-    omega (arith, h.consistent.count)
-
-pub gathered-blocks : (rs : List Run) (gathered : Drafted) (slots : Slots) (room low high bound : ℕ)
-    → AreRuns rs slots room → AreGathered rs gathered low high bound
-    → blocks_of gathered.records ≤ room
-gathered-blocks rs gathered slots room low high bound h g =
-    let count = λ (r : Run). r.count in
-    let a = ap blocks_of g.same in
-    let b = sum_by-append count (take gathered.from rs)
-    (gathered.records ++ drop (end_index gathered) rs) in
-    let d = sum_by-append count gathered.records (drop (end_index gathered) rs) in
-    let e = blocks-fit rs slots room h in
-    omega arith

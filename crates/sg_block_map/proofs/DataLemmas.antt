@@ -1,5 +1,5 @@
 -- How many addresses of runs have data.
-use Rattle.std.proofs.Common.{◌≡◌, ℕ, ◌+◌, ◌≤◌, zero, suc, List, [], ◌∷◌, ◌++◌, arith, refl, ap, ◌∙◌}
+use Rattle.std.proofs.Common.{◌≡◌, ℕ, ◌+◌, ◌≤◌, zero, suc, List, [], ◌∷◌, arith, refl, ap, ◌∙◌}
 use Rattle.std.proofs.Common.{cond}
 use Rattle.std.proofs.lemmas.List.Sums.{sum_by-cons}
 use Rattle.std.specs.List.{count_by}
@@ -12,11 +12,10 @@ use Rattle.sg_table.specs.declared.run.Run.{Run}
 use Rattle.sg_table.proofs.DataLemmas.{data-within}
 use Rattle.sg_pool.specs.MappedRecords.{contents_of, entries_by, mapping_in}
 use Rattle.sg_block_map.specs.Runs.{AreMaximal, blocks_of, expanded, singles, singles_of}
-use Rattle.sg_block_map.proofs.BetweenLemmas.{between-expanded}
 use Rattle.sg_block_map.proofs.ExpandedLemmas.{expanded-more, expanded-none}
 use Rattle.sg_block_map.proofs.GatheringLemmas.{count-append, count-more}
-use Rattle.sg_block_map.proofs.MaximalLemmas.{entries-append, entries-contents}
-use Rattle.sg_block_map.proofs.OrderLemmas.{apart-loose}
+use Rattle.sg_pool.proofs.EntryLemmas.{entries-append, entries-sorted}
+use Rattle.sg_block_map.proofs.MaximalLemmas.{maximal-expanded}
 
 abbrev count_data : List (ℕ × Mapping) → ℕ
 count_data es = count_by (λ (e : ℕ × Mapping). has_data e.1) es
@@ -56,8 +55,7 @@ pub data-of-runs : (next : List ℕ) (rs : List Run) (bs : List (List ℕ)) (a b
     → AreMaximal a b rs → data_count (contents_of (expanded next rs) bs) ≡ data_in rs
 unfolding data_count
 data-of-runs next rs bs a b h =
-    ap count_data (entries-contents (mapping_in bs) (expanded next rs) a b
-    (between-expanded next rs a b (apart-loose rs a a b (omega arith) h)))
+    ap count_data (entries-sorted (mapping_in bs) (expanded next rs) (maximal-expanded next rs a b h))
     ∙ data-expanded next bs rs
 
 pub data-le : (rs : List Run) → data_in rs ≤ blocks_of rs

@@ -34,7 +34,7 @@ use Rattle.sg_block_map.proofs.OrderLemmas.{apart-loose, apart-maximal, behind-l
 use Rattle.sg_block_map.proofs.OrderLemmas.{behind-at-most, behind_all, begins-low, front-kept}
 use Rattle.sg_block_map.proofs.OrderLemmas.{maximal-before, maximal-from, maximal-right, maximal-to}
 use Rattle.sg_block_map.proofs.OrderLemmas.{alike, narrow-any, same_kind-swap, written-maximal}
-use Rattle.sg_block_map.proofs.CutRunsLemmas.{below-sub, length-expanded}
+use Rattle.sg_block_map.proofs.RunSlotLemmas.{below-sub, length-expanded}
 use Rattle.sg_block_map.proofs.ExpandedLemmas.{expanded-append, expanded-more, singles-none}
 use Rattle.sg_block_map.proofs.ExpandedLemmas.{length-singles, chained-append, chained-left}
 use Rattle.sg_block_map.proofs.ExpandedLemmas.{chained-right, slots-both}

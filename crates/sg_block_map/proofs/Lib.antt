@@ -6,6 +6,8 @@ pub mod GatheringLemmas
 pub mod SplitLemmas
 pub mod WalkLemmas
 pub mod CutLemmas
+pub mod RemainingLemmas
+pub mod RunSlotLemmas
 pub mod CutRunsLemmas
 pub mod JoinLemmas
 pub mod OverwriteLemmas

@@ -2,19 +2,13 @@
 use Rattle.std.proofs.Common.{◌≡◌, ℕ, ◌+◌, ◌-◌, ◌<◌, ◌≤◌, zero, suc, List, [], ◌∷◌, ◌++◌, length}
 use Rattle.std.proofs.Common.{take, drop, arith, refl, sym, ap, ap₂, ◌∙◌, cond, Bool, true, false}
 use Rattle.std.proofs.lemmas.Bool.Decides.{nat_tests}
-use Rattle.std.proofs.lemmas.List.{map-append, length-map, nil_from_length}
+use Rattle.std.proofs.lemmas.List.{map-append, length-map}
 use Rattle.std.proofs.lemmas.List.Sums.{sum_by-append, sum_by-cons, count_by-le-length}
-use Rattle.std.specs.Cmp.{nat_cmp_total, nat_cmp_is}
-use Rattle.std.specs.FinMap as map'
-use Rattle.std.specs.FinMap.{entries, entries-insert, put, len-entries, len-empty}
 use Rattle.std.specs.List.{count_by, sum_by}
-use Rattle.std.specs.Ordering.{nat_cmp}
-use Rattle.std.specs.Prelude.{map, slice_index, nat_lt, nat_le, ◌==◌, ◌&&◌, min}
-use Rattle.std.specs.Prelude.{max}
-use Rattle.std.specs.declared.cmp.Ordering.TheVariants.{Less}
+use Rattle.std.specs.Prelude.{map, slice_index, nat_lt, nat_le, ◌==◌, ◌&&◌, min, max}
 use Rattle.sg_store.specs.Disk.{Mapping}
 use Rattle.sg_table.specs.Draft.{Drafted}
-use Rattle.sg_pool.specs.MappedRecords.{Seen, mapping_in, entries_by, contents_by, contents_of}
+use Rattle.sg_pool.specs.MappedRecords.{Seen, mapping_in, entries_by, contents_of}
 use Rattle.sg_table.specs.declared.run.Kind.{Kind}
 use Rattle.sg_table.specs.declared.run.Kind.TheVariants.{Data as DataRun, Anchored as AnchoredRun}
 use Rattle.sg_table.specs.declared.run.Run.{Run}
@@ -22,9 +16,10 @@ use Rattle.sg_block_map.specs.Gathering.{starts_in, AreNear, AreGathered, end_in
 use Rattle.sg_block_map.specs.MaximalRuns.{Extent, kind_of, same_kind, with_address, runs_of, runs}
 use Rattle.sg_block_map.specs.MaximalRuns.{meets, meet, blocks_near}
 use Rattle.sg_block_map.specs.Runs.{end_of, singles, singles_of, expanded, AreApart, AreMaximal}
-use Rattle.sg_block_map.specs.Runs.{AreBetween, Bound, any_from, behind, AreMaximalIn, extent_of}
-use Rattle.sg_block_map.specs.Runs.{blocks_of}
-use Rattle.sg_block_map.proofs.BetweenLemmas.{between-expanded, apart-le}
+use Rattle.sg_block_map.specs.Runs.{Bound, any_from, behind, AreMaximalIn, extent_of, blocks_of}
+use Rattle.sg_pool.proofs.EntryLemmas.{entries-append, entries-sorted}
+use Rattle.sg_table.specs.Records.{IsSorted}
+use Rattle.sg_block_map.proofs.BetweenLemmas.{between-expanded, apart-le, sorted-between}
 use Rattle.sg_block_map.proofs.OrderLemmas.{apart-loose}
 use Rattle.sg_block_map.proofs.ExpandedLemmas.{expanded-more, expanded-none}
 use Rattle.sg_block_map.proofs.GatheringLemmas.{count-more, count-append}
@@ -33,31 +28,6 @@ use Rattle.sg_block_map.proofs.GatheringLemmas.{count-more, count-append}
 blocks-show : (bs : List (List ℕ)) (slot : ℕ) (kind : Kind) → kind_of (mapping_in bs slot kind) ≡ kind
 blocks-show bs slot DataRun = refl
 blocks-show bs slot AnchoredRun = refl
-
--- a list whose addresses rise has its entries in order
-put-first : (f : Seen) (x : Run) (xs : List Run) (v : Mapping) (b : ℕ)
-    → AreBetween (x.start + 1) b xs → put nat_cmp x.start v (entries_by f xs) ≡
-    (x.start, v) ∷ entries_by f xs
-put-first f x [] v b h = refl
-put-first f x (y ∷ xs) v b h = let less : Less ≡ nat_cmp x.start y.start =
-    nat_cmp_is x.start y.start Less (omega (arith, h.0)) in rw (sym less) refl
-
-nothing : entries {X = Mapping} {R = nat_cmp} map'.empty ≡ []
-nothing = nil_from_length (entries {X = Mapping} {R = nat_cmp} map'.empty)
-    (sym (len-entries map'.empty) ∙ len-empty nat_cmp Mapping)
-
-pub entries-contents : (f : Seen) (xs : List Run) (a b : ℕ) → AreBetween a b xs
-    → entries (contents_by f xs) ≡ entries_by f xs
-entries-contents f [] a b h = nothing
-entries-contents f (x ∷ xs) a b h =
-    entries-insert nat_cmp_total (contents_by f xs) x.start (f x.first x.kind)
-    ∙ ap (put nat_cmp x.start (f x.first x.kind)) (entries-contents f xs (x.start + 1) b h.1)
-    ∙ put-first f x xs (f x.first x.kind) b h.1
-
-pub entries-append : (f : Seen) (xs ys : List Run)
-    → entries_by f (xs ++ ys) ≡ entries_by f xs ++ entries_by f ys
-entries-append f [] ys = refl
-entries-append f (x ∷ xs) ys = ap (λ es. (x.start, f x.first x.kind) ∷ es) (entries-append f xs ys)
 
 -- the first of some runs begins at a bound or past it
 abbrev IsPast : Bound → List Extent → Type 0
@@ -147,13 +117,18 @@ module _ (f : Seen) (shows : (slot : ℕ) (kind : Kind) → kind_of (f slot kind
         ∙ a_run run (run.count - 1) (entries_by f (expanded next rs)) e later
         ∙ ap (λ xs. extent_of run ∷ xs) rest
 
+-- the single addresses of maximal runs rise
+pub maximal-expanded : (next : List ℕ) (rs : List Run) (a b : ℕ) → AreMaximal a b rs
+    → IsSorted (expanded next rs)
+maximal-expanded next rs a b h = sorted-between (expanded next rs) a b
+    (between-expanded next rs a b (apart-loose rs a a b (omega arith) h))
+
 -- the records are the maximal runs
 pub runs-extents : (next : List ℕ) (rs : List Run) (bs : List (List ℕ)) (a b : ℕ)
     → AreMaximal a b rs → runs (contents_of (expanded next rs) bs) ≡ map extent_of rs
 unfolding runs
 runs-extents next rs bs a b h =
-    ap runs_of (entries-contents (mapping_in bs) (expanded next rs) a b
-    (between-expanded next rs a b (apart-loose rs a a b (omega arith) h)))
+    ap runs_of (entries-sorted (mapping_in bs) (expanded next rs) (maximal-expanded next rs a b h))
     ∙ runs-expanded (mapping_in bs) (blocks-show bs) next rs (any_from a) (any_from b) h
 
 -- a run that begins in the range meets it

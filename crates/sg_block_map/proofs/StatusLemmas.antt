@@ -33,7 +33,7 @@ use Rattle.sg_table.proofs.RecordLemmas.{start_of-read}
 use Rattle.sg_table.proofs.TableLemmas.{visited-more, visited-less}
 use Rattle.sg_block_map.proofs.OrderLemmas.{maximal-sorted, apart-maximal}
 use Rattle.sg_block_map.proofs.OrderLemmas.{behind-high}
-use Rattle.sg_block_map.proofs.CutRunsLemmas.{runs-fit, blocks-fit}
+use Rattle.sg_block_map.proofs.RunSlotLemmas.{runs-fit, blocks-fit}
 use Rattle.sg_block_map.proofs.GatheringLemmas.{end_at-read}
 use Rattle.sg_block_map.proofs.AddressLemmas.{kind_at, kinds-differ, get-inside, get-outside}
 use Rattle.sg_block_map.proofs.AddressLemmas.{contains-inside, apart-order, ends-within}

@@ -33,7 +33,7 @@ use Rattle.sg_pool.proofs.ConsistencyLemmas.{consistent-empty}
 use Rattle.sg_pool.proofs.MappedLemmas.{len-contents_by}
 use Rattle.sg_store.proofs.WellFormedLemmas.{well_formed-empty}
 use Rattle.sg_block_map.proofs.OrderLemmas.{maximal-sorted}
-use Rattle.sg_block_map.proofs.CutRunsLemmas.{runs-fit, gathered-blocks, length-expanded}
+use Rattle.sg_block_map.proofs.RunSlotLemmas.{runs-fit, gathered-blocks, length-expanded}
 use Rattle.sg_block_map.proofs.ExpandedLemmas.{expanded-none}
 use Rattle.sg_block_map.proofs.FinishLemmas.{gathered-ahead}
 use Rattle.sg_block_map.proofs.MaximalLemmas.{starts-meet, runs-extents, meet-gathered}

@@ -2,13 +2,16 @@
 use Rattle.std.specs.Prelude.{◌≡◌, ℕ, ◌+◌, ◌<◌, ◌≤◌, List, ◌∷◌, ◌++◌, length, slice_set}
 use Rattle.std.specs.Prelude.{if◌then◌else◌, ◌==◌, Bool, true, false, Option, Some, None}
 use Rattle.std.specs.FinMap.{get, insert}
-use Rattle.sg_store.specs.Disk.{Mapping}
+use Rattle.sg_store.specs.Disk.{Mapping, remapped, used_among}
 use Rattle.sg_store.specs.Disk.Mapping.{Data, Anchored}
 use Rattle.sg_pool.specs.Chains.{IsChain}
 use Rattle.sg_pool.specs.MappedRecords.{slot_numbers}
 use Rattle.sg_pool.specs.Slots.{Slots}
+use Rattle.sg_pool.specs.Source.{HasBlocks}
+use Rattle.sg_pool.specs.declared.source.Source.{Source}
 use Rattle.sg_pool.specs.MappedRecords.{IsConsistent}
 use Rattle.sg_table.specs.Draft.{Drafted}
+use Rattle.sg_table.specs.Leaves.{move_bound}
 use Rattle.sg_table.specs.Table.{Table}
 use Rattle.sg_table.specs.declared.run.Kind.{Kind}
 use Rattle.sg_table.specs.declared.run.Kind.TheVariants.{Data as DataRun, Anchored as AnchoredRun}
@@ -16,8 +19,9 @@ use Rattle.sg_table.specs.declared.run.Run.{Run}
 use Rattle.sg_store.specs.declared.store.TheConstants.{MAX_CAPACITY, MAX_COUNT, MAX_POOL}
 use Rattle.sg_block_map.specs.Gathering.{AreGathered, AreNear}
 use Rattle.sg_block_map.specs.MaximalRuns.{same_kind}
+use Rattle.sg_block_map.specs.Metering.{FollowsLinks}
 use Rattle.sg_block_map.specs.Runs.{end_of, expanded, AreChained, AreMaximal, AreRuns}
-use Rattle.sg_block_map.specs.Runs.{chained_contents, any_from, begins, AreMaximalIn}
+use Rattle.sg_block_map.specs.Runs.{chained_contents, any_from, begins, blocks_of, AreMaximalIn}
 
 -- Two runs as one. The first may have no address yet.
 abbrev pub joined : Run → Run → Run
@@ -102,6 +106,26 @@ pub record ChangesRuns (most_moves : ℕ) (before after : Table) (slots : Slots)
   pub runs : AreRuns after.records slots after.room
   pub table : after ≡ record before { records = after.records; moved = after.moved }
   pub moves : after.moved ≤ before.moved + most_moves
+
+-- A range that is not empty can be remapped to what a source has for it: the runs near it were
+-- gathered, and there are free slots for its addresses that have none.
+pub record CanRemap (table : Table) (slots : Slots) (gathered : Drafted) (lba count : ℕ)
+    (source : Source) : Type 0 where
+  pub ready : IsReadyFor table slots gathered lba (lba + count)
+  pub range : (0 < count) × (lba + count ≤ MAX_CAPACITY)
+  pub blocks : HasBlocks source count
+  pub free : count ≤ length slots.free
+      + used_among (chained_contents table.records slots) lba count
+
+-- A range is remapped, each address that has a slot keeps it, and at most as many links are followed
+-- as the gathered runs have blocks.
+pub record RemapsRange (before after : Table) (old new : Slots) (gathered : Drafted) (lba count : ℕ)
+    (mapping : ℕ → Mapping) : Type 0 where
+  pub contents : chained_contents after.records new
+      ≡ remapped (chained_contents before.records old) lba count mapping
+  pub keeps : KeepSlots old.next before.records new.next after.records
+  pub table : ChangesRuns (move_bound + 3) before after new
+  pub links : FollowsLinks (blocks_of gathered.records) old new
 
 -- A run of a kind that is to begin at an address, and has none yet.
 abbrev pub no_run : (lba : ℕ) → Kind → Run

@@ -1,20 +1,17 @@
 // Writing a range: the runs near it and its addresses become one run. That there are slots enough is for
 // the store to know, and which runs are near is for `gather`.
-ghost use Rattle.std.specs.Prelude.{◌≡◌, ◌+◌, ◌-◌, ◌^◌, ◌<◌, ◌≤◌, ◌++◌, ◌∷◌, ℕ, List, length};
+ghost use Rattle.std.specs.Prelude.{◌≡◌, ◌+◌, ◌-◌, ◌^◌, ◌<◌, ◌≤◌, ◌++◌, ℕ, List, length};
 ghost use Rattle.std.specs.Prelude.{None, Option, option_to_list, IfSome};
-ghost use Rattle.sg_store.specs.Disk.{remapped, used_among};
 ghost use Rattle.sg_block_map.specs.MaximalRuns.{same_kind};
-ghost use Rattle.sg_table.specs.Leaves.{move_bound};
 ghost use Rattle.sg_table.specs.Records.{run_at};
 ghost use Rattle.sg_table.specs.Occurrences.{occurrences};
 ghost use Rattle.sg_pool.specs.Slots.{followed};
-ghost use Rattle.sg_pool.specs.Source.{HasBlocks, block_of};
+ghost use Rattle.sg_pool.specs.Source.{block_of};
 ghost use Rattle.sg_block_map.specs.Joining.{begun, joined, linked, mapping_as, put_block, IsWriting};
-ghost use Rattle.sg_block_map.specs.Joining.{ChangesRuns, GoesOn, IsFinished, IsReadyFor};
-ghost use Rattle.sg_block_map.specs.Joining.{KeepSlots, PutsAddress};
-ghost use Rattle.sg_block_map.specs.Metering.{FollowsLinks, FollowsPassed};
-ghost use Rattle.sg_block_map.specs.Runs.{expanded, chained_contents};
-ghost use Rattle.sg_block_map.specs.Runs.{blocks_of};
+ghost use Rattle.sg_block_map.specs.Joining.{CanRemap, GoesOn, IsFinished, PutsAddress};
+ghost use Rattle.sg_block_map.specs.Joining.{RemapsRange};
+ghost use Rattle.sg_block_map.specs.Metering.{FollowsPassed};
+ghost use Rattle.sg_block_map.specs.Runs.{blocks_of, expanded};
 ghost use Rattle.sg_block_map.specs.Walking.{ahead_of, AreAhead, IsWalkFrom};
 
 use crate::gather::Gathered;
@@ -193,21 +190,9 @@ fn put_range(
     kind: Kind,
     source: &Source,
 )
-    requires ready { IsReadyFor table.old pool.old gathered.now lba (lba + count) }
-    requires range { (0 < count) × (lba + count ≤ MAX_CAPACITY) }
-    requires blocks { HasBlocks source.now count }
-    requires free { count ≤ length pool.old.free
-        + used_among (chained_contents table.old.records pool.old) lba count }
-
-    // The range is remapped, and each address that has a slot keeps it.
-    ensures contents { chained_contents table.new.records pool.new
-        ≡ remapped (chained_contents table.old.records pool.old) lba count
+    requires { CanRemap table.old pool.old gathered.now lba count source.now }
+    ensures { RemapsRange table.old table.new pool.old pool.new gathered.now lba count
         (λ index. mapping_as kind (block_of source.now index)) }
-    ensures keeps { KeepSlots pool.old.next table.old.records pool.new.next table.new.records }
-    ensures table { ChangesRuns (move_bound + 3) table.old table.new pool.new }
-
-    // At most as many links are followed as the gathered runs have blocks.
-    ensures links { FollowsLinks (blocks_of gathered.now.records) pool.old pool.new }
 {
     let runs = gathered.records();
     let (front, mut progress) = begin(pool, runs, lba, kind);
@@ -230,21 +215,9 @@ pub(crate) fn write_runs(
     kind: Kind,
     source: &Source,
 )
-    requires ready { IsReadyFor table.old pool.old gathered.now lba (lba + count) }
-    requires range { (0 < count) × (lba + count ≤ MAX_CAPACITY) }
-    requires blocks { HasBlocks source.now count }
-    requires free { count ≤ length pool.old.free
-        + used_among (chained_contents table.old.records pool.old) lba count }
-
-    // The range is remapped, and each address that has a slot keeps it.
-    ensures contents { chained_contents table.new.records pool.new
-        ≡ remapped (chained_contents table.old.records pool.old) lba count
+    requires { CanRemap table.old pool.old gathered.now lba count source.now }
+    ensures { RemapsRange table.old table.new pool.old pool.new gathered.now lba count
         (λ index. mapping_as kind (block_of source.now index)) }
-    ensures keeps { KeepSlots pool.old.next table.old.records pool.new.next table.new.records }
-    ensures table { ChangesRuns (move_bound + 3) table.old table.new pool.new }
-
-    // At most as many links are followed as the gathered runs have blocks.
-    ensures links { FollowsLinks (blocks_of gathered.now.records) pool.old pool.new }
 {
     let runs = gathered.records();
     if let Some(run) = covering(runs, lba, count, kind) {

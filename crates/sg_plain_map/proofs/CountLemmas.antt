@@ -1,44 +1,17 @@
 -- How many records have data.
-use Rattle.std.proofs.Common.{◌≡◌, ℕ, ◌+◌, ◌<◌, ◌≤◌, List, [], ◌∷◌, length, arith, refl, sym}
+use Rattle.std.proofs.Common.{◌≡◌, ℕ, ◌+◌, ◌≤◌, List, [], ◌∷◌, length, arith, refl, sym}
 use Rattle.std.proofs.Common.{ap, ap₂, ◌∙◌, cond}
-use Rattle.std.proofs.lemmas.List.{nil_from_length}
 use Rattle.std.proofs.lemmas.List.Sums.{sum_by-cons}
-use Rattle.std.specs.Cmp.{nat_cmp_total, nat_cmp_is}
-use Rattle.std.specs.FinMap as map
-use Rattle.std.specs.FinMap.{entries, entries-insert, put, len-entries, len-empty}
 use Rattle.std.specs.List.{count_by}
-use Rattle.std.specs.Ordering.{nat_cmp}
-use Rattle.std.specs.declared.cmp.Ordering.TheVariants.{Less}
 use Rattle.sg_store.specs.Disk.{Mapping, data_count, has_data}
-use Rattle.sg_pool.specs.MappedRecords.{Seen, entries_by, contents_by, contents_of, mapping_in}
+use Rattle.sg_pool.specs.MappedRecords.{entries_by, contents_of, mapping_in}
 use Rattle.sg_table.specs.Records.{IsSorted}
 use Rattle.sg_table.specs.declared.run.Kind.{Kind}
 use Rattle.sg_table.specs.declared.run.Kind.TheVariants.{Data, Anchored}
 use Rattle.sg_table.specs.declared.run.Run.{Run}
-use Rattle.sg_table.proofs.RecordLemmas.{sorted_tail}
+use Rattle.sg_pool.proofs.EntryLemmas.{entries-sorted}
 use Rattle.sg_plain_map.specs.Editing.{data_records, one_if_data}
 use Rattle.sg_plain_map.proofs.EditingLemmas.{one_if_data-le}
-
--- the entries of sorted records are theirs, in order
-put-first : (see : Seen) (x : Run) (xs : List Run) (v : Mapping) → IsSorted (x ∷ xs)
-    → put nat_cmp x.start v (entries_by see xs) ≡ (x.start, v) ∷ entries_by see xs
-put-first see x [] v rises = refl
-put-first see x (y ∷ xs) v rises =
-    let above : x.start < y.start = rises 0 1 (omega arith) (omega arith) in
-    let less : Less ≡ nat_cmp x.start y.start = nat_cmp_is x.start y.start Less above in
-    rw (sym less) refl
-
-nothing : entries {X = Mapping} {R = nat_cmp} map.empty ≡ []
-nothing = nil_from_length (entries {X = Mapping} {R = nat_cmp} map.empty)
-    (sym (len-entries map.empty) ∙ len-empty nat_cmp Mapping)
-
-entries-sorted : (see : Seen) (rs : List Run) → IsSorted rs
-    → entries (contents_by see rs) ≡ entries_by see rs
-entries-sorted see [] rises = nothing
-entries-sorted see (x ∷ xs) rises =
-    entries-insert nat_cmp_total (contents_by see xs) x.start (see x.first x.kind)
-    ∙ ap (put nat_cmp x.start (see x.first x.kind)) (entries-sorted see xs (sorted_tail x xs rises))
-    ∙ put-first see x xs (see x.first x.kind) rises
 
 -- those with data among them
 count-data : (bs : List (List ℕ)) (slot : ℕ) (kind : Kind)

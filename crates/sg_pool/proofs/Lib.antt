@@ -2,6 +2,7 @@
 pub mod LinkLemmas
 pub mod SourceLemmas
 pub mod MappedLemmas
+pub mod EntryLemmas
 pub mod BlockLemmas
 pub mod ConsistencyLemmas
 -- For the pool alone.

@@ -2,7 +2,8 @@
 -- other, so that neither keeps anything else.
 use Rattle.std.specs.Prelude.{◌≡◌, ◌<◌}
 use Rattle.sg_table.specs.LeafList.{AreSlots}
-use Rattle.sg_table.specs.Leaves.{IsSpan, first_addresses, starts_of}
+use Rattle.sg_table.specs.Leaves.{IsSpan, first_addresses, joined, starts_of}
+use Rattle.sg_table.specs.Records.{data_in}
 use Rattle.sg_table.specs.declared.draft.Draft.TheInside.{Inside as DraftInside}
 use Rattle.sg_table.specs.declared.leaf.Leaf.TheInside.{Inside as LeafInside}
 use Rattle.sg_table.specs.declared.leaf_list.LeafList.TheInside.{Inside as LeafListInside}
@@ -23,22 +24,26 @@ pub record IsSameTable (table other : TableInside) : Type 0 where
 abbrev pub TableIsItsParts : Type 0
 TableIsItsParts = (table other : TableInside) → IsSameTable table other → table ≡ other
 
--- The same leaves in their slots, directory, span of the leaf that was found last, and moves.
+-- The same leaves in their slots, directory, span of the leaf that was found last, number of addresses
+-- with data, and moves.
 pub record AreSameLeaves (leaves other : LeavesInside) : Type 0 where
   pub list : leaves.leaves ≡ other.leaves
   pub starts : leaves.starts ≡ other.starts
   pub firsts : leaves.firsts ≡ other.firsts
   pub recent : leaves.recent ≡ other.recent
+  pub data_count : leaves.data_count ≡ other.data_count
   pub moved : leaves.moved.value ≡ other.moved.value
 
 abbrev pub LeavesAreTheirParts : Type 0
 LeavesAreTheirParts = (leaves other : LeavesInside) → AreSameLeaves leaves other → leaves ≡ other
 
--- The directory and the span are those of the records in the leaves: nothing else decides on them.
+-- The directory, the span and the number are those of the records in the leaves: nothing else decides
+-- on them.
 pub record FollowFromRecords (leaves : LeavesInside) : Type 0 where
   pub starts : leaves.starts.items ≡ starts_of 0 leaves.leaves.leaves
   pub firsts : leaves.firsts.items ≡ first_addresses leaves.leaves.leaves
   pub recent : leaves.recent.start < leaves.recent.end → IsSpan leaves.leaves.leaves leaves.recent
+  pub data_count : leaves.data_count ≡ data_in (joined leaves.leaves.leaves)
 
 abbrev pub DirectoryFollows : Type 0
 DirectoryFollows = (leaves : LeavesInside) → leaves_invariant leaves → FollowFromRecords leaves

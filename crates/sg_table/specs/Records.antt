@@ -1,6 +1,7 @@
 -- The table of records. Where each maps one address to a slot, it stands for the contents of a disk.
-use Rattle.std.specs.Prelude.{◌≡◌, ℕ, ◌+◌, ◌<◌, ◌≤◌, zero, suc, List, [], ◌∷◌, length, slice_index_or}
+use Rattle.std.specs.Prelude.{◌≡◌, ℕ, ◌+◌, ◌^◌, ◌<◌, ◌≤◌, zero, suc, List, [], ◌∷◌, length, slice_index_or}
 use Rattle.std.specs.Prelude.{Option, Some, None, if◌then◌else◌, ◌==◌}
+use Rattle.std.specs.List.{All}
 use Rattle.sg_table.specs.declared.cursor.Cursor.{Cursor}
 use Rattle.sg_table.specs.declared.run.Kind.{Kind}
 use Rattle.sg_table.specs.declared.run.Kind.TheVariants.{Data, Anchored}
@@ -24,6 +25,13 @@ count_if_data Anchored count = 0
 abbrev pub data_in : List Run → ℕ
 data_in [] = 0
 data_in (run ∷ records) = count_if_data run.kind run.count + data_in records
+
+-- A record has as many of them as a count can be, at most, and so has each of some.
+abbrev pub IsShort : Run → Type 0
+IsShort run = count_if_data run.kind run.count < 2 ^ 32
+
+abbrev pub AreShort : List Run → Type 0
+AreShort records = All IsShort records
 
 -- The address of the record at an index.
 abbrev pub start_of : List Run → ℕ → ℕ

@@ -10,13 +10,13 @@ pub fn a_table_is_made_of_its_leaves_and_counts()
 {}
 
 /// Its leaves are made of a list of leaves, a directory of two lists, the span of the leaf that was
-/// found last, and the number of moves.
+/// found last, the number of addresses with data, and the number of moves.
 pub fn the_leaves_are_made_of_a_list_and_a_directory()
     ensures { LeavesAreTheirParts }
 {}
 
-/// The directory and the span follow from the records: they are the index and the first address of
-/// each leaf, and the indexes of one leaf.
+/// The directory, the span and the number follow from the records: they are the index and the first
+/// address of each leaf, the indexes of one leaf, and how many addresses have data.
 pub fn the_directory_follows_from_the_records()
     ensures { DirectoryFollows }
 {}

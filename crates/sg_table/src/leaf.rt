@@ -2,7 +2,7 @@
 ghost use Rattle.std.specs.Prelude.{◌≡◌, ◌+◌, ◌-◌, ◌*◌, ◌^◌, ◌<◌, ◌≤◌, [], length, slice_index_or};
 ghost use Rattle.std.specs.List.{splice};
 ghost use Rattle.sg_table.specs.Leaves.{rotated_left, rotated_right};
-ghost use Rattle.sg_table.specs.Records.{data_in, start_of};
+ghost use Rattle.sg_table.specs.Records.{start_of};
 
 use crate::run::Run;
 use arrayvec::ArrayVec;
@@ -68,18 +68,6 @@ impl Leaf {
             Some(run) => run.start,
             None => 0,
         }
-    }
-
-    /// How many addresses of its records have data.
-    pub(crate) fn data_count(&self) -> u64
-        ensures value { result ≡ data_in self.now }
-        ensures fits { result ≤ MAX_LEAF * 2 ^ 32 }
-    {
-        let mut data = 0;
-        for run in self.records.as_slice() {
-            data += run.data_count();
-        }
-        data
     }
 
     /// Removes all records.

@@ -16,7 +16,7 @@ ghost use Rattle.sg_table.specs.Records.{data_in};
 use crate::ghost_number::GhostNumber;
 use crate::leaf::MAX_LEAF;
 use crate::leaf_list::LeafList;
-use crate::run::Run;
+use crate::run::{Run, data_count};
 use arrayvec::ArrayVec;
 use probed::Probed;
 pub(crate) use searching::lower_bound;
@@ -78,6 +78,8 @@ pub(crate) struct Leaves {
     firsts: Vec<u64>,
     /// The leaf that was found last.
     recent: Span,
+    /// How many addresses of the records have data.
+    data_count: u64,
     moved: GhostNumber,
 }
 
@@ -85,6 +87,8 @@ impl Model for Leaves {
     ghost use Rattle.std.specs.Prelude.{◌≡◌, ◌<◌, ◌≤◌, length, vec_capacity};
     ghost use Rattle.std.specs.List.{All};
     ghost use Rattle.sg_table.specs.Leaves.{LeafTable, FitsLeaf, IsDirectory, IsSpan, first_addresses};
+    ghost use Rattle.sg_table.specs.Leaves.{joined};
+    ghost use Rattle.sg_table.specs.Records.{AreShort, data_in};
     ghost use Rattle.sg_table.specs.declared.leaves.TheConstants.{MAX_LEAVES};
 
     ghost Value = { LeafTable };
@@ -102,7 +106,9 @@ impl Model for Leaves {
         × All FitsLeaf l.leaves.leaves
         × (l.firsts.items ≡ first_addresses l.leaves.leaves)
         × (l.leaves.capacity ≤ vec_capacity l.firsts)
-        × (l.recent.start < l.recent.end → IsSpan l.leaves.leaves l.recent) };
+        × (l.recent.start < l.recent.end → IsSpan l.leaves.leaves l.recent)
+        × All AreShort l.leaves.leaves
+        × (l.data_count ≡ data_in (joined l.leaves.leaves)) };
 }
 
 // The directory of one leaf without records, with room for `count` leaves.
@@ -152,6 +158,7 @@ impl Leaves {
             starts,
             firsts,
             recent: NO_SPAN,
+            data_count: 0,
             moved: GhostNumber::zero(),
         })
     }
@@ -167,11 +174,7 @@ impl Leaves {
     pub(crate) fn data_count(&self) -> u64
         ensures { result ≡ data_in (joined self.now.leaves) }
     {
-        let mut data = 0;
-        for index in 0..self.used() {
-            data += self.leaves.leaf(index).data_count();
-        }
-        data
+        self.data_count
     }
 
     /// How many leaves there are.
@@ -310,6 +313,8 @@ impl Leaves {
         } }
     {
         let before = self.leaves.leaf(leaf).len();
+        let removed = data_count(&self.leaves.leaf(leaf).records()[from..to]);
+        self.data_count = self.data_count - removed + data_count(runs);
         self.leaves.splice(leaf, from, to, runs);
         let after = self.leaves.leaf(leaf).len();
         self.moved = self.moved.increased(before - from).increased(after - from);
@@ -343,6 +348,7 @@ impl Leaves {
         ensures { self.new ≡ record self.old { leaves = remove self.old.leaves leaf } }
     {
         let count = self.leaves.leaf(leaf).len();
+        self.data_count -= data_count(self.leaves.leaf(leaf).records());
         shift(&mut self.starts, leaf + 1, count as u32, 0);
         self.starts.remove(leaf);
         self.firsts.remove(leaf);

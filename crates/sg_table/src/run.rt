@@ -1,7 +1,7 @@
 // A record of the table: addresses in a row. It knows no order, and of its slots no more than their
 // numbers.
-ghost use Rattle.std.specs.Prelude.{◌≡◌, ◌≤◌};
-ghost use Rattle.sg_table.specs.Records.{count_if_data, single};
+ghost use Rattle.std.specs.Prelude.{◌≡◌, ◌^◌, ◌<◌, ◌≤◌, length};
+ghost use Rattle.sg_table.specs.Records.{AreShort, count_if_data, data_in, single};
 
 /// What the addresses of a run have in their slots.
 #[derive(Clone, Copy, Default, PartialEq)]
@@ -42,8 +42,8 @@ impl Run {
         }
     }
 
-    /// How many of its addresses have data.
-    pub(crate) fn data_count(self) -> u64
+    // How many of its addresses have data.
+    fn data_count(self) -> u64
         ensures value { result ≡ count_if_data self.kind self.count }
         ensures fits { result ≤ u32.MAX }
     {
@@ -52,4 +52,17 @@ impl Run {
             Kind::Anchored => 0,
         }
     }
+}
+
+/// How many addresses of records have data.
+pub(crate) fn data_count(records: &[Run]) -> u64
+    requires { length records.now < 2 ^ 32 }
+    ensures value { result ≡ data_in records.now }
+    ensures short { AreShort records.now }
+{
+    let mut count = 0;
+    for run in records {
+        count += run.data_count();
+    }
+    count
 }

@@ -96,8 +96,7 @@ impl RunTable {
         self.probes
     }
 
-    /// How many addresses of the records have data. No record is returned, and so none is visited:
-    /// this is for whoever shows a disk, and goes over all records.
+    /// How many addresses of the records have data.
     pub fn data_count(&self) -> u64
         ensures { result ≡ data_in self.now.records }
     {

@@ -17,10 +17,12 @@ use Rattle.sg_table.specs.declared.run.Run.{Run}
 use Rattle.sg_store.specs.declared.store.TheConstants.{MAX_CAPACITY}
 use Rattle.sg_block_map.specs.Gathering.{end_index, AreGathered}
 use Rattle.sg_block_map.specs.Runs.{expanded, AreRuns}
-use Rattle.sg_block_map.proofs.CutRunsLemmas.{cut-runs, cut-contents, cut-outside, run-chain}
-use Rattle.sg_block_map.proofs.CutRunsLemmas.{run-distinct, run-below, run-lengths, run-range}
-use Rattle.sg_block_map.proofs.CutRunsLemmas.{runs-fit, gathered-here, nothing-left}
-use Rattle.sg_block_map.proofs.CutRunsLemmas.{gathered-blocks}
+use Rattle.sg_block_map.proofs.CutRunsLemmas.{cut-runs, cut-contents, cut-outside}
+use Rattle.sg_block_map.proofs.RunSlotLemmas.{run-chain}
+use Rattle.sg_block_map.proofs.RunSlotLemmas.{run-distinct, run-below, run-lengths, run-range}
+use Rattle.sg_block_map.proofs.RemainingLemmas.{nothing-left}
+use Rattle.sg_block_map.proofs.RunSlotLemmas.{runs-fit, gathered-here}
+use Rattle.sg_block_map.proofs.RunSlotLemmas.{gathered-blocks}
 use Rattle.sg_block_map.proofs.ExpandedLemmas.{expanded-none}
 use Rattle.sg_block_map.proofs.OrderLemmas.{apart-loose}
 use Rattle.sg_block_map.proofs.unmap.unmap_runs.Goals as goal

@@ -16,7 +16,7 @@ use Rattle.sg_block_map.specs.Runs.{expanded, any_from, AreRuns, chained_content
 use Rattle.sg_block_map.specs.Walking.{ahead_of}
 use Rattle.sg_store.proofs.DiskLemmas.{remapped-none, remapped-more}
 use Rattle.sg_block_map.proofs.OrderLemmas.{maximal-from}
-use Rattle.sg_block_map.proofs.CutRunsLemmas.{runs-fit, gathered-blocks, length-expanded}
+use Rattle.sg_block_map.proofs.RunSlotLemmas.{runs-fit, gathered-blocks, length-expanded}
 use Rattle.sg_block_map.proofs.FinishLemmas.{begin-range, finished, parts-shape, gathered-ahead}
 use Rattle.sg_block_map.proofs.FinishLemmas.{walk_from-near, walk_from-kind, walk_from-start}
 use Rattle.sg_block_map.proofs.FinishLemmas.{walk_from-blocks}
@@ -226,8 +226,8 @@ put_parts-requires-clause-room c =
     let len = ap length c.records-runs.ensures in
     omega (arith, fit)
 
-pub returns-clause-contents : goal.returns-clause-contents
-returns-clause-contents c =
+pub returns : goal.returns
+returns c =
     let rs = c.args.table.now.records in
     let gathered = c.args.gathered.now in
     let inv = c.loop-i.invariant in
@@ -248,71 +248,26 @@ returns-clause-contents c =
     c.finish-back.result.1 w.at high
     room c.loop-i.pool c.finish-back.new.pool writing inv.near c.finish-back.ensures some g.after
     (inv.length ∙ c.requires.ready.runs.links) in
+    let records = ap (λ (t : Table). t.records) c.put_parts.ensures.table in
     let is : c.put_parts.new.table.records ≡ (before ++ fs) ++ run ∷ (bs ++ after) =
-    ap (λ (t : Table). t.records) c.put_parts.ensures.table ∙ parts-shape before fs bs after run in
-    let contents = rw all at inv.contents in
-    ap (λ zs. chained_contents zs c.finish-back.new.pool) is
-    ∙ ap₂ contents_of final.expanded_same final.blocks
-    ∙ contents
-
-pub returns-clause-table : goal.returns-clause-table
-returns-clause-table c =
-    let rs = c.args.table.now.records in
-    let gathered = c.args.gathered.now in
-    let inv = c.loop-i.invariant in
-    let g = c.requires.ready.gathered_runs in
-    let room = c.args.table.now.room in
-    let high = c.args.lba + c.args.count in
-    let fs : List Run = option_to_list c.begin-front.result.0 in
-    let bs : List Run = option_to_list c.finish-back.result.1 in
-    let before : List Run = take gathered.from rs in
-    let after : List Run = drop (end_index gathered) rs in
-    let run = c.finish-back.result.0 in
-    let w = c.loop-i.progress.walk in
-    let done = c.loop-i.progress.done in
-    let all : c.loop-i.i ≡ c.args.count = omega (arith, c.loop-i-test.false, c.loop-i.auto.i-end) in
-    let writing = rw all at inv.writing in
-    let some : 0 < done.count = omega (arith, writing.ends, inv.start, c.requires.range.0) in
-    let final = (finished (before ++ fs) after gathered.records done run w.run
-    c.finish-back.result.1 w.at high
-    room c.loop-i.pool c.finish-back.new.pool writing inv.near c.finish-back.ensures some g.after
-    (inv.length ∙ c.requires.ready.runs.links)).runs in
-    let is : c.put_parts.new.table.records ≡ (before ++ fs) ++ run ∷ (bs ++ after) =
-    ap (λ (t : Table). t.records) c.put_parts.ensures.table ∙ parts-shape before fs bs after run in
-    let same = ap (λ (t : Table). t.room) c.put_parts.ensures.table in
+    records ∙ parts-shape before fs bs after run in
     record {
-      runs = rw (is, same) final;
-      table = c.put_parts.ensures.table
-          ∙ ap (λ (xs : List Run). record c.args.table.now {
-            records = xs;
-            moved = c.put_parts.new.table.moved;
-          }) (sym (ap (λ (t : Table). t.records) c.put_parts.ensures.table));
-      moves = omega (arith, c.put_parts.ensures.moves);
+      contents = ap (λ zs. chained_contents zs c.finish-back.new.pool) is
+          ∙ ap₂ contents_of final.expanded_same final.blocks
+          ∙ rw all at inv.contents;
+      keeps = λ q seen f. ap (λ zs. map.get (slot_numbers (expanded c.finish-back.new.pool.next zs)) q) is
+          ∙ ap (λ zs. map.get (slot_numbers zs) q) final.expanded_same ∙ inv.keeps q seen f;
+      table = record {
+        runs = rw (is, ap (λ (t : Table). t.room) c.put_parts.ensures.table) final.runs;
+        table = c.put_parts.ensures.table
+            ∙ ap (λ (xs : List Run). record c.args.table.now {
+              records = xs;
+              moved = c.put_parts.new.table.moved;
+            }) (sym records);
+        moves = omega (arith, c.put_parts.ensures.moves);
+      };
+      links = record {
+        links_rise = omega (arith, inv.rise, final.links);
+        most_links = omega (arith, inv.links, final.links);
+      };
     }
-
-pub returns-clause-keeps : goal.returns-clause-keeps
-returns-clause-keeps c =
-    let rs = c.args.table.now.records in
-    let gathered = c.args.gathered.now in
-    let inv = c.loop-i.invariant in
-    let g = c.requires.ready.gathered_runs in
-    let room = c.args.table.now.room in
-    let high = c.args.lba + c.args.count in
-    let fs : List Run = option_to_list c.begin-front.result.0 in
-    let bs : List Run = option_to_list c.finish-back.result.1 in
-    let before : List Run = take gathered.from rs in
-    let after : List Run = drop (end_index gathered) rs in
-    let run = c.finish-back.result.0 in
-    let w = c.loop-i.progress.walk in
-    let done = c.loop-i.progress.done in
-    let all : c.loop-i.i ≡ c.args.count = omega (arith, c.loop-i-test.false, c.loop-i.auto.i-end) in
-    let writing = rw all at inv.writing in
-    let some : 0 < done.count = omega (arith, writing.ends, inv.start, c.requires.range.0) in
-    let final = finished (before ++ fs) after gathered.records done run w.run
-    c.finish-back.result.1 w.at high
-    room c.loop-i.pool c.finish-back.new.pool writing inv.near c.finish-back.ensures some g.after
-    (inv.length ∙ c.requires.ready.runs.links) in
-    let is : c.put_parts.new.table.records ≡ (before ++ fs) ++ run ∷ (bs ++ after) =
-    ap (λ (t : Table). t.records) c.put_parts.ensures.table ∙ parts-shape before fs bs after run in
-    λ q seen f. ap (λ zs. map.get (slot_numbers (expanded c.finish-back.new.pool.next zs)) q) is
-    ∙ ap (λ zs. map.get (slot_numbers zs) q) final.expanded_same ∙ inv.keeps q seen f

@@ -13,7 +13,7 @@ use Rattle.sg_block_map.specs.Runs.{expanded, chained_contents}
 use Rattle.sg_block_map.specs.State.{disk_of, meter_at, slot_map}
 use Rattle.sg_store.proofs.DiskLemmas.{remapped-none}
 use Rattle.sg_store.proofs.WellFormedLemmas.{well_formed-remapped}
-use Rattle.sg_block_map.proofs.CutRunsLemmas.{runs-fit, gathered-blocks}
+use Rattle.sg_block_map.proofs.RunSlotLemmas.{runs-fit, gathered-blocks}
 use Rattle.sg_block_map.proofs.StoreLemmas.{runs-ahead, gathered-mapped}
 use Rattle.sg_block_map.proofs.StoreLemmas.{size, size-replaced, whole-as}
 use Rattle.sg_block_map.proofs.StoreLemmas.{gathered-range, nothing-costs}
@@ -94,28 +94,27 @@ returns-then-from-free_count-clause-costs c =
     (omega arith) (omega arith)
 
 -- there are enough
-pub write_runs-requires-clause-ready : goal.write_runs-requires-clause-ready
-write_runs-requires-clause-ready c =
-    let s = c.args.self.now in
-    let table = c.gather.ensures.visits.table in
-    record {
-      runs = rw table s.runs;
-      gathered_runs = rw table c.gather.ensures.gathered;
-      table_size = omega (arith, ap (λ (t : Table). t.room) table, s.pool_fits);
-      headroom = c.requires.headroom.links;
-    }
-
-pub write_runs-requires-clause-free : goal.write_runs-requires-clause-free
-write_runs-requires-clause-free c =
+pub write_runs-requires : goal.write_runs-requires
+write_runs-requires c =
     let s = c.args.self.now in
     let lba = c.args.lba in
     let count = c.args.count in
+    let table = c.gather.ensures.visits.table in
     let mapped = gathered-mapped s.table.records s.pool s.table.room c.gather.new.gathered lba count
     s.runs c.gather.ensures.gathered in
     let value = rw (c.records.ensures, c.from.ensures) at c.used_between-used.ensures.value in
-    let same = ap (λ (t : Table). used_among (chained_contents t.records s.pool) lba count)
-    c.gather.ensures.visits.table in
-    omega arith
+    let same = ap (λ (t : Table). used_among (chained_contents t.records s.pool) lba count) table in
+    record {
+      ready = record {
+        runs = rw table s.runs;
+        gathered_runs = rw table c.gather.ensures.gathered;
+        table_size = omega (arith, ap (λ (t : Table). t.room) table, s.pool_fits);
+        headroom = c.requires.headroom.links;
+      };
+      range = (omega (arith, c.if-count-eq0.false), omega (arith, c.requires.range, s.capacity_fits));
+      blocks = c.requires.blocks;
+      free = omega arith;
+    }
 
 pub invariant_of-self-2-clause-well_formed : goal.invariant_of-self-2-clause-well_formed
 invariant_of-self-2-clause-well_formed c =

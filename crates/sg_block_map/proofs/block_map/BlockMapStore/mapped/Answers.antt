@@ -1,6 +1,6 @@
-use Rattle.std.proofs.Common.{◌≡◌, ◌+◌, sym, ◌∙◌, arith}
+use Rattle.std.proofs.Common.{◌+◌, sym, ◌∙◌, arith}
 use Rattle.sg_store.specs.declared.store.TheConstants.{MAX_CAPACITY}
-use Rattle.sg_block_map.proofs.CutRunsLemmas.{blocks-fit}
+use Rattle.sg_block_map.proofs.RunSlotLemmas.{blocks-fit}
 use Rattle.sg_block_map.proofs.DataLemmas.{data-le, data-of-runs}
 use Rattle.sg_block_map.proofs.block_map.BlockMapStore.mapped.Goals as goal
 

@@ -1,11 +1,9 @@
-use Rattle.std.proofs.Common.{◌+◌, ap, ap₂, sym, arith}
+use Rattle.std.proofs.Common.{◌+◌, ap, arith}
 use Rattle.sg_store.specs.declared.store.TheConstants.{MAX_CAPACITY}
 use Rattle.sg_store.proofs.NeedLemmas.{need-used}
 use Rattle.sg_table.specs.Draft.{Drafted}
-use Rattle.sg_table.specs.Table.{Table}
 use Rattle.sg_block_map.specs.Runs.{chained_contents}
-use Rattle.sg_block_map.specs.State.{slot_map}
-use Rattle.sg_block_map.proofs.CutRunsLemmas.{runs-fit, gathered-blocks}
+use Rattle.sg_block_map.proofs.RunSlotLemmas.{runs-fit, gathered-blocks}
 use Rattle.sg_block_map.proofs.StoreLemmas.{runs-ahead, gathered-mapped, gathered-range}
 use Rattle.sg_block_map.proofs.block_map.BlockMapStore.need.Goals as goal
 

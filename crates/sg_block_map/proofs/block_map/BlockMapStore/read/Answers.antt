@@ -4,7 +4,7 @@ use Rattle.sg_store.specs.declared.store.TheConstants.{MAX_CAPACITY}
 use Rattle.sg_table.specs.Draft.{Drafted}
 use Rattle.sg_block_map.specs.Runs.{expanded, chained_contents}
 use Rattle.sg_block_map.specs.State.{slot_map}
-use Rattle.sg_block_map.proofs.CutRunsLemmas.{runs-fit, length-expanded}
+use Rattle.sg_block_map.proofs.RunSlotLemmas.{runs-fit, length-expanded}
 use Rattle.sg_block_map.proofs.OverlapLemmas.{blocks-gathered}
 use Rattle.sg_block_map.proofs.StoreLemmas.{runs-ahead, gathered-length}
 use Rattle.sg_block_map.proofs.StoreLemmas.{gathered-range}

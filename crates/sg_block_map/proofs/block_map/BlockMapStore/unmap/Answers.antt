@@ -10,7 +10,7 @@ use Rattle.sg_block_map.specs.Runs.{expanded, chained_contents}
 use Rattle.sg_block_map.specs.State.{disk_of, meter_at, slot_map}
 use Rattle.sg_store.proofs.UnmapLemmas.{well_formed-unmapped}
 use Rattle.sg_block_map.proofs.ContentsLemmas.{unmapped-none}
-use Rattle.sg_block_map.proofs.CutRunsLemmas.{runs-fit}
+use Rattle.sg_block_map.proofs.RunSlotLemmas.{runs-fit}
 use Rattle.sg_block_map.proofs.StoreLemmas.{gathered-range, nothing-costs}
 use Rattle.sg_block_map.proofs.block_map.BlockMapStore.unmap.Goals as goal
 

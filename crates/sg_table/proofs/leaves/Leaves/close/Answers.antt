@@ -4,9 +4,20 @@ use Rattle.std.proofs.lemmas.List.Edits.{length-remove}
 use Rattle.std.specs.Prelude.{remove}
 use Rattle.sg_table.specs.LeafList.{LeafRow}
 use Rattle.sg_table.specs.Leaves.{FitsLeaf, LeafTable, joined}
+use Rattle.sg_table.specs.Records.{AreShort, data_in}
+use Rattle.sg_table.proofs.DataLemmas.{data-remove}
 use Rattle.sg_table.proofs.LeafSearchLemmas.{all-remove, firsts-remove}
 use Rattle.sg_table.proofs.LeavesLemmas.{directory-behind, directory-remove, same-table}
 use Rattle.sg_table.proofs.leaves.Leaves.close.Goals as goal
+
+pub overflow_sub-self : goal.overflow_sub-self
+overflow_sub-self c =
+    let leaves = c.self.inside.leaves.leaves in
+    let count = ap (λ (l : LeafTable). length l.leaves) c.self.view_is in
+    let within : c.args.leaf < length leaves = omega (arith, count, c.requires.leaf) in
+    let removed = c.data_count.ensures.value
+    ∙ ap data_in (c.records.ensures.value ∙ c.leaf-2.ensures) in
+    omega (arith, data-remove leaves c.args.leaf within, c.self.invariant.9, removed)
 
 pub shift-requires-clause-less : goal.shift-requires-clause-less
 shift-requires-clause-less c = λ j d lt.
@@ -45,6 +56,8 @@ invariant_of-self c =
     let capacity = ap (λ (l : LeafRow). l.capacity) c.close.ensures in
     let count = ap (λ (l : LeafTable). length l.leaves) c.self.view_is in
     let within : k < length leaves = omega (arith, count, c.requires.leaf) in
+    let removed = c.data_count.ensures.value
+    ∙ ap data_in (c.records.ensures.value ∙ c.leaf-2.ensures) in
     let back = take_at c.shift.new.starts (drop (length c.shift.new.starts) starts) c.self.inside.starts.len
     (omega (arith, c.self.inside.starts.ok.0, c.shift.auto.starts, c.deref_mut.ensures.len)) in
     let shifted = rw c.deref_mut.ensures.value at c.shift.ensures in
@@ -59,6 +72,8 @@ invariant_of-self c =
       c.remove-2.ensures.items ∙ ap (λ xs. remove xs k) c.self.invariant.5 ∙ firsts-remove leaves _ k closed,
       omega (arith, capacity, c.self.invariant.6, c.remove-2.ensures.capacity),
       λ lt. absurd (omega arith),
+      rw closed (all-remove AreShort leaves k c.self.invariant.8),
+      rw closed (omega (arith, data-remove leaves k within, c.self.invariant.9, removed)),
     )
 
 pub returns : goal.returns

@@ -5,11 +5,40 @@ use Rattle.std.proofs.lemmas.List.Elements.{All-set}
 use Rattle.std.specs.List.{splice}
 use Rattle.sg_table.specs.LeafList.{LeafRow}
 use Rattle.sg_table.specs.Leaves.{FitsLeaf, LeafTable, joined, leaf_at}
-use Rattle.sg_table.specs.Records.{start_of}
+use Rattle.sg_table.specs.Records.{AreShort, start_of}
 use Rattle.sg_table.specs.declared.run.Run.{Run}
+use Rattle.sg_table.proofs.DataLemmas.{data-edit, data-fits, leaves-fit, short-splice}
 use Rattle.sg_table.proofs.LeafSearchLemmas.{firsts-set}
 use Rattle.sg_table.proofs.LeavesLemmas.{directory-behind, directory-set, length-splice, same-table}
 use Rattle.sg_table.proofs.leaves.Leaves.edit.Goals as goal
+
+pub overflow_sub-self : goal.overflow_sub-self
+overflow_sub-self c =
+    let leaves = c.self.inside.leaves.leaves in
+    let k = c.args.leaf in
+    let same = ap (λ (l : LeafTable). l.leaves) c.self.view_is in
+    let within : k < length leaves = omega (arith, c.requires.leaf, ap length same) in
+    let removed = rw (c.records.ensures.value, c.leaf-2.ensures) at c.data_count-removed.ensures.value in
+    let left = data-edit leaves k [] c.args.from c.args.to within c.requires.range.0 in
+    omega (arith, removed, left, c.self.invariant.9)
+
+pub overflow_add-self : goal.overflow_add-self
+overflow_add-self c =
+    let leaves = c.self.inside.leaves.leaves in
+    let same = ap (λ (l : LeafTable). length (joined l.leaves)) c.self.view_is in
+    let all = leaves-fit leaves c.self.invariant.8 in
+    let added = data-fits c.args.runs.now c.data_count.ensures.short in
+    record {
+      fits = omega (
+        arith,
+        c.requires.count,
+        same,
+        all,
+        added,
+        c.self.invariant.9,
+        c.data_count.ensures.value,
+      );
+    }
 
 pub shift-requires-clause-less : goal.shift-requires-clause-less
 shift-requires-clause-less c = λ j d lt.
@@ -35,7 +64,7 @@ shift-requires-clause-more c = λ j d lt.
     let old = ap (λ (l : LeafTable). length (leaf_at l.leaves k)) c.self.view_is in
     let size = length-splice (leaf_at leaves k) c.args.from c.args.to c.args.runs.now c.requires.range.0
     (omega (arith, c.requires.range.1, old)) in
-    let after = c.leaf-2.ensures ∙ ap (λ (l : LeafRow). leaf_at l.leaves k) c.splice.ensures
+    let after = c.leaf-3.ensures ∙ ap (λ (l : LeafRow). leaf_at l.leaves k) c.splice.ensures
     ∙ get_or-set_same leaves k new [] within in
     let lt' = rw c.deref_mut.ensures.value at lt in
     let bounds = directory-behind leaves c.self.inside.starts.items leaves k c.self.invariant.0 refl within
@@ -66,15 +95,18 @@ invariant_of-self c =
     let spliced : c.splice.new.self.leaves ≡ set leaves k new =
     ap (λ (l : LeafRow). l.leaves) c.splice.ensures in
     let capacity = ap (λ (l : LeafRow). l.capacity) c.splice.ensures in
-    let after = c.leaf-2.ensures ∙ ap (λ l. leaf_at l k) spliced
+    let after = c.leaf-3.ensures ∙ ap (λ l. leaf_at l k) spliced
     ∙ get_or-set_same leaves k new [] within in
-    let first = c.leaf-3.ensures ∙ ap (λ l. leaf_at l k) spliced ∙ get_or-set_same leaves k new [] within in
+    let first = c.leaf-4.ensures ∙ ap (λ l. leaf_at l k) spliced ∙ get_or-set_same leaves k new [] within in
     let old = ap (λ (l : LeafTable). length (leaf_at l.leaves k)) c.self.view_is in
     let size = length-splice (leaf_at leaves k) c.args.from c.args.to c.args.runs.now c.requires.range.0
     (omega (arith, c.requires.range.1, old)) in
     let back = take_at c.shift.new.starts _ c.self.inside.starts.len
     (omega (arith, c.self.inside.starts.ok.0, c.shift.auto.starts, c.deref_mut.ensures.len)) in
     let shifted = rw c.deref_mut.ensures.value at c.shift.ensures in
+    let removed = rw (c.records.ensures.value, c.leaf-2.ensures) at c.data_count-removed.ensures.value in
+    let edited = data-edit leaves k c.args.runs.now c.args.from c.args.to within c.requires.range.0 in
+    let edited-less = data-edit leaves k [] c.args.from c.args.to within c.requires.range.0 in
     let is = directory-set leaves starts k new c.len-before.result c.len-after.result _ c.self.invariant.0
     within (c.len-before.ensures.value ∙ ap length c.leaf.ensures)
     (c.len-after.ensures.value ∙ ap length after) (back ∙ shifted) in (
@@ -87,6 +119,17 @@ invariant_of-self c =
           ∙ firsts-set leaves _ k new _ spliced (c.start.ensures ∙ ap (λ leaf. start_of leaf 0) first),
       omega (arith, capacity, c.self.invariant.6),
       λ lt. absurd (omega arith),
+      rw spliced (All-set AreShort leaves k new (short-splice (leaf_at leaves k) c.args.runs.now
+          c.args.from c.args.to (c.self.invariant.8 k [] within) c.data_count.ensures.short)
+          c.self.invariant.8),
+      rw spliced (omega (
+        arith,
+        removed,
+        edited,
+        edited-less,
+        c.self.invariant.9,
+        c.data_count.ensures.value,
+      )),
     )
 
 pub returns : goal.returns
@@ -99,7 +142,7 @@ returns c =
     let old = ap (λ (l : LeafTable). length (leaf_at l.leaves k)) c.self.view_is in
     let size = length-splice (leaf_at leaves k) c.args.from c.args.to c.args.runs.now c.requires.range.0
     (omega (arith, c.requires.range.1, old)) in
-    let after = c.leaf-2.ensures ∙ ap (λ (l : LeafRow). leaf_at l.leaves k) c.splice.ensures
+    let after = c.leaf-3.ensures ∙ ap (λ (l : LeafRow). leaf_at l.leaves k) c.splice.ensures
     ∙ get_or-set_same leaves k new [] within in
     same-table _ _ _ _ _ _
     (ap (λ (l : LeafRow). l.leaves) c.splice.ensures

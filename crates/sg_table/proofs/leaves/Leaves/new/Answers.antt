@@ -1,8 +1,9 @@
-use Rattle.std.proofs.Common.{ap, ◌∙◌, arith, length}
+use Rattle.std.proofs.Common.{ap, ◌∙◌, arith, length, refl}
 use Rattle.std.specs.Prelude.{insert, [], ◌∷◌, ◌++◌}
 use Rattle.std.proofs.lemmas.List.Elements.{All-cons, All-nil}
 use Rattle.sg_table.specs.LeafList.{LeafRow}
 use Rattle.sg_table.specs.Leaves.{FitsLeaf}
+use Rattle.sg_table.specs.Records.{AreShort}
 use Rattle.sg_table.proofs.LeavesLemmas.{directory-new, same-table}
 use Rattle.sg_table.proofs.leaves.Leaves.new.Goals as goal
 
@@ -21,6 +22,8 @@ invariant_of-result c =
       rw one (c.in_ok-push.ensures.items ∙ ap (λ xs. xs ++ 0 ∷ []) c.in_ok-firsts.ensures.items),
       omega (arith, capacity, c.in_ok-push.ensures.capacity, c.in_ok-firsts.ensures.capacity),
       λ lt. absurd (omega arith),
+      rw one (All-cons AreShort [] [] (All-nil _) (All-nil AreShort)),
+      rw one refl,
     )
 
 pub returns : goal.returns
