@@ -1,0 +1,123 @@
+/* Not proved. One client of the server. No call here waits: what can't be done now is done when poll
+ * says that it can. */
+#include "client.h"
+
+#include <errno.h>
+#include <stdlib.h>
+#include <string.h>
+#include <sys/socket.h>
+#include <sys/types.h>
+#include <unistd.h>
+
+enum progress { WHOLE, TO_COME, GONE };
+
+int open_client(struct client *client, int socket)
+{
+    uint8_t *request = malloc(MOST_REQUEST), *reply = malloc(MOST_REPLY);
+
+    if (!request || !reply) {
+        free(request);
+        free(reply);
+        return 0;
+    }
+    memset(client, 0, sizeof *client);
+    client->socket = socket;
+    client->request = request;
+    client->reply = reply;
+    client->wanted = REQUEST_HEADER_LENGTH;
+    return 1;
+}
+
+void close_client(struct client *client)
+{
+    close(client->socket);
+    free(client->request);
+    free(client->reply);
+    client->socket = -1;
+}
+
+/* What a call of recv or send that moved no byte means. */
+static enum progress progress_of_error(void)
+{
+    return errno == EAGAIN || errno == EWOULDBLOCK || errno == EINTR ? TO_COME : GONE;
+}
+
+/* Receives up to the end of the request and no byte of the next one. */
+static enum progress receive_request(struct client *client)
+{
+    struct request_header header;
+    ssize_t length;
+
+    while (client->received < client->wanted) {
+        length = recv(client->socket, client->request + client->received,
+                      client->wanted - client->received, MSG_DONTWAIT);
+        if (length <= 0)
+            return length < 0 ? progress_of_error() : GONE;
+        client->received += (size_t)length;
+        if (client->received == REQUEST_HEADER_LENGTH) {
+            client->wanted = get_request_header(client->request, &header);
+            client->is_last = client->wanted == 0;
+        }
+    }
+    return WHOLE;
+}
+
+/* Executes a whole request, and leaves its reply to be sent. */
+static void execute(struct client *client, mdl_disk *disk)
+{
+    struct request_header request;
+    struct reply_header header;
+    mdl_reply reply;
+    const uint8_t *cdb = client->request + REQUEST_HEADER_LENGTH;
+
+    memset(&header, 0, sizeof header);
+    memset(&reply, 0, sizeof reply);
+    if (get_request_header(client->request, &request) == 0)
+        header.result = RESULT_MALFORMED;
+    else if (request.kind == POWER_CYCLE)
+        header.result = (uint8_t)mdl_power_cycle(disk);
+    else
+        header.result = (uint8_t)mdl_execute(disk, request.initiator, cdb, request.cdb_length,
+                                             cdb + request.cdb_length, request.data_out_length,
+                                             client->reply + REPLY_HEADER_LENGTH,
+                                             MDL_BUFFER_LENGTH, &reply);
+    header.status = reply.status;
+    header.sense_length = reply.sense_length;
+    memcpy(header.sense, reply.sense, MDL_SENSE_LENGTH);
+    header.data_in_length = (uint32_t)reply.data_in_length;
+    put_reply_header(client->reply, &header);
+    client->sent = 0;
+    client->to_send = REPLY_HEADER_LENGTH + reply.data_in_length;
+}
+
+static enum progress send_reply(struct client *client)
+{
+    ssize_t length;
+
+    while (client->sent < client->to_send) {
+        length = send(client->socket, client->reply + client->sent, client->to_send - client->sent,
+                      MSG_DONTWAIT | MSG_NOSIGNAL);
+        if (length < 0)
+            return progress_of_error();
+        client->sent += (size_t)length;
+    }
+    client->to_send = 0;
+    client->received = 0;
+    client->wanted = REQUEST_HEADER_LENGTH;
+    return WHOLE;
+}
+
+/* One request at most, so that a client that sends without a pause keeps no other waiting. */
+int serve_client(struct client *client, mdl_disk *disk)
+{
+    enum progress progress;
+
+    if (client->to_send == 0) {
+        progress = receive_request(client);
+        if (progress != WHOLE)
+            return progress != GONE;
+        execute(client, disk);
+    }
+    progress = send_reply(client);
+    return progress == TO_COME || (progress == WHOLE && !client->is_last);
+}

@@ -1,0 +1,27 @@
+/* Not proved. One client of the server: its request as far as it has arrived, and its reply as far as
+ * it has been sent. */
+#ifndef CLIENT_H
+#define CLIENT_H
+
+#include "message.h"
+
+struct client {
+    int socket;             /* or -1: this place is free */
+    int is_last;            /* the connection is closed behind this reply */
+    uint8_t *request;       /* MOST_REQUEST bytes */
+    size_t received, wanted;
+    uint8_t *reply;         /* MOST_REPLY bytes */
+    size_t sent, to_send;   /* a reply is on its way where to_send is not 0 */
+};
+
+/* Takes memory for a client. Returns 0, with nothing taken, where it is refused. */
+int open_client(struct client *client, int socket);
+
+/* Closes its connection and frees its place. What has arrived of a request is dropped. */
+void close_client(struct client *client);
+
+/* Goes on with a client whose socket is ready: receives, executes what is whole, sends. Returns 0
+ * where the client is gone, or has sent what is no request and has its reply. */
+int serve_client(struct client *client, mdl_disk *disk);
+
+#endif

@@ -1,0 +1,166 @@
+/* Not proved. The client's end of a connection to the server. */
+#include "connection.h"
+
+#include <errno.h>
+#include <poll.h>
+#include <string.h>
+#include <sys/socket.h>
+#include <sys/types.h>
+#include <sys/un.h>
+#include <time.h>
+#include <unistd.h>
+
+/* Writes the address of a path. Returns its length, or 0 where the path is too long. */
+static socklen_t address_of(const char *path, struct sockaddr_un *address)
+{
+    size_t length = strlen(path);
+
+    memset(address, 0, sizeof *address);
+    address->sun_family = AF_UNIX;
+    if (length == 0 || length >= sizeof address->sun_path)
+        return 0;
+    memcpy(address->sun_path, path, length);
+    return (socklen_t)sizeof *address;
+}
+
+int connect_to(const char *path, int flags)
+{
+    struct sockaddr_un address;
+    socklen_t length = address_of(path, &address);
+    int connection = socket(AF_UNIX, SOCK_STREAM | flags, 0), kept;
+
+    if (connection < 0)
+        return -1;
+    if (length && connect(connection, (const struct sockaddr *)&address, length) == 0)
+        return connection;
+    kept = length ? errno : ENAMETOOLONG;
+    close(connection);
+    errno = kept;
+    return -1;
+}
+
+int is_connected_to(int descriptor, const char *path)
+{
+    struct sockaddr_un address;
+    socklen_t length = sizeof address;
+    int kept = errno, result;
+
+    memset(&address, 0, sizeof address);
+    result = getpeername(descriptor, (struct sockaddr *)&address, &length) == 0 &&
+             address.sun_family == AF_UNIX &&
+             strncmp(address.sun_path, path, sizeof address.sun_path) == 0;
+    errno = kept;
+    return result;
+}
+
+static int64_t milliseconds_now(void)
+{
+    struct timespec now;
+
+    clock_gettime(CLOCK_MONOTONIC, &now);
+    return (int64_t)now.tv_sec * 1000 + now.tv_nsec / 1000000;
+}
+
+/* Waits until a connection is ready, or the time `end` (-1: none) has come. Returns 0 or an errno. */
+static int wait_for(int connection, short events, int64_t end)
+{
+    struct pollfd ready = { connection, events, 0 };
+    int64_t rest;
+    int count;
+
+    do {
+        rest = end < 0 ? -1 : end - milliseconds_now();
+        count = poll(&ready, 1, end < 0 ? -1 : rest < 0 ? 0 : (int)rest);
+    } while (count < 0 && errno == EINTR);
+    return count > 0 ? 0 : count == 0 ? ETIMEDOUT : ENODEV;
+}
+
+/* The descriptor may have been made non-blocking or not; either way no call here blocks but poll. */
+static int send_all(int connection, const uint8_t *bytes, size_t length, int64_t end)
+{
+    ssize_t count;
+    int error;
+
+    while (length > 0) {
+        count = send(connection, bytes, length, MSG_DONTWAIT | MSG_NOSIGNAL);
+        if (count >= 0) {
+            bytes += count;
+            length -= (size_t)count;
+            continue;
+        }
+        if (errno != EAGAIN && errno != EWOULDBLOCK && errno != EINTR)
+            return ENODEV;
+        error = wait_for(connection, POLLOUT, end);
+        if (error)
+            return error;
+    }
+    return 0;
+}
+
+static int receive_all(int connection, uint8_t *bytes, size_t length, int64_t end)
+{
+    ssize_t count;
+    int error;
+
+    while (length > 0) {
+        count = recv(connection, bytes, length, MSG_DONTWAIT);
+        if (count > 0) {
+            bytes += count;
+            length -= (size_t)count;
+            continue;
+        }
+        if (count == 0 || (errno != EAGAIN && errno != EWOULDBLOCK && errno != EINTR))
+            return ENODEV;
+        error = wait_for(connection, POLLIN, end);
+        if (error)
+            return error;
+    }
+    return 0;
+}
+
+/* Sends a request and reads its reply. Half an exchange would leave the connection without a known
+ * place in the stream, so a failure shuts it down. */
+static int exchange_bytes(int connection, const uint8_t *request, size_t length, int timeout,
+                          struct reply_header *reply, uint8_t *data_in)
+{
+    int64_t end = timeout < 0 ? -1 : milliseconds_now() + timeout;
+    uint8_t header[REPLY_HEADER_LENGTH];
+    int error = send_all(connection, request, length, end);
+
+    if (!error)
+        error = receive_all(connection, header, sizeof header, end);
+    if (!error && get_reply_header(header, reply) == 0)
+        error = ENODEV;
+    if (!error && reply->data_in_length > 0)
+        error = data_in ? receive_all(connection, data_in, reply->data_in_length, end) : ENODEV;
+    if (error)
+        shutdown(connection, SHUT_RDWR);
+    return error;
+}
+
+int exchange_command(int connection, struct exchange *exchange)
+{
+    static uint8_t request[MOST_REQUEST];
+    const struct request_header header = { COMMAND, exchange->initiator, exchange->cdb_length,
+                                           exchange->data_out_length };
+    size_t length = REQUEST_HEADER_LENGTH;
+
+    put_request_header(request, &header);
+    if (exchange->cdb_length > 0)
+        memcpy(request + length, exchange->cdb, exchange->cdb_length);
+    length += exchange->cdb_length;
+    if (exchange->data_out_length > 0)
+        memcpy(request + length, exchange->data_out, exchange->data_out_length);
+    length += exchange->data_out_length;
+    return exchange_bytes(connection, request, length, exchange->timeout, &exchange->reply,
+                          exchange->data_in);
+}
+
+int exchange_power_cycle(int connection, struct reply_header *reply)
+{
+    const struct request_header header = { POWER_CYCLE, 0, 0, 0 };
+    uint8_t request[REQUEST_HEADER_LENGTH];
+
+    put_request_header(request, &header);
+    return exchange_bytes(connection, request, sizeof request, -1, reply, NULL);
+}

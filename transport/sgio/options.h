@@ -1,0 +1,18 @@
+/* Not proved. The options of the server. */
+#ifndef OPTIONS_H
+#define OPTIONS_H
+
+#include "mehdalung.h"
+
+struct options {
+    const char *socket;
+    uint64_t blocks;
+    uint32_t pool;
+    mdl_identity identity;
+};
+
+/* Reads the words of a command line. Returns null, or what is wrong with them, with the word that it
+ * is about in `word`. Which numbers of blocks a disk may have is mdl_make's to say. */
+const char *read_options(int count, char **words, struct options *options, const char **word);
+
+#endif

@@ -1,0 +1,197 @@
+/* Not proved. The functions of the C library that are ours for the node, and its own for all else.
+ * They are those by which the tools of Debian 12 reach a device. */
+#include <dlfcn.h>
+#include <errno.h>
+#include <fcntl.h>
+#include <stdarg.h>
+#include <string.h>
+#include <sys/ioctl.h>
+#include <sys/stat.h>
+#include <sys/types.h>
+#include <sys/uio.h>
+#include <unistd.h>
+
+#include "node.h"
+
+/* So one body serves both names of a function. */
+_Static_assert(sizeof(struct stat) == sizeof(struct stat64), "off_t has 64 bits");
+
+/* All else of this object is hidden from the program. */
+#pragma GCC visibility push(default)
+
+static mode_t mode_of(int flags, va_list arguments)
+{
+    return flags & (O_CREAT | O_TMPFILE) ? va_arg(arguments, mode_t) : 0;
+}
+
+/* open and open64: a NAME of the library, and the same for the node. */
+#define OPEN(NAME) \
+    int NAME(const char *path, int flags, ...) \
+    { \
+        int (*next)(const char *, int, ...); \
+        va_list arguments; \
+        mode_t mode; \
+\
+        if (is_node_path(path)) \
+            return open_node(flags); \
+        va_start(arguments, flags); \
+        mode = mode_of(flags, arguments); \
+        va_end(arguments); \
+        NEXT(next, #NAME); \
+        return next(path, flags, mode); \
+    }
+
+#define OPENAT(NAME) \
+    int NAME(int folder, const char *path, int flags, ...) \
+    { \
+        int (*next)(int, const char *, int, ...); \
+        va_list arguments; \
+        mode_t mode; \
+\
+        if (is_node_path(path)) \
+            return open_node(flags); \
+        va_start(arguments, flags); \
+        mode = mode_of(flags, arguments); \
+        va_end(arguments); \
+        NEXT(next, #NAME); \
+        return next(folder, path, flags, mode); \
+    }
+
+/* The names that a program compiled with _FORTIFY_SOURCE calls. */
+#define OPEN_2(NAME) \
+    int NAME(const char *path, int flags); \
+    int NAME(const char *path, int flags) \
+    { \
+        int (*next)(const char *, int); \
+\
+        if (is_node_path(path)) \
+            return open_node(flags); \
+        NEXT(next, #NAME); \
+        return next(path, flags); \
+    }
+
+#define OPENAT_2(NAME) \
+    int NAME(int folder, const char *path, int flags); \
+    int NAME(int folder, const char *path, int flags) \
+    { \
+        int (*next)(int, const char *, int); \
+\
+        if (is_node_path(path)) \
+            return open_node(flags); \
+        NEXT(next, #NAME); \
+        return next(folder, path, flags); \
+    }
+
+OPEN(open)
+OPEN(open64)
+OPENAT(openat)
+OPENAT(openat64)
+OPEN_2(__open_2)
+OPEN_2(__open64_2)
+OPENAT_2(__openat_2)
+OPENAT_2(__openat64_2)
+
+#define STAT(NAME, TYPE) \
+    int NAME(const char *path, struct TYPE *status) \
+    { \
+        int (*next)(const char *, struct TYPE *); \
+\
+        if (is_node_path(path)) { \
+            put_node_status((struct stat *)status); \
+            return 0; \
+        } \
+        NEXT(next, #NAME); \
+        return next(path, status); \
+    }
+
+#define FSTAT(NAME, TYPE) \
+    int NAME(int descriptor, struct TYPE *status) \
+    { \
+        int (*next)(int, struct TYPE *); \
+\
+        if (is_node(descriptor)) { \
+            put_node_status((struct stat *)status); \
+            return 0; \
+        } \
+        NEXT(next, #NAME); \
+        return next(descriptor, status); \
+    }
+
+/* With AT_EMPTY_PATH it is asked of a descriptor. */
+#define FSTATAT(NAME, TYPE) \
+    int NAME(int folder, const char *path, struct TYPE *status, int flags) \
+    { \
+        int (*next)(int, const char *, struct TYPE *, int); \
+\
+        if (is_node_path(path) || (flags & AT_EMPTY_PATH && !*path && is_node(folder))) { \
+            put_node_status((struct stat *)status); \
+            return 0; \
+        } \
+        NEXT(next, #NAME); \
+        return next(folder, path, status, flags); \
+    }
+
+STAT(stat, stat)
+STAT(stat64, stat64)
+STAT(lstat, stat)
+STAT(lstat64, stat64)
+FSTAT(fstat, stat)
+FSTAT(fstat64, stat64)
+FSTATAT(fstatat, stat)
+FSTATAT(fstatat64, stat64)
+
+int ioctl(int descriptor, unsigned long request, ...)
+{
+    int (*next)(int, unsigned long, ...);
+    va_list arguments;
+    void *argument;
+    int result;
+
+    va_start(arguments, request);
+    argument = va_arg(arguments, void *);
+    va_end(arguments);
+    if (!is_node(descriptor)) {
+        NEXT(next, "ioctl");
+        return next(descriptor, request, argument);
+    }
+    result = request == SG_IO ? execute_sg_io(descriptor, argument) : answer_ioctl(request, argument);
+    if (result >= 0)
+        return result;
+    errno = -result;
+    return -1;
+}
+
+/* An sg node is read and written by headers of commands that run on beside the program. That is not
+ * carried, and their bytes must not get into the connection. */
+#define MOVE(NAME, BUFFER) \
+    ssize_t NAME(int descriptor, BUFFER buffer, size_t length) \
+    { \
+        ssize_t (*next)(int, BUFFER, size_t); \
+\
+        if (is_node(descriptor)) { \
+            errno = EPERM; \
+            return -1; \
+        } \
+        NEXT(next, #NAME); \
+        return next(descriptor, buffer, length); \
+    }
+
+#define MOVE_VECTOR(NAME) \
+    ssize_t NAME(int descriptor, const struct iovec *parts, int count) \
+    { \
+        ssize_t (*next)(int, const struct iovec *, int); \
+\
+        if (is_node(descriptor)) { \
+            errno = EPERM; \
+            return -1; \
+        } \
+        NEXT(next, #NAME); \
+        return next(descriptor, parts, count); \
+    }
+
+MOVE(read, void *)
+MOVE(write, const void *)
+MOVE_VECTOR(readv)
+MOVE_VECTOR(writev)
+
+#pragma GCC visibility pop

@@ -1,0 +1,74 @@
+/* Not proved. Which paths and descriptors are the node's, and how it looks from outside. */
+#include "node.h"
+
+#include <errno.h>
+#include <fcntl.h>
+#include <stdlib.h>
+#include <string.h>
+#include <sys/socket.h>
+#include <sys/sysmacros.h>
+#include <time.h>
+#include <unistd.h>
+
+#include "../connection.h"
+
+/* The major number of Linux's sg driver, by which tools know an sg node. No sg node has this minor
+ * number (there are 32,768 at most), so nobody takes ours for one that the kernel has. */
+enum { SG_MAJOR = 21, NODE_MINOR = 0xFFFFF };
+
+static const char *variable(const char *name, const char *otherwise)
+{
+    const char *value = getenv(name);
+
+    return value && value[0] ? value : otherwise;
+}
+
+int is_node_path(const char *path)
+{
+    return path && variable("MDL_SOCKET", NULL) &&
+           strcmp(path, variable("MDL_PATH", "/dev/mehdalung")) == 0;
+}
+
+int is_node(int descriptor)
+{
+    const char *server = variable("MDL_SOCKET", NULL);
+
+    return server && is_connected_to(descriptor, server);
+}
+
+int initiator_of_process(void)
+{
+    const char *text = variable("MDL_INITIATOR", "0");
+    int is_one = text[0] >= '0' && text[0] < '0' + (int)MDL_INITIATORS && text[1] == '\0';
+
+    return is_one ? text[0] - '0' : -1;
+}
+
+int open_node(int flags)
+{
+    int descriptor;
+
+    if (initiator_of_process() < 0) {
+        errno = EINVAL;
+        return -1;
+    }
+    descriptor = connect_to(variable("MDL_SOCKET", ""), flags & O_CLOEXEC ? SOCK_CLOEXEC : 0);
+    if (descriptor >= 0 && is_node(descriptor))
+        return descriptor;
+    if (descriptor >= 0)
+        close(descriptor);
+    errno = errno == EMFILE || errno == ENFILE ? errno : ENXIO;
+    return -1;
+}
+
+void put_node_status(struct stat *status)
+{
+    memset(status, 0, sizeof *status);
+    status->st_mode = S_IFCHR | S_IRUSR | S_IWUSR;
+    status->st_rdev = makedev(SG_MAJOR, NODE_MINOR);
+    status->st_uid = geteuid();
+    status->st_gid = getegid();
+    status->st_nlink = 1;
+    status->st_ino = 1;
+    status->st_blksize = 4096;
+}

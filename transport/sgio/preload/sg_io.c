@@ -1,0 +1,188 @@
+/* Not proved. SG_IO with the header of sg's version 3, as drivers/scsi/sg.c of Linux has it: which
+ * headers are refused and how, and what is written into one when its command has ended. */
+#include "node.h"
+
+#include <errno.h>
+#include <pthread.h>
+#include <string.h>
+#include <time.h>
+
+#include "../connection.h"
+
+enum {
+    LEAST_CDB = 6,
+    MOST_SG_CDB = 252,
+    DEFAULT_TIMEOUT = 30000,  /* the block layer's, where the header has 0 */
+    LONGEST_TIMEOUT = 86400000,
+    HOST_TIMED_OUT = 3,       /* DID_TIME_OUT */
+    DRIVER_HAS_SENSE = 8      /* DRIVER_SENSE */
+};
+
+/* A process has one buffer and one exchange at a time; the server executes one at a time anyway. */
+static pthread_mutex_t exchanges = PTHREAD_MUTEX_INITIALIZER;
+static uint8_t data_out[MOST_DATA_OUT], data_in[MDL_BUFFER_LENGTH];
+
+/* Whether direction, buffer and length fit together: sg_is_valid_dxfer. */
+static int is_valid_transfer(const sg_io_hdr_t *header)
+{
+    int has_buffer = header->dxferp != NULL, has_length = header->dxfer_len > 0;
+
+    switch (header->dxfer_direction) {
+    case SG_DXFER_NONE: return !has_buffer && !has_length;
+    case SG_DXFER_FROM_DEV: return 1;
+    case SG_DXFER_TO_DEV:
+    case SG_DXFER_TO_FROM_DEV: return has_buffer && has_length;
+    case SG_DXFER_UNKNOWN: return has_buffer == has_length;
+    default: return 0;
+    }
+}
+
+/* In the order of sg_new_write and sg_common_write. A node without a reserve buffer can't map one,
+ * and a transfer past what one request can hold has no memory. */
+static int refusal(const sg_io_hdr_t *header)
+{
+    if (header->interface_id != 'S')
+        return ENOSYS;
+    if (header->flags & SG_FLAG_MMAP_IO)
+        return ENOMEM;
+    if (!header->cmdp || header->cmd_len < LEAST_CDB || header->cmd_len > MOST_SG_CDB)
+        return EMSGSIZE;
+    if (!is_valid_transfer(header))
+        return EINVAL;
+    return header->dxfer_len > MOST_DATA_OUT ? ENOMEM : 0;
+}
+
+/* Copies `length` bytes at most between a flat buffer and the header's, which is one or a list of
+ * parts. Returns how many. */
+static uint32_t move_data(const sg_io_hdr_t *header, uint8_t *flat, uint32_t length, int is_out)
+{
+    const sg_iovec_t whole = { header->dxferp, header->dxfer_len };
+    const sg_iovec_t *parts = header->iovec_count ? header->dxferp : &whole;
+    int count = header->iovec_count ? header->iovec_count : 1, at;
+    uint32_t moved = 0, part;
+
+    if (!header->dxferp)
+        return 0;
+    for (at = 0; at < count && moved < length; at++) {
+        part = parts[at].iov_len < length - moved ? (uint32_t)parts[at].iov_len : length - moved;
+        if (is_out)
+            memcpy(flat + moved, parts[at].iov_base, part);
+        else
+            memcpy(parts[at].iov_base, flat + moved, part);
+        moved += part;
+    }
+    return moved;
+}
+
+/* The fields that sg clears before a command is sent. */
+static void clear_results(sg_io_hdr_t *header)
+{
+    header->status = 0;
+    header->masked_status = 0;
+    header->msg_status = 0;
+    header->sb_len_wr = 0;
+    header->host_status = 0;
+    header->driver_status = 0;
+    header->resid = 0;
+    header->duration = 0;
+    header->info = 0;
+}
+
+/* As sg_new_read: sense data as far as the buffer has room. */
+static void put_sense(sg_io_hdr_t *header, const struct reply_header *reply)
+{
+    uint8_t length = reply->sense_length;
+
+    if (length == 0 || header->mx_sb_len == 0 || !header->sbp)
+        return;
+    header->sb_len_wr = length < header->mx_sb_len ? length : header->mx_sb_len;
+    memcpy(header->sbp, reply->sense, header->sb_len_wr);
+    header->driver_status = DRIVER_HAS_SENSE;
+}
+
+/* What a reply means for the header. Of data-in that has no room the rest is dropped. The disk does
+ * not say how much of data-out it took, so the residual count of data-out is 0. */
+static void put_reply(sg_io_hdr_t *header, const struct reply_header *reply)
+{
+    uint32_t length = reply->data_in_length;
+    int is_out = header->dxfer_direction == SG_DXFER_TO_DEV;
+
+    header->status = reply->status;
+    header->masked_status = reply->status >> 1 & 0x1F;
+    put_sense(header, reply);
+    if (!is_out) {
+        length = length < header->dxfer_len ? length : header->dxfer_len;
+        move_data(header, data_in, length, 0);
+        header->resid = (int)(header->dxfer_len - length);
+    }
+    if (header->masked_status || header->driver_status)
+        header->info |= SG_INFO_CHECK;
+}
+
+static void put_timed_out(sg_io_hdr_t *header)
+{
+    header->host_status = HOST_TIMED_OUT;
+    header->resid = (int)header->dxfer_len;
+    header->info |= SG_INFO_CHECK;
+}
+
+static int timeout_of(const sg_io_hdr_t *header)
+{
+    if (header->timeout == 0)
+        return DEFAULT_TIMEOUT;
+    return header->timeout < LONGEST_TIMEOUT ? (int)header->timeout : LONGEST_TIMEOUT;
+}
+
+static unsigned milliseconds_since(const struct timespec *start)
+{
+    struct timespec now;
+
+    clock_gettime(CLOCK_MONOTONIC, &now);
+    return (unsigned)((now.tv_sec - start->tv_sec) * 1000 +
+                      (now.tv_nsec - start->tv_nsec) / 1000000);
+}
+
+/* Both ways but TO_DEV are a read for sg, whatever the CDB is. */
+static int execute(int descriptor, sg_io_hdr_t *header, uint8_t initiator)
+{
+    struct exchange exchange;
+    struct timespec start;
+    int error;
+
+    clock_gettime(CLOCK_MONOTONIC, &start);
+    clear_results(header);
+    memset(&exchange, 0, sizeof exchange);
+    exchange.initiator = initiator;
+    exchange.cdb = header->cmdp;
+    exchange.cdb_length = header->cmd_len;
+    exchange.data_out = data_out;
+    if (header->dxfer_direction == SG_DXFER_TO_DEV)
+        exchange.data_out_length = move_data(header, data_out, header->dxfer_len, 1);
+    exchange.data_in = data_in;
+    exchange.timeout = timeout_of(header);
+    error = exchange_command(descriptor, &exchange);
+    header->duration = milliseconds_since(&start);
+    if (error == ETIMEDOUT) {
+        put_timed_out(header);
+        return 0;
+    }
+    if (error || exchange.reply.result != MDL_OK)
+        return ENODEV;
+    put_reply(header, &exchange.reply);
+    return 0;
+}
+
+int execute_sg_io(int descriptor, sg_io_hdr_t *header)
+{
+    int initiator = initiator_of_process(), error;
+
+    if (!header)
+        return -EFAULT;
+    error = refusal(header);
+    if (error || initiator < 0)
+        return error ? -error : -EINVAL;
+    pthread_mutex_lock(&exchanges);
+    error = execute(descriptor, header, (uint8_t)initiator);
+    pthread_mutex_unlock(&exchanges);
+    return -error;
+}
