@@ -175,10 +175,12 @@ static int execute(int tid, struct scsi_cmd *cmd)
     return status;
 }
 
-/* `--op update --params power=cycle`, and no other parameter. */
+/* `--op update --params power=cycle`, as tgtadm sends it, and no other parameter. Registrations may
+ * be gone then: `registered` still has them until the next PERSISTENT RESERVE OUT, so that their
+ * ports keep their numbers longer than they need to. */
 static tgtadm_err update(struct scsi_lu *lu, char *params)
 {
-    if (strcmp(params, "power=cycle") != 0)
+    if (strcmp(params, "targetOps power=cycle,") != 0)
         return TGTADM_UNKNOWN_PARAM;
     return mdl_power_cycle(&unit_of(lu)->disk) ? TGTADM_INVALID_REQUEST : TGTADM_SUCCESS;
 }
