@@ -31,6 +31,9 @@ enum {
     INITIATOR_MASK = 0x0F
 };
 
+/* The CDB of each command of the disk has at most so many bytes. */
+enum { TRACED_CDB = 16 };
+
 /* At most so many unit attentions are pending for an initiator: one for each condition. */
 enum { UNIT_ATTENTIONS = 8 };
 
@@ -151,6 +154,23 @@ static int deliver(struct scsi_cmd *cmd, const mdl_reply *reply)
     return reply->status;
 }
 
+/* A line for a command and its reply, in the log of tgtd while its debug messages are on. The CDB is
+ * as a script of sgrun has it, cut to a length that shows all fields of all commands. */
+static void trace(struct scsi_cmd *cmd, int initiator, const mdl_reply *reply)
+{
+    int length = get_scsi_cdb_size(cmd), at;
+    char cdb[2 * TRACED_CDB + 1];
+    mdl_sense sense;
+
+    for (at = 0; at < length && at < TRACED_CDB; at++)
+        sprintf(cdb + 2 * at, "%02x", cmd->scb[at]);
+    if (mdl_read_sense(reply->sense, reply->sense_length, &sense))
+        memset(&sense, 0, sizeof sense);
+    dprintf("TRACE initiator %d, %s, data-out %u: status %02x, sense %x/%02x/%02x, data-in %zu\n",
+            initiator, cdb, scsi_get_out_length(cmd), reply->status, sense.key, sense.asc,
+            sense.ascq, reply->data_in_length);
+}
+
 static int execute(int tid, struct scsi_cmd *cmd)
 {
     struct unit *unit = unit_of(cmd->dev);
@@ -169,6 +189,8 @@ static int execute(int tid, struct scsi_cmd *cmd)
         sense_data_build(cmd, HARDWARE_ERROR, ASC_INTERNAL_TGT_FAILURE);
         return SAM_STAT_CHECK_CONDITION;
     }
+    if (is_debug)
+        trace(cmd, initiator, &reply);
     status = deliver(cmd, &reply);
     if (cmd->scb[0] == PERSISTENT_RESERVE_OUT && status == MDL_GOOD)
         read_registrations(unit, (uint32_t)initiator);
