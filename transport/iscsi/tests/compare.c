@@ -88,8 +88,6 @@ static void fill_list(const struct request *request, uint8_t *list)
         break;
     default: memset(list, (int)below(256), MOST_DATA_OUT);
     }
-    if (once_in(4))
-        random_bytes(list + below(32), 1 + below(8));
 }
 
 /* A command as it should be, with the length that it asks for. */
@@ -118,35 +116,36 @@ static void well_formed(struct request *request)
         request->length *= MDL_BLOCK_LENGTH;
 }
 
-/* Puts a fault or two into a command. */
-static void deform(struct request *request)
+/* Puts a fault into a command or its parameter list. */
+static void deform(struct request *request, uint8_t *list)
 {
-    if (once_in(3))
-        request->cdb[below(MOST_CDB)] ^= (uint8_t)(1u << below(8));
-    if (once_in(4))
-        request->cdb[below(MOST_CDB)] = (uint8_t)below(256);
-    if (once_in(8))
-        random_bytes(request->cdb, MOST_CDB);
-    if (once_in(6))
-        request->direction = (enum direction)below(3);
-    if (once_in(4))
-        request->length = below(MOST_DATA_OUT);
+    switch (below(6)) {
+    case 0: request->cdb[below(MOST_CDB)] ^= (uint8_t)(1u << below(8)); break;
+    case 1: request->cdb[below(MOST_CDB)] = (uint8_t)below(256); break;
+    case 2: random_bytes(request->cdb, MOST_CDB); break;
+    case 3: request->direction = (enum direction)below(3); break;
+    case 4: request->length = below(MOST_DATA_OUT); break;
+    default: random_bytes(list + below(32), 1 + below(16));
+    }
 }
 
-static void next_request(struct request *request)
+/* A command, and whether it has faults: two of three have, one fault to three. */
+static int next_request(struct request *request)
 {
     static uint8_t list[MOST_DATA_OUT];
+    uint32_t faults = once_in(3) ? 0 : 1 + below(3), left;
 
     request->cdb_length = MOST_CDB;
+    request->data_out = list;
     well_formed(request);
-    if (once_in(2))
-        deform(request);
+    fill_list(request, list);
+    for (left = faults; left > 0; left--)
+        deform(request, list);
     if (request->direction == NO_DATA)
         request->length = 0;
     if (request->direction == DATA_OUT && request->length > MOST_DATA_OUT)
         request->length = MOST_DATA_OUT;
-    fill_list(request, list);
-    request->data_out = list;
+    return faults > 0;
 }
 
 /* The reply that an initiator should get to a request which the library has replied to. */
@@ -197,7 +196,7 @@ static int compare(unsigned long count)
 {
     static uint8_t data_in[MDL_BUFFER_LENGTH];
     static struct answer answer;
-    unsigned long number, statuses[256] = { 0 };
+    unsigned long number, faulty = 0, statuses[256] = { 0 };
     struct request request;
     mdl_reply reply;
 
@@ -205,7 +204,7 @@ static int compare(unsigned long count)
         uint32_t initiator = below(MDL_INITIATORS);
         size_t data_out;
 
-        next_request(&request);
+        faulty += (unsigned long)next_request(&request);
         data_out = request.direction == DATA_OUT ? request.length : 0;
         if (mdl_execute(&disk, initiator, request.cdb, MOST_CDB, request.data_out, data_out, data_in,
                         sizeof data_in, &reply))
@@ -217,9 +216,9 @@ static int compare(unsigned long count)
         }
         statuses[reply.status]++;
     }
-    printf("%lu commands: %lu GOOD, %lu CHECK CONDITION, %lu RESERVATION CONFLICT, no difference\n",
-           count, statuses[MDL_GOOD], statuses[MDL_CHECK_CONDITION],
-           statuses[MDL_RESERVATION_CONFLICT]);
+    printf("%lu commands, %lu of them with faults, and no difference: ", count, faulty);
+    printf("%lu GOOD, %lu CHECK CONDITION, %lu RESERVATION CONFLICT\n", statuses[MDL_GOOD],
+           statuses[MDL_CHECK_CONDITION], statuses[MDL_RESERVATION_CONFLICT]);
     return 0;
 }
 

@@ -5,6 +5,7 @@
  *     fill I LBA COUNT BYTE       WRITE(16) of equal blocks, numbers as 17, 0x11 or 11h
  *     drop I                      closes the connection without a logout
  *     logout I                    logs out
+ *     reset I                     sends a LOGICAL UNIT RESET
  *     power                       runs COMMAND, which takes the target's power away
  *     # ..                        a comment
  *
@@ -205,6 +206,12 @@ static void fill(char *port, char *address, char *count, char *byte)
     execute(port_of(port), &request);
 }
 
+static void reset(unsigned port)
+{
+    log_in(port);
+    printf("line %lu: RESET, response %d\n", line, session_reset(sessions[port]));
+}
+
 static void power(void)
 {
     if (!power_command || system(power_command))
@@ -227,6 +234,8 @@ static void run_line(char *text)
         fill(words[1], words[2], words[3], words[4]);
     } else if (strcmp(words[0], "power") == 0) {
         power();
+    } else if (strcmp(words[0], "reset") == 0) {
+        reset(port_of(words[1]));
     } else if (strcmp(words[0], "drop") == 0) {
         session_drop(sessions[port_of(words[1])]);
         sessions[port_of(words[1])] = NULL;

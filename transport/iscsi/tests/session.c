@@ -109,6 +109,11 @@ void session_execute(struct session *session, const struct request *request, str
     scsi_free_scsi_task(task);
 }
 
+int session_reset(struct session *session)
+{
+    return iscsi_task_mgmt_lun_reset_sync(session->context, (uint32_t)session->lun);
+}
+
 void session_log_out(struct session *session)
 {
     if (!session)

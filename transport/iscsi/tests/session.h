@@ -45,6 +45,10 @@ struct session *session_open(const char *url, unsigned port);
 /* Sends a command and waits for its reply. */
 void session_execute(struct session *session, const struct request *request, struct answer *answer);
 
+/* Sends a LOGICAL UNIT RESET. The response of RFC 7143, 11.6.1, where 0 is "function complete", or
+ * NO_REPLY. */
+int session_reset(struct session *session);
+
 /* Logs out, or closes the connection without a word. Null serves. */
 void session_log_out(struct session *session);
 void session_drop(struct session *session);

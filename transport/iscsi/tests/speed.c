@@ -2,7 +2,8 @@
  *     speed NAME URL [NAME URL ..]
  *
  * For each logical unit a line: TEST UNIT READY, READ(10) and WRITE(10) of 8 blocks, from one session
- * that waits for each reply, and from eight such sessions at once. Each figure takes a second. */
+ * that waits for each reply, and from eight such sessions at once. Each figure is the best of three
+ * measurements of half a second. */
 #include <inttypes.h>
 #include <stdio.h>
 #include <stdlib.h>
@@ -12,9 +13,10 @@
 
 #include "session.h"
 
-enum { MOST_SESSIONS = 8, BLOCKS = 8 };
+enum { MOST_SESSIONS = 8, BLOCKS = 8, ROUNDS = 3 };
 
 #define SECOND UINT64_C(1000000000)
+#define MEASURED (SECOND / 2)
 
 static const struct request commands[] = {
     { .cdb = { 0x00 }, .cdb_length = 6 },
@@ -32,8 +34,8 @@ static uint64_t now(void)
     return (uint64_t)time.tv_sec * SECOND + (uint64_t)time.tv_nsec;
 }
 
-/* The number of commands that a session has answered in a second, after a few that report unit
- * attentions. Each session has blocks of its own. */
+/* The number of commands of a session that are answered, after a few that report unit attentions.
+ * Each session has blocks of its own. */
 static uint64_t measure(const char *url, unsigned port, struct request request)
 {
     static uint8_t blocks[BLOCKS * MDL_BLOCK_LENGTH];
@@ -49,7 +51,7 @@ static uint64_t measure(const char *url, unsigned port, struct request request)
     do
         session_execute(session, &commands[0], &answer);
     while (answer.status == MDL_CHECK_CONDITION);
-    for (end = now() + SECOND; now() < end; count++) {
+    for (end = now() + MEASURED; now() < end; count++) {
         session_execute(session, &request, &answer);
         if (answer.status != MDL_GOOD)
             exit(1);
@@ -82,6 +84,19 @@ static uint64_t measure_sessions(const char *url, unsigned sessions, const struc
     return sum;
 }
 
+static uint64_t best(const char *url, unsigned sessions, const struct request *request)
+{
+    uint64_t most = 0, count;
+    int round;
+
+    for (round = 0; round < ROUNDS; round++) {
+        count = measure_sessions(url, sessions, request);
+        if (count > most)
+            most = count;
+    }
+    return most * SECOND / MEASURED;
+}
+
 int main(int count, char **words)
 {
     static const unsigned sessions[] = { 1, MOST_SESSIONS };
@@ -96,7 +111,7 @@ int main(int count, char **words)
         fflush(stdout);
         for (at = 0; at < 2; at++)
             for (command = 0; command < 3; command++) {
-                printf("%10" PRIu64, measure_sessions(words[word + 1], sessions[at], &commands[command]));
+                printf("%10" PRIu64, best(words[word + 1], sessions[at], &commands[command]));
                 fflush(stdout);
             }
         putchar('\n');
