@@ -1,0 +1,299 @@
+/* A backing store of tgtd, the iSCSI target of the package tgt: each logical unit of it is a disk of
+ * libmehdalung, which gets each CDB as it came, and whose reply is sent as it is.
+ *
+ * tgtd loads this object from its folder of backing stores, or by LD_PRELOAD. A logical unit is made
+ * with `--bstype mehdalung --backing-store blocks=4096:pool=16`. All of tgtd that is used here runs
+ * in its one main thread, and so do the disks. */
+#include <errno.h>
+#include <inttypes.h>
+#include <stdint.h>
+#include <stdio.h>
+#include <stdlib.h>
+#include <string.h>
+
+#include "list.h"
+#include "scsi.h"
+#include "tgtd.h"
+#include "target.h"
+#include "driver.h"
+
+#include "mehdalung.h"
+#include "ports.h"
+
+/* PERSISTENT RESERVE IN, READ FULL STATUS, and its data-in (SPC-4, 6.15.5): a header, and for each
+ * registration a descriptor, the TransportID in which names a SAS address that ends with the number
+ * of the initiator. docs/PROFILE.md has the bytes. */
+enum {
+    FULL_STATUS_CDB_LENGTH = 10,
+    FULL_STATUS_HEADER = 8,
+    FULL_STATUS_DESCRIPTOR = 48,
+    INITIATOR_IN_DESCRIPTOR = 35,
+    INITIATOR_MASK = 0x0F
+};
+
+/* The CDB of each command of the disk has at most so many bytes. */
+enum { TRACED_CDB = 16 };
+
+/* At most so many unit attentions are pending for an initiator: one for each condition. */
+enum { UNIT_ATTENTIONS = 8 };
+
+/* What tgtd keeps of a logical unit behind its own record. */
+struct unit {
+    mdl_disk disk;
+    struct port_table table;
+    unsigned registered; /* bit i is set where initiator i is registered */
+};
+
+_Static_assert(PORT_NUMBERS == MDL_INITIATORS, "a number for each initiator");
+
+static uint8_t data_in[MDL_BUFFER_LENGTH];
+
+static struct unit *unit_of(struct scsi_lu *lu)
+{
+    return (struct unit *)(void *)(lu + 1);
+}
+
+/* The initiator port of a session, or 0 where there is none with a TransportID that fits. */
+static int get_port(const struct target *target, uint64_t session, struct port *port)
+{
+    int length = tgt_drivers[target->lid]->transportid(target->tid, session, port->transport_id,
+                                                       TRANSPORT_ID_LENGTH);
+
+    return length > 0 && length <= TRANSPORT_ID_LENGTH;
+}
+
+/* Bit i is set where the port that has number i has a session. */
+static unsigned numbers_with_session(struct scsi_lu *lu)
+{
+    struct port_table *table = &unit_of(lu)->table;
+    struct it_nexus *nexus;
+    struct port port;
+    unsigned found = 0;
+    int number;
+
+    list_for_each_entry(nexus, &lu->tgt->it_nexus_list, nexus_siblings) {
+        if (!get_port(lu->tgt, nexus->itn_id, &port))
+            continue;
+        number = port_number(table, &port);
+        if (number != NO_NUMBER)
+            found |= 1u << number;
+    }
+    return found;
+}
+
+/* Takes away the unit attentions that are pending for an initiator whose port is gone. */
+static void clear_unit_attentions(struct unit *unit, uint32_t initiator)
+{
+    static const uint8_t test_unit_ready[6];
+    mdl_reply reply;
+    int left = UNIT_ATTENTIONS;
+
+    do
+        if (mdl_execute(&unit->disk, initiator, test_unit_ready, sizeof test_unit_ready, NULL, 0,
+                        data_in, sizeof data_in, &reply))
+            return;
+    while (reply.status != MDL_GOOD && --left > 0);
+}
+
+/* The initiator that sends a command, or NO_NUMBER. */
+static int initiator_of(struct scsi_cmd *cmd)
+{
+    struct scsi_lu *lu = cmd->dev;
+    struct unit *unit = unit_of(lu);
+    struct port port;
+    int number, is_second;
+
+    if (!get_port(lu->tgt, cmd->it_nexus->itn_id, &port))
+        return NO_NUMBER;
+    number = port_number(&unit->table, &port);
+    if (number != NO_NUMBER)
+        return number;
+    is_second = unit->table.last_use[PORT_NUMBERS - 1] != 0;
+    number = port_take_number(&unit->table, &port, unit->registered | numbers_with_session(lu));
+    if (number == NO_NUMBER)
+        return NO_NUMBER;
+    if (is_second)
+        clear_unit_attentions(unit, (uint32_t)number);
+    /* the name is behind the header of four bytes */
+    eprintf("LUN %" PRIu64 ": initiator %d is %s\n", lu->lun, number, port.transport_id + 4);
+    return number;
+}
+
+/* Asks the disk who is registered. It is asked as the initiator whose PERSISTENT RESERVE OUT has just
+ * ended with GOOD: no unit attention is pending for that one, so none is lost by asking. */
+static void read_registrations(struct unit *unit, uint32_t initiator)
+{
+    static const uint8_t read_full_status[FULL_STATUS_CDB_LENGTH] = {
+        PERSISTENT_RESERVE_IN, PR_IN_READ_FULL_STATUS, [7] = 0xFF, [8] = 0xFF
+    };
+    mdl_reply reply;
+    size_t at;
+
+    if (mdl_execute(&unit->disk, initiator, read_full_status, sizeof read_full_status, NULL, 0,
+                    data_in, sizeof data_in, &reply)
+        || reply.status != MDL_GOOD)
+        return;
+    unit->registered = 0;
+    for (at = FULL_STATUS_HEADER; at + FULL_STATUS_DESCRIPTOR <= reply.data_in_length;
+         at += FULL_STATUS_DESCRIPTOR)
+        unit->registered |= 1u << (data_in[at + INITIATOR_IN_DESCRIPTOR] & INITIATOR_MASK);
+}
+
+/* Hands a reply over to tgtd: the status is returned. */
+static int deliver(struct scsi_cmd *cmd, const mdl_reply *reply)
+{
+    size_t length = scsi_get_in_length(cmd);
+
+    if (length > reply->data_in_length)
+        length = reply->data_in_length;
+    if (length > 0)
+        memcpy(scsi_get_in_buffer(cmd), data_in, length);
+    scsi_set_in_resid_by_actual(cmd, (uint32_t)reply->data_in_length);
+    memcpy(cmd->sense_buffer, reply->sense, reply->sense_length);
+    cmd->sense_len = reply->sense_length;
+    return reply->status;
+}
+
+/* A line for a command and its reply, in the log of tgtd while its debug messages are on. The CDB is
+ * as a script of sgrun has it, cut to a length that shows all fields of all commands. */
+static void trace(struct scsi_cmd *cmd, int initiator, const mdl_reply *reply)
+{
+    int length = get_scsi_cdb_size(cmd), at;
+    char cdb[2 * TRACED_CDB + 1];
+    mdl_sense sense;
+
+    for (at = 0; at < length && at < TRACED_CDB; at++)
+        sprintf(cdb + 2 * at, "%02x", cmd->scb[at]);
+    if (mdl_read_sense(reply->sense, reply->sense_length, &sense))
+        memset(&sense, 0, sizeof sense);
+    dprintf("TRACE initiator %d, %s, data-out %u: status %02x, sense %x/%02x/%02x, data-in %zu\n",
+            initiator, cdb, scsi_get_out_length(cmd), reply->status, sense.key, sense.asc,
+            sense.ascq, reply->data_in_length);
+}
+
+static int execute(int tid, struct scsi_cmd *cmd)
+{
+    struct unit *unit = unit_of(cmd->dev);
+    int initiator = initiator_of(cmd), status;
+    mdl_reply reply;
+
+    (void)tid;
+    if (initiator == NO_NUMBER) {
+        scsi_set_in_resid_by_actual(cmd, 0);
+        return SAM_STAT_BUSY;
+    }
+    if (mdl_execute(&unit->disk, (uint32_t)initiator, cmd->scb, (size_t)cmd->scb_len,
+                    scsi_get_out_buffer(cmd), scsi_get_out_length(cmd), data_in, sizeof data_in,
+                    &reply)) {
+        scsi_set_in_resid_by_actual(cmd, 0);
+        sense_data_build(cmd, HARDWARE_ERROR, ASC_INTERNAL_TGT_FAILURE);
+        return SAM_STAT_CHECK_CONDITION;
+    }
+    if (is_debug)
+        trace(cmd, initiator, &reply);
+    status = deliver(cmd, &reply);
+    if (cmd->scb[0] == PERSISTENT_RESERVE_OUT && status == MDL_GOOD)
+        read_registrations(unit, (uint32_t)initiator);
+    return status;
+}
+
+/* `--op update --params power=cycle`, as tgtadm sends it, and no other parameter. Registrations may
+ * be gone then: `registered` still has them until the next PERSISTENT RESERVE OUT, so that their
+ * ports keep their numbers longer than they need to. */
+static tgtadm_err update(struct scsi_lu *lu, char *params)
+{
+    if (strcmp(params, "targetOps power=cycle,") != 0)
+        return TGTADM_UNKNOWN_PARAM;
+    return mdl_power_cycle(&unit_of(lu)->disk) ? TGTADM_INVALID_REQUEST : TGTADM_SUCCESS;
+}
+
+/* Reads a number behind a name, and moves `text` behind it. */
+static int read_size(const char **text, const char *name, uint64_t *size)
+{
+    size_t length = strlen(name);
+    char *end;
+
+    if (strncmp(*text, name, length) != 0 || (*text)[length] < '0' || (*text)[length] > '9')
+        return 0;
+    errno = 0;
+    *size = strtoull(*text + length, &end, 10);
+    *text = end;
+    return errno == 0;
+}
+
+/* The vendor, product and revision of the standard identity, and a number of the logical unit's own:
+ * LUN 1 of target 1 has the standard one, 1. */
+static void identify(const struct scsi_lu *lu, mdl_identity *identity)
+{
+    char serial[sizeof identity->serial + 1];
+    uint32_t number = (uint32_t)(lu->tgt->tid - 1) << 16 | (uint32_t)(lu->lun & 0xFFFF);
+
+    memcpy(identity->vendor, "SGMODEL ", sizeof identity->vendor);
+    memcpy(identity->product, "THIN DISK       ", sizeof identity->product);
+    memcpy(identity->revision, "0100", sizeof identity->revision);
+    snprintf(serial, sizeof serial, "%08" PRIx32, number);
+    memcpy(identity->serial, serial, sizeof identity->serial);
+    identity->local = number;
+}
+
+static int open_disk(struct scsi_lu *lu, char *path, int *fd, uint64_t *size)
+{
+    struct unit *unit = unit_of(lu);
+    const char *text = path;
+    mdl_identity identity;
+    uint64_t blocks, pool;
+    mdl_error error;
+
+    if (!read_size(&text, "blocks=", &blocks) || !read_size(&text, ":pool=", &pool) || *text) {
+        eprintf("%s is not blocks=N:pool=N\n", path);
+        return -EINVAL;
+    }
+    identify(lu, &identity);
+    error = mdl_make(&unit->disk, blocks, pool > UINT32_MAX ? 0 : (uint32_t)pool, &identity);
+    if (error) {
+        eprintf("no disk of %s: error %d of mehdalung.h\n", path, (int)error);
+        return -EINVAL;
+    }
+    memset(&unit->table, 0, sizeof unit->table);
+    unit->registered = 0;
+    *fd = -1;
+    *size = blocks * MDL_BLOCK_LENGTH;
+    return 0;
+}
+
+static void close_disk(struct scsi_lu *lu)
+{
+    mdl_free(&unit_of(lu)->disk);
+}
+
+/* Each CDB of this logical unit is for `execute`, and none for the device type's own functions. */
+static tgtadm_err init_unit(struct scsi_lu *lu, char *options)
+{
+    (void)options;
+    lu->cmd_perform = target_cmd_perform_passthrough;
+    lu->cmd_done = __cmd_done_passthrough;
+    lu->dev_type_template.cmd_passthrough = execute;
+    lu->dev_type_template.lu_config = update;
+    return TGTADM_SUCCESS;
+}
+
+static struct backingstore_template store = {
+    .bs_name = "mehdalung",
+    .bs_datasize = sizeof(struct unit),
+    .bs_init = init_unit,
+    .bs_open = open_disk,
+    .bs_close = close_disk
+};
+
+/* Called by the dynamic linker, whichever way the object is loaded. */
+__attribute__((constructor)) static void register_store(void)
+{
+    register_backingstore_template(&store);
+}
+
+/* tgtd asks for this name in what it loads from its folder, and calls it. */
+__attribute__((visibility("default"))) void register_bs_module(void);
+
+void register_bs_module(void)
+{
+}

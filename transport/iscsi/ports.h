@@ -1,0 +1,41 @@
+/* Which initiator port is which initiator of a disk.
+ *
+ * A disk has eight initiators, 0 to 7; an iSCSI target has as many initiator ports as log in. An
+ * initiator port is known by its TransportID (SPC-4, 7.6.4), which has its iSCSI name and its ISID.
+ * It gets a number with its first command and keeps it, so that a port that comes back after a lost
+ * session finds its registration. A number is given to another port where its own has neither a
+ * session nor a registration. */
+#ifndef PORTS_H
+#define PORTS_H
+
+#include <stdint.h>
+
+/* The numbers of a disk, MDL_INITIATORS. */
+enum { PORT_NUMBERS = 8 };
+
+/* A name has at most 223 bytes (RFC 7143, 4.2.7.1); with all else a TransportID has at most 240. */
+enum { TRANSPORT_ID_LENGTH = 256 };
+
+/* There is no number for a port. */
+enum { NO_NUMBER = -1 };
+
+/* A TransportID, and zeros behind it. */
+struct port {
+    char transport_id[TRANSPORT_ID_LENGTH];
+};
+
+struct port_table {
+    struct port ports[PORT_NUMBERS];
+    uint64_t last_use[PORT_NUMBERS]; /* 0: no port ever had the number */
+    uint64_t uses;
+};
+
+/* The number of a port that has one, which counts as a use of it, or NO_NUMBER. */
+int port_number(struct port_table *table, const struct port *port);
+
+/* Gives a number to a port that has none: the lowest that no port ever had, or that of which the
+ * last use is the longest ago among those whose bit in `kept` is 0. NO_NUMBER where there is none,
+ * and the table is as it was. */
+int port_take_number(struct port_table *table, const struct port *port, unsigned kept);
+
+#endif

@@ -1,0 +1,292 @@
+/* Sends commands to a target, from lines, and prints each reply as sgrun does:
+ *     initiator [--eight] [--power COMMAND] URL [SCRIPT]
+ *
+ *     raw I CDB [DATA]            CDB of at most 16 bytes and data-out in hexadecimal, as for sgrun
+ *     fill I LBA COUNT BYTE       WRITE(16) of equal blocks, numbers as 17, 0x11 or 11h
+ *     drop I                      closes the connection without a logout
+ *     logout I                    logs out
+ *     reset I                     sends a LOGICAL UNIT RESET
+ *     power                       runs COMMAND, which takes the target's power away
+ *     # ..                        a comment
+ *
+ * I is an initiator port, 0 to 9. It logs in with its first line, and again with the first one after
+ * `drop` or `logout`, as the same port: its name and its ISID are made from I. With --eight ports 0
+ * to 7 log in at the beginning and send an INQUIRY each, in this order.
+ *
+ * The exit status is that of the first reply whose status is not 0, as for sgrun. A line with a fault
+ * ends the script with status 2. */
+#include <inttypes.h>
+#include <stdio.h>
+#include <stdlib.h>
+#include <string.h>
+
+#include "session.h"
+
+enum { PORTS = 10, EIGHT = 8, MOST_LINE = 4 * 1024 * 1024, MOST_FILL = 256, BYTES_OF_A_ROW = 16 };
+
+/* The status of a line that can't be executed. */
+enum { FAULT = 2 };
+
+static const char *url;
+static const char *power_command;
+static struct session *sessions[PORTS];
+static struct answer answer;
+static unsigned long line;
+static int exit_status;
+
+static void fail(const char *what)
+{
+    printf("line %lu: %s\n", line, what);
+    exit(FAULT);
+}
+
+static const char *name_of(int status)
+{
+    switch (status) {
+    case MDL_GOOD: return "GOOD";
+    case MDL_CHECK_CONDITION: return "CHECK CONDITION";
+    case MDL_RESERVATION_CONFLICT: return "RESERVATION CONFLICT";
+    case 0x08: return "BUSY";
+    default: return "NO REPLY";
+    }
+}
+
+static const char *name_of_key(uint8_t key)
+{
+    static const char *const names[16] = {
+        [0x0] = "NO SENSE", [0x5] = "ILLEGAL REQUEST", [0x6] = "UNIT ATTENTION",
+        [0x7] = "DATA PROTECT", [0xB] = "ABORTED COMMAND"
+    };
+
+    return key < 16 && names[key] ? names[key] : "OTHER KEY";
+}
+
+static void print_sense(void)
+{
+    mdl_sense sense;
+
+    if (mdl_read_sense(answer.sense, answer.sense_length, &sense)) {
+        puts("  sense: unreadable");
+        return;
+    }
+    printf("  sense: %s, %02Xh/%02Xh", name_of_key(sense.key), sense.asc, sense.ascq);
+    if (sense.has_information)
+        printf(", information 0x%016" PRIx64, sense.information);
+    if (sense.has_pointer)
+        printf(", %s byte %u", sense.in_command ? "command" : "list", sense.byte);
+    putchar('\n');
+}
+
+static void print_data_in(void)
+{
+    size_t at;
+
+    for (at = 0; at < answer.data_in_length; at++) {
+        if (at % BYTES_OF_A_ROW == 0)
+            printf("  %08zx ", at);
+        printf(" %02x", answer.data_in[at]);
+        if (at % BYTES_OF_A_ROW == BYTES_OF_A_ROW - 1 || at + 1 == answer.data_in_length)
+            putchar('\n');
+    }
+}
+
+/* Data-in and its residual make up the expected length; all data-out is transferred. */
+static void print_answer(const struct request *request)
+{
+    mdl_reply reply = { .status = (uint8_t)answer.status, .sense_length = (uint8_t)answer.sense_length };
+    size_t transferred = request->direction == DATA_IN ? answer.data_in_length : request->length;
+
+    printf("line %lu: %s\n", line, name_of(answer.status));
+    if (answer.status == MDL_CHECK_CONDITION)
+        print_sense();
+    print_data_in();
+    if (answer.residual < 0 || transferred + (size_t)answer.residual != request->length)
+        printf("  residual: %ld of %zu\n", answer.residual, request->length);
+    memcpy(reply.sense, answer.sense, answer.sense_length);
+    if (exit_status == 0)
+        exit_status = mdl_exit_status(&reply);
+}
+
+static void log_in(unsigned port)
+{
+    if (!sessions[port] && !(sessions[port] = session_open(url, port)))
+        fail("no session");
+}
+
+static void execute(unsigned port, const struct request *request)
+{
+    log_in(port);
+    session_execute(sessions[port], request, &answer);
+    print_answer(request);
+}
+
+static unsigned port_of(const char *word)
+{
+    if (!word || word[0] < '0' || word[0] >= '0' + PORTS || word[1])
+        fail("initiator");
+    return (unsigned)(word[0] - '0');
+}
+
+static int digit(char it)
+{
+    static const char digits[] = "0123456789abcdef";
+    const char *found = it ? strchr(digits, it | 0x20) : NULL;
+
+    return found ? (int)(found - digits) : -1;
+}
+
+/* Bytes in hexadecimal, in place of their digits; `-` is none. */
+static size_t read_hex(char *word, size_t most)
+{
+    size_t length = strcmp(word, "-") == 0 ? 0 : strlen(word), at;
+
+    if (length % 2 || length / 2 > most)
+        fail("hex");
+    for (at = 0; at < length; at += 2) {
+        int high = digit(word[at]), low = digit(word[at + 1]);
+
+        if (high < 0 || low < 0)
+            fail("hex");
+        word[at / 2] = (char)(high << 4 | low);
+    }
+    return length / 2;
+}
+
+static void raw(char *port, char *cdb, char *data)
+{
+    struct request request = { .direction = DATA_IN, .length = MDL_BUFFER_LENGTH };
+
+    if (!cdb)
+        fail("usage");
+    request.cdb_length = read_hex(cdb, MOST_CDB);
+    memcpy(request.cdb, cdb, request.cdb_length);
+    if (data) {
+        request.direction = DATA_OUT;
+        request.length = read_hex(data, MOST_LINE);
+        request.data_out = (const uint8_t *)data;
+    }
+    execute(port_of(port), &request);
+}
+
+/* As in a script: 17, 0x11 or 11h. */
+static uint64_t number(const char *word)
+{
+    size_t length = word ? strlen(word) : 0;
+    int has_suffix = length > 0 && (word[length - 1] | 0x20) == 'h';
+    int is_hexadecimal = has_suffix || (length > 1 && (word[1] | 0x20) == 'x');
+    char *end = NULL;
+    uint64_t it = length > 0 ? strtoull(word, &end, is_hexadecimal ? 16 : 10) : 0;
+
+    if (!end || end == word || *(end + has_suffix))
+        fail("number");
+    return it;
+}
+
+static void put(uint8_t *bytes, size_t length, uint64_t it)
+{
+    while (length--) {
+        bytes[length] = (uint8_t)it;
+        it >>= 8;
+    }
+}
+
+static void fill(char *port, char *address, char *count, char *byte)
+{
+    static uint8_t blocks[MOST_FILL * MDL_BLOCK_LENGTH];
+    struct request request = { .cdb = { 0x8A }, .cdb_length = 16, .direction = DATA_OUT };
+    uint64_t length = number(count);
+
+    if (length > MOST_FILL)
+        fail("number");
+    put(request.cdb + 2, 8, number(address));
+    put(request.cdb + 10, 4, length);
+    memset(blocks, (int)number(byte), sizeof blocks);
+    request.length = (size_t)length * MDL_BLOCK_LENGTH;
+    request.data_out = blocks;
+    execute(port_of(port), &request);
+}
+
+static void reset(unsigned port)
+{
+    log_in(port);
+    printf("line %lu: RESET, response %d\n", line, session_reset(sessions[port]));
+}
+
+static void power(void)
+{
+    if (!power_command || system(power_command))
+        fail("power");
+    printf("line %lu: POWER\n", line);
+}
+
+static void run_line(char *text)
+{
+    char *words[5] = { NULL }, *word = strtok(text, " \t\r\n");
+    size_t count;
+
+    for (count = 0; word && count < 5; word = strtok(NULL, " \t\r\n"))
+        words[count++] = word;
+    if (count == 0 || words[0][0] == '#')
+        return;
+    if (strcmp(words[0], "raw") == 0) {
+        raw(words[1], words[2], words[3]);
+    } else if (strcmp(words[0], "fill") == 0) {
+        fill(words[1], words[2], words[3], words[4]);
+    } else if (strcmp(words[0], "power") == 0) {
+        power();
+    } else if (strcmp(words[0], "reset") == 0) {
+        reset(port_of(words[1]));
+    } else if (strcmp(words[0], "drop") == 0) {
+        session_drop(sessions[port_of(words[1])]);
+        sessions[port_of(words[1])] = NULL;
+    } else if (strcmp(words[0], "logout") == 0) {
+        session_log_out(sessions[port_of(words[1])]);
+        sessions[port_of(words[1])] = NULL;
+    } else {
+        fail("unknown verb");
+    }
+}
+
+/* A unit attention is neither reported nor cleared by INQUIRY (SPC-4, 6.6.1). */
+static void log_in_eight(void)
+{
+    static const uint8_t inquiry[6] = { 0x12 };
+    struct request request = request_of(inquiry, sizeof inquiry);
+    unsigned port;
+
+    for (port = 0; port < EIGHT; port++) {
+        log_in(port);
+        session_execute(sessions[port], &request, &answer);
+        if (answer.status != MDL_GOOD)
+            fail("no INQUIRY");
+    }
+}
+
+int main(int count, char **words)
+{
+    static char text[MOST_LINE];
+    int eight = 0, at = 1;
+    unsigned port;
+    FILE *script;
+
+    for (; at < count && strncmp(words[at], "--", 2) == 0; at++)
+        if (strcmp(words[at], "--eight") == 0)
+            eight = 1;
+        else if (strcmp(words[at], "--power") == 0 && at + 1 < count)
+            power_command = words[++at];
+        else
+            fail("usage");
+    url = words[at];
+    script = url && words[at + 1] ? fopen(words[at + 1], "r") : stdin;
+    if (!url || !script)
+        fail("usage");
+    if (eight)
+        log_in_eight();
+    while (fgets(text, sizeof text, script)) {
+        line++;
+        run_line(text);
+    }
+    for (port = 0; port < PORTS; port++)
+        session_log_out(sessions[port]);
+    return exit_status;
+}

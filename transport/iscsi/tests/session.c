@@ -1,0 +1,139 @@
+/* See session.h. */
+#include "session.h"
+
+#include <poll.h>
+#include <stdio.h>
+#include <stdlib.h>
+#include <string.h>
+
+#include <iscsi/iscsi.h>
+#include <iscsi/scsi-lowlevel.h>
+
+/* LUN at a login: libiscsi sends no TEST UNIT READY of its own then. */
+enum { NO_LUN = -1 };
+
+/* Of the ISID, so that all are of one kind (RFC 7143, 11.12.5). */
+enum { ISID_RANDOM = 0x4D4448 };
+
+struct session {
+    struct iscsi_context *context;
+    int lun;
+};
+
+static struct session *fail(struct session *session, const char *what)
+{
+    fprintf(stderr, "%s: %s\n", what, iscsi_get_error(session->context));
+    iscsi_destroy_context(session->context);
+    free(session);
+    return NULL;
+}
+
+struct session *session_open(const char *address, unsigned port)
+{
+    struct session *session = calloc(1, sizeof *session);
+    struct iscsi_url *url;
+    char name[64];
+
+    snprintf(name, sizeof name, "iqn.2026-11.org.example:initiator-%u", port);
+    if (!session || !(session->context = iscsi_create_context(name))) {
+        free(session);
+        return NULL;
+    }
+    url = iscsi_parse_full_url(session->context, address);
+    if (!url)
+        return fail(session, address);
+    session->lun = url->lun;
+    iscsi_set_isid_random(session->context, ISID_RANDOM, port);
+    iscsi_set_session_type(session->context, ISCSI_SESSION_NORMAL);
+    iscsi_set_targetname(session->context, url->target);
+    iscsi_set_noautoreconnect(session->context, 1);
+    iscsi_set_timeout(session->context, TIMEOUT_SECONDS);
+    if (url->user[0])
+        iscsi_set_initiator_username_pwd(session->context, url->user, url->passwd);
+    if (iscsi_full_connect_sync(session->context, url->portal, NO_LUN)) {
+        iscsi_destroy_url(url);
+        return fail(session, "login");
+    }
+    iscsi_destroy_url(url);
+    return session;
+}
+
+static long residual_of(const struct scsi_task *task)
+{
+    switch (task->residual_status) {
+    case SCSI_RESIDUAL_UNDERFLOW: return (long)task->residual;
+    case SCSI_RESIDUAL_OVERFLOW: return -(long)task->residual;
+    default: return 0;
+    }
+}
+
+/* Sense data is in the data segment, behind its length of two bytes (RFC 7143, 11.4.7.2). */
+static void read_answer(const struct scsi_task *task, struct answer *answer)
+{
+    const uint8_t *bytes = task->datain.data;
+    size_t length = task->datain.size > 0 ? (size_t)task->datain.size : 0;
+
+    answer->status = task->status;
+    answer->residual = residual_of(task);
+    if (task->status == SCSI_STATUS_CHECK_CONDITION && length >= 2) {
+        answer->sense_length = (size_t)bytes[0] << 8 | bytes[1];
+        if (answer->sense_length > length - 2 || answer->sense_length > MDL_SENSE_LENGTH)
+            answer->sense_length = 0;
+        memcpy(answer->sense, bytes + 2, answer->sense_length);
+    } else if (length <= sizeof answer->data_in) {
+        answer->data_in_length = length;
+        if (length > 0)
+            memcpy(answer->data_in, bytes, length);
+    }
+}
+
+void session_execute(struct session *session, const struct request *request, struct answer *answer)
+{
+    static const int directions[] = { SCSI_XFER_NONE, SCSI_XFER_READ, SCSI_XFER_WRITE };
+    struct iscsi_data data = { request->length, (unsigned char *)(uintptr_t)request->data_out };
+    uint8_t cdb[MOST_CDB];
+    struct scsi_task *task;
+
+    answer->status = NO_REPLY;
+    answer->sense_length = answer->data_in_length = 0;
+    answer->residual = 0;
+    memcpy(cdb, request->cdb, sizeof cdb);
+    task = scsi_create_task((int)request->cdb_length, cdb, directions[request->direction],
+                            (int)request->length);
+    if (!task)
+        return;
+    if (iscsi_scsi_command_sync(session->context, session->lun, task,
+                                request->direction == DATA_OUT ? &data : NULL)
+        && task->status >= 0 && task->status <= 0xFF)
+        read_answer(task, answer);
+    scsi_free_scsi_task(task);
+}
+
+int session_reset(struct session *session)
+{
+    return iscsi_task_mgmt_lun_reset_sync(session->context, (uint32_t)session->lun);
+}
+
+void session_log_out(struct session *session)
+{
+    if (!session)
+        return;
+    iscsi_logout_sync(session->context);
+    session_drop(session);
+}
+
+void session_drop(struct session *session)
+{
+    if (!session)
+        return;
+    iscsi_destroy_context(session->context);
+    free(session);
+}
+
+struct request request_of(const uint8_t *cdb, size_t length)
+{
+    struct request request = { .cdb_length = length };
+
+    memcpy(request.cdb, cdb, length < MOST_CDB ? length : MOST_CDB);
+    return request;
+}

@@ -1,0 +1,59 @@
+/* Sessions of initiators over libiscsi, for the programs that try the target. */
+#ifndef SESSION_H
+#define SESSION_H
+
+#include <stddef.h>
+#include <stdint.h>
+
+#include "mehdalung.h"
+
+/* The CDB field of a SCSI Command PDU (RFC 7143, 11.3). */
+enum { MOST_CDB = 16 };
+
+/* A command that has no reply by then has none. */
+enum { TIMEOUT_SECONDS = 10 };
+
+/* A status beside those of SCSI: no reply came. */
+enum { NO_REPLY = -1 };
+
+struct session;
+
+enum direction { NO_DATA, DATA_IN, DATA_OUT };
+
+struct request {
+    uint8_t cdb[MOST_CDB];
+    size_t cdb_length;
+    enum direction direction;
+    size_t length;           /* Expected Data Transfer Length */
+    const uint8_t *data_out; /* `length` bytes with DATA_OUT */
+};
+
+struct answer {
+    int status; /* of SCSI, or NO_REPLY */
+    uint8_t sense[MDL_SENSE_LENGTH];
+    size_t sense_length;
+    uint8_t data_in[MDL_BUFFER_LENGTH];
+    size_t data_in_length;
+    long residual; /* above 0 the bytes that were too few, below 0 those that did not fit */
+};
+
+/* Logs in at a URL, iscsi://[USER%PASSWORD@]ADDRESS:PORT/TARGET/LUN, as the initiator port that has a
+ * number: its name ends with it, and its ISID holds it. No command is sent. Null where the login is
+ * refused, and the reason is on standard error. */
+struct session *session_open(const char *url, unsigned port);
+
+/* Sends a command and waits for its reply. */
+void session_execute(struct session *session, const struct request *request, struct answer *answer);
+
+/* Sends a LOGICAL UNIT RESET. The response of RFC 7143, 11.6.1, where 0 is "function complete", or
+ * NO_REPLY. */
+int session_reset(struct session *session);
+
+/* Logs out, or closes the connection without a word. Null serves. */
+void session_log_out(struct session *session);
+void session_drop(struct session *session);
+
+/* A request without data. */
+struct request request_of(const uint8_t *cdb, size_t length);
+
+#endif
