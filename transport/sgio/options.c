@@ -40,39 +40,41 @@ static int read_text(const char *text, uint8_t *field, size_t length)
     return 1;
 }
 
-/* Reads one option. Returns 1, 0 where its value can't be, and -1 where there is no such option. */
-static int read_option(const char *name, const char *value, struct options *options)
+/* Reads one option. Returns null, or what is wrong with it. */
+static const char *read_option(const char *name, const char *value, struct options *options)
 {
-    uint64_t pool;
+    mdl_identity *identity = &options->identity;
+    const struct { const char *name; uint64_t *number; uint64_t most; } numbers[] = {
+        { "--blocks", &options->blocks, UINT64_MAX },
+        { "--pool", &options->pool, UINT32_MAX },
+        { "--local", &identity->local, UINT64_MAX },
+    };
+    const struct { const char *name; uint8_t *field; size_t length; } texts[] = {
+        { "--vendor", identity->vendor, sizeof identity->vendor },
+        { "--product", identity->product, sizeof identity->product },
+        { "--revision", identity->revision, sizeof identity->revision },
+        { "--serial", identity->serial, sizeof identity->serial },
+    };
+    size_t at;
 
-    if (strcmp(name, "--socket") == 0) {
-        options->socket = value;
-        return 1;
-    }
-    if (strcmp(name, "--blocks") == 0)
-        return read_number(value, UINT64_MAX, &options->blocks);
-    if (strcmp(name, "--pool") == 0) {
-        if (!read_number(value, UINT32_MAX, &pool))
-            return 0;
-        options->pool = (uint32_t)pool;
-        return 1;
-    }
-    if (strcmp(name, "--vendor") == 0)
-        return read_text(value, options->identity.vendor, sizeof options->identity.vendor);
-    if (strcmp(name, "--product") == 0)
-        return read_text(value, options->identity.product, sizeof options->identity.product);
-    if (strcmp(name, "--revision") == 0)
-        return read_text(value, options->identity.revision, sizeof options->identity.revision);
-    if (strcmp(name, "--serial") == 0)
-        return read_text(value, options->identity.serial, sizeof options->identity.serial);
-    if (strcmp(name, "--local") == 0)
-        return read_number(value, UINT64_MAX, &options->identity.local);
-    return -1;
+    for (at = 0; at < sizeof numbers / sizeof numbers[0]; at++)
+        if (strcmp(name, numbers[at].name) == 0)
+            return read_number(value, numbers[at].most, numbers[at].number)
+                       ? NULL : "the value is no number, or too large";
+    for (at = 0; at < sizeof texts / sizeof texts[0]; at++)
+        if (strcmp(name, texts[at].name) == 0)
+            return read_text(value, texts[at].field, texts[at].length)
+                       ? NULL : "the value has more characters than the field";
+    if (strcmp(name, "--socket") != 0)
+        return "there is no such option";
+    options->socket = value;
+    return NULL;
 }
 
 const char *read_options(int count, char **words, struct options *options, const char **word)
 {
-    int at, result;
+    const char *fault;
+    int at;
 
     memset(options, 0, sizeof *options);
     options->identity = standard;
@@ -80,11 +82,9 @@ const char *read_options(int count, char **words, struct options *options, const
         *word = words[at];
         if (at + 1 == count)
             return "there is no value, or no such option";
-        result = read_option(words[at], words[at + 1], options);
-        if (result < 0)
-            return "there is no such option";
-        if (result == 0)
-            return "its value can't be";
+        fault = read_option(words[at], words[at + 1], options);
+        if (fault)
+            return fault;
     }
     *word = "--socket, --blocks or --pool";
     return options->socket && options->blocks && options->pool ? NULL : "is missing, or 0";

@@ -6,8 +6,7 @@
 
 struct options {
     const char *socket;
-    uint64_t blocks;
-    uint32_t pool;
+    uint64_t blocks, pool; /* the pool is below 2^32 */
     mdl_identity identity;
 };
 

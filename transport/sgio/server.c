@@ -214,7 +214,7 @@ int main(int count, char **words)
 
     if (fault)
         return fail(word, fault);
-    error = mdl_make(&disk, options.blocks, options.pool, &options.identity);
+    error = mdl_make(&disk, options.blocks, (uint32_t)options.pool, &options.identity);
     if (error)
         return fail("the disk", refusals[error]);
     status = run(&options, &disk);

@@ -1,0 +1,114 @@
+/* Not proved. Random numbers and commands for the tests. */
+#include "random.h"
+
+#include <string.h>
+
+/* A row of the commands of the disk: which bits of byte 1 may be set, where the last bytes of its
+ * address and its count are (0: nowhere), and what data-out it has for each of its count. */
+struct row {
+    uint8_t opcode, length, flags, address, count;
+    uint16_t data_out;
+};
+
+static const struct row rows[] = {
+    { 0x00, 6, 0x00, 0, 0, 0 },   { 0x03, 6, 0x01, 0, 4, 0 },    { 0x08, 6, 0x00, 3, 4, 0 },
+    { 0x0A, 6, 0x00, 3, 4, 512 }, { 0x12, 6, 0x01, 0, 4, 0 },    { 0x15, 6, 0x11, 0, 4, 1 },
+    { 0x1A, 6, 0x08, 2, 4, 0 },   { 0x25, 10, 0x00, 0, 0, 0 },   { 0x28, 10, 0x1A, 5, 8, 0 },
+    { 0x2A, 10, 0x1A, 5, 8, 512 }, { 0x35, 10, 0x06, 5, 8, 0 },  { 0x41, 10, 0x18, 5, 8, 512 },
+    { 0x42, 10, 0x01, 0, 8, 1 },  { 0x55, 10, 0x11, 0, 8, 1 },   { 0x5A, 10, 0x18, 2, 8, 0 },
+    { 0x5E, 10, 0x03, 0, 8, 0 },  { 0x5F, 10, 0x07, 0, 8, 1 },   { 0x5F, 10, 0x07, 0, 8, 1 },
+    { 0x88, 16, 0x1A, 9, 13, 0 }, { 0x8A, 16, 0x1A, 9, 13, 512 }, { 0x93, 16, 0x18, 9, 13, 512 },
+    { 0x9E, 16, 0x12, 9, 13, 0 }
+};
+
+uint32_t below(uint64_t *seed, uint32_t bound)
+{
+    *seed ^= *seed >> 12;
+    *seed ^= *seed << 25;
+    *seed ^= *seed >> 27;
+    return (uint32_t)((*seed * 0x2545F4914F6CDD1Du) >> 33) % bound;
+}
+
+void random_bytes(uint64_t *seed, uint8_t *bytes, size_t length)
+{
+    uint32_t zeros = 1 + below(seed, 8), bound = below(seed, 4) ? 256 : 16;
+    size_t at;
+
+    for (at = 0; at < length; at++)
+        bytes[at] = (uint8_t)(below(seed, 8) < zeros ? 0 : below(seed, bound));
+}
+
+/* A list of PERSISTENT RESERVE OUT, of UNMAP or of MODE SELECT as it should be, with few values. */
+static void put_list(uint64_t *seed, struct random_command *command)
+{
+    uint8_t *list = command->data_out;
+
+    memset(list, 0, sizeof command->data_out);
+    if (command->cdb[0] == 0x5F) {
+        command->cdb[2] = (uint8_t)below(seed, 9);
+        command->cdb[8] = 24;
+        list[7] = (uint8_t)below(seed, 3);
+        list[15] = (uint8_t)below(seed, 3);
+        list[20] = (uint8_t)below(seed, 2);
+    } else if (command->cdb[0] == 0x42) {
+        command->cdb[8] = 24;
+        list[3] = 16;
+        list[15] = (uint8_t)below(seed, 64);
+        list[19] = (uint8_t)below(seed, 8);
+    } else {
+        command->cdb[1] |= 0x10;
+        command->cdb[command->cdb[0] == 0x15 ? 4 : 8] = command->cdb[0] == 0x15 ? 4 : 8;
+    }
+}
+
+/* Zeros, and few values where the row has fields; data-out as long as it has to be. */
+static void put_fitting(uint64_t *seed, struct random_command *command)
+{
+    const struct row *row = &rows[below(seed, sizeof rows / sizeof rows[0])];
+
+    memset(command->cdb, 0, sizeof command->cdb);
+    random_bytes(seed, command->data_out, sizeof command->data_out);
+    command->cdb_length = row->length;
+    command->cdb[0] = row->opcode;
+    command->cdb[1] = (uint8_t)(below(seed, 256) & row->flags);
+    if (row->address)
+        command->cdb[row->address] = (uint8_t)below(seed, 64);
+    if (row->count)
+        command->cdb[row->count] = (uint8_t)below(seed, row->data_out ? 8 : 64);
+    if (row->data_out == 1)
+        put_list(seed, command);
+    command->data_out_length = row->count ? (uint32_t)command->cdb[row->count] * row->data_out : 0;
+    if (command->data_out_length == 0)
+        command->data_out_length = row->data_out == 512 ? 512 : 0;
+}
+
+/* A few bytes of it are changed, or its lengths. */
+static void spoil(uint64_t *seed, uint32_t most_data_out, struct random_command *command)
+{
+    uint32_t count = 1 + below(seed, 3);
+
+    while (count--)
+        switch (below(seed, 6)) {
+        case 0: command->cdb[below(seed, 16)] = (uint8_t)below(seed, 256); break;
+        case 1: command->cdb[below(seed, 16)] ^= (uint8_t)(1 << below(seed, 8)); break;
+        case 2: command->cdb_length = (uint8_t)below(seed, 20); break;
+        case 3: command->data_out[below(seed, 32)] = (uint8_t)below(seed, 256); break;
+        case 4: command->data_out_length = below(seed, 64); break;
+        default: command->data_out_length = below(seed, 8) ? 0 : below(seed, most_data_out + 1);
+        }
+}
+
+void put_random_command(uint64_t *seed, uint32_t most_data_out, struct random_command *command)
+{
+    put_fitting(seed, command);
+    switch (below(seed, 4)) {
+    case 0:
+    case 1: return;
+    case 2: spoil(seed, most_data_out, command); return;
+    default:
+        command->cdb_length = (uint8_t)(below(seed, 4) ? below(seed, 17) : below(seed, 256));
+        random_bytes(seed, command->cdb, command->cdb_length);
+        random_bytes(seed, command->data_out, sizeof command->data_out);
+        spoil(seed, most_data_out, command);
+    }
+}

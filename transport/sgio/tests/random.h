@@ -1,0 +1,25 @@
+/* Not proved. Random numbers and commands for the tests. */
+#ifndef RANDOM_H
+#define RANDOM_H
+
+#include <stddef.h>
+#include <stdint.h>
+
+/* A number below `bound`, from a seed that is not 0. */
+uint32_t below(uint64_t *seed, uint32_t bound);
+
+/* Bytes of which many are 0. */
+void random_bytes(uint64_t *seed, uint8_t *bytes, size_t length);
+
+enum { MOST_RANDOM_LIST = 4096 };
+
+struct random_command {
+    uint8_t cdb[256], cdb_length;
+    uint32_t data_out_length;           /* of which MOST_RANDOM_LIST are in `data_out` */
+    uint8_t data_out[MOST_RANDOM_LIST];
+};
+
+/* A command that fits in all its parts, or in most of them, or in none. */
+void put_random_command(uint64_t *seed, uint32_t most_data_out, struct random_command *command);
+
+#endif
