@@ -8,7 +8,7 @@ use Rattle.std.proofs.lemmas.List.{length-map, nil_from_length}
 use Rattle.std.specs.FinMap as map
 use Rattle.std.specs.List.{count_by, range_with_len, sum_by}
 use Rattle.sg_store.specs.Disk.{Contents, Disk, Mapping, IsWellFormed, IsWhole, used_among, remapped}
-use Rattle.sg_table.specs.Draft.{Drafted}
+use Rattle.sg_table.specs.Draft.{Drafted, empty_draft}
 use Rattle.sg_store.specs.Meter.{Meter, Costs}
 use Rattle.sg_pool.specs.MappedRecords.{mapping_in, contents_of}
 use Rattle.sg_table.specs.Records.{IsSorted}
@@ -20,7 +20,7 @@ use Rattle.sg_table.specs.declared.run.Kind.TheVariants.{Data, Anchored}
 use Rattle.sg_table.specs.declared.run.Run.{Run}
 use Rattle.sg_store.specs.declared.store.TheConstants.{MAX_POOL, MAX_CAPACITY}
 use Rattle.sg_block_map.specs.Metering.{SearchesAndVisits}
-use Rattle.sg_block_map.specs.Gathering.{starts_in, overlap, AreGathered, end_index}
+use Rattle.sg_block_map.specs.Gathering.{starts_in, overlap, AreGathered, HaveRoom, end_index}
 use Rattle.sg_block_map.specs.Joining.{mapping_as}
 use Rattle.sg_block_map.specs.MaximalRuns.{runs, meet, blocks_near}
 use Rattle.sg_block_map.specs.RunCost.{block_price, CostsRuns, CostsRange}
@@ -42,6 +42,16 @@ use Rattle.sg_block_map.proofs.OverlapLemmas.{mapped-overlap, mapped-gathered}
 
 pub runs-sorted : (rs : List Run) (slots : Slots) (room : ℕ) → AreRuns rs slots room → IsSorted rs
 runs-sorted rs slots room h = maximal-sorted rs 0 (MAX_CAPACITY + 1) h.maximal
+
+-- the list of gathered runs has room for all records
+pub have-room : (table : Table) (slots : Slots) (gathered : Drafted)
+    → AreRuns table.records slots table.room → table.room ≤ MAX_POOL
+    → gathered ≡ empty_draft table.room → HaveRoom table gathered
+have-room table slots gathered h fits empty = record {
+  fits = runs-fit table.records slots table.room h;
+  table_size = fits;
+  room = ap (λ (d : Drafted). d.room) empty;
+}
 
 -- a disk without mapped blocks, whose slots are taken in ascending order
 pub no-runs : (slots : Slots) (room : ℕ) → length slots.blocks ≡ room

@@ -1,5 +1,5 @@
-// The records of a table in leaves, by index and by address, and how many of them were moved. Visits
-// and probes are for the table to count.
+// The records of a table in leaves, by index and by address, how many of their addresses have data, and
+// how many records were moved. Visits and probes are for the table to count.
 mod probed;
 mod searching;
 mod splicing;

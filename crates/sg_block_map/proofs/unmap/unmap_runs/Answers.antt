@@ -79,8 +79,8 @@ loop-i-init c =
       links = omega arith;
     }
 
-pub unmap_run-requires-clause-slots : goal.unmap_run-requires-clause-slots
-unmap_run-requires-clause-slots c =
+pub unmap_run-requires : goal.unmap_run-requires
+unmap_run-requires c =
     let rs = c.args.table.now.records in
     let inv = c.loop-i.invariant in
     let gathered = c.args.gathered.now in
@@ -88,63 +88,32 @@ unmap_run-requires-clause-slots c =
     let run : Run = slice_index_or c.records-runs.result.now c.loop-i.i no_run in
     let xs : List Run = take gathered.from rs in
     let tail : List Run = drop (gathered.from + (c.loop-i.i + 1)) rs in
-    let now = here rs kept c.records-runs.result.now gathered c.loop-i.pool c.args.table.now.room
-    c.args.low c.args.high (MAX_CAPACITY + 1) c.from-from.result c.loop-i.i c.requires.ready.gathered_runs
+    let room = c.args.table.now.room in
+    let now = here rs kept c.records-runs.result.now gathered c.loop-i.pool room c.args.low
+    c.args.high (MAX_CAPACITY + 1) c.from-from.result c.loop-i.i c.requires.ready.gathered_runs
     c.records-runs.ensures c.from-from.ensures c.loop-i-test.true inv.runs in
-    let l = run-lengths xs kept tail run c.loop-i.pool c.args.table.now.room now in
-    record {
-      is_chain = run-chain xs kept tail run c.loop-i.pool c.args.table.now.room now;
-      below = run-below xs kept tail run c.loop-i.pool c.args.table.now.room now;
-      distinct = run-distinct xs kept tail run c.loop-i.pool c.args.table.now.room now;
-      fits = omega (arith, l.0, c.requires.ready.table_size);
-    }
-
-pub unmap_run-requires-clause-room : goal.unmap_run-requires-clause-room
-unmap_run-requires-clause-room c =
-    let rs = c.args.table.now.records in
-    let inv = c.loop-i.invariant in
-    let gathered = c.args.gathered.now in
-    let kept = c.loop-i.remaining.records in
-    let run : Run = slice_index_or c.records-runs.result.now c.loop-i.i no_run in
-    let xs : List Run = take gathered.from rs in
-    let tail : List Run = drop (gathered.from + (c.loop-i.i + 1)) rs in
-    let now = here rs kept c.records-runs.result.now gathered c.loop-i.pool c.args.table.now.room
-    c.args.low c.args.high (MAX_CAPACITY + 1) c.from-from.result c.loop-i.i c.requires.ready.gathered_runs
-    c.records-runs.ensures c.from-from.ensures c.loop-i-test.true inv.runs in
-    let l = run-lengths xs kept tail run c.loop-i.pool c.args.table.now.room now in
-    omega (arith, l.1, inv.remaining.1)
-
-pub unmap_run-requires-clause-range : goal.unmap_run-requires-clause-range
-unmap_run-requires-clause-range c =
-    let rs = c.args.table.now.records in
-    let inv = c.loop-i.invariant in
-    let gathered = c.args.gathered.now in
-    let kept = c.loop-i.remaining.records in
-    let run : Run = slice_index_or c.records-runs.result.now c.loop-i.i no_run in
-    let xs : List Run = take gathered.from rs in
-    let tail : List Run = drop (gathered.from + (c.loop-i.i + 1)) rs in
-    let now = here rs kept c.records-runs.result.now gathered c.loop-i.pool c.args.table.now.room
-    c.args.low c.args.high (MAX_CAPACITY + 1) c.from-from.result c.loop-i.i c.requires.ready.gathered_runs
-    c.records-runs.ensures c.from-from.ensures c.loop-i-test.true inv.runs in
-    run-range xs kept tail run c.loop-i.pool c.args.table.now.room now
-
-pub unmap_run-requires-clause-headroom : goal.unmap_run-requires-clause-headroom
-unmap_run-requires-clause-headroom c =
-    let rs = c.args.table.now.records in
-    let inv = c.loop-i.invariant in
-    let gathered = c.args.gathered.now in
-    let kept = c.loop-i.remaining.records in
-    let run : Run = slice_index_or c.records-runs.result.now c.loop-i.i no_run in
-    let xs : List Run = take gathered.from rs in
-    let tail : List Run = drop (gathered.from + (c.loop-i.i + 1)) rs in
-    let now = here rs kept c.records-runs.result.now gathered c.loop-i.pool c.args.table.now.room
-    c.args.low c.args.high (MAX_CAPACITY + 1) c.from-from.result c.loop-i.i c.requires.ready.gathered_runs
-    c.records-runs.ensures c.from-from.ensures c.loop-i-test.true inv.runs in
-    let l = run-lengths xs kept tail run c.loop-i.pool c.args.table.now.room now in
-    let few = gathered-blocks rs gathered c.args.pool.now c.args.table.now.room c.args.low
-    c.args.high (MAX_CAPACITY + 1) c.requires.ready.runs c.requires.ready.gathered_runs in
+    let l = run-lengths xs kept tail run c.loop-i.pool room now in
+    let few = gathered-blocks rs gathered c.args.pool.now room c.args.low c.args.high
+    (MAX_CAPACITY + 1) c.requires.ready.runs c.requires.ready.gathered_runs in
     let part = sum_by-take-le (λ (r : Run). r.count) gathered.records c.loop-i.i in
-    omega (arith, l.0, inv.links, c.requires.ready.headroom, c.requires.ready.table_size)
+    record {
+      slots = record {
+        is_chain = run-chain xs kept tail run c.loop-i.pool room now;
+        below = run-below xs kept tail run c.loop-i.pool room now;
+        distinct = run-distinct xs kept tail run c.loop-i.pool room now;
+        fits = omega (arith, l.0, c.requires.ready.table_size);
+      };
+      room = omega (arith, l.1, inv.remaining.1);
+      range = run-range xs kept tail run c.loop-i.pool room now;
+      order = c.requires.order;
+      headroom = omega (
+        arith,
+        l.0,
+        inv.links,
+        c.requires.ready.headroom,
+        c.requires.ready.table_size,
+      );
+    }
 
 pub loop-i-preserved : goal.loop-i-preserved
 loop-i-preserved c =

@@ -17,25 +17,20 @@ read_of : (t u : Table) (n i : ℕ) (run : Run) → t ≡ visited u n → slice_
     run → run ≡ get_or u.records i run
 read_of t u n i run e is = sym is ∙ ap (λ (x : Table). slice_index_or x.records i run) e
 
-pub give-requires-clause-slot : goal.give-requires-clause-slot
-give-requires-clause-slot c =
+pub give-requires : goal.give-requires
+give-requires c =
     let t = c.args.table.now in
     let inv = c.loop-index.invariant in
     let run = c.visit-run.result in
     let at = read_of c.loop-index.table t _ c.loop-index.index run inv.table c.visit-run.ensures.value in
-    (unmapped-slot t.records c.args.from c.loop-index.index run (omega arith)
+    let used = unmapped-slot t.records c.args.from c.loop-index.index run (omega arith)
     (omega (arith, c.requires.end.within)) at c.loop-index.pool.blocks c.loop-index.pool.free
-    t.room inv.consistent).0
-
-pub give-requires-clause-used : goal.give-requires-clause-used
-give-requires-clause-used c =
-    let t = c.args.table.now in
-    let inv = c.loop-index.invariant in
-    let run = c.visit-run.result in
-    let at = read_of c.loop-index.table t _ c.loop-index.index run inv.table c.visit-run.ensures.value in
-    (unmapped-slot t.records c.args.from c.loop-index.index run (omega arith)
-    (omega (arith, c.requires.end.within)) at c.loop-index.pool.blocks c.loop-index.pool.free
-    t.room inv.consistent).1
+    t.room inv.consistent in
+    record {
+      slot = used.0;
+      used = used.1;
+      room = omega (arith, used.2, c.requires.ready.table_size);
+    }
 
 pub loop-index-preserved : goal.loop-index-preserved
 loop-index-preserved c =

@@ -6,17 +6,16 @@ use Rattle.sg_pool.specs.MappedRecords.{slot_numbers}
 use Rattle.sg_pool.specs.Source.{block_of}
 use Rattle.sg_table.specs.Table.{Table}
 use Rattle.sg_store.specs.declared.store.TheConstants.{MAX_CAPACITY}
-use Rattle.sg_table.specs.Draft.{Drafted}
 use Rattle.sg_block_map.specs.Joining.{mapping_as}
 use Rattle.sg_block_map.specs.RunCost.{CostsRange}
 use Rattle.sg_block_map.specs.Runs.{expanded, chained_contents}
 use Rattle.sg_block_map.specs.State.{disk_of, meter_at, slot_map}
 use Rattle.sg_store.proofs.DiskLemmas.{remapped-none}
 use Rattle.sg_store.proofs.WellFormedLemmas.{well_formed-remapped}
-use Rattle.sg_block_map.proofs.RunSlotLemmas.{runs-fit, gathered-blocks}
+use Rattle.sg_block_map.proofs.RunSlotLemmas.{gathered-blocks}
 use Rattle.sg_block_map.proofs.StoreLemmas.{runs-ahead, gathered-mapped}
 use Rattle.sg_block_map.proofs.StoreLemmas.{size, size-replaced, whole-as}
-use Rattle.sg_block_map.proofs.StoreLemmas.{gathered-range, nothing-costs}
+use Rattle.sg_block_map.proofs.StoreLemmas.{have-room, gathered-range, nothing-costs}
 use Rattle.sg_block_map.proofs.block_map.BlockMap.remap.Goals as goal
 
 -- no address is written
@@ -47,11 +46,7 @@ returns-then-count-eq0-clause-costs c =
 pub gather-requires-clause-room : goal.gather-requires-clause-room
 gather-requires-clause-room c =
     let s = c.args.self.now in
-    record {
-      fits = runs-fit s.table.records s.pool s.table.room s.runs;
-      table_size = s.pool_fits;
-      room = ap (λ (d : Drafted). d.room) s.gathered_empty;
-    }
+    have-room s.table s.pool s.gathered s.runs s.pool_fits s.gathered_empty
 
 pub used_between-used-requires-clause-fits : goal.used_between-used-requires-clause-fits
 used_between-used-requires-clause-fits c =

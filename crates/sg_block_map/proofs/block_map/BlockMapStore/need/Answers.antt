@@ -1,20 +1,15 @@
-use Rattle.std.proofs.Common.{◌+◌, ap, arith}
+use Rattle.std.proofs.Common.{◌+◌, arith}
 use Rattle.sg_store.specs.declared.store.TheConstants.{MAX_CAPACITY}
 use Rattle.sg_store.proofs.NeedLemmas.{need-used}
-use Rattle.sg_table.specs.Draft.{Drafted}
 use Rattle.sg_block_map.specs.Runs.{chained_contents}
-use Rattle.sg_block_map.proofs.RunSlotLemmas.{runs-fit, gathered-blocks}
-use Rattle.sg_block_map.proofs.StoreLemmas.{runs-ahead, gathered-mapped, gathered-range}
+use Rattle.sg_block_map.proofs.RunSlotLemmas.{gathered-blocks}
+use Rattle.sg_block_map.proofs.StoreLemmas.{runs-ahead, gathered-mapped, gathered-range, have-room}
 use Rattle.sg_block_map.proofs.block_map.BlockMapStore.need.Goals as goal
 
 pub gather_between-requires-clause-room : goal.gather_between-requires-clause-room
 gather_between-requires-clause-room c =
     let s = c.args.self.now in
-    record {
-      fits = runs-fit s.table.records s.pool s.table.room s.runs;
-      table_size = s.pool_fits;
-      room = ap (λ (d : Drafted). d.room) s.gathered_empty;
-    }
+    have-room s.table s.pool s.gathered s.runs s.pool_fits s.gathered_empty
 
 pub used_between-used-requires-clause-fits : goal.used_between-used-requires-clause-fits
 used_between-used-requires-clause-fits c =

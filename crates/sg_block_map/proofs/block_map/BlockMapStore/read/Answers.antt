@@ -1,23 +1,18 @@
 use Rattle.std.proofs.Common.{◌+◌, length, ap, ap₂, sym, ◌∙◌, arith}
 use Rattle.sg_store.specs.Disk.{blocks}
 use Rattle.sg_store.specs.declared.store.TheConstants.{MAX_CAPACITY}
-use Rattle.sg_table.specs.Draft.{Drafted}
 use Rattle.sg_block_map.specs.Runs.{expanded, chained_contents}
 use Rattle.sg_block_map.specs.State.{slot_map}
-use Rattle.sg_block_map.proofs.RunSlotLemmas.{runs-fit, length-expanded}
+use Rattle.sg_block_map.proofs.RunSlotLemmas.{length-expanded}
 use Rattle.sg_block_map.proofs.OverlapLemmas.{blocks-gathered}
 use Rattle.sg_block_map.proofs.StoreLemmas.{runs-ahead, gathered-length}
-use Rattle.sg_block_map.proofs.StoreLemmas.{gathered-range}
+use Rattle.sg_block_map.proofs.StoreLemmas.{have-room, gathered-range}
 use Rattle.sg_block_map.proofs.block_map.BlockMapStore.read.Goals as goal
 
 pub gather-requires-clause-room : goal.gather-requires-clause-room
 gather-requires-clause-room c =
     let s = c.args.self.now in
-    record {
-      fits = runs-fit s.table.records s.pool s.table.room s.runs;
-      table_size = s.pool_fits;
-      room = ap (λ (d : Drafted). d.room) s.gathered_empty;
-    }
+    have-room s.table s.pool s.gathered s.runs s.pool_fits s.gathered_empty
 
 pub read_runs-requires-clause-ahead : goal.read_runs-requires-clause-ahead
 read_runs-requires-clause-ahead c =

@@ -4,14 +4,12 @@ use Rattle.sg_store.specs.Meter.{Meter}
 use Rattle.sg_pool.specs.MappedRecords.{mapping_in, contents_of, number_in, slot_numbers}
 use Rattle.sg_pool.specs.Slots.{Slots}
 use Rattle.sg_table.specs.Table.{Table}
-use Rattle.sg_table.specs.Draft.{Drafted}
 use Rattle.sg_block_map.specs.RunCost.{CostsRange}
 use Rattle.sg_block_map.specs.Runs.{expanded, chained_contents}
 use Rattle.sg_block_map.specs.State.{disk_of, meter_at, slot_map}
 use Rattle.sg_store.proofs.UnmapLemmas.{well_formed-unmapped}
 use Rattle.sg_block_map.proofs.ContentsLemmas.{unmapped-none}
-use Rattle.sg_block_map.proofs.RunSlotLemmas.{runs-fit}
-use Rattle.sg_block_map.proofs.StoreLemmas.{gathered-range, nothing-costs}
+use Rattle.sg_block_map.proofs.StoreLemmas.{have-room, gathered-range, nothing-costs}
 use Rattle.sg_block_map.proofs.block_map.BlockMapStore.unmap.Goals as goal
 
 -- no address is unmapped
@@ -36,11 +34,7 @@ returns-then-count-eq0-clause-costs c =
 pub gather-requires-clause-room : goal.gather-requires-clause-room
 gather-requires-clause-room c =
     let s = c.args.self.now in
-    record {
-      fits = runs-fit s.table.records s.pool s.table.room s.runs;
-      table_size = s.pool_fits;
-      room = ap (λ (d : Drafted). d.room) s.gathered_empty;
-    }
+    have-room s.table s.pool s.gathered s.runs s.pool_fits s.gathered_empty
 
 -- the runs are cut
 pub unmap_runs-requires-clause-ready : goal.unmap_runs-requires-clause-ready

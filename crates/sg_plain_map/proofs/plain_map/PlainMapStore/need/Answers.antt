@@ -1,4 +1,4 @@
-use Rattle.std.proofs.Common.{arith, ap, ◌∙◌}
+use Rattle.std.proofs.Common.{arith, ap, ◌∙◌, rules}
 use Rattle.sg_table.specs.Table.{Table}
 use Rattle.sg_plain_map.proofs.RangeLemmas.{need_between}
 use Rattle.sg_plain_map.proofs.plain_map.PlainMapStore.need.Goals as goal
@@ -12,17 +12,8 @@ overflow_sub-result-2 c =
     c.lower_bound-from.ensures.index to in
     omega (arith, used)
 
-pub returns-clause-value : goal.returns-clause-value
-returns-clause-value c =
-    let s = c.args.self.now in
-    let to = rw c.lower_bound-from.ensures.table at c.lower_bound-to.ensures.index in
-    let used = need_between s.table.records s.pool.blocks c.lower_bound-from.result
-    c.lower_bound-to.result c.args.lba c.args.count s.consistent.sorted
-    c.lower_bound-from.ensures.index to in
-    omega (arith, used)
-
-pub returns-clause-costs : goal.returns-clause-costs
-returns-clause-costs c =
+pub returns : goal.returns
+returns c =
     let s = c.args.self.now in
     let to = rw c.lower_bound-from.ensures.table at c.lower_bound-to.ensures.index in
     let used = need_between s.table.records s.pool.blocks c.lower_bound-from.result
@@ -41,25 +32,29 @@ returns-clause-costs c =
     let restarts = ap (λ (x : Table). x.restarts) passed ∙ ap (λ (x : Table). x.restarts) twice
     ∙ ap (λ (x : Table). x.restarts) searched in
     record {
-      cost = record {
-        visits = omega (arith, total, total', total'', visits, visits', visits'');
-        visits_rise = omega (arith, total, total', total'');
-        probes_rise = omega (
-          arith,
-          probes'',
-          c.lower_bound-from.ensures.probes_rise,
-          c.lower_bound-to.ensures.probes_rise,
-        );
-        probes = omega (
-          arith,
-          probes'',
-          c.lower_bound-from.ensures.probe_count,
-          c.lower_bound-to.ensures.probe_count,
-        );
-        links_rise = omega arith;
-        links = omega arith;
-        restarts = restarts;
+      value = omega (arith, used);
+      disk = search rules;
+      costs = record {
+        cost = record {
+          visits = omega (arith, total, total', total'', visits, visits', visits'');
+          visits_rise = omega (arith, total, total', total'');
+          probes_rise = omega (
+            arith,
+            probes'',
+            c.lower_bound-from.ensures.probes_rise,
+            c.lower_bound-to.ensures.probes_rise,
+          );
+          probes = omega (
+            arith,
+            probes'',
+            c.lower_bound-from.ensures.probe_count,
+            c.lower_bound-to.ensures.probe_count,
+          );
+          links_rise = omega arith;
+          links = omega arith;
+          restarts = restarts;
+        };
+        price = omega (arith, total, total', total'', used);
+        least = omega (arith, total, total', total'', used);
       };
-      price = omega (arith, total, total', total'', used);
-      least = omega (arith, total, total', total'', used);
     }
