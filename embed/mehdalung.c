@@ -12,6 +12,8 @@ uint32_t mehdalung_execute(mdl_disk *disk, uint32_t initiator, const uint8_t *cd
 uint32_t mehdalung_power_cycle(mdl_disk *disk);
 uint32_t mehdalung_sense(const uint8_t *sense, size_t length, mdl_sense *fields);
 uint8_t mehdalung_exit_status(uint8_t status, const uint8_t *sense, size_t sense_length);
+size_t mehdalung_decode(uint32_t kind, const uint8_t *data_in, size_t length, uint8_t *text,
+                        size_t text_length);
 size_t mehdalung_version(uint8_t *text, size_t text_length);
 
 /* What no bytes are at. */
@@ -60,6 +62,17 @@ int mdl_exit_status(const mdl_reply *reply)
     if (!reply)
         return 99;
     return mehdalung_exit_status(reply->status, reply->sense, reply->sense_length);
+}
+
+size_t mdl_decode(mdl_kind kind, const uint8_t *data_in, size_t length, char *text,
+                  size_t text_length)
+{
+    uint8_t none[1];
+
+    if ((!data_in && length) || (!text && text_length))
+        return MDL_NO_TEXT;
+    return mehdalung_decode((uint32_t)kind, data_in ? data_in : nothing, length,
+                            text ? (uint8_t *)text : none, text_length);
 }
 
 size_t mdl_version(char *text, size_t text_length)

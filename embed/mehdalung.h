@@ -6,10 +6,11 @@
  *
  * Every size is in bytes, but where a function says blocks. A block has 512 bytes.
  *
- * Memory. mdl_make and mdl_make_as take all memory of a disk from malloc, mdl_free gives it back,
- * and no other function takes or frees any. malloc and free come from one allocator, which aligns a
- * block to each power of two up to 16 that divides its size. None of these functions is called from
- * a signal handler, or from the forked child of a process with threads.
+ * Memory. mdl_make takes all memory of a disk from malloc, and mdl_free gives it back. mdl_decode
+ * takes memory for the time of the call. No other function takes or frees any. malloc and free come
+ * from one allocator, which aligns a block to each power of two up to 16 that divides its size. None
+ * of these functions is called from a signal handler, or from the forked child of a process with
+ * threads.
  *
  * Pointers. A pointer is null, or points to as many bytes as the function says, which nobody else
  * reads or writes until the function returns. Memory that it may write does not overlap any other
@@ -135,6 +136,36 @@ mdl_error mdl_read_sense(const uint8_t *sense, size_t length, mdl_sense *fields)
 /* The exit status that the tools of sg3_utils have for a reply. A null pointer serves as a reply
  * that has neither a known status nor sense data: 99. */
 int mdl_exit_status(const mdl_reply *reply);
+
+/* What the bytes of an answer are, by which mdl_decode prints them. docs/SCRIPT.md of the source has
+ * the texts: `show` and the tools of a script print the same. */
+typedef enum mdl_kind {
+    MDL_NOTHING = 0,           /* bytes that are not printed */
+    MDL_HEX = 1,               /* any bytes, in lines of sixteen */
+    MDL_INQUIRY = 2,           /* standard INQUIRY data */
+    MDL_VPD = 3,               /* a page of vital product data */
+    MDL_MODES_6 = 4,           /* mode parameters of MODE SENSE(6) */
+    MDL_MODES_10 = 5,          /* mode parameters of MODE SENSE(10) */
+    MDL_LBA_STATUS = 6,        /* parameter data of GET LBA STATUS */
+    MDL_LBA_STATUS_BRIEF = 7,  /* the same, without its length */
+    MDL_KEYS = 8,              /* parameter data of READ KEYS */
+    MDL_RESERVATION = 9,       /* parameter data of READ RESERVATION */
+    MDL_CAPABILITIES = 10,     /* parameter data of REPORT CAPABILITIES */
+    MDL_FULL_STATUS = 11,      /* parameter data of READ FULL STATUS */
+    MDL_SENSE = 12             /* sense data */
+} mdl_kind;
+
+/* What mdl_decode returns where there is no text. */
+#define MDL_NO_TEXT ((size_t)-1)
+
+/* Writes what an answer of a kind contains, in lines, into `text`, cut to `text_length` bytes, of
+ * which the last one is a zero. Returns the whole length without the zero, as snprintf does.
+ *     data_in  length bytes, read during the call; any bytes have a text. Null if there are 0
+ *     text     null serves if text_length is 0, and nothing is written
+ * MDL_NO_TEXT where `kind` is none of mdl_kind, a pointer is null that must not be, or memory was
+ * refused: `text` is as it was. */
+size_t mdl_decode(mdl_kind kind, const uint8_t *data_in, size_t length, char *text,
+                  size_t text_length);
 
 /* Writes the version of the library and of the proof, in one line, into `text`, cut to
  * `text_length` bytes, of which the last one is a zero. Returns the whole length without the zero,

@@ -36,6 +36,50 @@ static int is_untouched(void)
     return memcmp(&reply, &before, sizeof reply) == 0 && memcmp(data_in, before_in, sizeof data_in) == 0;
 }
 
+/* A line has an offset of eight digits between blanks, and three characters a byte. */
+static size_t length_of_hex(size_t bytes)
+{
+    return (bytes + 15) / 16 * 12 + 3 * bytes;
+}
+
+/* Each kind of text at each length of the buffer, with and without memory. */
+static void decode_every_length(void)
+{
+    static const uint8_t bytes[40] = { 0, 0xB2, 0, 36, 9, 0xE6, 2 };
+    static char whole[4096], cut[4096], untouched[4096];
+    unsigned kind;
+    size_t length, room;
+
+    memset(untouched, '?', sizeof untouched);
+    for (kind = MDL_NOTHING; kind <= MDL_SENSE; kind++) {
+        memset(whole, '?', sizeof whole);
+        length = mdl_decode((mdl_kind)kind, bytes, sizeof bytes, whole, sizeof whole);
+        WANT(length < sizeof whole && strlen(whole) == length && whole[length + 1] == '?');
+        WANT((length == 0) == (kind == MDL_NOTHING));
+        WANT(mdl_decode((mdl_kind)kind, bytes, sizeof bytes, NULL, 0) == length);
+        for (room = 0; room <= length + 2; room++) {
+            size_t kept = room == 0 ? 0 : length < room - 1 ? length : room - 1;
+
+            memset(cut, '?', sizeof cut);
+            WANT(mdl_decode((mdl_kind)kind, bytes, sizeof bytes, cut, room) == length);
+            WANT(!memcmp(cut, whole, kept) && (room == 0 || cut[kept] == 0));
+            WANT(!memcmp(cut + kept + (room > 0), untouched, sizeof cut - kept - (room > 0)));
+        }
+    }
+    memset(cut, '?', sizeof cut);
+    WANT(mdl_decode((mdl_kind)(MDL_SENSE + 1), bytes, sizeof bytes, cut, sizeof cut) == MDL_NO_TEXT);
+    WANT(mdl_decode(MDL_HEX, NULL, 1, cut, sizeof cut) == MDL_NO_TEXT);
+    WANT(mdl_decode(MDL_HEX, bytes, 1, NULL, 1) == MDL_NO_TEXT);
+    requests = 0;
+    WANT(mdl_decode(MDL_HEX, bytes, sizeof bytes, whole, sizeof whole) == length_of_hex(sizeof bytes));
+    for (refused = requests; refused > 0; refused--) {
+        requests = 0;
+        WANT(mdl_decode(MDL_HEX, bytes, sizeof bytes, cut, sizeof cut) == MDL_NO_TEXT);
+    }
+    WANT(!memcmp(cut, untouched, sizeof cut));
+    WANT(mdl_decode(MDL_HEX, NULL, 0, cut, sizeof cut) == 0 && cut[0] == 0);
+}
+
 int main(void)
 {
     static const uint8_t ready[6] = { 0 }, inquiry[6] = { 0x12, 0, 0, 0, 36 };
@@ -112,6 +156,7 @@ int main(void)
     mdl_free(&disk);
     mdl_free(NULL);
 
+    decode_every_length();
     length = mdl_version(text, sizeof text);
     WANT(length == strlen(text) && !strncmp(text, "mehdalung ", 10));
     WANT(mdl_version(short_text, sizeof short_text) == length && !strcmp(short_text, "mehdalung"));

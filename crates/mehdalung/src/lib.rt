@@ -12,9 +12,11 @@ ghost use Rattle.sg_embed.specs.Executed.{IsAnswered, IsPowerCycled, disk_config
 ghost use Rattle.sg_embed.specs.Outcome.{execute_outcome, make_outcome, outcome_code};
 ghost use Rattle.sg_embed.specs.Outcome.{make_as_outcome, power_cycle_outcome};
 ghost use Rattle.sg_embed.specs.Records.{asked_identity, sense_record};
-ghost use Rattle.sg_embed.specs.Text.{text_in};
+ghost use Rattle.sg_embed.specs.Text.{IsDecoded, text_in};
 
-use sg_embed::{IdentityRecord, Outcome, ReplyRecord, SenseRecord, Slot, VERSION, copy_text};
+use sg_embed::{
+    IdentityRecord, Outcome, ReplyRecord, SenseRecord, Slot, VERSION, copy_text, decode,
+};
 use sg_pages::Identity;
 use sg_tools::status_of;
 use std::alloc::Global;
@@ -122,6 +124,19 @@ pub extern "C" fn mehdalung_exit_status(status: u8, sense: &[u8]) -> u8
     ensures { result ≡ exit_status status (read_sense sense.now) }
 {
     status_of(status, sense)
+}
+
+/// Writes the text of an answer of a kind to the beginning of a buffer.
+#[unsafe(no_mangle)]
+pub extern "C" fn mehdalung_decode(
+    alloc: Global,
+    kind: u32,
+    data_in: &[u8],
+    text: &mut [u8],
+) -> usize
+    ensures { IsDecoded kind data_in.now text.old text.new result }
+{
+    decode(alloc, kind, data_in, text)
 }
 
 /// Writes the version of the library and of the proof to the beginning of a buffer.

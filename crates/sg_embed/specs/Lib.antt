@@ -3,4 +3,5 @@ pub mod Holds
 pub mod Outcome
 pub mod Executed
 pub mod Records
+pub mod Kinds
 pub mod Text

@@ -1,8 +1,26 @@
 -- Texts for C.
-use Rattle.std.specs.Prelude.{ℕ, List, [], ◌∷◌, ◌++◌, length, take}
+use Rattle.std.specs.Prelude.{◌≡◌, ◌⊎◌, ℕ, List, [], ◌∷◌, ◌++◌, MatchOption, length, take}
 use Rattle.sg_wire.specs.CutAnswer.{overwritten}
+use Rattle.sg_run.specs.AnswerText.{answer_text}
+use Rattle.sg_embed.specs.Kinds.{kind_numbered}
+use Rattle.sg_embed.specs.declared.answer.TheConstants.{NO_TEXT}
 
 -- A buffer with a text at its beginning, cut to it, and a zero behind the text.
 abbrev pub text_in : List ℕ → List ℕ → List ℕ
 text_in text [] = []
 text_in text (byte ∷ rest) = overwritten (take (length rest) text ++ 0 ∷ []) (byte ∷ rest)
+
+-- There is no text, and the buffer is as it was.
+abbrev pub IsUntouched : (before after : List ℕ) → (result : ℕ) → Type 0
+IsUntouched before after result = (result ≡ NO_TEXT) × (after ≡ before)
+
+-- A text is in a buffer, and its whole length is returned.
+abbrev pub IsText : (text before after : List ℕ) → (result : ℕ) → Type 0
+IsText text before after result = (result ≡ length text) × (after ≡ text_in text before)
+
+-- The text of an answer of the kind with a number is returned so, or memory was refused and the buffer
+-- is as it was. No kind has another number.
+abbrev pub IsDecoded : (kind : ℕ) → (data_in before after : List ℕ) → (result : ℕ) → Type 0
+IsDecoded kind data_in before after result =
+    MatchOption (kind_numbered kind) (IsUntouched before after result)
+    (λ show. IsUntouched before after result ⊎ IsText (answer_text show data_in) before after result)

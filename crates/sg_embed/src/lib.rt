@@ -1,13 +1,16 @@
 //! A disk for programs in other languages, as the exports of `mehdalung` hand it to C.
 #![tactic(auto)]
 
+mod answer;
 mod kept;
+mod kinds;
 mod outcome;
 mod parts;
 mod record;
 mod slot;
 mod text;
 
+pub use answer::{NO_TEXT, decode};
 pub use kept::Kept;
 pub use outcome::Outcome;
 pub use record::{IdentityRecord, ReplyRecord, SENSE_LENGTH, SenseRecord};

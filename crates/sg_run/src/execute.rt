@@ -19,7 +19,7 @@ ghost use Rattle.sg_run.specs.RequestLines.{line_request, tool_request};
 
 use crate::buffers::Buffers;
 use crate::request::{FilledBlocks, LineFault, Request, ToolLine, read_request};
-use crate::text::answer::print_answer;
+use crate::text::answer::put_answer;
 use crate::text::header::print_line_header;
 use crate::text::reply::print_reply;
 use sg_store::{BLOCK_LENGTH, Store};
@@ -111,7 +111,7 @@ fn print_shown<W: Write>(
 {
     let (_, lines) = buffer.split_at_mut(BUFFER_LENGTH);
     print_line_header(number, b"SHOWN", out);
-    print_answer(show, bytes, lines, out);
+    put_answer(show, bytes, lines, out);
     0
 }
 

@@ -1,4 +1,4 @@
-/* The first minute of README, from C: each line's status is printed as sgrun prints it. */
+/* The first minute of README, from C: it prints what sgrun prints. */
 #include <stdio.h>
 #include <string.h>
 
@@ -8,10 +8,12 @@ static uint8_t data_in[MDL_BUFFER_LENGTH];
 static mdl_disk disk = MDL_NONE;
 static mdl_reply reply;
 
+/* Sends a command, and prints its status and what its data-in contains. */
 static int send(uint32_t initiator, const uint8_t *cdb, size_t cdb_length, const uint8_t *data_out,
-                size_t data_out_length)
+                size_t data_out_length, mdl_kind kind)
 {
     static int line;
+    static char text[4096];
     mdl_error error = mdl_execute(&disk, initiator, cdb, cdb_length, data_out, data_out_length,
                                   data_in, sizeof data_in, &reply);
 
@@ -24,6 +26,9 @@ static int send(uint32_t initiator, const uint8_t *cdb, size_t cdb_length, const
            reply.status == MDL_GOOD              ? "GOOD"
            : reply.status == MDL_CHECK_CONDITION ? "CHECK CONDITION"
                                                  : "RESERVATION CONFLICT");
+    if (reply.status == MDL_GOOD
+        && mdl_decode(kind, data_in, reply.data_in_length, text, sizeof text) < sizeof text)
+        fputs(text, stdout);
     return mdl_exit_status(&reply);
 }
 
@@ -45,15 +50,15 @@ int main(void)
     memset(blocks, 0xAB, sizeof blocks);
     if (mdl_make(&disk, 4096, 4, NULL) != MDL_OK)
         return 99;
-    send(0, request_sense, sizeof request_sense, NULL, 0);
-    send(0, provisioning_page, sizeof provisioning_page, NULL, 0);
-    send(0, write_4, sizeof write_4, blocks, sizeof blocks);
-    send(0, unmap, sizeof unmap, extent, sizeof extent);
-    send(0, lba_status, sizeof lba_status, NULL, 0);
-    send(0, register_key, sizeof register_key, new_key, sizeof new_key);
-    send(0, reserve, sizeof reserve, key, sizeof key);
-    send(1, request_sense, sizeof request_sense, NULL, 0);
-    status = send(1, write_1, sizeof write_1, zeros, sizeof zeros);
+    send(0, request_sense, sizeof request_sense, NULL, 0, MDL_NOTHING);
+    send(0, provisioning_page, sizeof provisioning_page, NULL, 0, MDL_VPD);
+    send(0, write_4, sizeof write_4, blocks, sizeof blocks, MDL_NOTHING);
+    send(0, unmap, sizeof unmap, extent, sizeof extent, MDL_NOTHING);
+    send(0, lba_status, sizeof lba_status, NULL, 0, MDL_LBA_STATUS_BRIEF);
+    send(0, register_key, sizeof register_key, new_key, sizeof new_key, MDL_NOTHING);
+    send(0, reserve, sizeof reserve, key, sizeof key, MDL_NOTHING);
+    send(1, request_sense, sizeof request_sense, NULL, 0, MDL_NOTHING);
+    status = send(1, write_1, sizeof write_1, zeros, sizeof zeros, MDL_NOTHING);
     mdl_free(&disk);
     return status;
 }

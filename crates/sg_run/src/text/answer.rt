@@ -1,19 +1,24 @@
 // What is printed of the bytes of an answer.
-ghost use Rattle.std.specs.Prelude.{◌≤◌, length};
+ghost use Rattle.std.specs.Prelude.{◌≡◌, ◌≤◌, false, length};
 ghost use Rattle.sg_wire.specs.Printer.{PrintsText};
+ghost use Rattle.sg_wire.specs.Watched.{SendsText, has_failed};
 ghost use Rattle.sg_decode.specs.HexText.{gathered_text};
 ghost use Rattle.sg_run.specs.AnswerText.{answer_text};
 
 use sg_decode::{
-    put_capabilities, put_full_status, put_hex_lines, put_inquiry, put_keys, put_lba_status,
+    GATHERED_TEXT, put_capabilities, put_full_status, put_hex_lines, put_inquiry, put_keys, put_lba_status,
     put_modes, put_reservation, put_sense, put_vpd,
 };
 use sg_tools::Show;
-use sg_wire::Printer;
+use sg_wire::{Printer, Watched};
+use std::io;
 use std::io::Write;
 
+// How many bytes of a text are gathered for a write.
+const GATHERED: usize = 512;
+
 /// Prints the bytes of an answer as they are asked for. Hexadecimal lines are gathered in `lines`.
-pub(crate) fn print_answer<W: Write>(
+pub(crate) fn put_answer<W: Write>(
     show: Show,
     data_in: &[u8],
     lines: &mut [u8],
@@ -37,4 +42,24 @@ pub(crate) fn print_answer<W: Write>(
         Show::FullStatus => put_full_status(data_in, out),
         Show::Sense => put_sense(data_in, out),
     }
+}
+
+/// Prints the bytes of an answer as they are asked for, each kind with its text of `sg_decode`.
+///
+/// # Errors
+///
+/// The writer failed: a proper prefix of the text has been written.
+pub fn print_answer<W: Write>(
+    show: Show,
+    data_in: &[u8],
+    writer: &mut Watched<W>,
+) -> io::Result<()>
+    requires { has_failed writer.old ≡ false }
+    ensures { SendsText W.contents writer.old writer.new result (answer_text show data_in.now) }
+{
+    let mut buffer = [0; GATHERED];
+    let mut lines = [0; GATHERED_TEXT];
+    let mut out = Printer::new(writer, &mut buffer);
+    put_answer(show, data_in, &mut lines, &mut out);
+    out.finish()
 }

@@ -6,7 +6,7 @@ ghost use Rattle.sg_wire.specs.SenseData.{read_sense};
 ghost use Rattle.sg_decode.specs.HexText.{gathered_text};
 ghost use Rattle.sg_run.specs.Outcome.{reply_text, status_name};
 
-use super::answer::print_answer;
+use super::answer::put_answer;
 use super::header::print_line_header;
 use super::sense::print_sense;
 use sg_target::{Reply, Status};
@@ -34,7 +34,7 @@ pub(crate) fn print_reply<W: Write>(
     print_line_header(number, status_name(reply.status), out);
     print_sense(reply.sense.as_slice(), sense, out);
     if let Status::Good = reply.status {
-        print_answer(show, data_in, lines, out);
+        put_answer(show, data_in, lines, out);
     }
 }
 

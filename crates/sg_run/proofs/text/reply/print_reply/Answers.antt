@@ -10,7 +10,7 @@ returns-in-Good g c =
       shown-good c.args.reply.now.status c.args.show c.args.data_in.now c.in-Good.is,
     )
     (Prints-on c.print_line_header.ensures
-    (Prints-on c.print_sense.ensures c.print_answer.ensures))
+    (Prints-on c.print_sense.ensures c.put_answer.ensures))
 
 pub returns-in_default : goal.returns-in_default
 returns-in_default g c =

@@ -1,0 +1,28 @@
+// The kinds of answers, by their numbers.
+ghost use Rattle.std.specs.Prelude.{◌≡◌};
+ghost use Rattle.sg_embed.specs.Kinds.{kind_numbered};
+
+use sg_tools::Show;
+
+const KINDS: [Show; 13] = [
+    Show::Nothing,
+    Show::Hex,
+    Show::Inquiry,
+    Show::Vpd,
+    Show::Modes6,
+    Show::Modes10,
+    Show::LbaStatus,
+    Show::LbaStatusBrief,
+    Show::Keys,
+    Show::Reservation,
+    Show::Capabilities,
+    Show::FullStatus,
+    Show::Sense,
+];
+
+/// The kind of answers with a number of the header.
+pub(crate) fn kind_numbered(number: u32) -> Option<Show>
+    ensures { result ≡ kind_numbered number }
+{
+    KINDS.get(number as usize).copied()
+}
