@@ -19,9 +19,12 @@ _Static_assert(sizeof(struct stat) == sizeof(struct stat64), "off_t has 64 bits"
 /* All else of this object is hidden from the program. */
 #pragma GCC visibility push(default)
 
+/* The mode is there where a file is made. O_TMPFILE has the bit of O_DIRECTORY, too. */
 static mode_t mode_of(int flags, va_list arguments)
 {
-    return flags & (O_CREAT | O_TMPFILE) ? va_arg(arguments, mode_t) : 0;
+    int is_made = flags & O_CREAT || (flags & O_TMPFILE) == O_TMPFILE;
+
+    return is_made ? va_arg(arguments, mode_t) : 0;
 }
 
 /* open and open64: a NAME of the library, and the same for the node. */
