@@ -119,7 +119,7 @@ static void accept_client(int listener, struct client *clients)
     close(socket);
 }
 
-/* While a reply is on its way, no further request of its client is read. poll passes over -1. */
+/* While a reply is on its way, no further request of its client is read. poll skips -1. */
 static void set_polls(struct pollfd *polls, const struct client *clients)
 {
     int at;

@@ -19,12 +19,15 @@ _Static_assert(sizeof(struct stat) == sizeof(struct stat64), "off_t has 64 bits"
 /* All else of this object is hidden from the program. */
 #pragma GCC visibility push(default)
 
+/* The mode is there where a file is made. O_TMPFILE has the bit of O_DIRECTORY, too. */
 static mode_t mode_of(int flags, va_list arguments)
 {
-    return flags & (O_CREAT | O_TMPFILE) ? va_arg(arguments, mode_t) : 0;
+    int is_made = flags & O_CREAT || (flags & O_TMPFILE) == O_TMPFILE;
+
+    return is_made ? va_arg(arguments, mode_t) : 0;
 }
 
-/* open and open64: a NAME of the library, and the same for the node. */
+/* Each macro makes the function NAME: of the node for the node, the library's for all else. */
 #define OPEN(NAME) \
     int NAME(const char *path, int flags, ...) \
     { \
@@ -91,6 +94,14 @@ OPEN_2(__open64_2)
 OPENAT_2(__openat_2)
 OPENAT_2(__openat64_2)
 
+/* With AT_EMPTY_PATH it is asked of a descriptor. */
+static int is_node_at(int folder, const char *path, int flags)
+{
+    int is_descriptor = flags & AT_EMPTY_PATH && (!path || !*path);
+
+    return is_descriptor ? is_node(folder) : is_node_path(path);
+}
+
 #define STAT(NAME, TYPE) \
     int NAME(const char *path, struct TYPE *status) \
     { \
@@ -117,13 +128,12 @@ OPENAT_2(__openat64_2)
         return next(descriptor, status); \
     }
 
-/* With AT_EMPTY_PATH it is asked of a descriptor. */
 #define FSTATAT(NAME, TYPE) \
     int NAME(int folder, const char *path, struct TYPE *status, int flags) \
     { \
         int (*next)(int, const char *, struct TYPE *, int); \
 \
-        if (is_node_path(path) || (flags & AT_EMPTY_PATH && !*path && is_node(folder))) { \
+        if (is_node_at(folder, path, flags)) { \
             put_node_status((struct stat *)status); \
             return 0; \
         } \
@@ -139,6 +149,19 @@ FSTAT(fstat, stat)
 FSTAT(fstat64, stat64)
 FSTATAT(fstatat, stat)
 FSTATAT(fstatat64, stat64)
+
+/* What ls and stat ask. */
+int statx(int folder, const char *path, int flags, unsigned mask, struct statx *status)
+{
+    int (*next)(int, const char *, int, unsigned, struct statx *);
+
+    if (is_node_at(folder, path, flags)) {
+        put_node_statx(status);
+        return 0;
+    }
+    NEXT(next, "statx");
+    return next(folder, path, flags, mask, status);
+}
 
 int ioctl(int descriptor, unsigned long request, ...)
 {

@@ -72,3 +72,20 @@ void put_node_status(struct stat *status)
     status->st_ino = 1;
     status->st_blksize = 4096;
 }
+
+void put_node_statx(struct statx *status)
+{
+    struct stat plain;
+
+    put_node_status(&plain);
+    memset(status, 0, sizeof *status);
+    status->stx_mask = STATX_BASIC_STATS;
+    status->stx_mode = (uint16_t)plain.st_mode;
+    status->stx_rdev_major = major(plain.st_rdev);
+    status->stx_rdev_minor = minor(plain.st_rdev);
+    status->stx_uid = plain.st_uid;
+    status->stx_gid = plain.st_gid;
+    status->stx_nlink = (uint32_t)plain.st_nlink;
+    status->stx_ino = plain.st_ino;
+    status->stx_blksize = (uint32_t)plain.st_blksize;
+}

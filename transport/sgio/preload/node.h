@@ -33,6 +33,9 @@ int initiator_of_process(void);
 /* What stat says of the node: a character device of the sg driver. */
 void put_node_status(struct stat *status);
 
+/* The same for statx. */
+void put_node_statx(struct statx *status);
+
 /* SG_IO with the header of sg's version 3. Returns 0 or a negative errno, as sg's driver does. */
 int execute_sg_io(int descriptor, sg_io_hdr_t *header);
 

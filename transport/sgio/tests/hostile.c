@@ -84,7 +84,7 @@ static int receive_byte(int connection)
     return count == 1 ? byte : -1;
 }
 
-/* Reads a reply and passes over its data-in. */
+/* Reads a reply, with its data-in. */
 static void receive_reply(int connection, struct reply_header *reply)
 {
     uint8_t header[REPLY_HEADER_LENGTH];
@@ -199,6 +199,7 @@ static void cut_a_write(void)
     for (cut = 1; cut < length; cut++) {
         other = open_connection();
         send_bytes(other, request, cut);
+        WANT(shutdown(other, SHUT_WR) == 0 && receive_byte(other) < 0); /* so the server has seen it */
         close(other);
     }
     execute(connection, 0, status_7, 16, &reply);

@@ -1,5 +1,5 @@
 /* Not proved. Eight processes, each an initiator, use the path of $disk at once for some seconds:
- *     load SECONDS     under LD_PRELOAD, on a disk of 4,096 blocks at least
+ *     load SECONDS     in the environment of `join`, on a new disk of 4,096 blocks
  * Each has 32 blocks of its own, in which it writes, reads, unmaps and anchors, and it registers a key,
  * and unregisters it. Half the time gone, one of them is killed. The others have to end, with their
  * blocks as they left them; of the killed one each block is whole. It is an ordinary program of sg. */
