@@ -1,9 +1,9 @@
-/* A backing store of tgtd, the iSCSI target of the package tgt: each logical unit of it is a disk of
- * libmehdalung, which gets each CDB as it came, and whose reply is sent as it is.
+/* A backing store of tgtd, the iSCSI target of the package tgt: each logical unit of it is a disk
+ * of libmehdalung, which gets each CDB as it came, and whose reply is sent as it is.
  *
- * tgtd loads this object from its folder of backing stores, or by LD_PRELOAD. A logical unit is made
- * with `--bstype mehdalung --backing-store blocks=4096:pool=16`. All of tgtd that is used here runs
- * in its one main thread, and so do the disks. */
+ * tgtd loads this object from its folder of backing stores, or by LD_PRELOAD. A logical unit is
+ * made with `--bstype mehdalung --backing-store blocks=4096:pool=16`. All that calls this file runs
+ * in tgtd's main thread, and so do the disks. */
 #include <errno.h>
 #include <inttypes.h>
 #include <stdint.h>
@@ -119,8 +119,8 @@ static int initiator_of(struct scsi_cmd *cmd)
     return number;
 }
 
-/* Asks the disk who is registered. It is asked as the initiator whose PERSISTENT RESERVE OUT has just
- * ended with GOOD: no unit attention is pending for that one, so none is lost by asking. */
+/* Asks the disk who is registered. It is asked as the initiator whose PERSISTENT RESERVE OUT has
+ * just ended with GOOD: no unit attention is pending for that one, so none is lost by asking. */
 static void read_registrations(struct unit *unit, uint32_t initiator)
 {
     static const uint8_t read_full_status[FULL_STATUS_CDB_LENGTH] = {
@@ -154,8 +154,8 @@ static int deliver(struct scsi_cmd *cmd, const mdl_reply *reply)
     return reply->status;
 }
 
-/* A line for a command and its reply, in the log of tgtd while its debug messages are on. The CDB is
- * as a script of sgrun has it, cut to a length that shows all fields of all commands. */
+/* A line for a command and its reply, in the log of tgtd while its debug messages are on. The CDB
+ * is as a script of sgrun has it. */
 static void trace(struct scsi_cmd *cmd, int initiator, const mdl_reply *reply)
 {
     int length = get_scsi_cdb_size(cmd), at;
@@ -221,8 +221,8 @@ static int read_size(const char **text, const char *name, uint64_t *size)
     return errno == 0;
 }
 
-/* The vendor, product and revision of the standard identity, and a number of the logical unit's own:
- * LUN 1 of target 1 has the standard one, 1. */
+/* The vendor, product and revision of the standard identity, and a number of the logical unit's
+ * own: LUN 1 of target 1 has the standard one, 1. */
 static void identify(const struct scsi_lu *lu, mdl_identity *identity)
 {
     char serial[sizeof identity->serial + 1];

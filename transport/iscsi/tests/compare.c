@@ -1,4 +1,4 @@
-/* Sends random and malformed commands to a target, and compares each reply with that of the library:
+/* Sends random and malformed commands to a target, and compares each reply with the library's:
  *     compare URL BLOCKS POOL COUNT SEED
  *
  * The disk at URL is new and has these sizes. Eight initiators send COUNT commands: operation codes
@@ -206,8 +206,8 @@ static int compare(unsigned long count)
 
         faulty += (unsigned long)next_request(&request);
         data_out = request.direction == DATA_OUT ? request.length : 0;
-        if (mdl_execute(&disk, initiator, request.cdb, MOST_CDB, request.data_out, data_out, data_in,
-                        sizeof data_in, &reply))
+        if (mdl_execute(&disk, initiator, request.cdb, MOST_CDB, request.data_out, data_out,
+                        data_in, sizeof data_in, &reply))
             return 1;
         session_execute(sessions[initiator], &request, &answer);
         if (!agrees(&request, &reply, data_in, &answer)) {

@@ -1,11 +1,12 @@
 /* Eight sessions at once, of which one is killed in the middle:
  *     load URL SECONDS HISTORY
  *
- * Each session is a process. It sends commands of many kinds, one after the other: writes and unmaps
- * of blocks that are its alone, reads of them, and service actions of persistent reservations. When
- * all have ended, each block holds what its session wrote last, of the writes that were answered; of
- * the killed session it may also be the one that was not. Reservation commands are written to HISTORY
- * with the times before they were sent and after they were answered, for tests/order:
+ * Each session is a process. It sends commands of many kinds, one after the other: writes and
+ * unmaps of blocks that are its alone, reads of them, and service actions of persistent
+ * reservations. When all have ended, each block holds what its session wrote last, of the writes
+ * that were answered; of the killed session it may also be the one that was not. Reservation
+ * commands are written to HISTORY with the times before they were sent and after they were
+ * answered, for tests/order:
  *     BEGIN END INITIATOR ACTION KEY ACTION-KEY TYPE STATUS GENERATION KEYS
  * END is 0 where no answer came. ACTION is that of PERSISTENT RESERVE OUT, or 16 for READ KEYS. */
 #include <inttypes.h>
@@ -119,7 +120,7 @@ static struct request blocks_request(uint8_t opcode, uint32_t address, uint32_t 
     return request;
 }
 
-/* Notes what a command does to blocks of this session, before it is sent and after it is answered. */
+/* Notes what a command does to this session's blocks, before it is sent and after its reply. */
 static void note_pending(uint32_t first, uint32_t count, uint64_t write)
 {
     while (count--)
@@ -181,7 +182,8 @@ static void compare(unsigned owner, uint32_t first, uint32_t count)
         uint64_t pending = record->pending[first + at];
 
         fill_block(expected, address, record->written[first + at]);
-        fill_block(other, address, pending == NOTHING_PENDING ? record->written[first + at] : pending);
+        fill_block(other, address,
+                   pending == NOTHING_PENDING ? record->written[first + at] : pending);
         if (memcmp(block, expected, sizeof expected) && memcmp(block, other, sizeof other))
             fail("a block is not what was written last");
     }
@@ -279,7 +281,8 @@ static void run_session(const char *url, uint64_t end)
     if (!session)
         exit(1);
     while (now() < end) {
-        uint32_t first = below(BLOCKS - MOST_BLOCKS), count = 1 + below(MOST_BLOCKS), kind = below(64);
+        uint32_t first = below(BLOCKS - MOST_BLOCKS), count = 1 + below(MOST_BLOCKS);
+        uint32_t kind = below(64);
 
         if (kind < 2)
             reserve();
