@@ -31,6 +31,9 @@ enum {
     INITIATOR_MASK = 0x0F
 };
 
+/* An iSCSI TransportID has the name behind so many bytes (SPC-4, 7.6.4). */
+enum { TRANSPORT_ID_HEADER = 4 };
+
 /* The CDB of each command of the disk has at most so many bytes. */
 enum { TRACED_CDB = 16 };
 
@@ -65,16 +68,15 @@ static int get_port(const struct target *target, uint64_t session, struct port *
 /* Bit i is set where the port that has number i has a session. */
 static unsigned numbers_with_session(struct scsi_lu *lu)
 {
-    struct port_table *table = &unit_of(lu)->table;
     struct it_nexus *nexus;
     struct port port;
     unsigned found = 0;
     int number;
 
     list_for_each_entry(nexus, &lu->tgt->it_nexus_list, nexus_siblings) {
-        if (!get_port(lu->tgt, nexus->itn_id, &port))
-            continue;
-        number = port_number(table, &port);
+        number = NO_NUMBER;
+        if (get_port(lu->tgt, nexus->itn_id, &port))
+            number = port_number(&unit_of(lu)->table, &port);
         if (number != NO_NUMBER)
             found |= 1u << number;
     }
@@ -95,27 +97,36 @@ static void clear_unit_attentions(struct unit *unit, uint32_t initiator)
     while (reply.status != MDL_GOOD && --left > 0);
 }
 
+/* Gives a number to a port that has none, or NO_NUMBER. */
+static int take_number(struct scsi_lu *lu, const struct port *port)
+{
+    struct unit *unit = unit_of(lu);
+    int all_were_used = unit->table.last_use[PORT_NUMBERS - 1] != 0;
+    int number = port_take_number(&unit->table, port, unit->registered | numbers_with_session(lu));
+
+    if (number == NO_NUMBER)
+        return NO_NUMBER;
+    if (all_were_used)
+        clear_unit_attentions(unit, (uint32_t)number);
+    eprintf("LUN %" PRIu64 ": initiator %d is %s\n", lu->lun, number,
+            port->transport_id + TRANSPORT_ID_HEADER);
+    return number;
+}
+
 /* The initiator that sends a command, or NO_NUMBER. */
 static int initiator_of(struct scsi_cmd *cmd)
 {
     struct scsi_lu *lu = cmd->dev;
-    struct unit *unit = unit_of(lu);
+    struct port_table *table = &unit_of(lu)->table;
     struct port port;
-    int number, is_second;
+    int number;
 
     if (!get_port(lu->tgt, cmd->it_nexus->itn_id, &port))
         return NO_NUMBER;
-    number = port_number(&unit->table, &port);
-    if (number != NO_NUMBER)
-        return number;
-    is_second = unit->table.last_use[PORT_NUMBERS - 1] != 0;
-    number = port_take_number(&unit->table, &port, unit->registered | numbers_with_session(lu));
+    number = port_number(table, &port);
     if (number == NO_NUMBER)
-        return NO_NUMBER;
-    if (is_second)
-        clear_unit_attentions(unit, (uint32_t)number);
-    /* the name is behind the header of four bytes */
-    eprintf("LUN %" PRIu64 ": initiator %d is %s\n", lu->lun, number, port.transport_id + 4);
+        return take_number(lu, &port);
+    port_use(table, number);
     return number;
 }
 
