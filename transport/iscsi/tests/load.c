@@ -348,32 +348,61 @@ static int write_history(const char *name)
     return fclose(out);
 }
 
-/* Reads all blocks, and the keys as a last event. Reservations are cleared between the two. */
-static void look(const char *url)
+/* Logs in as a port, and has its unit attentions reported. */
+static void come_back(const char *url, unsigned port)
 {
     static const uint8_t test_unit_ready[6];
-    uint8_t list[24] = { 0 };
     struct request request = request_of(test_unit_ready, sizeof test_unit_ready);
-    struct event event = { .action = READ_KEYS };
-    unsigned owner;
 
-    self = 0;
+    self = port;
     session = session_open(url, self);
     if (!session)
         exit(1);
     do
         execute(&request);
     while (is_unit_attention());
-    request = (struct request){ .cdb = { 0x5E, [8] = 8 + 8 * SESSIONS }, .cdb_length = 10,
-                                .direction = DATA_IN, .length = 8 + 8 * SESSIONS };
+}
+
+/* READ KEYS, as the last event of the history. */
+static void note_keys(void)
+{
+    struct request request = { .cdb = { 0x5E, [8] = 8 + 8 * SESSIONS }, .cdb_length = 10,
+                               .direction = DATA_IN, .length = 8 + 8 * SESSIONS };
+    struct event event = { .action = READ_KEYS };
+
     note_event(&request, &event);
-    list[15] = 1;
-    request = (struct request){ .cdb = { 0x5F, 6, [8] = sizeof list }, .cdb_length = 10,
-                                .direction = DATA_OUT, .length = sizeof list, .data_out = list };
+}
+
+/* Registers, ignoring an existing key, and clears all. Where six others are registered it can't. */
+static int clear_reservations(void)
+{
+    static const uint8_t new_key[24] = { [15] = 1 }, key[24] = { [7] = 1 };
+    struct request request = { .cdb = { 0x5F, 6, [8] = sizeof key }, .cdb_length = 10,
+                               .direction = DATA_OUT, .length = sizeof key, .data_out = new_key };
+
     execute(&request);
-    list[7] = 1;
+    if (answer.status != MDL_GOOD)
+        return 0;
     request.cdb[1] = 3;
+    request.data_out = key;
     execute(&request);
+    return answer.status == MDL_GOOD;
+}
+
+/* Notes the keys at the end, and reads all blocks when the reservations are cleared. */
+static void look(const char *url)
+{
+    struct request request;
+    unsigned port = 0, owner;
+
+    come_back(url, port);
+    note_keys();
+    while (!clear_reservations()) {
+        session_log_out(session);
+        if (++port == SESSIONS)
+            fail("reservations can't be cleared");
+        come_back(url, port);
+    }
     for (owner = 0; owner < SESSIONS; owner++) {
         request = blocks_request(0x28, base_of(owner), BLOCKS);
         execute(&request);
