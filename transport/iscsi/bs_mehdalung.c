@@ -31,8 +31,9 @@ enum {
     INITIATOR_MASK = 0x0F
 };
 
-/* An iSCSI TransportID has the name behind so many bytes (SPC-4, 7.6.4). */
-enum { TRANSPORT_ID_HEADER = 4 };
+/* tgtd's TransportIDs: 4 bytes, the name, a zero, the text ",i,0x" and the ISID as it is. In SPC-4,
+ * 7.6.4, the ISID is in hexadecimal. */
+enum { TRANSPORT_ID_HEADER = 4, ISID_SEPARATOR = 5 };
 
 /* The CDB of each command of the disk has at most so many bytes. */
 enum { TRACED_CDB = 16 };
@@ -97,6 +98,16 @@ static void clear_unit_attentions(struct unit *unit, uint32_t initiator)
     while (reply.status != MDL_GOOD && --left > 0);
 }
 
+/* Writes the name of a port to the log, as RFC 7143, 4.4.1, has it: NAME,i,0xISID. */
+static void log_number(const struct scsi_lu *lu, int number, const struct port *port)
+{
+    const char *name = port->transport_id + TRANSPORT_ID_HEADER;
+    const unsigned char *isid = (const unsigned char *)name + strlen(name) + 1 + ISID_SEPARATOR;
+
+    eprintf("LUN %" PRIu64 ": initiator %d is %s,i,0x%02x%02x%02x%02x%02x%02x\n", lu->lun, number,
+            name, isid[0], isid[1], isid[2], isid[3], isid[4], isid[5]);
+}
+
 /* Gives a number to a port that has none, or NO_NUMBER. */
 static int take_number(struct scsi_lu *lu, const struct port *port)
 {
@@ -108,8 +119,7 @@ static int take_number(struct scsi_lu *lu, const struct port *port)
         return NO_NUMBER;
     if (all_were_used)
         clear_unit_attentions(unit, (uint32_t)number);
-    eprintf("LUN %" PRIu64 ": initiator %d is %s\n", lu->lun, number,
-            port->transport_id + TRANSPORT_ID_HEADER);
+    log_number(lu, number, port);
     return number;
 }
 

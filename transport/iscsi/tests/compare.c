@@ -176,7 +176,8 @@ static void print_difference(unsigned long number, const struct request *request
            answer->data_in_length, answer->residual);
 }
 
-/* An INQUIRY each, so that the initiators have their numbers in this order. */
+/* An INQUIRY each, so that the initiators have their numbers in this order. Any two differ in name
+ * or ISID, and some in one alone. */
 static void log_in(const char *url)
 {
     static const uint8_t inquiry[6] = { 0x12 };
@@ -185,7 +186,7 @@ static void log_in(const char *url)
     unsigned port;
 
     for (port = 0; port < MDL_INITIATORS; port++) {
-        sessions[port] = session_open(url, port);
+        sessions[port] = session_open(url, port / 2, port % 2);
         if (!sessions[port])
             exit(1);
         session_execute(sessions[port], &request, &answer);

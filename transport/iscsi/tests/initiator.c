@@ -110,7 +110,7 @@ static void print_answer(const struct request *request)
 
 static void log_in(unsigned port)
 {
-    if (!sessions[port] && !(sessions[port] = session_open(url, port)))
+    if (!sessions[port] && !(sessions[port] = session_open(url, port, port)))
         fail("no session");
 }
 

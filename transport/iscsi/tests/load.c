@@ -272,14 +272,22 @@ static void reserve(void)
         key = event.action_key;
 }
 
+/* Any two ports differ in name or ISID, and some in one alone. */
+static struct session *log_in(const char *url, unsigned port)
+{
+    struct session *opened = session_open(url, port / 2, port % 2);
+
+    if (!opened)
+        exit(1);
+    return opened;
+}
+
 static void run_session(const char *url, uint64_t end)
 {
     uint64_t write = 0;
 
     state = self + 1;
-    session = session_open(url, self);
-    if (!session)
-        exit(1);
+    session = log_in(url, self);
     while (now() < end) {
         uint32_t first = below(BLOCKS - MOST_BLOCKS), count = 1 + below(MOST_BLOCKS);
         uint32_t kind = below(64);
@@ -355,9 +363,7 @@ static void come_back(const char *url, unsigned port)
     struct request request = request_of(test_unit_ready, sizeof test_unit_ready);
 
     self = port;
-    session = session_open(url, self);
-    if (!session)
-        exit(1);
+    session = log_in(url, self);
     do
         execute(&request);
     while (is_unit_attention());

@@ -40,7 +40,7 @@ static uint64_t measure(const char *url, unsigned port, struct request request)
 {
     static uint8_t blocks[BLOCKS * MDL_BLOCK_LENGTH];
     static struct answer answer;
-    struct session *session = session_open(url, port);
+    struct session *session = session_open(url, port, port);
     uint64_t count = 0, end;
 
     if (!session)
