@@ -1,9 +1,9 @@
-/* A backing store of tgtd, the iSCSI target of the package tgt: each logical unit of it is a disk of
- * libmehdalung, which gets each CDB as it came, and whose reply is sent as it is.
+/* A backing store of tgtd, the iSCSI target of the package tgt: each logical unit of it is a disk
+ * of libmehdalung, which gets each CDB as it came, and whose reply is sent as it is.
  *
- * tgtd loads this object from its folder of backing stores, or by LD_PRELOAD. A logical unit is made
- * with `--bstype mehdalung --backing-store blocks=4096:pool=16`. All of tgtd that is used here runs
- * in its one main thread, and so do the disks. */
+ * tgtd loads this object from its folder of backing stores, or by LD_PRELOAD. A logical unit is
+ * made with `--bstype mehdalung --backing-store blocks=4096:pool=16`. All that calls this file runs
+ * in tgtd's main thread, and so do the disks. */
 #include <errno.h>
 #include <inttypes.h>
 #include <stdint.h>
@@ -30,6 +30,10 @@ enum {
     INITIATOR_IN_DESCRIPTOR = 35,
     INITIATOR_MASK = 0x0F
 };
+
+/* tgtd's TransportIDs: 4 bytes, the name, a zero, the text ",i,0x" and the ISID as it is. In SPC-4,
+ * 7.6.4, the ISID is in hexadecimal. */
+enum { TRANSPORT_ID_HEADER = 4, ISID_SEPARATOR = 5 };
 
 /* The CDB of each command of the disk has at most so many bytes. */
 enum { TRACED_CDB = 16 };
@@ -65,16 +69,15 @@ static int get_port(const struct target *target, uint64_t session, struct port *
 /* Bit i is set where the port that has number i has a session. */
 static unsigned numbers_with_session(struct scsi_lu *lu)
 {
-    struct port_table *table = &unit_of(lu)->table;
     struct it_nexus *nexus;
     struct port port;
     unsigned found = 0;
     int number;
 
     list_for_each_entry(nexus, &lu->tgt->it_nexus_list, nexus_siblings) {
-        if (!get_port(lu->tgt, nexus->itn_id, &port))
-            continue;
-        number = port_number(table, &port);
+        number = NO_NUMBER;
+        if (get_port(lu->tgt, nexus->itn_id, &port))
+            number = port_number(&unit_of(lu)->table, &port);
         if (number != NO_NUMBER)
             found |= 1u << number;
     }
@@ -95,32 +98,50 @@ static void clear_unit_attentions(struct unit *unit, uint32_t initiator)
     while (reply.status != MDL_GOOD && --left > 0);
 }
 
+/* Writes the name of a port to the log, as RFC 7143, 4.4.1, has it: NAME,i,0xISID. */
+static void log_number(const struct scsi_lu *lu, int number, const struct port *port)
+{
+    const char *name = port->transport_id + TRANSPORT_ID_HEADER;
+    const unsigned char *isid = (const unsigned char *)name + strlen(name) + 1 + ISID_SEPARATOR;
+
+    eprintf("LUN %" PRIu64 ": initiator %d is %s,i,0x%02x%02x%02x%02x%02x%02x\n", lu->lun, number,
+            name, isid[0], isid[1], isid[2], isid[3], isid[4], isid[5]);
+}
+
+/* Gives a number to a port that has none, or NO_NUMBER. */
+static int take_number(struct scsi_lu *lu, const struct port *port)
+{
+    struct unit *unit = unit_of(lu);
+    int all_were_used = unit->table.last_use[PORT_NUMBERS - 1] != 0;
+    int number = port_take_number(&unit->table, port, unit->registered | numbers_with_session(lu));
+
+    if (number == NO_NUMBER)
+        return NO_NUMBER;
+    if (all_were_used)
+        clear_unit_attentions(unit, (uint32_t)number);
+    log_number(lu, number, port);
+    return number;
+}
+
 /* The initiator that sends a command, or NO_NUMBER. */
 static int initiator_of(struct scsi_cmd *cmd)
 {
     struct scsi_lu *lu = cmd->dev;
-    struct unit *unit = unit_of(lu);
+    struct port_table *table = &unit_of(lu)->table;
     struct port port;
-    int number, is_second;
+    int number;
 
     if (!get_port(lu->tgt, cmd->it_nexus->itn_id, &port))
         return NO_NUMBER;
-    number = port_number(&unit->table, &port);
-    if (number != NO_NUMBER)
-        return number;
-    is_second = unit->table.last_use[PORT_NUMBERS - 1] != 0;
-    number = port_take_number(&unit->table, &port, unit->registered | numbers_with_session(lu));
+    number = port_number(table, &port);
     if (number == NO_NUMBER)
-        return NO_NUMBER;
-    if (is_second)
-        clear_unit_attentions(unit, (uint32_t)number);
-    /* the name is behind the header of four bytes */
-    eprintf("LUN %" PRIu64 ": initiator %d is %s\n", lu->lun, number, port.transport_id + 4);
+        return take_number(lu, &port);
+    port_use(table, number);
     return number;
 }
 
-/* Asks the disk who is registered. It is asked as the initiator whose PERSISTENT RESERVE OUT has just
- * ended with GOOD: no unit attention is pending for that one, so none is lost by asking. */
+/* Asks the disk who is registered. It is asked as the initiator whose PERSISTENT RESERVE OUT has
+ * just ended with GOOD: no unit attention is pending for that one, so none is lost by asking. */
 static void read_registrations(struct unit *unit, uint32_t initiator)
 {
     static const uint8_t read_full_status[FULL_STATUS_CDB_LENGTH] = {
@@ -154,8 +175,8 @@ static int deliver(struct scsi_cmd *cmd, const mdl_reply *reply)
     return reply->status;
 }
 
-/* A line for a command and its reply, in the log of tgtd while its debug messages are on. The CDB is
- * as a script of sgrun has it, cut to a length that shows all fields of all commands. */
+/* A line for a command and its reply, in the log of tgtd while its debug messages are on. The CDB
+ * is as a script of sgrun has it. */
 static void trace(struct scsi_cmd *cmd, int initiator, const mdl_reply *reply)
 {
     int length = get_scsi_cdb_size(cmd), at;
@@ -221,8 +242,8 @@ static int read_size(const char **text, const char *name, uint64_t *size)
     return errno == 0;
 }
 
-/* The vendor, product and revision of the standard identity, and a number of the logical unit's own:
- * LUN 1 of target 1 has the standard one, 1. */
+/* The vendor, product and revision of the standard identity, and a number of the logical unit's
+ * own: LUN 1 of target 1 has the standard one, 1. */
 static void identify(const struct scsi_lu *lu, mdl_identity *identity)
 {
     char serial[sizeof identity->serial + 1];

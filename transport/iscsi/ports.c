@@ -3,21 +3,19 @@
 
 #include <string.h>
 
-static void use(struct port_table *table, int number)
-{
-    table->last_use[number] = ++table->uses;
-}
-
-int port_number(struct port_table *table, const struct port *port)
+int port_number(const struct port_table *table, const struct port *port)
 {
     int number;
 
     for (number = 0; number < PORT_NUMBERS && table->last_use[number]; number++)
-        if (memcmp(&table->ports[number], port, sizeof *port) == 0) {
-            use(table, number);
+        if (memcmp(&table->ports[number], port, sizeof *port) == 0)
             return number;
-        }
     return NO_NUMBER;
+}
+
+void port_use(struct port_table *table, int number)
+{
+    table->last_use[number] = ++table->uses;
 }
 
 int port_take_number(struct port_table *table, const struct port *port, unsigned kept)
@@ -30,7 +28,7 @@ int port_take_number(struct port_table *table, const struct port *port, unsigned
             least = number;
     if (least != NO_NUMBER) {
         table->ports[least] = *port;
-        use(table, least);
+        port_use(table, least);
     }
     return least;
 }

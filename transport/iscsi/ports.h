@@ -30,12 +30,15 @@ struct port_table {
     uint64_t uses;
 };
 
-/* The number of a port that has one, which counts as a use of it, or NO_NUMBER. */
-int port_number(struct port_table *table, const struct port *port);
+/* The number of a port that has one, or NO_NUMBER. */
+int port_number(const struct port_table *table, const struct port *port);
 
-/* Gives a number to a port that has none: the lowest that no port ever had, or that of which the
- * last use is the longest ago among those whose bit in `kept` is 0. NO_NUMBER where there is none,
- * and the table is as it was. */
+/* Notes that a number is used now. */
+void port_use(struct port_table *table, int number);
+
+/* Gives a number to a port that has none, and uses it: the lowest that no port ever had, or the one
+ * used the longest ago of those whose bit in `kept` is 0. NO_NUMBER where there is none, and the
+ * table is as it was. */
 int port_take_number(struct port_table *table, const struct port *port, unsigned kept);
 
 #endif

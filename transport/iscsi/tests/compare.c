@@ -1,4 +1,4 @@
-/* Sends random and malformed commands to a target, and compares each reply with that of the library:
+/* Sends random and malformed commands to a target, and compares each reply with the library's:
  *     compare URL BLOCKS POOL COUNT SEED
  *
  * The disk at URL is new and has these sizes. Eight initiators send COUNT commands: operation codes
@@ -176,7 +176,8 @@ static void print_difference(unsigned long number, const struct request *request
            answer->data_in_length, answer->residual);
 }
 
-/* An INQUIRY each, so that the initiators have their numbers in this order. */
+/* An INQUIRY each, so that the initiators have their numbers in this order. Any two differ in name
+ * or ISID, and some in one alone. */
 static void log_in(const char *url)
 {
     static const uint8_t inquiry[6] = { 0x12 };
@@ -185,7 +186,7 @@ static void log_in(const char *url)
     unsigned port;
 
     for (port = 0; port < MDL_INITIATORS; port++) {
-        sessions[port] = session_open(url, port);
+        sessions[port] = session_open(url, port / 2, port % 2);
         if (!sessions[port])
             exit(1);
         session_execute(sessions[port], &request, &answer);
@@ -206,8 +207,8 @@ static int compare(unsigned long count)
 
         faulty += (unsigned long)next_request(&request);
         data_out = request.direction == DATA_OUT ? request.length : 0;
-        if (mdl_execute(&disk, initiator, request.cdb, MOST_CDB, request.data_out, data_out, data_in,
-                        sizeof data_in, &reply))
+        if (mdl_execute(&disk, initiator, request.cdb, MOST_CDB, request.data_out, data_out,
+                        data_in, sizeof data_in, &reply))
             return 1;
         session_execute(sessions[initiator], &request, &answer);
         if (!agrees(&request, &reply, data_in, &answer)) {

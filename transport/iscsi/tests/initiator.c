@@ -1,7 +1,7 @@
 /* Sends commands to a target, from lines, and prints each reply as sgrun does:
  *     initiator [--eight] [--power COMMAND] URL [SCRIPT]
  *
- *     raw I CDB [DATA]            CDB of at most 16 bytes and data-out in hexadecimal, as for sgrun
+ *     raw I CDB [DATA]            CDB of at most 16 bytes and data-out, in hexadecimal
  *     fill I LBA COUNT BYTE       WRITE(16) of equal blocks, numbers as 17, 0x11 or 11h
  *     drop I                      closes the connection without a logout
  *     logout I                    logs out
@@ -9,12 +9,12 @@
  *     power                       runs COMMAND, which takes the target's power away
  *     # ..                        a comment
  *
- * I is an initiator port, 0 to 9. It logs in with its first line, and again with the first one after
- * `drop` or `logout`, as the same port: its name and its ISID are made from I. With --eight ports 0
- * to 7 log in at the beginning and send an INQUIRY each, in this order.
+ * I is an initiator port, 0 to 9. It logs in with its first line, and again with the first one
+ * after `drop` or `logout`, as the same port: its name and its ISID are made from I. With --eight
+ * ports 0 to 7 log in at the beginning and send an INQUIRY each, in this order.
  *
- * The exit status is that of the first reply whose status is not 0, as for sgrun. A line with a fault
- * ends the script with status 2. */
+ * The exit status is that of the first reply whose status is not 0, as for sgrun. A line with a
+ * fault ends the script with status 2. */
 #include <inttypes.h>
 #include <stdio.h>
 #include <stdlib.h>
@@ -93,7 +93,7 @@ static void print_data_in(void)
 /* Data-in and its residual make up the expected length; all data-out is transferred. */
 static void print_answer(const struct request *request)
 {
-    mdl_reply reply = { .status = (uint8_t)answer.status, .sense_length = (uint8_t)answer.sense_length };
+    mdl_reply reply = { .status = (uint8_t)answer.status };
     size_t transferred = request->direction == DATA_IN ? answer.data_in_length : request->length;
 
     printf("line %lu: %s\n", line, name_of(answer.status));
@@ -102,6 +102,7 @@ static void print_answer(const struct request *request)
     print_data_in();
     if (answer.residual < 0 || transferred + (size_t)answer.residual != request->length)
         printf("  residual: %ld of %zu\n", answer.residual, request->length);
+    reply.sense_length = (uint8_t)answer.sense_length;
     memcpy(reply.sense, answer.sense, answer.sense_length);
     if (exit_status == 0)
         exit_status = mdl_exit_status(&reply);
@@ -109,7 +110,7 @@ static void print_answer(const struct request *request)
 
 static void log_in(unsigned port)
 {
-    if (!sessions[port] && !(sessions[port] = session_open(url, port)))
+    if (!sessions[port] && !(sessions[port] = session_open(url, port, port)))
         fail("no session");
 }
 

@@ -1,11 +1,12 @@
 /* Eight sessions at once, of which one is killed in the middle:
  *     load URL SECONDS HISTORY
  *
- * Each session is a process. It sends commands of many kinds, one after the other: writes and unmaps
- * of blocks that are its alone, reads of them, and service actions of persistent reservations. When
- * all have ended, each block holds what its session wrote last, of the writes that were answered; of
- * the killed session it may also be the one that was not. Reservation commands are written to HISTORY
- * with the times before they were sent and after they were answered, for tests/order:
+ * Each session is a process. It sends commands of many kinds, one after the other: writes and
+ * unmaps of blocks that are its alone, reads of them, and service actions of persistent
+ * reservations. When all have ended, each block holds what its session wrote last, of the writes
+ * that were answered; of the killed session it may also be the one that was not. Reservation
+ * commands are written to HISTORY with the times before they were sent and after they were
+ * answered, for tests/order:
  *     BEGIN END INITIATOR ACTION KEY ACTION-KEY TYPE STATUS GENERATION KEYS
  * END is 0 where no answer came. ACTION is that of PERSISTENT RESERVE OUT, or 16 for READ KEYS. */
 #include <inttypes.h>
@@ -119,7 +120,7 @@ static struct request blocks_request(uint8_t opcode, uint32_t address, uint32_t 
     return request;
 }
 
-/* Notes what a command does to blocks of this session, before it is sent and after it is answered. */
+/* Notes what a command does to this session's blocks, before it is sent and after its reply. */
 static void note_pending(uint32_t first, uint32_t count, uint64_t write)
 {
     while (count--)
@@ -181,7 +182,8 @@ static void compare(unsigned owner, uint32_t first, uint32_t count)
         uint64_t pending = record->pending[first + at];
 
         fill_block(expected, address, record->written[first + at]);
-        fill_block(other, address, pending == NOTHING_PENDING ? record->written[first + at] : pending);
+        fill_block(other, address,
+                   pending == NOTHING_PENDING ? record->written[first + at] : pending);
         if (memcmp(block, expected, sizeof expected) && memcmp(block, other, sizeof other))
             fail("a block is not what was written last");
     }
@@ -270,16 +272,25 @@ static void reserve(void)
         key = event.action_key;
 }
 
+/* Any two ports differ in name or ISID, and some in one alone. */
+static struct session *log_in(const char *url, unsigned port)
+{
+    struct session *opened = session_open(url, port / 2, port % 2);
+
+    if (!opened)
+        exit(1);
+    return opened;
+}
+
 static void run_session(const char *url, uint64_t end)
 {
     uint64_t write = 0;
 
     state = self + 1;
-    session = session_open(url, self);
-    if (!session)
-        exit(1);
+    session = log_in(url, self);
     while (now() < end) {
-        uint32_t first = below(BLOCKS - MOST_BLOCKS), count = 1 + below(MOST_BLOCKS), kind = below(64);
+        uint32_t first = below(BLOCKS - MOST_BLOCKS), count = 1 + below(MOST_BLOCKS);
+        uint32_t kind = below(64);
 
         if (kind < 2)
             reserve();
@@ -345,32 +356,59 @@ static int write_history(const char *name)
     return fclose(out);
 }
 
-/* Reads all blocks, and the keys as a last event. Reservations are cleared between the two. */
-static void look(const char *url)
+/* Logs in as a port, and has its unit attentions reported. */
+static void come_back(const char *url, unsigned port)
 {
     static const uint8_t test_unit_ready[6];
-    uint8_t list[24] = { 0 };
     struct request request = request_of(test_unit_ready, sizeof test_unit_ready);
-    struct event event = { .action = READ_KEYS };
-    unsigned owner;
 
-    self = 0;
-    session = session_open(url, self);
-    if (!session)
-        exit(1);
+    self = port;
+    session = log_in(url, self);
     do
         execute(&request);
     while (is_unit_attention());
-    request = (struct request){ .cdb = { 0x5E, [8] = 8 + 8 * SESSIONS }, .cdb_length = 10,
-                                .direction = DATA_IN, .length = 8 + 8 * SESSIONS };
+}
+
+/* READ KEYS, as the last event of the history. */
+static void note_keys(void)
+{
+    struct request request = { .cdb = { 0x5E, [8] = 8 + 8 * SESSIONS }, .cdb_length = 10,
+                               .direction = DATA_IN, .length = 8 + 8 * SESSIONS };
+    struct event event = { .action = READ_KEYS };
+
     note_event(&request, &event);
-    list[15] = 1;
-    request = (struct request){ .cdb = { 0x5F, 6, [8] = sizeof list }, .cdb_length = 10,
-                                .direction = DATA_OUT, .length = sizeof list, .data_out = list };
+}
+
+/* Registers, ignoring an existing key, and clears all. Where six others are registered it can't. */
+static int clear_reservations(void)
+{
+    static const uint8_t new_key[24] = { [15] = 1 }, key[24] = { [7] = 1 };
+    struct request request = { .cdb = { 0x5F, 6, [8] = sizeof key }, .cdb_length = 10,
+                               .direction = DATA_OUT, .length = sizeof key, .data_out = new_key };
+
     execute(&request);
-    list[7] = 1;
+    if (answer.status != MDL_GOOD)
+        return 0;
     request.cdb[1] = 3;
+    request.data_out = key;
     execute(&request);
+    return answer.status == MDL_GOOD;
+}
+
+/* Notes the keys at the end, and reads all blocks when the reservations are cleared. */
+static void look(const char *url)
+{
+    struct request request;
+    unsigned port = 0, owner;
+
+    come_back(url, port);
+    note_keys();
+    while (!clear_reservations()) {
+        session_log_out(session);
+        if (++port == SESSIONS)
+            fail("reservations can't be cleared");
+        come_back(url, port);
+    }
     for (owner = 0; owner < SESSIONS; owner++) {
         request = blocks_request(0x28, base_of(owner), BLOCKS);
         execute(&request);

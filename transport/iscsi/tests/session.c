@@ -28,14 +28,14 @@ static struct session *fail(struct session *session, const char *what)
     return NULL;
 }
 
-struct session *session_open(const char *address, unsigned port)
+struct session *session_open(const char *address, unsigned name, unsigned isid)
 {
     struct session *session = calloc(1, sizeof *session);
     struct iscsi_url *url;
-    char name[64];
+    char whole_name[64];
 
-    snprintf(name, sizeof name, "iqn.2026-11.org.example:initiator-%u", port);
-    if (!session || !(session->context = iscsi_create_context(name))) {
+    snprintf(whole_name, sizeof whole_name, "iqn.2026-11.org.example:initiator-%u", name);
+    if (!session || !(session->context = iscsi_create_context(whole_name))) {
         free(session);
         return NULL;
     }
@@ -43,7 +43,7 @@ struct session *session_open(const char *address, unsigned port)
     if (!url)
         return fail(session, address);
     session->lun = url->lun;
-    iscsi_set_isid_random(session->context, ISID_RANDOM, port);
+    iscsi_set_isid_random(session->context, ISID_RANDOM, isid);
     iscsi_set_session_type(session->context, ISCSI_SESSION_NORMAL);
     iscsi_set_targetname(session->context, url->target);
     iscsi_set_noautoreconnect(session->context, 1);

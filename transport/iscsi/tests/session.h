@@ -37,10 +37,10 @@ struct answer {
     long residual; /* above 0 the bytes that were too few, below 0 those that did not fit */
 };
 
-/* Logs in at a URL, iscsi://[USER%PASSWORD@]ADDRESS:PORT/TARGET/LUN, as the initiator port that has a
- * number: its name ends with it, and its ISID holds it. No command is sent. Null where the login is
- * refused, and the reason is on standard error. */
-struct session *session_open(const char *url, unsigned port);
+/* Logs in at a URL, iscsi://[USER%PASSWORD@]ADDRESS:PORT/TARGET/LUN, as an initiator port. Its name
+ * ends with one number, its ISID with the other. No command is sent. Null where the login is refused,
+ * and the reason is on standard error. */
+struct session *session_open(const char *url, unsigned name, unsigned isid);
 
 /* Sends a command and waits for its reply. */
 void session_execute(struct session *session, const struct request *request, struct answer *answer);

@@ -1,9 +1,9 @@
 /* Measures commands a second over iSCSI:
  *     speed NAME URL [NAME URL ..]
  *
- * For each logical unit a line: TEST UNIT READY, READ(10) and WRITE(10) of 8 blocks, from one session
- * that waits for each reply, and from eight such sessions at once. Each figure is the best of three
- * measurements of half a second. */
+ * For each logical unit a line: TEST UNIT READY, READ(10) and WRITE(10) of 8 blocks, from one
+ * session that waits for each reply, and from eight such sessions at once. Each figure is the best
+ * of three measurements of half a second. */
 #include <inttypes.h>
 #include <stdio.h>
 #include <stdlib.h>
@@ -40,7 +40,7 @@ static uint64_t measure(const char *url, unsigned port, struct request request)
 {
     static uint8_t blocks[BLOCKS * MDL_BLOCK_LENGTH];
     static struct answer answer;
-    struct session *session = session_open(url, port);
+    struct session *session = session_open(url, port, port);
     uint64_t count = 0, end;
 
     if (!session)
