@@ -232,21 +232,28 @@ static void open_many(void)
         close(connections[at]);
 }
 
-/* A client that asks for much and reads nothing keeps no other from its replies. */
-static void ask_and_not_read(void)
+/* A client that asks for much and reads nothing keeps no other from its replies, and finds all its own
+ * when it reads: each once, and whole. */
+static void ask_and_read_late(void)
 {
     static const uint8_t read_256[10] = { 0x28, 0, 0, 0, 0, 0, 0, 1, 0, 0 };
     const struct request_header header = { COMMAND, 1, sizeof read_256, 0 };
-    int idle = open_connection(), other = open_connection(), at;
+    int late = open_connection(), other = open_connection(), at;
     struct reply_header reply;
 
+    execute(other, 1, test_unit_ready, 6, &reply);
     put_request_header(request, &header);
     memcpy(request + REQUEST_HEADER_LENGTH, read_256, sizeof read_256);
     for (at = 0; at < 20; at++)
-        send_bytes(idle, request, REQUEST_HEADER_LENGTH + sizeof read_256);
+        send_bytes(late, request, REQUEST_HEADER_LENGTH + sizeof read_256);
     for (at = 0; at < 100; at++)
         execute(other, 2, test_unit_ready, 6, &reply);
-    close(idle);
+    for (at = 0; at < 20; at++) {
+        receive_reply(late, &reply);
+        WANT(reply.status == MDL_GOOD && reply.data_in_length == MDL_BUFFER_LENGTH);
+    }
+    WANT(recv(late, data_in, 1, MSG_DONTWAIT) < 0 && errno == EAGAIN);
+    close(late);
     close(other);
 }
 
@@ -271,7 +278,7 @@ static void run_messages(uint64_t seed, unsigned long count)
 
     cut_a_write();
     open_many();
-    ask_and_not_read();
+    ask_and_read_late();
     connection = open_connection();
     while (count--) {
         switch (below(&seed, 20)) {
