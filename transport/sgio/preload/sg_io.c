@@ -101,7 +101,7 @@ static void put_sense(sg_io_hdr_t *header, const struct reply_header *reply)
 }
 
 /* What a reply means for the header. Of data-in that has no room the rest is dropped. The disk does
- * not say how much of data-out it took, so the residual count of data-out is 0. */
+ * not report how much of data-out it took, so the residual count of data-out is 0. */
 static void put_reply(sg_io_hdr_t *header, const struct reply_header *reply)
 {
     uint32_t length = reply->data_in_length;

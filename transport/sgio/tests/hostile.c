@@ -232,22 +232,52 @@ static void open_many(void)
         close(connections[at]);
 }
 
-/* A client that asks for much and reads nothing keeps no other from its replies. */
-static void ask_and_not_read(void)
+/* A client that asks for much and reads nothing keeps no other from its replies, and finds all its own
+ * when it reads: each once, and whole. How many of them the socket holds is the system's. */
+static void ask_and_read_late(int count)
 {
     static const uint8_t read_256[10] = { 0x28, 0, 0, 0, 0, 0, 0, 1, 0, 0 };
     const struct request_header header = { COMMAND, 1, sizeof read_256, 0 };
-    int idle = open_connection(), other = open_connection(), at;
+    int late = open_connection(), other = open_connection(), at;
     struct reply_header reply;
 
+    execute(other, 1, test_unit_ready, 6, &reply);
     put_request_header(request, &header);
     memcpy(request + REQUEST_HEADER_LENGTH, read_256, sizeof read_256);
-    for (at = 0; at < 20; at++)
-        send_bytes(idle, request, REQUEST_HEADER_LENGTH + sizeof read_256);
+    for (at = 0; at < count; at++)
+        send_bytes(late, request, REQUEST_HEADER_LENGTH + sizeof read_256);
     for (at = 0; at < 100; at++)
         execute(other, 2, test_unit_ready, 6, &reply);
-    close(idle);
+    for (at = 0; at < count; at++) {
+        receive_reply(late, &reply);
+        WANT(reply.status == MDL_GOOD && reply.data_in_length == MDL_BUFFER_LENGTH);
+    }
+    WANT(recv(late, data_in, 1, MSG_DONTWAIT) < 0 && errno == EAGAIN);
+    close(late);
     close(other);
+}
+
+/* The longest request: a WRITE(10) of 512 blocks in a CDB of 255 bytes, which the disk refuses for its
+ * TRANSFER LENGTH. One byte more of data-out is no request. */
+static void send_longest(void)
+{
+    struct request_header header = { COMMAND, 3, MOST_CDB, MOST_DATA_OUT };
+    struct reply_header reply;
+    int connection = open_connection();
+
+    execute(connection, 3, test_unit_ready, 6, &reply);
+    memset(request, 0, sizeof request);
+    put_request_header(request, &header);
+    memcpy(request + REQUEST_HEADER_LENGTH, "\x2A\0\0\0\0\0\0\2\0", 10);
+    send_bytes(connection, request, MOST_REQUEST);
+    receive_reply(connection, &reply);
+    WANT(reply.result == MDL_OK && reply.status == MDL_CHECK_CONDITION);
+    WANT(reply.sense[12] == 0x24 && reply.sense[17] == 7);
+    header.data_out_length++;
+    put_request_header(request, &header);
+    send_bytes(connection, request, REQUEST_HEADER_LENGTH);
+    WANT(receive_byte(connection) == RESULT_MALFORMED);
+    close(connection);
 }
 
 /* The last word: each initiator's second TEST UNIT READY, behind unit attentions, is GOOD. */
@@ -267,11 +297,13 @@ static void ask_all(void)
 
 static void run_messages(uint64_t seed, unsigned long count)
 {
-    int connection;
+    int connection, asked;
 
     cut_a_write();
     open_many();
-    ask_and_not_read();
+    send_longest();
+    for (asked = 1; asked < 20; asked++)
+        ask_and_read_late(asked);
     connection = open_connection();
     while (count--) {
         switch (below(&seed, 20)) {

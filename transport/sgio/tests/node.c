@@ -4,6 +4,7 @@
  * Status 1, with a line, where something is not as it should be. */
 #include <errno.h>
 #include <fcntl.h>
+#include <pthread.h>
 #include <scsi/scsi.h>
 #include <scsi/sg.h>
 #include <signal.h>
@@ -18,7 +19,15 @@
 #include <sys/wait.h>
 #include <unistd.h>
 
-enum { GUARD = 0xEE, INQUIRY_LENGTH = 36, BLOCK = 512, LONGEST = 60, SHORT_TIMEOUT = 200 };
+enum {
+    GUARD = 0xEE,
+    INQUIRY_LENGTH = 36,
+    CAPACITY_LENGTH = 8,
+    BLOCK = 512,
+    LONGEST = 60,            /* seconds, after which it is a hang */
+    SHORT_TIMEOUT = 200,     /* milliseconds */
+    ROUNDS = 20000
+};
 
 static uint8_t test_unit_ready[6], inquiry[6] = { 0x12, 0, 0, 0, 255 };
 static uint8_t bad_inquiry[6] = { 0x12, 0, 0x80, 0, 36 };
@@ -239,6 +248,40 @@ static void cuts_sense(void)
     WANT(ioctl(node, SG_IO, &header) == 0 && header.status == 2 && header.sb_len_wr == 0);
 }
 
+/* Executes a command again and again; each time its data-in has to be the same. */
+static void *repeat(void *argument)
+{
+    uint8_t data[64], first[64];
+    sg_io_hdr_t header = *(const sg_io_hdr_t *)argument;
+    int at, length = header.cmd_len == sizeof inquiry ? INQUIRY_LENGTH : CAPACITY_LENGTH;
+
+    header.dxfer_len = sizeof data;
+    header.dxferp = data;
+    header.sbp = NULL;
+    for (at = 0; at < ROUNDS; at++) {
+        memset(data, GUARD, sizeof data);
+        WANT(ioctl(node, SG_IO, &header) == 0 && header.status == 0);
+        WANT(header.resid == (int)sizeof data - length && data[length] == GUARD);
+        if (at == 0)
+            memcpy(first, data, sizeof data);
+        WANT(memcmp(first, data, sizeof data) == 0);
+    }
+    return NULL;
+}
+
+/* Threads may use one descriptor at once: each gets the reply to its own command. */
+static void serves_threads(void)
+{
+    static uint8_t read_capacity[10] = { 0x25 };
+    sg_io_hdr_t headers[2] = { header_of(inquiry, 6, SG_DXFER_FROM_DEV, 0),
+                               header_of(read_capacity, 10, SG_DXFER_FROM_DEV, 0) };
+    pthread_t threads[2];
+
+    WANT(pthread_create(&threads[0], NULL, repeat, &headers[0]) == 0);
+    WANT(pthread_create(&threads[1], NULL, repeat, &headers[1]) == 0);
+    WANT(pthread_join(threads[0], NULL) == 0 && pthread_join(threads[1], NULL) == 0);
+}
+
 /* A server that is stopped costs the time that the header has, and the descriptor; one that is gone
  * is no device. */
 static void misses_the_server(pid_t server)
@@ -285,6 +328,7 @@ int main(void)
     counts_what_is_left();
     moves_parts();
     cuts_sense();
+    serves_threads();
     misses_the_server(server);
     return 0;
 }
