@@ -35,11 +35,11 @@ enum {
  * 7.6.4, the ISID is in hexadecimal. */
 enum { TRANSPORT_ID_HEADER = 4, ISID_SEPARATOR = 5 };
 
-/* The CDB of each command of the disk has at most so many bytes. */
+/* The length of the longest CDB of a command of the disk. */
 enum { TRACED_CDB = 16 };
 
-/* At most so many unit attentions are pending for an initiator: one for each condition. */
-enum { UNIT_ATTENTIONS = 8 };
+/* The most unit attentions that are pending for an initiator: there are five conditions. */
+enum { UNIT_ATTENTIONS = 5 };
 
 /* What tgtd keeps of a logical unit behind its own record. */
 struct unit {
@@ -192,6 +192,8 @@ static void trace(struct scsi_cmd *cmd, int initiator, const mdl_reply *reply)
             sense.ascq, reply->data_in_length);
 }
 
+/* Called by tgtd for each command, with the whole of its data-out. A port without a number gets
+ * BUSY: tgtd asks nobody before it lets a port log in. */
 static int execute(int tid, struct scsi_cmd *cmd)
 {
     struct unit *unit = unit_of(cmd->dev);

@@ -15,7 +15,10 @@
 enum {
     MOST_DATA_OUT = 4 * MDL_BLOCK_LENGTH,
     ADDRESSES = 48, /* blocks at the beginning, so that commands meet */
-    KEYS = 6
+    KEYS = 6,
+    MODE_HEADER_6 = 4,
+    MODE_HEADER_10 = 8,
+    MODE_PAGE = 12
 };
 
 static struct session *sessions[MDL_INITIATORS];
@@ -67,6 +70,13 @@ static const struct shape {
 
 enum { SHAPES = sizeof shapes / sizeof *shapes };
 
+/* A control mode page, which asks for sense data in descriptor format or not. */
+static void control_page(uint8_t *page)
+{
+    page[0] = page[1] = 0x0A;
+    page[2] = once_in(2) ? 4 : 0;
+}
+
 /* A parameter list that could be one of PERSISTENT RESERVE OUT, UNMAP or MODE SELECT. */
 static void fill_list(const struct request *request, uint8_t *list)
 {
@@ -82,10 +92,8 @@ static void fill_list(const struct request *request, uint8_t *list)
         list[15] = (uint8_t)below(ADDRESSES);
         list[19] = (uint8_t)below(8);
         break;
-    case 0x15:
-        list[4] = list[5] = 0x0A;
-        list[6] = once_in(2) ? 4 : 0;
-        break;
+    case 0x15: control_page(list + MODE_HEADER_6); break;
+    case 0x55: control_page(list + MODE_HEADER_10); break;
     default: memset(list, (int)below(256), MOST_DATA_OUT);
     }
 }
@@ -103,8 +111,12 @@ static void well_formed(struct request *request)
         request->cdb[8] = 24;
     } else if (shape->length_at) {
         request->cdb[shape->length_at] = (uint8_t)below(shape->direction == DATA_OUT ? 5 : 256);
-        if (shape->unit == 1 && shape->direction == DATA_OUT)
+        if (shape->opcode == 0x42)
             request->cdb[shape->length_at] = (uint8_t)(8 + 16 * below(4));
+        if (shape->opcode == 0x15)
+            request->cdb[shape->length_at] = MODE_HEADER_6 + MODE_PAGE;
+        if (shape->opcode == 0x55)
+            request->cdb[shape->length_at] = MODE_HEADER_10 + MODE_PAGE;
     }
     if (shape->address_at)
         request->cdb[shape->address_at] = (uint8_t)below(ADDRESSES);
