@@ -40,7 +40,10 @@ impl ReplyRecord {
         let mut sense = [0; SENSE_LENGTH];
         let bytes = reply.sense.as_slice();
         let count = bytes.len().min(SENSE_LENGTH);
-        sense[..count].copy_from_slice(&bytes[..count]);
+        // Most replies have none, and then nothing is called to copy it.
+        if count > 0 {
+            sense[..count].copy_from_slice(&bytes[..count]);
+        }
         ReplyRecord {
             status: reply.status.code(),
             sense_length: count as u8,

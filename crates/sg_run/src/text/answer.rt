@@ -6,8 +6,8 @@ ghost use Rattle.sg_decode.specs.HexText.{gathered_text};
 ghost use Rattle.sg_run.specs.AnswerText.{answer_text};
 
 use sg_decode::{
-    GATHERED_TEXT, put_capabilities, put_full_status, put_hex_lines, put_inquiry, put_keys, put_lba_status,
-    put_modes, put_reservation, put_sense, put_vpd,
+    GATHERED_TEXT, put_capabilities, put_full_status, put_hex_lines, put_inquiry, put_keys,
+    put_lba_status, put_modes, put_reservation, put_sense, put_vpd,
 };
 use sg_tools::Show;
 use sg_wire::{Printer, Watched};
@@ -49,11 +49,7 @@ pub(crate) fn put_answer<W: Write>(
 /// # Errors
 ///
 /// The writer failed: a proper prefix of the text has been written.
-pub fn print_answer<W: Write>(
-    show: Show,
-    data_in: &[u8],
-    writer: &mut Watched<W>,
-) -> io::Result<()>
+pub fn print_answer<W: Write>(show: Show, data_in: &[u8], writer: &mut Watched<W>) -> io::Result<()>
     requires { has_failed writer.old ≡ false }
     ensures { SendsText W.contents writer.old writer.new result (answer_text show data_in.now) }
 {
