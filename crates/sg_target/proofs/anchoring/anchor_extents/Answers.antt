@@ -23,9 +23,10 @@ returns-then-needed-from-clause-space g c =
     let after = used-after _ c.args.extents.now c.joined-ranges.result.items c.joined-ranges.ensures _ _
     (rw left at c.used.ensures.value)
     (rw c.as_slice.ensures.value at c.count_needed-needed.ensures.value) in
-    let within = rw left at c.used.ensures.within in
-    (λ _. omega (arith, after, within, c.requires.pool.0, c.from.ensures, c.if-needed-from.true),
-    λ _. cc)
+    let within = rw left at c.used.ensures.within in (
+      λ _. omega (arith, after, within, c.requires.pool.0, c.from.ensures, c.if-needed-from.true),
+      λ _. cc,
+    )
 
 pub returns-then-needed-from-clause-charge : goal.returns-then-needed-from-clause-charge
 returns-then-needed-from-clause-charge g c =
