@@ -134,7 +134,8 @@ static void opens_others(void)
 /* A duplicate is the node, and so is what a child inherits; close-on-exec is as it was asked for. */
 static void duplicates(void)
 {
-    int other = dup(node), third = fcntl(node, F_DUPFD, 20), fourth = openat(AT_FDCWD, path, O_RDWR | O_CLOEXEC);
+    int other = dup(node), third = fcntl(node, F_DUPFD, 20);
+    int fourth = openat(AT_FDCWD, path, O_RDWR | O_CLOEXEC);
     int status;
     pid_t child;
 
@@ -204,7 +205,8 @@ static void counts_what_is_left(void)
 /* Data in several parts, both ways. */
 static void moves_parts(void)
 {
-    static uint8_t write_3[10] = { 0x2A, 0, 0, 0, 0, 3, 0, 0, 1 }, read_3[10] = { 0x28, 0, 0, 0, 0, 3, 0, 0, 1 };
+    static uint8_t write_3[10] = { 0x2A, 0, 0, 0, 0, 3, 0, 0, 1 };
+    static uint8_t read_3[10] = { 0x28, 0, 0, 0, 0, 3, 0, 0, 1 };
     sg_iovec_t parts[3] = { { buffer, 100 }, { buffer + 1000, 400 }, { buffer + 2000, 12 } };
     sg_io_hdr_t header = header_of(write_3, 10, SG_DXFER_TO_DEV, BLOCK);
     size_t at;
@@ -241,7 +243,8 @@ static void cuts_sense(void)
         WANT(ioctl(node, SG_IO, &header) == 0 && header.status == 2 && header.masked_status == 1);
         WANT(header.sb_len_wr == length && header.driver_status == (length ? 8 : 0));
         WANT(header.info == SG_INFO_CHECK && header.resid == INQUIRY_LENGTH && buffer[0] == GUARD);
-        WANT(sense[length] == GUARD && (length < 18 || (sense[2] == 5 && sense[12] == 0x24 && sense[17] == 2)));
+        WANT(sense[length] == GUARD);
+        WANT(length < 18 || (sense[2] == 5 && sense[12] == 0x24 && sense[17] == 2));
     }
     header = header_of(bad_inquiry, 6, SG_DXFER_FROM_DEV, INQUIRY_LENGTH);
     header.sbp = NULL;
