@@ -19,8 +19,8 @@ flat_map-one_more part xs i x h e =
     ∙ (flat_map-append part (take i xs) (x ∷ [])
     ∙ ap (λ b. bytes ++ b) (append-nil (part x))))
 
-pub put-one_more : PartsArePutInTurn → (part : Registration → List ℕ) (a b : CutAnswer) (xs : List Registration) (i : ℕ)
-    (x : Registration) → i < length xs → x ≡ get_or xs i x
+pub put-one_more : PartsArePutInTurn → (part : Registration → List ℕ) (a b : CutAnswer)
+    (xs : List Registration) (i : ℕ) (x : Registration) → i < length xs → x ≡ get_or xs i x
     → b ≡ put a (flat_map part (take i xs))
     → put b (part x) ≡ put a (flat_map part (take (i + 1) xs))
 put-one_more law part a b xs i x h e so_far =

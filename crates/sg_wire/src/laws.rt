@@ -1,6 +1,6 @@
 //! Laws of the definitions: each is the contract of a function that does nothing.
 ghost use Rattle.sg_wire.specs.Laws.{AnswersAreInTheirBuffers, PartsArePutInTurn};
-ghost use Rattle.sg_wire.specs.Laws.{PrefixesAreRefused};
+ghost use Rattle.sg_wire.specs.Laws.{PartsAreReplaced, PrefixesAreRefused};
 
 /// A proper prefix of a command's CDB is no command: without a byte it is refused as empty, and
 /// otherwise as cut at its end.
@@ -18,4 +18,10 @@ pub fn answers_are_in_their_buffers()
 /// nothing changes.
 pub fn parts_are_put_in_turn()
     ensures { PartsArePutInTurn }
+{}
+
+/// A part of an answer that is replaced by one of the same length is as if that one had been put,
+/// and what was written before is still there.
+pub fn parts_are_replaced()
+    ensures { PartsAreReplaced }
 {}

@@ -12,4 +12,5 @@ returns-in-Some c =
     c.put_descriptor.ensures
     ∙ (ap (λ a. put a (descriptor state c.in-Some.reservation))
     (c.put.ensures ∙ ap (put old) c.header.ensures)
-    ∙ (c.parts_are_put_in_turn.ensures.in_turn old _ _ ∙ ap (λ held. put old (reservation_data_of state held)) (sym c.in-Some.is)))
+    ∙ (c.parts_are_put_in_turn.ensures.in_turn old _ _
+    ∙ ap (λ held. put old (reservation_data_of state held)) (sym c.in-Some.is)))

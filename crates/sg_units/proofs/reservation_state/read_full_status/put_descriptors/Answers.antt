@@ -14,6 +14,7 @@ loop-registration-preserved c =
     let item = c.registration-item in
     c.put.ensures
     ∙ (ap (put (answer_of l.cut)) c.full_status_descriptor.ensures
-    ∙ put-one_more c.parts_are_put_in_turn.ensures (full_status_descriptor c.args.reservation.now) (answer_of c.args.cut.now)
-    (answer_of l.cut) c.args.registrations.now l.registration-index item.result
+    ∙ put-one_more c.parts_are_put_in_turn.ensures
+    (full_status_descriptor c.args.reservation.now) (answer_of c.args.cut.now) (answer_of l.cut)
+    c.args.registrations.now l.registration-index item.result
     c.loop-registration-test.true item.is l.invariant)
