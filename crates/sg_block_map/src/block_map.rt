@@ -29,6 +29,7 @@ use sg_store::lba_status::status_header;
 use sg_store::{BLOCK_LENGTH, Counts, MAX_CAPACITY, MAX_POOL, Space, Store};
 use sg_table::{Draft, Kind, RunTable};
 use sg_wire::Cut;
+use sg_wire::laws::{parts_are_put_in_turn, parts_are_replaced};
 use std::alloc::{AllocError, Global};
 
 /// A disk of which each maximal run of addresses that are mapped, or are anchored, has one record
@@ -284,6 +285,8 @@ impl Store for BlockMap {
         ensures costs { let count = covered (lba_status (disk_of self.old) lba) in
             CostsRange (disk_of self.old) lba count (meter_of self.old) (meter_of self.new) }
     {
+        parts_are_put_in_turn();
+        parts_are_replaced();
         let at = cut.written();
         cut.put(&status_header(0));
         let cursor = cursor_over(&mut self.table, lba);

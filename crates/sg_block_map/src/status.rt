@@ -17,6 +17,7 @@ use sg_store::lba_status::{MAX_ADDRESSES, MAX_DESCRIPTORS, ProvisioningStatus, S
 use sg_store::{MAX_COUNT, MAX_POOL};
 use sg_table::{Cursor, Run, RunTable};
 use sg_wire::Cut;
+use sg_wire::laws::parts_are_put_in_turn;
 
 /// The cursor at the first run that has an address or one past it.
 pub(crate) fn cursor_over(table: &mut RunTable, lba: u64) -> Cursor
@@ -109,6 +110,7 @@ pub(crate) fn write_descriptors(
         let met = records_met table.old.records lba count in
         VisitsBetween (met - ahead cursor.next) (met + 1 - ahead cursor.next) table.old table.new }
 {
+    parts_are_put_in_turn();
     let mut cursor = cursor;
     let mut next = lba;
     let mut count = 0;

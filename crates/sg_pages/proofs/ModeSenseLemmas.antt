@@ -1,6 +1,7 @@
 -- The mode parameter list, written part by part.
 use Rattle.std.proofs.Common.{◌≡◌, ℕ, ◌+◌, ◌++◌, length, ap, sym, ◌∙◌, append_assoc, length-append}
 use Rattle.sg_wire.specs.CutAnswer.{CutAnswer, put}
+use Rattle.sg_wire.specs.Laws.{PartsArePutInTurn}
 use Rattle.sg_pages.specs.ModePage.{ModeState}
 use Rattle.sg_pages.specs.ModeSense.{RequestFields, selected_by, descriptor_data, requested_pages}
 use Rattle.sg_pages.specs.ModeSense.{length_bytes, header_after_length, list_after_length}
@@ -8,7 +9,7 @@ use Rattle.sg_pages.specs.ModeSense.{mode_parameter_list}
 use Rattle.sg_pages.proofs.PageLemmas.{put-two}
 
 -- header, block descriptor and pages, where the header has their lengths
-pub list-put : (p q r s : CutAnswer) (state : ModeState) (asked : RequestFields)
+pub list-put : PartsArePutInTurn → (p q r s : CutAnswer) (state : ModeState) (asked : RequestFields)
     (descriptor following : ℕ) → descriptor ≡ length (descriptor_data asked)
     → (let pages = requested_pages (selected_by state asked.page_control) asked.page_code in
     let header = header_after_length state asked descriptor in
@@ -17,7 +18,7 @@ pub list-put : (p q r s : CutAnswer) (state : ModeState) (asked : RequestFields)
     → r ≡ put q (descriptor_data asked) → s ≡ put r pages
     → s ≡ put p (mode_parameter_list state asked))
 unfolding mode_parameter_list list_after_length
-list-put p q r s state asked descriptor following d f e g h =
+list-put law p q r s state asked descriptor following d f e g h =
     let pages = requested_pages (selected_by state asked.page_control) asked.page_code in
     let of = λ (n : ℕ). header_after_length state asked n in
     let front = of (length (descriptor_data asked)) in
@@ -28,5 +29,5 @@ list-put p q r s state asked descriptor following d f e g h =
     let header : q ≡ put p (length_bytes asked.ten (length (front ++ back)) ++ front) =
     e ∙ (ap (λ n. put p (length_bytes asked.ten (length (of n) + following) ++ of n)) d
     ∙ ap (λ n. put p (length_bytes asked.ten n ++ front)) total) in
-    put-two p q s _ _ header (put-two q r s _ _ g h)
+    put-two law p q s _ _ header (put-two law q r s _ _ g h)
     ∙ ap (put p) (append_assoc (length_bytes asked.ten (length (front ++ back))) front back)

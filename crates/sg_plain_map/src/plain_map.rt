@@ -21,6 +21,7 @@ use sg_store::lba_status::status_header;
 use sg_store::{BLOCK_LENGTH, Counts, Space, Store};
 use sg_table::{Draft, RunTable};
 use sg_wire::Cut;
+use sg_wire::laws::{parts_are_put_in_turn, parts_are_replaced};
 use std::alloc::{AllocError, Global};
 
 /// A disk of which each mapped or anchored address has a record of its own (SBC-3, 4.7).
@@ -142,6 +143,8 @@ impl Store for PlainMap {
     }
 
     fn status(&mut self, lba: u64, cut: &mut Cut) {
+        parts_are_put_in_turn();
+        parts_are_replaced();
         let at = cut.written();
         cut.put(&status_header(0));
         let from = self.table.lower_bound(lba);

@@ -16,6 +16,7 @@ use sg_store::lba_status::{MAX_ADDRESSES, MAX_DESCRIPTORS, ProvisioningStatus, S
 use sg_store::{MAX_CAPACITY, MAX_COUNT, MAX_POOL};
 use sg_table::{Cursor, Kind, Run, RunTable};
 use sg_wire::Cut;
+use sg_wire::laws::parts_are_put_in_turn;
 
 // The record of an address, if the cursor is at it and it has a kind.
 fn run_of_kind(cursor: Cursor, lba: u64, kind: Kind) -> Option<Run>
@@ -108,6 +109,7 @@ pub(crate) fn write_descriptors(
         let count = covered (descriptors_from contents capacity lba MAX_DESCRIPTORS) in
         VisitsRange contents lba count table.old table.new }
 {
+    parts_are_put_in_turn();
     let mut cursor = Cursor::new(table, from);
     let mut next = lba;
     let mut count = 0;

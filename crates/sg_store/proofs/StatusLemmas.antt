@@ -7,7 +7,7 @@ use Rattle.std.specs.List.{flat_map}
 use Rattle.sg_wire.specs.Cut.{answer_of}
 use Rattle.sg_wire.specs.CutAnswer.{CutAnswer, put, replace}
 use Rattle.sg_wire.specs.declared.cut.Cut.{Cut}
-use Rattle.sg_wire.proofs.CutLemmas.{put-nil, put-put, put-longer, put-replaced, written-within}
+use Rattle.sg_wire.specs.Laws.{PartsArePutInTurn, PartsAreReplaced}
 use Rattle.sg_store.specs.Disk.{Contents}
 use Rattle.sg_store.specs.LbaStatus.{covered, descriptor_at, descriptor_bytes, descriptors_from}
 use Rattle.sg_store.specs.LbaStatus.{status_header, status_data}
@@ -28,24 +28,24 @@ pub record AreWritten (m : Contents) (capacity lba : ℕ) (old now : CutAnswer) 
   pub reached : next ≡ lba + covered (take count (descriptors_from m capacity lba 512))
 
 -- none is put at first
-pub none-written : (m : Contents) (capacity lba : ℕ) (cut : Cut)
+pub none-written : PartsArePutInTurn → (m : Contents) (capacity lba : ℕ) (cut : Cut)
     → AreWritten m capacity lba (answer_of cut) (answer_of cut) 0 lba
-none-written m capacity lba cut = record {
+none-written law m capacity lba cut = record {
   within = omega arith;
-  bytes = sym (put-nil cut);
+  bytes = sym (law.nothing cut);
   rest = refl;
   reached = omega arith;
 }
 
 -- the bytes of one more
-descriptor-put : (old before after : CutAnswer) (bytes : List ℕ) (ds : List StatusDescriptor)
-    (i : ℕ) (d : StatusDescriptor)
+descriptor-put : PartsArePutInTurn → (old before after : CutAnswer) (bytes : List ℕ)
+    (ds : List StatusDescriptor) (i : ℕ) (d : StatusDescriptor)
     → before ≡ put old (flat_map descriptor_bytes (take i ds)) → after ≡ put before bytes
     → bytes ≡ descriptor_bytes (get_or ds i d) → i < length ds
     → after ≡ put old (flat_map descriptor_bytes (take (i + 1) ds))
-descriptor-put old before after bytes ds i d so_far now is lt =
+descriptor-put law old before after bytes ds i d so_far now is lt =
     let all = flat_map descriptor_bytes (take i ds) in
-    now ∙ ap (λ b. put b bytes) so_far ∙ put-put old all bytes ∙ ap (λ b. put old (all ++ b)) is
+    now ∙ ap (λ b. put b bytes) so_far ∙ law.in_turn old all bytes ∙ ap (λ b. put old (all ++ b)) is
     ∙ ap (put old) (flat_map_more descriptor_bytes [] (take i ds) (get_or ds i d)
     ∙ ap (λ xs. flat_map descriptor_bytes xs) (sym (take_more ds i d lt)))
 
@@ -71,12 +71,13 @@ first-of m capacity a n d all below room is more =
     ∙ ap (λ k. d ∷ descriptors_from m capacity (a + d.count) k) one
 
 -- and then one more
-pub one-written : (m : Contents) (capacity lba : ℕ) (old now after : CutAnswer) (count next : ℕ)
-    (d : StatusDescriptor) (bytes : List ℕ) → AreWritten m capacity lba old now count next
+pub one-written : PartsArePutInTurn → (m : Contents) (capacity lba : ℕ)
+    (old now after : CutAnswer) (count next : ℕ) (d : StatusDescriptor) (bytes : List ℕ)
+    → AreWritten m capacity lba old now count next
     → next < capacity → count < 512 → d ≡ descriptor_at m capacity next
     → bytes ≡ descriptor_bytes d → after ≡ put now bytes
     → AreWritten m capacity lba old after (count + 1) (next + d.count)
-one-written m capacity lba old now after count next d bytes so_far below room is of_it puts =
+one-written law m capacity lba old now after count next d bytes so_far below room is of_it puts =
     let all = descriptors_from m capacity lba 512 in
     let first = next-of all (descriptors_from m capacity (next + d.count) (512 - (count + 1))) count
     d d (first-of m capacity next count d all below room is so_far.rest) in
@@ -84,7 +85,7 @@ one-written m capacity lba old now after count next d bytes so_far below room is
     ∙ ap (λ x. take count all ++ x ∷ []) first.1) ∙ covered-more (take count all) d in
     record {
       within = omega (arith, first.0);
-      bytes = descriptor-put old now after bytes all count d so_far.bytes puts
+      bytes = descriptor-put law old now after bytes all count d so_far.bytes puts
           (of_it ∙ ap descriptor_bytes (sym first.1)) first.0;
       rest = first.2;
       reached = omega (arith, so_far.reached, more);
@@ -126,30 +127,30 @@ header-length : (n : ℕ) → length (status_header n) ≡ 8
 header-length n = refl
 
 -- A header is put first, then descriptors.
-module _ (cut : Cut) (begun after : CutAnswer) (first : List ℕ) (ds : List StatusDescriptor)
-    (at : ℕ) (header : begun ≡ put (answer_of cut) first)
+module _ (law : PartsArePutInTurn) (cut : Cut) (begun after : CutAnswer) (first : List ℕ)
+    (ds : List StatusDescriptor) (at : ℕ) (header : begun ≡ put (answer_of cut) first)
     (more : after ≡ put begun (flat_map descriptor_bytes ds))
     (start : at ≡ length (answer_of cut).written) where
   both : after ≡ put (answer_of cut) (first ++ flat_map descriptor_bytes ds)
   both = more ∙ ap (λ a. put a (flat_map descriptor_bytes ds)) header
-      ∙ put-put (answer_of cut) first (flat_map descriptor_bytes ds)
+      ∙ law.in_turn (answer_of cut) first (flat_map descriptor_bytes ds)
 
-  pub header-within : at ≤ length after.written
-  header-within =
-      let longer = put-longer (answer_of cut) (first ++ flat_map descriptor_bytes ds)
-      (written-within cut) in
+  pub header-within : PartsAreReplaced → at ≤ length after.written
+  header-within kept =
+      let longer = kept.kept cut (first ++ flat_map descriptor_bytes ds) in
       rw both (omega (arith, longer, start))
 
   -- the header with their number is written over it
-  pub header-replaced : (result : CutAnswer) (last : List ℕ) (count : ℕ) → first ≡ status_header 0
-      → last ≡ status_header count → count ≡ length ds → result ≡ replace after at last
+  pub header-replaced : PartsAreReplaced → (result : CutAnswer) (last : List ℕ) (count : ℕ)
+      → first ≡ status_header 0 → last ≡ status_header count → count ≡ length ds
+      → result ≡ replace after at last
       → result ≡ put (answer_of cut) (status_data ds)
   unfolding status_data
-  header-replaced result last count empty counted all replaces =
+  header-replaced replacing result last count empty counted all replaces =
       let behind = flat_map descriptor_bytes ds in
       let lengths : length first ≡ length last = ap length empty ∙ header-length 0
       ∙ sym (ap length counted ∙ header-length count) in
       replaces ∙ ap (λ a. replace a at last) both
       ∙ ap (λ k. replace (put (answer_of cut) (first ++ behind)) k last) start
-      ∙ put-replaced (answer_of cut) first last behind (written-within cut) lengths
+      ∙ replacing.replaced cut first last behind lengths
       ∙ ap (λ h. put (answer_of cut) (h ++ behind)) (counted ∙ ap status_header all)

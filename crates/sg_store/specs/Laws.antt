@@ -1,8 +1,9 @@
 -- What the calls do and report, address by address.
 use Rattle.std.specs.Prelude.{◌≡◌, ◌≢◌, ℕ, ◌+◌, ◌-◌, ◌<◌, ◌≤◌, if◌then◌else◌}
 use Rattle.std.specs.Prelude.{Bool, List, All, length, find, Option, Some, option_map}
-use Rattle.sg_store.specs.Disk.{Contents, Disk, block, block_at, zero_block, lies_in}
-use Rattle.sg_store.specs.Disk.{written, filled, unmapped, anchored}
+use Rattle.sg_store.specs.Disk.{Contents, Disk, Mapping, block, block_at, zero_block, lies_in}
+use Rattle.sg_store.specs.Disk.{written, filled, unmapped, anchored, remapped}
+use Rattle.sg_store.specs.Disk.{IsWellFormed, IsWhole}
 use Rattle.sg_store.specs.LbaStatus.{status_at, lba_status, covered}
 use Rattle.sg_store.specs.declared.lba_status.ProvisioningStatus.{ProvisioningStatus}
 use Rattle.sg_store.specs.declared.lba_status.ProvisioningStatus.TheVariants.{Mapped, Deallocated, Anchored}
@@ -91,3 +92,13 @@ EndsAtAnotherStatus disk descriptor =
 -- So do all that GET LBA STATUS reports.
 abbrev pub CoversTheMost : Type 0
 CoversTheMost = (disk : Disk) (lba : ℕ) → All (EndsAtAnotherStatus disk) (lba_status disk lba)
+
+-- A disk stays well-formed where addresses of it are mapped to whole blocks or anchored, and where
+-- addresses are deallocated.
+pub record DisksStayWellFormed : Type 0 where
+  pub mapping : (capacity : ℕ) (contents : Contents) (lba count : ℕ) (mappings : ℕ → Mapping)
+      → IsWellFormed capacity contents → lba + count ≤ capacity
+      → ((index : ℕ) → index < count → IsWhole (mappings index))
+      → IsWellFormed capacity (remapped contents lba count mappings)
+  pub unmapping : (capacity : ℕ) (contents : Contents) (lba count : ℕ)
+      → IsWellFormed capacity contents → IsWellFormed capacity (unmapped contents lba count)

@@ -5,6 +5,7 @@ ghost use Rattle.sg_store.specs.Laws.{FillsEachBlock, FillMapsEachAddress};
 ghost use Rattle.sg_store.specs.Laws.{UnmapsEachBlock, UnmapsEachAddress};
 ghost use Rattle.sg_store.specs.Laws.{AnchorZeroesEachBlock, AnchorsEachAddress};
 ghost use Rattle.sg_store.specs.Laws.{ReportsEachStatus, CoversTheRest, CoversTheMost};
+ghost use Rattle.sg_store.specs.Laws.{DisksStayWellFormed};
 
 /// After a write, the block at an address is the one given for it inside the range, and the old one
 /// outside.
@@ -65,4 +66,10 @@ pub fn an_answer_with_room_left_covers_the_rest_of_the_disk()
 /// the most that its count can be, or before an address of another status.
 pub fn each_descriptor_covers_as_many_addresses_as_it_can()
     ensures { CoversTheMost }
+{}
+
+/// A disk stays well-formed where addresses of it are mapped to whole blocks or anchored, and where
+/// addresses are deallocated.
+pub fn disks_stay_well_formed()
+    ensures { DisksStayWellFormed }
 {}

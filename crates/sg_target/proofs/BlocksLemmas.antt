@@ -16,8 +16,7 @@ use Rattle.sg_wire.specs.declared.extent.Extent.{Extent}
 use Rattle.sg_wire.specs.Layout.{command_of}
 use Rattle.sg_store.specs.Disk.{Contents, IsWellFormed, anchored, block_at, unmapped}
 use Rattle.sg_store.specs.Disk.Mapping.{Data, Anchored}
-use Rattle.sg_store.proofs.UnmapLemmas.{well_formed-unmapped}
-use Rattle.sg_store.proofs.WellFormedLemmas.{well_formed-remapped}
+use Rattle.sg_store.specs.Laws.{DisksStayWellFormed}
 use Rattle.sg_target.specs.BlockCommands.{blocks_out, bytes_of}
 use Rattle.sg_target.specs.CapacityData.{block_length}
 use Rattle.sg_target.specs.Checks.{cdb_checks, checked_cdb, checked_operation}
@@ -223,51 +222,51 @@ block-length : (bytes : List ℕ) (count i : ℕ) → length bytes ≡ 512 * cou
 block-length bytes count i h below =
     omega (arith, length-take 512 (drop (512 * i) bytes), length-drop (512 * i) bytes)
 
-unmapped-keeps : (capacity : ℕ) (extents : List Extent) (contents : Contents)
+unmapped-keeps : DisksStayWellFormed → (capacity : ℕ) (extents : List Extent) (contents : Contents)
     → IsWellFormed capacity contents → IsWellFormed capacity (unmapped_in_turn contents extents)
-unmapped-keeps capacity [] contents h = h
-unmapped-keeps capacity (one ∷ rest) contents h =
-    unmapped-keeps capacity rest (unmapped contents one.lba one.count)
-    (well_formed-unmapped capacity contents one.lba one.count h)
+unmapped-keeps disks capacity [] contents h = h
+unmapped-keeps disks capacity (one ∷ rest) contents h =
+    unmapped-keeps disks capacity rest (unmapped contents one.lba one.count)
+    (disks.unmapping capacity contents one.lba one.count h)
 
-anchored-keeps : (capacity : ℕ) (extents : List Extent) (contents : Contents)
+anchored-keeps : DisksStayWellFormed → (capacity : ℕ) (extents : List Extent) (contents : Contents)
     → IsWellFormed capacity contents → AreOnDisk capacity extents
     → IsWellFormed capacity (anchored_in_turn contents extents)
-anchored-keeps capacity [] contents h on_disk = h
-anchored-keeps capacity (one ∷ rest) contents h on_disk =
-    anchored-keeps capacity rest (anchored contents one.lba one.count)
-    (well_formed-remapped capacity contents one.lba one.count (λ index. Anchored) h on_disk.0
+anchored-keeps disks capacity [] contents h on_disk = h
+anchored-keeps disks capacity (one ∷ rest) contents h on_disk =
+    anchored-keeps disks capacity rest (anchored contents one.lba one.count)
+    (disks.mapping capacity contents one.lba one.count (λ index. Anchored) h on_disk.0
     (λ i below. tt)) on_disk.1
 
-operation-keeps : (state : State) (i : ℕ) (o : Operation) → HasBlocks state → IsReady state o
-    → KeepsBlocks (effect_of state i o)
-operation-keeps state i (operation.Write out) h ready =
-    well_formed-remapped state.disk.capacity state.disk.contents out.extent.lba out.extent.count
+operation-keeps : DisksStayWellFormed → (state : State) (i : ℕ) (o : Operation)
+    → HasBlocks state → IsReady state o → KeepsBlocks (effect_of state i o)
+operation-keeps disks state i (operation.Write out) h ready =
+    disks.mapping state.disk.capacity state.disk.contents out.extent.lba out.extent.count
     (λ index. Data (block_at out.bytes index)) h ready.on_disk.0
     (λ k below. block-length out.bytes out.extent.count k ready.sound below)
-operation-keeps state i (operation.Fill extent block) h ready =
-    well_formed-remapped state.disk.capacity state.disk.contents extent.lba extent.count
+operation-keeps disks state i (operation.Fill extent block) h ready =
+    disks.mapping state.disk.capacity state.disk.contents extent.lba extent.count
     (λ index. Data block) h ready.on_disk.0 (λ k below. ready.sound)
-operation-keeps state i (operation.Unmap extents) h ready =
-    unmapped-keeps state.disk.capacity extents state.disk.contents h
-operation-keeps state i (operation.UnmapExtent extent) h ready =
-    unmapped-keeps state.disk.capacity (extent ∷ []) state.disk.contents h
-operation-keeps state i (operation.Anchor extents) h ready =
-    anchored-keeps state.disk.capacity extents state.disk.contents h ready.on_disk
-operation-keeps state i (operation.AnchorExtent extent) h ready =
-    anchored-keeps state.disk.capacity (extent ∷ []) state.disk.contents h ready.on_disk
-operation-keeps state i (operation.ReturnModes request n) h ready = sound-keeps _ _ (λ list. h)
-operation-keeps state i (operation.ChangeModes ten sp list) h ready = sound-keeps _ _ (λ modes. h)
-operation-keeps state i (operation.ChangeReservations action scope_type list) h ready =
+operation-keeps disks state i (operation.Unmap extents) h ready =
+    unmapped-keeps disks state.disk.capacity extents state.disk.contents h
+operation-keeps disks state i (operation.UnmapExtent extent) h ready =
+    unmapped-keeps disks state.disk.capacity (extent ∷ []) state.disk.contents h
+operation-keeps disks state i (operation.Anchor extents) h ready =
+    anchored-keeps disks state.disk.capacity extents state.disk.contents h ready.on_disk
+operation-keeps disks state i (operation.AnchorExtent extent) h ready =
+    anchored-keeps disks state.disk.capacity (extent ∷ []) state.disk.contents h ready.on_disk
+operation-keeps disks state i (operation.ReturnModes request n) h ready = sound-keeps _ _ (λ list. h)
+operation-keeps disks state i (operation.ChangeModes ten sp list) h ready = sound-keeps _ _ (λ modes. h)
+operation-keeps disks state i (operation.ChangeReservations action scope_type list) h ready =
     sound-keeps _ _ (λ change. h)
-operation-keeps state i _ h ready = h
+operation-keeps disks state i _ h ready = h
 
-by-checks : (state : State) (i : ℕ) (checked : Result Operation Refusal) → HasBlocks state
-    → Ready state checked → KeepsBlocks (checked_next checked (effect_of state i))
-by-checks state i (Ok o) h ready = operation-keeps state i o h ready
-by-checks state i (Err refusal) h ready = tt
+by-checks : DisksStayWellFormed → (state : State) (i : ℕ) (checked : Result Operation Refusal)
+    → HasBlocks state → Ready state checked → KeepsBlocks (checked_next checked (effect_of state i))
+by-checks disks state i (Ok o) h ready = operation-keeps disks state i o h ready
+by-checks disks state i (Err refusal) h ready = tt
 
-pub keeps-blocks : (state : State) (i : ℕ) (cdb data_out : List ℕ) → HasBlocks state
-    → KeepsBlocks (checked_next (checked_cdb state i cdb data_out) (effect_of state i))
-keeps-blocks state i cdb data_out h =
-    by-checks state i (checked_cdb state i cdb data_out) h (cdb-ready state i cdb data_out)
+pub keeps-blocks : DisksStayWellFormed → (state : State) (i : ℕ) (cdb data_out : List ℕ)
+    → HasBlocks state → KeepsBlocks (checked_next (checked_cdb state i cdb data_out) (effect_of state i))
+keeps-blocks disks state i cdb data_out h =
+    by-checks disks state i (checked_cdb state i cdb data_out) h (cdb-ready state i cdb data_out)

@@ -15,6 +15,7 @@ use Rattle.sg_units.specs.Reservations.{IsConsistent}
 use Rattle.sg_wire.specs.declared.out_list.OutList.{OutList}
 use Rattle.sg_units.specs.declared.reservation_change.ReservationChange.{ReservationChange}
 use Rattle.sg_units.specs.declared.unit_attention.UnitAttention.TheVariants.{ModeParametersChanged}
+use Rattle.sg_store.specs.Laws.{DisksStayWellFormed}
 use Rattle.sg_target.proofs.BlocksLemmas.{KeepsBlocks, keeps-blocks}
 use Rattle.sg_target.specs.Checks.{checked_cdb, checked_effect, no_space}
 use Rattle.sg_target.specs.Effect.{Effect, returning_up_to}
@@ -39,7 +40,8 @@ space : (disk : Disk) → no_space disk ≡ None → len disk.contents ≤ disk.
 unfolding no_space
 space disk e = grind (arith, nat_tests)
 
-module _ (reservations : ReservationsStayConsistent) (queues : QueuesKeepTheirLimits) where
+module _ (reservations : ReservationsStayConsistent) (queues : QueuesKeepTheirLimits)
+    (disks : DisksStayWellFormed) where
   attentions-after : (pending : Pending) (i : ℕ) (changed : Bool) → ArePending pending
       → ArePending (attentions_after pending i changed)
   attentions-after pending i true h = queues.raised pending (raised_for_others i ModeParametersChanged) h
@@ -135,7 +137,7 @@ module _ (reservations : ReservationsStayConsistent) (queues : QueuesKeepTheirLi
   step-within state i cdb data_out h =
       outcome-within state i (checked_effect state i cdb data_out) h
       (checked-keeps state i (checked_cdb state i cdb data_out) (others state h))
-      (keeps-blocks state i cdb data_out h.blocks)
+      (keeps-blocks disks state i cdb data_out h.blocks)
 
   pub cycle-within : (state : State) → IsWithinLimits state → IsWithinLimits (after_power_cycle state)
   cycle-within state h = record {

@@ -8,4 +8,5 @@ pub fn limits_are_kept()
 {
     sg_units::laws::reservations_stay_consistent();
     sg_units::laws::queues_keep_their_limits();
+    sg_store::laws::disks_stay_well_formed();
 }

@@ -19,7 +19,7 @@ use crate::target::{BUFFER_LENGTH, Target};
 use sg_pages::{Changed, ModeSelectFault, ModeSenseFault, ModeSenseRequest, PageControl};
 use sg_store::{Counts, Store};
 use sg_units::{Raised, UnitAttention};
-use sg_wire::laws::answers_are_in_their_buffers;
+use sg_wire::laws::{answers_are_in_their_buffers, parts_are_put_in_turn};
 use sg_wire::{
     Cut, Initiator, ModeSelect6, ModeSelect10, ModeSense6, ModeSense10, PageCode, PageControlField,
 };
@@ -149,6 +149,7 @@ impl<S: Store> Target<S> {
             self.old.meter self.new.meter result }
     {
         answers_are_in_their_buffers();
+        parts_are_put_in_turn();
         let mut cut = Cut::new(buf, usize::from(allocation_length));
         match self.modes.sense(&requested.request, &mut cut) {
             Ok(()) => Reply::without_blocks(cut.written()),

@@ -38,7 +38,7 @@ impl Parameters {
         ensures length { length (parameter_list self.now) ≤ max_data_out }
     {
         match self {
-            Parameters::Nothing => {}
+            Parameters::Nothing => cut.put(&[]),
             Parameters::Unmap(list) => list.write(cut),
             Parameters::ReserveOut(list) => cut.put(&list.write()),
         }

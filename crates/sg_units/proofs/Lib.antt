@@ -1,4 +1,3 @@
-mod Lemmas
 pub mod AttentionLemmas
 pub mod PartLemmas
 pub mod OutcomeLemmas

@@ -4,7 +4,7 @@ use Rattle.std.specs.List.{flat_map}
 use Rattle.std.proofs.lemmas.Grind.{flat_map-append}
 use Rattle.std.proofs.lemmas.List.{append-nil, take_more}
 use Rattle.sg_wire.specs.CutAnswer.{CutAnswer, put}
-use Rattle.sg_wire.proofs.CutLemmas.{put-put}
+use Rattle.sg_wire.specs.Laws.{PartsArePutInTurn}
 use Rattle.sg_units.specs.declared.registrations.Registration.{Registration}
 
 pub flat_map-one_more : (part : Registration → List ℕ) (xs : List Registration) (i : ℕ)
@@ -19,11 +19,11 @@ flat_map-one_more part xs i x h e =
     ∙ (flat_map-append part (take i xs) (x ∷ [])
     ∙ ap (λ b. bytes ++ b) (append-nil (part x))))
 
-pub put-one_more : (part : Registration → List ℕ) (a b : CutAnswer) (xs : List Registration) (i : ℕ)
-    (x : Registration) → i < length xs → x ≡ get_or xs i x
+pub put-one_more : PartsArePutInTurn → (part : Registration → List ℕ) (a b : CutAnswer)
+    (xs : List Registration) (i : ℕ) (x : Registration) → i < length xs → x ≡ get_or xs i x
     → b ≡ put a (flat_map part (take i xs))
     → put b (part x) ≡ put a (flat_map part (take (i + 1) xs))
-put-one_more part a b xs i x h e so_far =
+put-one_more law part a b xs i x h e so_far =
     ap (λ k. put k (part x)) so_far
-    ∙ (put-put a (flat_map part (take i xs)) (part x)
+    ∙ (law.in_turn a (flat_map part (take i xs)) (part x)
     ∙ ap (put a) (flat_map-one_more part xs i x h e))

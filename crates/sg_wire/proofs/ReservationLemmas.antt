@@ -1,25 +1,17 @@
 -- The CDBs of PERSISTENT RESERVE IN and PERSISTENT RESERVE OUT.
-use Rattle.std.proofs.Common.{◌≡◌, ◌<◌, ◌≤◌, ℕ, ◌^◌, ◌==◌, List, [], ◌∷◌, length, drop, get_or, map}
+use Rattle.std.proofs.Common.{◌≡◌, ◌≤◌, ℕ, ◌==◌, List, [], ◌∷◌, length, drop, get_or, map}
 use Rattle.std.proofs.Common.{Bool, true, false, Option, Some, None, Result, Ok, Err, cond}
 use Rattle.std.proofs.Common.{refl, ◌∙◌, arith}
 use Rattle.std.specs.Prelude.{bit_and, find, option_map, nat_lt, if◌then◌else◌}
 use Rattle.std.proofs.lemmas.Bool.Decides.{nat_tests}
 use Rattle.byteorder.specs.Endian.{big_number}
-use Rattle.sg_wire.specs.declared.command.in_action.InAction.{InAction}
-use Rattle.sg_wire.specs.declared.command.in_action.InAction.TheVariants.{ReadKeys, ReadReservation}
-use Rattle.sg_wire.specs.declared.command.in_action.InAction.TheVariants.{ReportCapabilities, ReadFullStatus}
 use Rattle.sg_wire.specs.declared.command.out_action.OutAction.{OutAction}
-use Rattle.sg_wire.specs.declared.command.out_action.OutAction.TheVariants.{Register, Reserve}
-use Rattle.sg_wire.specs.declared.command.out_action.OutAction.TheVariants.{Release, Clear, Preempt}
-use Rattle.sg_wire.specs.declared.command.out_action.OutAction.TheVariants.{PreemptAndAbort}
-use Rattle.sg_wire.specs.declared.command.out_action.OutAction.TheVariants.{RegisterAndIgnoreExistingKey}
-use Rattle.sg_wire.specs.Commands.{reserve_in, reserve_out}
+use Rattle.sg_wire.specs.Commands.{reserve_out}
 use Rattle.sg_wire.specs.declared.command.CdbFault.{CdbFault}
 use Rattle.sg_wire.specs.declared.command.CdbFault.TheVariants.{Short}
-use Rattle.sg_wire.specs.Layout.{Layout, layout, has_action_of, command_of, command_by_row}
-use Rattle.sg_wire.specs.Layout.{command_with, cdb_of, masks, first_bad, fits_masks, unless_bad}
+use Rattle.sg_wire.specs.Layout.{Layout, layout, has_action_of, command_by_row}
+use Rattle.sg_wire.specs.Layout.{command_with, masks, first_bad, fits_masks, unless_bad}
 use Rattle.sg_wire.specs.ReservationAction.{out_code, each_out_action, out_action_with}
-use Rattle.sg_wire.proofs.LayoutLemmas.{is_whole, is_whole-mod, number_again}
 
 abbrev out_row : OutAction → Layout
 out_row action = layout (reserve_out action 0 0)
@@ -84,39 +76,3 @@ reserve_out-fits cdb action whole known fits =
     reserve_out-known cdb action whole known
     ∙ unless_bad-fit (reserve_out action (get_or cdb 2 0) (big_number 4 (drop 5 cdb)))
     (nat_lt (length cdb) (length bits)) (length cdb) (first_bad 0 bits cdb) fits
-
--- ---- the CDB of each command is decoded as it again
-
-module _ (allocation_length : ℕ) (n : allocation_length < 2 ^ 16) where
-  pub reads_back-reserve_in : (action : InAction)
-      → command_of (cdb_of (reserve_in action allocation_length))
-      ≡ Ok (reserve_in action allocation_length)
-  unfolding command_of command_with cdb_of
-  reads_back-reserve_in ReadKeys =
-      let f = number_again 2 allocation_length [] n in simp is_whole-mod cc
-  reads_back-reserve_in ReadReservation =
-      let f = number_again 2 allocation_length [] n in simp is_whole-mod cc
-  reads_back-reserve_in ReportCapabilities =
-      let f = number_again 2 allocation_length [] n in simp is_whole-mod cc
-  reads_back-reserve_in ReadFullStatus =
-      let f = number_again 2 allocation_length [] n in simp is_whole-mod cc
-
-module _ (scope_type list_length : ℕ) (s : scope_type < 256) (n : list_length < 2 ^ 32) where
-  pub reads_back-reserve_out : (action : OutAction)
-      → command_of (cdb_of (reserve_out action scope_type list_length))
-      ≡ Ok (reserve_out action scope_type list_length)
-  unfolding command_of command_with cdb_of
-  reads_back-reserve_out Register =
-      let f = number_again 4 list_length [] n in simp (is_whole scope_type s, is_whole-mod) cc
-  reads_back-reserve_out Reserve =
-      let f = number_again 4 list_length [] n in simp (is_whole scope_type s, is_whole-mod) cc
-  reads_back-reserve_out Release =
-      let f = number_again 4 list_length [] n in simp (is_whole scope_type s, is_whole-mod) cc
-  reads_back-reserve_out Clear =
-      let f = number_again 4 list_length [] n in simp (is_whole scope_type s, is_whole-mod) cc
-  reads_back-reserve_out Preempt =
-      let f = number_again 4 list_length [] n in simp (is_whole scope_type s, is_whole-mod) cc
-  reads_back-reserve_out PreemptAndAbort =
-      let f = number_again 4 list_length [] n in simp (is_whole scope_type s, is_whole-mod) cc
-  reads_back-reserve_out RegisterAndIgnoreExistingKey =
-      let f = number_again 4 list_length [] n in simp (is_whole scope_type s, is_whole-mod) cc

@@ -1,8 +1,10 @@
 -- Laws of the definitions.
-use Rattle.std.specs.Prelude.{◌≡◌, ◌<◌, ℕ, ◌==◌, List, length, take, Err, if◌then◌else◌}
+use Rattle.std.specs.Prelude.{◌≡◌, ◌<◌, ◌≤◌, ℕ, ◌==◌, List, [], ◌++◌, length, take, Err}
+use Rattle.std.specs.Prelude.{if◌then◌else◌}
 use Rattle.std.specs.Borrow.{GName}
 use Rattle.sg_wire.specs.Cut.{IsLeftIn, Puts, answer_of}
-use Rattle.sg_wire.specs.CutAnswer.{empty_answer, first_bytes, overwritten}
+use Rattle.sg_wire.specs.CutAnswer.{CutAnswer, empty_answer, first_bytes, overwritten, put}
+use Rattle.sg_wire.specs.CutAnswer.{replace}
 use Rattle.sg_wire.specs.Layout.{cdb_of, command_of}
 use Rattle.sg_wire.specs.declared.command.CdbFault.{CdbFault}
 use Rattle.sg_wire.specs.declared.command.CdbFault.TheVariants.{Empty, Short}
@@ -18,6 +20,21 @@ abbrev pub PrefixesAreRefused : Type 0
 PrefixesAreRefused =
     (command : Command) (count : ℕ) → count < length (cdb_of command)
     → command_of (take count (cdb_of command)) ≡ Err (cut_at count)
+
+-- Parts that are put one behind the other are put as one, and no byte that is put changes nothing.
+pub record PartsArePutInTurn : Type 0 where
+  pub in_turn : (answer : CutAnswer) (first second : List ℕ)
+      → put (put answer first) second ≡ put answer (first ++ second)
+  pub nothing : (cut : Cut) → put (answer_of cut) [] ≡ answer_of cut
+
+-- What was written stays when more is put, and a part that is replaced by one of the same length is as
+-- if that one had been put first, also where more was put behind it.
+pub record PartsAreReplaced : Type 0 where
+  pub kept : (cut : Cut) (bytes : List ℕ)
+      → length (answer_of cut).written ≤ length (put (answer_of cut) bytes).written
+  pub replaced : (cut : Cut) (old new behind : List ℕ) → length old ≡ length new
+      → replace (put (answer_of cut) (old ++ behind)) (length (answer_of cut).written) new
+      ≡ put (answer_of cut) (new ++ behind)
 
 -- Of an answer that is put whole its first bytes are written, as many as the limit lets through, and
 -- then are in the buffer, before those of its bytes that they have not replaced.

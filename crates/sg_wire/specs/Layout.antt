@@ -136,13 +136,13 @@ mode_sense_10 c =
 
 -- LOGICAL BLOCK ADDRESS and TRANSFER LENGTH, or NUMBER OF LOGICAL BLOCKS, in CDBs of 6, 10 and 16
 -- bytes.
-abbrev extent_6 : ℕ × ℕ → List Field
+abbrev pub extent_6 : ℕ × ℕ → List Field
 extent_6 extent = field short_extent extent ∷ []
 
-abbrev extent_10 : Extent10 → List Field
+abbrev pub extent_10 : Extent10 → List Field
 extent_10 c = field (bytes 2 5) c.lba ∷ field (bytes 7 8) c.count ∷ []
 
-abbrev extent_16 : Extent16 → List Field
+abbrev pub extent_16 : Extent16 → List Field
 extent_16 c = field (bytes 2 9) c.lba ∷ field (bytes 10 13) c.count ∷ []
 
 -- ALLOCATION LENGTH.

@@ -13,6 +13,7 @@ use super::mode_page::{CHANGEABLE, DEFAULT};
 use super::{ModePage, ModePages, ModeSenseFault, ModeSenseRequest, PageControl, PageValues};
 use byteorder::{BigEndian, ByteOrder};
 use sg_wire::Cut;
+use sg_wire::laws::parts_are_put_in_turn;
 
 // PAGE CODE of all pages.
 const ALL_PAGES: u8 = 0x3F;
@@ -51,6 +52,7 @@ impl ModePages {
     fn write_list(&self, request: &ModeSenseRequest, cut: &mut Cut)
         ensures { Puts cut.old cut.new (mode_parameter_list self.now (fields_of request.now)) }
     {
+        parts_are_put_in_turn();
         let values = self.selected_by(request.page_control);
         let descriptor = descriptor_length(request);
         let following = descriptor + requested_length(values, request.page_code);
@@ -169,10 +171,11 @@ fn length_if_requested(page: ModePage, values: &PageValues, page_code: u8) -> u1
     }
 }
 
-#[tactic(auto, using(crate::proofs::Lemmas::parts), unfolding(crate::specs::ModeSense::requested_pages))]
+#[tactic(auto, unfolding(crate::specs::ModeSense::requested_pages))]
 fn write_requested_pages(values: &PageValues, page_code: u8, cut: &mut Cut)
     ensures { Puts cut.old cut.new (requested_pages values.now page_code) }
 {
+    parts_are_put_in_turn();
     let [first, second, third, fourth] = ModePage::ALL;
     write_if_requested(first, values, page_code, cut);
     write_if_requested(second, values, page_code, cut);
@@ -180,11 +183,12 @@ fn write_requested_pages(values: &PageValues, page_code: u8, cut: &mut Cut)
     write_if_requested(fourth, values, page_code, cut);
 }
 
-#[tactic(auto, using(crate::proofs::Lemmas::parts), unfolding(crate::specs::ModePage::page_bytes))]
+#[tactic(auto, unfolding(crate::specs::ModePage::page_bytes))]
 fn write_if_requested(page: ModePage, values: &PageValues, page_code: u8, cut: &mut Cut)
     ensures { Puts cut.old cut.new
         (if is_requested page_code page then page_data values.now page else []) }
 {
+    parts_are_put_in_turn();
     if is_requested(page_code, page) {
         let bytes = values.of(page);
         cut.put(&[PS + page.code(), bytes.len() as u8]);

@@ -9,6 +9,7 @@ ghost use Rattle.sg_units.specs.ReserveIn.{keys_data, reservation_data};
 use super::ReservationState;
 use crate::{Registration, Reservation};
 use byteorder::{BigEndian, ByteOrder};
+use sg_wire::laws::parts_are_put_in_turn;
 use sg_wire::{Cut, Initiator};
 
 // Lengths in bytes: of a reservation key, and of the descriptor of a reservation.
@@ -18,20 +19,22 @@ const DESCRIPTOR_LENGTH: u32 = 16;
 
 impl ReservationState {
     // READ KEYS.
-    #[tactic(auto, using(crate::proofs::Lemmas::parts), unfolding(crate::specs::ReserveIn::keys_data))]
+    #[tactic(auto, unfolding(crate::specs::ReserveIn::keys_data))]
     pub(crate) fn read_keys(&self, cut: &mut Cut)
         ensures { Puts cut.old cut.new (keys_data self.now) }
     {
+        parts_are_put_in_turn();
         let registrations = self.registrations.as_slice();
         cut.put(&header(self.generation, KEY_LENGTH * registrations.len() as u32));
         put_keys(registrations, cut);
     }
 
     // READ RESERVATION.
-    #[tactic(auto, using(crate::proofs::Lemmas::parts), unfolding(crate::specs::ReserveIn::reservation_data))]
+    #[tactic(auto, unfolding(crate::specs::ReserveIn::reservation_data))]
     pub(crate) fn read_reservation(&self, cut: &mut Cut)
         ensures { Puts cut.old cut.new (reservation_data self.now) }
     {
+        parts_are_put_in_turn();
         match &self.reservation {
             Some(reservation) => {
                 cut.put(&header(self.generation, DESCRIPTOR_LENGTH));
@@ -41,10 +44,10 @@ impl ReservationState {
         }
     }
 
-    #[tactic(auto, using(crate::proofs::Lemmas::parts))]
     fn put_descriptor(&self, reservation: &Reservation, cut: &mut Cut)
         ensures { Puts cut.old cut.new (descriptor self.now reservation.now) }
     {
+        parts_are_put_in_turn();
         let key = self.holder_key(reservation.holder);
         cut.put(&key_bytes(key));
         cut.put(&[0, 0, 0, 0, 0, reservation.kind.code(), 0, 0]);
@@ -64,6 +67,7 @@ impl ReservationState {
 fn put_keys(registrations: &[Registration], cut: &mut Cut)
     ensures { Puts cut.old cut.new (flat_map key_bytes registrations.now) }
 {
+    parts_are_put_in_turn();
     for registration in registrations {
         cut.put(&key_bytes(registration.key));
     }

@@ -9,6 +9,7 @@ use super::ReservationState;
 use super::persistent_reserve_in::header;
 use crate::{Registration, Reservation};
 use byteorder::{BigEndian, ByteOrder};
+use sg_wire::laws::parts_are_put_in_turn;
 use sg_wire::{Cut, Initiator};
 
 // Lengths in bytes: of a full status descriptor, and of the TransportID that it ends with.
@@ -33,10 +34,11 @@ impl ReservationState {
     }
 }
 
-#[tactic(auto, using(crate::proofs::Lemmas::parts), unfolding(crate::specs::FullStatus::full_status_data))]
+#[tactic(auto, unfolding(crate::specs::FullStatus::full_status_data))]
 fn put_full_status(state: &ReservationState, cut: &mut Cut)
     ensures { Puts cut.old cut.new (full_status_data state.now) }
 {
+    parts_are_put_in_turn();
     let registrations = state.registrations.as_slice();
     let length = (FULL_STATUS_LENGTH * registrations.len()) as u32;
     cut.put(&header(state.generation, length));
@@ -47,6 +49,7 @@ fn put_descriptors(reservation: &Option<Reservation>, registrations: &[Registrat
     ensures { Puts cut.old cut.new
         (flat_map (full_status_descriptor reservation.now) registrations.now) }
 {
+    parts_are_put_in_turn();
     for registration in registrations {
         cut.put(&full_status_descriptor(reservation, registration));
     }

@@ -1,9 +1,11 @@
 // Block commands (SBC-3, 5; READ(6) and WRITE(6) of SBC-2).
-ghost use Rattle.std.specs.Prelude.{◌≡◌, ◌/◌, ◌%◌, ◌<◌, ◌≤◌, ◌^◌, [], ◌∷◌, ◌++◌, length};
-ghost use Rattle.std.specs.Prelude.{slice_index, bit_and, IfErr, IfOk, OnOk};
+ghost use Rattle.std.specs.Prelude.{◌≡◌, ◌/◌, ◌%◌, ◌≤◌, [], ◌∷◌, ◌++◌, length, slice_index};
+ghost use Rattle.std.specs.Prelude.{bit_and, IfErr, IfOk, OnOk, true};
 ghost use Rattle.byteorder.specs.Endian.{big_bytes};
-ghost use Rattle.sg_wire.specs.Layout.{cdb_of, command_with, number_at, value_at};
+ghost use Rattle.sg_wire.specs.Layout.{cdb_of, command_with, extent_6, extent_10, extent_16};
+ghost use Rattle.sg_wire.specs.Layout.{number_at, value_at};
 ghost use Rattle.sg_wire.specs.Layout.Place.{short_extent};
+ghost use Rattle.sg_wire.specs.Ranges.{fits_cdb, have_room};
 ghost use Rattle.sg_wire.specs.Table.{HasAction, IsDecoded, IsRefused, IsRow};
 
 use super::table::{
@@ -159,8 +161,7 @@ pub(super) fn decode_extent_16(row: &Row, cdb: &[u8]) -> Result<Extent16, CdbFau
 pub(super) fn encode_extent_6(row: &Row, extent: ShortExtent) -> CdbBytes
     ensures bytes { result ≡ (row.now.opcode ∷ extent.0 / 65536 ∷ [])
         ++ big_bytes 2 (extent.0 % 65536) ++ (extent.1 % 256 ∷ 0 ∷ []) }
-    ensures lba { extent.0 < 2 ^ 21 }
-    ensures count { (1 ≤ extent.1) × (extent.1 ≤ 256) }
+    ensures fits { have_room (extent_6 extent) ≡ true }
 {
     let lba = extent.lba();
     let mut cdb = [0; MAX_CDB_LENGTH];
@@ -176,8 +177,7 @@ impl Extent10 {
     pub(super) fn encode(self, row: &Row) -> CdbBytes
         ensures cdb { result ≡ (row.now.opcode ∷ 0 ∷ []) ++ big_bytes 4 self.lba ++ (0 ∷ [])
             ++ big_bytes 2 self.count ++ (0 ∷ []) }
-        ensures lba { self.lba < 2 ^ 32 }
-        ensures count { self.count < 2 ^ 16 }
+        ensures fits { have_room (extent_10 self) ≡ true }
     {
         let mut cdb = [0; MAX_CDB_LENGTH];
         cdb[0] = row.opcode;
@@ -192,8 +192,7 @@ impl Extent16 {
     pub(super) fn encode(self, row: &Row) -> CdbBytes
         ensures cdb { result ≡ (row.now.opcode ∷ 0 ∷ []) ++ big_bytes 8 self.lba
             ++ big_bytes 4 self.count ++ (0 ∷ 0 ∷ []) }
-        ensures lba { self.lba < 2 ^ 64 }
-        ensures count { self.count < 2 ^ 32 }
+        ensures fits { have_room (extent_16 self) ≡ true }
     {
         let mut cdb = [0; MAX_CDB_LENGTH];
         cdb[0] = row.opcode;
@@ -216,7 +215,7 @@ impl ReadCapacity16 {
     #[tactic(auto, unfolding(crate::specs::Layout::cdb_of))]
     pub(super) fn encode(self) -> CdbBytes
         ensures cdb { result ≡ cdb_of (Command.ReadCapacity16 self) }
-        ensures allocation_length { self.allocation_length < 2 ^ 32 }
+        ensures fits { fits_cdb (Command.ReadCapacity16 self) ≡ true }
     {
         let mut cdb = [0; MAX_CDB_LENGTH];
         cdb[0] = READ_CAPACITY_16.opcode;

@@ -1,6 +1,7 @@
 // MODE SENSE and MODE SELECT (SPC-4, 6.11 to 6.14).
-ghost use Rattle.std.specs.Prelude.{◌≡◌, ◌+◌, ◌*◌, ◌<◌, ◌^◌, if◌then◌else◌};
+ghost use Rattle.std.specs.Prelude.{◌≡◌, ◌+◌, ◌*◌, ◌<◌, if◌then◌else◌, true};
 ghost use Rattle.sg_wire.specs.Layout.{cdb_of, command_with};
+ghost use Rattle.sg_wire.specs.Ranges.{fits_cdb};
 
 use super::table::{MODE_SELECT_6, MODE_SELECT_10, MODE_SENSE_6, MODE_SENSE_10, check_row};
 use super::{CdbFault, Command, PageCode, PageControlField};
@@ -127,10 +128,7 @@ impl ModeSense6 {
     #[tactic(auto, unfolding(crate::specs::Layout::cdb_of))]
     pub(super) fn encode(self) -> CdbBytes
         ensures cdb { result ≡ cdb_of (Command.ModeSense6 self) }
-        ensures page_control { self.page_control < 4 }
-        ensures page_code { self.page_code < 64 }
-        ensures subpage_code { self.subpage_code < 256 }
-        ensures allocation_length { self.allocation_length < 256 }
+        ensures fits { fits_cdb (Command.ModeSense6 self) ≡ true }
     {
         let mut cdb = [0; MAX_CDB_LENGTH];
         cdb[0] = MODE_SENSE_6.opcode;
@@ -146,10 +144,7 @@ impl ModeSense10 {
     #[tactic(auto, unfolding(crate::specs::Layout::cdb_of))]
     pub(super) fn encode(self) -> CdbBytes
         ensures cdb { result ≡ cdb_of (Command.ModeSense10 self) }
-        ensures page_control { self.page_control < 4 }
-        ensures page_code { self.page_code < 64 }
-        ensures subpage_code { self.subpage_code < 256 }
-        ensures allocation_length { self.allocation_length < 2 ^ 16 }
+        ensures fits { fits_cdb (Command.ModeSense10 self) ≡ true }
     {
         let mut cdb = [0; MAX_CDB_LENGTH];
         cdb[0] = MODE_SENSE_10.opcode;
@@ -165,7 +160,7 @@ impl ModeSelect6 {
     #[tactic(auto, unfolding(crate::specs::Layout::cdb_of))]
     pub(super) fn encode(self) -> CdbBytes
         ensures cdb { result ≡ cdb_of (Command.ModeSelect6 self) }
-        ensures list_length { self.list_length < 256 }
+        ensures fits { fits_cdb (Command.ModeSelect6 self) ≡ true }
     {
         let mut cdb = [0; MAX_CDB_LENGTH];
         cdb[0] = MODE_SELECT_6.opcode;
@@ -179,7 +174,7 @@ impl ModeSelect10 {
     #[tactic(auto, unfolding(crate::specs::Layout::cdb_of))]
     pub(super) fn encode(self) -> CdbBytes
         ensures cdb { result ≡ cdb_of (Command.ModeSelect10 self) }
-        ensures list_length { self.list_length < 2 ^ 16 }
+        ensures fits { fits_cdb (Command.ModeSelect10 self) ≡ true }
     {
         let mut cdb = [0; MAX_CDB_LENGTH];
         cdb[0] = MODE_SELECT_10.opcode;

@@ -1,6 +1,7 @@
 // Primary commands (SPC-4, 6).
-ghost use Rattle.std.specs.Prelude.{◌≡◌, ◌<◌, ◌^◌};
+ghost use Rattle.std.specs.Prelude.{◌≡◌, true};
 ghost use Rattle.sg_wire.specs.Layout.{cdb_of, command_with};
+ghost use Rattle.sg_wire.specs.Ranges.{fits_cdb};
 
 use super::{CdbFault, Command, table};
 use crate::bytes::{CdbBytes, MAX_CDB_LENGTH};
@@ -71,7 +72,7 @@ impl RequestSense {
     #[tactic(auto, unfolding(crate::specs::Layout::cdb_of))]
     pub(super) fn encode(self) -> CdbBytes
         ensures cdb { result ≡ cdb_of (Command.RequestSense self) }
-        ensures allocation_length { self.allocation_length < 256 }
+        ensures fits { fits_cdb (Command.RequestSense self) ≡ true }
     {
         let mut cdb = [0; MAX_CDB_LENGTH];
         cdb[0] = table::REQUEST_SENSE.opcode;
@@ -85,8 +86,7 @@ impl Inquiry {
     #[tactic(auto, unfolding(crate::specs::Layout::cdb_of))]
     pub(super) fn encode(self) -> CdbBytes
         ensures cdb { result ≡ cdb_of (Command.Inquiry self) }
-        ensures page_code { self.page_code < 256 }
-        ensures allocation_length { self.allocation_length < 2 ^ 16 }
+        ensures fits { fits_cdb (Command.Inquiry self) ≡ true }
     {
         let mut cdb = [0; MAX_CDB_LENGTH];
         cdb[0] = table::INQUIRY.opcode;

@@ -1,6 +1,7 @@
 // Commands of logical block provisioning (SBC-3, 4.7 and 5).
-ghost use Rattle.std.specs.Prelude.{◌≡◌, ◌+◌, ◌<◌, ◌^◌, slice_index, bit_and, if◌then◌else◌};
+ghost use Rattle.std.specs.Prelude.{◌≡◌, ◌+◌, slice_index, bit_and, if◌then◌else◌, true};
 ghost use Rattle.sg_wire.specs.Layout.{cdb_of, command_with};
+ghost use Rattle.sg_wire.specs.Ranges.{fits_cdb};
 
 use super::block::{decode_extent_10, decode_extent_16};
 use super::{CdbFault, Command, GroupNumber, table};
@@ -115,8 +116,7 @@ impl WriteSame10 {
     #[tactic(auto, unfolding(crate::specs::Layout::cdb_of))]
     pub(super) fn encode(self) -> CdbBytes
         ensures cdb { result ≡ cdb_of (Command.WriteSame10 self) }
-        ensures lba { self.lba < 2 ^ 32 }
-        ensures count { self.count < 2 ^ 16 }
+        ensures fits { fits_cdb (Command.WriteSame10 self) ≡ true }
     {
         let mut cdb = [0; MAX_CDB_LENGTH];
         cdb[0] = table::WRITE_SAME_10.opcode;
@@ -131,8 +131,7 @@ impl WriteSame16 {
     #[tactic(auto, unfolding(crate::specs::Layout::cdb_of))]
     pub(super) fn encode(self) -> CdbBytes
         ensures cdb { result ≡ cdb_of (Command.WriteSame16 self) }
-        ensures lba { self.lba < 2 ^ 64 }
-        ensures count { self.count < 2 ^ 32 }
+        ensures fits { fits_cdb (Command.WriteSame16 self) ≡ true }
     {
         let mut cdb = [0; MAX_CDB_LENGTH];
         cdb[0] = table::WRITE_SAME_16.opcode;
@@ -156,8 +155,7 @@ impl Unmap {
     #[tactic(auto, unfolding(crate::specs::Layout::cdb_of))]
     pub(super) fn encode(self) -> CdbBytes
         ensures cdb { result ≡ cdb_of (Command.Unmap self) }
-        ensures group { self.group < 32 }
-        ensures list_length { self.list_length < 2 ^ 16 }
+        ensures fits { fits_cdb (Command.Unmap self) ≡ true }
     {
         let mut cdb = [0; MAX_CDB_LENGTH];
         cdb[0] = table::UNMAP.opcode;
@@ -172,8 +170,7 @@ impl GetLbaStatus {
     #[tactic(auto, unfolding(crate::specs::Layout::cdb_of))]
     pub(super) fn encode(self) -> CdbBytes
         ensures cdb { result ≡ cdb_of (Command.GetLbaStatus self) }
-        ensures start { self.start < 2 ^ 64 }
-        ensures allocation_length { self.allocation_length < 2 ^ 32 }
+        ensures fits { fits_cdb (Command.GetLbaStatus self) ≡ true }
     {
         let mut cdb = [0; MAX_CDB_LENGTH];
         cdb[0] = table::GET_LBA_STATUS.opcode;

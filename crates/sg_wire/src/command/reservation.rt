@@ -1,6 +1,7 @@
 // PERSISTENT RESERVE IN and PERSISTENT RESERVE OUT (SPC-4, 6.15 and 6.16).
-ghost use Rattle.std.specs.Prelude.{◌≡◌, ◌<◌, ◌^◌};
+ghost use Rattle.std.specs.Prelude.{◌≡◌, true};
 ghost use Rattle.sg_wire.specs.Layout.{cdb_of, command_with};
+ghost use Rattle.sg_wire.specs.Ranges.{fits_cdb};
 
 use super::masks::{check_length, check_masks};
 use super::table::{PERSISTENT_RESERVE_IN, PERSISTENT_RESERVE_OUT, service_action};
@@ -63,7 +64,7 @@ impl PersistentReserveIn {
     #[tactic(auto, unfolding(crate::specs::Layout::cdb_of))]
     pub(super) fn encode(self) -> CdbBytes
         ensures cdb { result ≡ cdb_of (Command.PersistentReserveIn self) }
-        ensures allocation_length { self.allocation_length < 2 ^ 16 }
+        ensures fits { fits_cdb (Command.PersistentReserveIn self) ≡ true }
     {
         let mut cdb = [0; MAX_CDB_LENGTH];
         cdb[0] = PERSISTENT_RESERVE_IN.opcode;
@@ -77,8 +78,7 @@ impl PersistentReserveOut {
     #[tactic(auto, unfolding(crate::specs::Layout::cdb_of))]
     pub(super) fn encode(self) -> CdbBytes
         ensures cdb { result ≡ cdb_of (Command.PersistentReserveOut self) }
-        ensures scope_type { self.scope_type < 256 }
-        ensures list_length { self.list_length < 2 ^ 32 }
+        ensures fits { fits_cdb (Command.PersistentReserveOut self) ≡ true }
     {
         let mut cdb = [0; MAX_CDB_LENGTH];
         cdb[0] = PERSISTENT_RESERVE_OUT.opcode;

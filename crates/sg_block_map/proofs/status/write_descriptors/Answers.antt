@@ -22,8 +22,8 @@ loop-next-init c = record {
   order = omega arith;
   cursor = c.requires.cursor;
   room = omega arith;
-  written = λ slots. none-written (chained_contents c.args.table.now.records slots)
-      c.args.capacity c.args.lba c.args.cut.now;
+  written = λ slots. none-written c.parts_are_put_in_turn.ensures
+      (chained_contents c.args.table.now.records slots) c.args.capacity c.args.lba c.args.cut.now;
   met = λ i ge lt. absurd (omega arith);
   rest = inl (refl, refl);
   table = refl;
@@ -45,10 +45,11 @@ loop-next-preserved c =
       order = omega (arith, inv.order, met.order);
       cursor = rw on (rw same at e.cursor);
       room = omega (arith, c.if-count-lt-MAX_DESCRIPTORS.true);
-      written = λ slots. rw on (one-written (chained_contents rs slots) c.args.capacity c.args.lba
-          (answer_of c.args.cut.now) _ _ c.loop-next.count next d c.bytes.result
-          (inv.written slots) c.loop-next-test.true c.if-count-lt-MAX_DESCRIPTORS.true
-          (rw same at (e.descriptor slots)) c.bytes.ensures c.put.ensures);
+      written = λ slots. rw on (one-written c.parts_are_put_in_turn.ensures
+          (chained_contents rs slots) c.args.capacity c.args.lba (answer_of c.args.cut.now) _ _
+          c.loop-next.count next d c.bytes.result (inv.written slots) c.loop-next-test.true
+          c.if-count-lt-MAX_DESCRIPTORS.true (rw same at (e.descriptor slots)) c.bytes.ensures
+          c.put.ensures);
       met = rw on (λ i ge lt. elim (cases_lt i c.loop-next.cursor.index) [
         | inl before ↦ let m = inv.met i ge before in (m.0, omega (arith, m.1))
         | inr after ↦ let m = met.met i after lt in (omega (arith, m.0, low), m.1)
@@ -73,7 +74,8 @@ only-visits : (rs : List Run) (cursor end : Cursor) (t u : Table)
 only-visits rs cursor end t u at within at' within' order paid =
     let total : u.total + passed cursor ≡ t.total + passed end =
     ap (λ (x : Table). x.total) paid in
-    let rises = only-more rs cursor.index end.index cursor.next end.next at within at' within' order in
+    let rises = only-more rs cursor.index end.index cursor.next end.next at within at' within'
+    order in
     visited-less u t (passed cursor) (passed end) (u.total - t.total) paid
     (omega (arith, total, rises))
 
@@ -83,7 +85,8 @@ met-visits : (rs : List Run) (capacity lba next n : ℕ) (cursor end : Cursor) (
     → cursor.index ≤ end.index → AreMet rs cursor.index end.index lba next
     → ((next ≡ lba) × (cursor.index ≡ end.index)) ⊎ ((lba < next) × AreFrom rs end.index next)
     → next ≡ lba + n → visited u (passed cursor) ≡ visited t (passed end)
-    → VisitsBetween (records_met rs lba n - ahead cursor.next) (records_met rs lba n + 1 - ahead cursor.next)
+    → VisitsBetween (records_met rs lba n - ahead cursor.next)
+    (records_met rs lba n + 1 - ahead cursor.next)
     t u
 met-visits rs capacity lba next n cursor end t u table from to order met rest is paid =
     let count : records_met rs lba n ≡ end.index - cursor.index =

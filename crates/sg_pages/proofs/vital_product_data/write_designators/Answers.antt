@@ -24,7 +24,8 @@ returns-clause-data c =
       length-append i.product i.serial,
     ) in
     let local = c.locally_assigned.ensures ∙ ap locally_assigned c.local.ensures.value in
-    put-two _ _ _ _ _
-    (designator-put _ _ _ _ _ _ _ names c.put.ensures n.names)
-    (designator-put _ _ _ _ _ _ _ (sym (length-locally_assigned i.local)) c.put-2.ensures
+    let law = c.parts_are_put_in_turn.ensures in
+    put-two law _ _ _ _ _
+    (designator-put law _ _ _ _ _ _ _ names c.put.ensures n.names)
+    (designator-put law _ _ _ _ _ _ _ (sym (length-locally_assigned i.local)) c.put-2.ensures
     (c.put-3.ensures ∙ ap (put (answer_of c.put-2.new.self)) local))

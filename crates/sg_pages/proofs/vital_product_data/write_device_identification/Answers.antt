@@ -7,4 +7,5 @@ use Rattle.sg_pages.proofs.vital_product_data.write_device_identification.Goals 
 pub returns : goal.returns
 returns c =
     let header = c.put.ensures ∙ ap (put (answer_of c.args.cut.now)) c.header.ensures in
-    page-put _ _ _ _ _ _ (sym c.write_designators.ensures.length) header c.write_designators.ensures.data
+    page-put c.parts_are_put_in_turn.ensures _ _ _ _ _ _ (sym c.write_designators.ensures.length)
+    header c.write_designators.ensures.data

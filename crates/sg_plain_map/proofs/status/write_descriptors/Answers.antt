@@ -19,8 +19,8 @@ loop-next-init c =
       order = omega (arith, e.index);
       cursor = record { index = rw e.index c.requires.index; next = rw e.index e.next };
       room = omega arith;
-      written = λ blocks. none-written (contents_of c.args.table.now.records blocks) c.args.capacity
-          c.args.lba c.args.cut.now;
+      written = λ blocks. none-written c.parts_are_put_in_turn.ensures
+          (contents_of c.args.table.now.records blocks) c.args.capacity c.args.lba c.args.cut.now;
       table = e.table ∙ ap (visited c.args.table.now) (sym none);
     }
 
@@ -45,8 +45,8 @@ loop-next-preserved c =
       order = omega (arith, order, inv.order);
       cursor = rw on at;
       room = omega (arith, c.if-count-lt-MAX_DESCRIPTORS.true);
-      written = λ blocks. rw on (one-written (contents_of rs blocks) c.args.capacity c.args.lba
-          (answer_of c.args.cut.now) _ _
+      written = λ blocks. rw on (one-written c.parts_are_put_in_turn.ensures
+          (contents_of rs blocks) c.args.capacity c.args.lba (answer_of c.args.cut.now) _ _
           c.loop-next.count next d c.bytes.result (inv.written blocks) c.loop-next-test.true
           c.if-count-lt-MAX_DESCRIPTORS.true (rw inv.table at e.descriptor blocks) c.bytes.ensures
           c.put.ensures);

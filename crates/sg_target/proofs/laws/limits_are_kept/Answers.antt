@@ -5,7 +5,8 @@ pub returns : goal.returns
 returns c =
     let reservations = c.reservations_stay_consistent.ensures in
     let queues = c.queues_keep_their_limits.ensures in
+    let disks = c.disks_stay_well_formed.ensures in
     record {
-      command = step-within reservations queues;
-      power_cycle = cycle-within reservations queues;
+      command = step-within reservations queues disks;
+      power_cycle = cycle-within reservations queues disks;
     }

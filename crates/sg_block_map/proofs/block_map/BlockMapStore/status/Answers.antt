@@ -30,16 +30,18 @@ replace-requires c =
     let s = c.args.self.now in
     let same = ap (λ (t : Table). t.records) c.cursor_over-cursor.ensures.visits.table in
     let all = rw same at (c.write_descriptors-count.ensures.descriptors s.pool) in
-    header-within c.args.cut.now _ _ c.status_header.result (lba_status (disk_of s) c.args.lba)
-    c.written-at.result c.put.ensures all.bytes c.written-at.ensures
+    header-within c.parts_are_put_in_turn.ensures c.args.cut.now _ _ c.status_header.result
+    (lba_status (disk_of s) c.args.lba) c.written-at.result c.put.ensures all.bytes
+    c.written-at.ensures c.parts_are_replaced.ensures
 
 pub returns-clause-data : goal.returns-clause-data
 returns-clause-data c =
     let s = c.args.self.now in
     let same = ap (λ (t : Table). t.records) c.cursor_over-cursor.ensures.visits.table in
     let all = rw same at (c.write_descriptors-count.ensures.descriptors s.pool) in
-    header-replaced c.args.cut.now _ _ c.status_header.result (lba_status (disk_of s) c.args.lba)
-    c.written-at.result c.put.ensures all.bytes c.written-at.ensures _ c.status_header-2.result
+    header-replaced c.parts_are_put_in_turn.ensures c.args.cut.now _ _ c.status_header.result
+    (lba_status (disk_of s) c.args.lba) c.written-at.result c.put.ensures all.bytes
+    c.written-at.ensures c.parts_are_replaced.ensures _ c.status_header-2.result
     c.write_descriptors-count.result c.status_header.ensures c.status_header-2.ensures
     all.count_is c.replace.ensures
 

@@ -18,5 +18,5 @@ returns c =
     let pages = c.write_requested_pages.ensures
     ∙ ap (λ (v : PageValues). put (answer_of c.write_descriptor.new.cut)
     (requested_pages v asked.page_code)) values in
-    list-put _ _ _ _ c.args.self.now asked _ _ descriptor.ensures.length following
-    c.write_header.ensures c.write_descriptor.ensures pages
+    list-put c.parts_are_put_in_turn.ensures _ _ _ _ c.args.self.now asked _ _
+    descriptor.ensures.length following c.write_header.ensures c.write_descriptor.ensures pages

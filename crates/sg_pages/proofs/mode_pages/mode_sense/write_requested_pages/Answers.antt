@@ -9,8 +9,9 @@ use Rattle.sg_pages.proofs.mode_pages.mode_sense.write_requested_pages.Goals as 
 pub returns : goal.returns
 unfolding requested_pages
 returns c =
-    put-two _ _ _ _ _ c.write_if_requested.ensures
-    (put-two _ _ _ _ _ c.write_if_requested-2.ensures
-    (put-two _ _ _ _ _ c.write_if_requested-3.ensures
+    let law = c.parts_are_put_in_turn.ensures in
+    put-two law _ _ _ _ _ c.write_if_requested.ensures
+    (put-two law _ _ _ _ _ c.write_if_requested-2.ensures
+    (put-two law _ _ _ _ _ c.write_if_requested-3.ensures
     (c.write_if_requested-4.ensures
     ∙ ap (put (answer_of c.write_if_requested-3.new.cut)) (sym (append-nil _)))))

@@ -1,5 +1,4 @@
 use Rattle.std.proofs.Common.{[], rules, ap, sym, ◌∙◌}
-use Rattle.sg_wire.proofs.CutLemmas.{put-nil}
 use Rattle.sg_target.specs.Reply.{refused_reply}
 use Rattle.sg_target.specs.Step.{sense_format}
 use Rattle.sg_target.specs.Target.{TargetFields}
@@ -24,7 +23,7 @@ returns-in-Err-clause-reply g c =
     fault-carried _ _ _ _ _ _ _ _ _ (ap (λ (t : TargetFields). t.state.modes) c.self.view_is)
     c.requested.view_is _ _ e
     (c.answers_are_in_their_buffers.ensures.left _ _ _ [] _ _ _ c.new-cut.ensures (none
-    ∙ sym (put-nil _)) (λ e. search rules) ∙ nothing-put _ _)
+    ∙ sym (c.parts_are_put_in_turn.ensures.nothing _)) (λ e. search rules) ∙ nothing-put _ _)
     (c.refuse.ensures.reply
     ∙ ap (λ (r : Refusal). refused_reply (sense_format c.args.self.now.state) r c.default.result)
     c.from-in-Err.ensures)

@@ -1,7 +1,6 @@
 use Rattle.std.proofs.Common.{◌∙◌, ap, sym}
 use Rattle.sg_wire.specs.Cut.{answer_of}
 use Rattle.sg_wire.specs.CutAnswer.{put}
-use Rattle.sg_wire.proofs.CutLemmas.{put-put}
 use Rattle.sg_units.specs.ReserveIn.{descriptor, reservation_data, reservation_data_of}
 use Rattle.sg_units.proofs.reservation_state.ReservationState.read_reservation.Goals as goal
 
@@ -13,4 +12,5 @@ returns-in-Some c =
     c.put_descriptor.ensures
     ∙ (ap (λ a. put a (descriptor state c.in-Some.reservation))
     (c.put.ensures ∙ ap (put old) c.header.ensures)
-    ∙ (put-put old _ _ ∙ ap (λ held. put old (reservation_data_of state held)) (sym c.in-Some.is)))
+    ∙ (c.parts_are_put_in_turn.ensures.in_turn old _ _
+    ∙ ap (λ held. put old (reservation_data_of state held)) (sym c.in-Some.is)))
