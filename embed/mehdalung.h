@@ -192,12 +192,12 @@ typedef struct mdl_command {
  * options. docs/SCRIPT.md of the source has them: a line of a script has the same words, behind an
  * initiator. mdl_execute sends the command, and mdl_decode prints its data-in.
  *     words     up to a zero, with blanks or tabs between them, read during the call
- *     data_out  data_out_length bytes, MDL_DATA_OUT_LENGTH at least. Data-out is written to the first
- *               command->data_out_length of them, and those behind it are as they were
+ *     data_out  data_out_length bytes, MDL_DATA_OUT_LENGTH at least. Data-out is written to the
+ *               first command->data_out_length of them, and those behind it are as they were
  *     command   is written
  * MDL_NULL_POINTER, MDL_BUFFER_TOO_SHORT, MDL_BAD_BYTE, MDL_TOO_MANY_WORDS or MDL_UNKNOWN_TOOL: the
- * first that applies; and then MDL_USAGE, MDL_EXCLUSIVE or MDL_NUMBER, as the tool refuses its words,
- * or MDL_OUT_OF_MEMORY where memory is refused. Buffer and record are as they were. */
+ * first that applies; and then MDL_USAGE, MDL_EXCLUSIVE or MDL_NUMBER, as the tool refuses its
+ * words, or MDL_OUT_OF_MEMORY where memory is refused. Buffer and record are as they were. */
 mdl_error mdl_tool(const char *words, uint8_t *data_out, size_t data_out_length,
                    mdl_command *command);
 
