@@ -1,5 +1,6 @@
 -- How calls end.
-use Rattle.std.specs.Prelude.{ℕ, List, Option, None, Some, Result, Ok, Err, if◌then◌else◌, not, nat_le, nat_lt}
+use Rattle.std.specs.Prelude.{ℕ, List, Option, None, Some, Result, Ok, Err, if◌then◌else◌, not}
+use Rattle.std.specs.Prelude.{nat_le, nat_lt}
 use Rattle.sg_pages.specs.declared.identity.IdentityFault.{IdentityFault}
 use Rattle.sg_pages.specs.declared.identity.IdentityFault.TheVariants.{Text, Local}
 use Rattle.sg_target.specs.Config.{ConfigFields, checked_config}
