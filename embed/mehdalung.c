@@ -1,5 +1,7 @@
 /* The functions of mehdalung.h: they test pointers and call the archive's, which are proved. This
  * file is not. */
+#include <string.h>
+
 #include "mehdalung.h"
 
 /* Of crates/mehdalung. Their pointers are not null. */
@@ -14,7 +16,12 @@ uint32_t mehdalung_sense(const uint8_t *sense, size_t length, mdl_sense *fields)
 uint8_t mehdalung_exit_status(uint8_t status, const uint8_t *sense, size_t sense_length);
 size_t mehdalung_decode(uint32_t kind, const uint8_t *data_in, size_t length, uint8_t *text,
                         size_t text_length);
+uint32_t mehdalung_tool(const uint8_t *words, size_t length, uint8_t *data_out,
+                        size_t data_out_length, mdl_command *command);
 size_t mehdalung_version(uint8_t *text, size_t text_length);
+
+/* The archive writes the kind of mdl_command as 32 bits. */
+typedef char kind_has_32_bits[sizeof(mdl_kind) == sizeof(uint32_t) ? 1 : -1];
 
 /* What no bytes are at. */
 static const uint8_t nothing[1];
@@ -73,6 +80,15 @@ size_t mdl_decode(mdl_kind kind, const uint8_t *data_in, size_t length, char *te
         return MDL_NO_TEXT;
     return mehdalung_decode((uint32_t)kind, data_in ? data_in : nothing, length,
                             text ? (uint8_t *)text : none, text_length);
+}
+
+mdl_error mdl_tool(const char *words, uint8_t *data_out, size_t data_out_length,
+                   mdl_command *command)
+{
+    if (!words || !data_out || !command)
+        return MDL_NULL_POINTER;
+    return (mdl_error)mehdalung_tool((const uint8_t *)words, strlen(words), data_out,
+                                     data_out_length, command);
 }
 
 size_t mdl_version(char *text, size_t text_length)

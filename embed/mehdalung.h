@@ -6,11 +6,11 @@
  *
  * Every size is in bytes, but where a function says blocks. A block has 512 bytes.
  *
- * Memory. mdl_make takes all memory of a disk from malloc, and mdl_free gives it back. mdl_decode
- * takes memory for the time of the call. No other function takes or frees any. malloc and free come
- * from one allocator, which aligns a block to each power of two up to 16 that divides its size. None
- * of these functions is called from a signal handler, or from the forked child of a process with
- * threads.
+ * Memory. mdl_make takes all memory of a disk from malloc, and mdl_free gives it back. mdl_tool and
+ * mdl_decode take memory for the time of the call. No other function takes or frees any. malloc and
+ * free come from one allocator, which aligns a block to each power of two up to 16 that divides its
+ * size. None of these functions is called from a signal handler, or from the forked child of a
+ * process with threads.
  *
  * Pointers. A pointer is null, or points to as many bytes as the function says, which nobody else
  * reads or writes until the function returns. Memory that it may write does not overlap any other
@@ -37,9 +37,14 @@ extern "C" {
 #define MDL_BLOCK_LENGTH 512u
 #define MDL_INITIATORS 8u
 #define MDL_SENSE_LENGTH 20u
+#define MDL_CDB_LENGTH 16u
 
 /* The least length of the buffer for data-in: the 256 blocks that a READ returns at most. */
 #define MDL_BUFFER_LENGTH 131072u
+
+/* The least length of the buffer for a tool's data-out: the list of 64 extents that an UNMAP has at
+ * most. */
+#define MDL_DATA_OUT_LENGTH 1032u
 
 /* How a call ends. Where it does not end in MDL_OK, it has changed nothing. */
 typedef enum mdl_error {
@@ -52,9 +57,16 @@ typedef enum mdl_error {
     MDL_IDENTITY_LOCAL = 6,   /* the local identifier has more than 60 bits */
     MDL_OUT_OF_MEMORY = 7,    /* memory was refused */
     MDL_INITIATOR = 8,        /* the initiator is not 0 to 7 */
-    MDL_BUFFER_TOO_SHORT = 9, /* the buffer for data-in has less than MDL_BUFFER_LENGTH bytes */
+    MDL_BUFFER_TOO_SHORT = 9, /* the buffer has less than MDL_BUFFER_LENGTH bytes for data-in, or
+                                 MDL_DATA_OUT_LENGTH for a tool's data-out */
     MDL_NULL_POINTER = 10,    /* a pointer is null that must not be */
-    MDL_UNREADABLE = 11       /* sense data can't be read */
+    MDL_UNREADABLE = 11,      /* sense data can't be read */
+    MDL_BAD_BYTE = 12,        /* a byte of the words is neither printable ASCII nor a tab */
+    MDL_TOO_MANY_WORDS = 13,  /* there are more than 64 words */
+    MDL_UNKNOWN_TOOL = 14,    /* there is no word, or the first is not the name of a tool */
+    MDL_USAGE = 15,           /* the words are not those of the tool */
+    MDL_EXCLUSIVE = 16,       /* two options exclude one another */
+    MDL_NUMBER = 17           /* an option's text has no value, or one that is out of range */
 } mdl_error;
 
 /* A disk, or none. It begins as MDL_NONE. The caller owns this variable and may move it, but it
@@ -166,6 +178,28 @@ typedef enum mdl_kind {
  * refused: `text` is as it was. */
 size_t mdl_decode(mdl_kind kind, const uint8_t *data_in, size_t length, char *text,
                   size_t text_length);
+
+/* What a tool sends, and how its answer is printed. */
+typedef struct mdl_command {
+    uint8_t cdb[MDL_CDB_LENGTH]; /* the CDB, and zeros behind it */
+    uint8_t cdb_length;          /* its length */
+    mdl_kind kind;               /* the kind of its data-in, where it ends with MDL_GOOD */
+    size_t data_out_length;      /* data-out is the first bytes of the buffer */
+} mdl_command;
+
+/* Plans the command that words ask a tool for, as "sg_vpd -p lbpv": the first is the name of the
+ * tool, sg_inq, sg_vpd, sg_modes, sg_unmap, sg_get_lba_status or sg_persist, and the others are its
+ * options. docs/SCRIPT.md of the source has them: a line of a script has the same words, behind an
+ * initiator. mdl_execute sends the command, and mdl_decode prints its data-in.
+ *     words     up to a zero, with blanks or tabs between them, read during the call
+ *     data_out  data_out_length bytes, MDL_DATA_OUT_LENGTH at least. Data-out is written to the
+ *               first command->data_out_length of them, and those behind it are as they were
+ *     command   is written
+ * MDL_NULL_POINTER, MDL_BUFFER_TOO_SHORT, MDL_BAD_BYTE, MDL_TOO_MANY_WORDS or MDL_UNKNOWN_TOOL: the
+ * first that applies; and then MDL_USAGE, MDL_EXCLUSIVE or MDL_NUMBER, as the tool refuses its
+ * words, or MDL_OUT_OF_MEMORY where memory is refused. Buffer and record are as they were. */
+mdl_error mdl_tool(const char *words, uint8_t *data_out, size_t data_out_length,
+                   mdl_command *command);
 
 /* Writes the version of the library and of the proof, in one line, into `text`, cut to
  * `text_length` bytes, of which the last one is a zero. Returns the whole length without the zero,

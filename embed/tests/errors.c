@@ -80,6 +80,91 @@ static void decode_every_length(void)
     WANT(mdl_decode(MDL_HEX, NULL, 0, cut, sizeof cut) == 0 && cut[0] == 0);
 }
 
+/* Words, and why they are refused: the first fault that applies. */
+static const struct {
+    const char *words;
+    mdl_error error;
+} refused_words[] = {
+    { "sg_inq\n", MDL_BAD_BYTE },          { "sg_inq \x7F", MDL_BAD_BYTE },
+    { "sg_foo \xE9", MDL_BAD_BYTE },       { "", MDL_UNKNOWN_TOOL },
+    { " \t ", MDL_UNKNOWN_TOOL },          { "sg_foo", MDL_UNKNOWN_TOOL },
+    { "SG_INQ", MDL_UNKNOWN_TOOL },        { "0 sg_inq", MDL_UNKNOWN_TOOL },
+    { "sg_inq -z", MDL_USAGE },            { "sg_vpd --help", MDL_USAGE },
+    { "sg_unmap -l 1", MDL_USAGE },        { "sg_unmap -l 1,2 -n 1", MDL_USAGE },
+    { "sg_persist -o", MDL_USAGE },        { "sg_persist -k -r", MDL_EXCLUSIVE },
+    { "sg_inq -i -p x", MDL_EXCLUSIVE },   { "sg_vpd -p b0", MDL_NUMBER },
+    { "sg_unmap -l x -n 1,2", MDL_NUMBER }, { "sg_persist -R -T 10", MDL_NUMBER },
+};
+
+static uint8_t data_out[MDL_DATA_OUT_LENGTH], before_out[MDL_DATA_OUT_LENGTH];
+static mdl_command command, before_command;
+
+/* That words are refused, with record and buffer as they were. */
+static int is_refused(const char *words, size_t length, mdl_error error)
+{
+    return mdl_tool(words, data_out, length, &command) == error
+        && memcmp(&command, &before_command, sizeof command) == 0
+        && memcmp(data_out, before_out, sizeof data_out) == 0;
+}
+
+/* A tool's name, and so many words in all. */
+static const char *many_words(const char *name, size_t count)
+{
+    static char words[1024];
+
+    strcpy(words, name);
+    while (--count)
+        strcat(words, " -H");
+    return words;
+}
+
+static void plan_words(void)
+{
+    static const uint8_t page[MDL_CDB_LENGTH] = { 0x12, 1, 0xB2, 0, 252 };
+    static const uint8_t unmap[MDL_CDB_LENGTH] = { 0x42, [8] = 24 };
+    static const uint8_t extent[24] = { 0, 22, 0, 16, [15] = 1, [19] = 2 };
+    static char most[2048] = "sg_unmap -l 1";
+    size_t at;
+
+    memset(data_out, 0xEE, sizeof data_out);
+    memset(before_out, 0xEE, sizeof before_out);
+    memset(&command, 0xDD, sizeof command);
+    memcpy(&before_command, &command, sizeof command);
+    WANT(mdl_tool(NULL, data_out, sizeof data_out, &command) == MDL_NULL_POINTER);
+    WANT(mdl_tool("sg_inq", NULL, sizeof data_out, &command) == MDL_NULL_POINTER);
+    WANT(mdl_tool("sg_inq", data_out, sizeof data_out, NULL) == MDL_NULL_POINTER);
+    WANT(is_refused("sg_inq", sizeof data_out - 1, MDL_BUFFER_TOO_SHORT));
+    WANT(is_refused("sg_foo \n", 0, MDL_BUFFER_TOO_SHORT));
+    for (at = 0; at < sizeof refused_words / sizeof *refused_words; at++)
+        WANT(is_refused(refused_words[at].words, sizeof data_out, refused_words[at].error));
+    WANT(is_refused(many_words("sg_inq", 64), sizeof data_out, MDL_USAGE));
+    WANT(is_refused(many_words("sg_foo", 65), sizeof data_out, MDL_TOO_MANY_WORDS));
+    WANT(is_refused(many_words("sg_foo\x01", 65), sizeof data_out, MDL_BAD_BYTE));
+
+    requests = 0;
+    WANT(mdl_tool("sg_vpd -p lbpv", data_out, sizeof data_out, &command) == MDL_OK);
+    WANT(requests > 0 && !memcmp(command.cdb, page, sizeof page) && command.cdb_length == 6);
+    WANT(command.kind == MDL_VPD && command.data_out_length == 0);
+    memcpy(&command, &before_command, sizeof command);
+    for (refused = requests; refused > 0; refused--) {
+        requests = 0;
+        WANT(is_refused("sg_vpd -p lbpv", sizeof data_out, MDL_OUT_OF_MEMORY));
+    }
+
+    WANT(mdl_tool("sg_unmap -l 1 -n 2", data_out, sizeof data_out, &command) == MDL_OK);
+    WANT(!memcmp(command.cdb, unmap, sizeof unmap) && command.cdb_length == 10);
+    WANT(command.kind == MDL_NOTHING && command.data_out_length == sizeof extent);
+    WANT(!memcmp(data_out, extent, sizeof extent));
+    WANT(!memcmp(data_out + sizeof extent, before_out, sizeof data_out - sizeof extent));
+    for (at = 1; at < 64; at++)
+        strcat(most, ",1");
+    strcat(most, " -n 2");
+    for (at = 1; at < 64; at++)
+        strcat(most, ",2");
+    WANT(mdl_tool(most, data_out, sizeof data_out, &command) == MDL_OK);
+    WANT(command.data_out_length == sizeof data_out && data_out[sizeof data_out - 5] == 2);
+}
+
 int main(void)
 {
     static const uint8_t ready[6] = { 0 }, inquiry[6] = { 0x12, 0, 0, 0, 36 };
@@ -157,6 +242,7 @@ int main(void)
     mdl_free(NULL);
 
     decode_every_length();
+    plan_words();
     length = mdl_version(text, sizeof text);
     WANT(length == strlen(text) && !strncmp(text, "mehdalung ", 10));
     WANT(mdl_version(short_text, sizeof short_text) == length && !strcmp(short_text, "mehdalung"));

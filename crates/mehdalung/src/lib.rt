@@ -10,12 +10,14 @@ ghost use Rattle.sg_tools.specs.ExitStatus.{exit_status};
 ghost use Rattle.sg_wire.specs.SenseData.{read_sense};
 ghost use Rattle.sg_embed.specs.Executed.{IsAnswered, IsPowerCycled, disk_config, new_disk};
 ghost use Rattle.sg_embed.specs.Outcome.{execute_outcome, make_outcome, outcome_code};
-ghost use Rattle.sg_embed.specs.Outcome.{make_as_outcome, power_cycle_outcome};
+ghost use Rattle.sg_embed.specs.Outcome.{make_as_outcome, plan_outcome, power_cycle_outcome};
+ghost use Rattle.sg_embed.specs.Planned.{IsPlanned};
 ghost use Rattle.sg_embed.specs.Records.{asked_identity, sense_record};
 ghost use Rattle.sg_embed.specs.Text.{IsDecoded, text_in};
 
 use sg_embed::{
-    IdentityRecord, Outcome, ReplyRecord, SenseRecord, Slot, VERSION, copy_text, decode,
+    CommandRecord, IdentityRecord, Outcome, ReplyRecord, SenseRecord, Slot, VERSION, copy_text,
+    decode, plan_tool,
 };
 use sg_pages::Identity;
 use sg_tools::status_of;
@@ -100,6 +102,31 @@ pub extern "C" fn mehdalung_power_cycle(alloc: Global, disk: &mut Slot) -> u32
     ensures refused { result ≢ 0 → disk.new.held ≡ disk.old.held }
 {
     disk.power_cycle(alloc).code()
+}
+
+/// Plans the command that the words of a text ask a tool for.
+#[unsafe(no_mangle)]
+pub extern "C" fn mehdalung_tool(
+    alloc: Global,
+    text: &[u8],
+    data_out: &mut [u8],
+    command: &mut CommandRecord,
+) -> u32
+    ensures outcome { (result ≡ outcome_code Outcome.OutOfMemory)
+        ⊎ (result ≡ outcome_code (plan_outcome text.now (length data_out.old))) }
+    ensures planned { result ≡ 0 → IsPlanned text.now data_out.old data_out.new command.new }
+
+    // Refused, it changes nothing.
+    ensures untouched { result ≢ 0 → data_out.new ≡ data_out.old }
+    ensures silent { result ≢ 0 → command.new ≡ command.old }
+{
+    match plan_tool(alloc, text, data_out) {
+        Ok(planned) => {
+            *command = planned;
+            Outcome::Done.code()
+        }
+        Err(refused) => refused.code(),
+    }
 }
 
 /// Reads the fields of sense data. They stay as they were where it can't be read.

@@ -4,4 +4,5 @@ pub mod Outcome
 pub mod Executed
 pub mod Records
 pub mod Kinds
+pub mod Planned
 pub mod Text

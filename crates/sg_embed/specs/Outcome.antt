@@ -1,11 +1,19 @@
 -- How calls end.
-use Rattle.std.specs.Prelude.{ℕ, Option, None, Some, Result, Ok, Err, if◌then◌else◌, not, nat_le, nat_lt}
+use Rattle.std.specs.Prelude.{ℕ, List, Option, None, Some, Result, Ok, Err, if◌then◌else◌, not}
+use Rattle.std.specs.Prelude.{nat_le, nat_lt}
 use Rattle.sg_pages.specs.declared.identity.IdentityFault.{IdentityFault}
 use Rattle.sg_pages.specs.declared.identity.IdentityFault.TheVariants.{Text, Local}
 use Rattle.sg_target.specs.Config.{ConfigFields, checked_config}
 use Rattle.sg_target.specs.declared.config.ConfigFault.{ConfigFault}
 use Rattle.sg_target.specs.declared.config.ConfigFault.TheVariants.{Blocks, Pool}
 use Rattle.sg_target.specs.declared.target.TheConstants.{BUFFER_LENGTH}
+use Rattle.sg_tools.specs.ParameterLists.{max_data_out}
+use Rattle.sg_tools.specs.declared.tool.Tool.{Tool}
+use Rattle.sg_tools.specs.declared.tool_fault.ToolFault.{ToolFault}
+use Rattle.sg_tools.specs.declared.tool_fault.ToolFault.TheVariants as tool_fault
+use Rattle.sg_run.specs.ToolText.{tool_of_text}
+use Rattle.sg_run.specs.declared.request.text_fault.TextFault.{TextFault}
+use Rattle.sg_run.specs.declared.request.text_fault.TextFault.TheVariants as text_fault
 use Rattle.sg_pages.specs.Identity.{IdentityFields}
 use Rattle.sg_embed.specs.Executed.{disk_config}
 use Rattle.sg_embed.specs.declared.kept.Kept.{Kept}
@@ -14,6 +22,8 @@ use Rattle.sg_embed.specs.declared.outcome.Outcome.TheVariants.{Done, NoDisk, Di
 use Rattle.sg_embed.specs.declared.outcome.Outcome.TheVariants.{BlockCount, PoolSize}
 use Rattle.sg_embed.specs.declared.outcome.Outcome.TheVariants.{IdentityText, IdentityLocal, OutOfMemory}
 use Rattle.sg_embed.specs.declared.outcome.Outcome.TheVariants.{UnknownInitiator, BufferTooShort, Unreadable}
+use Rattle.sg_embed.specs.declared.outcome.Outcome.TheVariants.{BadByte, TooManyWords, UnknownTool}
+use Rattle.sg_embed.specs.declared.outcome.Outcome.TheVariants.{Usage, Exclusive, Number}
 
 -- The numbers of the header.
 abbrev pub outcome_code : Outcome → ℕ
@@ -28,6 +38,12 @@ outcome_code OutOfMemory = 7
 outcome_code UnknownInitiator = 8
 outcome_code BufferTooShort = 9
 outcome_code Unreadable = 11
+outcome_code BadByte = 12
+outcome_code TooManyWords = 13
+outcome_code UnknownTool = 14
+outcome_code Usage = 15
+outcome_code Exclusive = 16
+outcome_code Number = 17
 
 abbrev pub identity_outcome : IdentityFault → Outcome
 identity_outcome Text = IdentityText
@@ -65,7 +81,29 @@ abbrev pub make_as_outcome : Option Kept → (blocks pool : ℕ) → Result Iden
 make_as_outcome held blocks pool (Ok identity) = make_outcome held (disk_config blocks pool identity)
 make_as_outcome held blocks pool (Err fault) = identity_outcome fault
 
--- How a call ended that returns a reply, or why it is refused.
+abbrev pub tool_fault_outcome : ToolFault → Outcome
+tool_fault_outcome tool_fault.Usage = Usage
+tool_fault_outcome tool_fault.Exclusive = Exclusive
+tool_fault_outcome tool_fault.Number = Number
+tool_fault_outcome tool_fault.OutOfMemory = OutOfMemory
+
+abbrev pub text_outcome : TextFault → Outcome
+text_outcome text_fault.BadByte = BadByte
+text_outcome text_fault.TooManyWords = TooManyWords
+text_outcome text_fault.UnknownTool = UnknownTool
+text_outcome (text_fault.Refused fault) = tool_fault_outcome fault
+
+abbrev pub asked_outcome : Result Tool TextFault → Outcome
+asked_outcome (Ok tool) = Done
+asked_outcome (Err fault) = text_outcome fault
+
+-- How planning a tool's command ends where memory is there, for a text and a buffer for data-out of
+-- a length. The buffer is checked first.
+abbrev pub plan_outcome : (text : List ℕ) → (room : ℕ) → Outcome
+plan_outcome text room =
+    if not (nat_le max_data_out room) then BufferTooShort else asked_outcome (tool_of_text text)
+
+-- How a call ended that returns a value, or why it is refused.
 abbrev pub outcome_of : {T : Type 0} → Result T Outcome → Outcome
 outcome_of (Ok value) = Done
 outcome_of (Err outcome) = outcome

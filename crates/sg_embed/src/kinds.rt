@@ -1,5 +1,5 @@
 // The kinds of answers, by their numbers.
-ghost use Rattle.std.specs.Prelude.{◌≡◌};
+ghost use Rattle.std.specs.Prelude.{◌≡◌, Some};
 ghost use Rattle.sg_embed.specs.Kinds.{kind_numbered};
 
 use sg_tools::Show;
@@ -25,4 +25,12 @@ pub(crate) fn kind_numbered(number: u32) -> Option<Show>
     ensures { result ≡ kind_numbered number }
 {
     KINDS.get(number as usize).copied()
+}
+
+/// The number of a kind of answers.
+pub(crate) fn kind_number(show: Show) -> u32
+    ensures { kind_numbered result ≡ Some show }
+{
+    // Its place in `Show` is that in `KINDS`.
+    show as u32
 }

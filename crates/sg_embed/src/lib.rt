@@ -2,6 +2,7 @@
 #![tactic(auto)]
 
 mod answer;
+mod command;
 mod kept;
 mod kinds;
 mod outcome;
@@ -11,6 +12,7 @@ mod slot;
 mod text;
 
 pub use answer::{NO_TEXT, decode};
+pub use command::{CommandRecord, plan_tool};
 pub use kept::Kept;
 pub use outcome::Outcome;
 pub use record::{IdentityRecord, ReplyRecord, SENSE_LENGTH, SenseRecord};

@@ -1,6 +1,8 @@
 // How a call of the library ends.
 use sg_pages::IdentityFault;
+use sg_run::TextFault;
 use sg_target::ConfigFault;
+use sg_tools::ToolFault;
 
 /// How a call ends: as it should, or refused with nothing changed.
 #[derive(Clone, Copy, Debug, PartialEq, Eq)]
@@ -23,14 +25,27 @@ pub enum Outcome {
     OutOfMemory = 7,
     /// The initiator is not 0 to 7.
     UnknownInitiator = 8,
-    /// The buffer for data-in is too short.
+    /// The buffer for data-in or for data-out is too short.
     BufferTooShort = 9,
     /// Sense data can't be read. Number 10 is that of a null pointer, which C tests.
     Unreadable = 11,
+    /// A byte of a tool's text is neither printable ASCII nor a tab.
+    BadByte = 12,
+    /// A tool's text has more than 64 words.
+    TooManyWords = 13,
+    /// The first word is not the name of a tool.
+    UnknownTool = 14,
+    /// The words are not those of the tool.
+    Usage = 15,
+    /// Two options exclude one another.
+    Exclusive = 16,
+    /// The text of an option has no value, or one that is out of range.
+    Number = 17,
 }
 
 ghost use Rattle.std.specs.Prelude.{◌≡◌};
 ghost use Rattle.sg_embed.specs.Outcome.{config_outcome, identity_outcome, outcome_code};
+ghost use Rattle.sg_embed.specs.Outcome.{text_outcome, tool_fault_outcome};
 
 impl Outcome {
     /// Its number, as C has it.
@@ -58,6 +73,29 @@ impl Outcome {
         match fault {
             ConfigFault::Blocks => Outcome::BlockCount,
             ConfigFault::Pool => Outcome::PoolSize,
+        }
+    }
+
+    /// That a text asks a tool for nothing.
+    pub(crate) fn of_text(fault: TextFault) -> Outcome
+        ensures { result ≡ text_outcome fault }
+    {
+        match fault {
+            TextFault::BadByte => Outcome::BadByte,
+            TextFault::TooManyWords => Outcome::TooManyWords,
+            TextFault::UnknownTool => Outcome::UnknownTool,
+            TextFault::Refused(fault) => Outcome::of_tool(fault),
+        }
+    }
+
+    fn of_tool(fault: ToolFault) -> Outcome
+        ensures { result ≡ tool_fault_outcome fault }
+    {
+        match fault {
+            ToolFault::Usage => Outcome::Usage,
+            ToolFault::Exclusive => Outcome::Exclusive,
+            ToolFault::Number => Outcome::Number,
+            ToolFault::OutOfMemory => Outcome::OutOfMemory,
         }
     }
 }

@@ -21,7 +21,7 @@ first-operands verb (a ∷ b ∷ c ∷ []) = refl
 first-operands verb (a ∷ b ∷ c ∷ d ∷ []) = refl
 first-operands verb (a ∷ b ∷ c ∷ d ∷ e ∷ rest) = refl
 
-few-words : (count : ℕ) → count ≤ word_limit → nat_lt word_limit count ≡ false
+pub few-words : (count : ℕ) → count ≤ word_limit → nat_lt word_limit count ≡ false
 few-words count few = grind (arith, nat_tests)
 
 after-tests : (text verb : List ℕ) (operands : List (List ℕ))

@@ -1,6 +1,7 @@
 // The parameter lists that tools send.
-ghost use Rattle.std.specs.Prelude.{◌≡◌, ◌≤◌, length, take};
+ghost use Rattle.std.specs.Prelude.{◌≡◌, ◌≤◌, length};
 ghost use Rattle.sg_wire.specs.Cut.{Puts};
+ghost use Rattle.sg_wire.specs.CutAnswer.{overwritten};
 ghost use Rattle.sg_tools.specs.ParameterLists.{max_data_out, parameter_list};
 
 use sg_wire::laws::answers_are_in_their_buffers;
@@ -24,8 +25,9 @@ impl Parameters {
     // Writes the parameter list and returns its length in bytes.
     pub(crate) fn write(&self, data_out: &mut [u8]) -> usize
         requires { max_data_out ≤ length data_out.old }
-        ensures list { take result data_out.new ≡ parameter_list self.now }
-        ensures length { result ≤ max_data_out }
+        ensures list { data_out.new ≡ overwritten (parameter_list self.now) data_out.old }
+        ensures length { result ≡ length (parameter_list self.now) }
+        ensures at_most { result ≤ max_data_out }
     {
         answers_are_in_their_buffers();
         let mut cut = Cut::new(data_out, MAX_DATA_OUT);

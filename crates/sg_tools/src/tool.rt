@@ -1,5 +1,6 @@
 // What a tool sends.
-ghost use Rattle.std.specs.Prelude.{◌≡◌, ◌≤◌, Ok, length, map, take};
+ghost use Rattle.std.specs.Prelude.{◌≡◌, ◌≤◌, Ok, length, map};
+ghost use Rattle.sg_wire.specs.CutAnswer.{overwritten};
 ghost use Rattle.sg_wire.specs.Layout.{cdb_of};
 ghost use Rattle.sg_tools.specs.GivenOptions.{IsUnlessOutOfMemory};
 ghost use Rattle.sg_tools.specs.ParameterLists.{max_data_out, parameter_list};
@@ -64,12 +65,15 @@ impl Tool {
     }
 
     /// The CDB and the data-out that the tool sends. The data-out is written to the first bytes of
-    /// `data_out`, which has at least [`MAX_DATA_OUT`](crate::MAX_DATA_OUT) bytes.
+    /// `data_out`, which has at least [`MAX_DATA_OUT`](crate::MAX_DATA_OUT) bytes, and those behind it
+    /// stay as they were.
     pub fn plan(&self, data_out: &mut [u8]) -> Plan
         requires { max_data_out ≤ length data_out.old }
         ensures cdb { result.cdb ≡ cdb_of self.now.command }
-        ensures data_out { take result.data_out data_out.new ≡ parameter_list self.now.parameters }
-        ensures length { result.data_out ≤ max_data_out }
+        ensures data_out { data_out.new
+            ≡ overwritten (parameter_list self.now.parameters) data_out.old }
+        ensures length { result.data_out ≡ length (parameter_list self.now.parameters) }
+        ensures at_most { result.data_out ≤ max_data_out }
         ensures show { result.show ≡ self.now.show }
     {
         Plan {

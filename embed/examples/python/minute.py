@@ -2,15 +2,17 @@
 """The first minute of README, from Python: each line's status is printed as sgrun prints it.
 
 It needs nothing but Python 3.8 and libmehdalung.so, which MEHDALUNG_LIBRARY names, or ../../build
-has. `Disk` is the disk: `execute` returns (status, sense data, data-in)."""
+has. `Disk` is the disk: `execute` and `tool` return (status, sense data, data-in)."""
 import ctypes
 import os
 import sys
 from pathlib import Path
 
 BUFFER_LENGTH = 131_072
+DATA_OUT_LENGTH = 1_032
 ERRORS = ["OK", "NO_DISK", "DISK_EXISTS", "BLOCKS", "POOL", "IDENTITY_TEXT", "IDENTITY_LOCAL",
-          "OUT_OF_MEMORY", "INITIATOR", "BUFFER_TOO_SHORT", "NULL_POINTER"]
+          "OUT_OF_MEMORY", "INITIATOR", "BUFFER_TOO_SHORT", "NULL_POINTER", "UNREADABLE", "BAD_BYTE",
+          "TOO_MANY_WORDS", "UNKNOWN_TOOL", "USAGE", "EXCLUSIVE", "NUMBER"]
 STATUSES = {0x00: "GOOD", 0x02: "CHECK CONDITION", 0x18: "RESERVATION CONFLICT"}
 
 
@@ -27,6 +29,12 @@ class Reply(ctypes.Structure):
                 ("links", ctypes.c_uint64)]
 
 
+class Command(ctypes.Structure):
+    """mdl_command."""
+    _fields_ = [("cdb", ctypes.c_uint8 * 16), ("cdb_length", ctypes.c_uint8),
+                ("kind", ctypes.c_uint32), ("data_out_length", ctypes.c_size_t)]
+
+
 def load():
     beside = Path(__file__).resolve().parents[2] / "build" / "libmehdalung.so"
     library = ctypes.CDLL(os.environ.get("MEHDALUNG_LIBRARY", str(beside)))
@@ -37,6 +45,8 @@ def load():
     library.mdl_execute.argtypes = [slot, ctypes.c_uint32, ctypes.c_char_p, ctypes.c_size_t,
                                     ctypes.c_char_p, ctypes.c_size_t, ctypes.c_void_p,
                                     ctypes.c_size_t, ctypes.POINTER(Reply)]
+    library.mdl_tool.argtypes = [ctypes.c_char_p, ctypes.c_void_p, ctypes.c_size_t,
+                                 ctypes.POINTER(Command)]
     library.mdl_power_cycle.argtypes = [slot]
     library.mdl_exit_status.argtypes = [ctypes.POINTER(Reply)]
     return library
@@ -64,6 +74,14 @@ class Disk:
         return (reply.status, bytes(reply.sense[:reply.sense_length]),
                 bytes(self.data_in[:reply.data_in_length]))
 
+    def tool(self, initiator, words):
+        """Executes what the words of a tool ask for, as "sg_vpd -p lbpv"."""
+        command = Command()
+        data_out = (ctypes.c_uint8 * DATA_OUT_LENGTH)()
+        self._check(self.library.mdl_tool(words.encode(), data_out, DATA_OUT_LENGTH, command))
+        return self.execute(initiator, bytes(command.cdb[:command.cdb_length]),
+                            bytes(data_out[:command.data_out_length]))
+
     def exit_status(self):
         """That of the last reply."""
         return self.library.mdl_exit_status(self.reply)
@@ -81,21 +99,22 @@ class Disk:
         self.close()
 
 
+REQUEST_SENSE = bytes.fromhex("030000000000")
 MINUTE = [
-    (0, "030000000000", b""),
-    (0, "1201b200fc00", b""),
-    (0, "2a000000000000000400", b"\xab" * 2048),
-    (0, "42000000000000001800", bytes.fromhex("0016001000000000" "0000000000000001" "0000000200000000")),
-    (0, "9e12" + "00" * 11 + "480000", b""),
-    (0, "5f000000000000001800", bytes(15) + b"\xa1" + bytes(8)),
-    (0, "5f010100000000001800", bytes(7) + b"\xa1" + bytes(16)),
-    (1, "030000000000", b""),
-    (1, "2a000000000000000100", bytes(512)),
+    lambda disk: disk.execute(0, REQUEST_SENSE),
+    lambda disk: disk.tool(0, "sg_vpd -p lbpv"),
+    lambda disk: disk.execute(0, bytes.fromhex("2a000000000000000400"), b"\xab" * 2048),
+    lambda disk: disk.tool(0, "sg_unmap -l 1 -n 2"),
+    lambda disk: disk.tool(0, "sg_get_lba_status -b -m 72"),
+    lambda disk: disk.tool(0, "sg_persist -G -S a1"),
+    lambda disk: disk.tool(0, "sg_persist -R -K a1 -T 1"),
+    lambda disk: disk.execute(1, REQUEST_SENSE),
+    lambda disk: disk.execute(1, bytes.fromhex("2a000000000000000100"), bytes(512)),
 ]
 
 if __name__ == "__main__":
     with Disk() as disk:
-        for line, (initiator, cdb, data_out) in enumerate(MINUTE, 1):
-            status, _sense, _data_in = disk.execute(initiator, bytes.fromhex(cdb), data_out)
+        for line, request in enumerate(MINUTE, 1):
+            status, _sense, _data_in = request(disk)
             print(f"line {line}: {STATUSES[status]}")
         sys.exit(disk.exit_status())

@@ -9,11 +9,10 @@ ghost use Rattle.sg_run.specs.Request.{is_allowed, tool_line};
 ghost use Rattle.sg_run.specs.RequestLines.{line_request};
 ghost use Rattle.sg_run.specs.Words.{tool_words, words};
 
-use super::word_text::word_text;
+use super::tool_words::{first_tool, parse_words};
 use super::words::Words;
 use super::{LineFault, Request, ToolLine, WORD_LIMIT};
-use arrayvec::ArrayVec;
-use sg_tools::{Tool, ToolFault, ToolName};
+use sg_tools::{Tool, ToolFault};
 use sg_wire::Initiator;
 use std::alloc::Global;
 
@@ -30,10 +29,7 @@ pub(super) fn read_tool_line<'a>(
     requires ascii { All (λ word. IsAscii word.now) operands.now }
     ensures { line_request result ≡ tool_line initiator (tool_words text.now) }
 {
-    let [name, ..] = operands else {
-        return Request::Faulty(LineFault::UnknownTool);
-    };
-    match ToolName::of_word(word_text(name)) {
+    match first_tool(operands) {
         Some(name) => Request::Tool(ToolLine {
             initiator,
             name,
@@ -54,10 +50,6 @@ impl ToolLine<'_> {
     {
         let mut words: Words<'_, WORD_LIMIT> = Words::new();
         words.split(self.text);
-        let mut texts: ArrayVec<&str, WORD_LIMIT> = ArrayVec::new();
-        for word in &words.as_slice()[1..] {
-            texts.push(word_text(word));
-        }
-        Tool::parse(alloc, self.name, texts.as_slice())
+        parse_words(alloc, self.name, &words.as_slice()[1..])
     }
 }

@@ -3,6 +3,7 @@
 use std::ffi::{c_char, c_int, c_uint};
 
 pub const BUFFER_LENGTH: usize = 131_072;
+pub const DATA_OUT_LENGTH: usize = 1_032;
 
 #[repr(C)]
 pub struct mdl_disk {
@@ -30,6 +31,15 @@ pub struct mdl_reply {
     pub links: u64,
 }
 
+#[repr(C)]
+#[derive(Clone, Copy, Default)]
+pub struct mdl_command {
+    pub cdb: [u8; 16],
+    pub cdb_length: u8,
+    pub kind: c_uint,
+    pub data_out_length: usize,
+}
+
 extern "C" {
     pub fn mdl_make(disk: *mut mdl_disk, blocks: u64, pool: u32, identity: *const mdl_identity) -> c_uint;
     pub fn mdl_free(disk: *mut mdl_disk);
@@ -43,6 +53,12 @@ extern "C" {
         data_in: *mut u8,
         data_in_length: usize,
         reply: *mut mdl_reply,
+    ) -> c_uint;
+    pub fn mdl_tool(
+        words: *const c_char,
+        data_out: *mut u8,
+        data_out_length: usize,
+        command: *mut mdl_command,
     ) -> c_uint;
     pub fn mdl_power_cycle(disk: *mut mdl_disk) -> c_uint;
     pub fn mdl_exit_status(reply: *const mdl_reply) -> c_int;

@@ -1,35 +1,30 @@
 //! The first minute of README, from Rust: each line's status is printed as sgrun prints it.
-use mehdalung::{Disk, Error};
+use mehdalung::{Disk, Error, Reply};
 use std::process::ExitCode;
 
+/// Prints the status of a line, and returns its exit status.
+fn print(line: u32, reply: Reply) -> u8 {
+    let name = match reply.status() {
+        0x00 => "GOOD",
+        0x02 => "CHECK CONDITION",
+        _ => "RESERVATION CONFLICT",
+    };
+    println!("line {line}: {name}");
+    reply.exit_status()
+}
+
 fn main() -> Result<ExitCode, Error> {
-    let mut extent = [0; 24];
-    (extent[1], extent[3], extent[15], extent[19]) = (22, 16, 1, 2);
-    let (mut new_key, mut key) = ([0; 24], [0; 24]);
-    (new_key[15], key[7]) = (0xA1, 0xA1);
-    let lba_status = [0x9E, 0x12, 0, 0, 0, 0, 0, 0, 0, 0, 0, 0, 0, 72, 0, 0];
-    let minute: [(u32, &[u8], &[u8]); 9] = [
-        (0, &[0x03, 0, 0, 0, 0, 0], &[]),
-        (0, &[0x12, 1, 0xB2, 0, 252, 0], &[]),
-        (0, &[0x2A, 0, 0, 0, 0, 0, 0, 0, 4, 0], &[0xAB; 2048]),
-        (0, &[0x42, 0, 0, 0, 0, 0, 0, 0, 24, 0], &extent),
-        (0, &lba_status, &[]),
-        (0, &[0x5F, 0, 0, 0, 0, 0, 0, 0, 24, 0], &new_key),
-        (0, &[0x5F, 1, 1, 0, 0, 0, 0, 0, 24, 0], &key),
-        (1, &[0x03, 0, 0, 0, 0, 0], &[]),
-        (1, &[0x2A, 0, 0, 0, 0, 0, 0, 0, 1, 0], &[0; 512]),
-    ];
+    let request_sense = [0x03, 0, 0, 0, 0, 0];
+    let write = |count| [0x2A, 0, 0, 0, 0, 0, 0, 0, count, 0];
     let mut disk = Disk::new(4096, 4, None)?;
-    let mut status = 0;
-    for (line, (initiator, cdb, data_out)) in minute.iter().enumerate() {
-        let reply = disk.execute(*initiator, cdb, data_out)?;
-        let name = match reply.status() {
-            0x00 => "GOOD",
-            0x02 => "CHECK CONDITION",
-            _ => "RESERVATION CONFLICT",
-        };
-        println!("line {}: {name}", line + 1);
-        status = reply.exit_status();
-    }
+    print(1, disk.execute(0, &request_sense, &[])?);
+    print(2, disk.tool(0, "sg_vpd -p lbpv")?);
+    print(3, disk.execute(0, &write(4), &[0xAB; 2048])?);
+    print(4, disk.tool(0, "sg_unmap -l 1 -n 2")?);
+    print(5, disk.tool(0, "sg_get_lba_status -b -m 72")?);
+    print(6, disk.tool(0, "sg_persist -G -S a1")?);
+    print(7, disk.tool(0, "sg_persist -R -K a1 -T 1")?);
+    print(8, disk.execute(1, &request_sense, &[])?);
+    let status = print(9, disk.execute(1, &write(1), &[0; 512])?);
     Ok(ExitCode::from(status))
 }

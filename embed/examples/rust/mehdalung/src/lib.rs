@@ -1,6 +1,6 @@
 //! A SCSI disk in memory, by the C library Mehdalung. A disk is neither `Send` nor `Sync`.
 use mehdalung_sys as sys;
-use std::{fmt, ptr};
+use std::{ffi::CString, fmt, ptr};
 
 pub use sys::mdl_identity as Identity;
 
@@ -13,6 +13,12 @@ pub enum Error {
     IdentityLocal,
     OutOfMemory,
     Initiator,
+    BadByte,
+    TooManyWords,
+    UnknownTool,
+    Usage,
+    Exclusive,
+    Number,
     /// An error that these calls can't have.
     Other(u32),
 }
@@ -34,6 +40,12 @@ fn check(error: u32) -> Result<(), Error> {
         6 => Error::IdentityLocal,
         7 => Error::OutOfMemory,
         8 => Error::Initiator,
+        12 => Error::BadByte,
+        13 => Error::TooManyWords,
+        14 => Error::UnknownTool,
+        15 => Error::Usage,
+        16 => Error::Exclusive,
+        17 => Error::Number,
         other => Error::Other(other),
     })
 }
@@ -85,6 +97,19 @@ impl Disk {
                              data_out.len(), buffer, length, &mut record)
         })?;
         Ok(Reply { record, data_in: &self.data_in[..record.data_in_length] })
+    }
+
+    /// Executes what the words of a tool ask for, as "sg_vpd -p lbpv".
+    pub fn tool(&mut self, initiator: u32, words: &str) -> Result<Reply<'_>, Error> {
+        let words = CString::new(words).map_err(|_| Error::BadByte)?;
+        let mut data_out = [0; sys::DATA_OUT_LENGTH];
+        let mut command = sys::mdl_command::default();
+        // SAFETY: the words end with a zero, the buffer has its length, and none overlap.
+        check(unsafe {
+            sys::mdl_tool(words.as_ptr(), data_out.as_mut_ptr(), data_out.len(), &mut command)
+        })?;
+        let cdb = &command.cdb[..usize::from(command.cdb_length)];
+        self.execute(initiator, cdb, &data_out[..command.data_out_length])
     }
 
     pub fn power_cycle(&mut self) -> Result<(), Error> {

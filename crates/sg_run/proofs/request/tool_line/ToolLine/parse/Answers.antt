@@ -1,29 +1,25 @@
-use Rattle.std.proofs.Common.{ap, map, subst, arith, ◌∙◌}
+use Rattle.std.proofs.Common.{ap, map, subst, ◌∙◌}
+use Rattle.std.specs.Str.{IsAscii}
 use Rattle.sg_tools.specs.GivenOptions.{IsUnlessOutOfMemory}
 use Rattle.sg_tools.specs.Requests.{request}
-use Rattle.sg_run.proofs.ToolLineLemmas.{all-texts, texts-fit, word-ascii}
+use Rattle.sg_run.proofs.ToolWordLemmas.{all-others, others-fit}
+use Rattle.sg_run.proofs.WordLemmas.{kept-has, words-ascii}
 use Rattle.sg_run.proofs.request.tool_line.ToolLine.parse.Goals as goal
 
-pub word_text-requires : goal.word_text-requires
-word_text-requires c =
+pub parse_words-requires-clause-ascii : goal.parse_words-requires-clause-ascii
+parse_words-requires-clause-ascii c =
     let kept = ap (map (λ word. word.now)) c.as_slice.ensures ∙ c.split.ensures.first in
-    word-ascii c.args.self.now.text.now c.as_slice.result.now c.loop-word.word-index _ kept
-    c.args.self.now.allowed c.loop-word-test.true
+    kept-has IsAscii c.args.self.now.text.now 64 _ _ kept
+    (words-ascii c.args.self.now.text.now c.args.self.now.allowed)
 
-pub push-requires : goal.push-requires
-push-requires c =
-    let kept = ap (map (λ word. word.now)) c.as_slice.ensures ∙ c.split.ensures.first in (
-      omega arith,
-      texts-fit c.args.self.now.text.now c.as_slice.result.now c.loop-word.texts.items
-          c.loop-word.word-index kept c.loop-word.invariant c.loop-word-test.true,
-    )
+pub parse_words-requires-clause-at_most_64 : goal.parse_words-requires-clause-at_most_64
+parse_words-requires-clause-at_most_64 c =
+    let kept = ap (map (λ word. word.now)) c.as_slice.ensures ∙ c.split.ensures.first in
+    others-fit c.args.self.now.text.now _ kept
 
 pub returns : goal.returns
 returns c =
     let kept = ap (map (λ word. word.now)) c.as_slice.ensures ∙ c.split.ensures.first in
-    let texts = ap (map (λ text. text.now)) c.as_slice-2.ensures.value
-    ∙ all-texts c.args.self.now.text.now c.as_slice.result.now c.loop-word.texts.items
-    c.loop-word.word-index kept c.args.self.now.at_most_64 c.loop-word.invariant
-    (omega (arith, c.loop-word-test.false)) in
-    subst (λ words. IsUnlessOutOfMemory (request c.args.self.now.name words) c.parse.result)
-    texts c.parse.ensures
+    let all = all-others c.args.self.now.text.now _ kept c.args.self.now.at_most_64 in
+    subst (λ words. IsUnlessOutOfMemory (request c.args.self.now.name words) c.parse_words.result)
+    all c.parse_words.ensures

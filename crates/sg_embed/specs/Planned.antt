@@ -1,0 +1,35 @@
+-- What is planned for the words of a tool.
+use Rattle.std.specs.Prelude.{◌≡◌, ℕ, List, Some, Ok, length, replicate}
+use Rattle.sg_wire.specs.CutAnswer.{overwritten}
+use Rattle.sg_wire.specs.Layout.{cdb_of}
+use Rattle.sg_wire.specs.declared.bytes.TheConstants.{MAX_CDB_LENGTH}
+use Rattle.sg_tools.specs.ParameterLists.{parameter_list}
+use Rattle.sg_tools.specs.declared.tool.Plan.{Plan}
+use Rattle.sg_tools.specs.declared.tool.Tool.{Tool}
+use Rattle.sg_run.specs.ToolText.{tool_of_text}
+use Rattle.sg_embed.specs.Kinds.{kind_numbered}
+use Rattle.sg_embed.specs.declared.command.CommandRecord.{CommandRecord}
+
+-- A CDB with zeros behind it.
+abbrev pub padded : List ℕ → List ℕ
+padded cdb = overwritten cdb (replicate MAX_CDB_LENGTH 0)
+
+-- The words of a text ask a tool for a command, which a record and the buffer for data-out have. The
+-- bytes after data-out are as they were.
+pub record IsPlanned (text before after : List ℕ) (shown : CommandRecord) : Type 0 where
+  pub tool : Tool
+  pub asked : tool_of_text text ≡ Ok tool
+  pub cdb : shown.cdb ≡ padded (cdb_of tool.command)
+  pub cdb_length : shown.cdb_length ≡ length (cdb_of tool.command)
+  pub kind : kind_numbered shown.kind ≡ Some tool.show
+  pub data_out_length : shown.data_out_length ≡ length (parameter_list tool.parameters)
+  pub data_out : after ≡ overwritten (parameter_list tool.parameters) before
+
+-- ---- Cited by private contracts alone
+
+-- A record shows the bytes that a tool sends.
+pub record ShowsPlan (shown : CommandRecord) (plan : Plan) : Type 0 where
+  pub cdb : shown.cdb ≡ padded plan.cdb
+  pub cdb_length : shown.cdb_length ≡ length plan.cdb
+  pub kind : kind_numbered shown.kind ≡ Some plan.show
+  pub data_out_length : shown.data_out_length ≡ plan.data_out

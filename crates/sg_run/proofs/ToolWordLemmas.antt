@@ -1,0 +1,101 @@
+-- The words of a tool.
+use Rattle.std.proofs.Common.{◌≡◌, ◌≤◌, ◌<◌, ◌⊎◌, ℕ, ◌-◌, List, [], ◌∷◌, length, map, take, drop}
+use Rattle.std.proofs.Common.{Bor, Option, Some, Result, Ok, Err, true, refl, sym, ap, ◌∙◌, arith}
+use Rattle.std.proofs.Common.{inl, inr}
+use Rattle.std.specs.List.{list_all}
+use Rattle.std.proofs.lemmas.List.{length-drop, length-map, length-take, take_all}
+use Rattle.std.specs.List.{drop-map}
+use Rattle.sg_tools.specs.GivenOptions.{IsUnlessOutOfMemory}
+use Rattle.sg_tools.specs.Requests.{request, Request as ToolRequest}
+use Rattle.sg_tools.specs.declared.tool.Tool.{Tool}
+use Rattle.sg_tools.specs.declared.tool_fault.ToolFault.TheVariants as tool_fault
+use Rattle.sg_tools.specs.declared.tool_name.ToolName.{ToolName}
+use Rattle.sg_run.specs.Limits.{word_limit}
+use Rattle.sg_run.specs.Request.{first_tool, is_allowed, named_tool, tool_line}
+use Rattle.sg_run.specs.ToolText.{asked_of, in_text, tool_of_text}
+use Rattle.sg_run.specs.Words.{tool_words, words}
+use Rattle.sg_run.specs.declared.request.text_fault.TextFault.{TextFault}
+use Rattle.sg_run.specs.declared.request.text_fault.TextFault.TheVariants.{Refused}
+use Rattle.sg_run.proofs.RequestLemmas.{few-words}
+
+-- ---- the first of them is the name of the tool
+
+first-take : (tool : List (List ℕ)) → first_tool (take 5 tool) ≡ first_tool tool
+first-take [] = refl
+first-take (word ∷ words) = refl
+
+-- of those that are kept
+pub name_of : (initiator : ℕ) (name : Option ToolName) (kept tool : List (List ℕ))
+    → name ≡ first_tool kept → kept ≡ take 5 tool
+    → named_tool initiator name tool ≡ tool_line initiator tool
+name_of initiator name kept tool is same =
+    ap (λ n. named_tool initiator n tool) (is ∙ (ap first_tool same ∙ first-take tool))
+
+-- ---- all of them, as texts
+
+-- the words after the first of those that are kept
+abbrev pub others : List (Bor (List ℕ)) → List (Bor (List ℕ))
+others kept = take (length kept - 1) (drop 1 kept)
+
+pub kept-fit : (text : List ℕ) (kept : List (Bor (List ℕ)))
+    → map (λ word. word.now) kept ≡ take 64 (words text) → length kept ≤ word_limit
+kept-fit text kept same =
+    let now : Bor (List ℕ) → List ℕ = λ word. word.now in
+    omega (arith, ap length same, length-map kept now, length-take 64 (words text))
+
+pub others-fit : (text : List ℕ) (kept : List (Bor (List ℕ)))
+    → map (λ word. word.now) kept ≡ take 64 (words text) → length (others kept) ≤ word_limit
+others-fit text kept same =
+    omega (
+      arith,
+      kept-fit text kept same,
+      length-take (length kept - 1) (drop 1 kept),
+      length-drop 1 kept,
+    )
+
+pub texts-fit : (kept texts : List (Bor (List ℕ))) (k : ℕ)
+    → map (λ t. t.now) texts ≡ map (λ word. word.now) (take k kept)
+    → length kept ≤ word_limit → k < length kept → length texts < 64
+texts-fit kept texts k so_far few within =
+    let now : Bor (List ℕ) → List ℕ = λ word. word.now in
+    omega (
+      arith,
+      ap length so_far,
+      length-map texts now,
+      length-map (take k kept) now,
+      length-take k kept,
+    )
+
+pub all-others : (text : List ℕ) (kept : List (Bor (List ℕ)))
+    → map (λ word. word.now) kept ≡ take 64 (words text) → length (words text) ≤ word_limit
+    → map (λ word. word.now) (others kept) ≡ tool_words text
+all-others text kept same few =
+    let now : Bor (List ℕ) → List ℕ = λ word. word.now in
+    let rest : List (Bor (List ℕ)) = drop 1 kept in
+    ap (map now) (take_all (length kept - 1) rest (omega (arith, length-drop 1 kept)))
+    ∙ (sym (drop-map now 1 kept)
+    ∙ ap (drop 1) (same ∙ take_all 64 (words text) few))
+
+-- ---- what they ask for, in a text
+
+pub asked-in_text : (text : List ℕ) (kept : List (List ℕ)) (name : ToolName)
+    → list_all is_allowed text ≡ true → length (words text) ≤ word_limit → kept ≡ words text
+    → first_tool kept ≡ Some name → tool_of_text text ≡ in_text (request name kept)
+unfolding tool_of_text
+asked-in_text text kept name allowed few same named =
+    rw (allowed, few-words (length (words text)) few)
+    (ap (λ n. asked_of n (words text)) (ap first_tool (sym same) ∙ named)
+    ∙ ap (λ ws. in_text (request name ws)) (sym same))
+
+-- or memory was refused
+pub read-in_text : (result wanted : Result Tool TextFault) (expected parsed : ToolRequest)
+    → result ≡ in_text parsed → IsUnlessOutOfMemory expected parsed → wanted ≡ in_text expected
+    → (result ≡ wanted) ⊎ (result ≡ Err (Refused tool_fault.OutOfMemory))
+read-in_text result wanted expected (Ok tool) r is w = inl (r ∙ (ap in_text (sym is) ∙ sym w))
+read-in_text result wanted expected (Err tool_fault.OutOfMemory) r is w = inr r
+read-in_text result wanted expected (Err tool_fault.Usage) r is w =
+    inl (r ∙ (ap in_text (sym is) ∙ sym w))
+read-in_text result wanted expected (Err tool_fault.Number) r is w =
+    inl (r ∙ (ap in_text (sym is) ∙ sym w))
+read-in_text result wanted expected (Err tool_fault.Exclusive) r is w =
+    inl (r ∙ (ap in_text (sym is) ∙ sym w))

@@ -1,0 +1,20 @@
+// Why a text asks a tool for nothing.
+use sg_tools::ToolFault;
+use thiserror::Error;
+
+/// Why a text asks a tool for nothing. The first that applies is returned.
+#[derive(Clone, Copy, Debug, Error, PartialEq, Eq)]
+pub enum TextFault {
+    /// A byte is neither printable ASCII nor a tab.
+    #[error("a byte is neither printable ASCII nor a tab")]
+    BadByte,
+    /// There are more than 64 words.
+    #[error("there are more than 64 words")]
+    TooManyWords,
+    /// The first word is not the name of a tool.
+    #[error("the first word is not the name of a tool")]
+    UnknownTool,
+    /// The tool refuses its words, or memory was refused.
+    #[error(transparent)]
+    Refused(ToolFault),
+}

@@ -1,0 +1,50 @@
+// The text of a tool.
+ghost use Rattle.std.specs.Prelude.{◌≡◌, ◌⊎◌, Err};
+ghost use Rattle.sg_run.specs.ToolText.{in_text, tool_of_text};
+
+use super::tool_words::{first_tool, parse_words};
+use super::words::Words;
+use super::{TextFault, WORD_LIMIT};
+use sg_tools::{Tool, ToolFault};
+use std::alloc::Global;
+
+/// What the words of a text ask a tool for: those of a script's line without its initiator. The first
+/// word is the tool's name. A text may have any length.
+///
+/// # Errors
+/// The first of these that applies:
+/// - `BadByte` where a byte is neither printable ASCII nor a tab,
+/// - `TooManyWords` where there are more than 64 words,
+/// - `UnknownTool` where there is no word, or the first is not the name of a tool,
+/// - the fault of [`Tool::parse`].
+///
+/// `OutOfMemory` comes in place of what the tool's words ask for, where memory is refused.
+#[tactic(auto, unfolding(crate::specs::ToolText::tool_of_text))]
+pub fn read_tool(alloc: Global, text: &[u8]) -> Result<Tool, TextFault>
+    ensures { (result ≡ tool_of_text text.now)
+        ⊎ (result ≡ Err (TextFault.Refused ToolFault.OutOfMemory)) }
+{
+    let mut words: Words<'_, WORD_LIMIT> = Words::new();
+    words.split(text);
+    if !words.are_allowed {
+        return Err(TextFault::BadByte);
+    }
+    if words.count > WORD_LIMIT {
+        return Err(TextFault::TooManyWords);
+    }
+    let words = words.as_slice();
+    match first_tool(words) {
+        Some(name) => in_text(parse_words(alloc, name, words)),
+        None => Err(TextFault::UnknownTool),
+    }
+}
+
+// With a tool's fault as one of its text.
+fn in_text(request: Result<Tool, ToolFault>) -> Result<Tool, TextFault>
+    ensures { result ≡ in_text request }
+{
+    match request {
+        Ok(tool) => Ok(tool),
+        Err(fault) => Err(TextFault::Refused(fault)),
+    }
+}
