@@ -5,12 +5,8 @@
 #[cfg(test)]
 mod attentions;
 #[cfg(test)]
-mod blocks;
+mod identity;
 #[cfg(test)]
-mod mode_pages;
-#[cfg(test)]
-mod pages;
-#[cfg(test)]
-mod reservations;
+mod stores;
 #[cfg(test)]
 mod target;

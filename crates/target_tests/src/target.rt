@@ -1,6 +1,7 @@
-// Commands to a target and its replies: what scripts do not show, as raw sense data, counts and
-// sinks.
+// Commands to a target and its replies: what scripts do not show, as raw sense data, counts, sinks
+// and the bytes behind data-in.
 mod configuration;
+mod data_in;
 mod log;
 mod runs;
 
@@ -11,12 +12,10 @@ use sg_wire::Initiator;
 use std::alloc::Global;
 use std::test::Fail;
 
-type Disk = Target<PlainMap>;
-
 const READY: &[u8] = &[0x00, 0, 0, 0, 0, 0];
 
 // How a command ends.
-#[derive(Clone, Copy, Debug)]
+#[derive(Clone, Copy)]
 enum Ending {
     Good,
     PowerOn,
@@ -59,29 +58,33 @@ fn out_of_range([a, b, c, d]: [u8; 4]) -> [u8; 18] {
     ]
 }
 
-// A disk of `blocks` blocks and a pool of 4.
-fn new_disk(alloc: Global, blocks: u64) -> Result<Disk, Fail> {
-    let config = Config::new(blocks, 4, Identity::standard()).or(Err("no configuration"))?;
-    Ok(Target::new(alloc, config)?)
+// A disk of 4,096 blocks with a pool of 4, and the buffer of its data-in.
+#[derive(Drop)]
+struct Disk {
+    target: Target<PlainMap>,
+    buf: [u8; BUFFER_LENGTH],
 }
 
-// The same, after the unit attention of initiator 0 was reported.
-fn ready_disk(alloc: Global, blocks: u64) -> Result<Disk, Fail> {
-    let mut disk = new_disk(alloc, blocks)?;
-    execute(alloc, &mut disk, 0, READY, &[])?;
-    Ok(disk)
-}
+impl Disk {
+    fn new(alloc: Global) -> Result<Disk, Fail> {
+        let config = Config::new(4_096, 4, Identity::standard()).or(Err("no configuration"))?;
+        Ok(Disk {
+            target: Target::new(alloc, config)?,
+            buf: [0xA5; BUFFER_LENGTH],
+        })
+    }
 
-// Executes a command by the initiator of a number, with a buffer of A5h in each byte.
-fn execute(
-    alloc: Global,
-    disk: &mut Disk,
-    number: u8,
-    cdb: &[u8],
-    data_out: &[u8],
-) -> Result<(Reply, Vec<u8>), Fail> {
-    let initiator = Initiator::new(number).ok_or("no initiator")?;
-    let mut buf = vec![in alloc; 0xA5; BUFFER_LENGTH]?;
-    let reply = disk.execute(initiator, cdb, data_out, &mut buf);
-    Ok((reply, buf))
+    // The same, after the unit attention of initiator 0 was reported.
+    fn ready(alloc: Global) -> Result<Disk, Fail> {
+        let mut disk = Disk::new(alloc)?;
+        disk.execute(0, READY, &[])?;
+        Ok(disk)
+    }
+
+    // Executes a command by the initiator of a number, with A5h in each byte of the buffer.
+    fn execute(&mut self, number: u8, cdb: &[u8], data_out: &[u8]) -> Result<Reply, Fail> {
+        let initiator = Initiator::new(number).ok_or("no initiator")?;
+        self.buf.fill(0xA5);
+        Ok(self.target.execute(initiator, cdb, data_out, &mut self.buf))
+    }
 }

@@ -154,11 +154,24 @@ const CDBS: [(&[u8], Command); 20] = [
     ),
 ];
 
+// For a message: Debug of all bytes takes long to prove.
+fn operation_code(cdb: &[u8]) -> u8 {
+    match cdb {
+        [code, ..] => *code,
+        [] => 0,
+    }
+}
+
+// Whether a CDB is read as a command, which is written as the CDB.
+fn is_read_and_written(cdb: &[u8], command: Command) -> bool {
+    Command::read(cdb) == Ok(command) && command.write().as_slice() == cdb
+}
+
 #[test]
 fn commands_are_read_and_written(rt: HostRuntime) {
-    for (cdb, command) in CDBS {
-        assert_eq!(rt; Command::read(cdb), Ok(command));
-        assert_eq!(rt; command.write().as_slice(), cdb);
+    for (cdb, command) in &CDBS {
+        let code = operation_code(cdb);
+        assert!(rt; is_read_and_written(cdb, *command), "operation code {code}");
     }
 }
 
@@ -172,18 +185,14 @@ const SHORT: [(&[u8; 6], u32, u16); 4] = [
 
 #[test]
 fn six_bytes_name_1_to_256_blocks(rt: HostRuntime) -> Result<(), Fail> {
-    for (cdb, lba, count) in SHORT {
-        let extent = ShortExtent::new(lba, count).ok_or("no extent")?;
-        assert_eq!(rt; (extent.lba(), extent.count()), (lba, count));
-        assert_eq!(rt; Command::read(cdb), Ok(Command::Read6(extent)));
-        assert_eq!(rt; Command::Read6(extent).write().as_slice(), cdb.as_slice());
-        let mut write = *cdb;
+    for (cdb, lba, count) in &SHORT {
+        let extent = ShortExtent::new(*lba, *count).ok_or("no extent")?;
+        let is_same = extent.lba() == *lba && extent.count() == *count;
+        let mut write = **cdb;
         write[0] = 0x0A;
-        assert_eq!(rt; Command::read(&write), Ok(Command::Write6(extent)));
-        assert_eq!(rt;
-            Command::Write6(extent).write().as_slice(),
-            write.as_slice()
-        );
+        let is_read = is_read_and_written(*cdb, Command::Read6(extent));
+        let is_written = is_read_and_written(&write, Command::Write6(extent));
+        assert!(rt; is_same && is_read && is_written, "{count} blocks at {lba}");
     }
     Ok(())
 }
@@ -214,8 +223,10 @@ const COLUMNS: [(&[u8], Option<Class>, bool); 20] = [
 
 #[test]
 fn the_operation_code_decides(rt: HostRuntime) {
-    for (cdb, class, blocked) in COLUMNS {
-        assert_eq!(rt; Command::class_of(cdb), class);
-        assert_eq!(rt; Command::is_blocked_by_attention(cdb), blocked);
+    for (cdb, class, blocked) in &COLUMNS {
+        let has_class = Command::class_of(cdb) == *class;
+        let is_blocked = Command::is_blocked_by_attention(cdb) == *blocked;
+        let code = operation_code(cdb);
+        assert!(rt; has_class && is_blocked, "operation code {code}");
     }
 }

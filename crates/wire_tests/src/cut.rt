@@ -14,15 +14,15 @@ const ANSWERS: [(usize, [u8; 7]); 8] = [
 
 #[test]
 fn an_answer_is_cut(rt: HostRuntime) {
-    for (limit, answer) in ANSWERS {
+    for (limit, answer) in &ANSWERS {
         let mut buf = [9; 7];
-        assert!(rt; limit <= buf.len());
+        let limit = buf.len().min(*limit);
         let mut cut = Cut::new(&mut buf, limit);
         cut.put(&[1, 2, 3]);
         cut.put(&[]);
         cut.put(&[4, 5]);
-        assert_eq!(rt; cut.written(), limit.min(5));
-        assert_eq!(rt; buf, answer);
+        let is_cut = cut.written() == limit.min(5);
+        assert!(rt; is_cut && buf == *answer, "at {limit}");
     }
 }
 
@@ -32,12 +32,12 @@ fn written_bytes_are_replaced(rt: HostRuntime) {
     let mut buf = [9; 7];
     let mut cut = Cut::new(&mut buf, 6);
     cut.put(&[0, 0, 0, 0, 0]);
-    assert_eq!(rt; cut.written(), 5);
+    assert!(rt; cut.written() == 5);
     cut.replace(2, &[0xAA, 0xBB, 0xCC, 0xDD]);
-    assert_eq!(rt; cut.written(), 5);
+    assert!(rt; cut.written() == 5);
     cut.put(&[0x11, 0x22]);
-    assert_eq!(rt; cut.written(), 6);
+    assert!(rt; cut.written() == 6);
     cut.replace(6, &[0xEE]);
-    assert_eq!(rt; cut.written(), 6);
-    assert_eq!(rt; buf, [0, 0, 0xAA, 0xBB, 0xCC, 0x11, 9]);
+    assert!(rt; cut.written() == 6);
+    assert!(rt; buf == [0, 0, 0xAA, 0xBB, 0xCC, 0x11, 9]);
 }

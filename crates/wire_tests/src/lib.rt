@@ -1,5 +1,6 @@
-//! Tests of public calls of `sg_wire`: what no contract says, and that the definitions are the
-//! standard's. They stand here, since a crate that has tests is proved twice.
+//! Tests of public calls of `sg_wire`, and of `sg_decode` and `sg_tools`, which stand on it alone:
+//! what no contract says, and that the definitions are the standard's. They stand here, since a crate
+//! that has tests is proved twice.
 #![tactic(auto)]
 
 #[cfg(test)]
@@ -7,9 +8,15 @@ mod command;
 #[cfg(test)]
 mod cut;
 #[cfg(test)]
+mod next_start;
+#[cfg(test)]
+mod print;
+#[cfg(test)]
 mod printer;
 #[cfg(test)]
 mod sense;
+#[cfg(test)]
+mod tools;
 #[cfg(test)]
 mod unmap_list;
 #[cfg(test)]

@@ -37,7 +37,10 @@ fn prints_through_short_writes(rt: HostRuntime) -> Result<(), Fail> {
             let mut out = Printer::new(&mut writer, &mut buffer[..room]);
             print_pieces(&mut out);
             out.finish()?;
-            assert_eq!(rt; fake.bytes.as_slice(), TEXT);
+            assert!(rt;
+                fake.bytes.as_slice() == TEXT,
+                "{room} bytes, {most} a call"
+            );
         }
     }
     Ok(())
@@ -45,8 +48,8 @@ fn prints_through_short_writes(rt: HostRuntime) -> Result<(), Fail> {
 
 #[test]
 fn writes_nothing_after_a_failure(rt: HostRuntime) -> Result<(), Fail> {
-    for (room, writes) in WRITES {
-        for faulty_call in 0..writes {
+    for (room, writes) in &WRITES {
+        for faulty_call in 0..*writes {
             let mut fake = FakeWriter::with_fault(
                 rt.alloc(),
                 usize::MAX,
@@ -55,14 +58,17 @@ fn writes_nothing_after_a_failure(rt: HostRuntime) -> Result<(), Fail> {
             );
             let mut writer = Watched::new(&mut fake);
             let mut buffer = [0xff; 15];
+            let room = buffer.len().min(*room);
             let mut out = Printer::new(&mut writer, &mut buffer[..room]);
             print_pieces(&mut out);
-            assert!(rt; out.finish().is_err());
+            let has_failed = out.finish().is_err();
             print_pieces(&mut out);
-            assert!(rt; out.finish().is_err());
-            assert!(rt; writer.failed());
-            assert_eq!(rt; fake.calls, faulty_call + 1);
-            assert!(rt; TEXT.starts_with(&fake.bytes));
+            let is_failed = out.finish().is_err() && writer.failed();
+            let has_ended = fake.calls == faulty_call + 1 && TEXT.starts_with(&fake.bytes);
+            assert!(rt;
+                has_failed && is_failed && has_ended,
+                "at call {faulty_call}"
+            );
         }
     }
     Ok(())

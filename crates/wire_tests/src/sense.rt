@@ -11,226 +11,247 @@ const IN_LIST: Pointer = Pointer {
     byte: 18,
 };
 
-fn illegal_request(asc: u8, information: Option<u64>, pointer: Option<Pointer>) -> Sense {
+// Sense data: the key, the additional sense code and its qualifier, INFORMATION and the pointer.
+type Fields = (u8, u8, u8, Option<u64>, Option<Pointer>);
+
+const ILLEGAL_REQUEST: u8 = Sense::ILLEGAL_REQUEST;
+
+const UNIT_ATTENTION: u8 = Sense::UNIT_ATTENTION;
+
+// Sense data with one of the two keys of the table.
+fn sense_of(fields: Fields) -> Sense {
+    let (key, asc, ascq, information, pointer) = fields;
+    if key == UNIT_ATTENTION {
+        return Sense {
+            key: UNIT_ATTENTION,
+            asc,
+            ascq,
+            information,
+            pointer: None,
+        };
+    }
     Sense {
-        key: Sense::ILLEGAL_REQUEST,
+        key: ILLEGAL_REQUEST,
         asc,
-        ascq: 0x00,
+        ascq,
         information,
         pointer,
     }
 }
 
-fn unit_attention(asc: u8, ascq: u8) -> Sense {
-    Sense {
-        key: Sense::UNIT_ATTENTION,
-        asc,
-        ascq,
-        information: None,
-        pointer: None,
-    }
+fn read(data: &[u8]) -> Option<Fields> {
+    let sense = Sense::read(data)?;
+    let (asc, ascq) = (sense.asc, sense.ascq);
+    Some((sense.key, asc, ascq, sense.information, sense.pointer))
 }
 
-#[test]
-fn fixed_format(rt: HostRuntime) {
-    for (sense, data) in [
-        (
-            illegal_request(0x24, None, Some(IN_COMMAND)),
-            [
-                0x70, 0, 0x05, 0, 0, 0, 0, 0x0A, 0, 0, 0, 0, 0x24, 0x00, 0, 0xC0, 0, 2,
-            ],
-        ),
-        (
-            illegal_request(0x26, None, Some(IN_LIST)),
-            [
-                0x70, 0, 0x05, 0, 0, 0, 0, 0x0A, 0, 0, 0, 0, 0x26, 0x00, 0, 0x80, 0, 18,
-            ],
-        ),
-        (
-            illegal_request(0x21, Some(0x1000), None),
-            [
-                0xF0, 0, 0x05, 0, 0, 0x10, 0, 0x0A, 0, 0, 0, 0, 0x21, 0x00, 0, 0, 0, 0,
-            ],
-        ),
-        (
-            unit_attention(0x29, 0x00),
-            [
-                0x70, 0, 0x06, 0, 0, 0, 0, 0x0A, 0, 0, 0, 0, 0x29, 0x00, 0, 0, 0, 0,
-            ],
-        ),
-    ] {
-        let mut buf = [0xEE; 18];
-        sense.write(Format::Fixed, &mut Cut::new(&mut buf, 18));
-        assert_eq!(rt; buf, data);
-        assert_eq!(rt; Sense::read(&data), Some(sense));
-    }
-}
+// What the disk writes.
+const WRITTEN: [(Fields, Format, &[u8]); 8] = [
+    (
+        (ILLEGAL_REQUEST, 0x24, 0x00, None, Some(IN_COMMAND)),
+        Format::Fixed,
+        &[
+            0x70, 0, 0x05, 0, 0, 0, 0, 0x0A, 0, 0, 0, 0, 0x24, 0x00, 0, 0xC0, 0, 2,
+        ],
+    ),
+    (
+        (ILLEGAL_REQUEST, 0x26, 0x00, None, Some(IN_LIST)),
+        Format::Fixed,
+        &[
+            0x70, 0, 0x05, 0, 0, 0, 0, 0x0A, 0, 0, 0, 0, 0x26, 0x00, 0, 0x80, 0, 18,
+        ],
+    ),
+    (
+        (ILLEGAL_REQUEST, 0x21, 0x00, Some(0x1000), None),
+        Format::Fixed,
+        &[
+            0xF0, 0, 0x05, 0, 0, 0x10, 0, 0x0A, 0, 0, 0, 0, 0x21, 0x00, 0, 0, 0, 0,
+        ],
+    ),
+    (
+        (UNIT_ATTENTION, 0x29, 0x00, None, None),
+        Format::Fixed,
+        &[
+            0x70, 0, 0x06, 0, 0, 0, 0, 0x0A, 0, 0, 0, 0, 0x29, 0x00, 0, 0, 0, 0,
+        ],
+    ),
+    (
+        (UNIT_ATTENTION, 0x2A, 0x01, None, None),
+        Format::Descriptor,
+        &[0x72, 0x06, 0x2A, 0x01, 0, 0, 0, 0],
+    ),
+    (
+        (ILLEGAL_REQUEST, 0x21, 0x00, Some(1 << 33), None),
+        Format::Descriptor,
+        &[
+            0x72, 0x05, 0x21, 0x00, 0, 0, 0, 12, // then INFORMATION
+            0x00, 0x0A, 0x80, 0, 0, 0, 0, 2, 0, 0, 0, 0,
+        ],
+    ),
+    (
+        (ILLEGAL_REQUEST, 0x26, 0x00, None, Some(IN_LIST)),
+        Format::Descriptor,
+        &[
+            0x72, 0x05, 0x26, 0x00, 0, 0, 0, 8, // then the pointer
+            0x02, 0x06, 0, 0, 0x80, 0, 18, 0,
+        ],
+    ),
+    (
+        (ILLEGAL_REQUEST, 0x24, 0x00, Some(5), Some(IN_COMMAND)),
+        Format::Descriptor,
+        &[
+            0x72, 0x05, 0x24, 0x00, 0, 0, 0, 20, // then INFORMATION and the pointer
+            0x00, 0x0A, 0x80, 0, 0, 0, 0, 0, 0, 0, 0, 5, 0x02, 0x06, 0, 0, 0xC0, 0, 2, 0,
+        ],
+    ),
+];
 
 #[test]
-fn descriptor_format(rt: HostRuntime) {
-    let rows: [(Sense, &[u8]); 4] = [
-        (
-            unit_attention(0x2A, 0x01),
-            &[0x72, 0x06, 0x2A, 0x01, 0, 0, 0, 0],
-        ),
-        (
-            illegal_request(0x21, Some(1 << 33), None),
-            &[
-                0x72, 0x05, 0x21, 0x00, 0, 0, 0, 12, // then INFORMATION
-                0x00, 0x0A, 0x80, 0, 0, 0, 0, 2, 0, 0, 0, 0,
-            ],
-        ),
-        (
-            illegal_request(0x26, None, Some(IN_LIST)),
-            &[
-                0x72, 0x05, 0x26, 0x00, 0, 0, 0, 8, // then the pointer
-                0x02, 0x06, 0, 0, 0x80, 0, 18, 0,
-            ],
-        ),
-        (
-            illegal_request(0x24, Some(5), Some(IN_COMMAND)),
-            &[
-                0x72, 0x05, 0x24, 0x00, 0, 0, 0, 20, // then INFORMATION and the pointer
-                0x00, 0x0A, 0x80, 0, 0, 0, 0, 0, 0, 0, 0, 5, 0x02, 0x06, 0, 0, 0xC0, 0, 2, 0,
-            ],
-        ),
-    ];
-    for (sense, data) in rows {
+fn sense_data_is_written_and_read(rt: HostRuntime) {
+    for (fields, format, data) in &WRITTEN {
         let mut buf = [0xEE; 28];
         let mut cut = Cut::new(&mut buf, 28);
-        sense.write(Format::Descriptor, &mut cut);
-        let written = cut.written();
-        assert!(rt; written <= 28);
-        assert_eq!(rt; &buf[..written], data);
-        assert_eq!(rt; Sense::read(data), Some(sense));
+        sense_of(*fields).write(*format, &mut cut);
+        let is_written = cut.written() == data.len() && buf.starts_with(*data);
+        let length = data.len();
+        assert!(rt;
+            is_written && read(data) == Some(*fields),
+            "of {length} bytes"
+        );
     }
 }
 
-// The key, INFORMATION and the field pointer of sense data with additional sense code 11h/04h.
-fn read_other(data: &[u8]) -> Option<(u8, Option<u64>, Option<Pointer>)> {
-    let sense = Sense::read(data)?;
-    if sense.asc == 0x11 && sense.ascq == 0x04 {
-        Some((sense.key, sense.information, sense.pointer))
-    } else {
-        None
-    }
-}
-
-// Sense data in fixed format that the disk does not write.
-#[test]
-fn fixed_format_of_others(rt: HostRuntime) {
-    let medium_error_with_information = [
-        0xF0, 0, 0x03, 0, 0x01, 0xE2, 0x40, 0x0A, 0, 0, 0, 0, 0x11, 0x04, 0, 0, 0, 0,
-    ];
-    assert_eq!(rt;
-        read_other(&medium_error_with_information),
-        Some((3, Some(123_456), None))
-    );
-    let filemark_and_flags_beside_the_key = [
-        0x70, 0, 0xE5, 0, 0, 0, 0, 0x0A, 0, 0, 0, 0, 0x11, 0x04, 0, 0xC0, 0, 2,
-    ];
-    assert_eq!(rt;
-        read_other(&filemark_and_flags_beside_the_key),
-        Some((5, None, Some(IN_COMMAND)))
-    );
-    let progress_of_not_ready = [
-        0x70, 0, 0x02, 0, 0, 0, 0, 0x0A, 0, 0, 0, 0, 0x11, 0x04, 0, 0x80, 0x12, 0x34,
-    ];
-    assert_eq!(rt; read_other(&progress_of_not_ready), Some((2, None, None)));
-    let pointer_not_valid = [
-        0x70, 0, 0x05, 0, 0, 0, 0, 0x0A, 0, 0, 0, 0, 0x11, 0x04, 0, 0x40, 0, 2,
-    ];
-    assert_eq!(rt; read_other(&pointer_not_valid), Some((5, None, None)));
-    let pointer_not_whole = [
-        0x70, 0, 0x05, 0, 0, 0, 0, 0x0A, 0, 0, 0, 0, 0x11, 0x04, 0, 0xC0, 0,
-    ];
-    assert_eq!(rt; read_other(&pointer_not_whole), Some((5, None, None)));
-}
-
-// Sense data in descriptor format that the disk does not write.
-#[test]
-fn descriptor_format_of_others(rt: HostRuntime) {
-    let pointer_without_illegal_request = [
-        0x72, 0xF3, 0x11, 0x04, 0, 0, 0, 8, 0x02, 0x06, 0, 0, 0xC0, 0, 2, 0,
-    ];
-    assert_eq!(rt;
-        read_other(&pointer_without_illegal_request),
-        Some((3, None, None))
-    );
-    let another_type_first = [
-        0x72, 5, 0x11, 0x04, 0, 0, 0, 12, 0x80, 0x02, 1, 2, 0x02, 0x06, 0, 0, 0xC0, 0, 2, 0,
-    ];
-    assert_eq!(rt;
-        read_other(&another_type_first),
-        Some((5, None, Some(IN_COMMAND)))
-    );
-    let three_pointers_the_first_not_valid = [
-        0x72, 5, 0x11, 0x04, 0, 0, 0, 24, 0x02, 0x06, 0, 0, 0x40, 0, 9, 0, 0x02, 0x06, 0, 0, 0x80,
-        0, 18, 0, 0x02, 0x06, 0, 0, 0xC0, 0, 9, 0,
-    ];
-    assert_eq!(rt;
-        read_other(&three_pointers_the_first_not_valid),
-        Some((5, None, Some(IN_LIST)))
-    );
-    let information_of_another_length = [
-        0x72, 5, 0x11, 0x04, 0, 0, 0, 8, 0x00, 0x06, 0x80, 0, 0, 0, 0, 1,
-    ];
-    assert_eq!(rt;
-        read_other(&information_of_another_length),
-        Some((5, None, None))
-    );
-}
-
-// The walk over the descriptors ends at the additional length, at the end of the bytes and before a part
-// of one.
-#[test]
-fn descriptors_end(rt: HostRuntime) {
-    let additional_length_within_the_pointer = [
-        0x72, 5, 0x11, 0x04, 0, 0, 0, 7, 0x02, 0x06, 0, 0, 0xC0, 0, 2, 0,
-    ];
-    assert_eq!(rt;
-        read_other(&additional_length_within_the_pointer),
-        Some((5, None, None))
-    );
-    let bytes_end_within_the_pointer = [
-        0x72, 5, 0x11, 0x04, 0, 0, 0, 8, 0x02, 0x06, 0, 0, 0xC0, 0, 2,
-    ];
-    assert_eq!(rt;
-        read_other(&bytes_end_within_the_pointer),
-        Some((5, None, None))
-    );
-    let a_longer_descriptor_first = [
-        0x72, 5, 0x11, 0x04, 0, 0, 0, 10, 0x80, 0xFF, 0x02, 0x06, 0, 0, 0xC0, 0, 2, 0,
-    ];
-    assert_eq!(rt;
-        read_other(&a_longer_descriptor_first),
-        Some((5, None, None))
-    );
-    let no_descriptor = [0x72, 5, 0x11, 0x04, 0, 0, 0, 0xFF];
-    assert_eq!(rt; read_other(&no_descriptor), Some((5, None, None)));
-}
-
-#[test]
-fn else_nothing_is_said(rt: HostRuntime) {
-    let rows: [&[u8]; 8] = [
-        &[],
-        &[0x70, 0, 5, 0, 0, 0, 0, 0x0A, 0, 0, 0, 0, 0x24],
+// Sense data that the disk does not write, in both formats, and what is read as nothing. The walk over
+// descriptors ends at the additional length, at the end of the bytes and before a part of one.
+const READ: [(&[u8], Option<Fields>); 21] = [
+    // Medium error with information.
+    (
+        &[
+            0xF0, 0, 0x03, 0, 0x01, 0xE2, 0x40, 0x0A, 0, 0, 0, 0, 0x11, 0x04, 0, 0, 0, 0,
+        ],
+        Some((3, 0x11, 0x04, Some(123_456), None)),
+    ),
+    // Filemark and flags beside the key.
+    (
+        &[
+            0x70, 0, 0xE5, 0, 0, 0, 0, 0x0A, 0, 0, 0, 0, 0x11, 0x04, 0, 0xC0, 0, 2,
+        ],
+        Some((5, 0x11, 0x04, None, Some(IN_COMMAND))),
+    ),
+    // Progress of not ready.
+    (
+        &[
+            0x70, 0, 0x02, 0, 0, 0, 0, 0x0A, 0, 0, 0, 0, 0x11, 0x04, 0, 0x80, 0x12, 0x34,
+        ],
+        Some((2, 0x11, 0x04, None, None)),
+    ),
+    // Pointer not valid.
+    (
+        &[
+            0x70, 0, 0x05, 0, 0, 0, 0, 0x0A, 0, 0, 0, 0, 0x11, 0x04, 0, 0x40, 0, 2,
+        ],
+        Some((5, 0x11, 0x04, None, None)),
+    ),
+    // Pointer not whole.
+    (
+        &[
+            0x70, 0, 0x05, 0, 0, 0, 0, 0x0A, 0, 0, 0, 0, 0x11, 0x04, 0, 0xC0, 0,
+        ],
+        Some((5, 0x11, 0x04, None, None)),
+    ),
+    // Pointer without illegal request.
+    (
+        &[
+            0x72, 0xF3, 0x11, 0x04, 0, 0, 0, 8, 0x02, 0x06, 0, 0, 0xC0, 0, 2, 0,
+        ],
+        Some((3, 0x11, 0x04, None, None)),
+    ),
+    // Another type first.
+    (
+        &[
+            0x72, 5, 0x11, 0x04, 0, 0, 0, 12, 0x80, 0x02, 1, 2, 0x02, 0x06, 0, 0, 0xC0, 0, 2, 0,
+        ],
+        Some((5, 0x11, 0x04, None, Some(IN_COMMAND))),
+    ),
+    // Three pointers the first not valid.
+    (
+        &[
+            0x72, 5, 0x11, 0x04, 0, 0, 0, 24, 0x02, 0x06, 0, 0, 0x40, 0, 9, 0, 0x02, 0x06, 0, 0,
+            0x80, 0, 18, 0, 0x02, 0x06, 0, 0, 0xC0, 0, 9, 0,
+        ],
+        Some((5, 0x11, 0x04, None, Some(IN_LIST))),
+    ),
+    // Information of another length.
+    (
+        &[
+            0x72, 5, 0x11, 0x04, 0, 0, 0, 8, 0x00, 0x06, 0x80, 0, 0, 0, 0, 1,
+        ],
+        Some((5, 0x11, 0x04, None, None)),
+    ),
+    // Additional length within the pointer.
+    (
+        &[
+            0x72, 5, 0x11, 0x04, 0, 0, 0, 7, 0x02, 0x06, 0, 0, 0xC0, 0, 2, 0,
+        ],
+        Some((5, 0x11, 0x04, None, None)),
+    ),
+    // Bytes end within the pointer.
+    (
+        &[
+            0x72, 5, 0x11, 0x04, 0, 0, 0, 8, 0x02, 0x06, 0, 0, 0xC0, 0, 2,
+        ],
+        Some((5, 0x11, 0x04, None, None)),
+    ),
+    // A longer descriptor first.
+    (
+        &[
+            0x72, 5, 0x11, 0x04, 0, 0, 0, 10, 0x80, 0xFF, 0x02, 0x06, 0, 0, 0xC0, 0, 2, 0,
+        ],
+        Some((5, 0x11, 0x04, None, None)),
+    ),
+    // No descriptor.
+    (
+        &[0x72, 5, 0x11, 0x04, 0, 0, 0, 0xFF],
+        Some((5, 0x11, 0x04, None, None)),
+    ),
+    // Bytes that end before the additional sense code qualifier, and other response codes.
+    (&[], None),
+    (&[0x70, 0, 5, 0, 0, 0, 0, 0x0A, 0, 0, 0, 0, 0x24], None),
+    (
         &[
             0x71, 0, 5, 0, 0, 0, 0, 0x0A, 0, 0, 0, 0, 0x24, 0, 0, 0, 0, 0,
         ],
+        None,
+    ),
+    (
         &[
             0xF1, 0, 5, 0, 0, 0, 0, 0x0A, 0, 0, 0, 0, 0x24, 0, 0, 0, 0, 0,
         ],
-        &[0x72, 5, 0x24, 0, 0, 0, 0],
+        None,
+    ),
+    (&[0x72, 5, 0x24, 0, 0, 0, 0], None),
+    (
         &[0x73, 5, 0x24, 0, 0, 0, 0, 10, 0, 0, 0, 0, 0, 0, 0, 0, 0, 0],
+        None,
+    ),
+    (
         &[
             0x7F, 0, 5, 0, 0, 0, 0, 0x0A, 0, 0, 0, 0, 0x24, 0, 0, 0, 0, 0,
         ],
+        None,
+    ),
+    (
         &[
             0x00, 0, 5, 0, 0, 0, 0, 0x0A, 0, 0, 0, 0, 0x24, 0, 0, 0, 0, 0,
         ],
-    ];
-    for data in rows {
-        assert_eq!(rt; Sense::read(data), None);
+        None,
+    ),
+];
+
+#[test]
+fn sense_data_of_others_is_read(rt: HostRuntime) {
+    for (data, fields) in &READ {
+        let length = data.len();
+        assert!(rt; read(data) == *fields, "of {length} bytes");
     }
 }

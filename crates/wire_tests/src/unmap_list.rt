@@ -1,6 +1,5 @@
 // The parameter list of UNMAP as SBC-3, 5.28.2, lays it out.
 use sg_wire::{Cut, Extent, UnmapList, UnmapListFault};
-use std::test::Fail;
 
 // Each field from its first byte to its last.
 const WIDE: Extent = Extent {
@@ -17,26 +16,32 @@ const BYTES: [u8; 40] = [
     0x00, 0x00, 0x00, 0x00, 0x00, 0x00, 0x00, 0x03, 0x00, 0x00, 0x00, 0x01, 0x00, 0x00, 0x00, 0x00,
 ];
 
+// Whether the list of both is read from its bytes.
+fn are_read() -> bool {
+    let Ok(listed) = UnmapList::read(&BYTES) else {
+        return false;
+    };
+    match listed.to_list().as_slice() {
+        [wide, narrow] => is_same(wide, &WIDE) && is_same(narrow, &NARROW),
+        _ => false,
+    }
+}
+
+fn is_same(extent: &Extent, other: &Extent) -> bool {
+    extent.lba == other.lba && extent.count == other.count
+}
+
 #[test]
-fn a_list_is_written_and_read(rt: HostRuntime) -> Result<(), Fail> {
+fn a_list_is_written_and_read(rt: HostRuntime) {
     let mut list = UnmapList::new();
     list.push(WIDE);
     list.push(NARROW);
-    assert_eq!(rt; list.parameter_list_length(), 40);
-
+    let length = list.parameter_list_length();
     let mut buf = [0xEE; 40];
     let mut cut = Cut::new(&mut buf, 40);
     list.write(&mut cut);
-    assert_eq!(rt; cut.written(), 40);
-    assert_eq!(rt; buf, BYTES);
-
-    let listed = UnmapList::read(&BYTES).ok().ok_or("no list")?;
-    let read = listed.to_list();
-    assert_eq!(rt; read.as_slice().len(), 2);
-    for (extent, expected) in read.as_slice().iter().zip([WIDE, NARROW]) {
-        assert_eq!(rt; (extent.lba, extent.count), (expected.lba, expected.count));
-    }
-    Ok(())
+    let written = cut.written();
+    assert!(rt; length == 40 && written == 40 && buf == BYTES && are_read());
 }
 
 // How many extents a list names, by its length and its UNMAP BLOCK DESCRIPTOR DATA LENGTH.
@@ -56,15 +61,18 @@ const COUNTS: [(usize, u8, u8, Result<usize, UnmapListFault>); 13] = [
     (1048, 0x04, 0x10, Err(UnmapListFault::TooManyDescriptors)),
 ];
 
+fn count_listed(bytes: &[u8]) -> Result<usize, UnmapListFault> {
+    let listed = UnmapList::read(bytes)?;
+    Ok(listed.to_list().as_slice().len())
+}
+
 #[test]
 fn whole_descriptors_are_counted(rt: HostRuntime) {
-    for (length, high, low, count) in COUNTS {
+    for (length, high, low, count) in &COUNTS {
         let mut bytes = [0; 1048];
-        bytes[2] = high;
-        bytes[3] = low;
-        assert!(rt; length <= bytes.len());
-        let found = UnmapList::read(&bytes[..length]);
-        let found = found.map(|listed| listed.to_list().as_slice().len());
-        assert_eq!(rt; found, count);
+        bytes[2] = *high;
+        bytes[3] = *low;
+        let length = bytes.len().min(*length);
+        assert!(rt; count_listed(&bytes[..length]) == *count, "{length} bytes");
     }
 }

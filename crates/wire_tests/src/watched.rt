@@ -86,10 +86,9 @@ fn writes_are_passed_on(rt: HostRuntime) -> Result<(), Fail> {
             let mut fake = FakeWriter::with_fault(rt.alloc(), most, usize::MAX, Fault::TakesNone);
             let mut writer = Watched::new(&mut fake);
             let count = length.min(most);
-            assert_eq!(rt; writer.write(&LINE[..length])?, count);
-            assert!(rt; !writer.failed());
-            assert_eq!(rt; fake.bytes.as_slice(), &LINE[..count]);
-            assert_eq!(rt; fake.calls, 1);
+            let is_same = writer.write(&LINE[..length])? == count && !writer.failed();
+            let has_passed = fake.bytes.as_slice() == &LINE[..count] && fake.calls == 1;
+            assert!(rt; is_same && has_passed, "{length} bytes, {most} a call");
         }
     }
     Ok(())
@@ -97,20 +96,18 @@ fn writes_are_passed_on(rt: HostRuntime) -> Result<(), Fail> {
 
 #[test]
 fn a_write_failure_is_remembered(rt: HostRuntime) -> Result<(), Fail> {
-    for (fault, _) in FAULTS {
-        let mut fake = FakeWriter::with_fault(rt.alloc(), 4, 1, fault);
+    for (fault, _) in &FAULTS {
+        let mut fake = FakeWriter::with_fault(rt.alloc(), 4, 1, *fault);
         let mut writer = Watched::new(&mut fake);
-        assert!(rt; writer.flush().is_err());
-        assert_eq!(rt; writer.write(b"")?, 0);
-        assert!(rt; !writer.failed());
+        let is_sound = writer.flush().is_err() && writer.write(b"")? == 0 && !writer.failed();
 
-        let result = writer.write(b"ab");
-        assert_eq!(rt; result.is_ok(), matches!(fault, Fault::TakesNone));
-        assert!(rt; writer.failed());
-        assert_eq!(rt; writer.write(b"cd")?, 2);
-        assert!(rt; writer.failed());
-        assert_eq!(rt; fake.bytes.as_slice(), b"cd".as_slice());
-        assert_eq!(rt; (fake.calls, fake.flushes), (3, 1));
+        let is_same = writer.write(b"ab").is_ok() == matches!(fault, Fault::TakesNone);
+        let has_failed = writer.failed();
+        let is_failed = writer.write(b"cd")? == 2 && writer.failed();
+        let has_passed = fake.bytes.as_slice() == b"cd".as_slice()
+            && fake.calls == 3
+            && fake.flushes == 1;
+        assert!(rt; is_sound && is_same && has_failed && is_failed && has_passed);
     }
     Ok(())
 }
@@ -121,25 +118,25 @@ fn sends_through_short_writes(rt: HostRuntime) -> Result<(), Fail> {
         let mut fake = FakeWriter::with_fault(rt.alloc(), most, usize::MAX, Fault::TakesNone);
         let mut writer = Watched::new(&mut fake);
         writer.send(LINE)?;
-        assert_eq!(rt; fake.bytes.as_slice(), LINE.as_slice());
-        assert_eq!(rt; fake.calls, 12usize.div_ceil(most));
+        let has_passed = fake.bytes.as_slice() == LINE.as_slice()
+            && fake.calls == 12usize.div_ceil(most);
+        assert!(rt; has_passed, "{most} a call");
     }
     Ok(())
 }
 
 #[test]
 fn ends_at_the_first_failure(rt: HostRuntime) -> Result<(), Fail> {
-    for (fault, kind) in FAULTS {
+    for (fault, kind) in &FAULTS {
         for call in 0..4 {
-            let mut fake = FakeWriter::with_fault(rt.alloc(), 3, call, fault);
+            let mut fake = FakeWriter::with_fault(rt.alloc(), 3, call, *fault);
             let mut writer = Watched::new(&mut fake);
             let Err(error) = writer.send(LINE) else {
                 return Err(Fail::from("a failure was hidden"));
             };
-            assert_eq!(rt; error.kind(), kind);
-            assert!(rt; writer.failed());
-            assert_eq!(rt; fake.calls, call + 1);
-            assert_eq!(rt; fake.bytes.as_slice(), &LINE[..3 * call]);
+            let has_failed = error.kind() == *kind && writer.failed();
+            let has_passed = fake.calls == call + 1 && fake.bytes.as_slice() == &LINE[..3 * call];
+            assert!(rt; has_failed && has_passed, "at call {call}");
         }
     }
     Ok(())
@@ -187,17 +184,18 @@ fn reads_are_passed_on(rt: HostRuntime) -> Result<(), Fail> {
         for room in 1..=13 {
             let mut fake = FakeReader::new(LINE, most, usize::MAX);
             let mut reader = Watched::new(&mut fake);
+            let mut is_same = true;
             for delivered in LINE.chunks(room.min(most)) {
                 let mut buffer = [0xEE; 13];
                 let count = reader.read(&mut buffer[..room])?;
-                assert_eq!(rt; &buffer[..count], delivered);
-                assert!(rt; buffer[count..].iter().all(|byte| *byte == 0xEE));
+                let are_others = buffer[count..].iter().all(|byte| *byte == 0xEE);
+                is_same = is_same && &buffer[..count] == delivered && are_others;
             }
-            assert_eq!(rt; reader.read(&mut [0xEE; 13])?, 0);
-            assert!(rt; !reader.failed());
-            assert_eq!(rt;
-                fake.calls,
-                12usize.div_ceil(room.min(most)).saturating_add(1)
+            let has_ended = reader.read(&mut [0xEE; 13])? == 0 && !reader.failed();
+            let calls = 12usize.div_ceil(room.min(most)).saturating_add(1);
+            assert!(rt;
+                is_same && has_ended && fake.calls == calls,
+                "{room} bytes, {most} a call"
             );
         }
     }
@@ -211,20 +209,17 @@ fn a_read_error_is_remembered(rt: HostRuntime) -> Result<(), Fail> {
         let mut fake = FakeReader::new(letters, 4, 2);
         let mut reader = Watched::new(&mut fake);
         let mut buffer = [0xEE; 4];
-        assert_eq!(rt; reader.read(&mut [])?, 0);
-        assert_eq!(rt; reader.read(&mut buffer[..room])?, room);
-        assert!(rt; !reader.failed());
+        let is_empty = reader.read(&mut [])? == 0;
+        let is_sound = reader.read(&mut buffer[..room])? == room && !reader.failed();
 
         let Err(error) = reader.read(&mut buffer[..room]) else {
             return Err(Fail::from("an error was hidden"));
         };
-        assert_eq!(rt; error.kind(), ErrorKind::Interrupted);
-        assert!(rt; reader.failed());
+        let has_failed = error.kind() == ErrorKind::Interrupted && reader.failed();
 
-        assert_eq!(rt; reader.read(&mut buffer[..room])?, room);
-        assert_eq!(rt; &buffer[..room], &letters[room..2 * room]);
-        assert!(rt; reader.failed());
-        assert_eq!(rt; fake.calls, 4);
+        let is_read = reader.read(&mut buffer[..room])? == room;
+        let is_same = &buffer[..room] == &letters[room..2 * room] && reader.failed();
+        assert!(rt; is_empty && is_sound && has_failed && is_read && is_same && fake.calls == 4);
     }
     Ok(())
 }

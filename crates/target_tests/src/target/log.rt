@@ -44,7 +44,7 @@ impl Entry {
 }
 
 // A reply was refused.
-#[derive(Clone, Copy, Debug, PartialEq, Eq)]
+#[derive(Drop)]
 pub(super) struct Refused;
 
 // Takes at most `most` replies.

@@ -1,6 +1,5 @@
 // Where a walk by GET LBA STATUS goes on. Blocks 0 and 2 of 4,096 are mapped.
 use sg_decode::next_start;
-use std::test::Fail;
 
 // The data from block 0 on, with four descriptors, and from block 3 on, with one.
 const FROM_0: &[u8] = b"\x00\x00\x00\x44\x00\x00\x00\x00\
@@ -40,10 +39,9 @@ const NEXT: [(&[u8], usize, Option<u64>); 12] = [
 ];
 
 #[test]
-fn a_walk_goes_on_after_the_last_whole_descriptor(rt: HostRuntime) -> Result<(), Fail> {
-    for (bytes, length, wanted) in NEXT {
-        let cut = &bytes[..length.min(bytes.len())];
-        assert_eq!(rt; next_start(cut), wanted);
+fn a_walk_goes_on_after_the_last_whole_descriptor(rt: HostRuntime) {
+    for (bytes, length, wanted) in &NEXT {
+        let cut = &bytes[..bytes.len().min(*length)];
+        assert!(rt; next_start(cut) == *wanted, "after {length} bytes");
     }
-    Ok(())
 }
