@@ -45,11 +45,20 @@ mdl_error mdl_execute(mdl_disk *disk, uint32_t initiator, const uint8_t *cdb, si
                       const uint8_t *data_out, size_t data_out_length, uint8_t *data_in,
                       size_t data_in_length, mdl_reply *reply)
 {
-    if (!disk || !data_in || !reply || (!cdb && cdb_length) || (!data_out && data_out_length))
+    if (!disk || !data_in || !reply)
         return MDL_NULL_POINTER;
-    return (mdl_error)mehdalung_execute(disk, initiator, cdb ? cdb : nothing, cdb_length,
-                                        data_out ? data_out : nothing, data_out_length, data_in,
-                                        data_in_length, reply);
+    if (!cdb) {
+        if (cdb_length)
+            return MDL_NULL_POINTER;
+        cdb = nothing;
+    }
+    if (!data_out) {
+        if (data_out_length)
+            return MDL_NULL_POINTER;
+        data_out = nothing;
+    }
+    return (mdl_error)mehdalung_execute(disk, initiator, cdb, cdb_length, data_out, data_out_length,
+                                        data_in, data_in_length, reply);
 }
 
 mdl_error mdl_power_cycle(mdl_disk *disk)

@@ -85,13 +85,8 @@ pub extern "C" fn mehdalung_execute(
     ensures untouched { result ≢ 0 → data_in.new ≡ data_in.old }
     ensures silent { result ≢ 0 → reply.new ≡ reply.old }
 {
-    match disk.execute(alloc, initiator, cdb, data_out, data_in) {
-        Ok(done) => {
-            *reply = ReplyRecord::of(&done);
-            Outcome::Done.code()
-        }
-        Err(outcome) => outcome.code(),
-    }
+    let outcome = disk.execute(alloc, initiator, cdb, data_out, data_in, reply);
+    outcome.code()
 }
 
 /// Takes the power of a disk away, and gives it back.

@@ -33,26 +33,29 @@ pub struct ReplyRecord {
 }
 
 impl ReplyRecord {
-    /// The record of a reply.
-    pub fn of(reply: &Reply) -> ReplyRecord
-        ensures { Shows result reply.now }
+    /// Becomes the record of a reply.
+    pub(crate) fn show(&mut self, reply: Reply)
+        ensures { Shows self.new reply }
     {
-        let mut sense = [0; SENSE_LENGTH];
-        let bytes = reply.sense.as_slice();
+        let Reply {
+            status,
+            sense,
+            data_in,
+            counts,
+        } = reply;
+        let bytes = sense.as_slice();
         let count = bytes.len().min(SENSE_LENGTH);
+        self.status = status.code();
+        self.sense_length = count as u8;
+        self.sense = [0; SENSE_LENGTH];
         // Most replies have none, and then nothing is called to copy it.
         if count > 0 {
-            sense[..count].copy_from_slice(&bytes[..count]);
+            self.sense[..count].copy_from_slice(&bytes[..count]);
         }
-        ReplyRecord {
-            status: reply.status.code(),
-            sense_length: count as u8,
-            sense,
-            data_in_length: reply.data_in,
-            visits: reply.counts.visits,
-            probes: reply.counts.probes,
-            links: reply.counts.links,
-        }
+        self.data_in_length = data_in;
+        self.visits = counts.visits;
+        self.probes = counts.probes;
+        self.links = counts.links;
     }
 }
 

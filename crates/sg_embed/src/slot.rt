@@ -8,8 +8,9 @@ ghost use Rattle.sg_embed.specs.declared.kept.Kept.{Kept};
 use crate::kept::Kept;
 use crate::outcome::Outcome;
 use crate::parts::Parts;
+use crate::record::ReplyRecord;
 use sg_pages::Identity;
-use sg_target::{BUFFER_LENGTH, Config, Reply};
+use sg_target::{BUFFER_LENGTH, Config};
 use sg_wire::Initiator;
 use std::alloc::Global;
 use std::marker::Model;
@@ -88,9 +89,9 @@ impl Drop for Slot {
 }
 
 impl Slot {
-    ghost use Rattle.std.specs.Prelude.{◌≢◌, ◌≡◌, ◌⊎◌, Ok, Err, IfOk, IfErr, OnErr, length};
-    ghost use Rattle.sg_embed.specs.Executed.{IsExecuted, IsPowerCycled, disk_config, new_disk};
-    ghost use Rattle.sg_embed.specs.Outcome.{execute_outcome, make_outcome, outcome_of};
+    ghost use Rattle.std.specs.Prelude.{◌≢◌, ◌≡◌, ◌⊎◌, length};
+    ghost use Rattle.sg_embed.specs.Executed.{IsAnswered, IsPowerCycled, disk_config, new_disk};
+    ghost use Rattle.sg_embed.specs.Outcome.{execute_outcome, make_outcome};
     ghost use Rattle.sg_embed.specs.Outcome.{power_cycle_outcome};
 
     /// Makes a disk as it is after power on, of `blocks` logical blocks, of which `pool` can be
@@ -119,12 +120,11 @@ impl Slot {
         }
     }
 
-    /// Executes a command. The buffer has [`BUFFER_LENGTH`] bytes at least; data-in is the first
-    /// bytes of it, and those after it stay as they were.
+    /// Executes a command, and shows its reply. The buffer has [`BUFFER_LENGTH`] bytes at least;
+    /// data-in is the first bytes of it, and those after it stay as they were.
     ///
-    /// # Errors
-    /// The first outcome that applies of an initiator that is not 0 to 7, a buffer that is too short
-    /// and no disk. Nothing is executed then, and disk and buffer are as they were.
+    /// The outcome is the first that applies of an initiator that is not 0 to 7, a buffer that is
+    /// too short and no disk. Nothing is executed then, and disk, buffer and reply are as they were.
     pub fn execute(
         &mut self,
         alloc: Global,
@@ -132,26 +132,30 @@ impl Slot {
         cdb: &[u8],
         data_out: &[u8],
         data_in: &mut [u8],
-    ) -> Result<Reply, Outcome>
-        ensures outcome { outcome_of result ≡ execute_outcome self.old.held initiator (length data_in.old) }
-        ensures executed { IfOk result (λ reply. IsExecuted initiator cdb.now data_out.now
-            self.old.held self.new.held data_in.old data_in.new reply) }
-        ensures refused { IfErr result (λ outcome. outcome ≢ Outcome.Done) }
-        ensures kept { OnErr result (self.new.held ≡ self.old.held) }
-        ensures untouched { OnErr result (data_in.new ≡ data_in.old) }
+        reply: &mut ReplyRecord,
+    ) -> Outcome
+        ensures outcome { result ≡ execute_outcome self.old.held initiator (length data_in.old) }
+        ensures executed { result ≡ Outcome.Done → IsAnswered initiator cdb.now data_out.now
+            self.old.held self.new.held data_in.old data_in.new reply.new }
+
+        // Refused, it changes nothing.
+        ensures kept { result ≢ Outcome.Done → self.new.held ≡ self.old.held }
+        ensures untouched { result ≢ Outcome.Done → data_in.new ≡ data_in.old }
+        ensures silent { result ≢ Outcome.Done → reply.new ≡ reply.old }
     {
         let Some(initiator) = known_initiator(initiator) else {
-            return Err(Outcome::UnknownInitiator);
+            return Outcome::UnknownInitiator;
         };
         if data_in.len() < BUFFER_LENGTH {
-            return Err(Outcome::BufferTooShort);
+            return Outcome::BufferTooShort;
         }
         let Some(mut kept) = self.take(alloc) else {
-            return Err(Outcome::NoDisk);
+            return Outcome::NoDisk;
         };
-        let reply = kept.target.execute(initiator, cdb, data_out, data_in);
+        let done = kept.target.execute(initiator, cdb, data_out, data_in);
+        reply.show(done);
         *self = Slot::of(kept);
-        Ok(reply)
+        Outcome::Done
     }
 
     /// A power cycle. The disk stays as it was where another outcome than `Done` is returned.

@@ -2,14 +2,18 @@ use Rattle.std.proofs.Common.{rules}
 use Rattle.sg_embed.proofs.slot.Slot.execute.Goals as goal
 
 pub returns-clause-executed : goal.returns-clause-executed
-returns-clause-executed c = record {
-  disk = c.in-Some-take.kept.value;
-  left = record { target = c.execute-reply.new.self };
-  was = search rules;
-  is = search rules;
-  answer = search rules;
-  state = search rules;
-  limits = search rules;
-  visits = search rules;
-  charge = search rules;
+returns-clause-executed c done = record {
+  reply = c.execute-done.result;
+  shows = search rules;
+  executed = record {
+    disk = c.in-Some-take.kept.value;
+    left = record { target = c.execute-done.new.self };
+    was = search rules;
+    is = search rules;
+    answer = search rules;
+    state = search rules;
+    limits = search rules;
+    visits = search rules;
+    charge = search rules;
+  };
 }
