@@ -193,18 +193,18 @@ def links(folder):
     return bool(is_static) or os.path.exists(f"{folder}/src/main.rt")
 
 
-def first_groups(root, crate, checks):
-    """The groups of a crate's edits in audit/ for as many checks, where a crate that links has one."""
-    folder = f"{root}/crates/{crate}"
-    groups, _ = together(of_audit(root, crate), folder, promised(root))
-    return groups[:1 if links(folder) else checks]
-
-
 # How many checks of a crate ./check makes, and of which crates. Of the others rt ci tries edits one by one.
 CHECKS = 2
 CHECKED = ("mehdalung", "sg_block_map", "sg_pool", "sg_run", "sg_table", "sg_tools", "sg_units", "sgrun")
 
 
+def first_groups(root, crate):
+    """The groups of a crate's edits in audit/ that ./check tries, of a crate that links one."""
+    folder = f"{root}/crates/{crate}"
+    groups, _ = together(of_audit(root, crate), folder, promised(root))
+    return groups[:1 if links(folder) else CHECKS]
+
+
 def tried_by_check(root):
     """How many edits of audit/ ./check tries."""
-    return sum(len(group) for it in CHECKED for group in first_groups(root, it, CHECKS))
+    return sum(len(group) for it in CHECKED for group in first_groups(root, it))
