@@ -13,7 +13,7 @@ use Rattle.sg_target.specs.declared.operation.Operation.{Operation}
 use Rattle.sg_target.specs.declared.refusal.Refusal.{Refusal}
 use Rattle.sg_target.specs.declared.refusal.Refusal.TheVariants.{Conflict, Check}
 use Rattle.sg_target.specs.declared.reply.Status.TheVariants.{Good}
-use Rattle.sg_target.proofs.LiftLemmas.{Asked, lifted}
+use Rattle.sg_fencing.proofs.LiftLemmas.{Asked, lifted}
 use Rattle.sg_fencing.proofs.OperationLemmas.{asked-suits, class_for}
 
 module _ (state : State) (j : ℕ) where

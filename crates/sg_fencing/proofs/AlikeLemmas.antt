@@ -18,7 +18,7 @@ use Rattle.sg_units.specs.Raised.{raised_for_others}
 use Rattle.sg_units.specs.declared.reservation_state.ReservationState.{ReservationState}
 use Rattle.sg_units.specs.declared.unit_attention.UnitAttention.{UnitAttention}
 use Rattle.sg_units.specs.declared.unit_attention.UnitAttention.TheVariants.{ModeParametersChanged}
-use Rattle.sg_units.proofs.HolderLemmas.{allows-same}
+use Rattle.sg_fencing.proofs.OwnReserveOutLemmas.{allows-same}
 use Rattle.sg_target.specs.BlockCommands.{read_capacity_10, read_capacity_16, reading, writing}
 use Rattle.sg_target.specs.Checks.{bad_field, cdb_checks, empty_cdb, no_space}
 use Rattle.sg_target.specs.Checks.{pending_attention, reservation_conflict, short_cdb}

@@ -28,7 +28,7 @@ use Rattle.sg_units.specs.declared.types.ReservationType.TheVariants.{ExclusiveA
 use Rattle.sg_units.specs.declared.types.ReservationType.TheVariants.{WriteExclusiveAllRegistrants}
 use Rattle.sg_units.specs.declared.types.ReservationType.TheVariants.{ExclusiveAccessAllRegistrants}
 use Rattle.sg_units.specs.declared.unit_attention.UnitAttention.{UnitAttention}
-use Rattle.sg_units.proofs.FencingLemmas.{held_alone, is_one_holder}
+use Rattle.sg_fencing.proofs.ReserveOutLemmas.{held_alone, is_one_holder}
 use Rattle.sg_units.proofs.LawLemmas.{refused_others}
 use Rattle.sg_fencing.specs.Fencing.{holds_alone, holds_type, view_of}
 use Rattle.sg_target.specs.State.{IsWithinLimits, State}

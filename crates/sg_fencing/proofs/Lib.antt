@@ -1,6 +1,10 @@
 -- Reservations of one holder
 mod HolderLemmas
+-- What PERSISTENT RESERVE OUT leaves of a reservation
+mod ReserveOutLemmas
+mod OwnReserveOutLemmas
 -- From a command to its operation
+mod LiftLemmas
 mod OperationLemmas
 -- Commands of others
 mod AccessLemmas

@@ -10,8 +10,8 @@ use Rattle.sg_units.specs.ReserveOut.{Outcome, outcome, raised_by, raised_for}
 use Rattle.sg_wire.specs.declared.out_list.OutList.{OutList}
 use Rattle.sg_units.specs.declared.reservation_change.ReservationChange.{ReservationChange}
 use Rattle.sg_units.specs.declared.reservation_state.ReservationState.{ReservationState}
-use Rattle.sg_units.proofs.FencingLemmas.{IsLeftIfHolder, alone_in, held_alone, is_one_holder}
-use Rattle.sg_units.proofs.FencingLemmas.{outcome_leaves}
+use Rattle.sg_fencing.proofs.ReserveOutLemmas.{IsLeftIfHolder, alone_in, held_alone, is_one_holder}
+use Rattle.sg_fencing.proofs.ReserveOutLemmas.{outcome_leaves}
 use Rattle.sg_units.proofs.OutcomeLemmas.{EffectIs}
 use Rattle.sg_target.specs.Checks.{no_space}
 use Rattle.sg_target.specs.Effect.{Effect, returning_up_to, without_attention}
@@ -30,7 +30,7 @@ use Rattle.sg_target.specs.declared.operation.Operation.TheVariants.{UnmapExtent
 use Rattle.sg_target.specs.declared.refusal.Reason.TheVariants.{UnitAttention as Attention}
 use Rattle.sg_target.specs.declared.refusal.Refusal.{Refusal}
 use Rattle.sg_target.specs.declared.refusal.Refusal.TheVariants.{Check}
-use Rattle.sg_target.proofs.LiftLemmas.{lifted}
+use Rattle.sg_fencing.proofs.LiftLemmas.{lifted}
 use Rattle.sg_target.specs.Laws.{LimitsAreKept}
 use Rattle.sg_fencing.specs.Fencing.{holds_alone, view_of}
 use Rattle.sg_fencing.proofs.AccessLemmas.{asked-is-allowed}

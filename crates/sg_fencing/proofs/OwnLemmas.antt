@@ -19,8 +19,8 @@ use Rattle.sg_wire.specs.declared.out_list.OutList.{OutList}
 use Rattle.sg_units.specs.declared.registrations.Registration.{Registration}
 use Rattle.sg_units.specs.declared.reservation_change.ReservationChange.{ReservationChange}
 use Rattle.sg_units.specs.declared.reservation_state.ReservationState.{ReservationState}
-use Rattle.sg_units.proofs.FencingLemmas.{alone_in, is_registered-key_of}
-use Rattle.sg_units.proofs.HolderLemmas.{Left, left_of, own_agrees}
+use Rattle.sg_fencing.proofs.ReserveOutLemmas.{alone_in, is_registered-key_of}
+use Rattle.sg_fencing.proofs.OwnReserveOutLemmas.{Left, left_of, own_agrees}
 use Rattle.sg_target.specs.Checks.{checked_parse}
 use Rattle.sg_target.specs.Refusal.{first_some, when_sound}
 use Rattle.sg_target.specs.ReservationCommands.{changing_reservations, out_refusal}
@@ -29,7 +29,7 @@ use Rattle.sg_target.specs.State.{IsWithinLimits, State}
 use Rattle.sg_target.specs.Step.{Step, outcome as step_outcome, step, step_by, unless_no_space}
 use Rattle.sg_target.specs.declared.operation.Operation.{Operation}
 use Rattle.sg_target.specs.declared.operation.Operation.TheVariants.{ChangeReservations}
-use Rattle.sg_target.proofs.LiftLemmas.{lifted-both}
+use Rattle.sg_fencing.proofs.LiftLemmas.{lifted-both}
 use Rattle.sg_target.proofs.StepLemmas.{room}
 use Rattle.sg_fencing.specs.Fencing.{View, holds_alone, shows_others, view_of}
 use Rattle.sg_fencing.proofs.AlikeLemmas.{StepsAlike, cdb-checks-same, operation-alike}

@@ -24,7 +24,7 @@ use Rattle.sg_units.specs.declared.reservation_change.ReservationChange.{Reserva
 use Rattle.sg_units.specs.declared.reservation_state.ReservationState.{ReservationState}
 use Rattle.sg_units.specs.declared.types.ReservationType.{ReservationType}
 use Rattle.sg_units.proofs.ConsistencyLemmas.{registrations_of-cons}
-use Rattle.sg_units.proofs.FencingLemmas.{key_of-cons}
+use Rattle.sg_fencing.proofs.ReserveOutLemmas.{key_of-cons}
 use Rattle.sg_units.proofs.OutcomeLemmas.{EffectIs, FirstIs, case_or, choice, effective, last_case}
 use Rattle.sg_units.proofs.OutcomeLemmas.{refused, taking}
 use Rattle.sg_target.specs.Checks.{no_space}
@@ -42,7 +42,7 @@ use Rattle.sg_target.specs.declared.refusal.Reason.TheVariants.{ParameterListLen
 use Rattle.sg_target.specs.declared.refusal.Refusal.{Refusal}
 use Rattle.sg_target.specs.declared.refusal.Refusal.TheVariants.{Check}
 use Rattle.sg_target.specs.declared.reply.Status.TheVariants.{Good}
-use Rattle.sg_target.proofs.LiftLemmas.{lifted}
+use Rattle.sg_fencing.proofs.LiftLemmas.{lifted}
 use Rattle.sg_fencing.specs.Registrants.{is_preempting, preempted_key}
 use Rattle.sg_fencing.proofs.AccessLemmas.{not_good}
 use Rattle.sg_fencing.proofs.HolderLemmas.{differ}

@@ -22,8 +22,8 @@ use Rattle.sg_units.specs.declared.reservation_change.ReservationChange.{Reserva
 use Rattle.sg_units.specs.declared.reservation_state.ReservationState.{ReservationState}
 use Rattle.sg_units.specs.declared.types.ReservationType.{ReservationType}
 use Rattle.sg_units.specs.declared.unit_attention.UnitAttention.{UnitAttention}
-use Rattle.sg_units.proofs.FencingLemmas.{IsLeft, is_registered-key_of, key_of-push, key_of-replaced}
-use Rattle.sg_units.proofs.FencingLemmas.{key_of-without}
+use Rattle.sg_fencing.proofs.ReserveOutLemmas.{IsLeft, is_registered-key_of, key_of-push, key_of-replaced}
+use Rattle.sg_fencing.proofs.ReserveOutLemmas.{key_of-without}
 use Rattle.sg_units.proofs.OutcomeLemmas.{EffectIs, FirstIs, case_or, choice, effective, last_case}
 use Rattle.sg_units.proofs.OutcomeLemmas.{refused, taking, typed}
 use Rattle.sg_fencing.specs.Registrants.{is_registering}

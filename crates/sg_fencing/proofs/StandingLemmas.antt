@@ -19,7 +19,7 @@ use Rattle.sg_units.specs.declared.reservation.Reservation.{Reservation}
 use Rattle.sg_units.specs.declared.reservation_change.ReservationChange.{ReservationChange}
 use Rattle.sg_units.specs.declared.reservation_state.ReservationState.{ReservationState}
 use Rattle.sg_units.specs.declared.types.ReservationType.TheVariants.{WriteExclusive, ExclusiveAccess}
-use Rattle.sg_units.proofs.FencingLemmas.{IsHeld, alone_in, held_alone, outcome_holds}
+use Rattle.sg_fencing.proofs.ReserveOutLemmas.{IsHeld, alone_in, held_alone, outcome_holds}
 use Rattle.sg_units.proofs.OutcomeLemmas.{EffectIs}
 use Rattle.sg_target.specs.Checks.{no_space}
 use Rattle.sg_target.specs.Effect.{Effect, returning_up_to}
@@ -36,7 +36,7 @@ use Rattle.sg_target.specs.declared.operation.Operation.TheVariants.{ChangeReser
 use Rattle.sg_target.specs.declared.refusal.Reason.TheVariants.{UnitAttention as Attention}
 use Rattle.sg_target.specs.declared.refusal.Refusal.{Refusal}
 use Rattle.sg_target.specs.declared.refusal.Refusal.TheVariants.{Check}
-use Rattle.sg_target.proofs.LiftLemmas.{lifted}
+use Rattle.sg_fencing.proofs.LiftLemmas.{lifted}
 use Rattle.sg_fencing.specs.Fencing.{can_end_for_others, holds_alone}
 use Rattle.sg_fencing.proofs.HolderLemmas.{HoldsAlone, differ}
 use Rattle.sg_fencing.proofs.OperationLemmas.{asked-suits, fits, is_of_kind}

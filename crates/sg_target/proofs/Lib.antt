@@ -4,7 +4,6 @@ pub mod CapacityLemmas
 mod ChargingLemmas
 pub mod ExtentLemmas
 mod JoiningLemmas
-pub mod LiftLemmas
 mod LimitLemmas
 pub mod ModeLemmas
 mod NeedLemmas

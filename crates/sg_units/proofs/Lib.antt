@@ -4,5 +4,3 @@ pub mod OutcomeLemmas
 pub mod ConsistencyLemmas
 pub mod LawLemmas
 pub mod PowerLemmas
-pub mod FencingLemmas
-pub mod HolderLemmas

@@ -25,8 +25,6 @@ use Rattle.sg_units.specs.ReserveOut.{Case, Outcome, accepts_key, action_outcome
 use Rattle.sg_units.specs.ReserveOut.{outcome}
 use Rattle.sg_units.specs.ReserveOut.{preempt_cases, preempted, register_cases, release_cases}
 use Rattle.sg_units.specs.ReserveOut.{reserve_cases, state_after, with_type}
-use Rattle.sg_units.specs.declared.access.Standing.{Standing}
-use Rattle.sg_units.specs.declared.access.Standing.TheVariants.{Holder, Registrant, Other}
 use Rattle.sg_units.specs.declared.out_fault.OutFault.{OutFault}
 use Rattle.sg_wire.specs.declared.out_list.OutList.{OutList}
 use Rattle.sg_units.specs.declared.registrations.Registration.{Registration}
@@ -37,10 +35,10 @@ use Rattle.sg_units.specs.declared.types.ReservationType.{ReservationType}
 use Rattle.sg_units.proofs.ConsistencyLemmas.{registrations_of-cons}
 use Rattle.sg_units.proofs.LawLemmas.{unregistered_under}
 use Rattle.sg_units.proofs.OutcomeLemmas.{not_false}
-use Rattle.sg_units.proofs.FencingLemmas.{alone_in, held_alone, key_of-cons, key_of-filter}
-use Rattle.sg_units.proofs.FencingLemmas.{key_of-without_key, is_registered-key_of}
-use Rattle.sg_units.proofs.FencingLemmas.{stays_registered}
-use Rattle.sg_units.proofs.FencingLemmas.{while_held-alone}
+use Rattle.sg_fencing.proofs.ReserveOutLemmas.{alone_in, held_alone, key_of-cons, key_of-filter}
+use Rattle.sg_fencing.proofs.ReserveOutLemmas.{key_of-without_key, is_registered-key_of}
+use Rattle.sg_fencing.proofs.ReserveOutLemmas.{stays_registered}
+use Rattle.sg_fencing.proofs.ReserveOutLemmas.{while_held-alone}
 
 -- ---- The key under which i is registered
 
@@ -385,12 +383,8 @@ standing-by : (held : Option Reservation) (all rest : List Registration) (first 
     → is_registered all i ≡ is_registered rest i
     → standing_of (record first { registrations = all; reservation = held }) i
     ≡ standing_of (record second { registrations = rest; reservation = held }) i
-standing-by None all rest first second i e =
-    ap (λ (b : Bool). cond {A = Standing} b Registrant Other) e
-standing-by (Some reservation) all rest first second i e =
-    ap
-    (λ (b : Bool). cond {A = Standing} (b && holds reservation i) Holder
-    (cond {A = Standing} b Registrant Other)) e
+standing-by None all rest first second i e = cc
+standing-by (Some reservation) all rest first second i e = cc
 
 pub allows-same : (first second : ReservationState) (i : ℕ) (class : Class)
     → key_of first.registrations i ≡ key_of second.registrations i
