@@ -9,7 +9,7 @@ use Rattle.std.proofs.lemmas.Bool.Decides.{nat_tests}
 use Rattle.std.proofs.lemmas.List.{get_or-set_other, get_or_past}
 use Rattle.std.proofs.lemmas.List.FromFn.{get_or-map-range_with_len, length-map-range_with_len}
 use Rattle.sg_units.specs.Attentions.{Pending, pending_for, with_optional, without_oldest}
-use Rattle.sg_units.specs.Laws.{IsRefused}
+use Rattle.sg_units.specs.Laws.{IsRefused, OthersAreRefused}
 use Rattle.sg_units.specs.Raised.{Conditions, queue_after, raised_for_each}
 use Rattle.sg_units.specs.Registrations.{is_registered, key_of}
 use Rattle.sg_units.specs.ReservationType.{is_all_registrants, is_exclusive_access, is_same_type}
@@ -29,7 +29,6 @@ use Rattle.sg_units.specs.declared.types.ReservationType.TheVariants.{WriteExclu
 use Rattle.sg_units.specs.declared.types.ReservationType.TheVariants.{ExclusiveAccessAllRegistrants}
 use Rattle.sg_units.specs.declared.unit_attention.UnitAttention.{UnitAttention}
 use Rattle.sg_fencing.proofs.ReserveOutLemmas.{held_alone, is_one_holder}
-use Rattle.sg_units.proofs.LawLemmas.{refused_others}
 use Rattle.sg_fencing.specs.Fencing.{holds_alone, holds_type, view_of}
 use Rattle.sg_target.specs.State.{IsWithinLimits, State}
 
@@ -145,11 +144,12 @@ and_no : (a b : Bool) → b ≡ false → (a && b) ≡ false
 and_no true b h = h
 and_no false b h = refl
 
-pub refuses-others : (state : ReservationState) (i j : ℕ) → (j ≡ i → ⊥) → (h : HoldsAlone state i)
+pub refuses-others : OthersAreRefused → (state : ReservationState) (i j : ℕ) → (j ≡ i → ⊥)
+    → (h : HoldsAlone state i)
     → IsRefused state (record { kind = h.kind; holder = Some i }) j
-refuses-others state i j other h =
+refuses-others refuses state i j other h =
     let rs = state.registrations in
-    refused_others state (record { kind = h.kind; holder = Some i }) j h.reservation_is
+    refuses state (record { kind = h.kind; holder = Some i }) j h.reservation_is
     (ap (λ held. is_held_by held rs j) h.reservation_is
     ∙ and_no (is_registered rs j) (j == i) (differ i j other))
     (and_no (is_registered rs j) (is_shared h.kind) h.unshared)

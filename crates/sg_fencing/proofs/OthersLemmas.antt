@@ -5,6 +5,7 @@ use Rattle.std.specs.Result.{result_map_both}
 use Rattle.sg_wire.specs.declared.command.Class.TheVariants.{Writes}
 use Rattle.sg_wire.specs.declared.command.out_action.OutAction.{OutAction}
 use Rattle.sg_units.specs.Access.{allows}
+use Rattle.sg_units.specs.Laws.{OthersAreRefused}
 use Rattle.sg_units.specs.Registrations.{key_of}
 use Rattle.sg_units.specs.ReserveOut.{Outcome, outcome, raised_by, raised_for}
 use Rattle.sg_wire.specs.declared.out_list.OutList.{OutList}
@@ -175,15 +176,15 @@ module _ (state : State) (i j : ℕ) (other : j ≡ i → ⊥) (h : HoldsAlone s
       (out-leaves action scope_type list)
 
 -- a command of another, after which i still holds
-pub others-keep : LimitsAreKept → (state : State) (i j : ℕ) (cdb data_out : List ℕ) → IsWithinLimits state
-    → (j ≡ i → ⊥) → holds_alone state i ≡ true
+pub others-keep : LimitsAreKept → OthersAreRefused → (state : State) (i j : ℕ)
+    (cdb data_out : List ℕ) → IsWithinLimits state → (j ≡ i → ⊥) → holds_alone state i ≡ true
     → holds_alone (step state j cdb data_out).state i ≡ true
     → Keeps state (step state j cdb data_out).state i
-others-keep limits state i j cdb data_out w other before after =
+others-keep limits refuses state i j cdb data_out w other before after =
     let done = (step state j cdb data_out).state in
     let still = alone done i (limits.command state j cdb data_out w) after in
     let h = alone state i w before in
     step-keeps (IsOneHolder state i j other h w) state i j other
-    (refuses-others state.reservations i j other h).writes
+    (refuses-others refuses state.reservations i j other h).writes
     (λ action scope_type list. reserving-keeps state i j other h w action scope_type list) cdb data_out
     (one-holder done.reservations i still)

@@ -12,6 +12,7 @@ use Rattle.sg_wire.specs.declared.command.Command.{Command}
 use Rattle.sg_wire.specs.declared.command.Command.TheVariants.{PersistentReserveOut}
 use Rattle.sg_wire.specs.declared.command.out_action.OutAction.{OutAction}
 use Rattle.sg_units.specs.Access.{allows}
+use Rattle.sg_units.specs.Laws.{OthersAreRefused}
 use Rattle.sg_units.specs.Registrations.{is_registered}
 use Rattle.sg_units.specs.Reservations.{holds, is_held_by}
 use Rattle.sg_units.specs.ReservationType.{is_shared}
@@ -20,7 +21,6 @@ use Rattle.sg_wire.specs.declared.out_list.OutList.{OutList}
 use Rattle.sg_units.specs.declared.reservation.Reservation.{Reservation}
 use Rattle.sg_units.specs.declared.reservation_change.ReservationChange.{ReservationChange}
 use Rattle.sg_units.specs.declared.reservation_state.ReservationState.{ReservationState}
-use Rattle.sg_units.proofs.LawLemmas.{refused_others}
 use Rattle.sg_units.proofs.OutcomeLemmas.{EffectIs}
 use Rattle.sg_target.specs.Refusal.{when_sound}
 use Rattle.sg_target.specs.ReservationCommands.{changing_reservations, out_refusal}
@@ -44,14 +44,14 @@ pub record IsShutOff (state : ReservationState) (j : ℕ) : Type 0 where
   pub writes : allows state j Writes ≡ false
   pub reads : excludes_reading state.reservation ≡ true → allows state j Reads ≡ false
 
-pub shut-off : (state : ReservationState) (held : Option Reservation) (j : ℕ)
+shut-off : OthersAreRefused → (state : ReservationState) (held : Option Reservation) (j : ℕ)
     → state.reservation ≡ held → is_some held ≡ true → is_registered state.registrations j ≡ false
     → IsShutOff state j
-shut-off state None j e some unknown = absurd (false≢true some)
-shut-off state (Some r) j e some unknown =
+shut-off refuses state None j e some unknown = absurd (false≢true some)
+shut-off refuses state (Some r) j e some unknown =
     let rs = state.registrations in
     let is_refused =
-    refused_others state r j e
+    refuses state r j e
     (ap (λ h. is_held_by h rs j) e ∙ and_no (is_registered rs j) (holds r j) unknown)
     (and_no (is_registered rs j) (is_shared r.kind) unknown) in
     record {
@@ -74,13 +74,15 @@ outside state j h =
     (is_registered state.reservations.registrations j) h in
     record { held = parts.0; unknown = parts.1 }
 
-pub shut : (state : State) (j : ℕ) → IsOutside state j → IsShutOff state.reservations j
-shut state j h = shut-off state.reservations state.reservations.reservation j refl h.held h.unknown
+pub shut : OthersAreRefused → (state : State) (j : ℕ) → IsOutside state j
+    → IsShutOff state.reservations j
+shut refuses state j h =
+    shut-off refuses state.reservations state.reservations.reservation j refl h.held h.unknown
 
 -- ---- What it leaves of another's view
 
-module _ (state : State) (i j : ℕ) (other : j ≡ i → ⊥) (h : IsOutside state j)
-    (w : IsWithinLimits state) where
+module _ (refuses : OthersAreRefused) (state : State) (i j : ℕ) (other : j ≡ i → ⊥)
+    (h : IsOutside state j) (w : IsWithinLimits state) where
   abbrev Always : State → Type 0
   Always after = Unit {0}
 
@@ -105,7 +107,7 @@ module _ (state : State) (i j : ℕ) (other : j ≡ i → ⊥) (h : IsOutside st
 
   pub outsider-keeps : (cdb data_out : List ℕ) → Keeps state (step state j cdb data_out).state i
   outsider-keeps cdb data_out =
-      step-keeps Always state i j other (shut state j h).writes reserving-keeps cdb data_out tt
+      step-keeps Always state i j other (shut refuses state j h).writes reserving-keeps cdb data_out tt
 
 -- ---- Who stays unregistered
 

@@ -7,6 +7,7 @@ use Rattle.std.proofs.lemmas.List.{get_or-replicate}
 use Rattle.sg_wire.specs.Layout.{class_of, command_of}
 use Rattle.sg_wire.specs.declared.command.Class.TheVariants.{Writes}
 use Rattle.sg_units.specs.Attentions.{initiator_count, pending_for}
+use Rattle.sg_units.specs.Laws.{OthersAreRefused}
 use Rattle.sg_units.specs.PowerOn.{after_power_on}
 use Rattle.sg_units.specs.Registrations.{is_registered}
 use Rattle.sg_units.specs.Reservations.{empty_state}
@@ -95,11 +96,12 @@ unknown-still state i (event.Call first ∷ events) unknown silent =
 unknown-still state i (event.Power ∷ events) unknown silent =
     unknown-still (after_power_cycle state) i events (unknown-after state i unknown) silent
 
-pub stays-fenced-off : (state : State) (i : ℕ) (events : List Event) (call : Call)
+pub stays-fenced-off : OthersAreRefused → (state : State) (i : ℕ) (events : List Event)
+    (call : Call)
     → is_registrant state i ≡ false → list_any (registers_by i) events ≡ false
     → call.initiator ≡ i → class_of call.cdb.now ≡ Some Writes
     → is_reserved (state_after_events state events) ≡ true
     → (step_of (state_after_events state events) call).answer.status ≡ Good → ⊥
-stays-fenced-off state i events call unknown silent from writes held good =
-    not-first (state_after_events state events) i call (unknown-still state i events unknown silent)
-    from writes held good
+stays-fenced-off refuses state i events call unknown silent from writes held good =
+    not-first refuses (state_after_events state events) i call
+    (unknown-still state i events unknown silent) from writes held good

@@ -8,6 +8,7 @@ use Rattle.sg_wire.specs.Layout.{command_of}
 use Rattle.std.specs.Prelude.{if◌then◌else◌, ◌||◌, slice_get}
 use Rattle.sg_pages.specs.ModePage.{after_power_on as pages_after_power_on}
 use Rattle.sg_units.specs.Attentions.{power_on_pending, pending_for}
+use Rattle.sg_units.specs.Laws.{OthersAreRefused}
 use Rattle.sg_units.specs.Registrations.{key_of}
 use Rattle.sg_units.specs.Reservations.{empty_state, has_type, is_holder}
 use Rattle.sg_units.specs.declared.reservation_state.ReservationState.{ReservationState}
@@ -43,7 +44,7 @@ pub record LookAlike (first second : State) (i : ℕ) : Type 0 where
   pub identity : first.identity ≡ second.identity
   pub view : view_of first i ≡ view_of second i
 
-module _ (limits : LimitsAreKept) (i : ℕ) where
+module _ (limits : LimitsAreKept) (refuses : OthersAreRefused) (i : ℕ) where
   -- ---- a power cycle
 
   abbrev holding : ReservationState → Bool
@@ -144,8 +145,8 @@ module _ (limits : LimitsAreKept) (i : ℕ) where
       (rest (step_of first call).state (step_of second call).state next (λ n. held (suc n))
       (λ n at. persist (suc n) at))
   by-caller call events own false e rest first second a held persist =
-      let h = others-keep limits first i call.initiator call.cdb.now call.data_out.now a.first_within
-      (different call.initiator i e) (held 0) (held 1) in
+      let h = others-keep limits refuses first i call.initiator call.cdb.now call.data_out.now
+      a.first_within (different call.initiator i e) (held 0) (held 1) in
       let next : LookAlike (step_of first call).state second i = record {
         first_within = limits.command first call.initiator call.cdb.now call.data_out.now a.first_within;
         second_within = a.second_within;

@@ -16,6 +16,7 @@ ghost use Rattle.sg_fencing.specs.Registrants.{OnlyRegisteringRegisters, Outside
 ghost use Rattle.sg_fencing.specs.Registrants.{PreemptedAreUnregistered, PreemptedWriteNothing};
 
 use sg_target::laws::limits_are_kept;
+use sg_units::laws::others_are_refused;
 
 /// An operation that does not write to the medium leaves the blocks as they are, so that write
 /// protection need not stop a command that asks for it.
@@ -52,6 +53,7 @@ pub fn others_leave_the_view_of_a_holder()
     ensures { OthersLeaveTheView }
 {
     limits_are_kept();
+    others_are_refused();
 }
 
 /// Of the commands of other initiators only PERSISTENT RESERVE OUT with CLEAR, PREEMPT or PREEMPT
@@ -71,13 +73,17 @@ pub fn equal_views_of_a_holder_end_alike()
 /// under exclusive access none that reads.
 pub fn others_are_shut_out()
     ensures { OthersAreShutOut }
-{}
+{
+    others_are_refused();
+}
 
 /// Where an initiator holds an exclusive access reservation, the answer to a command of another is
 /// the same whatever the blocks are, and whichever are mapped.
 pub fn others_see_no_block()
     ensures { OthersSeeNoBlock }
-{}
+{
+    others_are_refused();
+}
 
 /// Over a list of commands, where an initiator holds such a reservation before and after each: its
 /// view in the end, and the answers to its commands, but to PERSISTENT RESERVE IN and PERSISTENT
@@ -86,6 +92,7 @@ pub fn a_holder_is_served_as_if_alone()
     ensures { HolderIsAsIfAlone }
 {
     limits_are_kept();
+    others_are_refused();
 }
 
 /// Over a list of commands, while an initiator holds an exclusive access reservation, no command of
@@ -94,6 +101,7 @@ pub fn others_read_nothing()
     ensures { OthersReadNothing }
 {
     limits_are_kept();
+    others_are_refused();
 }
 
 /// Fencing by registration. While a reservation of any type is held, no command of an initiator
@@ -101,19 +109,25 @@ pub fn others_read_nothing()
 /// access types.
 pub fn the_unregistered_are_kept_out()
     ensures { FencedOffAreKeptOut }
-{}
+{
+    others_are_refused();
+}
 
 /// While a reservation of any type is held, a command of an initiator that is not registered leaves
 /// the view of every other initiator.
 pub fn the_unregistered_leave_every_view()
     ensures { FencedOffLeaveTheView }
-{}
+{
+    others_are_refused();
+}
 
 /// While a reservation of an exclusive access type is held, the answer to an initiator that is not
 /// registered is the same whatever the blocks are.
 pub fn the_unregistered_see_no_block()
     ensures { FencedOffSeeNoBlock }
-{}
+{
+    others_are_refused();
+}
 
 /// An initiator that is not registered becomes so by REGISTER or REGISTER AND IGNORE EXISTING KEY
 /// of its own alone.
@@ -125,7 +139,9 @@ pub fn nobody_registers_another()
 /// initiator that is not registered ends with GOOD until the initiator registers.
 pub fn the_unregistered_write_nothing()
     ensures { FencedOffWriteNothing }
-{}
+{
+    others_are_refused();
+}
 
 /// While a reservation of any type is held, a list of commands of initiators that are not
 /// registered, none of which registers, leaves the view of every initiator that sends none of them.
@@ -133,6 +149,7 @@ pub fn the_unregistered_change_nothing()
     ensures { OutsidersChangeNothing }
 {
     limits_are_kept();
+    others_are_refused();
 }
 
 /// After a PREEMPT or a PREEMPT AND ABORT that ends with GOOD, no initiator but its sender is
@@ -145,7 +162,9 @@ pub fn preemption_unregisters()
 /// writes of such an initiator ends with GOOD until the initiator registers again.
 pub fn the_preempted_write_nothing()
     ensures { PreemptedWriteNothing }
-{}
+{
+    others_are_refused();
+}
 
 /// After a power cycle the blocks are as they were, and the saved mode pages are the current ones.
 pub fn blocks_and_saved_pages_outlive_power()
@@ -178,7 +197,9 @@ pub fn two_power_cycles_are_one()
 /// an initiator that is not registered ends with GOOD until the initiator registers.
 pub fn the_unregistered_write_nothing_through_power_cycles()
     ensures { FencedOffThroughPowerCycles }
-{}
+{
+    others_are_refused();
+}
 
 /// Over a list of commands and power cycles, where an initiator holds a reservation that nobody
 /// shares before and after each, and registrations persist at each power cycle of a run of its own
@@ -189,4 +210,5 @@ pub fn a_holder_is_served_as_if_alone_through_power_cycles()
     ensures { HolderIsAsIfAloneThroughPowerCycles }
 {
     limits_are_kept();
+    others_are_refused();
 }

@@ -10,5 +10,7 @@ returns c state holder events w held persist =
       identity = refl;
       view = refl;
     } in
-    let h = events-alike c.limits_are_kept.ensures holder events state state same held persist in
+    let h =
+    events-alike c.limits_are_kept.ensures c.others_are_refused.ensures holder events state state same
+    held persist in
     record { view = h.view; answers = h.answers }

@@ -6,7 +6,7 @@ use Rattle.sg_fencing.proofs.laws.others_are_shut_out.Goals as goal
 pub returns : goal.returns
 returns c state holder other cdb data_out w differ held =
     let h = alone state holder w held in
-    let refused = refuses-others state.reservations holder other differ h in
+    let refused = refuses-others c.others_are_refused.ensures state.reservations holder other differ h in
     record {
       writes =
           λ is.

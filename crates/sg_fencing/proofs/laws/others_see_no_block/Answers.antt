@@ -7,6 +7,7 @@ use Rattle.sg_fencing.proofs.laws.others_see_no_block.Goals as goal
 pub returns : goal.returns
 returns c state contents holder other cdb data_out w fit differ exclusive =
     let h = alone state holder w (or_right (holds_type state holder WriteExclusive) _ exclusive) in
-    let refused = refuses-others state.reservations holder other differ h in
+    let refused =
+    refuses-others c.others_are_refused.ensures state.reservations holder other differ h in
     unseen state contents other (refused.reads (is-exclusive state holder h exclusive)) refused.writes
     w.mapped fit cdb data_out

@@ -3,5 +3,5 @@ use Rattle.sg_fencing.proofs.laws.the_unregistered_change_nothing.Goals as goal
 
 pub returns : goal.returns
 returns c state initiator calls w held outside others =
-    nothing-changed c.limits_are_kept.ensures state state initiator calls w held
-    (λ j unknown. unknown) outside others
+    nothing-changed c.limits_are_kept.ensures c.others_are_refused.ensures state state initiator calls w
+    held (λ j unknown. unknown) outside others

@@ -3,4 +3,5 @@ use Rattle.sg_fencing.proofs.laws.the_unregistered_write_nothing_through_power_c
 
 pub returns : goal.returns
 returns c state initiator events call unknown silent from writes held good =
-    stays-fenced-off state initiator events call unknown silent from writes held good
+    stays-fenced-off c.others_are_refused.ensures state initiator events call unknown silent from writes
+    held good
