@@ -4,6 +4,7 @@ use Rattle.std.proofs.Common.{map}
 use Rattle.std.proofs.Common.{refl, sym, subst, arith}
 use Rattle.std.proofs.lemmas.Bool.Decides.{nat_tests}
 use Rattle.sg_wire.specs.Layout.{command_of}
+use Rattle.sg_units.specs.Laws.{OneKeyEach}
 use Rattle.sg_fencing.specs.Fencing.{holds_alone}
 use Rattle.sg_fencing.specs.Fencing.{shows_others}
 use Rattle.sg_fencing.specs.Fencing.{view_of}
@@ -38,7 +39,7 @@ equal m n h = grind (arith, nat_tests)
 pub different : (m n : ℕ) → (m == n) ≡ false → m ≡ n → ⊥
 different m n h e = grind (arith, nat_tests)
 
-module _ (i : ℕ) where
+module _ (one : OneKeyEach) (i : ℕ) where
   pub own-step : (first second : State) (call : Call) → IsWithinLimits first → IsWithinLimits second
       → first.identity ≡ second.identity → view_of first i ≡ view_of second i
       → holds_alone first i ≡ true → call.initiator ≡ i
@@ -49,4 +50,4 @@ module _ (i : ℕ) where
       subst
       (λ (j : ℕ). StepsAlike (shows_others (command_of cdb)) i (step first j cdb data_out)
       (step second j cdb data_out))
-      (sym e) (own-alike first second i cdb data_out w w' identity view held)
+      (sym e) (own-alike one first second i cdb data_out w w' identity view held)

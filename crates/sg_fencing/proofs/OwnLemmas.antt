@@ -12,6 +12,7 @@ use Rattle.sg_wire.specs.declared.command.CdbFault.{CdbFault}
 use Rattle.sg_wire.specs.declared.command.Command.{Command}
 use Rattle.sg_wire.specs.declared.command.out_action.OutAction.{OutAction}
 use Rattle.sg_units.specs.Attentions.{Pending, pending_for}
+use Rattle.sg_units.specs.Laws.{OneKeyEach}
 use Rattle.sg_units.specs.Registrations.{is_registered, key_of}
 use Rattle.sg_units.specs.ReserveOut.{Outcome, outcome, raised_by, raised_for, state_after}
 use Rattle.sg_units.specs.declared.out_fault.OutFault.TheVariants as out_fault
@@ -20,8 +21,8 @@ use Rattle.sg_units.specs.declared.registrations.Registration.{Registration}
 use Rattle.sg_units.specs.declared.reservation_change.ReservationChange.{ReservationChange}
 use Rattle.sg_units.specs.declared.reservation_state.ReservationState.{ReservationState}
 use Rattle.sg_fencing.proofs.ReserveOutLemmas.{alone_in, is_registered-key_of}
-use Rattle.sg_fencing.proofs.OwnReserveOutLemmas.{Left, left_of, own_agrees}
-use Rattle.sg_target.specs.Checks.{checked_parse}
+use Rattle.sg_fencing.proofs.OwnReserveOutLemmas.{Left, under-alone, left_of, own_agrees}
+use Rattle.sg_target.specs.Checks.{checked_parse, no_space}
 use Rattle.sg_target.specs.Refusal.{first_some, when_sound}
 use Rattle.sg_target.specs.ReservationCommands.{changing_reservations, out_refusal}
 use Rattle.sg_target.specs.ReservationCommands.{reservation_change}
@@ -30,7 +31,6 @@ use Rattle.sg_target.specs.Step.{Step, outcome as step_outcome, step, step_by, u
 use Rattle.sg_target.specs.declared.operation.Operation.{Operation}
 use Rattle.sg_target.specs.declared.operation.Operation.TheVariants.{ChangeReservations}
 use Rattle.sg_fencing.proofs.LiftLemmas.{lifted-both}
-use Rattle.sg_target.proofs.StepLemmas.{room}
 use Rattle.sg_fencing.specs.Fencing.{View, holds_alone, shows_others, view_of}
 use Rattle.sg_fencing.proofs.AlikeLemmas.{StepsAlike, cdb-checks-same, operation-alike}
 use Rattle.sg_fencing.proofs.AlikeLemmas.{refused-alike, with_others}
@@ -94,6 +94,7 @@ module _ (state : State) (i : ℕ) (w : IsWithinLimits state) where
       → Becomes state i (left_of (state_after state.reservations o) i)
       (step_outcome state i (when_sound (result_map_both (λ change. change) out_refusal o)
       (changing_reservations state i))).state
+  unfolding no_space
   becomes (Err out_fault.Conflict) = record { identity = refl; view = refl }
   becomes (Err out_fault.NoRoom) = record { identity = refl; view = refl }
   becomes (Err out_fault.BadRelease) = record { identity = refl; view = refl }
@@ -102,8 +103,9 @@ module _ (state : State) (i : ℕ) (w : IsWithinLimits state) where
   becomes (Ok change) =
       let effect = changing_reservations state i change in
       let h = changed change in
+      let room : no_space state.disk ≡ None = grind (arith, nat_tests, w.mapped) in
       let is : (step_outcome state i (Ok effect)).state ≡ effect.after =
-      ap (λ q. (unless_no_space state i effect q).state) (room state.disk w.mapped) in
+      ap (λ q. (unless_no_space state i effect q).state) room in
       record {
         identity = ap (λ (x : State). x.identity) is ∙ h.identity;
         view = ap (λ (x : State). view_of x i) is ∙ h.view;
@@ -129,7 +131,7 @@ has-key all i (Some key) e h = record { key = key; key_is = e }
 
 -- ---- All commands
 
-module _ (s : State) (a : Pending) (r : ReservationState) (i : ℕ)
+module _ (one : OneKeyEach) (s : State) (a : Pending) (r : ReservationState) (i : ℕ)
     (attentions : pending_for s.attentions i ≡ pending_for a i)
     (key : key_of s.reservations.registrations i ≡ key_of r.registrations i)
     (reservation : s.reservations.reservation ≡ r.reservation)
@@ -147,6 +149,7 @@ module _ (s : State) (a : Pending) (r : ReservationState) (i : ℕ)
       let k = has-key rs i (key_of rs i) refl (sym (is_registered-key_of rs i) ∙ h.registered) in
       let first : s.reservations ≡ alone_in rs h.kind i s.reservations =
       λ d. record s.reservations { reservation = h.reservation_is d } in
+      let key' = sym key ∙ k.key_is in
       let held' = sym reservation ∙ h.reservation_is in
       let second : r ≡ alone_in r.registrations h.kind i r =
       λ d. record r { reservation = held' d } in
@@ -154,8 +157,8 @@ module _ (s : State) (a : Pending) (r : ReservationState) (i : ℕ)
       left_of (state_after x (outcome x i action scope_type list)) i in
       ap left first
       ∙ (own_agrees rs r.registrations h.kind s.reservations r i k.key action scope_type list
-      (w.registered.one_each i) k.key_is (w'.registered.one_each i)
-      (sym key ∙ k.key_is)
+      (under-alone one s.reservations i k.key w.registered k.key_is) k.key_is
+      (under-alone one r i k.key w'.registered key') key'
       ∙ sym (ap left second))
 
   out-alike : (action : OutAction) (scope_type : ℕ) (list : OutList)
@@ -212,12 +215,12 @@ module _ (s : State) (a : Pending) (r : ReservationState) (i : ℕ)
       (by-operation operation))
 
 -- a command of the holder in two states of one disk where its views are equal
-pub own-alike : (first second : State) (i : ℕ) (cdb data_out : List ℕ) → IsWithinLimits first
-    → IsWithinLimits second → first.identity ≡ second.identity
+pub own-alike : OneKeyEach → (first second : State) (i : ℕ) (cdb data_out : List ℕ)
+    → IsWithinLimits first → IsWithinLimits second → first.identity ≡ second.identity
     → view_of first i ≡ view_of second i → holds_alone first i ≡ true
     → StepsAlike (shows_others (command_of cdb)) i (step first i cdb data_out)
     (step second i cdb data_out)
-own-alike first second i cdb data_out w w' identity view held =
+own-alike one first second i cdb data_out w w' identity view held =
     let a = second.attentions in
     let r = second.reservations in
     let disk = ap (λ (v : View). v.disk) view in
@@ -234,6 +237,6 @@ own-alike first second i cdb data_out w w' identity view held =
     (λ (x : State). StepsAlike (shows_others (command_of cdb)) i (step first i cdb data_out)
     (step x i cdb data_out))
     to
-    (step-alike first a r i (ap (λ (v : View). v.attentions) view) (ap (λ (v : View). v.key) view)
+    (step-alike one first a r i (ap (λ (v : View). v.attentions) view) (ap (λ (v : View). v.key) view)
     (ap (λ (v : View). v.reservation) view) w
     (subst IsWithinLimits (sym to) w') (alone first i w held) cdb data_out)

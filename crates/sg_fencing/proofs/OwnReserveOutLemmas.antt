@@ -1,11 +1,11 @@
 -- What the holder's own PERSISTENT RESERVE OUT leaves of its key and of the reservation depends on
 -- these alone.
-use Rattle.std.proofs.Common.{◌≡◌, ◌≤◌, ◌+◌, ◌==◌, ℕ, Bool, true, false, cond, not, ◌&&◌, ◌||◌}
+use Rattle.std.proofs.Common.{◌≡◌, ◌==◌, ℕ, Bool, true, false, cond, not, ◌&&◌, ◌||◌}
 use Rattle.std.proofs.Common.{List}
 use Rattle.std.proofs.Common.{[], ◌∷◌, length, Option, Some, None, Ok, Err, refl, sym, ap, ◌∙◌}
 use Rattle.std.proofs.Common.{arith}
 use Rattle.std.specs.Prelude.{if◌then◌else◌, is_some}
-use Rattle.std.proofs.lemmas.Bool.{false≢true}
+use Rattle.std.proofs.lemmas.Bool.{false≢true, not-false}
 use Rattle.std.proofs.lemmas.Bool.Decides.{nat_tests}
 use Rattle.sg_wire.specs.declared.command.out_action.OutAction.{OutAction}
 use Rattle.sg_wire.specs.declared.command.out_action.OutAction.TheVariants.{Register, Reserve}
@@ -15,11 +15,12 @@ use Rattle.sg_wire.specs.declared.command.out_action.OutAction.TheVariants.{}
 use Rattle.sg_wire.specs.declared.command.out_action.OutAction.TheVariants.{RegisterAndIgnoreExistingKey}
 use Rattle.sg_wire.specs.declared.command.Class.{Class}
 use Rattle.sg_units.specs.Access.{allowed, allows, standing_of}
+use Rattle.sg_units.specs.Laws.{OneKeyEach}
 use Rattle.sg_units.specs.UnsupportedFlags.{has_unsupported_flag}
 use Rattle.sg_units.specs.Registrations.{is_of, is_registered, is_registered_under, is_under}
-use Rattle.sg_units.specs.Registrations.{key_of, registration, registrations_of, with_key_replaced}
+use Rattle.sg_units.specs.Registrations.{key_of, registration, with_key_replaced}
 use Rattle.sg_units.specs.Registrations.{without_initiator, without_key}
-use Rattle.sg_units.specs.Reservations.{holds, has_type, is_holder, taken, while_held}
+use Rattle.sg_units.specs.Reservations.{IsConsistent, has_type, is_holder, taken, while_held}
 use Rattle.sg_units.specs.ReservationType.{type_of}
 use Rattle.sg_units.specs.ReserveOut.{Case, Outcome, accepts_key, action_outcome, first_case}
 use Rattle.sg_units.specs.ReserveOut.{outcome}
@@ -32,41 +33,31 @@ use Rattle.sg_units.specs.declared.reservation.Reservation.{Reservation}
 use Rattle.sg_units.specs.declared.reservation_change.ReservationChange.{ReservationChange}
 use Rattle.sg_units.specs.declared.reservation_state.ReservationState.{ReservationState}
 use Rattle.sg_units.specs.declared.types.ReservationType.{ReservationType}
-use Rattle.sg_units.proofs.ConsistencyLemmas.{registrations_of-cons}
-use Rattle.sg_units.proofs.LawLemmas.{unregistered_under}
-use Rattle.sg_units.proofs.OutcomeLemmas.{not_false}
 use Rattle.sg_fencing.proofs.ReserveOutLemmas.{alone_in, held_alone, key_of-cons, key_of-filter}
 use Rattle.sg_fencing.proofs.ReserveOutLemmas.{key_of-without_key, is_registered-key_of}
-use Rattle.sg_fencing.proofs.ReserveOutLemmas.{stays_registered}
+use Rattle.sg_fencing.proofs.ReserveOutLemmas.{only-key_of, stays_registered, under-key_of}
 use Rattle.sg_fencing.proofs.ReserveOutLemmas.{while_held-alone}
 
 -- ---- The key under which i is registered
 
-or_nothing : (a b : Bool) → b ≡ false → (a || b) ≡ a
-or_nothing true b h = refl
-or_nothing false b h = h
-
-under-first : (r : Registration) (rs : List Registration) (i key k : ℕ) (b : Bool)
-    → cond {A = ℕ} b 1 0 + registrations_of rs i ≤ 1
-    → (registrations_of rs i ≤ 1 → key_of rs i ≡ Some k
-    → is_registered_under rs i key ≡ (k == key))
-    → cond b (Some r.key) (key_of rs i) ≡ Some k
-    → ((b && is_under key r) || is_registered_under rs i key) ≡ (k == key)
-under-first r rs i key k true h rest e =
-    let none : registrations_of rs i ≡ 0 = omega arith in
-    let same : r.key ≡ k = cc in
-    or_nothing (is_under key r) (is_registered_under rs i key) (unregistered_under rs i key none)
-    ∙ ap (λ n. n == key) same
-under-first r rs i key k false h rest e = rest (omega arith) e
+same-test : (k key : ℕ) (b : Bool) → (b ≡ true → k ≡ key) → (k ≡ key → b ≡ true) → b ≡ (k == key)
+same-test k key true f g =
+    let e = f refl in
+    grind (arith, nat_tests)
+same-test k key false f g =
+    let no = λ (e : k ≡ key). false≢true (g e) in
+    grind (arith, nat_tests)
 
 -- an initiator is registered under its key alone
-pub under-key_of : (rs : List Registration) (i key k : ℕ) → registrations_of rs i ≤ 1
-    → key_of rs i ≡ Some k → is_registered_under rs i key ≡ (k == key)
-under-key_of [] i key k h e = cc
-under-key_of (r ∷ rs) i key k h e =
-    let step = registrations_of-cons r rs i in
-    let few : cond {A = ℕ} (is_of i r) 1 0 + registrations_of rs i ≤ 1 = omega arith in
-    under-first r rs i key k (is_of i r) few (under-key_of rs i key k) (sym (key_of-cons r rs i) ∙ e)
+abbrev pub IsUnderAlone : List Registration → (initiator key : ℕ) → Type 0
+IsUnderAlone rs i k = (key : ℕ) → is_registered_under rs i key ≡ (k == key)
+
+pub under-alone : OneKeyEach → (state : ReservationState) (i k : ℕ) → IsConsistent state
+    → key_of state.registrations i ≡ Some k → IsUnderAlone state.registrations i k
+under-alone one state i k c e key =
+    let rs = state.registrations in
+    same-test k key (is_registered_under rs i key) (only-key_of one state i k c e key)
+    (λ same. ap (is_registered_under rs i) (sym same) ∙ under-key_of rs i k e)
 
 unregistered-first : (r : Registration) (i : ℕ) (b : Bool) (ys : List Registration) → is_of i r ≡ b
     → key_of ys i ≡ None → key_of (cond (not b) (r ∷ ys) ys) i ≡ None
@@ -216,7 +207,7 @@ module _ (all : List Registration) (kind : ReservationType) (before : Reservatio
       (λ other. at state i v (Some sark, held) _ (ap (λ b. register_or b sark) (not_so _ other))
       (leaves _ (Some sark, held) (key_of-own_replaced all i sark is) refl))
       (λ zero. last_case state i v _ _ refl
-      (at state i v (None, None) _ (ap (λ b. register_or b sark) (not_false _ zero))
+      (at state i v (None, None) _ (ap (λ b. register_or b sark) (not-false _ zero))
       (leaves _ (None, None) (key_of-unregistered all i) ended))))))
 
   reserve_leaves : (new : ReservationType) → key_of all i ≡ Some k
@@ -240,7 +231,7 @@ module _ (all : List Registration) (kind : ReservationType) (before : Reservatio
       (λ _. case_or state i v _ _
       (λ other. at state i v as_before _ (ap release_or (not_so _ other)) (refuses _ key))
       (λ same. last_case state i v _ _ refl
-      (at state i v (Some k, None) _ (ap release_or (not_false _ same)) (leaves _ (Some k, None) key refl))))
+      (at state i v (Some k, None) _ (ap release_or (not-false _ same)) (leaves _ (Some k, None) key refl))))
 
   abbrev taken_left : Option ReservationType → Left
   taken_left None = as_before
@@ -255,7 +246,7 @@ module _ (all : List Registration) (kind : ReservationType) (before : Reservatio
   preempt_or zero own type =
       if zero then as_before else (if own then taken_left type else as_before)
 
-  preempt_leaves : (type : Option ReservationType) (sark : ℕ) → registrations_of all i ≤ 1
+  preempt_leaves : (type : Option ReservationType) (sark : ℕ) → IsUnderAlone all i k
       → key_of all i ≡ Some k
       → CasesLeave state i (preempt_or (sark == 0) (k == sark) type)
       (preempt_cases state i type sark)
@@ -263,7 +254,7 @@ module _ (all : List Registration) (kind : ReservationType) (before : Reservatio
   preempt_leaves type sark one key =
       let v = preempt_or (sark == 0) (k == sark) type in
       let stay = λ (r : Registration). is_of i r || not (is_under sark r) in
-      let under = under-key_of all i sark k one key in
+      let under = one sark in
       case_or state i v _ _
       (λ zero. at state i v as_before _ (ap (λ b. preempt_or b (k == sark) type) zero) (refuses _ key))
       (λ no. case_or state i v _ _
@@ -305,7 +296,7 @@ module _ (all : List Registration) (kind : ReservationType) (before : Reservatio
   action_left RegisterAndIgnoreExistingKey type sark = register_left sark
 
   action_leaves : (action : OutAction) (type : Option ReservationType) (sark : ℕ) (aptpl : Bool)
-      → registrations_of all i ≤ 1 → key_of all i ≡ Some k
+      → IsUnderAlone all i k → key_of all i ≡ Some k
       → Leaves state i (action_left action type sark) (action_outcome state i action type sark aptpl)
   action_leaves Register type sark aptpl one key = (register_leaves sark aptpl key).first
   action_leaves Reserve type sark aptpl one key =
@@ -321,16 +312,16 @@ module _ (all : List Registration) (kind : ReservationType) (before : Reservatio
   accepts RegisterAndIgnoreExistingKey key = true
   accepts action key = k == key
 
-  accepts-key : (action : OutAction) (key : ℕ) → registrations_of all i ≤ 1 → key_of all i ≡ Some k
+  accepts-key : (action : OutAction) (key : ℕ) → IsUnderAlone all i k → key_of all i ≡ Some k
       → accepts_key all i action key ≡ accepts action key
   accepts-key Register key one is =
       or_not_known (is_registered_under all i key) (is_registered all i) (key == 0) (here is)
-      ∙ under-key_of all i key k one is
-  accepts-key Reserve key one is = under-key_of all i key k one is
-  accepts-key Release key one is = under-key_of all i key k one is
-  accepts-key Clear key one is = under-key_of all i key k one is
-  accepts-key Preempt key one is = under-key_of all i key k one is
-  accepts-key PreemptAndAbort key one is = under-key_of all i key k one is
+      ∙ one key
+  accepts-key Reserve key one is = one key
+  accepts-key Release key one is = one key
+  accepts-key Clear key one is = one key
+  accepts-key Preempt key one is = one key
+  accepts-key PreemptAndAbort key one is = one key
   accepts-key RegisterAndIgnoreExistingKey key one is = refl
 
   abbrev left_or : (flag refused : Bool) → Left → Left
@@ -343,7 +334,7 @@ module _ (all : List Registration) (kind : ReservationType) (before : Reservatio
       (action_left action (type_of scope_type) list.service_action_key)
 
   outcome_leaves_own : (action : OutAction) (scope_type : ℕ) (list : OutList)
-      → registrations_of all i ≤ 1 → key_of all i ≡ Some k
+      → IsUnderAlone all i k → key_of all i ≡ Some k
       → Leaves state i (left_after action scope_type list) (outcome state i action scope_type list)
   unfolding outcome
   outcome_leaves_own action scope_type list one key =
@@ -365,8 +356,8 @@ module _ (all : List Registration) (kind : ReservationType) (before : Reservatio
 -- So it leaves the same of two tables in which i has the same key.
 pub own_agrees : (all rest : List Registration) (kind : ReservationType)
     (first second : ReservationState) (i k : ℕ) (action : OutAction) (scope_type : ℕ) (list : OutList)
-    → registrations_of all i ≤ 1 → key_of all i ≡ Some k
-    → registrations_of rest i ≤ 1 → key_of rest i ≡ Some k →
+    → IsUnderAlone all i k → key_of all i ≡ Some k
+    → IsUnderAlone rest i k → key_of rest i ≡ Some k →
     (let a = alone_in all kind i first in
     let b = alone_in rest kind i second in
     left_of (state_after a (outcome a i action scope_type list)) i

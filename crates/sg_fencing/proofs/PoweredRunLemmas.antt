@@ -8,7 +8,7 @@ use Rattle.sg_wire.specs.Layout.{command_of}
 use Rattle.std.specs.Prelude.{if◌then◌else◌, ◌||◌, slice_get}
 use Rattle.sg_pages.specs.ModePage.{after_power_on as pages_after_power_on}
 use Rattle.sg_units.specs.Attentions.{power_on_pending, pending_for}
-use Rattle.sg_units.specs.Laws.{OthersAreRefused}
+use Rattle.sg_units.specs.Laws.{OneKeyEach, OthersAreRefused}
 use Rattle.sg_units.specs.Registrations.{key_of}
 use Rattle.sg_units.specs.Reservations.{empty_state, has_type, is_holder}
 use Rattle.sg_units.specs.declared.reservation_state.ReservationState.{ReservationState}
@@ -44,7 +44,7 @@ pub record LookAlike (first second : State) (i : ℕ) : Type 0 where
   pub identity : first.identity ≡ second.identity
   pub view : view_of first i ≡ view_of second i
 
-module _ (limits : LimitsAreKept) (refuses : OthersAreRefused) (i : ℕ) where
+module _ (limits : LimitsAreKept) (refuses : OthersAreRefused) (one : OneKeyEach) (i : ℕ) where
   -- ---- a power cycle
 
   abbrev holding : ReservationState → Bool
@@ -133,7 +133,7 @@ module _ (limits : LimitsAreKept) (refuses : OthersAreRefused) (i : ℕ) where
       → AreAlike events own
       → AreAlike (event.Call call ∷ events) (cond is_own (event.Call call ∷ own) own)
   by-caller call events own true e rest first second a held persist =
-      let h = own-step i first second call a.first_within a.second_within a.identity a.view (held 0)
+      let h = own-step one i first second call a.first_within a.second_within a.identity a.view (held 0)
       (equal call.initiator i e) in
       let next : LookAlike (step_of first call).state (step_of second call).state i = record {
         first_within = limits.command first call.initiator call.cdb.now call.data_out.now a.first_within;

@@ -1,5 +1,5 @@
 -- PREEMPT and PREEMPT AND ABORT remove the registrations of others under their key.
-use Rattle.std.proofs.Common.{◌≡◌, ◌≤◌, ◌+◌, ◌==◌, ℕ, Bool, true, false, cond, not, ◌||◌, List}
+use Rattle.std.proofs.Common.{◌≡◌, ◌==◌, ℕ, Bool, true, false, cond, not, ◌&&◌, ◌||◌, List}
 use Rattle.std.proofs.Common.{[], ◌∷◌, filter, length, Option, Some, None, Result, Ok, Err}
 use Rattle.std.proofs.Common.{refl, sym, ap, ◌∙◌, subst, arith}
 use Rattle.std.specs.Result.{result_map_both}
@@ -14,7 +14,8 @@ use Rattle.sg_wire.specs.declared.command.out_action.OutAction.{OutAction}
 use Rattle.sg_wire.specs.declared.command.out_action.OutAction.TheVariants.{Preempt, PreemptAndAbort}
 use Rattle.sg_units.specs.UnsupportedFlags.{has_unsupported_flag}
 use Rattle.sg_wire.specs.OutList.{list_length, out_list}
-use Rattle.sg_units.specs.Registrations.{is_of, is_registered, is_under, key_of, registrations_of}
+use Rattle.sg_units.specs.Laws.{OneKeyEach}
+use Rattle.sg_units.specs.Registrations.{is_of, is_registered, is_registered_under, is_under, key_of}
 use Rattle.sg_units.specs.ReservationType.{type_of}
 use Rattle.sg_units.specs.ReserveOut.{Outcome, accepts_key, action_outcome, outcome, preempt_cases}
 use Rattle.sg_units.specs.declared.out_fault.OutFault.TheVariants.{Conflict, Field}
@@ -23,8 +24,7 @@ use Rattle.sg_units.specs.declared.registrations.Registration.{Registration}
 use Rattle.sg_units.specs.declared.reservation_change.ReservationChange.{ReservationChange}
 use Rattle.sg_units.specs.declared.reservation_state.ReservationState.{ReservationState}
 use Rattle.sg_units.specs.declared.types.ReservationType.{ReservationType}
-use Rattle.sg_units.proofs.ConsistencyLemmas.{registrations_of-cons}
-use Rattle.sg_fencing.proofs.ReserveOutLemmas.{key_of-cons}
+use Rattle.sg_fencing.proofs.ReserveOutLemmas.{only-key_of}
 use Rattle.sg_units.proofs.OutcomeLemmas.{EffectIs, FirstIs, case_or, choice, effective, last_case}
 use Rattle.sg_units.proofs.OutcomeLemmas.{refused, taking}
 use Rattle.sg_target.specs.Checks.{no_space}
@@ -45,22 +45,10 @@ use Rattle.sg_target.specs.declared.reply.Status.TheVariants.{Good}
 use Rattle.sg_fencing.proofs.LiftLemmas.{lifted}
 use Rattle.sg_fencing.specs.Registrants.{is_preempting, preempted_key}
 use Rattle.sg_fencing.proofs.AccessLemmas.{not_good}
-use Rattle.sg_fencing.proofs.HolderLemmas.{differ}
-use Rattle.sg_fencing.proofs.RegistrationLemmas.{none-kept, not-in-filter}
+use Rattle.sg_fencing.proofs.HolderLemmas.{differ, or_right}
+use Rattle.sg_fencing.proofs.RegistrationLemmas.{none-kept}
 
 -- ---- The one registration of an initiator
-
-not-counted : (b : Bool) (n : ℕ) (rest : Bool) → cond {A = ℕ} b 1 0 + n ≡ 0 → (n ≡ 0 → rest ≡ false)
-    → (b || rest) ≡ false
-not-counted true n rest h f = absurd (omega arith)
-not-counted false n rest h f = f (omega arith)
-
-none-counted : (rs : List Registration) (i : ℕ) → registrations_of rs i ≡ 0
-    → is_registered rs i ≡ false
-none-counted [] i h = refl
-none-counted (r ∷ rs) i h =
-    not-counted (is_of i r) (registrations_of rs i) (is_registered rs i)
-    (sym (registrations_of-cons r rs i) ∙ h) (none-counted rs i)
 
 under-it : (r : Registration) (key : ℕ) → r.key ≡ key → is_under key r ≡ true
 under-it r key h = grind (arith, nat_tests)
@@ -68,29 +56,27 @@ under-it r key h = grind (arith, nat_tests)
 module _ (keep : Registration → Bool) (i key : ℕ)
     (drops : (r : Registration) → is_of i r ≡ true → is_under key r ≡ true → keep r ≡ false) where
   removed-first : (r : Registration) (rs : List Registration) (b : Bool) → is_of i r ≡ b
-      → cond {A = ℕ} b 1 0 + registrations_of rs i ≤ 1
-      → (registrations_of rs i ≤ 1 → key_of rs i ≡ Some key
-      → is_registered (filter keep rs) i ≡ false)
-      → cond b (Some r.key) (key_of rs i) ≡ Some key
+      → (b ≡ true → r.key ≡ key) → is_registered (filter keep rs) i ≡ false
       → is_registered (cond (keep r) (r ∷ filter keep rs) (filter keep rs)) i ≡ false
-  removed-first r rs true is few rest e =
-      let none : registrations_of rs i ≡ 0 = omega arith in
-      let same : r.key ≡ key = cc in
+  removed-first r rs true is own rest =
       ap (λ k. is_registered (cond k (r ∷ filter keep rs) (filter keep rs)) i)
-      (drops r is (under-it r key same))
-      ∙ not-in-filter keep rs i (none-counted rs i none)
-  removed-first r rs false is few rest e =
-      none-kept (keep r) r (filter keep rs) i false (ap (λ b. b || false) is)
-      (λ _. rest (omega arith) e)
+      (drops r is (under-it r key (own refl)))
+      ∙ rest
+  removed-first r rs false is own rest =
+      none-kept (keep r) r (filter keep rs) i false (ap (λ b. b || false) is) (λ _. rest)
 
-  -- it is removed where it is under the key
-  removed : (rs : List Registration) → registrations_of rs i ≤ 1 → key_of rs i ≡ Some key
+  under-own : (r : Registration) (rs : List Registration) → is_of i r ≡ true
+      → is_registered_under (r ∷ rs) i r.key ≡ true
+  under-own r rs is = grind (arith, nat_tests)
+
+  -- it is removed where i is registered under the key alone
+  removed : (rs : List Registration)
+      → ((k : ℕ) → is_registered_under rs i k ≡ true → key ≡ k)
       → is_registered (filter keep rs) i ≡ false
-  removed [] few e = refl
-  removed (r ∷ rs) few e =
-      let step = registrations_of-cons r rs i in
-      let most : cond {A = ℕ} (is_of i r) 1 0 + registrations_of rs i ≤ 1 = omega arith in
-      removed-first r rs (is_of i r) refl most (removed rs) (sym (key_of-cons r rs i) ∙ e)
+  removed [] only = refl
+  removed (r ∷ rs) only =
+      removed-first r rs (is_of i r) refl (λ is. sym (only r.key (under-own r rs is)))
+      (removed rs (λ k h. only k (or_right (is_of i r && is_under k r) _ h)))
 
 -- ---- The outcome
 
@@ -102,8 +88,8 @@ neither true b h e = h
 neither false b h e = ap not e
 
 module _ (state : ReservationState) (i j : ℕ) (other : (j == i) ≡ false) (list : OutList)
-    (one : registrations_of state.registrations i ≤ 1)
-    (here : key_of state.registrations i ≡ Some list.service_action_key) where
+    (only : (key : ℕ) → is_registered_under state.registrations i key ≡ true
+    → list.service_action_key ≡ key) where
   abbrev key : ℕ
   key = list.service_action_key
 
@@ -113,7 +99,7 @@ module _ (state : ReservationState) (i j : ℕ) (other : (j == i) ≡ false) (li
   gone : (keep : Registration → Bool)
       → ((r : Registration) → is_of i r ≡ true → is_under key r ≡ true → keep r ≡ false)
       → is_registered (filter keep state.registrations) i ≡ false
-  gone keep drops = removed keep i key drops state.registrations one here
+  gone keep drops = removed keep i key drops state.registrations only
 
   preempt-removes : (type : Option ReservationType) → FirstIs IsRemoved (preempt_cases state j type key)
   unfolding preempt_cases
@@ -149,7 +135,7 @@ module _ (state : ReservationState) (i j : ℕ) (other : (j == i) ≡ false) (li
 
 -- ---- The command
 
-module _ (state : State) (i j : ℕ) where
+module _ (one : OneKeyEach) (state : State) (i j : ℕ) where
   abbrev IsGone : State → Type 0
   IsGone after = is_registered after.reservations.registrations i ≡ false
 
@@ -184,7 +170,8 @@ module _ (state : State) (i j : ℕ) where
     reserving-removes action scope_type list h here =
         changing-removes (outcome state.reservations j action scope_type list)
         (outcome-removes state.reservations i j (differ i j other) list
-        (w.registered.one_each i) here action scope_type h)
+        (only-key_of one state.reservations i list.service_action_key w.registered here) action scope_type
+        h)
 
     preempting : (b : Bool) (own key : ℕ) → cond b (Some own) None ≡ Some key → (b ≡ true) × (own ≡ key)
     preempting true own key h =

@@ -12,13 +12,13 @@ use Rattle.sg_wire.specs.declared.command.out_action.OutAction.TheVariants.{Rele
 use Rattle.sg_wire.specs.declared.command.out_action.OutAction.TheVariants.{PreemptAndAbort}
 use Rattle.sg_wire.specs.declared.command.out_action.OutAction.TheVariants.{}
 use Rattle.sg_wire.specs.declared.command.out_action.OutAction.TheVariants.{RegisterAndIgnoreExistingKey}
-use Rattle.sg_units.specs.Laws.{ends_for_others}
+use Rattle.sg_units.specs.Laws.{OneKeyEach, ends_for_others}
 use Rattle.sg_units.specs.UnsupportedFlags.{has_unsupported_flag}
 use Rattle.sg_units.specs.Registrations.{is_of, is_registered, is_registered_under, is_under}
 use Rattle.sg_units.specs.Registrations.{key_of}
 use Rattle.sg_units.specs.Registrations.{registration, with_key_replaced, with_registration}
 use Rattle.sg_units.specs.Registrations.{without_initiator, without_key}
-use Rattle.sg_units.specs.Reservations.{while_held}
+use Rattle.sg_units.specs.Reservations.{IsConsistent, while_held}
 use Rattle.sg_units.specs.ReservationType.{is_all_registrants, type_of}
 use Rattle.sg_units.specs.ReserveOut.{accepts_key, action_outcome, outcome, preempt_cases}
 use Rattle.sg_units.specs.ReserveOut.{preempted}
@@ -135,6 +135,29 @@ pub stays_registered : (all rest : List Registration) (i : ℕ) → key_of rest 
     → is_registered all i ≡ true → is_registered rest i ≡ true
 stays_registered all rest i e h =
     is_registered-key_of rest i ∙ (ap is_some e ∙ (sym (is_registered-key_of all i) ∙ h))
+
+under-first : (r : Registration) (rs : List Registration) (i k : ℕ) (b : Bool)
+    → (key_of rs i ≡ Some k → is_registered_under rs i k ≡ true)
+    → cond b (Some r.key) (key_of rs i) ≡ Some k
+    → ((b && is_under k r) || is_registered_under rs i k) ≡ true
+under-first r rs i k true rest e =
+    let same : r.key ≡ k = cc in
+    grind (arith, nat_tests)
+under-first r rs i k false rest e = rest e
+
+-- an initiator is registered under its key
+pub under-key_of : (rs : List Registration) (i k : ℕ) → key_of rs i ≡ Some k
+    → is_registered_under rs i k ≡ true
+under-key_of [] i k e = cc
+under-key_of (r ∷ rs) i k e =
+    under-first r rs i k (is_of i r) (under-key_of rs i k) (sym (key_of-cons r rs i) ∙ e)
+
+-- and under no other
+pub only-key_of : OneKeyEach → (state : ReservationState) (i k : ℕ) → IsConsistent state
+    → key_of state.registrations i ≡ Some k
+    → (key : ℕ) → is_registered_under state.registrations i key ≡ true → k ≡ key
+only-key_of one state i k c e key h =
+    one state i k key c (under-key_of state.registrations i k e) h
 
 -- ---- The one holder
 

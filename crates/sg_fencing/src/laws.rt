@@ -16,7 +16,7 @@ ghost use Rattle.sg_fencing.specs.Registrants.{OnlyRegisteringRegisters, Outside
 ghost use Rattle.sg_fencing.specs.Registrants.{PreemptedAreUnregistered, PreemptedWriteNothing};
 
 use sg_target::laws::limits_are_kept;
-use sg_units::laws::others_are_refused;
+use sg_units::laws::{one_key_each, others_are_refused};
 
 /// An operation that does not write to the medium leaves the blocks as they are, so that write
 /// protection need not stop a command that asks for it.
@@ -67,7 +67,9 @@ pub fn only_preemption_ends_a_reservation()
 /// and PERSISTENT RESERVE OUT.
 pub fn equal_views_of_a_holder_end_alike()
     ensures { EqualViewsEndAlike }
-{}
+{
+    one_key_each();
+}
 
 /// Where such a reservation is held, no command of another initiator that writes ends with GOOD, and
 /// under exclusive access none that reads.
@@ -93,6 +95,7 @@ pub fn a_holder_is_served_as_if_alone()
 {
     limits_are_kept();
     others_are_refused();
+    one_key_each();
 }
 
 /// Over a list of commands, while an initiator holds an exclusive access reservation, no command of
@@ -156,7 +159,9 @@ pub fn the_unregistered_change_nothing()
 /// registered that was registered under its key.
 pub fn preemption_unregisters()
     ensures { PreemptedAreUnregistered }
-{}
+{
+    one_key_each();
+}
 
 /// After it, over a list of commands, while a reservation of any type is held, no command that
 /// writes of such an initiator ends with GOOD until the initiator registers again.
@@ -164,6 +169,7 @@ pub fn the_preempted_write_nothing()
     ensures { PreemptedWriteNothing }
 {
     others_are_refused();
+    one_key_each();
 }
 
 /// After a power cycle the blocks are as they were, and the saved mode pages are the current ones.
@@ -211,4 +217,5 @@ pub fn a_holder_is_served_as_if_alone_through_power_cycles()
 {
     limits_are_kept();
     others_are_refused();
+    one_key_each();
 }

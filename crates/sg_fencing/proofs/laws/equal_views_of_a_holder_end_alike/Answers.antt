@@ -3,5 +3,6 @@ use Rattle.sg_fencing.proofs.laws.equal_views_of_a_holder_end_alike.Goals as goa
 
 pub returns : goal.returns
 returns c first second holder cdb data_out w w' identity view held =
-    let h = own-alike first second holder cdb data_out w w' identity view held in
+    let h =
+    own-alike c.one_key_each.ensures first second holder cdb data_out w w' identity view held in
     record { view = h.view; answer = h.answer }

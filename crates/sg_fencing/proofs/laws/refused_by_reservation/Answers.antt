@@ -18,7 +18,6 @@ use Rattle.sg_target.specs.Checks.{pending_attention, reservation_conflict, unkn
 use Rattle.sg_target.specs.State.{State}
 use Rattle.sg_target.specs.declared.refusal.Refusal.{Refusal}
 use Rattle.sg_target.specs.declared.refusal.Refusal.TheVariants.{Conflict}
-use Rattle.sg_target.proofs.StepLemmas.{step-checked}
 use Rattle.sg_fencing.proofs.laws.refused_by_reservation.Goals as goal
 
 -- neither no byte nor an unknown operation code
@@ -86,4 +85,4 @@ returns c state i cdb data_out class is not_allowed none =
     let conflict = conflicts state i cdb class is not_allowed in
     let first = first-conflict _ _ _ _ _ sound.has_byte pending sound.has_opcode conflict in
     let refused = conflict-decides state i cdb data_out first in
-    rw (step-checked state i cdb data_out _ refused) refl
+    rw refused refl

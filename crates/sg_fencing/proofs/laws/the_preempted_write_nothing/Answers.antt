@@ -7,6 +7,6 @@ pub returns : goal.returns
 returns c state preempt initiator key calls n call answer w other preempts here good silent e f from
     writes held ends =
     not-written c.others_are_refused.ensures (step_of state preempt).state initiator calls n call answer
-    (preempt-unregisters state initiator preempt.initiator w other preempt.cdb.now
-    preempt.data_out.now key preempts here good)
+    (preempt-unregisters c.one_key_each.ensures state initiator preempt.initiator w other
+    preempt.cdb.now preempt.data_out.now key preempts here good)
     silent e f from writes held ends
