@@ -1,7 +1,9 @@
 -- What the records of the header contain.
 use Rattle.std.specs.Prelude.{◌≡◌, ℕ, Bool, true, false, Option, Some, None, Result, length, min, take}
+use Rattle.std.specs.Prelude.{replicate}
 use Rattle.sg_pages.specs.Identity.{IdentityFields, checked_identity, identity_fields}
 use Rattle.sg_pages.specs.declared.identity.IdentityFault.{IdentityFault}
+use Rattle.sg_wire.specs.CutAnswer.{overwritten}
 use Rattle.sg_wire.specs.SenseData.{SenseFields}
 use Rattle.sg_wire.specs.declared.sense.Pointer.{Pointer}
 use Rattle.sg_target.specs.Status.{status_code}
@@ -15,7 +17,7 @@ use Rattle.sg_embed.specs.declared.record.TheConstants.{SENSE_LENGTH}
 pub record Shows (shown : ReplyRecord) (reply : Reply) : Type 0 where
   pub status : shown.status ≡ status_code reply.status
   pub sense_length : shown.sense_length ≡ min (length reply.sense) SENSE_LENGTH
-  pub sense : take shown.sense_length shown.sense ≡ take SENSE_LENGTH reply.sense
+  pub sense : shown.sense ≡ overwritten (take SENSE_LENGTH reply.sense) (replicate SENSE_LENGTH 0)
   pub data_in : shown.data_in_length ≡ reply.data_in
   pub visits : shown.visits ≡ reply.counts.visits
   pub probes : shown.probes ≡ reply.counts.probes

@@ -22,14 +22,14 @@ pub struct ReplyRecord {
     pub sense_length: u8,
     /// The sense data, and zeros behind it.
     pub sense: [u8; SENSE_LENGTH],
-    /// The length of data-in, in bytes from the beginning of the buffer.
-    pub data_in_length: usize,
     /// Whole records of the map that were read.
     pub visits: u64,
     /// First addresses of records that were compared.
     pub probes: u64,
     /// Links that were followed to reach a mapped block.
     pub links: u64,
+    /// The length of data-in, in bytes from the beginning of the buffer.
+    pub data_in_length: usize,
 }
 
 impl ReplyRecord {
@@ -37,25 +37,19 @@ impl ReplyRecord {
     pub(crate) fn show(&mut self, reply: Reply)
         ensures { Shows self.new reply }
     {
-        let Reply {
-            status,
-            sense,
-            data_in,
-            counts,
-        } = reply;
-        let bytes = sense.as_slice();
-        let count = bytes.len().min(SENSE_LENGTH);
-        self.status = status.code();
+        let count = reply.sense.as_slice().len().min(SENSE_LENGTH);
+        self.status = reply.status.code();
         self.sense_length = count as u8;
         self.sense = [0; SENSE_LENGTH];
-        // Most replies have none, and then nothing is called to copy it.
+        self.visits = reply.counts.visits;
+        self.probes = reply.counts.probes;
+        self.links = reply.counts.links;
+        self.data_in_length = reply.data_in;
+        // Most replies have none, and then nothing is moved or called to copy it.
         if count > 0 {
-            self.sense[..count].copy_from_slice(&bytes[..count]);
+            let sense = reply.sense;
+            self.sense[..count].copy_from_slice(&sense.as_slice()[..count]);
         }
-        self.data_in_length = data_in;
-        self.visits = counts.visits;
-        self.probes = counts.probes;
-        self.links = counts.links;
     }
 }
 

@@ -24,9 +24,9 @@ class Slot(ctypes.Structure):
 class Reply(ctypes.Structure):
     """mdl_reply."""
     _fields_ = [("status", ctypes.c_uint8), ("sense_length", ctypes.c_uint8),
-                ("sense", ctypes.c_uint8 * 20), ("data_in_length", ctypes.c_size_t),
-                ("visits", ctypes.c_uint64), ("probes", ctypes.c_uint64),
-                ("links", ctypes.c_uint64)]
+                ("sense", ctypes.c_uint8 * 20), ("visits", ctypes.c_uint64),
+                ("probes", ctypes.c_uint64), ("links", ctypes.c_uint64),
+                ("data_in_length", ctypes.c_size_t)]
 
 
 class Command(ctypes.Structure):
