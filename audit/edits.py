@@ -79,10 +79,10 @@ def functions_of(text):
 
 
 def of_impl(own, trait, indent):
-    """The type and the trait of a function's impl, without their parameters."""
+    """The type and the trait of a function's impl, without their parameters but From's."""
     if not indent:
         return "", ""
-    return re.sub(r"<.*>", "", own), re.sub(r"<(?!AllocError|ToolFault|ConfigFault|RunFault).*?>+$", "", trait)
+    return re.sub(r"<.*>", "", own), re.sub(r"(?<!From)<.*>$", "", trait)
 
 
 # A function of a crate: its file, what is said of it there, and its body.
@@ -193,9 +193,8 @@ def links(folder):
     return bool(is_static) or os.path.exists(f"{folder}/src/main.rt")
 
 
-# How many checks of a crate ./check makes, and of which crates. Of the others rt ci tries edits one by one.
+# How many checks of a crate ./check makes.
 CHECKS = 2
-CHECKED = ("mehdalung", "sg_block_map", "sg_pool", "sg_run", "sg_table", "sg_tools", "sg_units", "sgrun")
 
 
 def first_groups(root, crate):
@@ -207,4 +206,5 @@ def first_groups(root, crate):
 
 def tried_by_check(root):
     """How many edits of audit/ ./check tries."""
-    return sum(len(group) for it in CHECKED for group in first_groups(root, it))
+    crates = sorted(os.listdir(f"{root}/audit"))
+    return sum(len(group) for it in crates if of_audit(root, it) for group in first_groups(root, it))
