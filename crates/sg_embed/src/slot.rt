@@ -14,7 +14,7 @@ use sg_target::{BUFFER_LENGTH, Config};
 use sg_wire::Initiator;
 use std::alloc::Global;
 use std::marker::Model;
-use std::mem::replace;
+use std::mem::{forget, replace};
 use std::ptr::null_mut;
 
 /// What C declares as `mdl_disk`: the address of a disk, or null.
@@ -154,7 +154,8 @@ impl Slot {
         };
         let done = kept.target.execute(initiator, cdb, data_out, data_in);
         reply.show(done);
-        *self = Slot::of(kept);
+        // There is nothing in the slot to drop, which the compiler doesn't know.
+        forget(replace(self, Slot::of(kept)));
         Outcome::Done
     }
 
