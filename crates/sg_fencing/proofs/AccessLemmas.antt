@@ -1,8 +1,8 @@
 -- A command of a class that the reservation does not allow does not end with GOOD.
 use Rattle.std.proofs.Common.{◌≡◌, ℕ, false, List, [], ◌∷◌, Option, Some, None, refl, ap, ◌∙◌}
+use Rattle.sg_wire.specs.Laws.{CommandsHaveTheirClass}
 use Rattle.sg_wire.specs.Layout.{class_of, command_of}
 use Rattle.sg_wire.specs.declared.command.Class.{Class}
-use Rattle.sg_wire.proofs.ClassLemmas.{class_of-command}
 use Rattle.sg_units.specs.Access.{allows}
 use Rattle.sg_target.specs.Checks.{bad_field, cdb_checks, empty_cdb, pending_attention}
 use Rattle.sg_target.specs.Checks.{reservation_conflict, short_cdb, unknown_opcode}
@@ -44,14 +44,14 @@ module _ (state : State) (j : ℕ) where
   not_good (Check reason) e = cc
 
   -- nor is the operation that it asks for one of a class that is not
-  pub asked-is-allowed : (cdb data_out : List ℕ) (operation : Operation) (class : Class)
-      → Asked state j cdb data_out operation → allows state.reservations j class ≡ false
+  pub asked-is-allowed : CommandsHaveTheirClass → (cdb data_out : List ℕ) (operation : Operation)
+      (class : Class) → Asked state j cdb data_out operation → allows state.reservations j class ≡ false
       → class_for operation ≡ Some class → ⊥
-  asked-is-allowed cdb data_out operation class k not_allowed is =
+  asked-is-allowed classes cdb data_out operation class k not_allowed is =
       let of_class =
       (asked-suits state.disk.capacity k.command data_out operation k.operation_is).class class is in
       passed-is-allowed cdb class k.passed
-      (class_of-command cdb k.command k.command_is ∙ ap Some of_class) not_allowed
+      (classes cdb k.command k.command_is ∙ ap Some of_class) not_allowed
 
   -- a command of a class that is not allowed does not end with GOOD
   pub shut-out : (cdb data_out : List ℕ) (class : Class) → class_of cdb ≡ Some class

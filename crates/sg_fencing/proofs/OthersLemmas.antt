@@ -2,6 +2,7 @@
 use Rattle.std.proofs.Common.{◌≡◌, ℕ, true, false, List}
 use Rattle.std.proofs.Common.{Option, Some, None, Result, Ok, Err, refl, sym, ◌∙◌, subst}
 use Rattle.std.specs.Result.{result_map_both}
+use Rattle.sg_wire.specs.Laws.{CommandsHaveTheirClass}
 use Rattle.sg_wire.specs.declared.command.Class.TheVariants.{Writes}
 use Rattle.sg_wire.specs.declared.command.out_action.OutAction.{OutAction}
 use Rattle.sg_units.specs.Access.{allows}
@@ -127,12 +128,13 @@ module _ (Where : State → Type 0) (state : State) (i j : ℕ) (other : j ≡ i
         reserving-keeps action scope_type list
     operation-keeps _ c = λ _. same state i
 
-    pub step-keeps : (cdb data_out : List ℕ) → KeepsWhere (step state j cdb data_out).state
-    step-keeps cdb data_out =
+    pub step-keeps : CommandsHaveTheirClass → (cdb data_out : List ℕ)
+        → KeepsWhere (step state j cdb data_out).state
+    step-keeps classes cdb data_out =
         lifted state j cdb data_out (λ (done : Step). KeepsWhere done.state)
         (λ refusal _. refused-keeps state i j other refusal)
         (λ operation k. outcome-keeps (effect_of state j operation) (operation-keeps operation
-        (asked-is-allowed state j cdb data_out operation Writes k no_writes)))
+        (asked-is-allowed state j classes cdb data_out operation Writes k no_writes)))
 
 -- ---- Where i holds a reservation alone
 
@@ -176,15 +178,15 @@ module _ (state : State) (i j : ℕ) (other : j ≡ i → ⊥) (h : HoldsAlone s
       (out-leaves action scope_type list)
 
 -- a command of another, after which i still holds
-pub others-keep : LimitsAreKept → OthersAreRefused → (state : State) (i j : ℕ)
-    (cdb data_out : List ℕ) → IsWithinLimits state → (j ≡ i → ⊥) → holds_alone state i ≡ true
+pub others-keep : LimitsAreKept → OthersAreRefused → CommandsHaveTheirClass
+    → (state : State) (i j : ℕ) (cdb data_out : List ℕ) → IsWithinLimits state → (j ≡ i → ⊥) → holds_alone state i ≡ true
     → holds_alone (step state j cdb data_out).state i ≡ true
     → Keeps state (step state j cdb data_out).state i
-others-keep limits refuses state i j cdb data_out w other before after =
+others-keep limits refuses classes state i j cdb data_out w other before after =
     let done = (step state j cdb data_out).state in
     let still = alone done i (limits.command state j cdb data_out w) after in
     let h = alone state i w before in
     step-keeps (IsOneHolder state i j other h w) state i j other
     (refuses-others refuses state.reservations i j other h).writes
-    (λ action scope_type list. reserving-keeps state i j other h w action scope_type list) cdb data_out
-    (one-holder done.reservations i still)
+    (λ action scope_type list. reserving-keeps state i j other h w action scope_type list) classes cdb
+    data_out (one-holder done.reservations i still)

@@ -5,6 +5,7 @@ use Rattle.std.specs.Prelude.{is_some}
 use Rattle.std.specs.Result.{result_map_both}
 use Rattle.std.proofs.lemmas.Bool.{false≢true}
 use Rattle.std.proofs.lemmas.Bool.Decides.{nat_tests}
+use Rattle.sg_wire.specs.Laws.{CommandsHaveTheirClass}
 use Rattle.sg_wire.specs.Layout.{command_of}
 use Rattle.sg_wire.specs.declared.command.CdbFault.{CdbFault}
 use Rattle.sg_wire.specs.declared.command.Class.TheVariants.{Reads, Writes}
@@ -81,8 +82,8 @@ shut refuses state j h =
 
 -- ---- What it leaves of another's view
 
-module _ (refuses : OthersAreRefused) (state : State) (i j : ℕ) (other : j ≡ i → ⊥)
-    (h : IsOutside state j) (w : IsWithinLimits state) where
+module _ (refuses : OthersAreRefused) (classes : CommandsHaveTheirClass) (state : State) (i j : ℕ)
+    (other : j ≡ i → ⊥) (h : IsOutside state j) (w : IsWithinLimits state) where
   abbrev Always : State → Type 0
   Always after = Unit {0}
 
@@ -107,7 +108,8 @@ module _ (refuses : OthersAreRefused) (state : State) (i j : ℕ) (other : j ≡
 
   pub outsider-keeps : (cdb data_out : List ℕ) → Keeps state (step state j cdb data_out).state i
   outsider-keeps cdb data_out =
-      step-keeps Always state i j other (shut refuses state j h).writes reserving-keeps cdb data_out tt
+      step-keeps Always state i j other (shut refuses state j h).writes reserving-keeps classes cdb
+      data_out tt
 
 -- ---- Who stays unregistered
 

@@ -5,6 +5,7 @@ use Rattle.std.specs.Prelude.{is_some, slice_get}
 use Rattle.std.specs.List.{list_all, list_any}
 use Rattle.std.proofs.lemmas.Bool.{false≢true}
 use Rattle.std.proofs.lemmas.Bool.Decides.{nat_tests}
+use Rattle.sg_wire.specs.Laws.{CommandsHaveTheirClass}
 use Rattle.sg_wire.specs.Layout.{class_of, command_of}
 use Rattle.sg_wire.specs.declared.command.Class.TheVariants.{Writes}
 use Rattle.sg_units.specs.Laws.{OthersAreRefused}
@@ -78,13 +79,13 @@ not-written refuses state i (first ∷ calls) (suc n) call answer unknown silent
 
 -- ---- Nothing is changed
 
-pub nothing-changed : LimitsAreKept → OthersAreRefused → (start state : State) (i : ℕ)
-    (calls : List Call) → IsWithinLimits state → is_reserved state ≡ true
+pub nothing-changed : LimitsAreKept → OthersAreRefused → CommandsHaveTheirClass
+    → (start state : State) (i : ℕ) (calls : List Call) → IsWithinLimits state → is_reserved state ≡ true
     → ((j : ℕ) → is_registrant start j ≡ false → is_registrant state j ≡ false)
     → list_all (is_from_outside start) calls ≡ true → list_any (is_from i) calls ≡ false
     → view_of (state_after_all state calls) i ≡ view_of state i
-nothing-changed limits refuses start state i [] w held unknown outside others = refl
-nothing-changed limits refuses start state i (call ∷ calls) w held unknown outside others =
+nothing-changed limits refuses classes start state i [] w held unknown outside others = refl
+nothing-changed limits refuses classes start state i (call ∷ calls) w held unknown outside others =
     let j = call.initiator in
     let cdb = call.cdb.now in
     let data_out = call.data_out.now in
@@ -94,9 +95,9 @@ nothing-changed limits refuses start state i (call ∷ calls) w held unknown out
     let known = unknown j (not_so (is_registrant start j) parts.0) in
     let silent = not_so (registers (command_of cdb)) parts.1 in
     let kept =
-    outsider-keeps refuses state i j (different j i other.0)
+    outsider-keeps refuses classes state i j (different j i other.0)
     (record { held = held; unknown = known }) w cdb data_out in
-    nothing-changed limits refuses start (step_of state call).state i calls
+    nothing-changed limits refuses classes start (step_of state call).state i calls
     (limits.command state j cdb data_out w)
     (ap (λ (v : View). is_some v.reservation) kept.view ∙ held)
     (λ k before. stays-unknown state k j (unknown k before) cdb data_out (λ own. silent))

@@ -4,6 +4,7 @@ use Rattle.std.proofs.Common.{◌≡◌, ℕ, suc, Bool, true, false, cond, ◌&
 use Rattle.std.proofs.Common.{filter, map, take, refl, sym, ap, ◌∙◌, zero}
 use Rattle.std.specs.List.{zip}
 use Rattle.std.proofs.lemmas.List.{take-map}
+use Rattle.sg_wire.specs.Laws.{CommandsHaveTheirClass}
 use Rattle.sg_wire.specs.Layout.{command_of}
 use Rattle.std.specs.Prelude.{if◌then◌else◌, ◌||◌, slice_get}
 use Rattle.sg_pages.specs.ModePage.{after_power_on as pages_after_power_on}
@@ -44,7 +45,8 @@ pub record LookAlike (first second : State) (i : ℕ) : Type 0 where
   pub identity : first.identity ≡ second.identity
   pub view : view_of first i ≡ view_of second i
 
-module _ (limits : LimitsAreKept) (refuses : OthersAreRefused) (one : OneKeyEach) (i : ℕ) where
+module _ (limits : LimitsAreKept) (refuses : OthersAreRefused) (one : OneKeyEach)
+    (classes : CommandsHaveTheirClass) (i : ℕ) where
   -- ---- a power cycle
 
   abbrev holding : ReservationState → Bool
@@ -145,7 +147,7 @@ module _ (limits : LimitsAreKept) (refuses : OthersAreRefused) (one : OneKeyEach
       (rest (step_of first call).state (step_of second call).state next (λ n. held (suc n))
       (λ n at. persist (suc n) at))
   by-caller call events own false e rest first second a held persist =
-      let h = others-keep limits refuses first i call.initiator call.cdb.now call.data_out.now
+      let h = others-keep limits refuses classes first i call.initiator call.cdb.now call.data_out.now
       a.first_within (different call.initiator i e) (held 0) (held 1) in
       let next : LookAlike (step_of first call).state second i = record {
         first_within = limits.command first call.initiator call.cdb.now call.data_out.now a.first_within;

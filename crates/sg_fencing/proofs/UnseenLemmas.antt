@@ -4,6 +4,7 @@ use Rattle.std.proofs.Common.{Some, None, Result, Ok, Err, refl, sym, ap, ◌∙
 use Rattle.std.proofs.lemmas.Bool.Decides.{nat_tests}
 use Rattle.std.specs.FinMap.{len}
 use Rattle.std.specs.Prelude.{nat_lt}
+use Rattle.sg_wire.specs.Laws.{CommandsHaveTheirClass}
 use Rattle.sg_wire.specs.declared.command.CdbFault.{CdbFault}
 use Rattle.sg_wire.specs.declared.command.Class.TheVariants.{Reads, Writes}
 use Rattle.sg_wire.specs.declared.command.Command.{Command}
@@ -133,13 +134,13 @@ module _ (s : State) (x : Contents) (j : ℕ) (fit : len s.disk.contents ≤ s.d
       (λ operation k. operation-alike operation (r operation k) (w operation k))
 
 -- the answer to an initiator that may neither read nor write is the same whatever the blocks are
-pub unseen : (state : State) (contents : Contents) (j : ℕ)
+pub unseen : CommandsHaveTheirClass → (state : State) (contents : Contents) (j : ℕ)
     → allows state.reservations j Reads ≡ false → allows state.reservations j Writes ≡ false
     → len state.disk.contents ≤ state.disk.pool → len contents ≤ state.disk.pool
     → (cdb data_out : List ℕ)
     → (step (with_contents state contents) j cdb data_out).answer
     ≡ (step state j cdb data_out).answer
-unseen state contents j no_reads no_writes mapped fit cdb data_out =
+unseen classes state contents j no_reads no_writes mapped fit cdb data_out =
     sym (step-alike state contents j mapped fit cdb data_out
-    (λ operation k. asked-is-allowed state j cdb data_out operation Reads k no_reads)
-    (λ operation k. asked-is-allowed state j cdb data_out operation Writes k no_writes))
+    (λ operation k. asked-is-allowed state j classes cdb data_out operation Reads k no_reads)
+    (λ operation k. asked-is-allowed state j classes cdb data_out operation Writes k no_writes))

@@ -17,6 +17,7 @@ ghost use Rattle.sg_fencing.specs.Registrants.{PreemptedAreUnregistered, Preempt
 
 use sg_target::laws::limits_are_kept;
 use sg_units::laws::{one_key_each, others_are_refused};
+use sg_wire::laws::commands_have_their_class;
 
 /// An operation that does not write to the medium leaves the blocks as they are, so that write
 /// protection need not stop a command that asks for it.
@@ -54,6 +55,7 @@ pub fn others_leave_the_view_of_a_holder()
 {
     limits_are_kept();
     others_are_refused();
+    commands_have_their_class();
 }
 
 /// Of the commands of other initiators only PERSISTENT RESERVE OUT with CLEAR, PREEMPT or PREEMPT
@@ -85,6 +87,7 @@ pub fn others_see_no_block()
     ensures { OthersSeeNoBlock }
 {
     others_are_refused();
+    commands_have_their_class();
 }
 
 /// Over a list of commands, where an initiator holds such a reservation before and after each: its
@@ -96,6 +99,7 @@ pub fn a_holder_is_served_as_if_alone()
     limits_are_kept();
     others_are_refused();
     one_key_each();
+    commands_have_their_class();
 }
 
 /// Over a list of commands, while an initiator holds an exclusive access reservation, no command of
@@ -122,6 +126,7 @@ pub fn the_unregistered_leave_every_view()
     ensures { FencedOffLeaveTheView }
 {
     others_are_refused();
+    commands_have_their_class();
 }
 
 /// While a reservation of an exclusive access type is held, the answer to an initiator that is not
@@ -130,6 +135,7 @@ pub fn the_unregistered_see_no_block()
     ensures { FencedOffSeeNoBlock }
 {
     others_are_refused();
+    commands_have_their_class();
 }
 
 /// An initiator that is not registered becomes so by REGISTER or REGISTER AND IGNORE EXISTING KEY
@@ -153,6 +159,7 @@ pub fn the_unregistered_change_nothing()
 {
     limits_are_kept();
     others_are_refused();
+    commands_have_their_class();
 }
 
 /// After a PREEMPT or a PREEMPT AND ABORT that ends with GOOD, no initiator but its sender is
@@ -218,4 +225,5 @@ pub fn a_holder_is_served_as_if_alone_through_power_cycles()
     limits_are_kept();
     others_are_refused();
     one_key_each();
+    commands_have_their_class();
 }

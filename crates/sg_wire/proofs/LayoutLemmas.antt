@@ -1,10 +1,9 @@
 -- A CDB, byte by byte.
-use Rattle.std.proofs.Common.{◌≡◌, ◌<◌, ◌≤◌, ℕ, ◌+◌, ◌^◌, ◌%◌, ◌==◌, List, ◌++◌}
-use Rattle.std.proofs.Common.{length, drop, get_or, true, Some, None, cond}
-use Rattle.std.proofs.Common.{eqb, eq-eqb, refl, ap, ◌∙◌, arith}
+use Rattle.std.proofs.Common.{◌≡◌, ◌<◌, ◌≤◌, ℕ, ◌+◌, ◌^◌, List, ◌++◌}
+use Rattle.std.proofs.Common.{length, drop, get_or, Some, None, cond}
+use Rattle.std.proofs.Common.{eqb, refl, ◌∙◌}
 use Rattle.std.specs.Prelude.{bit_and}
 use Rattle.std.proofs.lemmas.List.{drop_more, drop_all}
-use Rattle.std.proofs.lemmas.Nat.{and_mask}
 use Rattle.std.proofs.Math.Nat.{mod-eq_of_lt}
 use Rattle.byteorder.specs.Endian.{big_bytes, big_number}
 use Rattle.byteorder.specs.Numbers.{big_from-bytes}
@@ -23,14 +22,6 @@ pub first_bad-end : (masks bytes : List ℕ) (k : ℕ) → length masks ≤ k
 first_bad-end masks bytes k h = rw (drop_all k masks h) refl
 
 pub ruleset byte_by_byte = (first_bad-more, first_bad-end)
-
--- a byte has no bit outside a whole mask
-pub is_whole : (x : ℕ) → x < 256 → (bit_and x 255 == x) ≡ true
-is_whole x h = let same : bit_and x 255 ≡ x = and_mask x 8 ∙ mod-eq_of_lt h in
-    ap (λ y. y == x) same ∙ eq-eqb x x refl
-
-pub is_whole-mod : (x : ℕ) → (bit_and (x % 256) 255 == x % 256) ≡ true
-is_whole-mod x = is_whole (x % 256) (omega arith)
 
 -- a number is read again
 pub number_again : (n x : ℕ) (rest : List ℕ) → x < 256 ^ n

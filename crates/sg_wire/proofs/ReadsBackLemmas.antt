@@ -1,350 +1,328 @@
--- The CDB of each command is decoded as it again.
-use Rattle.std.proofs.Common.{◌≡◌, ◌<◌, ◌≤◌, ℕ, ◌+◌, ◌-◌, ◌*◌, ◌/◌, ◌^◌, ◌%◌, ◌==◌, List, []}
-use Rattle.std.proofs.Common.{◌∷◌, ◌++◌, Bool, true, false, Ok, eq-eqb, refl, ap, ◌∙◌, arith}
-use Rattle.std.specs.Prelude.{bit_and, ◌&&◌, nat_lt, nat_le}
-use Rattle.std.proofs.lemmas.Bool.{and_parts}
+-- The CDB of each command is decoded as it again. The places of a row's fields do not overlap and
+-- lie in its masks, which computes: so each field has its own bits of the CDB.
+use Rattle.std.proofs.Common.{◌≡◌, ◌<◌, ◌≤◌, ℕ, zero, suc, ◌+◌, ◌-◌, ◌*◌, ◌/◌, ◌^◌, ◌%◌, ◌==◌, List}
+use Rattle.std.proofs.Common.{[], ◌∷◌, ◌++◌, map, Bool, true, false, Ok, None, ⊎_elim, eq-eqb, refl}
+use Rattle.std.proofs.Common.{sym, ap, ◌∙◌, min, max, arith}
+use Rattle.std.specs.Int.{bit_at}
+use Rattle.std.specs.Int.Bits.{and_self, and_zero_l, and_zero_r}
+use Rattle.std.specs.List.{list_all, flat_map, range_with_len}
+use Rattle.std.specs.Prelude.{bit_and, bit_or, ◌&&◌, nat_le, slice_index, if◌then◌else◌}
+use Rattle.std.proofs.lemmas.Bool.{and_parts, cases_lt, cond_both, eqb-true, ltb-true}
 use Rattle.std.proofs.lemmas.Bool.Decides.{nat_tests}
-use Rattle.std.proofs.lemmas.Nat.{and_mask}
-use Rattle.std.proofs.Math.Nat.{mod-eq_of_lt}
+use Rattle.std.proofs.lemmas.Nat.{and_assoc, and_mask, or_disjoint, pow_pos, pow_below, shl-shr}
+use Rattle.std.proofs.lemmas.Nat.Bits.{and_high, bit_at_and, bit_at_or, bit_at-zero, same_from_bits}
+use Rattle.std.proofs.Math.Nat.{mod-eq_of_lt, div-one}
 use Rattle.byteorder.specs.Endian.{big_bytes, big_number}
-use Rattle.sg_wire.specs.declared.command.in_action.InAction.{InAction}
-use Rattle.sg_wire.specs.declared.command.in_action.InAction.TheVariants.{ReadKeys, ReadReservation}
-use Rattle.sg_wire.specs.declared.command.in_action.InAction.TheVariants.{ReportCapabilities, ReadFullStatus}
-use Rattle.sg_wire.specs.declared.command.out_action.OutAction.{OutAction}
-use Rattle.sg_wire.specs.declared.command.out_action.OutAction.TheVariants.{Register, Reserve}
-use Rattle.sg_wire.specs.declared.command.out_action.OutAction.TheVariants.{Release, Clear, Preempt}
-use Rattle.sg_wire.specs.declared.command.out_action.OutAction.TheVariants.{PreemptAndAbort}
-use Rattle.sg_wire.specs.declared.command.out_action.OutAction.TheVariants.{RegisterAndIgnoreExistingKey}
+use Rattle.sg_wire.specs.declared.command.in_action.InAction.TheVariants.{ReadKeys}
+use Rattle.sg_wire.specs.declared.command.out_action.OutAction.TheVariants.{Clear}
 use Rattle.sg_wire.specs.declared.command.Command.{Command}
 use Rattle.sg_wire.specs.declared.command.Command.TheVariants as command
-use Rattle.sg_wire.specs.Commands.{request_sense, inquiry, mode_select_6, mode_select_10}
-use Rattle.sg_wire.specs.Commands.{mode_sense_6, mode_sense_10, write_same_10}
-use Rattle.sg_wire.specs.Commands.{write_same_16, unmap, reserve_in, reserve_out}
-use Rattle.sg_wire.specs.Layout.{Field, Place, Value, command_of, command_with, cdb_of, blocks_of}
-use Rattle.sg_wire.specs.Layout.{Maker, layout, make_from, value_at}
+use Rattle.sg_wire.specs.Commands.{reserve_in, reserve_out}
+use Rattle.sg_wire.specs.Layout.{Field, Place, Value, Layout, Maker, layout, cdb_of}
+use Rattle.sg_wire.specs.Layout.{command_of, command_with, has_bit, shifted_right}
+use Rattle.sg_wire.specs.Layout.{blocks_of, joined, part_in, mask_in, mask_of, masks, first_bad}
+use Rattle.sg_wire.specs.Layout.{length_of, unless_bad}
 use Rattle.sg_wire.specs.Layout.Place.{bit, bits, bytes, short_extent}
+use Rattle.sg_wire.specs.Layout.ServiceAction.{none, named}
 use Rattle.sg_wire.specs.Ranges.{fits_cdb, has_room, have_room}
-use Rattle.sg_wire.proofs.LayoutLemmas.{is_whole, is_whole-mod, number_again}
+use Rattle.sg_wire.proofs.LayoutLemmas.{number_again}
 
--- ---- values that fit
+-- ---- numbers and masks
 
--- the value is small enough
-abbrev IsSmall : (place : Place) → Value place → Type 0
-IsSmall (bit byte index) value = Unit {0}
-IsSmall (bits byte high low) value = value < 2 ^ (high + 1 - low)
-IsSmall (bytes first last) value = value < 256 ^ (last + 1 - first)
-IsSmall short_extent value = (value.0 < 2 ^ 21) × (1 ≤ value.1) × (value.1 ≤ 256)
+-- a number has no bit outside a mask
+abbrev IsWithin : ℕ → ℕ → Type 0
+IsWithin x mask = bit_and x mask ≡ x
 
-less : (a b : ℕ) → nat_lt a b ≡ true → a < b
-less a b h = grind (arith, nat_tests)
+-- a number of w bits
+small : (x w : ℕ) → x < 2 ^ w → IsWithin x (2 ^ w - 1)
+small x w h = and_mask x w ∙ mod-eq_of_lt h
 
-at_most : (a b : ℕ) → nat_le a b ≡ true → a ≤ b
-at_most a b h = grind (arith, nat_tests)
+bit_of : (x y z i : ℕ) → bit_and x y ≡ z → min (bit_at x i) (bit_at y i) ≡ bit_at z i
+bit_of x y z i h = sym (bit_at_and x y i) ∙ ap (λ n. bit_at n i) h
 
-is_small : (place : Place) (value : Value place) → has_room place value ≡ true → IsSmall place value
-is_small (bit byte index) value h = tt
-is_small (bits byte high low) value h = less value (2 ^ (high + 1 - low)) h
-is_small (bytes first last) value h = less value (256 ^ (last + 1 - first)) h
-is_small short_extent value h =
-    let both = and_parts (nat_lt value.0 (2 ^ 21)) (nat_le 1 value.1 && nat_le value.1 256) h in
-    let count = and_parts (nat_le 1 value.1) (nat_le value.1 256) both.1 in
-    (less value.0 (2 ^ 21) both.0, at_most 1 value.1 count.0, at_most value.1 256 count.1)
+-- two numbers within masks that have no bit in common
+module _ (a b m n : ℕ) (am : IsWithin a m) (bn : IsWithin b n) (apart : bit_and m n ≡ 0) where
+  bits_of : (i : ℕ) → (min (bit_at a i) (bit_at m i) ≡ bit_at a i)
+      × (min (bit_at b i) (bit_at n i) ≡ bit_at b i) × (min (bit_at m i) (bit_at n i) ≡ 0)
+      × (bit_at (bit_or a b) i ≡ max (bit_at a i) (bit_at b i))
+      × (bit_at (bit_or m n) i ≡ max (bit_at m i) (bit_at n i))
+  bits_of i =
+      let none = bit_of m n 0 i apart ∙ bit_at-zero i in
+      (bit_of a m a i am, bit_of b n b i bn, none, bit_at_or a b i, bit_at_or m n i)
 
-abbrev AreSmall : List Field → Type 0
-AreSmall [] = Unit {0}
-AreSmall (field ∷ fields) = IsSmall field.place field.value × AreSmall fields
+  sum_is_or : a + b ≡ bit_or a b
+  sum_is_or = sym (or_disjoint a b (same_from_bits (bit_and a b) 0
+      (λ i. omega (arith, bits_of i, bit_at_and a b i, bit_at-zero i))))
 
-are_small : (fields : List Field) → have_room fields ≡ true → AreSmall fields
-are_small [] h = tt
-are_small (field ∷ fields) h =
-    let both = and_parts (has_room field.place field.value) (have_room fields) h in
-    (is_small field.place field.value both.0, are_small fields both.1)
+  sum_is_within : IsWithin (a + b) (bit_or m n)
+  sum_is_within = rw sum_is_or (same_from_bits _ _
+      (λ i. omega (arith, bits_of i, bit_at_and (bit_or a b) (bit_or m n) i)))
 
--- ---- commands whose fields are numbers of several bytes
+  -- what has their sum there has each of them
+  parted : (x : ℕ) → bit_and x (bit_or m n) ≡ a + b → (bit_and x m ≡ a) × (bit_and x n ≡ b)
+  parted x h =
+      let both = λ (i : ℕ). bit_of x (bit_or m n) (bit_or a b) i (h ∙ sum_is_or) in (
+        same_from_bits _ _ (λ i. omega (arith, bits_of i, both i, bit_at_and x m i)),
+        same_from_bits _ _ (λ i. omega (arith, bits_of i, both i, bit_at_and x n i)),
+      )
 
-abbrev IsAgain : (place : Place) → Value place → Type 0
-IsAgain (bytes first last) value =
-    big_number (last + 1 - first) (big_bytes (last + 1 - first) value ++ []) ≡ value
-IsAgain place value = Unit {0}
+-- the bits of a number from low on, below high
+and_between : (x high low : ℕ)
+    → bit_and x (2 ^ high - 2 ^ low) ≡ x / 2 ^ low % 2 ^ (high - low) * 2 ^ low
+and_between x high low = ⊎_elim
+    (λ (above : high < low).
+    let no_bit : 2 ^ high - 2 ^ low ≡ 0 = omega (arith, pow_below high low above) in
+    let no_width : high - low ≡ 0 = omega arith in
+    let nothing : x / 2 ^ low % 2 ^ 0 ≡ 0 = omega arith in
+    rw (no_bit, no_width, nothing) (and_zero_r x ∙ omega arith))
+    (λ (within : low ≤ high). let e : high ≡ high - low + low = omega arith in
+    ap (λ h. bit_and x (2 ^ h - 2 ^ low)) e ∙ and_high x (high - low) low)
+    (cases_lt high low)
 
-is_again : (place : Place) (value : Value place) → has_room place value ≡ true → IsAgain place value
-is_again (bytes first last) value h =
-    let n = last + 1 - first in number_again n value [] (less value (256 ^ n) h)
-is_again (bit byte index) value h = tt
-is_again (bits byte high low) value h = tt
-is_again short_extent value h = tt
+-- ---- the part of a byte that a place has
 
-abbrev AreAgain : List Field → Type 0
-AreAgain [] = Unit {0}
-AreAgain (field ∷ fields) = IsAgain field.place field.value × AreAgain fields
+-- a property of a choice by two numbers
+unless_equal : (a b x y : ℕ) (P : ℕ → Type 0) → (a ≡ b → P x) → P y → P (if a == b then x else y)
+unless_equal a b x y P h k = cond_both (a == b) x y P (λ e. h (eqb-true a b e)) (λ e. k)
 
-are_again : (fields : List Field) → have_room fields ≡ true → AreAgain fields
-are_again [] h = tt
-are_again (field ∷ fields) h =
-    let both = and_parts (has_room field.place field.value) (have_room fields) h in
-    (is_again field.place field.value both.0, are_again fields both.1)
+shifted_left : (low value : ℕ) → (if low == 0 then value else value * 2 ^ low) ≡ value * 2 ^ low
+shifted_left low value = unless_equal low 0 value (value * 2 ^ low) (λ x. x ≡ value * 2 ^ low)
+    (λ e. rw e (omega arith)) refl
 
--- the fields of a CDB have these values
-abbrev HaveValues : List ℕ → List Field → Type 0
-HaveValues cdb [] = Unit {0}
-HaveValues cdb (field ∷ fields) = (value_at cdb field.place ≡ field.value) × HaveValues cdb fields
+byte_of_number : (n x k : ℕ) → slice_index (big_bytes n x) k < 256
+byte_of_number zero x k = omega arith
+byte_of_number (suc zero) x zero = omega arith
+byte_of_number (suc (suc n)) x zero = omega arith
+byte_of_number (suc n) x (suc k) = byte_of_number n x k
 
--- what is made of the fields' own values
-abbrev own : (fields : List Field) → Maker fields → Command
-own [] command = command
-own (field ∷ fields) make = own fields (make field.value)
+-- a part that is in the byte, or is not
+within_if : (here : Bool) (x mask : ℕ) → IsWithin x mask
+    → IsWithin (joined (if here then x ∷ [] else [])) (if here then mask else 0)
+within_if true x mask h = h
+within_if false x mask h = refl
 
-is_own : (command : Command) → own (layout command).fields (layout command).make ≡ command
-is_own command.TestUnitReady = refl
-is_own other = refl
+extent-within : (k lba count : ℕ) → lba < 2 ^ 21
+    → IsWithin (joined (part_in k short_extent (lba, count))) (mask_in k short_extent)
+extent-within zero lba count h = refl
+extent-within (suc zero) lba count h = small (lba / 65536) 5 (omega arith)
+extent-within (suc (suc zero)) lba count h = small (lba % 65536 / 256 % 256) 8 (omega arith)
+extent-within (suc (suc (suc zero))) lba count h = small (lba % 65536 % 256) 8 (omega arith)
+extent-within (suc (suc (suc (suc zero)))) lba count h = small (count % 256) 8 (omega arith)
+extent-within (suc (suc (suc (suc (suc k))))) lba count h =
+    let n : suc (suc (suc (suc (suc k)))) ≡ k + 5 = omega arith in
+    let past : (nat_le 1 (k + 5) && nat_le (k + 5) 4) ≡ false = grind (arith, nat_tests) in
+    rw (n, past) (and_zero_l (slice_index (0 ∷ []) k))
 
-made : (cdb : List ℕ) (fields : List Field) (make : Maker fields) → HaveValues cdb fields
-    → make_from cdb fields make ≡ own fields make
-made cdb [] make h = refl
-made cdb (field ∷ fields) make h =
-    made cdb fields (make (value_at cdb field.place)) h.1
-    ∙ ap (λ (v : Value field.place). own fields (make v)) h.0
+-- the part has no bit outside the place
+part_is_within : (k : ℕ) (place : Place) (value : Value place) → has_room place value ≡ true
+    → IsWithin (joined (part_in k place value)) (mask_in k place)
+part_is_within k (bit byte index) true h = within_if (k == byte) _ _ (and_self (2 ^ index))
+part_is_within k (bit byte index) false h = within_if (k == byte) 0 _ (and_zero_l (2 ^ index))
+part_is_within k (bits byte high low) value h =
+    let below : value < 2 ^ (high + 1 - low) = ltb-true value _ h in
+    within_if (k == byte) _ _
+    (rw (shifted_left low value, and_between _ (high + 1) low, shl-shr value low)
+    (ap (λ x. x * 2 ^ low) (mod-eq_of_lt below)))
+part_is_within k (bytes first last) value h =
+    let n = last + 1 - first in
+    within_if (nat_le first k && nat_le k last) _ 255 (small _ 8 (unless_equal first last value
+    (slice_index (big_bytes n value) (k - first)) (λ x. x < 256)
+    (λ e. let one : n ≡ 1 = omega arith in rw one at (ltb-true value (256 ^ n) h))
+    (byte_of_number n value (k - first))))
+part_is_within k short_extent value h =
+    extent-within k value.0 value.1 (ltb-true value.0 (2 ^ 21) (and_parts _ _ h).0)
 
--- ---- flags, bits and short numbers, which share bytes
+joined-append : (xs ys : List ℕ) → joined (xs ++ ys) ≡ joined xs + joined ys
+joined-append [] ys = omega arith
+joined-append (x ∷ []) [] = omega arith
+joined-append (x ∷ []) (y ∷ ys) = refl
+joined-append (x ∷ more ∷ xs) ys = omega (arith, joined-append (more ∷ xs) ys)
 
-reads_back-request_sense : (desc : Bool) (allocation_length : ℕ) → allocation_length < 256
-    → command_of (cdb_of (request_sense desc allocation_length))
-    ≡ Ok (request_sense desc allocation_length)
-unfolding command_of command_with cdb_of
-reads_back-request_sense true allocation_length a = simp (is_whole allocation_length a)
-reads_back-request_sense false allocation_length a = simp (is_whole allocation_length a)
+-- ---- byte k of some fields
 
-reads_back-inquiry : (evpd : Bool) (page_code allocation_length : ℕ) → page_code < 256
-    → allocation_length < 2 ^ 16 →
-    command_of (cdb_of (inquiry evpd page_code allocation_length))
-    ≡ Ok (inquiry evpd page_code allocation_length)
-unfolding command_of command_with cdb_of
-reads_back-inquiry true page_code allocation_length p a =
-    let f = number_again 2 allocation_length [] a in simp (is_whole page_code p, is_whole-mod) cc
-reads_back-inquiry false page_code allocation_length p a =
-    let f = number_again 2 allocation_length [] a in simp (is_whole page_code p, is_whole-mod) cc
+module _ (k : ℕ) where
+  abbrev part : Field → ℕ
+  part f = joined (part_in k f.place f.value)
+
+  abbrev byte : List Field → ℕ
+  byte fields = joined (flat_map (λ (f : Field). part_in k f.place f.value) fields)
+
+  -- the bits of the places
+  abbrev covered : List Field → ℕ
+  covered [] = 0
+  covered (f ∷ fields) = bit_or (mask_in k f.place) (covered fields)
+
+  -- no bit is of two places
+  abbrev are_apart : List Field → Bool
+  are_apart [] = true
+  are_apart (f ∷ fields) = (bit_and (mask_in k f.place) (covered fields) == 0) && are_apart fields
+
+  -- a number has at each place the field's part
+  abbrev HasParts : ℕ → List Field → Type 0
+  HasParts x [] = Unit {0}
+  HasParts x (f ∷ fields) = (bit_and x (mask_in k f.place) ≡ part f) × HasParts x fields
+
+  byte_is : (fields : List Field) → have_room fields ≡ true → are_apart fields ≡ true
+      → IsWithin (byte fields) (covered fields)
+      × ((x : ℕ) → bit_and x (covered fields) ≡ byte fields → HasParts x fields)
+  byte_is [] room apart = (refl, λ x h. tt)
+  byte_is (f ∷ fields) room apart =
+      let rooms = and_parts _ _ room in
+      let aparts = and_parts _ _ apart in
+      let within = part_is_within k f.place f.value rooms.0 in
+      let rest = byte_is fields rooms.1 aparts.1 in
+      let none_shared = eqb-true _ 0 aparts.0 in
+      let p = part_in k f.place f.value in
+      let sum : byte (f ∷ fields) ≡ part f + byte fields = joined-append p _ in (
+        rw sum (sum_is_within (part f) (byte fields) _ _ within rest.0 none_shared),
+        λ x h. let two = parted (part f) (byte fields) _ _ within rest.0 none_shared x (h ∙ sum) in
+            (two.0, rest.1 x two.1),
+      )
+
+-- ---- the fields of a CDB are read again
+
+bits_again : (high low value x : ℕ) → bit_and x (2 ^ high - 2 ^ low) ≡ value * 2 ^ low
+    → bit_and (shifted_right x low) (2 ^ (high - low) - 1) ≡ value
+bits_again high low value x e =
+    let shifted : shifted_right x low ≡ x / 2 ^ low = unless_equal low 0 x (x / 2 ^ low)
+    (λ y. y ≡ x / 2 ^ low) (λ e. rw e (sym (div-one x))) refl in
+    rw (shifted, and_mask (x / 2 ^ low) (high - low))
+    (sym (shl-shr (x / 2 ^ low % 2 ^ (high - low)) low)
+    ∙ ap (λ y. y / 2 ^ low) (sym (and_between x high low) ∙ e) ∙ shl-shr value low)
+
+address_again : (lba : ℕ) → lba < 2 ^ 21
+    → bit_and (lba / 65536) 0x1F * 65536 + big_number 2 (big_bytes 2 (lba % 65536) ++ []) ≡ lba
+address_again lba h =
+    omega (arith, small (lba / 65536) 5 (omega arith), number_again 2 (lba % 65536) [] (omega arith))
 
 -- 256 blocks are written as 0
-blocks_again : (count : ℕ) → 1 ≤ count → count ≤ 256 → blocks_of (count % 256) ≡ count
-blocks_again count some most = grind (arith, nat_tests)
+blocks_again : (count : ℕ) → (nat_le 1 count && nat_le count 256) ≡ true
+    → blocks_of (count % 256) ≡ count
+blocks_again count h = grind (arith, nat_tests)
 
--- READ(6) and WRITE(6)
-reads_back-extent_6 : (lba count : ℕ) → lba < 2 ^ 21 → 1 ≤ count → count ≤ 256 →
-    (command_of (cdb_of (command.Read6 (lba, count))) ≡ Ok (command.Read6 (lba, count)))
-    × (command_of (cdb_of (command.Write6 (lba, count))) ≡ Ok (command.Write6 (lba, count)))
-unfolding command_of command_with cdb_of
-reads_back-extent_6 lba count l some most =
-    let high = lba / 65536 in
-    let five : bit_and high 31 ≡ high = and_mask high 5 ∙ mod-eq_of_lt (omega arith) in
-    let pass : (bit_and high 31 == high) ≡ true =
-    ap (λ y. y == high) five ∙ eq-eqb high high refl in
-    let f = number_again 2 (lba % 65536) [] (omega arith) in
-    let e : bit_and high 31 * 65536 + lba % 65536 ≡ lba =
-    ap (λ y. y * 65536 + lba % 65536) five ∙ omega arith in
-    let b = blocks_again count some most in
-    (simp (pass, is_whole-mod) cc, simp (pass, is_whole-mod) cc)
+module _ (all : List Field) where
+  -- what is read at a place, in the bytes of all fields
+  abbrev read : (place : Place) → Value place → Value place
+  read (bit k index) value = has_bit (byte k all) (2 ^ index)
+  read (bits k high low) value = bit_and (shifted_right (byte k all) low) (2 ^ (high + 1 - low) - 1)
+  read (bytes first last) value = if first == last then value
+      else big_number (last + 1 - first) (big_bytes (last + 1 - first) value ++ [])
+  read short_extent value = (
+    bit_and (value.0 / 65536) 0x1F * 65536 + big_number 2 (big_bytes 2 (value.0 % 65536) ++ []),
+    blocks_of (value.1 % 256),
+  )
 
-reads_back-write_same_10 : (anchor unmap : Bool) (lba count : ℕ) → lba < 2 ^ 32 → count < 2 ^ 16
-    → command_of (cdb_of (write_same_10 anchor unmap lba count))
-    ≡ Ok (write_same_10 anchor unmap lba count)
-unfolding command_of command_with cdb_of
-reads_back-write_same_10 true true lba count l n =
-    let e = number_again 4 lba [] l in
-    let f = number_again 2 count [] n in simp is_whole-mod cc
-reads_back-write_same_10 true false lba count l n =
-    let e = number_again 4 lba [] l in
-    let f = number_again 2 count [] n in simp is_whole-mod cc
-reads_back-write_same_10 false true lba count l n =
-    let e = number_again 4 lba [] l in
-    let f = number_again 2 count [] n in simp is_whole-mod cc
-reads_back-write_same_10 false false lba count l n =
-    let e = number_again 4 lba [] l in
-    let f = number_again 2 count [] n in simp is_whole-mod cc
+  -- no place of a byte that is shared overlaps another
+  abbrev is_apart : Place → Bool
+  is_apart (bit k index) = are_apart k all
+  is_apart (bits k high low) = are_apart k all
+  is_apart place = true
 
-reads_back-write_same_16 : (anchor unmap : Bool) (lba count : ℕ) → lba < 2 ^ 64 → count < 2 ^ 32
-    → command_of (cdb_of (write_same_16 anchor unmap lba count))
-    ≡ Ok (write_same_16 anchor unmap lba count)
-unfolding command_of command_with cdb_of
-reads_back-write_same_16 true true lba count l n =
-    let e = number_again 8 lba [] l in
-    let f = number_again 4 count [] n in simp is_whole-mod cc
-reads_back-write_same_16 true false lba count l n =
-    let e = number_again 8 lba [] l in
-    let f = number_again 4 count [] n in simp is_whole-mod cc
-reads_back-write_same_16 false true lba count l n =
-    let e = number_again 8 lba [] l in
-    let f = number_again 4 count [] n in simp is_whole-mod cc
-reads_back-write_same_16 false false lba count l n =
-    let e = number_again 8 lba [] l in
-    let f = number_again 4 count [] n in simp is_whole-mod cc
+  is_again : (place : Place) (value : Value place) → has_room place value ≡ true
+      → is_apart place ≡ true → ((k : ℕ) → are_apart k all ≡ true
+      → bit_and (byte k all) (mask_in k place) ≡ joined (part_in k place value))
+      → read place value ≡ value
+  is_again (bit k index) true room apart own =
+      let some : (2 ^ index == 0) ≡ false = grind (arith, nat_tests, pow_pos index) in
+      rw (rw (eq-eqb k k refl) at (own k apart), some) refl
+  is_again (bit k index) false room apart own = rw (rw (eq-eqb k k refl) at (own k apart)) refl
+  is_again (bits k high low) value room apart own =
+      bits_again (high + 1) low value (byte k all)
+      ((rw (eq-eqb k k refl) at (own k apart)) ∙ shifted_left low value)
+  is_again (bytes first last) value room apart own =
+      let n = last + 1 - first in
+      unless_equal first last value (big_number n (big_bytes n value ++ [])) (λ x. x ≡ value)
+      (λ e. refl) (number_again n value [] (ltb-true value (256 ^ n) room))
+  is_again short_extent value room apart own =
+      let both = and_parts _ _ room in
+      let lba = address_again value.0 (ltb-true value.0 (2 ^ 21) both.0) in
+      let count = blocks_again value.1 both.1 in λ i. (lba i, count i)
 
--- a group number has five bits
-five_bits : (group : ℕ) → group < 32 → bit_and group 31 ≡ group
-five_bits group g = and_mask group 5 ∙ mod-eq_of_lt g
+  -- what is made of the values that are read, and of the fields' own
+  abbrev made : (fields : List Field) → Maker fields → Command
+  made [] command = command
+  made (f ∷ fields) make = made fields (make (read f.place f.value))
 
-is_group : (group : ℕ) → group < 32 → (bit_and group 31 == group) ≡ true
-is_group group g = ap (λ y. y == group) (five_bits group g) ∙ eq-eqb group group refl
+  abbrev own : (fields : List Field) → Maker fields → Command
+  own [] command = command
+  own (f ∷ fields) make = own fields (make f.value)
 
-reads_back-unmap : (anchor : Bool) (group list_length : ℕ) → group < 32 → list_length < 2 ^ 16
-    → command_of (cdb_of (unmap anchor group list_length)) ≡ Ok (unmap anchor group list_length)
-unfolding command_of command_with cdb_of
-reads_back-unmap true group list_length g n =
-    let e = five_bits group g in
-    let f = number_again 2 list_length [] n in simp (is_group group g, is_whole-mod) cc
-reads_back-unmap false group list_length g n =
-    let e = five_bits group g in
-    let f = number_again 2 list_length [] n in simp (is_group group g, is_whole-mod) cc
-
-reads_back-mode_select_6 : (pf sp : Bool) (list_length : ℕ) → list_length < 256
-    → command_of (cdb_of (mode_select_6 pf sp list_length)) ≡ Ok (mode_select_6 pf sp list_length)
-unfolding command_of command_with cdb_of
-reads_back-mode_select_6 true true list_length n = simp (is_whole list_length n)
-reads_back-mode_select_6 true false list_length n = simp (is_whole list_length n)
-reads_back-mode_select_6 false true list_length n = simp (is_whole list_length n)
-reads_back-mode_select_6 false false list_length n = simp (is_whole list_length n)
-
-reads_back-mode_select_10 : (pf sp : Bool) (list_length : ℕ) → list_length < 2 ^ 16
-    → command_of (cdb_of (mode_select_10 pf sp list_length)) ≡ Ok (mode_select_10 pf sp list_length)
-unfolding command_of command_with cdb_of
-reads_back-mode_select_10 true true list_length n = let f = number_again 2 list_length [] n in
-    simp is_whole-mod cc
-reads_back-mode_select_10 true false list_length n = let f = number_again 2 list_length [] n in
-    simp is_whole-mod cc
-reads_back-mode_select_10 false true list_length n = let f = number_again 2 list_length [] n in
-    simp is_whole-mod cc
-reads_back-mode_select_10 false false list_length n = let f = number_again 2 list_length [] n in
-    simp is_whole-mod cc
-
--- PC and PAGE CODE share a byte
-pc_again : (pc page : ℕ) → pc < 4 → page < 64 → bit_and ((pc * 64 + page) / 64) 3 ≡ pc
-pc_again pc page p q = and_mask ((pc * 64 + page) / 64) 2 ∙ omega arith
-
-page_again : (pc page : ℕ) → pc < 4 → page < 64 → bit_and (pc * 64 + page) 63 ≡ page
-page_again pc page p q = and_mask (pc * 64 + page) 6 ∙ omega arith
-
-reads_back-mode_sense_6 : (dbd : Bool) (pc page subpage allocation_length : ℕ) → pc < 4 → page < 64
-    → subpage < 256 → allocation_length < 256
-    → command_of (cdb_of (mode_sense_6 dbd pc page subpage allocation_length))
-    ≡ Ok (mode_sense_6 dbd pc page subpage allocation_length)
-unfolding command_of command_with cdb_of
-reads_back-mode_sense_6 true pc page subpage n p q s a =
-    let e = pc_again pc page p q in
-    let f = page_again pc page p q in
-    simp (is_whole (pc * 64 + page) (omega arith), is_whole subpage s, is_whole n a) cc
-reads_back-mode_sense_6 false pc page subpage n p q s a =
-    let e = pc_again pc page p q in
-    let f = page_again pc page p q in
-    simp (is_whole (pc * 64 + page) (omega arith), is_whole subpage s, is_whole n a) cc
-
-module _ (pc page subpage n : ℕ) (p : pc < 4) (q : page < 64) (s : subpage < 256) (a : n < 2 ^ 16) where
-  reads_back-mode_sense_10 : (llbaa dbd : Bool)
-      → command_of (cdb_of (mode_sense_10 llbaa dbd pc page subpage n))
-      ≡ Ok (mode_sense_10 llbaa dbd pc page subpage n)
-  unfolding command_of command_with cdb_of
-  reads_back-mode_sense_10 true true =
-      let e = pc_again pc page p q in
-      let f = page_again pc page p q in
-      let g = number_again 2 n [] a in
-      simp (is_whole (pc * 64 + page) (omega arith), is_whole subpage s, is_whole-mod) cc
-  reads_back-mode_sense_10 true false =
-      let e = pc_again pc page p q in
-      let f = page_again pc page p q in
-      let g = number_again 2 n [] a in
-      simp (is_whole (pc * 64 + page) (omega arith), is_whole subpage s, is_whole-mod) cc
-  reads_back-mode_sense_10 false true =
-      let e = pc_again pc page p q in
-      let f = page_again pc page p q in
-      let g = number_again 2 n [] a in
-      simp (is_whole (pc * 64 + page) (omega arith), is_whole subpage s, is_whole-mod) cc
-  reads_back-mode_sense_10 false false =
-      let e = pc_again pc page p q in
-      let f = page_again pc page p q in
-      let g = number_again 2 n [] a in
-      simp (is_whole (pc * 64 + page) (omega arith), is_whole subpage s, is_whole-mod) cc
-
-module _ (allocation_length : ℕ) (n : allocation_length < 2 ^ 16) where
-  reads_back-reserve_in : (action : InAction)
-      → command_of (cdb_of (reserve_in action allocation_length))
-      ≡ Ok (reserve_in action allocation_length)
-  unfolding command_of command_with cdb_of
-  reads_back-reserve_in ReadKeys =
-      let f = number_again 2 allocation_length [] n in simp is_whole-mod cc
-  reads_back-reserve_in ReadReservation =
-      let f = number_again 2 allocation_length [] n in simp is_whole-mod cc
-  reads_back-reserve_in ReportCapabilities =
-      let f = number_again 2 allocation_length [] n in simp is_whole-mod cc
-  reads_back-reserve_in ReadFullStatus =
-      let f = number_again 2 allocation_length [] n in simp is_whole-mod cc
-
-module _ (scope_type list_length : ℕ) (s : scope_type < 256) (n : list_length < 2 ^ 32) where
-  reads_back-reserve_out : (action : OutAction)
-      → command_of (cdb_of (reserve_out action scope_type list_length))
-      ≡ Ok (reserve_out action scope_type list_length)
-  unfolding command_of command_with cdb_of
-  reads_back-reserve_out Register =
-      let f = number_again 4 list_length [] n in simp (is_whole scope_type s, is_whole-mod) cc
-  reads_back-reserve_out Reserve =
-      let f = number_again 4 list_length [] n in simp (is_whole scope_type s, is_whole-mod) cc
-  reads_back-reserve_out Release =
-      let f = number_again 4 list_length [] n in simp (is_whole scope_type s, is_whole-mod) cc
-  reads_back-reserve_out Clear =
-      let f = number_again 4 list_length [] n in simp (is_whole scope_type s, is_whole-mod) cc
-  reads_back-reserve_out Preempt =
-      let f = number_again 4 list_length [] n in simp (is_whole scope_type s, is_whole-mod) cc
-  reads_back-reserve_out PreemptAndAbort =
-      let f = number_again 4 list_length [] n in simp (is_whole scope_type s, is_whole-mod) cc
-  reads_back-reserve_out RegisterAndIgnoreExistingKey =
-      let f = number_again 4 list_length [] n in simp (is_whole scope_type s, is_whole-mod) cc
+  made_again : (fields others : List Field) (make : Maker fields) → have_room (fields ++ others) ≡ true
+      → list_all (λ (f : Field). is_apart f.place) fields ≡ true
+      → ((k : ℕ) → are_apart k all ≡ true → HasParts k (byte k all) (fields ++ others))
+      → made fields make ≡ own fields make
+  made_again [] others make room apart parts = refl
+  made_again (f ∷ fields) others make room apart parts =
+      let rooms = and_parts _ _ room in
+      let aparts = and_parts _ _ apart in
+      made_again fields others (make (read f.place f.value)) rooms.1 aparts.1 (λ k a. (parts k a).1)
+      ∙ ap (λ (v : Value f.place). own fields (make v))
+      (is_again f.place f.value rooms.0 aparts.0 (λ k a. (parts k a).0))
 
 -- ---- every command
+
+module _ (l : Layout) where
+  -- the operation code and the service action are fields too
+  abbrev others : List Field
+  others = record { place = bytes 0 0; value = l.opcode } ∷ (elim l.action as (λ a. List Field) [
+    | none ↦ []
+    | named action ↦ record { place = bits 1 4 0; value = action } ∷ []
+  ])
+
+  abbrev all : List Field
+  all = l.fields ++ others
+
+  abbrev bytes_from : (k n : ℕ) → List ℕ
+  bytes_from k n = map (λ k. byte k all) (range_with_len k n)
+
+  -- in each byte the places do not overlap, and lie in the mask
+  abbrev is_laid_out : ℕ → Bool
+  is_laid_out k = are_apart k all && (bit_and (covered k all) (mask_of l k) == covered k all)
+
+  abbrev are_laid_out : Bool
+  are_laid_out =
+      list_all is_laid_out (range_with_len 0 (length_of l.opcode))
+      && list_all (λ (f : Field). is_apart all f.place) l.fields
+
+  module _ (room : have_room all ≡ true) where
+    no_bad_byte : (k n : ℕ) → list_all is_laid_out (range_with_len k n) ≡ true
+        → first_bad k (map (mask_of l) (range_with_len k n)) (bytes_from k n) ≡ None
+    no_bad_byte k zero h = refl
+    no_bad_byte k (suc n) h =
+        let both = and_parts _ _ h in
+        let tests = and_parts _ _ both.0 in
+        let within = (byte_is k all room tests.0).0 in
+        let fits : IsWithin (byte k all) (mask_of l k) =
+        ap (λ x. bit_and x (mask_of l k)) (sym within)
+        ∙ and_assoc (mask_of l k) (byte k all) (covered k all)
+        ∙ ap (bit_and (byte k all)) (eqb-true _ _ tests.1) ∙ within in
+        rw (eq-eqb _ _ fits) (no_bad_byte (k + 1) n both.1)
+
+    decoded : (command : Command) → are_laid_out ≡ true → own all l.fields l.make ≡ command
+        → unless_bad (first_bad 0 (masks l) (bytes_from 0 (length_of l.opcode)))
+        (made all l.fields l.make) ≡ Ok command
+    decoded command laid_out is_own =
+        let tests = and_parts _ _ laid_out in
+        let again = made_again all l.fields others l.make room tests.1
+        (λ k a. let is = byte_is k all room a in is.1 (byte k all) is.0) in
+        ap (λ bad. unless_bad bad (made all l.fields l.make))
+        (no_bad_byte 0 (length_of l.opcode) tests.0)
+        ∙ ap Ok (again ∙ is_own)
+
+abbrev ReadsBack : Command → Type 0
+ReadsBack command = fits_cdb command ≡ true → command_of (cdb_of command) ≡ Ok command
 
 pub reads_back : (command : Command) → fits_cdb command ≡ true
     → command_of (cdb_of command) ≡ Ok command
 unfolding command_of command_with cdb_of
-reads_back command.TestUnitReady h = refl
-reads_back command.ReadCapacity10 h = refl
-reads_back (command.RequestSense c) h =
-    let r = are_small (layout (command.RequestSense c)).fields h in
-    reads_back-request_sense c.desc c.allocation_length r.1.0
-reads_back (command.Inquiry c) h =
-    let r = are_small (layout (command.Inquiry c)).fields h in
-    reads_back-inquiry c.evpd c.page_code c.allocation_length r.1.0 r.1.1.0
-reads_back (command.ModeSelect6 c) h =
-    let r = are_small (layout (command.ModeSelect6 c)).fields h in
-    reads_back-mode_select_6 c.pf c.sp c.list_length r.1.1.0
-reads_back (command.ModeSelect10 c) h =
-    let r = are_small (layout (command.ModeSelect10 c)).fields h in
-    reads_back-mode_select_10 c.pf c.sp c.list_length r.1.1.0
-reads_back (command.ModeSense6 c) h =
-    let r = are_small (layout (command.ModeSense6 c)).fields h in
-    reads_back-mode_sense_6 c.dbd c.page_control c.page_code c.subpage_code c.allocation_length
-    r.1.0 r.1.1.0 r.1.1.1.0 r.1.1.1.1.0
-reads_back (command.ModeSense10 c) h =
-    let r = are_small (layout (command.ModeSense10 c)).fields h in
-    reads_back-mode_sense_10 c.page_control c.page_code c.subpage_code c.allocation_length
-    r.1.1.0 r.1.1.1.0 r.1.1.1.1.0 r.1.1.1.1.1.0 c.llbaa c.dbd
-reads_back (command.Read6 c) h =
-    let r = are_small (layout (command.Read6 c)).fields h in
-    (reads_back-extent_6 c.0 c.1 r.0.0 r.0.1 r.0.2).0
-reads_back (command.Write6 c) h =
-    let r = are_small (layout (command.Write6 c)).fields h in
-    (reads_back-extent_6 c.0 c.1 r.0.0 r.0.1 r.0.2).1
-reads_back (command.WriteSame10 c) h =
-    let r = are_small (layout (command.WriteSame10 c)).fields h in
-    reads_back-write_same_10 c.anchor c.unmap c.lba c.count r.1.1.0 r.1.1.1.0
-reads_back (command.WriteSame16 c) h =
-    let r = are_small (layout (command.WriteSame16 c)).fields h in
-    reads_back-write_same_16 c.anchor c.unmap c.lba c.count r.1.1.0 r.1.1.1.0
-reads_back (command.Unmap c) h =
-    let r = are_small (layout (command.Unmap c)).fields h in
-    reads_back-unmap c.anchor c.group c.list_length r.1.0 r.1.1.0
 reads_back (command.PersistentReserveIn c) h =
-    let r = are_small (layout (command.PersistentReserveIn c)).fields h in
-    reads_back-reserve_in c.allocation_length r.0 c.action
+    (elim c.action as (λ a. ReadsBack (reserve_in a c.allocation_length)) [
+      | ReadKeys ↦ λ h. decoded (layout (reserve_in ReadKeys c.allocation_length)) h _ refl refl
+      | a ↦ λ h. decoded (layout (reserve_in a c.allocation_length)) h _ refl refl
+    ]) h
 reads_back (command.PersistentReserveOut c) h =
-    let r = are_small (layout (command.PersistentReserveOut c)).fields h in
-    reads_back-reserve_out c.scope_type c.list_length r.0 r.1.0 c.action
-reads_back command h =
-    let l = layout command in
-    simp is_whole-mod
-    (ap Ok (made (cdb_of command) l.fields l.make (are_again l.fields h) ∙ is_own command))
+    (elim c.action as (λ a. ReadsBack (reserve_out a c.scope_type c.list_length)) [
+      | Clear ↦ λ h. decoded (layout (reserve_out Clear c.scope_type c.list_length)) h _ refl refl
+      | a ↦ λ h. decoded (layout (reserve_out a c.scope_type c.list_length)) h _ refl refl
+    ]) h
+reads_back command h = decoded (layout command) h command refl refl

@@ -1,11 +1,11 @@
 -- Laws of the definitions.
-use Rattle.std.specs.Prelude.{◌≡◌, ◌<◌, ◌≤◌, ℕ, ◌==◌, List, [], ◌++◌, length, take, Err}
+use Rattle.std.specs.Prelude.{◌≡◌, ◌<◌, ◌≤◌, ℕ, ◌==◌, List, [], ◌++◌, length, take, Some, Ok, Err}
 use Rattle.std.specs.Prelude.{if◌then◌else◌}
 use Rattle.std.specs.Borrow.{GName}
 use Rattle.sg_wire.specs.Cut.{IsLeftIn, Puts, answer_of}
 use Rattle.sg_wire.specs.CutAnswer.{CutAnswer, empty_answer, first_bytes, overwritten, put}
 use Rattle.sg_wire.specs.CutAnswer.{replace}
-use Rattle.sg_wire.specs.Layout.{cdb_of, command_of}
+use Rattle.sg_wire.specs.Layout.{cdb_of, class_of, command_of, layout}
 use Rattle.sg_wire.specs.declared.command.CdbFault.{CdbFault}
 use Rattle.sg_wire.specs.declared.command.CdbFault.TheVariants.{Empty, Short}
 use Rattle.sg_wire.specs.declared.command.Command.{Command}
@@ -20,6 +20,13 @@ abbrev pub PrefixesAreRefused : Type 0
 PrefixesAreRefused =
     (command : Command) (count : ℕ) → count < length (cdb_of command)
     → command_of (take count (cdb_of command)) ≡ Err (cut_at count)
+
+-- The class of a CDB is read from its operation code and service action. Where the CDB is a command,
+-- it is the class of that command's row.
+abbrev pub CommandsHaveTheirClass : Type 0
+CommandsHaveTheirClass =
+    (cdb : List ℕ) (command : Command) → command_of cdb ≡ Ok command
+    → class_of cdb ≡ Some (layout command).class
 
 -- Parts that are put one behind the other are put as one, and no byte that is put changes nothing.
 pub record PartsArePutInTurn : Type 0 where

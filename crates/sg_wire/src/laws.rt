@@ -1,11 +1,17 @@
 //! Laws of the definitions: each is the contract of a function that does nothing.
-ghost use Rattle.sg_wire.specs.Laws.{AnswersAreInTheirBuffers, PartsArePutInTurn};
-ghost use Rattle.sg_wire.specs.Laws.{PartsAreReplaced, PrefixesAreRefused};
+ghost use Rattle.sg_wire.specs.Laws.{AnswersAreInTheirBuffers, CommandsHaveTheirClass};
+ghost use Rattle.sg_wire.specs.Laws.{PartsArePutInTurn, PartsAreReplaced, PrefixesAreRefused};
 
 /// A proper prefix of a command's CDB is no command: without a byte it is refused as empty, and
 /// otherwise as cut at its end.
 pub fn prefixes_are_refused()
     ensures { PrefixesAreRefused }
+{}
+
+/// Whether another initiator's reservation conflicts with a CDB is decided by its class, which is read
+/// before the CDB is decoded: a CDB that is a command has the class of that command.
+pub fn commands_have_their_class()
+    ensures { CommandsHaveTheirClass }
 {}
 
 /// Of an answer that was put whole, its first bytes, up to the limit, are at the beginning of the

@@ -11,6 +11,6 @@ returns c state holder events w held persist =
       view = refl;
     } in
     let h =
-    events-alike c.limits_are_kept.ensures c.others_are_refused.ensures c.one_key_each.ensures holder
-    events state state same held persist in
+    events-alike c.limits_are_kept.ensures c.others_are_refused.ensures c.one_key_each.ensures
+    c.commands_have_their_class.ensures holder events state state same held persist in
     record { view = h.view; answers = h.answers }

@@ -9,5 +9,5 @@ returns c state contents holder other cdb data_out w fit differ exclusive =
     let h = alone state holder w (or_right (holds_type state holder WriteExclusive) _ exclusive) in
     let refused =
     refuses-others c.others_are_refused.ensures state.reservations holder other differ h in
-    unseen state contents other (refused.reads (is-exclusive state holder h exclusive)) refused.writes
-    w.mapped fit cdb data_out
+    unseen c.commands_have_their_class.ensures state contents other
+    (refused.reads (is-exclusive state holder h exclusive)) refused.writes w.mapped fit cdb data_out
