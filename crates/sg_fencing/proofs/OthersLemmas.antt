@@ -179,7 +179,8 @@ module _ (state : State) (i j : ℕ) (other : j ≡ i → ⊥) (h : HoldsAlone s
 
 -- a command of another, after which i still holds
 pub others-keep : LimitsAreKept → OthersAreRefused → CommandsHaveTheirClass
-    → (state : State) (i j : ℕ) (cdb data_out : List ℕ) → IsWithinLimits state → (j ≡ i → ⊥) → holds_alone state i ≡ true
+    → (state : State) (i j : ℕ) (cdb data_out : List ℕ) → IsWithinLimits state → (j ≡ i → ⊥)
+    → holds_alone state i ≡ true
     → holds_alone (step state j cdb data_out).state i ≡ true
     → Keeps state (step state j cdb data_out).state i
 others-keep limits refuses classes state i j cdb data_out w other before after =
