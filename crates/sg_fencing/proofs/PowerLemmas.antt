@@ -3,6 +3,7 @@ use Rattle.std.proofs.Common.{◌≡◌, ◌<◌, ℕ, Bool, true, false, ◌&&�
 use Rattle.std.proofs.Common.{refl, ap}
 use Rattle.std.specs.Prelude.{if◌then◌else◌}
 use Rattle.std.specs.List.{list_any}
+use Rattle.std.proofs.lemmas.Bool.{or_parts}
 use Rattle.std.proofs.lemmas.List.{get_or-replicate}
 use Rattle.sg_wire.specs.Layout.{class_of, command_of}
 use Rattle.sg_wire.specs.declared.command.Class.TheVariants.{Writes}
@@ -25,8 +26,7 @@ use Rattle.sg_target.specs.declared.reply.Status.TheVariants.{Good}
 use Rattle.sg_fencing.specs.Fencing.{is_from}
 use Rattle.sg_fencing.specs.PowerCycles.{HasNoReservations, KeepsReservations, persists, registers_by}
 use Rattle.sg_fencing.specs.Registrants.{is_registrant, is_reserved, registers}
-use Rattle.sg_fencing.proofs.OutsiderLemmas.{stays-unknown}
-use Rattle.sg_fencing.proofs.OutsiderRunLemmas.{itself, neither, not-first, second}
+use Rattle.sg_fencing.proofs.OutsiderRunLemmas.{not-first, unknown-after-call, writes-refused}
 
 -- ---- One power cycle
 
@@ -86,13 +86,10 @@ unknown-still : (state : State) (i : ℕ) (events : List Event) → is_registran
     → is_registrant (state_after_events state events) i ≡ false
 unknown-still state i [] unknown silent = unknown
 unknown-still state i (event.Call first ∷ events) unknown silent =
-    let parts = neither (is_from i first && registers (command_of first.cdb.now))
+    let parts = or_parts (is_from i first && registers (command_of first.cdb.now))
     (list_any (registers_by i) events) silent in
     unknown-still (step_of state first).state i events
-    (stays-unknown state i first.initiator unknown first.cdb.now first.data_out.now
-    (λ own. second (is_from i first) (registers (command_of first.cdb.now)) parts.0
-    (itself first.initiator i own)))
-    parts.1
+    (unknown-after-call state i first unknown parts.0) parts.1
 unknown-still state i (event.Power ∷ events) unknown silent =
     unknown-still (after_power_cycle state) i events (unknown-after state i unknown) silent
 
@@ -103,5 +100,6 @@ pub stays-fenced-off : OthersAreRefused → (state : State) (i : ℕ) (events : 
     → is_reserved (state_after_events state events) ≡ true
     → (step_of (state_after_events state events) call).answer.status ≡ Good → ⊥
 stays-fenced-off refuses state i events call unknown silent from writes held good =
-    not-first refuses (state_after_events state events) i call
+    not-first (λ state. is_reserved state ≡ true) Writes (writes-refused refuses) i
+    (state_after_events state events) call
     (unknown-still state i events unknown silent) from writes held good

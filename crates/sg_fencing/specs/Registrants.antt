@@ -141,6 +141,17 @@ FencedOffWriteNothing =
     → is_reserved (state_after_all state (take n calls)) ≡ true
     → answer.status ≡ Good → ⊥
 
+-- Nor does it read while the reservation is of an exclusive access type: none of its commands that
+-- read, such as READ, ends with GOOD.
+abbrev pub FencedOffReadNothing : Type 0
+FencedOffReadNothing =
+    (state : State) (initiator : ℕ) (calls : List Call) (n : ℕ) (call : Call) (answer : Answer)
+    → is_registrant state initiator ≡ false → has_registering initiator (take n calls) ≡ false
+    → slice_get calls n ≡ Some call → slice_get (answers state calls) n ≡ Some answer
+    → call.initiator ≡ initiator → class_of call.cdb.now ≡ Some Reads
+    → excludes_reading (state_after_all state (take n calls)).reservations.reservation ≡ true
+    → answer.status ≡ Good → ⊥
+
 -- So after a PREEMPT or a PREEMPT AND ABORT of its key an initiator writes nothing until it
 -- registers again, while a reservation is held.
 abbrev pub PreemptedWriteNothing : Type 0

@@ -11,7 +11,8 @@ ghost use Rattle.sg_fencing.specs.PowerCycles.{FencedOffThroughPowerCycles};
 ghost use Rattle.sg_fencing.specs.PowerCycles.{HolderIsAsIfAloneThroughPowerCycles, OthersAreGone};
 ghost use Rattle.sg_fencing.specs.PowerCycles.{PersistentOnesStay, TwoAreOne};
 ghost use Rattle.sg_fencing.specs.Registrants.{FencedOffAreKeptOut, FencedOffLeaveTheView};
-ghost use Rattle.sg_fencing.specs.Registrants.{FencedOffSeeNoBlock, FencedOffWriteNothing};
+ghost use Rattle.sg_fencing.specs.Registrants.{FencedOffReadNothing, FencedOffSeeNoBlock};
+ghost use Rattle.sg_fencing.specs.Registrants.{FencedOffWriteNothing};
 ghost use Rattle.sg_fencing.specs.Registrants.{OnlyRegisteringRegisters, OutsidersChangeNothing};
 ghost use Rattle.sg_fencing.specs.Registrants.{PreemptedAreUnregistered, PreemptedWriteNothing};
 
@@ -148,6 +149,14 @@ pub fn nobody_registers_another()
 /// initiator that is not registered ends with GOOD until the initiator registers.
 pub fn the_unregistered_write_nothing()
     ensures { FencedOffWriteNothing }
+{
+    others_are_refused();
+}
+
+/// Over a list of commands, while a reservation of an exclusive access type is held, no command that
+/// reads of an initiator that is not registered ends with GOOD until the initiator registers.
+pub fn the_unregistered_read_nothing()
+    ensures { FencedOffReadNothing }
 {
     others_are_refused();
 }
