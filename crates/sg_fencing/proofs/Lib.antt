@@ -17,7 +17,11 @@ mod OwnLemmas
 -- Initiators that are not registered
 mod RegistrationLemmas
 mod OutsiderLemmas
+mod NewcomerLemmas
 mod PreemptLemmas
+-- Registrants and others
+mod AgreeLemmas
+mod InsideLemmas
 -- Lists of commands
 mod OutsiderRunLemmas
 mod FencedRunLemmas

@@ -1,7 +1,7 @@
 -- What the operation that a command asks for shows of the command. Of the laws' modules this one alone
 -- knows commands, and only those have a case whose operation looks at more than their fields.
 use Rattle.std.proofs.Common.{◌≡◌, ℕ, Bool, true, false, List, Option, Some, None, Result, Ok, Err}
-use Rattle.std.proofs.Common.{refl, subst}
+use Rattle.std.proofs.Common.{refl, subst, cond}
 use Rattle.std.specs.Prelude.{if◌then◌else◌}
 use Rattle.sg_wire.specs.CutAnswer.{first_bytes}
 use Rattle.sg_wire.specs.Layout.{layout}
@@ -12,6 +12,7 @@ use Rattle.sg_wire.specs.declared.command.Command.TheVariants as command
 use Rattle.sg_wire.specs.declared.command.CdbFault.{CdbFault}
 use Rattle.sg_wire.specs.declared.command.out_action.OutAction.{OutAction}
 use Rattle.sg_wire.specs.declared.extent.Extent.{Extent}
+use Rattle.sg_wire.specs.declared.out_list.OutList.{OutList}
 use Rattle.sg_target.specs.Demands.{demands, unmap_extent, unmap_extents}
 use Rattle.sg_target.specs.PrimaryCommands.{inquiry_page}
 use Rattle.sg_target.specs.ProvisioningCommands.{block_out, listed_extents, unmaps}
@@ -118,3 +119,12 @@ pub asked-suits : (blocks : ℕ) (command : Command) (data_out : List ℕ) (oper
     → (demands blocks command data_out).operation ≡ Ok operation → Suits command operation
 asked-suits blocks command data_out operation e =
     at-ok command _ operation (suits blocks command data_out) e
+
+-- PERSISTENT RESERVE OUT asks for the change with the fields of its list
+pub listed : (action : OutAction) (scope_type : ℕ) (is_whole : Bool) (list : OutList)
+    (short : Refusal) (operation : Operation)
+    → when_sound (cond is_whole (Ok list) (Err short)) (ChangeReservations action scope_type)
+    ≡ Ok operation
+    → ChangeReservations action scope_type list ≡ operation
+listed action scope_type true list short operation e = cc
+listed action scope_type false list short operation e = cc

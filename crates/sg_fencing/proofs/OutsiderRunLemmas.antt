@@ -23,7 +23,7 @@ use Rattle.sg_fencing.specs.Registrants.{is_registrant, is_reserved, registers}
 use Rattle.sg_fencing.proofs.AccessLemmas.{shut-out}
 use Rattle.sg_fencing.proofs.OutsiderLemmas.{outsider-keeps, shut, stays-unknown}
 
-second : (a b : Bool) → (a && b) ≡ false → a ≡ true → b ≡ false
+pub second : (a b : Bool) → (a && b) ≡ false → a ≡ true → b ≡ false
 second true b h e = h
 second false b h e = absurd (false≢true e)
 

@@ -43,6 +43,7 @@ use Rattle.sg_target.specs.declared.refusal.Refusal.{Refusal}
 use Rattle.sg_target.specs.declared.refusal.Refusal.TheVariants.{Check}
 use Rattle.sg_target.specs.declared.reply.Status.TheVariants.{Good}
 use Rattle.sg_fencing.proofs.LiftLemmas.{lifted}
+use Rattle.sg_fencing.proofs.OperationLemmas.{listed}
 use Rattle.sg_fencing.specs.Registrants.{is_preempting, preempted_key}
 use Rattle.sg_fencing.proofs.AccessLemmas.{not_good}
 use Rattle.sg_fencing.proofs.HolderLemmas.{differ, or_right}
@@ -178,15 +179,6 @@ module _ (one : OneKeyEach) (state : State) (i j : ℕ) where
         let same : own ≡ key = cc in
         (refl, same)
     preempting false own key h = cc
-
-    -- the fields of its list
-    listed : (action : OutAction) (scope_type : ℕ) (is_whole : Bool) (list : OutList)
-        (short : Refusal) (operation : Operation)
-        → when_sound (cond is_whole (Ok list) (Err short)) (ChangeReservations action scope_type)
-        ≡ Ok operation
-        → ChangeReservations action scope_type list ≡ operation
-    listed action scope_type true list short operation e = cc
-    listed action scope_type false list short operation e = cc
 
     command-removes : (command : Command) (data_out : List ℕ) (operation : Operation) (key : ℕ)
         → (demands state.disk.capacity command data_out).operation ≡ Ok operation

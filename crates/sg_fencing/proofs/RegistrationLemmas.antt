@@ -3,7 +3,7 @@
 use Rattle.std.proofs.Common.{◌≡◌, ◌==◌, ℕ, Bool, true, false, cond, not, ◌&&◌, ◌||◌, List}
 use Rattle.std.proofs.Common.{[], ◌∷◌, filter, Option, None, Ok, refl, sym, ap, ◌∙◌}
 use Rattle.std.specs.Prelude.{if◌then◌else◌, is_some}
-use Rattle.std.proofs.lemmas.Bool.{false≢true}
+use Rattle.std.proofs.lemmas.Bool.{false≢true, not-false}
 use Rattle.sg_wire.specs.declared.command.out_action.OutAction.{OutAction}
 use Rattle.sg_wire.specs.declared.command.out_action.OutAction.TheVariants.{Register, Reserve}
 use Rattle.sg_wire.specs.declared.command.out_action.OutAction.TheVariants.{Release, Clear, Preempt}
@@ -34,7 +34,7 @@ none-under : (a b c d : Bool) → (a || c) ≡ false → (c ≡ false → d ≡ 
 none-under true b c d h f = absurd (false≢true (sym h))
 none-under false b c d h f = f h
 
-not-under : (rs : List Registration) (j key : ℕ) → is_registered rs j ≡ false
+pub not-under : (rs : List Registration) (j key : ℕ) → is_registered rs j ≡ false
     → is_registered_under rs j key ≡ false
 not-under [] j key h = refl
 not-under (r ∷ rs) j key h =
@@ -69,13 +69,9 @@ nothing true b remaining removed e f = refl
 nothing false true remaining removed e f = e
 nothing false false remaining removed e f = f
 
-not_so : (b : Bool) → b ≡ false → not b ≡ false → ⊥
+pub not_so : (b : Bool) → b ≡ false → not b ≡ false → ⊥
 not_so true h e = false≢true (sym h)
 not_so false h e = false≢true (sym e)
-
-accepted : (b : Bool) → not b ≡ false → b ≡ true
-accepted true e = refl
-accepted false e = absurd (false≢true (sym e))
 
 module _ (state : ReservationState) (i j : ℕ) (other : (j == i) ≡ false)
     (unknown : is_registered state.registrations j ≡ false) where
@@ -125,7 +121,35 @@ module _ (state : ReservationState) (i j : ℕ) (other : (j == i) ≡ false)
       choice Leaves (has_unsupported_flag action list) _ _ (λ _. refused Leaves (Field 20))
       (λ _. choice Leaves (not accepts) _ _ (λ _. refused Leaves Conflict)
       (λ yes. action-leaves action (type_of scope_type) list.service_action_key list.aptpl
-      list.reservation_key (accepted accepts yes)))
+      list.reservation_key (not-false accepts yes)))
+
+-- ---- Other actions of it than those that register
+
+module _ (state : ReservationState) (j : ℕ) (unknown : is_registered state.registrations j ≡ false) where
+  abbrev pub Never : ReservationChange → Type 0
+  Never change = ⊥
+
+  no-key : (action : OutAction) (key : ℕ) → not (is_registering action) ≡ true
+      → accepts_key state.registrations j action key ≡ is_registered_under state.registrations j key
+  no-key Register key h = absurd (false≢true h)
+  no-key RegisterAndIgnoreExistingKey key h = absurd (false≢true h)
+  no-key Reserve key h = refl
+  no-key Release key h = refl
+  no-key Clear key h = refl
+  no-key Preempt key h = refl
+  no-key PreemptAndAbort key h = refl
+
+  pub outcome-refused : (action : OutAction) (scope_type : ℕ) (list : OutList)
+      → not (is_registering action) ≡ true
+      → EffectIs Never (outcome state j action scope_type list)
+  unfolding outcome
+  outcome-refused action scope_type list h =
+      let all = state.registrations in
+      let key = list.reservation_key in
+      choice Never (has_unsupported_flag action list) _ _ (λ _. refused Never (Field 20))
+      (λ _. choice Never (not (accepts_key all j action key)) _ _ (λ _. refused Never Conflict)
+      (λ yes. absurd (false≢true (sym (no-key action key h ∙ not-under all j key unknown)
+      ∙ not-false (accepts_key all j action key) yes))))
 
 -- ---- An initiator stays unregistered
 

@@ -2,4 +2,5 @@
 pub mod Laws
 pub mod Fencing
 pub mod Registrants
+pub mod Group
 pub mod PowerCycles

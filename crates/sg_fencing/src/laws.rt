@@ -3,6 +3,7 @@
 ghost use Rattle.sg_fencing.specs.Fencing.{EqualViewsEndAlike, HolderIsAsIfAlone};
 ghost use Rattle.sg_fencing.specs.Fencing.{OthersAreShutOut, OthersLeaveTheView, OthersReadNothing};
 ghost use Rattle.sg_fencing.specs.Fencing.{OnlyPreemptionEnds, OthersSeeNoBlock};
+ghost use Rattle.sg_fencing.specs.Group.{NewcomersAreSeen, OutsidersMayBeLeftOut};
 ghost use Rattle.sg_fencing.specs.Laws.{ConflictChangesNothing, OnlyWritesChangeBlocks};
 ghost use Rattle.sg_fencing.specs.Laws.{RefusedByReservation, RefusedChangesNothing};
 ghost use Rattle.sg_fencing.specs.Laws.{RefusedReturnsNothing};
@@ -165,6 +166,24 @@ pub fn the_unregistered_read_nothing()
 /// registered, none of which registers, leaves the view of every initiator that sends none of them.
 pub fn the_unregistered_change_nothing()
     ensures { OutsidersChangeNothing }
+{
+    limits_are_kept();
+    others_are_refused();
+    commands_have_their_class();
+}
+
+/// Where an initiator becomes registered, what the registrants see together is as it was but for its
+/// registration, the next PRGENERATION, and APTPL of its parameter list. Nothing that another
+/// initiator sees for itself has changed.
+pub fn a_new_registration_is_seen()
+    ensures { NewcomersAreSeen }
+{}
+
+/// Over a list of commands of registrants and others, where a reservation of any type is held whenever
+/// an initiator sends one that is not registered and registers nowhere in the list: the answers to all
+/// others, and what they see in the end, are those of a run without its commands.
+pub fn outsiders_may_be_left_out()
+    ensures { OutsidersMayBeLeftOut }
 {
     limits_are_kept();
     others_are_refused();

@@ -1,0 +1,178 @@
+-- Where an initiator becomes registered, the group sees its registration and no other change.
+use Rattle.std.proofs.Common.{◌≡◌, ◌==◌, ℕ, Bool, true, false, cond, not, List, length, Option, Some}
+use Rattle.std.proofs.Common.{None, Result, Ok, Err, refl, sym, ap, ◌∙◌, subst}
+use Rattle.std.specs.Prelude.{unwrap_or}
+use Rattle.std.specs.Result.{result_map_both}
+use Rattle.std.proofs.lemmas.Bool.{false≢true}
+use Rattle.sg_wire.specs.CutAnswer.{first_bytes}
+use Rattle.sg_wire.specs.Layout.{command_of}
+use Rattle.sg_wire.specs.OutList.{list_length, out_list}
+use Rattle.sg_wire.specs.declared.command.CdbFault.{CdbFault}
+use Rattle.sg_wire.specs.declared.command.Command.{Command}
+use Rattle.sg_wire.specs.declared.command.Command.TheVariants.{PersistentReserveOut}
+use Rattle.sg_wire.specs.declared.command.out_action.OutAction.{OutAction}
+use Rattle.sg_wire.specs.declared.command.out_action.OutAction.TheVariants.{Register}
+use Rattle.sg_wire.specs.declared.command.out_action.OutAction.TheVariants.{RegisterAndIgnoreExistingKey}
+use Rattle.sg_wire.specs.declared.out_list.OutList.{OutList}
+use Rattle.sg_units.specs.Registrations.{is_registered, with_registration}
+use Rattle.sg_units.specs.ReservationType.{type_of}
+use Rattle.sg_units.specs.ReserveOut.{Outcome, accepts_key, action_outcome, generation_after, outcome}
+use Rattle.sg_units.specs.ReserveOut.{register_cases}
+use Rattle.sg_units.specs.UnsupportedFlags.{has_unsupported_flag}
+use Rattle.sg_units.specs.declared.out_fault.OutFault.TheVariants.{Conflict, Field}
+use Rattle.sg_units.specs.declared.reservation_change.ReservationChange.{ReservationChange}
+use Rattle.sg_units.specs.declared.reservation_state.ReservationState.{ReservationState}
+use Rattle.sg_units.specs.declared.types.ReservationType.{ReservationType}
+use Rattle.sg_units.proofs.OutcomeLemmas.{EffectIs, FirstIs, case_or, choice, effective, refused}
+use Rattle.sg_target.specs.Checks.{no_space}
+use Rattle.sg_target.specs.Demands.{demands}
+use Rattle.sg_target.specs.Effect.{Effect}
+use Rattle.sg_target.specs.Refusal.{when_sound}
+use Rattle.sg_target.specs.ReservationCommands.{changing_reservations, out_refusal}
+use Rattle.sg_target.specs.ReservationCommands.{reservation_change}
+use Rattle.sg_target.specs.State.{IsWithinLimits, State}
+use Rattle.sg_target.specs.Step.{Step, outcome as step_outcome, refused as refused_step, step, step_by}
+use Rattle.sg_target.specs.Step.{unless_no_space}
+use Rattle.sg_target.specs.declared.operation.Operation.{Operation}
+use Rattle.sg_target.specs.declared.operation.Operation.TheVariants.{ChangeReservations}
+use Rattle.sg_target.specs.declared.refusal.Reason.TheVariants.{ParameterListLengthError}
+use Rattle.sg_target.specs.declared.refusal.Reason.TheVariants.{UnitAttention as Attention}
+use Rattle.sg_target.specs.declared.refusal.Refusal.{Refusal}
+use Rattle.sg_target.specs.declared.refusal.Refusal.TheVariants.{Check}
+use Rattle.sg_fencing.specs.Group.{IsSeen, registering_list}
+use Rattle.sg_fencing.specs.Registrants.{is_registering, is_registrant}
+use Rattle.sg_fencing.proofs.HolderLemmas.{differ}
+use Rattle.sg_fencing.proofs.LiftLemmas.{lifted}
+use Rattle.sg_fencing.proofs.OperationLemmas.{listed}
+use Rattle.sg_fencing.proofs.OthersLemmas.{changed-keeps}
+use Rattle.sg_fencing.proofs.RegistrationLemmas.{Leaves, not_so, outcome-leaves}
+
+-- ---- The outcome
+
+-- there is one registration more, PRGENERATION is incremented, and APTPL is that of the list
+pub record Adds (state : ReservationState) (j : ℕ) (list : OutList) (change : ReservationChange)
+    : Type 0 where
+  pub registrations : change.registrations
+      ≡ with_registration state.registrations j list.service_action_key
+  pub reservation : change.reservation ≡ state.reservation
+  pub increments : change.increments_generation ≡ true
+  pub aptpl : change.aptpl ≡ Some list.aptpl
+
+module _ (state : ReservationState) (j : ℕ) (unknown : is_registered state.registrations j ≡ false)
+    (list : OutList) where
+  -- j's command does so where j is registered afterwards
+  abbrev pub AddsIf : ReservationChange → Type 0
+  AddsIf change = is_registered change.registrations j ≡ true → Adds state j list change
+
+  register-adds : FirstIs AddsIf (register_cases state j list.service_action_key list.aptpl)
+  unfolding register_cases
+  register-adds =
+      case_or AddsIf _ _ (λ _. effective AddsIf _ (λ known. absurd (false≢true (sym unknown ∙ known))))
+      (λ _. case_or AddsIf _ _ (λ _. refused AddsIf _)
+      (λ _. case_or AddsIf _ _
+      (λ _. effective AddsIf _ (λ _. record {
+        registrations = refl;
+        reservation = refl;
+        increments = refl;
+        aptpl = refl;
+      }))
+      (λ known. absurd (not_so (is_registered state.registrations j) unknown known))))
+
+  action-adds : (action : OutAction) (type : Option ReservationType) → is_registering action ≡ true
+      → EffectIs AddsIf (action_outcome state j action type list.service_action_key list.aptpl)
+  action-adds Register type h = register-adds.first
+  action-adds RegisterAndIgnoreExistingKey type h = register-adds.first
+  action-adds _ type h = absurd (false≢true h)
+
+  outcome-adds : (action : OutAction) (scope_type : ℕ) → is_registering action ≡ true
+      → EffectIs AddsIf (outcome state j action scope_type list)
+  unfolding outcome
+  outcome-adds action scope_type h =
+      let accepts = accepts_key state.registrations j action list.reservation_key in
+      choice AddsIf (has_unsupported_flag action list) _ _ (λ _. refused AddsIf (Field 20))
+      (λ _. choice AddsIf (not accepts) _ _ (λ _. refused AddsIf Conflict)
+      (λ _. action-adds action (type_of scope_type) h))
+
+-- ---- The command
+
+module _ (state : State) (j : ℕ) (w : IsWithinLimits state) (unknown : is_registrant state j ≡ false)
+    (list : OutList) where
+  abbrev SeenIn : State → Type 0
+  SeenIn after = is_registrant after j ≡ true → IsSeen state after j list
+
+  unseen-refusal : (refusal : Refusal) → SeenIn (refused_step state j refusal).state
+  unseen-refusal (Check (Attention condition)) known = absurd (false≢true (sym unknown ∙ known))
+  unseen-refusal _ known = absurd (false≢true (sym unknown ∙ known))
+
+  by-space : (effect : Effect) (refusal : Option Refusal) → SeenIn effect.after
+      → SeenIn (unless_no_space state j effect refusal).state
+  by-space effect None h = h
+  by-space effect (Some refusal) h = unseen-refusal refusal
+
+  abbrev LeavesOthers : Outcome → Type 0
+  LeavesOthers o =
+      (i : ℕ) (other : j ≡ i → ⊥) → EffectIs (Leaves state.reservations i j (differ i j other) unknown) o
+
+  change-seen : (change : ReservationChange) → Adds state.reservations j list change
+      → LeavesOthers (Ok change) → IsSeen state (changing_reservations state j change).after j list
+  change-seen change h leaves = record {
+    group =
+        λ d. record {
+          disk = state.disk;
+          modes = state.modes;
+          registrations = h.registrations d;
+          generation = generation_after (h.increments d) state.reservations.generation;
+          reservation = h.reservation d;
+          persists = unwrap_or (h.aptpl d) state.reservations.persists_through_power_loss;
+        };
+    others =
+        λ i other.
+        let left = (leaves i other).shown change refl in
+        (changed-keeps state i j w change left.key left.reservation left.unraised).view;
+  }
+
+  outcome-seen : (o : Outcome) → EffectIs (AddsIf state.reservations j unknown list) o → LeavesOthers o
+      → SeenIn (step_outcome state j (when_sound (result_map_both (λ change. change) out_refusal o)
+      (changing_reservations state j))).state
+  outcome-seen (Ok change) adds leaves =
+      let effect = changing_reservations state j change in
+      by-space effect (no_space effect.after.disk)
+      (λ known. change-seen change (adds.shown change refl known) leaves)
+  outcome-seen (Err fault) adds leaves = unseen-refusal (out_refusal fault)
+
+  registering-seen : (action : OutAction) (scope_type : ℕ) → is_registering action ≡ true
+      → SeenIn (step_by state j (ChangeReservations action scope_type list)).state
+  unfolding reservation_change
+  registering-seen action scope_type h =
+      outcome-seen (outcome state.reservations j action scope_type list)
+      (outcome-adds state.reservations j unknown list action scope_type h)
+      (λ i other. outcome-leaves state.reservations i j (differ i j other) unknown action scope_type list)
+
+  registering : (b : Bool) (own : OutList) → cond b (Some own) None ≡ Some list
+      → (b ≡ true) × (own ≡ list)
+  registering true own h =
+      let same : own ≡ list = cc in
+      (refl, same)
+  registering false own h = cc
+
+  command-seen : (command : Command) (data_out : List ℕ) (operation : Operation)
+      → (demands state.disk.capacity command data_out).operation ≡ Ok operation
+      → registering_list (Ok command) data_out ≡ Some list
+      → SeenIn (step_by state j operation).state
+  command-seen (PersistentReserveOut c) data_out operation e h =
+      let bytes = first_bytes c.list_length data_out in
+      let parts = registering (is_registering c.action) (out_list bytes) h in
+      let asked = listed c.action c.scope_type (length bytes == list_length) (out_list bytes)
+      (Check ParameterListLengthError) operation e in
+      subst (λ (o : Operation). SeenIn (step_by state j o).state)
+      (ap (λ (l : OutList). ChangeReservations c.action c.scope_type l) (sym parts.1) ∙ asked)
+      (registering-seen c.action c.scope_type parts.0)
+  command-seen _ data_out operation e h = cc
+
+  pub newcomer-seen : (cdb data_out : List ℕ) → registering_list (command_of cdb) data_out ≡ Some list
+      → is_registrant (step state j cdb data_out).state j ≡ true
+      → IsSeen state (step state j cdb data_out).state j list
+  newcomer-seen cdb data_out h =
+      lifted state j cdb data_out (λ (done : Step). SeenIn done.state) unseen-refusal
+      (λ operation k. command-seen k.command data_out operation k.operation_is
+      (sym (ap (λ (p : Result Command CdbFault). registering_list p data_out) k.command_is) ∙ h))
