@@ -301,6 +301,9 @@ impl Store for BlockMap {
         self.table.data_count() as u32
     }
 
+        // The table has one record for each maximal run, and no others.
+        ensures records { records_of self.now ≡ runs (disk_of self.now).contents }
+
     fn used(&self) -> u32
         ensures value { result ≡ len (disk_of self.now).contents }
         ensures within { result ≤ (disk_of self.now).pool }
