@@ -7,7 +7,7 @@ use Rattle.std.proofs.lemmas.Nat.{pow-add}
 use Rattle.std.proofs.lemmas.List.{length-map, nil_from_length}
 use Rattle.std.specs.FinMap as map
 use Rattle.std.specs.List.{count_by, range_with_len, sum_by}
-use Rattle.sg_store.specs.Disk.{Contents, Disk, Mapping, IsWellFormed, IsWhole, used_among, remapped}
+use Rattle.sg_store.specs.Disk.{Contents, Disk, Mapping, IsWellFormed, HasBlockLength, used_among, remapped}
 use Rattle.sg_table.specs.Draft.{Drafted, empty_draft}
 use Rattle.sg_store.specs.Meter.{Meter, Costs}
 use Rattle.sg_pool.specs.MappedRecords.{mapping_in, contents_of}
@@ -87,7 +87,7 @@ pub new-contents : (slots : Slots) → chained_contents [] slots ≡ map.empty
 new-contents slots = ap (λ xs. contents_of xs slots.blocks) (expanded-none slots.next)
 
 -- what an address gets is a whole block, or none
-pub whole-as : (kind : Kind) (block : List ℕ) → length block ≡ 512 → IsWhole (mapping_as kind block)
+pub whole-as : (kind : Kind) (block : List ℕ) → length block ≡ 512 → HasBlockLength (mapping_as kind block)
 whole-as Data block e = e
 whole-as Anchored block e = tt
 

@@ -1,4 +1,4 @@
--- Runs of addresses of one kind over chains of slots, and the single addresses that they stand for.
+-- Runs of addresses of one kind over chains of slots, and their single addresses.
 use Rattle.std.specs.Prelude.{◌≡◌, ℕ, ◌+◌, ◌<◌, ◌≤◌, zero, suc, List, [], ◌∷◌, ◌++◌, slice_index}
 use Rattle.std.specs.Prelude.{length, if◌then◌else◌}
 use Rattle.std.specs.List.{sum_by}
@@ -79,7 +79,7 @@ abbrev pub AreBetween : (low high : ℕ) → List Run → Type 0
 AreBetween low high [] = low ≤ high
 AreBetween low high (run ∷ runs) = (low ≤ run.start) × AreBetween (run.start + 1) high runs
 
--- The contents that runs and slots stand for: those of the single addresses.
+-- The contents of a disk with these runs and slots: those of the single addresses.
 abbrev pub chained_contents : List Run → Slots → Contents
 chained_contents records slots = contents_of (expanded slots.next records) slots.blocks
 

@@ -1,4 +1,4 @@
--- What a `BlockMap` stands for.
+-- What a `BlockMap` keeps, as its callers see it: a disk, records, slots and a meter.
 use Rattle.std.specs.Prelude.{◌≡◌, ℕ, List, Some, map}
 use Rattle.std.specs.FinMap.{get}
 use Rattle.sg_store.specs.Disk.{Contents, Disk, Mapping, remapped}

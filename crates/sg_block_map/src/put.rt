@@ -1,5 +1,5 @@
-// Putting runs in the place of the gathered ones: the only place that changes records. What the runs
-// stand for is for its callers to know.
+// Putting runs in the place of the gathered ones: the only place that changes records. Which addresses
+// and slots they have is for its callers to know.
 ghost use Rattle.std.specs.Prelude.{◌≡◌, ◌+◌, ◌≤◌, ◌++◌, ◌∷◌, length, option_to_list};
 ghost use Rattle.std.specs.List.{splice};
 ghost use Rattle.sg_table.specs.Leaves.{move_bound};

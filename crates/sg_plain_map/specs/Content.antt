@@ -1,6 +1,6 @@
 -- What the addresses of a range are to have.
 use Rattle.std.specs.Prelude.{ℕ, ◌<◌, List, slice_set}
-use Rattle.sg_store.specs.Disk.{IsWhole, Mapping}
+use Rattle.sg_store.specs.Disk.{HasBlockLength, Mapping}
 use Rattle.sg_store.specs.Disk.Mapping.{Data, Anchored}
 use Rattle.sg_pool.specs.Source.{block_of}
 use Rattle.sg_table.specs.declared.run.Kind.{Kind}
@@ -15,7 +15,7 @@ mapping_for Anchor index = Anchored
 
 -- For each index below `count` it is a whole block, or none.
 abbrev pub HasMappings : Content → (count : ℕ) → Type 0
-HasMappings content count = (index : ℕ) → index < count → IsWhole (mapping_for content index)
+HasMappings content count = (index : ℕ) → index < count → HasBlockLength (mapping_for content index)
 
 -- The kind of the records, and how many of `count` addresses have data then.
 abbrev pub kind_for : Content → Kind

@@ -16,7 +16,7 @@ use Rattle.sg_table.specs.declared.run.Run.{Run}
 use Rattle.sg_table.specs.declared.cursor.Cursor.{Cursor}
 use Rattle.sg_store.specs.declared.store.TheConstants.{MAX_CAPACITY, MAX_COUNT, MAX_POOL}
 
--- The contents that a table and slots stand for.
+-- The contents of a disk with this table and these slots.
 abbrev pub stored : Table → Slots → Contents
 stored table slots = contents_of table.records slots.blocks
 
@@ -75,7 +75,7 @@ pub record VisitsRange (contents : Contents) (lba count : ℕ) (before after : T
 abbrev pub edited : List Run → Drafted → Cursor → List Run
 edited records draft cursor = splice records draft.from cursor.index draft.records
 
--- What the edited table and the slots stand for.
+-- The contents of a disk with the edited table and these slots.
 abbrev pub edited_contents : Table → Slots → Drafted → Cursor → Contents
 edited_contents table slots draft cursor = contents_of (edited table.records draft cursor) slots.blocks
 

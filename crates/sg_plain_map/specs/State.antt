@@ -1,4 +1,4 @@
--- What a `PlainMap` stands for.
+-- What a `PlainMap` keeps, as its callers see it: a disk and a meter.
 use Rattle.std.specs.Prelude.{ℕ}
 use Rattle.sg_store.specs.Disk.{Disk, Mapping, remapped}
 use Rattle.sg_store.specs.Meter.{Meter}

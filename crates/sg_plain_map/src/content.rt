@@ -1,6 +1,6 @@
 // What the addresses of a range are to have. It knows no address and no record.
 ghost use Rattle.std.specs.Prelude.{◌≡◌, ◌<◌, length, true};
-ghost use Rattle.sg_store.specs.Disk.{IsWhole};
+ghost use Rattle.sg_store.specs.Disk.{HasBlockLength};
 ghost use Rattle.sg_plain_map.specs.Content.{data_for, filled_slot, kind_for, mapping_for};
 ghost use Rattle.sg_table.specs.declared.run.Kind.TheVariants.{Data};
 
@@ -51,7 +51,7 @@ impl Content<'_> {
     /// holds stays there, and is not seen.
     pub(crate) fn fill(&self, pool: &mut Pool, slot: u32, index: usize)
         requires slot { slot < length pool.old.blocks }
-        requires whole { IsWhole (mapping_for self.now index) }
+        requires whole { HasBlockLength (mapping_for self.now index) }
         ensures { pool.new ≡ record pool.old {
           blocks = filled_slot pool.old.blocks slot (mapping_for self.now index);
         } }

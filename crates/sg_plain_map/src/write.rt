@@ -2,7 +2,7 @@
 // once. That there are slots enough is for the store to know.
 ghost use Rattle.std.specs.Prelude.{◌≡◌, ◌+◌, ◌<◌, ◌≤◌, length};
 ghost use Rattle.std.specs.FinMap.{insert};
-ghost use Rattle.sg_store.specs.Disk.{IsWhole, remapped, used_among};
+ghost use Rattle.sg_store.specs.Disk.{HasBlockLength, remapped, used_among};
 ghost use Rattle.sg_table.specs.Leaves.{move_bound};
 ghost use Rattle.sg_store.specs.Disk.{used_at};
 ghost use Rattle.sg_plain_map.specs.Content.{HasMappings, data_for, kind_for, mapping_for};
@@ -50,7 +50,7 @@ fn put_address(
     // The edit has come to the address, and there is room for its record and its block.
     requires editing { IsEditing table.old.records table.old.room pool.old draft.old cursor lba }
     requires room { HasRoom table.old pool.old draft.old cursor lba }
-    requires whole { IsWhole (mapping_for content.now index) }
+    requires whole { HasBlockLength (mapping_for content.now index) }
     requires headroom { table.old.visits < u64.MAX }
 
     // The address has what it is to have, and the edit comes to the next one.

@@ -29,7 +29,7 @@ abbrev pub mapping_in : (blocks : List (List ℕ)) → Seen
 mapping_in blocks slot DataKind = Data (slice_index_or blocks slot zero_block)
 mapping_in blocks slot AnchoredKind = Anchored
 
--- The contents that the records and the blocks of the slots stand for.
+-- The contents of a disk with these records, and these blocks in the slots.
 abbrev pub contents_of : List Run → (blocks : List (List ℕ)) → Contents
 contents_of records blocks = contents_by (mapping_in blocks) records
 

@@ -6,7 +6,7 @@ use Rattle.std.specs.Cmp.{nat_cmp_total}
 use Rattle.std.specs.FinMap as map
 use Rattle.std.specs.FinMap.{nat_cmp-IsAntisymmetric}
 use Rattle.std.specs.declared.cmp.Ordering.TheVariants.{Less, Equal, Greater}
-use Rattle.sg_store.specs.Disk.{Contents, IsWellFormed, IsWhole, Mapping, remapped}
+use Rattle.sg_store.specs.Disk.{Contents, IsWellFormed, HasBlockLength, Mapping, remapped}
 use Rattle.sg_store.proofs.DiskLemmas.{remapped-none, remapped-more}
 
 none-some : (mapping : Mapping) → None ≡ Some mapping → ⊥
@@ -21,20 +21,20 @@ some-same a b e = cc
 
 -- one address more
 one-more : (capacity : ℕ) (m : Contents) (a : ℕ) (new : Mapping) → IsWellFormed capacity m
-    → a < capacity → IsWhole new →
+    → a < capacity → HasBlockLength new →
     (q : ℕ) (x : Mapping) → cond (eq_by_cmp nat_cmp q a) (Some new) (map.get m q) ≡
-    Some x → (q < capacity) × IsWhole x
+    Some x → (q < capacity) × HasBlockLength x
 one-more capacity m a new whole below fits q x =
     elim (nat_cmp q a) as (λ r. nat_cmp q a ≡ r → cond (is_eq r) (Some new) (map.get m q) ≡
-    Some x → (q < capacity) × IsWhole x) [
+    Some x → (q < capacity) × HasBlockLength x) [
       | Less ↦ λ _ e. whole.each q x e
       | Equal ↦ λ c e. let same = nat_cmp-IsAntisymmetric q a c in
-          (omega (arith, same), subst IsWhole (some-same new x e) fits)
+          (omega (arith, same), subst HasBlockLength (some-same new x e) fits)
       | Greater ↦ λ _ e. whole.each q x e
     ] refl
 
 well_formed-insert : (capacity : ℕ) (m : Contents) (a : ℕ) (new : Mapping)
-    → IsWellFormed capacity m → a < capacity → IsWhole new
+    → IsWellFormed capacity m → a < capacity → HasBlockLength new
     → IsWellFormed capacity (map.insert m a new)
 well_formed-insert capacity m a new whole below fits = record {
   each = λ q x e. one-more capacity m a new whole below fits q x
@@ -42,7 +42,7 @@ well_formed-insert capacity m a new whole below fits = record {
 }
 
 pub well_formed-remapped : (capacity : ℕ) (m : Contents) (a k : ℕ) (f : ℕ → Mapping)
-    → IsWellFormed capacity m → a + k ≤ capacity → ((i : ℕ) → i < k → IsWhole (f i))
+    → IsWellFormed capacity m → a + k ≤ capacity → ((i : ℕ) → i < k → HasBlockLength (f i))
     → IsWellFormed capacity (remapped m a k f)
 well_formed-remapped capacity m a zero f whole range len = rw (remapped-none m a f) whole
 well_formed-remapped capacity m a (suc k) f whole range len =

@@ -30,14 +30,14 @@ abbrev pub empty_disk : (capacity pool : ℕ) → Disk
 empty_disk capacity pool = record { capacity = capacity; pool = pool; contents = empty }
 
 -- Data is a whole block.
-abbrev pub IsWhole : Mapping → Type 0
-IsWhole (Data block) = length block ≡ BLOCK_LENGTH
-IsWhole Anchored = Unit
+abbrev pub HasBlockLength : Mapping → Type 0
+HasBlockLength (Data block) = length block ≡ BLOCK_LENGTH
+HasBlockLength Anchored = Unit
 
 -- Each address with a block of the pool is one of the disk's, and its data is a whole block.
 pub record IsWellFormed (capacity : ℕ) (contents : Contents) : Type 0 where
   pub each : (lba : ℕ) (mapping : Mapping) → get contents lba ≡ Some mapping →
-      (lba < capacity) × IsWhole mapping
+      (lba < capacity) × HasBlockLength mapping
 
 unfoldable pub zero_block : List ℕ
 zero_block = replicate BLOCK_LENGTH 0

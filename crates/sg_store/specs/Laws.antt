@@ -3,7 +3,7 @@ use Rattle.std.specs.Prelude.{◌≡◌, ◌≢◌, ℕ, ◌+◌, ◌-◌, ◌<�
 use Rattle.std.specs.Prelude.{Bool, List, All, length, find, Option, Some, option_map}
 use Rattle.sg_store.specs.Disk.{Contents, Disk, Mapping, block, block_at, zero_block, lies_in}
 use Rattle.sg_store.specs.Disk.{written, filled, unmapped, anchored, remapped}
-use Rattle.sg_store.specs.Disk.{IsWellFormed, IsWhole}
+use Rattle.sg_store.specs.Disk.{IsWellFormed, HasBlockLength, need}
 use Rattle.sg_store.specs.LbaStatus.{status_at, lba_status, covered}
 use Rattle.sg_store.specs.declared.lba_status.ProvisioningStatus.{ProvisioningStatus}
 use Rattle.sg_store.specs.declared.lba_status.ProvisioningStatus.TheVariants.{Mapped, Deallocated, Anchored}
@@ -98,7 +98,7 @@ CoversTheMost = (disk : Disk) (lba : ℕ) → All (EndsAtAnotherStatus disk) (lb
 pub record DisksStayWellFormed : Type 0 where
   pub mapping : (capacity : ℕ) (contents : Contents) (lba count : ℕ) (mappings : ℕ → Mapping)
       → IsWellFormed capacity contents → lba + count ≤ capacity
-      → ((index : ℕ) → index < count → IsWhole (mappings index))
+      → ((index : ℕ) → index < count → HasBlockLength (mappings index))
       → IsWellFormed capacity (remapped contents lba count mappings)
   pub unmapping : (capacity : ℕ) (contents : Contents) (lba count : ℕ)
       → IsWellFormed capacity contents → IsWellFormed capacity (unmapped contents lba count)

@@ -11,7 +11,7 @@ pub const MAX_DESCRIPTORS: usize = 512;
 /// The most addresses that a descriptor covers. NUMBER OF LOGICAL BLOCKS has four bytes.
 pub const MAX_ADDRESSES: u32 = 0xFFFF_FFFF;
 
-/// The length of the header, in bytes, and that of each descriptor behind it.
+// The length of the header, in bytes, and that of each descriptor behind it.
 const HEADER_LENGTH: usize = 8;
 
 const DESCRIPTOR_LENGTH: usize = 16;

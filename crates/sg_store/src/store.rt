@@ -90,7 +90,7 @@ pub trait Store: Drop {
     /// are.
     ///
     /// # Errors
-    /// More addresses would be mapped than the pool has blocks. Nothing is written then.
+    /// More addresses would be mapped or anchored than the pool has blocks. Nothing is written then.
     fn write(&mut self, lba: u64, count: u32, bytes: &[u8]) -> Result<(), Space>
         requires range { lba + count ≤ (disk self.old).capacity }
         requires byte_count { length bytes.now ≡ BLOCK_LENGTH * count }
@@ -110,7 +110,7 @@ pub trait Store: Drop {
     /// Replaces each block from an address on by one block (SBC-3, 5.43).
     ///
     /// # Errors
-    /// More addresses would be mapped than the pool has blocks. Nothing is written then.
+    /// More addresses would be mapped or anchored than the pool has blocks. Nothing is written then.
     fn fill(&mut self, lba: u64, count: u32, block: &[u8; BLOCK_LENGTH]) -> Result<(), Space>
         requires range { lba + count ≤ (disk self.old).capacity }
         requires headroom { HasHeadroom (meter self.old).counts }

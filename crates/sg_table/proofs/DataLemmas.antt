@@ -7,7 +7,7 @@ use Rattle.std.proofs.lemmas.List.Elements.{All-append, All-drop, All-head, All-
 use Rattle.std.specs.List.{All, splice}
 use Rattle.std.specs.Prelude.{insert, remove}
 use Rattle.sg_table.specs.Leaves.{joined, leaf_at}
-use Rattle.sg_table.specs.Records.{AreShort, IsShort, count_if_data, data_in}
+use Rattle.sg_table.specs.Records.{FitCounts, FitsCount, count_if_data, data_in}
 use Rattle.sg_table.specs.declared.run.Kind.{Kind}
 use Rattle.sg_table.specs.declared.run.Kind.TheVariants.{Data, Anchored}
 use Rattle.sg_table.specs.declared.run.Run.{Run}
@@ -47,11 +47,11 @@ data-splice rs runs from to le =
       rest,
     )
 
-pub short-splice : (rs runs : List Run) (from to : ℕ) → AreShort rs → AreShort runs
-    → AreShort (splice rs from to runs)
+pub short-splice : (rs runs : List Run) (from to : ℕ) → FitCounts rs → FitCounts runs
+    → FitCounts (splice rs from to runs)
 short-splice rs runs from to short others =
-    All-append IsShort (take from rs) (runs ++ drop to rs) (All-take IsShort from rs short)
-    (All-append IsShort runs (drop to rs) others (All-drop IsShort to rs short))
+    All-append FitsCount (take from rs) (runs ++ drop to rs) (All-take FitsCount from rs short)
+    (All-append FitsCount runs (drop to rs) others (All-drop FitsCount to rs short))
 
 -- a leaf gets other records
 data-set : (ls : List (List Run)) (k : ℕ) (new : List Run) → k < length ls
@@ -104,23 +104,23 @@ data-remove (leaf ∷ ls) (suc k) lt =
     )
 
 -- the number fits its field
-pub data-fits : (rs : List Run) → AreShort rs → data_in rs ≤ 2 ^ 32 * length rs
+pub data-fits : (rs : List Run) → FitCounts rs → data_in rs ≤ 2 ^ 32 * length rs
 data-fits [] short = omega arith
 data-fits (run ∷ rs) short =
     omega (
       arith,
-      data-fits rs (All-tail IsShort run rs short),
-      All-head IsShort run rs short,
+      data-fits rs (All-tail FitsCount run rs short),
+      All-head FitsCount run rs short,
     )
 
-pub leaves-fit : (ls : List (List Run)) → All AreShort ls
+pub leaves-fit : (ls : List (List Run)) → All FitCounts ls
     → data_in (joined ls) ≤ 2 ^ 32 * length (joined ls)
 leaves-fit [] short = omega arith
 leaves-fit (leaf ∷ ls) short =
     omega (
       arith,
-      leaves-fit ls (All-tail AreShort leaf ls short),
-      data-fits leaf (All-head AreShort leaf ls short),
+      leaves-fit ls (All-tail FitCounts leaf ls short),
+      data-fits leaf (All-head FitCounts leaf ls short),
       data-append leaf (joined ls),
       length-append leaf (joined ls),
     )

@@ -1,4 +1,4 @@
--- The table of records. Where each maps one address to a slot, it stands for the contents of a disk.
+-- Records of runs, in the order of their addresses.
 use Rattle.std.specs.Prelude.{◌≡◌, ℕ, ◌+◌, ◌^◌, ◌<◌, ◌≤◌, zero, suc, List, [], ◌∷◌, length, slice_index_or}
 use Rattle.std.specs.Prelude.{Option, Some, None, if◌then◌else◌, ◌==◌}
 use Rattle.std.specs.List.{All}
@@ -26,12 +26,12 @@ abbrev pub data_in : List Run → ℕ
 data_in [] = 0
 data_in (run ∷ records) = count_if_data run.kind run.count + data_in records
 
--- A record has as many of them as a count can be, at most, and so has each of some.
-abbrev pub IsShort : Run → Type 0
-IsShort run = count_if_data run.kind run.count < 2 ^ 32
+-- A record has fewer than 2^32 addresses with data, and so has each of some.
+abbrev pub FitsCount : Run → Type 0
+FitsCount run = count_if_data run.kind run.count < 2 ^ 32
 
-abbrev pub AreShort : List Run → Type 0
-AreShort records = All IsShort records
+abbrev pub FitCounts : List Run → Type 0
+FitCounts records = All FitsCount records
 
 -- The address of the record at an index.
 abbrev pub start_of : List Run → ℕ → ℕ

@@ -1,5 +1,5 @@
-// A list of records beside the table, with the index where they belong: those that were read there, or
-// those that are to be put there. It visits no record and changes no table.
+// A list of records beside the table, with the index where they belong. It visits no record and changes
+// no table.
 ghost use Rattle.std.specs.Prelude.{◌≡◌, ◌<◌, [], length, IfOk};
 ghost use Rattle.sg_table.specs.Draft.{empty_draft, pushed};
 
@@ -8,7 +8,8 @@ use crate::run::Run;
 use std::alloc::{AllocError, Global};
 use std::marker::Model;
 
-/// Records that are to replace those of the table from an index on.
+/// Records beside the table, with an index of it: those that were gathered from there on, or those
+/// that are to be put there.
 #[derive(Drop)]
 pub struct Draft {
     from: usize,

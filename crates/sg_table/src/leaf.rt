@@ -1,5 +1,5 @@
 // A few records in a row, which are moved as one. A leaf knows no other, and nothing is counted.
-ghost use Rattle.std.specs.Prelude.{◌≡◌, ◌+◌, ◌-◌, ◌*◌, ◌^◌, ◌<◌, ◌≤◌, [], length, slice_index_or};
+ghost use Rattle.std.specs.Prelude.{◌≡◌, ◌+◌, ◌-◌, ◌<◌, ◌≤◌, [], length, slice_index_or};
 ghost use Rattle.std.specs.List.{splice};
 ghost use Rattle.sg_table.specs.Leaves.{rotated_left, rotated_right};
 ghost use Rattle.sg_table.specs.Records.{start_of};

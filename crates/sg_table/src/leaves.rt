@@ -88,7 +88,7 @@ impl Model for Leaves {
     ghost use Rattle.std.specs.List.{All};
     ghost use Rattle.sg_table.specs.Leaves.{LeafTable, FitsLeaf, IsDirectory, IsSpan, first_addresses};
     ghost use Rattle.sg_table.specs.Leaves.{joined};
-    ghost use Rattle.sg_table.specs.Records.{AreShort, data_in};
+    ghost use Rattle.sg_table.specs.Records.{FitCounts, data_in};
     ghost use Rattle.sg_table.specs.declared.leaves.TheConstants.{MAX_LEAVES};
 
     ghost Value = { LeafTable };
@@ -107,7 +107,7 @@ impl Model for Leaves {
         × (l.firsts.items ≡ first_addresses l.leaves.leaves)
         × (l.leaves.capacity ≤ vec_capacity l.firsts)
         × (l.recent.start < l.recent.end → IsSpan l.leaves.leaves l.recent)
-        × All AreShort l.leaves.leaves
+        × All FitCounts l.leaves.leaves
         × (l.data_count ≡ data_in (joined l.leaves.leaves)) };
 }
 

@@ -1,7 +1,7 @@
 // A record of the table: addresses in a row. It knows no order, and of its slots no more than their
 // numbers.
 ghost use Rattle.std.specs.Prelude.{◌≡◌, ◌^◌, ◌<◌, ◌≤◌, length};
-ghost use Rattle.sg_table.specs.Records.{AreShort, count_if_data, data_in, single};
+ghost use Rattle.sg_table.specs.Records.{FitCounts, count_if_data, data_in, single};
 
 /// What the addresses of a run have in their slots.
 #[derive(Clone, Copy, Default, PartialEq)]
@@ -58,7 +58,7 @@ impl Run {
 pub(crate) fn data_count(records: &[Run]) -> u64
     requires { length records.now < 2 ^ 32 }
     ensures value { result ≡ data_in records.now }
-    ensures short { AreShort records.now }
+    ensures short { FitCounts records.now }
 {
     let mut count = 0;
     for run in records {

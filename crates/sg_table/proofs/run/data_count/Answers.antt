@@ -1,7 +1,7 @@
 use Rattle.std.proofs.Common.{take, get_or, arith}
 use Rattle.std.proofs.lemmas.List.{take_more}
 use Rattle.std.proofs.lemmas.List.Elements.{All-push, All-same}
-use Rattle.sg_table.specs.Records.{IsShort}
+use Rattle.sg_table.specs.Records.{FitsCount}
 use Rattle.sg_table.proofs.DataLemmas.{data-more}
 use Rattle.sg_table.proofs.RecordLemmas.{no_run}
 use Rattle.sg_table.proofs.run.data_count.Goals as goal
@@ -24,7 +24,7 @@ loop-run-preserved c =
     record {
       value = omega (arith, inv.value, c.data_count-count.ensures.value, more);
       fits = omega (arith, inv.fits, c.data_count-count.ensures.fits);
-      short = All-same IsShort _ _ (take_more rs i no_run c.loop-run-test.true)
-          (All-push IsShort (take i rs) (get_or rs i no_run) inv.short
+      short = All-same FitsCount _ _ (take_more rs i no_run c.loop-run-test.true)
+          (All-push FitsCount (take i rs) (get_or rs i no_run) inv.short
           (omega (arith, c.data_count-count.ensures.value, c.data_count-count.ensures.fits)));
     }

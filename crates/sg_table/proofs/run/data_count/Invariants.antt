@@ -1,5 +1,5 @@
 use Rattle.std.proofs.Common.{◌≡◌, ◌≤◌, ◌*◌, ◌^◌, take}
-use Rattle.sg_table.specs.Records.{AreShort, data_in}
+use Rattle.sg_table.specs.Records.{FitCounts, data_in}
 use Rattle.sg_table.proofs.run.data_count.Given as goal
 
 -- those of the records so far
@@ -7,5 +7,5 @@ abbrev pub invariant-loop-run : goal.invariant-loop-run
 invariant-loop-run l = record {
   value : l.count ≡ data_in (take l.run-index l.records);
   fits : l.count ≤ l.run-index * 2 ^ 32;
-  short : AreShort (take l.run-index l.records);
+  short : FitCounts (take l.run-index l.records);
 }

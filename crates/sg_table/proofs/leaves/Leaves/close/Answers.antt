@@ -4,7 +4,7 @@ use Rattle.std.proofs.lemmas.List.Edits.{length-remove}
 use Rattle.std.specs.Prelude.{remove}
 use Rattle.sg_table.specs.LeafList.{LeafRow}
 use Rattle.sg_table.specs.Leaves.{FitsLeaf, LeafTable, joined}
-use Rattle.sg_table.specs.Records.{AreShort, data_in}
+use Rattle.sg_table.specs.Records.{FitCounts, data_in}
 use Rattle.sg_table.proofs.DataLemmas.{data-remove}
 use Rattle.sg_table.proofs.LeafSearchLemmas.{all-remove, firsts-remove}
 use Rattle.sg_table.proofs.LeavesLemmas.{directory-behind, directory-remove, same-table}
@@ -72,7 +72,7 @@ invariant_of-self c =
       c.remove-2.ensures.items ∙ ap (λ xs. remove xs k) c.self.invariant.5 ∙ firsts-remove leaves _ k closed,
       omega (arith, capacity, c.self.invariant.6, c.remove-2.ensures.capacity),
       λ lt. absurd (omega arith),
-      rw closed (all-remove AreShort leaves k c.self.invariant.8),
+      rw closed (all-remove FitCounts leaves k c.self.invariant.8),
       rw closed (omega (arith, data-remove leaves k within, c.self.invariant.9, removed)),
     )
 

@@ -3,7 +3,7 @@ use Rattle.std.specs.Prelude.{insert, [], ◌∷◌, ◌++◌}
 use Rattle.std.proofs.lemmas.List.Elements.{All-cons, All-nil}
 use Rattle.sg_table.specs.LeafList.{LeafRow}
 use Rattle.sg_table.specs.Leaves.{FitsLeaf}
-use Rattle.sg_table.specs.Records.{AreShort}
+use Rattle.sg_table.specs.Records.{FitCounts}
 use Rattle.sg_table.proofs.LeavesLemmas.{directory-new, same-table}
 use Rattle.sg_table.proofs.leaves.Leaves.new.Goals as goal
 
@@ -22,7 +22,7 @@ invariant_of-result c =
       rw one (c.in_ok-push.ensures.items ∙ ap (λ xs. xs ++ 0 ∷ []) c.in_ok-firsts.ensures.items),
       omega (arith, capacity, c.in_ok-push.ensures.capacity, c.in_ok-firsts.ensures.capacity),
       λ lt. absurd (omega arith),
-      rw one (All-cons AreShort [] [] (All-nil _) (All-nil AreShort)),
+      rw one (All-cons FitCounts [] [] (All-nil _) (All-nil FitCounts)),
       rw one refl,
     )
 

@@ -4,7 +4,7 @@ use Rattle.std.proofs.lemmas.List.Elements.{All-nil}
 use Rattle.std.specs.Prelude.{insert}
 use Rattle.sg_table.specs.LeafList.{LeafRow}
 use Rattle.sg_table.specs.Leaves.{FitsLeaf, LeafTable}
-use Rattle.sg_table.specs.Records.{AreShort}
+use Rattle.sg_table.specs.Records.{FitCounts}
 use Rattle.sg_table.proofs.DataLemmas.{data-insert}
 use Rattle.sg_table.proofs.LeafSearchLemmas.{all-insert, firsts-insert}
 use Rattle.sg_table.proofs.LeavesLemmas.{directory-insert, same-table}
@@ -31,7 +31,7 @@ invariant_of-self c =
           ∙ ap (λ xs. insert xs k 0) c.self.invariant.5 ∙ firsts-insert leaves _ k opened,
       omega (arith, capacity, c.self.invariant.6, c.insert-inserted-2.ensures.capacity),
       λ lt. absurd (omega arith),
-      rw opened (all-insert AreShort leaves k [] le (All-nil _) c.self.invariant.8),
+      rw opened (all-insert FitCounts leaves k [] le (All-nil _) c.self.invariant.8),
       rw opened (c.self.invariant.9 ∙ sym (data-insert leaves k le)),
     )
 
