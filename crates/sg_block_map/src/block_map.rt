@@ -25,6 +25,7 @@ use crate::status::{cursor_over, write_descriptors};
 use crate::unmap::{renew_slots, unmap_runs};
 use crate::write::write_runs;
 use sg_pool::{Pool, Source};
+use sg_store::laws::disks_stay_well_formed;
 use sg_store::lba_status::status_header;
 use sg_store::{BLOCK_LENGTH, Counts, MAX_CAPACITY, MAX_POOL, Space, Store};
 use sg_table::{Draft, Kind, RunTable};
@@ -91,6 +92,7 @@ impl BlockMap {
         ensures costs { CostsRange (disk_of self.old) lba count
             (meter_of self.old) (meter_of self.new) }
     {
+        disks_stay_well_formed();
         if count == 0 {
             return Ok(());
         }
@@ -212,6 +214,7 @@ impl Store for BlockMap {
         ensures costs { CostsRange (disk_of self.old) lba count
             (meter_of self.old) (meter_of self.new) }
     {
+        disks_stay_well_formed();
         if count == 0 {
             return;
         }
@@ -297,12 +300,12 @@ impl Store for BlockMap {
 
     fn mapped(&self) -> u32
         ensures value { result ≡ data_count (disk_of self.now).contents }
-    {
-        self.table.data_count() as u32
-    }
 
         // The table has one record for each maximal run, and no others.
         ensures records { records_of self.now ≡ runs (disk_of self.now).contents }
+    {
+        self.table.data_count() as u32
+    }
 
     fn used(&self) -> u32
         ensures value { result ≡ len (disk_of self.now).contents }

@@ -17,6 +17,7 @@ use crate::status::write_descriptors;
 use crate::unmap::unmap_records;
 use crate::write::put_range;
 use sg_pool::{Pool, Source};
+use sg_store::laws::disks_stay_well_formed;
 use sg_store::lba_status::status_header;
 use sg_store::{BLOCK_LENGTH, Counts, Space, Store};
 use sg_table::{Draft, RunTable};
@@ -70,6 +71,7 @@ impl PlainMap {
             (plain_least (disk_of self.old).contents lba count)
             (meter_of self.old) (meter_of self.new) }
     {
+        disks_stay_well_formed();
         let from = self.table.lower_bound(lba);
         let to = self.table.lower_bound(lba + u64::from(count));
         let used = to - from;
@@ -125,6 +127,7 @@ impl Store for PlainMap {
     }
 
     fn unmap(&mut self, lba: u64, count: u32) {
+        disks_stay_well_formed();
         let from = self.table.lower_bound(lba);
         let to = self.table.lower_bound(lba + u64::from(count));
         let had_data = unmap_records(&mut self.table, &mut self.pool, from, to, lba, count);

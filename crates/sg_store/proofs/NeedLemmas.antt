@@ -1,13 +1,12 @@
 -- How many addresses of a range have no block of the pool.
-use Rattle.std.proofs.Common.{◌≡◌, ℕ, ◌+◌, zero, suc, refl, ap, ◌∙◌, arith, cond, Bool}
-use Rattle.std.proofs.Common.{true, false, Option, Some, is_some}
+use Rattle.std.proofs.Common.{◌≡◌, ℕ, ◌+◌, ◌≤◌, zero, suc, refl, ap, ◌∙◌, arith, cond, Bool}
+use Rattle.std.proofs.Common.{true, false}
 use Rattle.std.specs.FinMap as map
 use Rattle.std.specs.List.{range_with_len, count_by}
-use Rattle.std.specs.Prelude.{not, ◌||◌}
-use Rattle.sg_store.specs.Disk.{Contents, Mapping, lies_in, need, remapped, used_among}
+use Rattle.std.specs.Prelude.{not}
+use Rattle.sg_store.specs.Disk.{Contents, Mapping, need, remapped, used_among}
 use Rattle.sg_store.proofs.DiskLemmas.{count-more, range-more, used_among-more, used_among-none}
 use Rattle.sg_store.proofs.DiskLemmas.{len-remapped}
-use Rattle.sg_store.proofs.WriteLemmas.{get-remapped}
 
 pub need-none : (m : Contents) (a : ℕ) → need m a 0 ≡ 0
 unfolding need
@@ -41,12 +40,5 @@ pub len-needed : (m : Contents) (a k : ℕ) (f : ℕ → Mapping)
     → map.len (remapped m a k f) ≡ map.len m + need m a k
 len-needed m a k f = omega (arith, len-remapped m a k f, need-used m a k)
 
-is-found : (b : Bool) (x : Mapping) (y : Option Mapping)
-    → is_some (cond b (Some x) y) ≡ (b || is_some y)
-is-found true x y = refl
-is-found false x y = refl
-
-pub contains-remapped : (m : Contents) (a k : ℕ) (f : ℕ → Mapping) (q : ℕ)
-    → map.contains_key (remapped m a k f) q ≡ (lies_in a k q || map.contains_key m q)
-contains-remapped m a k f q = ap is_some (get-remapped m a k f q)
-    ∙ is-found (lies_in a k q) _ (map.get m q)
+pub need-le : (m : Contents) (a k : ℕ) → need m a k ≤ k
+need-le m a k = omega (arith, need-used m a k)

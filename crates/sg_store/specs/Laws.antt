@@ -1,4 +1,5 @@
 -- What the calls do and report, address by address.
+use Rattle.std.specs.FinMap.{get, len}
 use Rattle.std.specs.Prelude.{◌≡◌, ◌≢◌, ℕ, ◌+◌, ◌-◌, ◌<◌, ◌≤◌, if◌then◌else◌}
 use Rattle.std.specs.Prelude.{Bool, List, All, length, find, Option, Some, option_map}
 use Rattle.sg_store.specs.Disk.{Contents, Disk, Mapping, block, block_at, zero_block, lies_in}
@@ -102,3 +103,13 @@ pub record DisksStayWellFormed : Type 0 where
       → IsWellFormed capacity (remapped contents lba count mappings)
   pub unmapping : (capacity : ℕ) (contents : Contents) (lba count : ℕ)
       → IsWellFormed capacity contents → IsWellFormed capacity (unmapped contents lba count)
+
+-- An address that is remapped has what its index says, and others have what they had. That takes as
+-- many blocks of the pool more as the addresses need, which are at most as many as they are.
+pub record RemappingTakesWhatIsNeeded : Type 0 where
+  pub found : (contents : Contents) (lba count : ℕ) (mapping : ℕ → Mapping) (address : ℕ)
+      → get (remapped contents lba count mapping) address
+      ≡ (if lies_in lba count address then Some (mapping (address - lba)) else get contents address)
+  pub taken : (contents : Contents) (lba count : ℕ) (mapping : ℕ → Mapping)
+      → len (remapped contents lba count mapping) ≡ len contents + need contents lba count
+  pub at_most : (contents : Contents) (lba count : ℕ) → need contents lba count ≤ count

@@ -5,7 +5,7 @@ ghost use Rattle.sg_store.specs.Laws.{FillsEachBlock, FillMapsEachAddress};
 ghost use Rattle.sg_store.specs.Laws.{UnmapsEachBlock, UnmapsEachAddress};
 ghost use Rattle.sg_store.specs.Laws.{AnchorZeroesEachBlock, AnchorsEachAddress};
 ghost use Rattle.sg_store.specs.Laws.{ReportsEachStatus, CoversTheRest, CoversTheMost};
-ghost use Rattle.sg_store.specs.Laws.{DisksStayWellFormed};
+ghost use Rattle.sg_store.specs.Laws.{DisksStayWellFormed, RemappingTakesWhatIsNeeded};
 
 /// After a write, the block at an address is the one given for it inside the range, and the old one
 /// outside.
@@ -72,4 +72,9 @@ pub fn each_descriptor_covers_as_many_addresses_as_it_can()
 /// addresses are deallocated.
 pub fn disks_stay_well_formed()
     ensures { DisksStayWellFormed }
+{}
+
+/// Remapping addresses changes these alone, and takes as many blocks of the pool as they need.
+pub fn remapping_takes_what_is_needed()
+    ensures { RemappingTakesWhatIsNeeded }
 {}

@@ -2,6 +2,7 @@
 use Rattle.std.proofs.Common.{◌≡◌, ℕ, ◌+◌, ◌-◌, ◌<◌, ◌≤◌, min, max, List, [], ◌∷◌, ◌++◌, length}
 use Rattle.std.proofs.Common.{Bool, true, false, refl, sym, ap, ap₂, ◌∙◌, arith, ◌⊎◌, inl, inr}
 use Rattle.std.proofs.Common.{zero, suc, get_or}
+use Rattle.std.proofs.Math.Bool.{or_assoc}
 use Rattle.std.proofs.lemmas.Bool.{cases_lt}
 use Rattle.std.proofs.lemmas.Bool.Decides.{nat_tests}
 use Rattle.std.specs.Prelude.{◌||◌, nat_lt}
@@ -10,10 +11,6 @@ use Rattle.sg_target.specs.Joining.{IsSubadditive, cost_of, both}
 use Rattle.sg_target.specs.declared.joining.AddressRange.{AddressRange}
 
 -- ---- truth values
-
-or_assoc : (a b c : Bool) → ((a || b) || c) ≡ (a || (b || c))
-or_assoc true b c = refl
-or_assoc false b c = refl
 
 pub or_swap : (a b c : Bool) → (a || (b || c)) ≡ (b || (a || c))
 or_swap true true c = refl
@@ -40,7 +37,7 @@ pub not_true : (a : Bool) → (a ≡ true → ⊥) → a ≡ false
 not_true true h = absurd (h refl)
 not_true false h = refl
 
-true_false : {a : Bool} → a ≡ true → a ≡ false → ⊥
+pub true_false : {a : Bool} → a ≡ true → a ≡ false → ⊥
 true_false e f = cc
 
 -- ---- a range among others

@@ -2,6 +2,7 @@
 use Rattle.std.proofs.Common.{◌≡◌, ℕ, ◌+◌, ◌<◌, ◌≤◌, List, [], ◌∷◌, ◌++◌, length, append_assoc}
 use Rattle.std.proofs.Common.{length-append, Bool, true, false, refl, sym, ap, ◌∙◌, arith, inl, inr}
 use Rattle.std.proofs.Common.{cond, drop, get_or, subst, Option, Some, None}
+use Rattle.std.proofs.Math.Bool.{or_assoc}
 use Rattle.std.proofs.lemmas.List.{drop_more}
 use Rattle.std.specs.Prelude.{◌||◌, nat_lt}
 use Rattle.sg_target.specs.Joining.{end_of, covers, lies_in_some, AreWithin, AreDisjoint, Cost}
@@ -38,10 +39,6 @@ grown-first range ranges h = record {
   count = omega arith;
 }
 
-or_three : (a b c : Bool) → ((a || b) || c) ≡ (a || (b || c))
-or_three true b c = refl
-or_three false b c = refl
-
 module _ (range : AddressRange) (ranges : List AddressRange) (grown : AddressRange)
     (apart : List AddressRange) (x : AddressRange) (rest : List AddressRange)
     (h : IsGrown range ranges grown apart (x ∷ rest)) where
@@ -59,7 +56,7 @@ module _ (range : AddressRange) (ranges : List AddressRange) (grown : AddressRan
                   (sym (some-append apart rest q) ∙ others.0 q b)
             ];
         same = λ q. ap (λ b. b || lies_in_some (apart ++ rest) q) (both-covers grown x q near)
-            ∙ or_three (covers q grown) (covers q x) (lies_in_some (apart ++ rest) q)
+            ∙ or_assoc (covers q grown) (covers q x) (lies_in_some (apart ++ rest) q)
             ∙ ap (λ b. covers q grown || b) (sym (some-middle apart rest x q)) ∙ h.same q;
         cheaper = λ cost law. omega (
           arith,

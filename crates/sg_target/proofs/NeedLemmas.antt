@@ -1,6 +1,6 @@
 -- What joined ranges need is what the ranges as they were sent need.
 use Rattle.std.proofs.Common.{◌≡◌, ℕ, ◌+◌, ◌≤◌, ◌<◌, zero, suc, List, [], ◌∷◌, ◌++◌, sym, refl, ap}
-use Rattle.std.proofs.Common.{ap₂, ◌∙◌, arith, cond, Bool, true, false, Some}
+use Rattle.std.proofs.Common.{ap₂, ◌∙◌, arith, cond, Bool, true, false, Some, is_some}
 use Rattle.std.proofs.lemmas.Bool.Decides.{nat_tests}
 use Rattle.std.specs.Cmp.{nat_cmp_total}
 use Rattle.std.specs.FinMap as map
@@ -15,10 +15,9 @@ use Rattle.sg_store.specs.Disk.Mapping.{Anchored}
 use Rattle.sg_target.specs.Joining.{covers, lies_in_some, AreDisjoint, AreJoined, AreWithin, range_of}
 use Rattle.sg_target.specs.declared.joining.AddressRange.{AddressRange}
 use Rattle.sg_wire.specs.declared.extent.Extent.{Extent}
-use Rattle.sg_store.proofs.NeedLemmas.{contains-remapped, len-needed, need-more}
-use Rattle.sg_store.proofs.NeedLemmas.{need-none, need-used}
-use Rattle.sg_store.proofs.WriteLemmas.{get-remapped}
-use Rattle.sg_target.proofs.AddressRangeLemmas.{or_left, not_true}
+use Rattle.sg_store.specs.Laws.{RemappingTakesWhatIsNeeded}
+use Rattle.sg_store.proofs.NeedLemmas.{need-more, need-none}
+use Rattle.sg_target.proofs.AddressRangeLemmas.{or_left, not_true, true_false}
 
 -- ranges that are anchored in turn
 abbrev pub anchored_over : Contents → List AddressRange → Contents
@@ -36,19 +35,20 @@ either true false x y = refl
 either false true x y = refl
 either false false x y = refl
 
-pub get-over : (m : Contents) (rs : List AddressRange) (q : ℕ)
+pub get-over : RemappingTakesWhatIsNeeded → (m : Contents) (rs : List AddressRange) (q : ℕ)
     → map.get (anchored_over m rs) q ≡ cond (lies_in_some rs q) (Some Anchored) (map.get m q)
-get-over m [] q = refl
-get-over m (r ∷ rs) q = get-over (anchored m r.lba r.count) rs q
+get-over law m [] q = refl
+get-over law m (r ∷ rs) q = get-over law (anchored m r.lba r.count) rs q
     ∙ ap (cond (lies_in_some rs q) (Some Anchored))
-    (get-remapped m r.lba r.count (λ index. Anchored) q)
+    (law.found m r.lba r.count (λ index. Anchored) q)
     ∙ either (lies_in_some rs q) (covers q r) (Some Anchored) (map.get m q)
 
 -- only the addresses matter
-pub over-same : (m : Contents) (xs ys : List AddressRange)
+pub over-same : RemappingTakesWhatIsNeeded → (m : Contents) (xs ys : List AddressRange)
     → ((q : ℕ) → lies_in_some xs q ≡ lies_in_some ys q) → anchored_over m xs ≡ anchored_over m ys
-over-same m xs ys h = same_map nat_cmp_total nat_cmp-IsAntisymmetric _ _ (λ q.
-    get-over m xs q ∙ ap (λ b. cond b (Some Anchored) (map.get m q)) (h q) ∙ sym (get-over m ys q))
+over-same law m xs ys h = same_map nat_cmp_total nat_cmp-IsAntisymmetric _ _ (λ q.
+    get-over law m xs q ∙ ap (λ b. cond b (Some Anchored) (map.get m q)) (h q)
+    ∙ sym (get-over law m ys q))
 
 -- a range needs as much where the same of its addresses have a slot
 need-alike : (m n : Contents) (a k : ℕ)
@@ -64,47 +64,45 @@ need-alike m n a (suc k) h =
 inside : (a k i : ℕ) → i < k → lies_in a k (a + i) ≡ true
 inside a k i lt = grind (arith, nat_tests)
 
-true_false : {a : Bool} → a ≡ true → a ≡ false → ⊥
-true_false e f = cc
-
 -- what is anchored elsewhere does not matter
-need-elsewhere : (m : Contents) (r : AddressRange) (rs : List AddressRange)
+need-elsewhere : RemappingTakesWhatIsNeeded → (m : Contents) (r : AddressRange) (rs : List AddressRange)
     → ((q : ℕ) → covers q r ≡ true → lies_in_some rs q ≡ false)
     → need_of (anchored m r.lba r.count) rs ≡ need_of m rs
-need-elsewhere m r [] h = refl
-need-elsewhere m r (s ∷ rs) h =
+need-elsewhere law m r [] h = refl
+need-elsewhere law m r (s ∷ rs) h =
     let off : (i : ℕ) → i < s.count → covers (s.lba + i) r ≡ false =
     λ i lt. not_true (covers (s.lba + i) r) (λ f. true_false (inside s.lba s.count i lt)
     (or_left (covers (s.lba + i) s) (lies_in_some rs (s.lba + i)) (h (s.lba + i) f))) in
     ap₂ (λ x y. x + y)
     (need-alike (anchored m r.lba r.count) m s.lba s.count (λ i lt.
-    contains-remapped m r.lba r.count (λ index. Anchored) (s.lba + i)
-    ∙ ap (λ b. b || map.contains_key m (s.lba + i)) (off i lt)))
-    (need-elsewhere m r rs (λ q e. right (covers q s) (lies_in_some rs q) (h q e)))
+    ap is_some (law.found m r.lba r.count (λ index. Anchored) (s.lba + i))
+    ∙ ap (λ b. is_some (cond b (Some Anchored) (map.get m (s.lba + i)))) (off i lt)))
+    (need-elsewhere law m r rs (λ q e. right (covers q s) (lies_in_some rs q) (h q e)))
   where
     right : (a b : Bool) → (a || b) ≡ false → b ≡ false
     right true b e = let wrong = e in cc
     right false b e = e
 
-pub len-over : (m : Contents) (rs : List AddressRange) → AreDisjoint rs
+pub len-over : RemappingTakesWhatIsNeeded → (m : Contents) (rs : List AddressRange) → AreDisjoint rs
     → map.len (anchored_over m rs) ≡ map.len m + need_of m rs
-len-over m [] h = omega arith
-len-over m (r ∷ rs) h =
-    let rest = len-over (anchored m r.lba r.count) rs h.1 in
-    let one = len-needed m r.lba r.count (λ index. Anchored) in
-    let same = need-elsewhere m r rs h.0 in
+len-over law m [] h = omega arith
+len-over law m (r ∷ rs) h =
+    let rest = len-over law (anchored m r.lba r.count) rs h.1 in
+    let one = law.taken m r.lba r.count (λ index. Anchored) in
+    let same = need-elsewhere law m r rs h.0 in
     omega arith
 
 -- what joined ranges need is what anchoring the extents takes
-pub used-after : (m : Contents) (extents : List Extent) (joined : List AddressRange)
+pub used-after : RemappingTakesWhatIsNeeded
+    → (m : Contents) (extents : List Extent) (joined : List AddressRange)
     → AreJoined (map range_of extents) joined
     → (used needed : ℕ) → used ≡ map.len m → needed ≡ need_of m joined
     → map.len (anchored_in_turn m extents) ≡ used + needed
-used-after m extents joined h used needed u n =
+used-after law m extents joined h used needed u n =
     let all : map.len (anchored_in_turn m extents) ≡ map.len m + need_of m joined =
-    ap map.len (sym (over-extents m extents) ∙ over-same m (map range_of extents) joined
+    ap map.len (sym (over-extents m extents) ∙ over-same law m (map range_of extents) joined
     (λ q. sym (h.same q)))
-    ∙ len-over m joined h.disjoint in
+    ∙ len-over law m joined h.disjoint in
     omega (arith, all, u, n)
 
 -- ---- the extents in turn
@@ -115,11 +113,12 @@ pub in_turn-more : (m : Contents) (extents : List Extent) (last : Extent)
 in_turn-more m [] last = refl
 in_turn-more m (e ∷ es) last = in_turn-more (anchored m e.lba e.count) es last
 
-len-grows : (m : Contents) (extents : List Extent) → map.len m ≤ map.len (anchored_in_turn m extents)
-len-grows m [] = omega arith
-len-grows m (e ∷ es) =
-    let rest = len-grows (anchored m e.lba e.count) es in
-    let one = len-needed m e.lba e.count (λ index. Anchored) in
+len-grows : RemappingTakesWhatIsNeeded → (m : Contents) (extents : List Extent)
+    → map.len m ≤ map.len (anchored_in_turn m extents)
+len-grows law m [] = omega arith
+len-grows law m (e ∷ es) =
+    let rest = len-grows law (anchored m e.lba e.count) es in
+    let one = law.taken m e.lba e.count (λ index. Anchored) in
     omega arith
 
 in_turn-append : (m : Contents) (xs ys : List Extent)
@@ -128,9 +127,9 @@ in_turn-append m [] ys = refl
 in_turn-append m (x ∷ xs) ys = in_turn-append (anchored m x.lba x.count) xs ys
 
 -- as far as an extent there is room where there is room for all
-pub room-first : (m : Contents) (xs ys : List Extent)
+pub room-first : RemappingTakesWhatIsNeeded → (m : Contents) (xs ys : List Extent)
     → map.len (anchored_in_turn m xs) ≤ map.len (anchored_in_turn m (xs ++ ys))
-room-first m xs ys = let more = len-grows (anchored_in_turn m xs) ys in
+room-first law m xs ys = let more = len-grows law (anchored_in_turn m xs) ys in
     let e = ap map.len (in_turn-append m xs ys) in omega arith
 
 pub ranges-within : (capacity : ℕ) (extents : List Extent) → AreOnDisk capacity extents
@@ -142,6 +141,3 @@ pub within-weaker : (low high : ℕ) (rs : List AddressRange) → low ≤ high �
     → AreWithin high rs
 within-weaker low high [] le h = tt
 within-weaker low high (r ∷ rs) le h = (omega (arith, h.0), within-weaker low high rs le h.1)
-
-pub need-le : (m : Contents) (a k : ℕ) → need m a k ≤ k
-need-le m a k = omega (arith, need-used m a k)

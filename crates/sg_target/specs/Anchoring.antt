@@ -1,12 +1,15 @@
 -- What anchoring extents takes, as the store counts it.
-use Rattle.std.specs.Prelude.{◌≡◌, ℕ, ◌+◌, ◌*◌, ◌≤◌, List, length, map, true}
+use Rattle.std.specs.Prelude.{◌≡◌, ℕ, ◌+◌, ◌*◌, ◌^◌, ◌≤◌, List, length, map, true, Result, OnOk}
+use Rattle.sg_wire.specs.UnmapList.{maximum_unmap_descriptors}
 use Rattle.sg_wire.specs.declared.extent.Extent.{Extent}
 use Rattle.sg_store.specs.Disk.{Contents, Disk, need}
-use Rattle.sg_store.specs.Meter.{Meter}
+use Rattle.sg_store.specs.Meter.{Meter, probe_bound}
+use Rattle.sg_store.specs.declared.store.Counts.{Counts}
+use Rattle.sg_store.specs.declared.store.TheConstants.{MAX_CAPACITY, MAX_POOL}
 use Rattle.sg_target.specs.Effect.{Range}
 use Rattle.sg_target.specs.Joining.{cost_of}
 use Rattle.sg_target.specs.ProvisioningCommands.{anchored_in_turn}
-use Rattle.sg_target.specs.Ranges.{CostBounds, sum_over}
+use Rattle.sg_target.specs.Ranges.{CostBounds, least_over, sum_over}
 use Rattle.sg_target.specs.declared.joining.AddressRange.{AddressRange}
 
 abbrev pub disk_anchored_in_turn : Disk → List Extent → Disk
@@ -25,11 +28,34 @@ counted contents addresses =
 abbrev pub counted_ranges : Contents → List AddressRange → List Range
 counted_ranges contents ranges = map (counted contents) ranges
 
+-- The disk is no larger than a store's may be.
+pub record HasAllowedSize (disk : Disk) : Type 0 where
+  pub capacity : disk.capacity ≤ MAX_CAPACITY
+  pub pool : disk.pool ≤ MAX_POOL
+
+-- At most how many records are visited over the ranges of a parameter list, each of which has at most
+-- `MAX_CAPACITY` addresses.
+abbrev pub visits_of_list : ℕ
+visits_of_list = maximum_unmap_descriptors * 2 ^ 41
+
+-- No more was counted than the ranges of one parameter list may cost.
+pub record AreOfOneList (counts : Counts) : Type 0 where
+  pub visits : counts.visits ≤ visits_of_list
+  pub probes : counts.probes ≤ probe_bound * maximum_unmap_descriptors
+  pub links : counts.links ≤ MAX_POOL * maximum_unmap_descriptors
+
 -- A store has counted no more than ranges may cost, since a restart.
 pub record IsWithinPrice (bounds : CostBounds) (pool : ℕ) (over : List Range)
     (before after : Meter) : Type 0 where
   pub visits : after.counts.visits ≤ sum_over bounds.price over
-  pub probes : after.counts.probes ≤ 64 * length over
+  pub probes : after.counts.probes ≤ probe_bound * length over
   pub links : after.counts.links ≤ pool * length over
   pub visited : after.total ≡ before.total + after.counts.visits
   pub restarts : after.restarts ≡ before.restarts
+
+-- A call that can fail has counted no more than ranges may cost, since a restart, and no less than they
+-- cost at least if it succeeds.
+pub record CostsOnOk {T E : Type 0} (result : Result T E) (bounds : CostBounds) (pool : ℕ)
+    (over : List Range) (before after : Meter) : Type 0 where
+  pub charge : IsWithinPrice bounds pool over before after
+  pub least : OnOk result (least_over bounds.least over ≤ after.counts.visits)

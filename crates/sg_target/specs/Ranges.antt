@@ -2,7 +2,7 @@
 use Rattle.std.specs.Prelude.{◌≡◌, ℕ, ◌+◌, ◌*◌, ◌<◌, ◌≤◌, List, [], ◌∷◌, length, Result, Ok, Err}
 use Rattle.std.specs.Prelude.{if◌then◌else◌}
 use Rattle.sg_store.specs.Disk.{Contents}
-use Rattle.sg_store.specs.Meter.{Meter}
+use Rattle.sg_store.specs.Meter.{Meter, probe_bound}
 use Rattle.sg_target.specs.Checks.{checked_effect}
 use Rattle.sg_target.specs.Effect.{Effect, Range}
 use Rattle.sg_target.specs.State.{State}
@@ -57,7 +57,7 @@ restarts_for (range ∷ rest) = 1
 pub record IsCounted (bounds : CostBounds) (pool : ℕ) (over : List Range)
     (before after : Meter) : Type 0 where
   pub visits : after.counts.visits ≤ sum_over bounds.price over
-  pub probes : after.counts.probes ≤ 64 * length over
+  pub probes : after.counts.probes ≤ probe_bound * length over
   pub links : after.counts.links ≤ pool * length over
   pub least : least_over bounds.least over ≤ after.counts.visits
   pub visited : after.total ≡ before.total + after.counts.visits
@@ -68,7 +68,7 @@ pub record IsCharged (bounds : CostBounds) (pool : ℕ) (over : List Range)
     (before after : Meter) (reply : Reply) : Type 0 where
   -- at most what its ranges may cost, so nothing without a range
   pub visits : reply.counts.visits ≤ sum_over bounds.price over
-  pub probes : reply.counts.probes ≤ 64 * length over
+  pub probes : reply.counts.probes ≤ probe_bound * length over
   pub links : reply.counts.links ≤ pool * length over
   -- at least what they cost a command that ends GOOD
   pub least : reply.status ≡ Good → least_over bounds.least over ≤ reply.counts.visits

@@ -1,38 +1,39 @@
 // Anchoring the extents of a command: the blocks that they need are counted first, and then they are
 // anchored in turn, as they were sent.
-ghost use Rattle.std.specs.Prelude.{◌≡◌, ◌+◌, ◌*◌, ◌^◌, ◌≤◌, ◌++◌, ◌↔◌, List, length};
+ghost use Rattle.std.specs.Prelude.{◌≡◌, ◌+◌, ◌≤◌, ◌++◌, ◌↔◌, List, length};
 ghost use Rattle.std.specs.Prelude.{IsErr, OnOk, OnErr};
 ghost use Rattle.std.specs.FinMap.{len};
 ghost use Rattle.sg_wire.specs.UnmapList.{maximum_unmap_descriptors};
 ghost use Rattle.sg_store.specs.Disk.{IsOverfull, anchored, disk_anchored};
 ghost use Rattle.sg_store.specs.Meter.{Charged, HasHeadroom, Meter, no_counts};
-ghost use Rattle.sg_target.specs.Anchoring.{IsWithinPrice, counted_ranges, disk_anchored_in_turn};
-ghost use Rattle.sg_target.specs.Anchoring.{need_of};
+ghost use Rattle.sg_target.specs.Anchoring.{AreOfOneList, CostsOnOk, HasAllowedSize, counted_ranges};
+ghost use Rattle.sg_target.specs.Anchoring.{disk_anchored_in_turn, need_of, visits_of_list};
 ghost use Rattle.sg_target.specs.Effect.{Range};
 ghost use Rattle.sg_target.specs.Extents.{AreOnDisk};
 ghost use Rattle.sg_target.specs.Joining.{AreWithin};
 ghost use Rattle.sg_target.specs.ProvisioningCommands.{anchored_in_turn, anchoring_in_turn};
 ghost use Rattle.sg_target.specs.ProvisioningCommands.{anchoring_ranges};
-ghost use Rattle.sg_target.specs.Ranges.{IsCounted, cost_bounds, least_over};
+ghost use Rattle.sg_target.specs.Ranges.{IsCounted, cost_bounds};
 
 use crate::joining::{AddressRange, joined};
-use sg_store::{MAX_CAPACITY, MAX_POOL, Space, Store};
+use sg_store::laws::remapping_takes_what_is_needed;
+use sg_store::{Space, Store};
 use sg_wire::Extent;
 
 // How many blocks of the pool ranges need, of a store that has counted nothing.
 fn count_needed<S: Store>(store: &mut S, ranges: &[AddressRange]) -> u64
     requires at_most { length ranges.now ≤ maximum_unmap_descriptors }
     requires fits { AreWithin (S.disk store.old).capacity ranges.now }
-    requires capacity { (S.disk store.old).capacity ≤ MAX_CAPACITY }
-    requires pool { (S.disk store.old).pool ≤ MAX_POOL }
+    requires size { HasAllowedSize (S.disk store.old) }
     requires nothing_counted { (S.meter store.old).counts ≡ no_counts }
     ensures value { result ≡ need_of (S.disk store.old).contents ranges.now }
     ensures disk { S.disk store.new ≡ S.disk store.old }
     ensures counted { IsCounted (cost_bounds S.price S.least) (S.disk store.old).pool
         (counted_ranges (S.disk store.old).contents ranges.now)
         (S.meter store.old) (S.meter store.new) }
-    ensures few { (S.meter store.new).counts.visits ≤ maximum_unmap_descriptors * 2 ^ 41 }
+    ensures visits { (S.meter store.new).counts.visits ≤ visits_of_list }
 {
+    remapping_takes_what_is_needed();
     let mut needed = 0;
     for range in ranges {
         needed += store.need(range.lba, range.count);
@@ -61,13 +62,10 @@ fn anchor_with_room<S: Store>(store: &mut S, extent: Extent)
 fn anchor_in_turn<S: Store>(store: &mut S, extents: &[Extent])
     requires at_most { length extents.now ≤ maximum_unmap_descriptors }
     requires on_disk { AreOnDisk (S.disk store.old).capacity extents.now }
-    requires capacity { (S.disk store.old).capacity ≤ MAX_CAPACITY }
-    requires pool { (S.disk store.old).pool ≤ MAX_POOL }
+    requires size { HasAllowedSize (S.disk store.old) }
     requires room { len (anchored_in_turn (S.disk store.old).contents extents.now)
         ≤ (S.disk store.old).pool }
-    requires visits { (S.meter store.old).counts.visits ≤ maximum_unmap_descriptors * 2 ^ 41 }
-    requires probes { (S.meter store.old).counts.probes ≤ 64 * maximum_unmap_descriptors }
-    requires links { (S.meter store.old).counts.links ≤ MAX_POOL * maximum_unmap_descriptors }
+    requires counts { AreOfOneList (S.meter store.old).counts }
     ensures disk { S.disk store.new ≡ disk_anchored_in_turn (S.disk store.old) extents.now }
 
     // Whatever was counted before.
@@ -78,6 +76,7 @@ fn anchor_in_turn<S: Store>(store: &mut S, extents: &[Extent])
         (over ++ anchoring_in_turn (S.disk store.old).contents extents.now) before
         (S.meter store.new) }
 {
+    remapping_takes_what_is_needed();
     for extent in extents {
         anchor_with_room(store, *extent);
     }
@@ -93,8 +92,7 @@ pub(crate) fn anchor_extents<S: Store>(
     pool: u32,
     extents: &[Extent],
 ) -> Result<(), Space>
-    requires pool { (pool ≡ (S.disk store.old).pool) × (pool ≤ MAX_POOL) }
-    requires capacity { (S.disk store.old).capacity ≤ MAX_CAPACITY }
+    requires size { (pool ≡ (S.disk store.old).pool) × HasAllowedSize (S.disk store.old) }
     requires at_most { length extents.now ≤ maximum_unmap_descriptors }
     requires on_disk { AreOnDisk (S.disk store.old).capacity extents.now }
     requires nothing_counted { (S.meter store.old).counts ≡ no_counts }
@@ -106,13 +104,11 @@ pub(crate) fn anchor_extents<S: Store>(
     ensures err { OnErr result (S.disk store.new ≡ S.disk store.old) }
 
     // What it costs.
-    ensures charge { IsWithinPrice (cost_bounds S.price S.least) (S.disk store.old).pool
+    ensures costs { CostsOnOk result (cost_bounds S.price S.least) (S.disk store.old).pool
         (anchoring_ranges (S.disk store.old).contents extents.now)
         (S.meter store.old) (S.meter store.new) }
-    ensures least { OnOk result (least_over S.least
-        (anchoring_ranges (S.disk store.old).contents extents.now)
-        ≤ (S.meter store.new).counts.visits) }
 {
+    remapping_takes_what_is_needed();
     let ranges = joined(extents);
     let needed = count_needed(store, ranges.as_slice());
     if needed > u64::from(pool - store.used()) {

@@ -5,6 +5,7 @@ ghost use Rattle.std.specs.List.{list_all};
 ghost use Rattle.std.specs.FinMap.{len};
 ghost use Rattle.sg_wire.specs.UnmapList.{maximum_unmap_descriptors};
 ghost use Rattle.sg_store.specs.Meter.{no_counts};
+ghost use Rattle.sg_target.specs.Anchoring.{HasAllowedSize};
 ghost use Rattle.sg_target.specs.Checks.{out_of_range, requested, unsupported_value};
 ghost use Rattle.sg_target.specs.Demands.{bad_count, unmap as demands_of_unmap, write_same};
 ghost use Rattle.sg_target.specs.Demands.{write_same_10, write_same_16};
@@ -27,7 +28,7 @@ use crate::refusal::{Reason, Refusal};
 use crate::reply::Reply;
 use crate::target::{BUFFER_LENGTH, Target};
 use sg_pages::MAXIMUM_WRITE_SAME_LENGTH;
-use sg_store::{BLOCK_LENGTH, MAX_CAPACITY, MAX_POOL, Store};
+use sg_store::{BLOCK_LENGTH, MAX_CAPACITY, Store};
 use sg_wire::laws::answers_are_in_their_buffers;
 use sg_wire::{
     Cut, Extent, Initiator, ListedExtents, Unmap, UnmapList, UnmapListFault, WriteSame10,
@@ -122,8 +123,7 @@ impl<S: Store> Target<S> {
 fn unmap_in_turn<S: Store>(store: &mut S, extents: &[Extent])
     requires on_disk { AreOnDisk (S.disk store.old).capacity extents.now }
     requires at_most { length extents.now ≤ maximum_unmap_descriptors }
-    requires capacity { (S.disk store.old).capacity ≤ MAX_CAPACITY }
-    requires pool { (S.disk store.old).pool ≤ MAX_POOL }
+    requires size { HasAllowedSize (S.disk store.old) }
     requires nothing_counted { (S.meter store.old).counts ≡ no_counts }
     ensures disk { S.disk store.new ≡ record (S.disk store.old)
         { contents = unmapped_in_turn (S.disk store.old).contents extents.now } }

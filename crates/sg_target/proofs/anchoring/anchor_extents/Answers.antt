@@ -8,7 +8,7 @@ use Rattle.sg_target.proofs.anchoring.anchor_extents.Goals as goal
 
 pub joined-ranges-requires-clause-fits : goal.joined-ranges-requires-clause-fits
 joined-ranges-requires-clause-fits g c =
-    within-weaker _ MAX_CAPACITY (map range_of c.args.extents.now) c.requires.capacity
+    within-weaker _ MAX_CAPACITY (map range_of c.args.extents.now) c.requires.size.1.capacity
     (ranges-within _ c.args.extents.now c.requires.on_disk)
 
 pub count_needed-needed-requires-clause-fits : goal.count_needed-needed-requires-clause-fits
@@ -20,36 +20,39 @@ count_needed-needed-requires-clause-fits g c =
 pub returns-then-needed-from-clause-space : goal.returns-then-needed-from-clause-space
 returns-then-needed-from-clause-space g c =
     let left = c.count_needed-needed.ensures.disk in
-    let after = used-after _ c.args.extents.now c.joined-ranges.result.items c.joined-ranges.ensures _ _
+    let after = used-after c.remapping_takes_what_is_needed.ensures _ c.args.extents.now c.joined-ranges.result.items c.joined-ranges.ensures _ _
     (rw left at c.used.ensures.value)
     (rw c.as_slice.ensures.value at c.count_needed-needed.ensures.value) in
     let within = rw left at c.used.ensures.within in (
-      λ _. omega (arith, after, within, c.requires.pool.0, c.from.ensures, c.if-needed-from.true),
+      λ _. omega (arith, after, within, c.requires.size.0, c.from.ensures, c.if-needed-from.true),
       λ _. cc,
     )
 
-pub returns-then-needed-from-clause-charge : goal.returns-then-needed-from-clause-charge
-returns-then-needed-from-clause-charge g c =
+pub returns-then-needed-from-clause-costs : goal.returns-then-needed-from-clause-costs
+returns-then-needed-from-clause-costs g c =
     let disk = g.S.Store.disk c.args.store.now in
-    counted-charged (cost_bounds g.S.Store.price g.S.Store.least) disk.pool
-    disk.contents c.args.extents.now c.joined-ranges.result.items c.joined-ranges.ensures
-    (g.met.S.Store.price_joined disk.contents) _ _
-    (rw c.as_slice.ensures.value at
-    c.count_needed-needed.ensures.counted)
+    record {
+      charge = counted-charged (cost_bounds g.S.Store.price g.S.Store.least) disk.pool
+          disk.contents c.args.extents.now c.joined-ranges.result.items c.joined-ranges.ensures
+          (g.met.S.Store.price_joined disk.contents) _ _
+          (rw c.as_slice.ensures.value at
+          c.count_needed-needed.ensures.counted);
+      least = tt;
+    }
 
 pub anchor_in_turn-requires-clause-room : goal.anchor_in_turn-requires-clause-room
 anchor_in_turn-requires-clause-room g c =
     let left = c.count_needed-needed.ensures.disk in
-    let after = used-after _ c.args.extents.now c.joined-ranges.result.items c.joined-ranges.ensures _ _
+    let after = used-after c.remapping_takes_what_is_needed.ensures _ c.args.extents.now c.joined-ranges.result.items c.joined-ranges.ensures _ _
     (rw left at c.used.ensures.value)
     (rw c.as_slice.ensures.value at c.count_needed-needed.ensures.value) in
     let within = rw left at c.used.ensures.within in
-    rw left (omega (arith, after, within, c.requires.pool.0, c.from.ensures, c.if-needed-from.false))
+    rw left (omega (arith, after, within, c.requires.size.0, c.from.ensures, c.if-needed-from.false))
 
 pub returns-clause-space : goal.returns-clause-space
 returns-clause-space g c =
     let left = c.count_needed-needed.ensures.disk in
-    let after = used-after _ c.args.extents.now c.joined-ranges.result.items c.joined-ranges.ensures _ _
+    let after = used-after c.remapping_takes_what_is_needed.ensures _ c.args.extents.now c.joined-ranges.result.items c.joined-ranges.ensures _ _
     (rw left at c.used.ensures.value)
     (rw c.as_slice.ensures.value at c.count_needed-needed.ensures.value) in
     let within = rw left at c.used.ensures.within in (
@@ -59,28 +62,23 @@ returns-clause-space g c =
         after,
         within,
         more,
-        c.requires.pool.0,
+        c.requires.size.0,
         c.from.ensures,
         c.if-needed-from.false,
       )),
     )
 
-pub returns-clause-charge : goal.returns-clause-charge
-returns-clause-charge g c =
+pub returns-clause-costs : goal.returns-clause-costs
+returns-clause-costs g c =
     let disk = g.S.Store.disk c.args.store.now in
     let left = c.count_needed-needed.ensures.disk in
     let counted = rw c.as_slice.ensures.value at c.count_needed-needed.ensures.counted in
-    all-charged (cost_bounds g.S.Store.price g.S.Store.least) disk.pool
-    disk.contents c.args.extents.now c.joined-ranges.result.items c.joined-ranges.ensures
-    (g.met.S.Store.price_joined disk.contents) _ _
-    ((rw left at c.anchor_in_turn.ensures.counted) _ _ counted)
-
-pub returns-clause-least : goal.returns-clause-least
-returns-clause-least g c =
-    let disk = g.S.Store.disk c.args.store.now in
-    let left = c.count_needed-needed.ensures.disk in
-    let counted = rw c.as_slice.ensures.value at c.count_needed-needed.ensures.counted in
-    all-least (cost_bounds g.S.Store.price g.S.Store.least) disk.pool
-    disk.contents c.args.extents.now c.joined-ranges.result.items c.joined-ranges.ensures
-    (g.met.S.Store.price_joined disk.contents) _ _
-    ((rw left at c.anchor_in_turn.ensures.counted) _ _ counted)
+    let all = (rw left at c.anchor_in_turn.ensures.counted) _ _ counted in
+    record {
+      charge = all-charged (cost_bounds g.S.Store.price g.S.Store.least) disk.pool
+          disk.contents c.args.extents.now c.joined-ranges.result.items c.joined-ranges.ensures
+          (g.met.S.Store.price_joined disk.contents) _ _ all;
+      least = all-least (cost_bounds g.S.Store.price g.S.Store.least) disk.pool
+          disk.contents c.args.extents.now c.joined-ranges.result.items c.joined-ranges.ensures
+          (g.met.S.Store.price_joined disk.contents) _ _ all;
+    }

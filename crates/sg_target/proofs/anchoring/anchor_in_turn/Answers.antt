@@ -35,7 +35,7 @@ anchor_with_room-requires-clause-room g c =
     ≡ anchored_in_turn before.contents (take (i + 1) extents) =
     sym (in_turn-more before.contents (take i extents) next)
     ∙ ap (anchored_in_turn before.contents) (sym (take_more extents i none here)) in
-    let first = room-first before.contents (take (i + 1) extents) (drop (i + 1) extents) in
+    let first = room-first c.remapping_takes_what_is_needed.ensures before.contents (take (i + 1) extents) (drop (i + 1) extents) in
     let all = ap (λ xs. map.len (anchored_in_turn before.contents xs))
     (take-append-drop (i + 1) extents) in
     let size = ap map.len (ap (λ (m : Contents). anchored m next.lba next.count) left ∙ more) in
@@ -67,10 +67,10 @@ loop-extent-preserved g c =
         e.costs.price,
         price,
         on_disk,
-        c.requires.capacity,
+        c.requires.size.capacity,
       );
       probes = omega (arith, inv.probes, e.costs.cost.probes);
-      links = omega (arith, inv.links, e.costs.cost.links, pool, c.requires.pool);
+      links = omega (arith, inv.links, e.costs.cost.links, pool, c.requires.size.pool);
     }
 
 pub returns-clause-counted : goal.returns-clause-counted

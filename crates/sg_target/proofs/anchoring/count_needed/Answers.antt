@@ -5,7 +5,6 @@ use Rattle.sg_store.specs.Disk.{Disk, need}
 use Rattle.sg_target.specs.declared.joining.AddressRange.{AddressRange}
 use Rattle.sg_target.proofs.ChargingLemmas.{counted-next}
 use Rattle.sg_target.proofs.JoiningLemmas.{cost-last}
-use Rattle.sg_target.proofs.NeedLemmas.{need-le}
 use Rattle.sg_target.proofs.AddressRangeLemmas.{within-at}
 use Rattle.sg_target.proofs.anchoring.count_needed.Goals as goal
 
@@ -26,12 +25,12 @@ overflow_add-needed g c =
     let next = get_or c.args.ranges.now c.loop-range.range-index none in
     let within = within-at _ c.args.ranges.now c.loop-range.range-index none c.loop-range-test.true
     c.requires.fits in
-    let few = need-le (g.S.Store.disk c.loop-range.store).contents next.lba next.count in
+    let few = c.remapping_takes_what_is_needed.ensures.at_most (g.S.Store.disk c.loop-range.store).contents next.lba next.count in
     omega (
       arith,
       within,
       few,
-      c.requires.capacity,
+      c.requires.size.capacity,
       c.requires.at_most,
       c.need-needed.ensures.value,
       c.loop-range.invariant.small,
@@ -50,7 +49,7 @@ loop-range-preserved g c =
     let disk = g.S.Store.disk c.args.store.now in
     let now = g.S.Store.disk c.loop-range.store in
     let within = within-at _ ranges i none here c.requires.fits in
-    let few = need-le now.contents next.lba next.count in
+    let few = c.remapping_takes_what_is_needed.ensures.at_most now.contents next.lba next.count in
     let price = g.met.S.Store.price_within now.contents next.lba next.count in
     let value : c.need-needed.result ≡ need disk.contents next.lba next.count =
     e.value ∙ ap (λ (d : Disk). need d.contents next.lba next.count) inv.disk in
@@ -65,6 +64,6 @@ loop-range-preserved g c =
       counted = counted-next
           (cost_bounds g.S.Store.price g.S.Store.least) disk now
           ranges i none here _ _ _ inv.disk inv.counted e.costs.cost e.costs.price e.costs.least;
-      few = omega (arith, inv.few, e.costs.cost.visits, e.costs.price, price, within, c.requires.capacity);
-      small = omega (arith, inv.small, e.value, few, within, c.requires.capacity);
+      visits = omega (arith, inv.visits, e.costs.cost.visits, e.costs.price, price, within, c.requires.size.capacity);
+      small = omega (arith, inv.small, e.value, few, within, c.requires.size.capacity);
     }

@@ -15,6 +15,6 @@ invariant-loop-range g l =
       counted : IsCounted (cost_bounds g.S.Store.price g.S.Store.least) before.pool
           (counted_ranges before.contents done) (g.S.Store.meter l.fn.store)
           (g.S.Store.meter l.store);
-      few : (g.S.Store.meter l.store).counts.visits ≤ l.range-index * 2 ^ 41;
+      visits : (g.S.Store.meter l.store).counts.visits ≤ l.range-index * 2 ^ 41;
       small : l.needed ≤ l.range-index * 2 ^ 40;
     }

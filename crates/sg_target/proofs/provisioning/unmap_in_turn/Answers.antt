@@ -15,7 +15,7 @@ unmap-requires-clause-range g c =
 
 pub unmap-requires-clause-headroom : goal.unmap-requires-clause-headroom
 unmap-requires-clause-headroom g c =
-    has_headroom _ _ c.loop-extent.extent-index _ _ _ _ c.requires.pool (omega arith)
+    has_headroom _ _ c.loop-extent.extent-index _ _ _ _ c.requires.size.pool (omega arith)
     (omega (arith, length-take c.loop-extent.extent-index c.args.extents.now))
     c.loop-extent.invariant.few c.loop-extent.invariant.counted
 

@@ -11,7 +11,6 @@ use Rattle.sg_block_map.specs.RunCost.{CostsRange}
 use Rattle.sg_block_map.specs.Runs.{expanded, chained_contents}
 use Rattle.sg_block_map.specs.State.{disk_of, meter_at, slot_map}
 use Rattle.sg_store.proofs.DiskLemmas.{remapped-none}
-use Rattle.sg_store.proofs.WellFormedLemmas.{well_formed-remapped}
 use Rattle.sg_block_map.proofs.RunSlotLemmas.{gathered-blocks}
 use Rattle.sg_block_map.proofs.StoreLemmas.{runs-ahead, gathered-mapped}
 use Rattle.sg_block_map.proofs.StoreLemmas.{size, size-replaced, whole-as}
@@ -119,7 +118,7 @@ invariant_of-self-2-clause-well_formed c =
     ap (λ (t : Table). chained_contents t.records s.pool) c.gather.ensures.visits.table in
     let before = subst (IsWellFormed s.capacity) (sym same) s.well_formed in
     subst (IsWellFormed s.capacity) (sym c.write_runs.ensures.contents)
-    (well_formed-remapped s.capacity _ c.args.lba c.args.count
+    (c.disks_stay_well_formed.ensures.mapping s.capacity _ c.args.lba c.args.count
     (λ index. mapping_as c.args.kind (block_of c.args.source.now index)) before c.requires.range
     (λ i lt. whole-as c.args.kind (block_of c.args.source.now i) (c.requires.blocks i lt)))
 

@@ -7,7 +7,6 @@ use Rattle.sg_table.specs.Table.{Table}
 use Rattle.sg_block_map.specs.RunCost.{CostsRange}
 use Rattle.sg_block_map.specs.Runs.{expanded, chained_contents}
 use Rattle.sg_block_map.specs.State.{disk_of, meter_at, slot_map}
-use Rattle.sg_store.proofs.UnmapLemmas.{well_formed-unmapped}
 use Rattle.sg_block_map.proofs.ContentsLemmas.{unmapped-none}
 use Rattle.sg_block_map.proofs.StoreLemmas.{have-room, gathered-range, nothing-costs}
 use Rattle.sg_block_map.proofs.block_map.BlockMapStore.unmap.Goals as goal
@@ -63,7 +62,7 @@ invariant_of-self-clause-well_formed c =
     ∙ ap (λ (t : Table). unmapped (chained_contents t.records s.pool) lba
     (lba + c.from.result - lba)) c.gather.ensures.visits.table
     ∙ ap (unmapped (chained_contents rs s.pool) lba) (omega (arith, c.from.ensures)) in
-    subst (IsWellFormed s.capacity) (sym is) (well_formed-unmapped s.capacity
+    subst (IsWellFormed s.capacity) (sym is) (c.disks_stay_well_formed.ensures.unmapping s.capacity
     (chained_contents rs s.pool) lba count s.well_formed)
 
 pub returns-clause-disk : goal.returns-clause-disk

@@ -4,7 +4,6 @@ use Rattle.sg_plain_map.specs.Editing.{stored}
 use Rattle.sg_pool.specs.MappedRecords.{contents_of}
 use Rattle.sg_plain_map.specs.Content.{mapping_for}
 use Rattle.sg_table.specs.Table.{Table, probed}
-use Rattle.sg_store.proofs.WellFormedLemmas.{well_formed-remapped}
 use Rattle.sg_plain_map.proofs.RangeLemmas.{len-after, used_between}
 use Rattle.sg_plain_map.proofs.CountLemmas.{data_records-le}
 use Rattle.sg_plain_map.proofs.EditingLemmas.{data_for-le}
@@ -51,7 +50,7 @@ invariant_of-self-2-clause-well_formed c =
     c.lower_bound-from.ensures.table) in
     let before = subst (IsWellFormed map.capacity) (sym same) map.well_formed in
     subst (IsWellFormed map.capacity) (sym c.put_range-had_data.ensures.contents)
-    (well_formed-remapped map.capacity _ c.args.lba c.args.count
+    (c.disks_stay_well_formed.ensures.mapping map.capacity _ c.args.lba c.args.count
     (mapping_for c.args.content.now) before c.requires.range c.requires.whole)
 
 -- there are no more records than the pool has slots

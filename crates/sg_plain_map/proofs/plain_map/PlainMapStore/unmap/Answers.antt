@@ -3,7 +3,6 @@ use Rattle.sg_store.specs.Disk.{IsWellFormed}
 use Rattle.sg_plain_map.specs.Editing.{stored}
 use Rattle.sg_pool.specs.MappedRecords.{contents_of}
 use Rattle.sg_table.specs.Table.{Table, probed}
-use Rattle.sg_store.proofs.UnmapLemmas.{well_formed-unmapped}
 use Rattle.sg_plain_map.proofs.plain_map.PlainMapStore.unmap.Goals as goal
 
 -- what stays mapped is on the disk, in whole blocks
@@ -19,4 +18,4 @@ invariant_of-self-clause-well_formed c =
     c.lower_bound-from.ensures.table) in
     let before = subst (IsWellFormed map.capacity) (sym same) map.well_formed in
     subst (IsWellFormed map.capacity) (sym c.unmap_records-had_data.ensures.contents)
-    (well_formed-unmapped map.capacity _ c.args.lba c.args.count before)
+    (c.disks_stay_well_formed.ensures.unmapping map.capacity _ c.args.lba c.args.count before)
