@@ -2,7 +2,7 @@
 use Rattle.std.proofs.Common.{◌≡◌, ℕ, ◌+◌, ◌-◌, ◌<◌, ◌≤◌, zero, suc, List, [], ◌∷◌, length, Option}
 use Rattle.std.proofs.Common.{arith, refl, sym, ap, ap₂, ◌∙◌, inl, inr, Bool, true, false, cond}
 use Rattle.std.proofs.Common.{Some}
-use Rattle.std.proofs.lemmas.Bool.{cases_lt}
+use Rattle.std.proofs.lemmas.Bool.{cases_lt, eqb-true}
 use Rattle.std.proofs.lemmas.Bool.Decides.{nat_tests}
 use Rattle.std.specs.Prelude.{◌==◌, ◌&&◌, ◌||◌, slice_index_or}
 use Rattle.std.specs.List.{list_any, Contains}
@@ -14,7 +14,7 @@ use Rattle.sg_table.specs.declared.run.Kind.{Kind}
 use Rattle.sg_table.specs.declared.run.Kind.TheVariants.{Data as DataRun, Anchored as AnchoredRun}
 use Rattle.sg_block_map.specs.MaximalRuns.{Extent, kind_of, same_kind, with_address, runs_of, runs}
 use Rattle.sg_block_map.specs.RunLaws.{is_kind, has_kind, HasExactlyTheMaximalRuns, RunsRise}
-use Rattle.sg_block_map.specs.RunCostLaws.{AreRising, rising}
+use Rattle.sg_block_map.specs.RunCostLaws.{AreRising, either_way, rising}
 use Rattle.sg_block_map.specs.Runs.{Bound, any_from}
 use Rattle.sg_block_map.proofs.OrderLemmas.{alike}
 
@@ -26,14 +26,6 @@ behind_it run kind = cond (same_kind kind run.2) (run.0 + run.1 + 1) (run.0 + ru
 abbrev Rise : Bound → List Extent → Type 0
 Rise low [] = Unit
 Rise low (run ∷ rs) = (low run.2 ≤ run.0) × (0 < run.1) × Rise (behind_it run) rs
-
-either_way : {A : Type 0} (P : A → Type 0) (b : Bool) (x y : A) → (b ≡ true → P x)
-    → (b ≡ false → P y) → P (cond b x y)
-either_way P true x y f g = f refl
-either_way P false x y f g = g refl
-
-is_number : (m n : ℕ) → (m == n) ≡ true → m ≡ n
-is_number m n e = grind (arith, nat_tests)
 
 both_true : (a b : Bool) → (a && b) ≡ true → (a ≡ true) × (b ≡ true)
 both_true true b e = (refl, e)
@@ -60,7 +52,7 @@ rise-address low x k (run ∷ rs) le h = either_way (Rise low)
     (run.0 == x + 1 && same_kind k run.2) ((x, run.1 + 1, k) ∷ rs) ((x, 1, k) ∷ run ∷ rs)
     (λ e.
     let both = both_true (run.0 == x + 1) (same_kind k run.2) e in
-    let start = is_number run.0 (x + 1) both.0 in
+    let start = eqb-true run.0 (x + 1) both.0 in
     let kind = alike k run.2 both.1 in
     let on : run.0 + run.1 ≡ x + (run.1 + 1) = omega (arith, start) in
     (le, omega arith, same_rise rs run.2 k (run.0 + run.1) (x + (run.1 + 1)) (sym kind) on h.2))
@@ -209,7 +201,7 @@ covers-address k x a kx (run ∷ rs) = either_way
     (run.0 == x + 1 && same_kind kx run.2) ((x, run.1 + 1, kx) ∷ rs) ((x, 1, kx) ∷ run ∷ rs)
     (λ e.
     let both = both_true (run.0 == x + 1) (same_kind kx run.2) e in
-    let start = is_number run.0 (x + 1) both.0 in
+    let start = eqb-true run.0 (x + 1) both.0 in
     let kind = alike kx run.2 both.1 in
     ap (λ b. b || covers k rs a)
     (or_and (lies_in x (run.1 + 1) a) (a == x) (lies_in (x + 1) run.1 a) (same_kind k kx)
@@ -236,7 +228,7 @@ covers-entries k low a [] h = refl
 covers-entries k low a (e ∷ es) h =
     seen_by (eq_by_cmp nat_cmp a e.0) (same_kind k (kind_of e.1)) (covers k (runs_of es) a)
     (find nat_cmp a es) k e.1 refl
-    (λ same. let here = is_number a e.0 (sym (unsigned_tied a e.0) ∙ same) in
+    (λ same. let here = eqb-true a e.0 (sym (unsigned_tied a e.0) ∙ same) in
     covers-below k (any_from (e.0 + 1)) (runs_of es) a (λ i j. omega arith)
     (rise-runs (e.0 + 1) es h.1) (omega (arith, here)))
     (covers-entries k (e.0 + 1) a es h.1)

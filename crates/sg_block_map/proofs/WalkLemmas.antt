@@ -2,6 +2,7 @@
 use Rattle.std.proofs.Common.{◌≡◌, ◌≢◌, ℕ, ◌+◌, ◌-◌, ◌<◌, ◌≤◌, List, [], ◌∷◌, ◌++◌, length, drop}
 use Rattle.std.proofs.Common.{arith, refl, sym, ap, ◌∙◌, append_assoc, Option, Some, None, cond}
 use Rattle.std.proofs.Common.{Bool, true, false, eq-eqb, length-append, replicate}
+use Rattle.std.proofs.lemmas.Bool.{eqb-true}
 use Rattle.std.proofs.lemmas.Bool.Decides.{nat_tests}
 use Rattle.std.specs.Cmp.{nat_cmp_total}
 use Rattle.std.specs.FinMap as map
@@ -16,6 +17,7 @@ use Rattle.sg_table.specs.Records.{slots_of}
 use Rattle.sg_table.specs.declared.run.Run.{Run}
 use Rattle.sg_store.specs.declared.store.TheConstants.{MAX_CAPACITY}
 use Rattle.sg_block_map.specs.Gathering.{AreNear}
+use Rattle.sg_block_map.specs.RunCostLaws.{either_way}
 use Rattle.sg_block_map.specs.Runs.{end_of, singles, singles_of, expanded, AreApart, AreChained}
 use Rattle.sg_block_map.specs.Runs.{Bound, any_from, behind, AreMaximalIn}
 use Rattle.sg_block_map.specs.Runs.{AreBetween}
@@ -34,14 +36,6 @@ use Rattle.sg_block_map.proofs.ExpandedLemmas.{chained-right, slots-singles, len
 use Rattle.sg_block_map.proofs.SplitLemmas.{slot-below, below-left, below-right, split-parts}
 use Rattle.sg_block_map.proofs.SplitLemmas.{rest-chain, expanded-one}
 
-either_way : {A : Type 0} (P : A → Type 0) (b : Bool) (x y : A) → (b ≡ true → P x)
-    → (b ≡ false → P y) → P (cond b x y)
-either_way P true x y f g = f refl
-either_way P false x y f g = g refl
-
-is_number : (m n : ℕ) → (m == n) ≡ true → m ≡ n
-is_number m n e = grind (arith, nat_tests)
-
 not_number : (m n : ℕ) → (m == n) ≡ false → m ≢ n
 not_number m n e = grind (arith, nat_tests)
 
@@ -49,7 +43,7 @@ pub passed-by : (P : List Run → Type 0) (next : List ℕ) (run : Run) (more : 
     → 0 < run.count → (run.count ≡ 1 → P more) → (1 < run.count → P (rest_of next run 1 ∷ more))
     → P (passed next run more)
 passed-by P next run more some f g = either_way P (run.count == 1) more (rest_of next run 1 ∷ more)
-    (λ e. f (is_number run.count 1 e)) (λ e. let other = not_number run.count 1 e in
+    (λ e. f (eqb-true run.count 1 e)) (λ e. let other = not_number run.count 1 e in
     g (omega arith))
 
 -- what `pass` leaves where the run has more addresses
@@ -70,7 +64,7 @@ passed-rest next run more first other e = either_way
       last = run.last;
       kind = run.kind;
     } ∷ more ≡ xs) (run.count == 1) more (rest_of next run 1 ∷ more)
-    (λ wrong. absurd (other (is_number run.count 1 wrong)))
+    (λ wrong. absurd (other (eqb-true run.count 1 wrong)))
     (λ _. ap (λ s. record {
       start = run.start + 1;
       count = run.count - 1;
@@ -129,7 +123,7 @@ there (Some run) lba found e = either_way (λ o. o ≡ Some found → (Some run 
     (λ at same. (
       same,
       ap (λ (r : Run). r.start) (sym (ap (λ o. unwrap_or o run) same))
-          ∙ is_number run.start lba at,
+          ∙ eqb-true run.start lba at,
     )) (λ _ wrong. cc) e
 
 -- the run that is ahead first

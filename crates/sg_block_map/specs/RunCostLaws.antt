@@ -11,7 +11,7 @@ use Rattle.std.specs.FinMap.{contains_key}
 use Rattle.std.specs.FinMap.{nat_cmp-IsAntisymmetric}
 use Rattle.std.proofs.Common.{arith, refl, sym, ap, ap₂, ◌∙◌, ◌⊎◌, inl, inr, length-append}
 use Rattle.std.proofs.Common.{zero-add}
-use Rattle.std.proofs.lemmas.Bool.{cases_lt}
+use Rattle.std.proofs.lemmas.Bool.{cases_lt, eqb-true}
 use Rattle.std.proofs.lemmas.Bool.Decides.{nat_tests}
 use Rattle.std.proofs.lemmas.List.Sums.{length-filter}
 use Rattle.std.proofs.lemmas.List.Elements.{filter-append}
@@ -39,14 +39,11 @@ alone_meets : (lba count a : ℕ) (k : Kind) → cond {A = ℕ} (meets lba count
     ≤ cond (lies_in lba count a) 1 0
 alone_meets lba count a k = grind (arith, nat_tests)
 
-is_number : (m n : ℕ) → (m == n) ≡ true → m ≡ n
-is_number m n e = grind (arith, nat_tests)
-
 left_true : (a b : Bool) → (a && b) ≡ true → a ≡ true
 left_true true b e = refl
 left_true false b e = e
 
-either_way : {A : Type 0} (P : A → Type 0) (b : Bool) (x y : A) → (b ≡ true → P x)
+pub either_way : {A : Type 0} (P : A → Type 0) (b : Bool) (x y : A) → (b ≡ true → P x)
     → (b ≡ false → P y) → P (cond b x y)
 either_way P true x y f g = f refl
 either_way P false x y f g = g refl
@@ -66,7 +63,7 @@ with_meets lba count a k (run ∷ rs) = either_way
     (λ e. omega (
       arith,
       joined_one lba count a run.0 run.1 k run.2
-          (is_number run.0 (a + 1) (left_true (run.0 == a + 1) (same_kind k run.2) e)),
+          (eqb-true run.0 (a + 1) (left_true (run.0 == a + 1) (same_kind k run.2) e)),
       count-more (meets lba count) (a, run.1 + 1, k) rs,
       count-more (meets lba count) run rs,
     ))
@@ -203,7 +200,7 @@ more-meet lba count a k (run ∷ rs) = either_way
     (λ e. omega (
       arith,
       wider_meets lba count a run.0 run.1 k run.2
-          (is_number run.0 (a + 1) (left_true (run.0 == a + 1) (same_kind k run.2) e)),
+          (eqb-true run.0 (a + 1) (left_true (run.0 == a + 1) (same_kind k run.2) e)),
       count-more (meets lba count) (a, run.1 + 1, k) rs,
       count-more (meets lba count) run rs,
     ))

@@ -3,6 +3,7 @@
 ghost use Rattle.std.specs.Prelude.{◌≡◌, ◌+◌, ◌-◌, ◌<◌, ◌≤◌, length, option_to_list};
 ghost use Rattle.sg_pool.specs.Chains.{chain, slot_after, AreBelow, IsChain};
 ghost use Rattle.sg_pool.specs.Slots.{followed};
+ghost use Rattle.sg_block_map.specs.Metering.{OnlyFollows};
 ghost use Rattle.sg_block_map.specs.Runs.{expanded};
 ghost use Rattle.sg_block_map.specs.Splitting.{front_of, rest_of, IsSplit};
 
@@ -62,10 +63,8 @@ pub(crate) fn split_at(pool: &mut Pool, run: Run, lba: u64) -> (Option<Run>, Opt
     ensures split { IsSplit pool.old.next run lba result.0 result.1 }
 
     // At most as many links are followed as the part before the address has blocks.
-    ensures pool { pool.new ≡ followed pool.old (pool.new.links - pool.old.links) }
-    ensures rise { pool.old.links ≤ pool.new.links }
-    ensures links { pool.new.links
-        ≤ pool.old.links + length (expanded pool.old.next (option_to_list result.0)) }
+    ensures links { OnlyFollows (length (expanded pool.old.next (option_to_list result.0)))
+        pool.old pool.new }
 {
     if lba <= run.start {
         return (None, Some(run));

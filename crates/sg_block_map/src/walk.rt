@@ -1,8 +1,8 @@
 // Going over the addresses of runs in a row, one link of the pool for each. It knows a list of runs, and
 // not the table.
-ghost use Rattle.std.specs.Prelude.{◌≡◌, ◌+◌, ◌-◌, ◌<◌, ◌≤◌, length, drop, option_to_list};
+ghost use Rattle.std.specs.Prelude.{◌≡◌, ◌+◌, ◌<◌, ◌≤◌, length, drop, option_to_list};
 ghost use Rattle.sg_table.specs.Records.{run_at};
-ghost use Rattle.sg_pool.specs.Slots.{followed};
+ghost use Rattle.sg_block_map.specs.Metering.{OnlyFollows};
 ghost use Rattle.sg_block_map.specs.Runs.{expanded};
 ghost use Rattle.sg_block_map.specs.Walking.{ahead_of, passed, AreAhead, IsWalkFrom};
 
@@ -52,9 +52,7 @@ impl Walk {
             ≡ passed pool.old.next run (drop self.at runs.now) }
 
         // At most one link is followed.
-        ensures pool { pool.new ≡ followed pool.old (pool.new.links - pool.old.links) }
-        ensures rise { pool.old.links ≤ pool.new.links }
-        ensures links { pool.new.links ≤ pool.old.links + 1 }
+        ensures links { OnlyFollows 1 pool.old pool.new }
     {
         if run.count == 1 {
             return Walk::new(runs, self.at);
@@ -82,10 +80,8 @@ pub(crate) fn walk_from(pool: &mut Pool, runs: &[Run], lba: u64) -> (Option<Run>
         (ahead_of runs.now result.1.run result.1.at) }
 
     // At most as many links are followed as the part before the address has blocks.
-    ensures pool { pool.new ≡ followed pool.old (pool.new.links - pool.old.links) }
-    ensures rise { pool.old.links ≤ pool.new.links }
-    ensures links { pool.new.links
-        ≤ pool.old.links + length (expanded pool.old.next (option_to_list result.0)) }
+    ensures links { OnlyFollows (length (expanded pool.old.next (option_to_list result.0)))
+        pool.old pool.new }
 {
     let walk = Walk::new(runs, 0);
     let Some(run) = walk.run else {

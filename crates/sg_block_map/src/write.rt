@@ -1,8 +1,7 @@
 // Writing a range: the runs near it and its addresses become one run. That there are slots enough is for
 // the store to know, and which runs are near is for `gather`.
-ghost use Rattle.std.specs.Prelude.{◌≡◌, ◌+◌, ◌-◌, ◌^◌, ◌<◌, ◌≤◌, ◌++◌, ℕ, List, length};
+ghost use Rattle.std.specs.Prelude.{◌≡◌, ◌+◌, ◌-◌, ◌^◌, ◌<◌, ◌≤◌, ◌++◌, List, length};
 ghost use Rattle.std.specs.Prelude.{None, Option, option_to_list, IfSome};
-ghost use Rattle.sg_block_map.specs.MaximalRuns.{same_kind};
 ghost use Rattle.sg_table.specs.Records.{run_at};
 ghost use Rattle.sg_table.specs.Occurrences.{occurrences};
 ghost use Rattle.sg_pool.specs.Slots.{followed};
@@ -22,13 +21,13 @@ use sg_pool::{Pool, Source};
 use sg_store::{BLOCK_LENGTH, MAX_CAPACITY};
 use sg_table::{Kind, Run, RunTable};
 
-/// How far a range is written.
+// How far a range is written.
 #[derive(Clone, Copy)]
 struct Progress {
-    /// The run of the addresses that are written, with the data right before the range. At
-    /// first it may have none.
+    // The run of the addresses that are written, with the data right before the range. At
+    // first it may have none.
     done: Run,
-    /// The addresses from the next one on that have a slot.
+    // The addresses from the next one on that have a slot.
     walk: Walk,
 }
 
@@ -120,16 +119,6 @@ fn put_address(
     Progress { done, walk }
 }
 
-// Whether two kinds are the same.
-fn same_kind(first: Kind, second: Kind) -> bool
-    ensures { result ≡ same_kind first second }
-{
-    match first {
-        Kind::Data => matches!(second, Kind::Data),
-        Kind::Anchored => matches!(second, Kind::Anchored),
-    }
-}
-
 // Splits the runs at the first address of a range. The part before it is to be joined if it is of the
 // range's kind, and is kept apart if not.
 fn begin(pool: &mut Pool, runs: &[Run], lba: u64, kind: Kind) -> (Option<Run>, Progress)
@@ -155,7 +144,7 @@ fn begin(pool: &mut Pool, runs: &[Run], lba: u64, kind: Kind) -> (Option<Run>, P
     let Some(run) = front else {
         return (None, Progress { done: none, walk });
     };
-    if same_kind(run.kind, kind) {
+    if run.kind == kind {
         return (None, Progress { done: run, walk });
     }
     (front, Progress { done: none, walk })
@@ -172,7 +161,7 @@ fn finish(pool: &mut Pool, progress: Progress) -> (Run, Option<Run>)
     let Some(run) = progress.walk.run else {
         return (progress.done, None);
     };
-    if same_kind(run.kind, progress.done.kind) {
+    if run.kind == progress.done.kind {
         return (join(pool, progress.done, run), None);
     }
     (progress.done, Some(run))

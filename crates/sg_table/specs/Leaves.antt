@@ -77,11 +77,24 @@ pub record IsPlace (leaves : List (List Run)) (index : ℕ) (place : Place) : Ty
   pub offset : place.offset ≤ length (leaf_at leaves place.leaf)
   pub sum : count_before leaves place.leaf + place.offset ≡ index
 
+-- Two places among the leaves, the first one in no leaf behind the other's.
+pub record ArePlaces (leaves : List (List Run)) (from to : Place) : Type 0 where
+  pub in_order : from.leaf ≤ to.leaf
+  pub within : to.leaf < length leaves
+  pub from_offset : from.offset ≤ length (leaf_at leaves from.leaf)
+  pub to_offset : to.offset ≤ length (leaf_at leaves to.leaf)
+
 -- The records with others in place of those from one place to another.
 abbrev pub replaced : List (List Run) → (from to : Place) → List Run → List Run
 replaced leaves from to runs =
     joined (take from.leaf leaves) ++ (take from.offset (leaf_at leaves from.leaf)
     ++ (runs ++ (drop to.offset (leaf_at leaves to.leaf) ++ joined (drop (to.leaf + 1) leaves))))
+
+-- At most `bound` records were moved, and there is room for as many leaves as before.
+pub record MovesAtMost (before after : LeafTable) (bound : ℕ) : Type 0 where
+  pub capacity : after.capacity ≡ before.capacity
+  pub rise : before.moved ≤ after.moved
+  pub moved : after.moved ≤ before.moved + bound
 
 -- The records from a place to the end of a leaf are removed.
 pub record IsCut (before after : LeafTable) (from to : Place) : Type 0 where
@@ -90,9 +103,7 @@ pub record IsCut (before after : LeafTable) (from to : Place) : Type 0 where
   pub front : joined (take (from.leaf + 1) after.leaves)
       ≡ joined (take from.leaf before.leaves) ++ take from.offset (leaf_at before.leaves from.leaf)
   pub behind : drop (from.leaf + 1) after.leaves ≡ drop (to.leaf + 1) before.leaves
-  pub capacity : after.capacity ≡ before.capacity
-  pub moves_rise : before.moved ≤ after.moved
-  pub moves : after.moved ≤ before.moved + 2 * MAX_LEAF
+  pub moves : MovesAtMost before after (2 * MAX_LEAF)
 
 -- Records were appended to a leaf, and to new leaves behind it, of which `last` is the last one.
 pub record IsAppended (before after : LeafTable) (leaf last : ℕ) (runs : List Run) : Type 0 where
@@ -114,9 +125,7 @@ move_bound = 9 * MAX_LEAF
 -- `count` records were put in place of others.
 pub record IsSpliced (before after : LeafTable) (count : ℕ) : Type 0 where
   pub balanced : AreBalanced after.leaves
-  pub capacity : after.capacity ≡ before.capacity
-  pub moves_rise : before.moved ≤ after.moved
-  pub moves : after.moved ≤ before.moved + move_bound + count
+  pub moves : MovesAtMost before after (move_bound + count)
 
 -- The index of the first record of each leaf, and the number of records, where `count` records are
 -- before the leaves.

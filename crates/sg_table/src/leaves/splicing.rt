@@ -3,8 +3,8 @@
 ghost use Rattle.std.specs.Prelude.{◌≡◌, ◌+◌, ◌-◌, ◌*◌, ◌/◌, ◌<◌, ◌≤◌, ◌++◌, [], ◌∷◌, length, take, drop};
 ghost use Rattle.std.specs.List.{All};
 ghost use Rattle.std.specs.List.{splice as splice_list};
-ghost use Rattle.sg_table.specs.Leaves.{AreBalanced, AreFilledBut, IsAppended, IsCut, IsFilled};
-ghost use Rattle.sg_table.specs.Leaves.{IsSpliced};
+ghost use Rattle.sg_table.specs.Leaves.{AreBalanced, AreFilledBut, ArePlaces, IsAppended, IsCut};
+ghost use Rattle.sg_table.specs.Leaves.{IsFilled, IsSpliced, MovesAtMost};
 ghost use Rattle.sg_table.specs.Leaves.{joined, leaf_at, level_bound, pair_at, replaced};
 
 use crate::leaf::MAX_LEAF;
@@ -40,9 +40,7 @@ pub(crate) fn splice(leaves: &mut Leaves, from: usize, to: usize, runs: &[Run])
 
 // Replaces the records from one place to another, with the leaves between.
 fn replace(leaves: &mut Leaves, from: Place, to: Place, runs: &[Run])
-    requires leaves { (from.leaf ≤ to.leaf) × (to.leaf < length leaves.old.leaves) }
-    requires from { from.offset ≤ length (leaf_at leaves.old.leaves from.leaf) }
-    requires to { to.offset ≤ length (leaf_at leaves.old.leaves to.leaf) }
+    requires places { ArePlaces leaves.old.leaves from to }
     requires balanced { AreBalanced leaves.old.leaves }
     requires room { length (replaced leaves.old.leaves from to runs.now) < MIN_LEAF * leaves.old.capacity }
     requires count { length (joined leaves.old.leaves) ≤ MAX_RECORDS }
@@ -60,9 +58,7 @@ fn replace(leaves: &mut Leaves, from: Place, to: Place, runs: &[Run])
 // Removes the records from a place on to the end of a leaf. Those of that leaf that are behind
 // another place are copied to a list first.
 fn cut(leaves: &mut Leaves, from: Place, to: Place, rest: &mut ArrayVec<Run, TWO_LEAVES>)
-    requires leaves { (from.leaf ≤ to.leaf) × (to.leaf < length leaves.old.leaves) }
-    requires from { from.offset ≤ length (leaf_at leaves.old.leaves from.leaf) }
-    requires to { to.offset ≤ length (leaf_at leaves.old.leaves to.leaf) }
+    requires places { ArePlaces leaves.old.leaves from to }
     requires empty { rest.old.items ≡ [] }
     requires balanced { AreBalanced leaves.old.leaves }
     requires count { length (joined leaves.old.leaves) ≤ MAX_RECORDS }
@@ -134,9 +130,7 @@ fn balance(leaves: &mut Leaves, leaf: usize)
     requires count { length (joined leaves.old.leaves) ≤ MAX_RECORDS }
     ensures records { joined leaves.new.leaves ≡ joined leaves.old.leaves }
     ensures balanced { AreBalanced leaves.new.leaves }
-    ensures capacity { leaves.new.capacity ≡ leaves.old.capacity }
-    ensures moves_rise { leaves.old.moved ≤ leaves.new.moved }
-    ensures moves { leaves.new.moved ≤ leaves.old.moved + level_bound }
+    ensures moves { MovesAtMost leaves.old leaves.new level_bound }
 {
     if leaves.len(leaf) >= MIN_LEAF {
         return;
@@ -157,9 +151,7 @@ fn level(leaves: &mut Leaves, leaf: usize)
     requires count { length (joined leaves.old.leaves) ≤ MAX_RECORDS }
     ensures records { joined leaves.new.leaves ≡ joined leaves.old.leaves }
     ensures filled { All IsFilled leaves.new.leaves }
-    ensures capacity { leaves.new.capacity ≡ leaves.old.capacity }
-    ensures moves_rise { leaves.old.moved ≤ leaves.new.moved }
-    ensures moves { leaves.new.moved ≤ leaves.old.moved + level_bound }
+    ensures moves { MovesAtMost leaves.old leaves.new level_bound }
 {
     let mut records = ArrayVec::new();
     gather(leaves, leaf, &mut records);
@@ -191,9 +183,7 @@ fn merge(leaves: &mut Leaves, leaf: usize, records: &[Run])
     requires count { length (joined leaves.old.leaves) ≤ MAX_RECORDS }
     ensures leaves { leaves.new.leaves
         ≡ take leaf leaves.old.leaves ++ records.now ∷ drop (leaf + 2) leaves.old.leaves }
-    ensures capacity { leaves.new.capacity ≡ leaves.old.capacity }
-    ensures moves_rise { leaves.old.moved ≤ leaves.new.moved }
-    ensures moves { leaves.new.moved ≤ leaves.old.moved + 2 * length records.now }
+    ensures moves { MovesAtMost leaves.old leaves.new (2 * length records.now) }
 {
     let left = leaves.len(leaf);
     leaves.edit(leaf, 0, left, records);
@@ -209,9 +199,7 @@ fn halve(leaves: &mut Leaves, leaf: usize, records: &[Run])
     ensures leaves { let half = length records.now / 2 in leaves.new.leaves
         ≡ take leaf leaves.old.leaves
         ++ take half records.now ∷ drop half records.now ∷ drop (leaf + 2) leaves.old.leaves }
-    ensures capacity { leaves.new.capacity ≡ leaves.old.capacity }
-    ensures moves_rise { leaves.old.moved ≤ leaves.new.moved }
-    ensures moves { leaves.new.moved ≤ leaves.old.moved + 2 * length records.now }
+    ensures moves { MovesAtMost leaves.old leaves.new (2 * length records.now) }
 {
     let half = records.len() / 2;
     let left = leaves.len(leaf);

@@ -60,7 +60,7 @@ returns-clause-links c =
     c.in-Some.run' c.requires.ahead (sym c.run_at.ensures ∙ c.in-Some.is) in
     let same = ap (λ xs. length (expanded p.next xs)) c.pass.ensures.ahead in
     record {
-      pool = c.pass.ensures.pool;
-      links_rise = c.pass.ensures.rise;
-      most_links = omega (arith, len, same, c.pass.ensures.links);
+      pool = c.pass.ensures.links.pool;
+      links_rise = c.pass.ensures.links.links_rise;
+      most_links = omega (arith, len, same, c.pass.ensures.links.most_links);
     }

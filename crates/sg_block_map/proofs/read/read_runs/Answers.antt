@@ -33,9 +33,9 @@ loop-i-init c =
       later = λ q le. sym (get-walk_from p.next runs c.args.lba
           (c.args.lba + c.args.count) q c.walk_from-before.result.0 more (mapping_in p.blocks) t
           (omega arith));
-      pool = c.walk_from-before.ensures.pool;
-      rise = c.walk_from-before.ensures.rise;
-      links = omega (arith, len, c.walk_from-before.ensures.links);
+      pool = c.walk_from-before.ensures.links.pool;
+      rise = c.walk_from-before.ensures.links.links_rise;
+      links = omega (arith, len, c.walk_from-before.ensures.links.most_links);
     }
 
 pub loop-i-preserved : goal.loop-i-preserved

@@ -1,4 +1,7 @@
-use Rattle.std.proofs.Common.{◌-◌, length, arith}
+use Rattle.std.proofs.Common.{◌-◌, [], ◌∷◌, length, ap, sym, subst, arith}
+use Rattle.sg_pool.specs.Slots.{Slots, followed}
+use Rattle.sg_block_map.specs.Metering.{OnlyFollows}
+use Rattle.sg_block_map.specs.Runs.{expanded}
 use Rattle.sg_block_map.specs.Splitting.{front_of}
 use Rattle.sg_block_map.proofs.SplitLemmas.{is_split-none, is_split-all, is_split-both}
 use Rattle.sg_block_map.proofs.SplitLemmas.{below-part_of_chain, length-one}
@@ -28,9 +31,13 @@ returns-clause-split c =
 
 pub returns-clause-links : goal.returns-clause-links
 returns-clause-links c =
-    rw (c.split.ensures.front, c.split.ensures.pool)
-    (omega (
-      arith,
-      length-one c.args.pool.now.next
-          (front_of c.args.pool.now.next c.args.run (c.args.lba - c.args.run.start)),
-    ))
+    let p = c.args.pool.now in
+    let next = p.next in
+    let before = c.args.lba - c.args.run.start in
+    subst (λ (s : Slots). OnlyFollows (length (expanded next (c.split.result.0 ∷ []))) p s)
+    (sym c.split.ensures.pool)
+    (rw c.split.ensures.front (record {
+      pool = ap (followed p) (omega arith);
+      links_rise = omega arith;
+      most_links = omega (arith, length-one next (front_of next c.args.run before));
+    }))

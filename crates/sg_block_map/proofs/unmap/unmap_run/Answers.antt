@@ -12,7 +12,7 @@ pub returns-in_default-clause-cut : goal.returns-in_default-clause-cut
 returns-in_default-clause-cut c =
     let p = c.args.pool.now in
     let one = rw c.in_default.is at c.split_at-front.ensures.split in
-    let pool = c.split_at-front.ensures.pool in
+    let pool = c.split_at-front.ensures.links.pool in
     cut-front p c.split_at-front.new.pool c.args.remaining.now.records c.keep.new.remaining.records
     c.args.run c.args.low c.args.high c.split_at-front.result.0 one
     (ap (λ (d : Drafted). d.records) c.keep.ensures) (ap (λ (s : Slots). s.next) pool)
@@ -24,13 +24,13 @@ returns-in_default-clause-links c =
     let one = rw c.in_default.is at c.split_at-front.ensures.split in
     let len = part-length p.next c.args.run (option_to_list c.split_at-front.result.0) [] []
     one.parts in
-    omega (arith, len, c.split_at-front.ensures.links)
+    omega (arith, len, c.split_at-front.ensures.links.most_links)
 
 pub split_at-gone-requires-clause-chain : goal.split_at-gone-requires-clause-chain
 split_at-gone-requires-clause-chain c =
     let p = c.args.pool.now in
     let one = rw c.in-Some.is at c.split_at-front.ensures.split in
-    let next = ap (λ (s : Slots). s.next) c.split_at-front.ensures.pool in
+    let next = ap (λ (s : Slots). s.next) c.split_at-front.ensures.links.pool in
     rw next (rest-chained p.next c.args.run c.in-Some.rest c.args.low c.split_at-front.result.0 one)
 
 pub split_at-gone-requires-clause-below : goal.split_at-gone-requires-clause-below
@@ -38,7 +38,7 @@ split_at-gone-requires-clause-below c =
     let p = c.args.pool.now in
     let rest = c.in-Some.rest in
     let one = rw c.in-Some.is at c.split_at-front.ensures.split in
-    let next = ap (λ (s : Slots). s.next) c.split_at-front.ensures.pool in
+    let next = ap (λ (s : Slots). s.next) c.split_at-front.ensures.links.pool in
     let parts : expanded p.next (option_to_list c.split_at-front.result.0 ++ (rest ∷ [] ++ [])) ≡
     singles_of p.next c.args.run = one.parts in
     rw (next, sym (slots-one p.next rest)) (part-below p.next (length p.next) c.args.run
@@ -54,14 +54,14 @@ split_at-gone-requires-clause-headroom c =
     let len = part-length p.next c.args.run (option_to_list c.split_at-front.result.0)
     (rest ∷ []) [] parts in
     let own = length-part p.next rest in
-    omega (arith, len, own, c.split_at-front.ensures.links, c.requires.headroom)
+    omega (arith, len, own, c.split_at-front.ensures.links.most_links, c.requires.headroom)
 
 pub give-requires-clause-below : goal.give-requires-clause-below
 give-requires-clause-below c =
     let p = c.args.pool.now in
     let one = rw c.in-Some.is at c.split_at-front.ensures.split in
-    let first = ap (λ (s : Slots). s.next) c.split_at-front.ensures.pool in
-    let next = ap (λ (s : Slots). s.next) c.split_at-gone.ensures.pool ∙ first in
+    let first = ap (λ (s : Slots). s.next) c.split_at-front.ensures.links.pool in
+    let next = ap (λ (s : Slots). s.next) c.split_at-gone.ensures.links.pool ∙ first in
     let two = rw first at c.split_at-gone.ensures.split in
     let front = c.split_at-front.result.0 in let gone = c.split_at-gone.result.0 in
     let back = c.split_at-gone.result.1 in
@@ -74,10 +74,10 @@ pub give-requires-clause-distinct : goal.give-requires-clause-distinct
 give-requires-clause-distinct c =
     let p = c.args.pool.now in
     let one = rw c.in-Some.is at c.split_at-front.ensures.split in
-    let first = ap (λ (s : Slots). s.next) c.split_at-front.ensures.pool in
-    let next = ap (λ (s : Slots). s.next) c.split_at-gone.ensures.pool ∙ first in
-    let free = ap (λ (s : Slots). s.free) c.split_at-gone.ensures.pool
-    ∙ ap (λ (s : Slots). s.free) c.split_at-front.ensures.pool in
+    let first = ap (λ (s : Slots). s.next) c.split_at-front.ensures.links.pool in
+    let next = ap (λ (s : Slots). s.next) c.split_at-gone.ensures.links.pool ∙ first in
+    let free = ap (λ (s : Slots). s.free) c.split_at-gone.ensures.links.pool
+    ∙ ap (λ (s : Slots). s.free) c.split_at-front.ensures.links.pool in
     let two = rw first at c.split_at-gone.ensures.split in
     let front = c.split_at-front.result.0 in let gone = c.split_at-gone.result.0 in
     let back = c.split_at-gone.result.1 in
@@ -92,10 +92,10 @@ pub give-requires-clause-room : goal.give-requires-clause-room
 give-requires-clause-room c =
     let p = c.args.pool.now in
     let one = rw c.in-Some.is at c.split_at-front.ensures.split in
-    let first = ap (λ (s : Slots). s.next) c.split_at-front.ensures.pool in
-    let next = ap (λ (s : Slots). s.next) c.split_at-gone.ensures.pool ∙ first in
-    let free = ap (λ (s : Slots). s.free) c.split_at-gone.ensures.pool
-    ∙ ap (λ (s : Slots). s.free) c.split_at-front.ensures.pool in
+    let first = ap (λ (s : Slots). s.next) c.split_at-front.ensures.links.pool in
+    let next = ap (λ (s : Slots). s.next) c.split_at-gone.ensures.links.pool ∙ first in
+    let free = ap (λ (s : Slots). s.free) c.split_at-gone.ensures.links.pool
+    ∙ ap (λ (s : Slots). s.free) c.split_at-front.ensures.links.pool in
     let two = rw first at c.split_at-gone.ensures.split in
     let front = c.split_at-front.result.0 in let gone = c.split_at-gone.result.0 in
     let back = c.split_at-gone.result.1 in
@@ -108,12 +108,12 @@ pub returns-clause-cut : goal.returns-clause-cut
 returns-clause-cut c =
     let p = c.args.pool.now in
     let one = rw c.in-Some.is at c.split_at-front.ensures.split in
-    let first = ap (λ (s : Slots). s.next) c.split_at-front.ensures.pool in
-    let next = ap (λ (s : Slots). s.next) c.split_at-gone.ensures.pool ∙ first in
-    let free = ap (λ (s : Slots). s.free) c.split_at-gone.ensures.pool
-    ∙ ap (λ (s : Slots). s.free) c.split_at-front.ensures.pool in
-    let bs = ap (λ (s : Slots). s.blocks) c.split_at-gone.ensures.pool
-    ∙ ap (λ (s : Slots). s.blocks) c.split_at-front.ensures.pool in
+    let first = ap (λ (s : Slots). s.next) c.split_at-front.ensures.links.pool in
+    let next = ap (λ (s : Slots). s.next) c.split_at-gone.ensures.links.pool ∙ first in
+    let free = ap (λ (s : Slots). s.free) c.split_at-gone.ensures.links.pool
+    ∙ ap (λ (s : Slots). s.free) c.split_at-front.ensures.links.pool in
+    let bs = ap (λ (s : Slots). s.blocks) c.split_at-gone.ensures.links.pool
+    ∙ ap (λ (s : Slots). s.blocks) c.split_at-front.ensures.links.pool in
     let two = rw first at c.split_at-gone.ensures.split in
     let front = c.split_at-front.result.0 in let gone = c.split_at-gone.result.0 in
     let back = c.split_at-gone.result.1 in
@@ -128,13 +128,13 @@ pub returns-clause-links : goal.returns-clause-links
 returns-clause-links c =
     let p = c.args.pool.now in
     let one = rw c.in-Some.is at c.split_at-front.ensures.split in
-    let first = ap (λ (s : Slots). s.next) c.split_at-front.ensures.pool in
+    let first = ap (λ (s : Slots). s.next) c.split_at-front.ensures.links.pool in
     let two = rw first at c.split_at-gone.ensures.split in
     let front = c.split_at-front.result.0 in let gone = c.split_at-gone.result.0 in
     let back = c.split_at-gone.result.1 in
     let len = part-length p.next c.args.run (option_to_list front) (option_to_list gone)
     (option_to_list back) (parts-twice p.next c.args.run c.in-Some.rest c.args.low c.args.high
     front gone back one two) in
-    let links = rw first at c.split_at-gone.ensures.links in
+    let links = rw first at c.split_at-gone.ensures.links.most_links in
     let same = ap (λ (s : Slots). s.links) c.give.ensures.pool in
-    omega (arith, len, links, same, c.split_at-front.ensures.links)
+    omega (arith, len, links, same, c.split_at-front.ensures.links.most_links)

@@ -112,7 +112,7 @@ set_block-requires-2-clause-slot c =
     let w = c.args.progress.walk in
     let found = c.in-Some.run' in
     let t = there w.run c.args.lba found (sym c.run_at.ensures ∙ c.in-Some.is) in
-    let blocks = ap (λ (s : Slots). s.blocks) c.pass-walk.ensures.pool in
+    let blocks = ap (λ (s : Slots). s.blocks) c.pass-walk.ensures.links.pool in
     rw blocks (slot-there x.0 c.args.progress.done found
     (drop w.at c.args.runs.now ++ x.1) p c.args.lba
     (rw (here c.args.runs.now x.1 w.run found w.at t.0) at x.2))
@@ -134,7 +134,7 @@ join-done-requires-2-clause-slot c =
     let p = c.args.pool.now in
     let w = c.args.progress.walk in
     let next : c.set_block-2.new.pool.next ≡ p.next = ap (λ (s : Slots). s.next) c.set_block-2.ensures
-    ∙ ap (λ (s : Slots). s.next) c.pass-walk.ensures.pool in
+    ∙ ap (λ (s : Slots). s.next) c.pass-walk.ensures.links.pool in
     λ pos. rw next ((done-last x.0 c.args.progress.done
     (ahead_of c.args.runs.now w.run w.at ++ x.1) p c.args.lba x.2 pos).0)
 
@@ -144,7 +144,7 @@ join-done-requires-2-clause-used c =
     let p = c.args.pool.now in
     let w = c.args.progress.walk in
     let free : c.set_block-2.new.pool.free ≡ p.free = ap (λ (s : Slots). s.free) c.set_block-2.ensures
-    ∙ ap (λ (s : Slots). s.free) c.pass-walk.ensures.pool in
+    ∙ ap (λ (s : Slots). s.free) c.pass-walk.ensures.links.pool in
     λ pos. rw free ((done-last x.0 c.args.progress.done
     (ahead_of c.args.runs.now w.run w.at ++ x.1) p c.args.lba x.2 pos).1)
 
@@ -178,23 +178,23 @@ returns-clause-puts c =
     let t = there w.run lba found is in
     let low = slot-there before done found (drop w.at runs ++ after) p lba
     (rw (here runs after w.run found w.at t.0) at h) in
-    let blocks = ap (λ (s : Slots). s.blocks) c.pass-walk.ensures.pool in
+    let blocks = ap (λ (s : Slots). s.blocks) c.pass-walk.ensures.links.pool in
     let seen = put-seen done.kind found.first block now.blocks (rw blocks low) in
     record {
       writing = rw (run_is, pool_is)
           (walked-writing before after runs more done found w.run w.at p now lba
-          (now.links - p.links) bs (mapping_as done.kind block) h is c.pass-walk.ensures.pool
+          (now.links - p.links) bs (mapping_as done.kind block) h is c.pass-walk.ensures.links.pool
           c.pass-walk.ensures.ahead len same seen);
       contents = ap₂ (λ (r : Run) (s : Slots). chained_contents
           (before ++ r ∷ (more ++ after)) s) run_is pool_is
           ∙ walked-contents before after runs more done found w.run w.at p now lba
-          (now.links - p.links) bs (mapping_as done.kind block) h is c.pass-walk.ensures.pool
+          (now.links - p.links) bs (mapping_as done.kind block) h is c.pass-walk.ensures.links.pool
           c.pass-walk.ensures.ahead len same seen;
       keeps = subst (λ (r : Run). KeepSlots p.next (before ++ done ∷ rest)
           c.join-done-2.new.pool.next (before ++ r ∷ (more ++ after))) (sym run_is)
           (subst (λ (s : Slots). KeepSlots p.next (before ++ done ∷ rest) s.next
           (before ++ joined done (single lba found.first done.kind) ∷ (more ++ after))) (sym pool_is)
           (walked-keeps before after runs more done found w.run w.at p now lba
-          (now.links - p.links) bs (mapping_as done.kind block) h is c.pass-walk.ensures.pool
+          (now.links - p.links) bs (mapping_as done.kind block) h is c.pass-walk.ensures.links.pool
           c.pass-walk.ensures.ahead len same seen));
     }

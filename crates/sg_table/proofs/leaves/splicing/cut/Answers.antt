@@ -35,7 +35,8 @@ returns-clause-leaves c =
     let leaves = λ (t : LeafTable). t.leaves in
     let capacity = λ (t : LeafTable). t.capacity in
     let moved = λ (t : LeafTable). t.moved in
-    let within = c.requires.leaves in
+    let order = c.requires.places.in_order in
+    let within = c.requires.places.within in
     let copied : c.copy.new.self.leaves ≡ ls = ap leaves c.copy.ensures.leaves in
     let closed : c.close_behind.new.leaves.leaves ≡ without ls k m =
     ap leaves c.close_behind.ensures ∙ ap (λ (l : List (List Run)). without l k m) copied in
@@ -59,27 +60,29 @@ returns-clause-leaves c =
       front = ap (λ (l : List (List Run)). joined (take (k + 1) l)) edited
           ∙ front-without ls k m front (omega arith);
       behind = ap (drop (k + 1)) edited ∙ behind-without ls k m front (omega arith);
-      capacity = ap capacity c.edit.ensures ∙ ap capacity c.close_behind.ensures
-          ∙ ap capacity c.copy.ensures.leaves;
-      moves_rise = omega (
-        arith,
-        ap moved c.edit.ensures,
-        ap moved c.close_behind.ensures,
-        ap moved c.copy.ensures.leaves,
-      );
-      moves = omega (
-        arith,
-        ap moved c.edit.ensures,
-        ap moved c.close_behind.ensures,
-        ap moved c.copy.ensures.leaves,
-        ap length own,
-        size,
-        c.len-len.ensures.fits,
-        c.copy.ensures.fits,
-        ap length c.requires.empty,
-        ap length c.copy.ensures.copied,
-        ap (λ (l : List Run). length (l ++ drop c.args.to.offset (leaf_at ls c.args.to.leaf)))
-            c.requires.empty,
-        length-drop c.args.to.offset (leaf_at ls c.args.to.leaf),
-      );
+      moves = record {
+        capacity = ap capacity c.edit.ensures ∙ ap capacity c.close_behind.ensures
+            ∙ ap capacity c.copy.ensures.leaves;
+        rise = omega (
+          arith,
+          ap moved c.edit.ensures,
+          ap moved c.close_behind.ensures,
+          ap moved c.copy.ensures.leaves,
+        );
+        moved = omega (
+          arith,
+          ap moved c.edit.ensures,
+          ap moved c.close_behind.ensures,
+          ap moved c.copy.ensures.leaves,
+          ap length own,
+          size,
+          c.len-len.ensures.fits,
+          c.copy.ensures.fits,
+          ap length c.requires.empty,
+          ap length c.copy.ensures.copied,
+          ap (λ (l : List Run). length (l ++ drop c.args.to.offset (leaf_at ls c.args.to.leaf)))
+              c.requires.empty,
+          length-drop c.args.to.offset (leaf_at ls c.args.to.leaf),
+        );
+      };
     }

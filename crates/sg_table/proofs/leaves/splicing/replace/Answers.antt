@@ -10,7 +10,7 @@ append-last-requires-clause-room c =
       arith,
       cut-count c.args.leaves.now c.cut.new.leaves c.args.from c.args.to c.args.runs.now _ cut.leaves
           cut.rest,
-      cut.leaves.capacity,
+      cut.leaves.moves.capacity,
       c.requires.room,
     )
 
@@ -35,7 +35,7 @@ append-last-requires-2-clause-room c =
       appended-count c.cut.new.leaves c.append-last.new.leaves c.args.from.leaf c.append-last.result _ first,
       ap length c.as_slice.ensures.value,
       first.capacity,
-      cut.leaves.capacity,
+      cut.leaves.moves.capacity,
       c.requires.room,
     )
 
