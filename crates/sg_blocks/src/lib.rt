@@ -6,4 +6,4 @@ pub use sg_block_map::BlockMap;
 pub use sg_plain_map::PlainMap;
 pub use sg_pool::Pool;
 pub use sg_store::{BLOCK_LENGTH, Counts, MAX_CAPACITY, MAX_COUNT, MAX_POOL, Space, Store};
-pub use sg_table::RunTable;
+pub use sg_table::{Kind, Run, RunTable};

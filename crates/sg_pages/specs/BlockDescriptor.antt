@@ -1,6 +1,7 @@
 -- The mode parameter block descriptor (SBC-3, 6.4.2).
 use Rattle.std.specs.Prelude.{ℕ, min, List, [], ◌∷◌, ◌++◌, Bool, if◌then◌else◌}
 use Rattle.byteorder.specs.Endian.{big_bytes}
+use Rattle.sg_pages.specs.declared.mode_pages.block_descriptor.TheConstants.{LOGICAL_BLOCK_LENGTH}
 
 -- How many bytes the short and the long descriptor have, and how many of them are NUMBER OF LOGICAL
 -- BLOCKS.
@@ -14,5 +15,5 @@ number_length long = if long then 8 else 4
 -- greater number than fits is FFFFFFFFh.
 unfoldable pub block_descriptor : (long : Bool) (blocks : ℕ) → List ℕ
 block_descriptor long blocks =
-    if long then big_bytes 8 blocks ++ (0 ∷ 0 ∷ 0 ∷ 0 ∷ []) ++ big_bytes 4 512
-    else big_bytes 4 (min blocks 0xFFFF_FFFF) ++ (0 ∷ []) ++ big_bytes 3 512
+    if long then big_bytes 8 blocks ++ (0 ∷ 0 ∷ 0 ∷ 0 ∷ []) ++ big_bytes 4 LOGICAL_BLOCK_LENGTH
+    else big_bytes 4 (min blocks 0xFFFF_FFFF) ++ (0 ∷ []) ++ big_bytes 3 LOGICAL_BLOCK_LENGTH

@@ -62,6 +62,9 @@ pub(super) const DEFAULT: PageValues = PageValues {
     exceptions_control: [0x08, 0, 0, 0, 0, 0, 0, 0, 0, 0],
 };
 
+// PS, a bit of a page's first byte: the page can be saved. MODE SELECT ignores it.
+pub(super) const PS: u8 = 0x80;
+
 // The bits that MODE SELECT may change.
 pub(super) const CHANGEABLE: PageValues = PageValues {
     error_recovery: [0xC0, 0xFF, 0, 0, 0, 0, 0xFF, 0, 0, 0],

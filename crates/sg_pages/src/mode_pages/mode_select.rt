@@ -9,7 +9,7 @@ ghost use Rattle.sg_pages.specs.ModeSelect.{page_at, page_faults, pages_from, pa
 ghost use Rattle.sg_pages.specs.ModeSelect.{selected_values, unless_fault, values_after, with_sent};
 
 use super::list_check::{check, check_descriptor, check_header, header_length};
-use super::mode_page::CHANGEABLE;
+use super::mode_page::{CHANGEABLE, PS};
 use super::{ModePage, ModePages, PageValues};
 use thiserror::Error;
 
@@ -28,9 +28,6 @@ pub enum ModeSelectFault {
     #[error("byte {0} of the list has a value that is not supported")]
     Field(usize),
 }
-
-// PS is ignored.
-const PS: u8 = 0x80;
 
 const PAGE_CODE: u8 = 0x3F;
 

@@ -9,7 +9,7 @@ ghost use Rattle.sg_pages.specs.ModeSense.{mode_parameter_list, mode_sense};
 ghost use Rattle.sg_pages.specs.ModeSense.{requested_pages, selected_by};
 
 use super::block_descriptor::{long_descriptor, short_descriptor};
-use super::mode_page::{CHANGEABLE, DEFAULT};
+use super::mode_page::{CHANGEABLE, DEFAULT, PS};
 use super::{ModePage, ModePages, ModeSenseFault, ModeSenseRequest, PageControl, PageValues};
 use byteorder::{BigEndian, ByteOrder};
 use sg_wire::Cut;
@@ -17,9 +17,6 @@ use sg_wire::laws::parts_are_put_in_turn;
 
 // PAGE CODE of all pages.
 const ALL_PAGES: u8 = 0x3F;
-
-// PS: the page can be saved.
-const PS: u8 = 0x80;
 
 const DPOFUA: u8 = 0x10;
 
