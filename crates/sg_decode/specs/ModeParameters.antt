@@ -57,6 +57,10 @@ abbrev pub mode_body : (first : ℕ) → (long : Bool) → (length : ℕ) → Li
 mode_body first long length bytes =
     descriptor_items first long length ++ entries_from (entry_of ModePages) (first + length) bytes
 
+-- LONGLBA, byte 4 bit 0 of the longer header: the block descriptor is the long one.
+abbrev pub has_longlba : List ℕ → Bool
+has_longlba bytes = has_bit (slice_index bytes 4) 0x01
+
 -- MODE DATA LENGTH does not count itself. In MODE SENSE(6) there is no LONGLBA.
 abbrev pub mode_parameters_6 : Decoder
 mode_parameters_6 = record {
@@ -69,8 +73,7 @@ abbrev pub mode_parameters_10 : Decoder
 mode_parameters_10 = record {
   header = line_items header_10;
   reported_end = λ bytes. 2 + big_number 2 bytes;
-  body = λ bytes end.
-      mode_body 8 (has_bit (slice_index bytes 4) 0x01) (big_number 2 (drop 6 bytes)) bytes;
+  body = λ bytes end. mode_body 8 (has_longlba bytes) (big_number 2 (drop 6 bytes)) bytes;
 }
 
 abbrev pub mode_parameters : (ten : Bool) → Decoder

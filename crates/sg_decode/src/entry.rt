@@ -175,12 +175,15 @@ fn designator_line(own: &[u8]) -> &'static [Field]
     }
 }
 
-// SPF: whether a mode page has a subpage code, and two bytes of length.
+// SPF, a bit of a mode page's first byte (SPC-4, 7.5): there is a subpage code.
+const SPF: u8 = 0x40;
+
+// Whether a mode page has a subpage code, and two bytes of length.
 fn has_subpage(page: &[u8]) -> bool
     ensures { result ≡ has_subpage page.now }
 {
     match page.first() {
-        Some(byte) => *byte & 0x40 != 0,
+        Some(byte) => *byte & SPF != 0,
         None => false,
     }
 }

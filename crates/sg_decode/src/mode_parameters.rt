@@ -14,6 +14,10 @@ use crate::value::{Field, Value, number_of_two};
 use sg_wire::Printer;
 use std::io::Write;
 
+// LONGLBA, a bit of byte 4 of the header of MODE SENSE(10) (SPC-4, 7.5): the block descriptor is the
+// long one.
+const LONGLBA: u8 = 0x01;
+
 const HEADER_6: [&[Field]; 4] = [
     &[Field(b"  mode data length: ", Value::Number(0, 1))],
     &[Field(b"  medium type: ", Value::Code(1, 7, 0))],
@@ -72,7 +76,7 @@ fn put_modes_10<W: Write>(bytes: &[u8], out: &mut Printer<'_, W>)
     ensures { PrintsText W.contents out.old out.new (decoded mode_parameters_10 bytes.now) }
 {
     if show_lines(&HEADER_10, None, bytes, out) {
-        let long = bytes[4] & 0x01 != 0;
+        let long = bytes[4] & LONGLBA != 0;
         let size = number_of_two(6, bytes);
         show_body(8, long, size, 2 + number_of_two(0, bytes), bytes, out);
     }
