@@ -3,7 +3,7 @@ use Rattle.std.specs.Prelude.{◌≡◌, ℕ, ◌+◌, ◌<◌, ◌≤◌, zero,
 use Rattle.std.specs.Prelude.{length, if◌then◌else◌}
 use Rattle.std.specs.List.{sum_by}
 use Rattle.sg_pool.specs.Chains.{IsChain}
-use Rattle.sg_store.specs.Disk.{Contents}
+use Rattle.sg_store.specs.Disk.{Contents, IsWellFormed}
 use Rattle.sg_table.specs.Records.{single}
 use Rattle.sg_pool.specs.MappedRecords.{contents_of}
 use Rattle.sg_pool.specs.Slots.{Slots}
@@ -82,6 +82,10 @@ AreBetween low high (run ∷ runs) = (low ≤ run.start) × AreBetween (run.star
 -- The contents of a disk with these runs and slots: those of the single addresses.
 abbrev pub chained_contents : List Run → Slots → Contents
 chained_contents records slots = contents_of (expanded slots.next records) slots.blocks
+
+-- The addresses of runs are those of a disk, and their data is whole blocks.
+abbrev pub AreOnDisk : (capacity : ℕ) → List Run → Slots → Type 0
+AreOnDisk capacity records slots = IsWellFormed capacity (chained_contents records slots)
 
 -- How many addresses runs have.
 abbrev pub blocks_of : List Run → ℕ

@@ -13,7 +13,7 @@ ghost use Rattle.sg_block_map.specs.MaximalRuns.{runs};
 ghost use Rattle.sg_block_map.specs.RunCost.{block_price, block_least, CostsRange};
 ghost use Rattle.sg_block_map.specs.RunCostLaws.{block_price-within, block_price-joined};
 ghost use Rattle.sg_block_map.specs.RunCostLaws.{block_least-positive};
-ghost use Rattle.sg_block_map.specs.Runs.{AreRuns, chained_contents};
+ghost use Rattle.sg_block_map.specs.Runs.{AreOnDisk, AreRuns};
 ghost use Rattle.sg_block_map.specs.RunsProps.{AreRuns-IsProp};
 ghost use Rattle.sg_store.specs.DiskProps.{IsWellFormed-IsProp};
 ghost use Rattle.sg_table.specs.Draft.{empty_draft};
@@ -49,7 +49,7 @@ pub struct BlockMap {
     ghost pool_fits: { table.room ≤ MAX_POOL },
     ghost gathered_empty: { gathered ≡ empty_draft table.room },
     ghost remaining_empty: { remaining ≡ empty_draft table.room },
-    ghost well_formed: { IsWellFormed capacity (chained_contents table.records pool) } by { IsWellFormed-IsProp _ _ },
+    ghost well_formed: { AreOnDisk capacity table.records pool } by { IsWellFormed-IsProp _ _ },
     ghost runs: { AreRuns table.records pool table.room } by { AreRuns-IsProp _ _ _ },
 }
 
