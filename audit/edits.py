@@ -110,24 +110,33 @@ def place_of(changes, places, folder):
             return None
         with open(f"{folder}/{file}", encoding="utf-8") as it:
             where = it.read().find(old)
-        within = [it for it in places if it.file == file and it.function.body <= where and where + len(old) <= it.function.end]
+        within = [it for it in places if it.file == file
+                  and it.function.body <= where and where + len(old) <= it.function.end]
         if len(within) != 1:
             return None
         found.add(within[0])
     return found.pop() if len(found) == 1 else None
 
 
+# A call, or a function that is passed on: a dot or the type or module before its name, and its name.
+CALL = re.compile(r"(\.|\b[A-Za-z_]\w*(?:::<[^;(]*?>)?::)?\b([a-z_]\w*)\b"
+                  r"(?=\s*(?:::<[^;(]*>)?\(|\s*[,)])")
+
+
+def is_called(before, place, other):
+    """Whether what is before a name in a function may lead to another function of that name."""
+    owner, of = re.sub(r"::.*", "", before), other.function.type
+    if before == ".":
+        return bool(of)
+    if owner[:1].isupper():
+        return of == owner or owner == "Self" and of == place.function.type
+    return not of
+
+
 def called_by(place, named):
     """The functions of its crate that a function calls, or may call where their names are alike."""
-    found = set()
-    for before, name in re.findall(r"(\.|\b[A-Za-z_]\w*(?:::<[^;(]*?>)?::)?\b([a-z_]\w*)\b(?=\s*(?:::<[^;(]*>)?\(|\s*[,)])", place.text):
-        owner = re.sub(r"::.*", "", before)
-        for other in named.get(name, ()):
-            of = other.function.type
-            is_own = owner == "Self" and of == place.function.type
-            if before == "." and of or owner[:1].isupper() and (of == owner or is_own) or not owner[:1].isupper() and before != "." and not of:
-                found.add(other)
-    return found
+    return {other for before, name in CALL.findall(place.text) for other in named.get(name, ())
+            if is_called(before, place, other)}
 
 
 def reached_from(places):
@@ -172,7 +181,8 @@ def together(edits, folder, named=()):
 
     groups = []
     while left:
-        collisions = {it: sum(collide(it, other) for other in left if is_named(other) or not is_named(it)) for it in left}
+        collisions = {it: sum(collide(it, other) for other in left
+                              if is_named(other) or not is_named(it)) for it in left}
         group = []
         for edit in sorted(left, key=lambda it: (not is_named(it), collisions[it], it)):
             if not any(collide(edit, it) for it in group):
