@@ -10,6 +10,7 @@ mod NeedLemmas
 pub mod RangeLemmas
 pub mod RunLemmas
 pub mod SenseLemmas
+pub mod Space
 pub mod StatusLemmas
 pub mod StepLemmas
 pub mod UnmapLemmas

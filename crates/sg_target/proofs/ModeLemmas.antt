@@ -16,7 +16,7 @@ use Rattle.sg_target.specs.State.{IsWithinLimits, State}
 use Rattle.sg_target.specs.Step.{executed, refused, sense_format, step_by}
 use Rattle.sg_target.specs.declared.operation.Operation.TheVariants.{ReturnModes}
 use Rattle.sg_target.specs.declared.reply.Reply.{Reply}
-use Rattle.sg_target.proofs.StepLemmas.{room}
+use Rattle.sg_target.proofs.Space.{space-left}
 
 -- a list that was sensed
 pub record Sensed (P : List ℕ → Type 0) (sensed : Result (List ℕ) ModeSenseFault) : Type 0 where
@@ -57,7 +57,7 @@ module _ (state : State) (i n : ℕ) (request request' : RequestFields) (modes :
   returned : (list : List ℕ) → IsWithinLimits state → mode_sense state.modes request ≡ Ok list
       → step_by state i (ReturnModes request n) ≡ executed (returning_up_to state n list)
   unfolding mode_parameters
-  returned list w e = rw (e, room state.disk w.mapped) refl
+  returned list w e = rw (e, space-left state.disk w.mapped) refl
 
   refused-by : (fault : ModeSenseFault) → mode_sense state.modes request ≡ Err fault
       → step_by state i (ReturnModes request n) ≡ refused state i (sense_refusal fault)

@@ -1,10 +1,7 @@
 -- A command is refused or executed.
-use Rattle.std.proofs.Common.{◌≡◌, ◌≤◌, ℕ, List, [], ◌∷◌, Option, Some, None, Result}
-use Rattle.std.proofs.Common.{refl, ap, arith}
-use Rattle.std.specs.FinMap.{len}
-use Rattle.std.proofs.lemmas.Bool.Decides.{nat_tests}
-use Rattle.sg_store.specs.Disk.{Disk}
-use Rattle.sg_target.specs.Checks.{checked_cdb, no_space}
+use Rattle.std.proofs.Common.{◌≡◌, ℕ, List, [], ◌∷◌, Option, Some, None, Result}
+use Rattle.std.proofs.Common.{refl, ap}
+use Rattle.sg_target.specs.Checks.{checked_cdb}
 use Rattle.sg_target.specs.Ranges.{ranges, ranges_in}
 use Rattle.sg_target.specs.Refusal.{checked_next, first_some}
 use Rattle.sg_target.specs.Semantics.{effect_of}
@@ -18,14 +15,7 @@ pub first_some-one : {A : Type 0} (check : Option A) → first_some (check ∷ [
 first_some-one None = refl
 first_some-one (Some x) = refl
 
-pub ruleset first_some_one = (first_some-one)
-
--- where no more is mapped than the pool has, there is space
-pub room : (disk : Disk) → len disk.contents ≤ disk.pool → no_space disk ≡ None
-unfolding no_space
-room disk h = grind (arith, nat_tests)
-
-pub ruleset has_room = (room)
+pub ruleset alone = (first_some-one)
 
 module _ (state : State) (i : ℕ) (cdb data_out : List ℕ) where
   -- what the checks come to decides the step

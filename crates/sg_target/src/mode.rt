@@ -128,7 +128,7 @@ impl From<ModeSenseFault> for Refusal {
 
 impl<S: Store> Target<S> {
     /// Returns a mode parameter list, unless the disk does not have the page.
-    #[tactic(auto, using(crate::proofs::StepLemmas::has_room), unfolding(crate::specs::ModeCommands::mode_parameters))]
+    #[tactic(auto, using(crate::proofs::Space::room), unfolding(crate::specs::ModeCommands::mode_parameters))]
     pub(crate) fn return_modes(
         &mut self,
         initiator: Initiator,
@@ -224,7 +224,7 @@ impl<S: Store> Target<S> {
     /// The mode pages become those of a parameter list, unless something is wrong with it. Room for them
     /// would else be made for every command.
     #[inline(never)]
-    #[tactic(auto, using(crate::proofs::StepLemmas::has_room), unfolding(crate::specs::ModeCommands::selected_modes))]
+    #[tactic(auto, using(crate::proofs::Space::room), unfolding(crate::specs::ModeCommands::selected_modes))]
     pub(crate) fn change_modes(
         &mut self,
         initiator: Initiator,

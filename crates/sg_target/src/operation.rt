@@ -114,7 +114,7 @@ pub(crate) struct MediumUse {
 
 impl<'a> Operation<'a> {
     /// How it uses the medium of a disk of `capacity` blocks.
-    #[tactic(auto, using(crate::proofs::StepLemmas::first_some_one), unfolding(crate::specs::Checks::out_of_range))]
+    #[tactic(auto, using(crate::proofs::StepLemmas::alone), unfolding(crate::specs::Checks::out_of_range))]
     pub(crate) fn medium_use(&self, capacity: u64) -> MediumUse
         requires { capacity ≤ MAX_CAPACITY }
         ensures range { result.out_of_range ≡ out_of_range capacity (medium_use self.now).extents }
@@ -198,7 +198,7 @@ pub(crate) fn operation_of<'a>(
 
 impl<S: Store> Target<S> {
     /// Executes an operation, unless the disk's state refuses it.
-    #[tactic(auto, using(crate::proofs::StepLemmas::has_room))]
+    #[tactic(auto, using(crate::proofs::Space::room))]
     pub(crate) fn execute_checked(
         &mut self,
         initiator: Initiator,

@@ -163,7 +163,7 @@ impl<S: Store> Target<S> {
     }
 
     /// Anchors extents in turn, unless there is no space for all of them.
-    #[tactic(auto, using(crate::proofs::StepLemmas::has_room), unfolding(crate::specs::Checks::no_space))]
+    #[tactic(auto, using(crate::proofs::Space::room), unfolding(crate::specs::Checks::no_space))]
     pub(crate) fn anchor(&mut self, initiator: Initiator, extents: &[Extent], buf: &[u8]) -> Reply
         requires on_disk { AreOnDisk self.old.state.disk.capacity extents.now }
         requires at_most { length extents.now ≤ maximum_unmap_descriptors }

@@ -127,7 +127,7 @@ impl<S: Store> Target<S> {
     /// Registrations and reservation change, unless something is wrong with the parameter list. Other
     /// initiators get unit attentions. Room for the change would else be made for every command.
     #[inline(never)]
-    #[tactic(auto, using(crate::proofs::StepLemmas::has_room), unfolding(crate::specs::ReservationCommands::reservation_change))]
+    #[tactic(auto, unfolding(crate::specs::ReservationCommands::reservation_change))]
     pub(crate) fn change_reservations(
         &mut self,
         initiator: Initiator,

@@ -20,7 +20,9 @@ count_needed-needed-requires-clause-fits g c =
 pub returns-then-needed-from-clause-space : goal.returns-then-needed-from-clause-space
 returns-then-needed-from-clause-space g c =
     let left = c.count_needed-needed.ensures.disk in
-    let after = used-after c.remapping_takes_what_is_needed.ensures _ c.args.extents.now c.joined-ranges.result.items c.joined-ranges.ensures _ _
+    let law = c.remapping_takes_what_is_needed.ensures in
+    let after = used-after law _ c.args.extents.now c.joined-ranges.result.items
+    c.joined-ranges.ensures _ _
     (rw left at c.used.ensures.value)
     (rw c.as_slice.ensures.value at c.count_needed-needed.ensures.value) in
     let within = rw left at c.used.ensures.within in (
@@ -43,7 +45,9 @@ returns-then-needed-from-clause-costs g c =
 pub anchor_in_turn-requires-clause-room : goal.anchor_in_turn-requires-clause-room
 anchor_in_turn-requires-clause-room g c =
     let left = c.count_needed-needed.ensures.disk in
-    let after = used-after c.remapping_takes_what_is_needed.ensures _ c.args.extents.now c.joined-ranges.result.items c.joined-ranges.ensures _ _
+    let law = c.remapping_takes_what_is_needed.ensures in
+    let after = used-after law _ c.args.extents.now c.joined-ranges.result.items
+    c.joined-ranges.ensures _ _
     (rw left at c.used.ensures.value)
     (rw c.as_slice.ensures.value at c.count_needed-needed.ensures.value) in
     let within = rw left at c.used.ensures.within in
@@ -52,7 +56,9 @@ anchor_in_turn-requires-clause-room g c =
 pub returns-clause-space : goal.returns-clause-space
 returns-clause-space g c =
     let left = c.count_needed-needed.ensures.disk in
-    let after = used-after c.remapping_takes_what_is_needed.ensures _ c.args.extents.now c.joined-ranges.result.items c.joined-ranges.ensures _ _
+    let law = c.remapping_takes_what_is_needed.ensures in
+    let after = used-after law _ c.args.extents.now c.joined-ranges.result.items
+    c.joined-ranges.ensures _ _
     (rw left at c.used.ensures.value)
     (rw c.as_slice.ensures.value at c.count_needed-needed.ensures.value) in
     let within = rw left at c.used.ensures.within in (

@@ -35,7 +35,8 @@ anchor_with_room-requires-clause-room g c =
     ≡ anchored_in_turn before.contents (take (i + 1) extents) =
     sym (in_turn-more before.contents (take i extents) next)
     ∙ ap (anchored_in_turn before.contents) (sym (take_more extents i none here)) in
-    let first = room-first c.remapping_takes_what_is_needed.ensures before.contents (take (i + 1) extents) (drop (i + 1) extents) in
+    let law = c.remapping_takes_what_is_needed.ensures in
+    let first = room-first law before.contents (take (i + 1) extents) (drop (i + 1) extents) in
     let all = ap (λ xs. map.len (anchored_in_turn before.contents xs))
     (take-append-drop (i + 1) extents) in
     let size = ap map.len (ap (λ (m : Contents). anchored m next.lba next.count) left ∙ more) in

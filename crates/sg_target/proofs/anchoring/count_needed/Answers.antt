@@ -25,7 +25,8 @@ overflow_add-needed g c =
     let next = get_or c.args.ranges.now c.loop-range.range-index none in
     let within = within-at _ c.args.ranges.now c.loop-range.range-index none c.loop-range-test.true
     c.requires.fits in
-    let few = c.remapping_takes_what_is_needed.ensures.at_most (g.S.Store.disk c.loop-range.store).contents next.lba next.count in
+    let now = g.S.Store.disk c.loop-range.store in
+    let few = c.remapping_takes_what_is_needed.ensures.at_most now.contents next.lba next.count in
     omega (
       arith,
       within,
@@ -64,6 +65,14 @@ loop-range-preserved g c =
       counted = counted-next
           (cost_bounds g.S.Store.price g.S.Store.least) disk now
           ranges i none here _ _ _ inv.disk inv.counted e.costs.cost e.costs.price e.costs.least;
-      visits = omega (arith, inv.visits, e.costs.cost.visits, e.costs.price, price, within, c.requires.size.capacity);
+      visits = omega (
+        arith,
+        inv.visits,
+        e.costs.cost.visits,
+        e.costs.price,
+        price,
+        within,
+        c.requires.size.capacity,
+      );
       small = omega (arith, inv.small, e.value, few, within, c.requires.size.capacity);
     }
