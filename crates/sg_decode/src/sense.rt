@@ -80,7 +80,7 @@ fn put_code<W: Write>(asc: u8, ascq: u8, out: &mut Printer<'_, W>)
     put_hex_byte(ascq, out);
 }
 
-#[tactic(auto, using(crate::proofs::TextLemmas::prints), unfolding(crate::specs::SenseText::information_text))]
+#[tactic(auto, using(crate::proofs::TextLemmas::prints))]
 fn put_information<W: Write>(information: Option<u64>, out: &mut Printer<'_, W>)
     ensures { PrintsText W.contents out.old out.new (information_text information) }
 {
