@@ -1,5 +1,8 @@
-// Which texts and local identifiers an identity may have.
-use sg_pages::{Identity, IdentityFault};
+// Which texts and local identifiers an identity may have, the data that shows one, and how requests for
+// mode pages are refused.
+use sg_pages::{Ask, AskFault, Identity, IdentityFault, ModePages, PageControl, SelectFault};
+use sg_pages::{inquiry, vpd};
+use sg_wire::Cut;
 
 const LOCAL: Option<IdentityFault> = Some(IdentityFault::Local);
 
@@ -50,4 +53,58 @@ fn an_identity_is_checked(rt: HostRuntime) {
         let identity = Identity::new(*vendor, *product, *revision, *serial, local);
         assert_eq!(rt; identity.err(), fault);
     }
+}
+
+// Page 00h, supported VPD pages (SPC-4, 7.8.13): these five are listed.
+const SUPPORTED_PAGES: &[u8] = &[0x00, 0x00, 0x00, 0x05, 0x00, 0x80, 0x83, 0xB0, 0xB2];
+
+// Page 80h, unit serial number (SPC-4, 7.8.14): that of the standard identity is 00000001.
+const SERIAL_NUMBER: &[u8] = b"\x00\x80\x00\x0800000001";
+
+// Page codes, and the bytes of each page. The disk has no page 81h, and nothing is written.
+const PAGES: [(u8, &[u8]); 3] = [
+    (0x00, SUPPORTED_PAGES),
+    (0x80, SERIAL_NUMBER),
+    (0x81, &[]),
+];
+
+#[test]
+fn a_page_of_vital_product_data_is_written_by_its_code(rt: HostRuntime) {
+    let identity = Identity::standard();
+    for (code, page) in PAGES {
+        let mut bytes = [0xEE; 12];
+        let mut cut = Cut::new(&mut bytes, 12);
+        let is_there = vpd(code, &identity, &mut cut);
+        let written = cut.written();
+        assert!(rt; is_there != page.is_empty() && written == page.len() && bytes.starts_with(page));
+    }
+}
+
+// The first bytes of standard INQUIRY data (SPC-4, 6.6.2): VERSION is that of SPC-4, RESPONSE DATA
+// FORMAT is 2, and 31 bytes follow.
+#[test]
+fn standard_inquiry_data_is_cut(rt: HostRuntime) {
+    let mut bytes = [0xEE; 8];
+    let mut cut = Cut::new(&mut bytes, 5);
+    inquiry(&Identity::standard(), &mut cut);
+    assert!(rt; bytes == [0x00, 0x00, 0x06, 0x02, 0x1F, 0xEE, 0xEE, 0xEE]);
+}
+
+// The disk has no mode page 3Eh, and a parameter list of one byte ends within its header.
+#[test]
+fn requests_for_mode_pages_are_refused(rt: HostRuntime) {
+    let mut pages = ModePages::new();
+    let ask = Ask {
+        ten: false,
+        llbaa: false,
+        dbd: false,
+        page_control: PageControl::Current,
+        page_code: 0x3E,
+        subpage_code: 0,
+        blocks: 1,
+    };
+    let mut bytes = [0xEE; 4];
+    let mut cut = Cut::new(&mut bytes, 4);
+    assert!(rt; pages.sense(&ask, &mut cut) == Err(AskFault::Page));
+    assert!(rt; pages.select(&[0x00], false, false, 1).err() == Some(SelectFault::Length));
 }
