@@ -7,9 +7,11 @@
 #include <stdlib.h>
 #include <string.h>
 
+#include "below.h"
+#include "cut.h"
 #include "mehdalung.h"
 
-enum { MOST_BYTES = 96, MOST_TEXT = 65536 };
+enum { MOST_BYTES = 96 };
 
 static const struct {
     mdl_kind kind;
@@ -25,14 +27,6 @@ struct answer {
     size_t kind, length;
     uint8_t bytes[MOST_BYTES];
 };
-
-static uint32_t below(uint64_t *seed, uint32_t bound)
-{
-    *seed ^= *seed >> 12;
-    *seed ^= *seed << 25;
-    *seed ^= *seed >> 27;
-    return (uint32_t)((*seed * 0x2545F4914F6CDD1Du) >> 33) % bound;
-}
 
 /* Many bytes are small, so that length fields often end within the answer. */
 static void next_answer(struct answer *a, uint64_t *seed)
@@ -64,24 +58,6 @@ static void print_script(uint64_t seed, unsigned long count)
     }
 }
 
-/* A text is the same at each length of the buffer, up to it, and nothing behind its zero changes. */
-static int is_cut(const struct answer *a, const char *whole, size_t length)
-{
-    static char cut[MOST_TEXT];
-    size_t room;
-
-    for (room = 0; room <= length + 2; room++) {
-        size_t kept = room == 0 ? 0 : length < room - 1 ? length : room - 1;
-
-        memset(cut, '?', length + 4);
-        if (mdl_decode(kinds[a->kind].kind, a->bytes, a->length, cut, room) != length)
-            return 0;
-        if (memcmp(cut, whole, kept) || (room && cut[kept]) || cut[room ? kept + 1 : 0] != '?')
-            return 0;
-    }
-    return 1;
-}
-
 static int decode(uint64_t seed, unsigned long count)
 {
     static char text[MOST_TEXT];
@@ -93,7 +69,8 @@ static int decode(uint64_t seed, unsigned long count)
 
         next_answer(&a, &seed);
         length = mdl_decode(kinds[a.kind].kind, a.bytes, a.length, text, sizeof text);
-        if (length >= sizeof text - 4 || !is_cut(&a, text, length))
+        if (length >= sizeof text - 4
+            || !is_cut(kinds[a.kind].kind, a.bytes, a.length, text, length))
             return 99;
         printf("line %lu: SHOWN\n%s", line, text);
     }

@@ -9,9 +9,13 @@
 #include <stdlib.h>
 #include <string.h>
 
+#include "below.h"
 #include "mehdalung.h"
 
 enum { BLOCKS = 4096, POOL = 16, MOST_DATA_OUT = 3 * MDL_BLOCK_LENGTH };
+
+/* Of a thread: what a call needs, and as much again for what is here. */
+enum { STACK = 128 * 1024 };
 
 struct command {
     uint32_t initiator;
@@ -19,14 +23,6 @@ struct command {
     size_t cdb_length, data_out_length;
     uint8_t cdb[16], data_out[MOST_DATA_OUT];
 };
-
-static uint32_t below(uint64_t *seed, uint32_t bound)
-{
-    *seed ^= *seed >> 12;
-    *seed ^= *seed << 25;
-    *seed ^= *seed >> 27;
-    return (uint32_t)((*seed * 0x2545F4914F6CDD1Du) >> 33) % bound;
-}
 
 static void cdb_of(struct command *c, uint8_t opcode, size_t length)
 {
@@ -340,18 +336,22 @@ static void *work(void *argument)
 static int run_threads(uint64_t seed, unsigned long count, const char *folder)
 {
     pthread_t threads[4];
+    pthread_attr_t attributes;
     struct work works[4];
     int at, status = 0;
 
+    if (pthread_attr_init(&attributes) || pthread_attr_setstacksize(&attributes, STACK))
+        return 99;
     for (at = 0; at < 4; at++) {
         works[at] = (struct work){ seed + (uint64_t)at, count, folder, 99 };
-        if (pthread_create(&threads[at], NULL, work, &works[at]))
+        if (pthread_create(&threads[at], &attributes, work, &works[at]))
             return 99;
     }
     for (at = 0; at < 4; at++) {
         pthread_join(threads[at], NULL);
         status |= works[at].status;
     }
+    pthread_attr_destroy(&attributes);
     return status;
 }
 

@@ -7,6 +7,7 @@
 #include <stdlib.h>
 #include <string.h>
 
+#include "below.h"
 #include "mehdalung.h"
 
 enum { BLOCKS = 4096, POOL = 16, MOST_WORDS = 2048, MOST_TEXT = 65536, FILLED = 4 };
@@ -80,14 +81,6 @@ struct line {
     uint32_t lba, count;
     char words[MOST_WORDS];
 };
-
-static uint32_t below(uint64_t *seed, uint32_t bound)
-{
-    *seed ^= *seed >> 12;
-    *seed ^= *seed << 25;
-    *seed ^= *seed >> 27;
-    return (uint32_t)((*seed * 0x2545F4914F6CDD1Du) >> 33) % bound;
-}
 
 static void add(struct line *l, const char *text)
 {

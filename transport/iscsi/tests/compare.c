@@ -11,6 +11,7 @@
 #include <string.h>
 
 #include "session.h"
+#include "tests/below.h"
 
 enum {
     MOST_DATA_OUT = 4 * MDL_BLOCK_LENGTH,
@@ -25,23 +26,15 @@ static struct session *sessions[MDL_INITIATORS];
 static mdl_disk disk = MDL_NONE;
 static uint64_t state;
 
-static uint32_t below(uint32_t bound)
-{
-    state ^= state >> 12;
-    state ^= state << 25;
-    state ^= state >> 27;
-    return (uint32_t)((state * 0x2545F4914F6CDD1Du) >> 33) % bound;
-}
-
 static int once_in(uint32_t count)
 {
-    return below(count) == 0;
+    return below(&state, count) == 0;
 }
 
 static void random_bytes(uint8_t *bytes, size_t length)
 {
     while (length--)
-        *bytes++ = (uint8_t)below(256);
+        *bytes++ = (uint8_t)below(&state, 256);
 }
 
 /* Of each command of docs/PROFILE.md its operation code, the byte in which a short length ends, and
@@ -83,43 +76,45 @@ static void fill_list(const struct request *request, uint8_t *list)
     memset(list, 0, MOST_DATA_OUT);
     switch (request->cdb[0]) {
     case 0x5F:
-        list[7] = (uint8_t)below(KEYS);
-        list[15] = (uint8_t)below(KEYS);
+        list[7] = (uint8_t)below(&state, KEYS);
+        list[15] = (uint8_t)below(&state, KEYS);
         list[20] = (uint8_t)once_in(8);
         break;
     case 0x42:
-        list[3] = (uint8_t)(16 * below(4));
-        list[15] = (uint8_t)below(ADDRESSES);
-        list[19] = (uint8_t)below(8);
+        list[3] = (uint8_t)(16 * below(&state, 4));
+        list[15] = (uint8_t)below(&state, ADDRESSES);
+        list[19] = (uint8_t)below(&state, 8);
         break;
     case 0x15: control_page(list + MODE_HEADER_6); break;
     case 0x55: control_page(list + MODE_HEADER_10); break;
-    default: memset(list, (int)below(256), MOST_DATA_OUT);
+    default: memset(list, (int)below(&state, 256), MOST_DATA_OUT);
     }
 }
 
 /* A command as it should be, with the length that it asks for. */
 static void well_formed(struct request *request)
 {
-    const struct shape *shape = &shapes[below(SHAPES)];
+    const struct shape *shape = &shapes[below(&state, SHAPES)];
 
     memset(request->cdb, 0, sizeof request->cdb);
     request->cdb[0] = shape->opcode;
     request->cdb[1] = shape->action;
     if (shape->opcode == 0x5F) {
-        request->cdb[2] = (uint8_t)(1 + below(8));
+        request->cdb[2] = (uint8_t)(1 + below(&state, 8));
         request->cdb[8] = 24;
     } else if (shape->length_at) {
-        request->cdb[shape->length_at] = (uint8_t)below(shape->direction == DATA_OUT ? 5 : 256);
+        uint32_t bound = shape->direction == DATA_OUT ? 5 : 256;
+
+        request->cdb[shape->length_at] = (uint8_t)below(&state, bound);
         if (shape->opcode == 0x42)
-            request->cdb[shape->length_at] = (uint8_t)(8 + 16 * below(4));
+            request->cdb[shape->length_at] = (uint8_t)(8 + 16 * below(&state, 4));
         if (shape->opcode == 0x15)
             request->cdb[shape->length_at] = MODE_HEADER_6 + MODE_PAGE;
         if (shape->opcode == 0x55)
             request->cdb[shape->length_at] = MODE_HEADER_10 + MODE_PAGE;
     }
     if (shape->address_at)
-        request->cdb[shape->address_at] = (uint8_t)below(ADDRESSES);
+        request->cdb[shape->address_at] = (uint8_t)below(&state, ADDRESSES);
     request->direction = shape->direction;
     request->length = shape->length_at ? request->cdb[shape->length_at] : 8;
     if (shape->direction == DATA_OUT && shape->unit != 1)
@@ -131,13 +126,13 @@ static void well_formed(struct request *request)
 /* Puts a fault into a command or its parameter list. */
 static void deform(struct request *request, uint8_t *list)
 {
-    switch (below(6)) {
-    case 0: request->cdb[below(MOST_CDB)] ^= (uint8_t)(1u << below(8)); break;
-    case 1: request->cdb[below(MOST_CDB)] = (uint8_t)below(256); break;
+    switch (below(&state, 6)) {
+    case 0: request->cdb[below(&state, MOST_CDB)] ^= (uint8_t)(1u << below(&state, 8)); break;
+    case 1: request->cdb[below(&state, MOST_CDB)] = (uint8_t)below(&state, 256); break;
     case 2: random_bytes(request->cdb, MOST_CDB); break;
-    case 3: request->direction = (enum direction)below(3); break;
-    case 4: request->length = below(MOST_DATA_OUT); break;
-    default: random_bytes(list + below(32), 1 + below(16));
+    case 3: request->direction = (enum direction)below(&state, 3); break;
+    case 4: request->length = below(&state, MOST_DATA_OUT); break;
+    default: random_bytes(list + below(&state, 32), 1 + below(&state, 16));
     }
 }
 
@@ -145,7 +140,7 @@ static void deform(struct request *request, uint8_t *list)
 static int next_request(struct request *request)
 {
     static uint8_t list[MOST_DATA_OUT];
-    uint32_t faults = once_in(3) ? 0 : 1 + below(3), left;
+    uint32_t faults = once_in(3) ? 0 : 1 + below(&state, 3), left;
 
     request->cdb_length = MOST_CDB;
     request->data_out = list;
@@ -214,7 +209,7 @@ static int compare(unsigned long count)
     mdl_reply reply;
 
     for (number = 1; number <= count; number++) {
-        uint32_t initiator = below(MDL_INITIATORS);
+        uint32_t initiator = below(&state, MDL_INITIATORS);
         size_t data_out;
 
         faulty += (unsigned long)next_request(&request);

@@ -20,6 +20,7 @@
 #include <unistd.h>
 
 #include "session.h"
+#include "tests/below.h"
 
 enum {
     SESSIONS = 8,
@@ -54,14 +55,6 @@ static struct session *session;
 static unsigned self;
 static uint64_t state;
 static struct answer answer;
-
-static uint32_t below(uint32_t bound)
-{
-    state ^= state >> 12;
-    state ^= state << 25;
-    state ^= state >> 27;
-    return (uint32_t)((state * 0x2545F4914F6CDD1Du) >> 33) % bound;
-}
 
 static uint64_t now(void)
 {
@@ -205,7 +198,7 @@ static void ask(void)
         { 0x00 }, { 0x03, [4] = 18 }, { 0x12, [4] = 36 }, { 0x12, 1, 0xB0, [4] = 64 }, { 0x25 },
         { 0x1A, 0, 0x3F, [4] = 192 }, { 0x9E, 0x10, [13] = 32 }, { 0x9E, 0x12, [13] = 200 }
     };
-    struct request request = request_of(cdbs[below(sizeof cdbs / sizeof *cdbs)], MOST_CDB);
+    struct request request = request_of(cdbs[below(&state, sizeof cdbs / sizeof *cdbs)], MOST_CDB);
 
     request.direction = DATA_IN;
     request.length = 255;
@@ -238,7 +231,7 @@ static void note_event(const struct request *request, struct event *event)
 /* Each session has two keys of its own. */
 static uint8_t key_of(unsigned number)
 {
-    return (uint8_t)(0x10 * (number + 1) + below(2));
+    return (uint8_t)(0x10 * (number + 1) + below(&state, 2));
 }
 
 static void reserve(void)
@@ -246,17 +239,19 @@ static void reserve(void)
     static const uint8_t actions[] = { 0, 0, 6, 6, 6, 1, 1, 2, 2, 3, 4, 4, READ_KEYS };
     static const uint8_t types[] = { 1, 3, 5, 6 };
     static uint8_t key;
-    struct event event = { .action = actions[below(sizeof actions)], .type = types[below(4)] };
+    struct event event = { .action = actions[below(&state, sizeof actions)] };
     struct request request = { .cdb = { 0x5E, [8] = 8 + 8 * SESSIONS }, .cdb_length = 10 };
     uint8_t list[24] = { 0 };
 
     if (records[self].event_count + 1 >= EVENTS)
         return;
+    event.type = types[below(&state, sizeof types)];
     request.direction = DATA_IN;
     request.length = request.cdb[8];
     if (event.action != READ_KEYS) {
-        event.key = below(8) ? key : 0;
-        event.action_key = below(4) ? key_of(event.action == 4 ? below(SESSIONS) : self) : 0;
+        event.key = below(&state, 8) ? key : 0;
+        if (below(&state, 4))
+            event.action_key = key_of(event.action == 4 ? below(&state, SESSIONS) : self);
         request.cdb[0] = 0x5F;
         request.cdb[1] = event.action;
         request.cdb[2] = event.type;
@@ -289,8 +284,8 @@ static void run_session(const char *url, uint64_t end)
     state = self + 1;
     session = log_in(url, self);
     while (now() < end) {
-        uint32_t first = below(BLOCKS - MOST_BLOCKS), count = 1 + below(MOST_BLOCKS);
-        uint32_t kind = below(64);
+        uint32_t first = below(&state, BLOCKS - MOST_BLOCKS);
+        uint32_t count = 1 + below(&state, MOST_BLOCKS), kind = below(&state, 64);
 
         if (kind < 2)
             reserve();

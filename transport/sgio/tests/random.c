@@ -21,14 +21,6 @@ static const struct row rows[] = {
     { 0x9E, 16, 0x12, 9, 13, 0 }
 };
 
-uint32_t below(uint64_t *seed, uint32_t bound)
-{
-    *seed ^= *seed >> 12;
-    *seed ^= *seed << 25;
-    *seed ^= *seed >> 27;
-    return (uint32_t)((*seed * 0x2545F4914F6CDD1Du) >> 33) % bound;
-}
-
 void random_bytes(uint64_t *seed, uint8_t *bytes, size_t length)
 {
     uint32_t zeros = 1 + below(seed, 8), bound = below(seed, 4) ? 256 : 16;

@@ -5,8 +5,7 @@
 #include <stddef.h>
 #include <stdint.h>
 
-/* A number below `bound`, from a seed that is not 0. */
-uint32_t below(uint64_t *seed, uint32_t bound);
+#include "tests/below.h"
 
 /* Bytes of which many are 0. */
 void random_bytes(uint64_t *seed, uint8_t *bytes, size_t length);
