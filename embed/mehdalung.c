@@ -6,12 +6,14 @@
 
 /* Of crates/mehdalung. Their pointers are not null. */
 uint32_t mehdalung_make(mdl_disk *disk, uint64_t blocks, uint32_t pool);
-uint32_t mehdalung_make_as(mdl_disk *disk, uint64_t blocks, uint32_t pool, const mdl_identity *identity);
+uint32_t mehdalung_make_as(mdl_disk *disk, uint64_t blocks, uint32_t pool,
+                           const mdl_identity *identity);
 void mehdalung_free(mdl_disk *disk);
-uint32_t mehdalung_execute(mdl_disk *disk, uint32_t initiator, const uint8_t *cdb, size_t cdb_length,
-                           const uint8_t *data_out, size_t data_out_length, uint8_t *data_in,
-                           size_t data_in_length, mdl_reply *reply);
+uint32_t mehdalung_execute(mdl_disk *disk, uint32_t initiator, const uint8_t *cdb,
+                           size_t cdb_length, const uint8_t *data_out, size_t data_out_length,
+                           uint8_t *data_in, size_t data_in_length, mdl_reply *reply);
 uint32_t mehdalung_power_cycle(mdl_disk *disk);
+/* The proved function takes what `fields` has as a record already, whose flags are 0 or 1. */
 uint32_t mehdalung_sense(const uint8_t *sense, size_t length, mdl_sense *fields);
 uint8_t mehdalung_exit_status(uint8_t status, const uint8_t *sense, size_t sense_length);
 size_t mehdalung_decode(uint32_t kind, const uint8_t *data_in, size_t length, uint8_t *text,
@@ -20,8 +22,14 @@ uint32_t mehdalung_tool(const uint8_t *words, size_t length, uint8_t *data_out,
                         size_t data_out_length, mdl_command *command);
 size_t mehdalung_version(uint8_t *text, size_t text_length);
 
-/* The archive writes the kind of mdl_command as 32 bits. */
-typedef char kind_has_32_bits[sizeof(mdl_kind) == sizeof(uint32_t) ? 1 : -1];
+/* The types have the sizes that the archive takes them to have. */
+#define HAS_SIZE(type, size) typedef char type##_has_its_size[sizeof(type) == (size) ? 1 : -1]
+HAS_SIZE(mdl_kind, 4);
+HAS_SIZE(mdl_disk, 8);
+HAS_SIZE(mdl_identity, 48);
+HAS_SIZE(mdl_reply, 56);
+HAS_SIZE(mdl_sense, 16);
+HAS_SIZE(mdl_command, 32);
 
 /* What no bytes are at. */
 static const uint8_t nothing[1];
@@ -68,16 +76,25 @@ mdl_error mdl_power_cycle(mdl_disk *disk)
 
 mdl_error mdl_read_sense(const uint8_t *sense, size_t length, mdl_sense *fields)
 {
+    mdl_sense read = { 0 };
+    mdl_error error;
+
     if (!sense || !fields)
         return MDL_NULL_POINTER;
-    return (mdl_error)mehdalung_sense(sense, length, fields);
+    error = (mdl_error)mehdalung_sense(sense, length, &read);
+    if (error == MDL_OK)
+        *fields = read;
+    return error;
 }
 
 int mdl_exit_status(const mdl_reply *reply)
 {
+    size_t length;
+
     if (!reply)
         return 99;
-    return mehdalung_exit_status(reply->status, reply->sense, reply->sense_length);
+    length = reply->sense_length < MDL_SENSE_LENGTH ? reply->sense_length : MDL_SENSE_LENGTH;
+    return mehdalung_exit_status(reply->status, reply->sense, length);
 }
 
 size_t mdl_decode(mdl_kind kind, const uint8_t *data_in, size_t length, char *text,

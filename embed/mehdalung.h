@@ -7,18 +7,19 @@
  * Every size is in bytes, but where a function says blocks. A block has 512 bytes.
  *
  * Memory. mdl_make takes all memory of a disk from malloc, and mdl_free gives it back. mdl_tool and
- * mdl_decode take memory for the time of the call. No other function takes or frees any. malloc and
- * free come from one allocator, which aligns a block to each power of two up to 16 that divides its
- * size. None of these functions is called from a signal handler, or from the forked child of a
- * process with threads.
+ * mdl_decode take memory for the time of the call. No other function takes or frees any. malloc,
+ * realloc and free come from one allocator; the first two align a block to each power of two up to
+ * 16 that divides its size, as those of glibc and musl do. None of these functions is called from a
+ * signal handler, or from the forked child of a process with threads.
+ *
+ * Stack. A call needs at most 64 KB of it; nothing checks that it is there.
  *
  * Pointers. A pointer is null, or points to as many bytes as the function says, which nobody else
  * reads or writes until the function returns. Memory that it may write does not overlap any other
  * that it is passed. A null pointer is refused by MDL_NULL_POINTER, or serves where this says so.
  *
- * Threads. A disk is used by one thread at a time, and stays with the thread that made it, unless
- * the program orders its use by a lock or by starting and joining threads. Many disks may be used
- * at once. The library has no state of its own.
+ * Threads. A disk is made, used and freed by one thread. Many disks may be used at once, by a
+ * thread each. The library has no state of its own.
  */
 #ifndef MEHDALUNG_H
 #define MEHDALUNG_H
@@ -56,7 +57,7 @@ typedef enum mdl_error {
     MDL_IDENTITY_TEXT = 5,    /* a text of the identity has a byte outside 20h to 7Eh */
     MDL_IDENTITY_LOCAL = 6,   /* the local identifier has more than 60 bits */
     MDL_OUT_OF_MEMORY = 7,    /* memory was refused */
-    MDL_INITIATOR = 8,        /* the initiator is not 0 to 7 */
+    MDL_NO_INITIATOR = 8,     /* the initiator is not 0 to 7 */
     MDL_BUFFER_TOO_SHORT = 9, /* the buffer has less than MDL_BUFFER_LENGTH bytes for data-in, or
                                  MDL_DATA_OUT_LENGTH for a tool's data-out */
     MDL_NULL_POINTER = 10,    /* a pointer is null that must not be */
@@ -69,12 +70,13 @@ typedef enum mdl_error {
     MDL_NUMBER = 17           /* an option's text has no value, or one that is out of range */
 } mdl_error;
 
-/* A disk, or none. It begins as MDL_NONE. The caller owns this variable and may move it, but it
- * neither reads nor writes nor copies what is inside: a copy that is used frees a disk twice. */
+/* A disk, or none. It begins as MDL_NONE. The caller owns this variable, and neither reads nor
+ * writes what is inside. It may be moved: copied once, and the old one never used again. */
 typedef struct mdl_disk {
     void *target;
 } mdl_disk;
 
+/* An initializer; all bytes 0 is the same. */
 #define MDL_NONE { 0 }
 
 /* Texts padded with spaces, without a zero, and the 60 bits of a locally assigned identifier. */
@@ -85,6 +87,12 @@ typedef struct mdl_identity {
     uint8_t serial[8];
     uint64_t local;
 } mdl_identity;
+
+/* An initializer: the standard identity. */
+#define MDL_STANDARD_IDENTITY \
+    { { 'S', 'G', 'M', 'O', 'D', 'E', 'L', ' ' }, \
+      { 'T', 'H', 'I', 'N', ' ', 'D', 'I', 'S', 'K', ' ', ' ', ' ', ' ', ' ', ' ', ' ' }, \
+      { '0', '1', '0', '0' }, { '0', '0', '0', '0', '0', '0', '0', '1' }, 1 }
 
 #define MDL_GOOD 0x00
 #define MDL_CHECK_CONDITION 0x02
@@ -102,7 +110,8 @@ typedef struct mdl_reply {
 } mdl_reply;
 
 /* Makes a disk of `blocks` blocks, of which `pool` can be mapped at once, as it is after power on:
- * no block is mapped, a unit attention, POWER ON, is pending for each initiator.
+ * no block is mapped, a unit attention, POWER ON, is pending for each initiator. It takes some 610
+ * bytes of memory for each block of the pool, and some 7,000 more.
  *     disk      MDL_NONE, or freed. It is to be freed by mdl_free
  *     identity  read during the call; null for the standard identity
  * MDL_NULL_POINTER, MDL_IDENTITY_TEXT, MDL_IDENTITY_LOCAL, MDL_DISK_EXISTS, MDL_BLOCKS, MDL_POOL or
@@ -118,7 +127,7 @@ void mdl_free(mdl_disk *disk);
  *     data_in   data_in_length bytes, MDL_BUFFER_LENGTH at least. Data-in is written to the first
  *               reply->data_in_length of them, and those behind it are as they were
  *     reply     is written
- * MDL_NULL_POINTER, MDL_INITIATOR, MDL_BUFFER_TOO_SHORT or MDL_NO_DISK: the first that applies.
+ * MDL_NULL_POINTER, MDL_NO_INITIATOR, MDL_BUFFER_TOO_SHORT or MDL_NO_DISK: the first that applies.
  * Nothing is executed then, and disk, buffer and reply are as they were. */
 mdl_error mdl_execute(mdl_disk *disk, uint32_t initiator, const uint8_t *cdb, size_t cdb_length,
                       const uint8_t *data_out, size_t data_out_length, uint8_t *data_in,
@@ -126,7 +135,8 @@ mdl_error mdl_execute(mdl_disk *disk, uint32_t initiator, const uint8_t *cdb, si
 
 /* Takes the power of a disk away and gives it back. The blocks are as they were. Registrations and
  * reservation are as they were where they persist through a power loss (APTPL), and gone where not.
- * MDL_NULL_POINTER or MDL_NO_DISK. */
+ * The saved mode pages are the current ones, PRGENERATION is 0, and POWER ON alone is pending for
+ * each initiator. MDL_NULL_POINTER or MDL_NO_DISK. */
 mdl_error mdl_power_cycle(mdl_disk *disk);
 
 /* The fields of sense data. A field that is not there is 0. */
@@ -145,12 +155,13 @@ typedef struct mdl_sense {
  * MDL_NULL_POINTER, or MDL_UNREADABLE, also for deferred errors: `fields` are as they were. */
 mdl_error mdl_read_sense(const uint8_t *sense, size_t length, mdl_sense *fields);
 
-/* The exit status that the tools of sg3_utils have for a reply. A null pointer serves as a reply
- * that has neither a known status nor sense data: 99. */
+/* The exit status that the tools of sg3_utils have for a reply.
+ *     reply  one that mdl_execute has written. Null serves as one that has neither a known status
+ *            nor sense data: 99 */
 int mdl_exit_status(const mdl_reply *reply);
 
-/* What the bytes of an answer are, by which mdl_decode prints them. docs/SCRIPT.md of the source has
- * the texts: `show` and the tools of a script print the same. */
+/* What the bytes of an answer are, by which mdl_decode prints them. docs/SCRIPT.md of the source
+ * has the texts: `show` and the tools of a script print the same. */
 typedef enum mdl_kind {
     MDL_NOTHING = 0,           /* bytes that are not printed */
     MDL_HEX = 1,               /* any bytes, in lines of sixteen */

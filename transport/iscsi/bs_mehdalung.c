@@ -248,12 +248,11 @@ static int read_size(const char **text, const char *name, uint64_t *size)
  * own: LUN 1 of target 1 has the standard one, 1. */
 static void identify(const struct scsi_lu *lu, mdl_identity *identity)
 {
+    static const mdl_identity standard = MDL_STANDARD_IDENTITY;
     char serial[sizeof identity->serial + 1];
     uint32_t number = (uint32_t)(lu->tgt->tid - 1) << 16 | (uint32_t)(lu->lun & 0xFFFF);
 
-    memcpy(identity->vendor, "SGMODEL ", sizeof identity->vendor);
-    memcpy(identity->product, "THIN DISK       ", sizeof identity->product);
-    memcpy(identity->revision, "0100", sizeof identity->revision);
+    *identity = standard;
     snprintf(serial, sizeof serial, "%08" PRIx32, number);
     memcpy(identity->serial, serial, sizeof identity->serial);
     identity->local = number;

@@ -5,15 +5,6 @@
 #include <stdlib.h>
 #include <string.h>
 
-/* The identity that the disk has where no option says otherwise: that of mdl_make without one. */
-static const mdl_identity standard = {
-    { 'S', 'G', 'M', 'O', 'D', 'E', 'L', ' ' },
-    { 'T', 'H', 'I', 'N', ' ', 'D', 'I', 'S', 'K', ' ', ' ', ' ', ' ', ' ', ' ', ' ' },
-    { '0', '1', '0', '0' },
-    { '0', '0', '0', '0', '0', '0', '0', '1' },
-    1
-};
-
 /* A number, decimal, or hexadecimal behind 0x. Signs and leading zeros of octal are not for us. */
 static int read_number(const char *text, uint64_t most, uint64_t *number)
 {
@@ -73,6 +64,7 @@ static const char *read_option(const char *name, const char *value, struct optio
 
 const char *read_options(int count, char **words, struct options *options, const char **word)
 {
+    static const mdl_identity standard = MDL_STANDARD_IDENTITY;
     const char *fault;
     int at;
 

@@ -11,8 +11,8 @@ from pathlib import Path
 BUFFER_LENGTH = 131_072
 DATA_OUT_LENGTH = 1_032
 ERRORS = ["OK", "NO_DISK", "DISK_EXISTS", "BLOCKS", "POOL", "IDENTITY_TEXT", "IDENTITY_LOCAL",
-          "OUT_OF_MEMORY", "INITIATOR", "BUFFER_TOO_SHORT", "NULL_POINTER", "UNREADABLE", "BAD_BYTE",
-          "TOO_MANY_WORDS", "UNKNOWN_TOOL", "USAGE", "EXCLUSIVE", "NUMBER"]
+          "OUT_OF_MEMORY", "NO_INITIATOR", "BUFFER_TOO_SHORT", "NULL_POINTER", "UNREADABLE",
+          "BAD_BYTE", "TOO_MANY_WORDS", "UNKNOWN_TOOL", "USAGE", "EXCLUSIVE", "NUMBER"]
 STATUSES = {0x00: "GOOD", 0x02: "CHECK CONDITION", 0x18: "RESERVATION CONFLICT"}
 
 
@@ -76,6 +76,8 @@ class Disk:
 
     def tool(self, initiator, words):
         """Executes what the words of a tool ask for, as "sg_vpd -p lbpv"."""
+        if "\0" in words:
+            raise ValueError("C would take the words to end at their NUL")
         command = Command()
         data_out = (ctypes.c_uint8 * DATA_OUT_LENGTH)()
         self._check(self.library.mdl_tool(words.encode(), data_out, DATA_OUT_LENGTH, command))

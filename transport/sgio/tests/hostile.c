@@ -166,7 +166,8 @@ static void send_one(uint64_t *seed, int connection)
 
     send_bytes(connection, request, length);
     receive_reply(connection, &reply);
-    WANT((reply.result == MDL_INITIATOR) == (request[1] > 7) && reply.result <= MDL_INITIATOR);
+    WANT((reply.result == MDL_NO_INITIATOR) == (request[1] > 7));
+    WANT(reply.result <= MDL_NO_INITIATOR);
     look_at(&reply);
 }
 

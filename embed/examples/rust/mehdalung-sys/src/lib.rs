@@ -40,8 +40,26 @@ pub struct mdl_command {
     pub data_out_length: usize,
 }
 
+#[repr(C)]
+#[derive(Clone, Copy, Default)]
+pub struct mdl_sense {
+    pub key: u8,
+    pub asc: u8,
+    pub ascq: u8,
+    pub has_information: u8,
+    pub has_pointer: u8,
+    pub in_command: u8,
+    pub byte: u16,
+    pub information: u64,
+}
+
 extern "C" {
-    pub fn mdl_make(disk: *mut mdl_disk, blocks: u64, pool: u32, identity: *const mdl_identity) -> c_uint;
+    pub fn mdl_make(
+        disk: *mut mdl_disk,
+        blocks: u64,
+        pool: u32,
+        identity: *const mdl_identity,
+    ) -> c_uint;
     pub fn mdl_free(disk: *mut mdl_disk);
     pub fn mdl_execute(
         disk: *mut mdl_disk,
@@ -61,6 +79,14 @@ extern "C" {
         command: *mut mdl_command,
     ) -> c_uint;
     pub fn mdl_power_cycle(disk: *mut mdl_disk) -> c_uint;
+    pub fn mdl_read_sense(sense: *const u8, length: usize, fields: *mut mdl_sense) -> c_uint;
     pub fn mdl_exit_status(reply: *const mdl_reply) -> c_int;
+    pub fn mdl_decode(
+        kind: c_uint,
+        data_in: *const u8,
+        length: usize,
+        text: *mut c_char,
+        text_length: usize,
+    ) -> usize;
     pub fn mdl_version(text: *mut c_char, text_length: usize) -> usize;
 }

@@ -12,7 +12,7 @@ pub enum Error {
     IdentityText,
     IdentityLocal,
     OutOfMemory,
-    Initiator,
+    NoInitiator,
     BadByte,
     TooManyWords,
     UnknownTool,
@@ -39,7 +39,7 @@ fn check(error: u32) -> Result<(), Error> {
         5 => Error::IdentityText,
         6 => Error::IdentityLocal,
         7 => Error::OutOfMemory,
-        8 => Error::Initiator,
+        8 => Error::NoInitiator,
         12 => Error::BadByte,
         13 => Error::TooManyWords,
         14 => Error::UnknownTool,
@@ -79,7 +79,8 @@ pub struct Disk {
 }
 
 impl Disk {
-    /// A disk of `blocks` blocks, of which `pool` can be mapped at once. None is the standard identity.
+    /// A disk of `blocks` blocks, of which `pool` can be mapped at once. None is the standard
+    /// identity.
     pub fn new(blocks: u64, pool: u32, identity: Option<&Identity>) -> Result<Disk, Error> {
         let mut slot = sys::mdl_disk { target: ptr::null_mut() };
         let identity = identity.map_or(ptr::null(), |i| i as *const Identity);
@@ -88,7 +89,12 @@ impl Disk {
         Ok(Disk { slot, data_in: vec![0; sys::BUFFER_LENGTH].into() })
     }
 
-    pub fn execute(&mut self, initiator: u32, cdb: &[u8], data_out: &[u8]) -> Result<Reply<'_>, Error> {
+    pub fn execute(
+        &mut self,
+        initiator: u32,
+        cdb: &[u8],
+        data_out: &[u8],
+    ) -> Result<Reply<'_>, Error> {
         let mut record = sys::mdl_reply::default();
         let (buffer, length) = (self.data_in.as_mut_ptr(), self.data_in.len());
         // SAFETY: no pointer is null, each has the bytes that its length says, and none overlap.
