@@ -45,7 +45,6 @@ static enum progress progress_of_error(void)
 /* Receives up to the end of the request and no byte of the next one. */
 static enum progress receive_request(struct client *client)
 {
-    struct request_header header;
     ssize_t length;
 
     while (client->received < client->wanted) {
@@ -55,7 +54,7 @@ static enum progress receive_request(struct client *client)
             return length < 0 ? progress_of_error() : GONE;
         client->received += (size_t)length;
         if (client->received == REQUEST_HEADER_LENGTH) {
-            client->wanted = get_request_header(client->request, &header);
+            client->wanted = get_request_header(client->request, &client->header);
             client->is_last = client->wanted == 0;
         }
     }
@@ -65,20 +64,20 @@ static enum progress receive_request(struct client *client)
 /* Executes a whole request, and leaves its reply to be sent. */
 static void execute(struct client *client, mdl_disk *disk)
 {
-    struct request_header request;
+    const struct request_header *request = &client->header;
     struct reply_header header;
     mdl_reply reply;
     const uint8_t *cdb = client->request + REQUEST_HEADER_LENGTH;
 
     memset(&header, 0, sizeof header);
     memset(&reply, 0, sizeof reply);
-    if (get_request_header(client->request, &request) == 0)
+    if (client->is_last)
         header.result = RESULT_MALFORMED;
-    else if (request.kind == POWER_CYCLE)
+    else if (request->kind == POWER_CYCLE)
         header.result = (uint8_t)mdl_power_cycle(disk);
     else
-        header.result = (uint8_t)mdl_execute(disk, request.initiator, cdb, request.cdb_length,
-                                             cdb + request.cdb_length, request.data_out_length,
+        header.result = (uint8_t)mdl_execute(disk, request->initiator, cdb, request->cdb_length,
+                                             cdb + request->cdb_length, request->data_out_length,
                                              client->reply + REPLY_HEADER_LENGTH,
                                              MDL_BUFFER_LENGTH, &reply);
     header.status = reply.status;

@@ -10,6 +10,7 @@ struct client {
     int is_last;            /* the connection is closed behind this reply */
     uint8_t *request;       /* MOST_REQUEST bytes */
     size_t received, wanted;
+    struct request_header header; /* of the request, once it has arrived */
     uint8_t *reply;         /* MOST_REPLY bytes */
     size_t sent, to_send;   /* a reply is on its way where to_send is not 0 */
 };

@@ -40,9 +40,9 @@ enum {
     REPLY_HEADER_LENGTH = 28,
     MOST_CDB = 255,
     /* Twice what a WRITE may carry, so that the disk itself refuses one that is too long. */
-    MOST_DATA_OUT = 262144,
+    MOST_DATA_OUT = 2 * MDL_BUFFER_LENGTH,
     MOST_REQUEST = REQUEST_HEADER_LENGTH + MOST_CDB + MOST_DATA_OUT,
-    MOST_REPLY = REPLY_HEADER_LENGTH + 131072
+    MOST_REPLY = REPLY_HEADER_LENGTH + MDL_BUFFER_LENGTH
 };
 
 enum request_kind { COMMAND = 1, POWER_CYCLE = 2 };

@@ -155,9 +155,12 @@ static int execute(int descriptor, sg_io_hdr_t *header, uint8_t initiator)
     exchange.initiator = initiator;
     exchange.cdb = header->cmdp;
     exchange.cdb_length = header->cmd_len;
-    exchange.data_out = data_out;
-    if (header->dxfer_direction == SG_DXFER_TO_DEV)
-        exchange.data_out_length = move_data(header, data_out, header->dxfer_len, 1);
+    if (header->dxfer_direction == SG_DXFER_TO_DEV) {
+        exchange.data_out = header->iovec_count ? data_out : header->dxferp;
+        exchange.data_out_length =
+            header->iovec_count ? move_data(header, data_out, header->dxfer_len, 1)
+                                : header->dxfer_len;
+    }
     exchange.data_in = data_in;
     exchange.timeout = timeout_of(header);
     error = exchange_command(descriptor, &exchange);
