@@ -2,6 +2,7 @@
 use crate::{Raised, UnitAttention};
 use arrayvec::ArrayVec;
 use sg_wire::Initiator;
+use std::array;
 use std::marker::Model;
 
 // How many conditions can be pending for an initiator: as many as there are.
@@ -39,16 +40,7 @@ impl Attentions {
         ensures limits { ArePending result }
     {
         Attentions {
-            pending: [
-                power_on(),
-                power_on(),
-                power_on(),
-                power_on(),
-                power_on(),
-                power_on(),
-                power_on(),
-                power_on(),
-            ],
+            pending: array::from_fn(|_| power_on()),
         }
     }
 
@@ -138,7 +130,5 @@ fn remove_first(queue: &mut ArrayVec<UnitAttention, MAX_PENDING>)
 fn is_pending(queue: &[UnitAttention], condition: UnitAttention) -> bool
     ensures { result ≡ is_pending queue.now condition }
 {
-    queue
-        .iter()
-        .any(|other| other.number() == condition.number())
+    queue.iter().any(|other| *other == condition)
 }

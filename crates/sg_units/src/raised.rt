@@ -35,13 +35,6 @@ impl Raised {
         Raised { conditions }
     }
 
-    /// The condition for an initiator, if any.
-    pub fn for_initiator(&self, initiator: Initiator) -> Option<UnitAttention>
-        ensures { result ≡ slice_index_or self.now initiator None }
-    {
-        self.conditions[usize::from(initiator.number())]
-    }
-
     // The condition for the initiator with a number.
     pub(crate) fn at(&self, number: usize) -> Option<UnitAttention>
         requires { number < initiator_count }
@@ -60,8 +53,8 @@ impl Raised {
         ensures { result ≡ raised_by before.now caller change.now }
     {
         let mut conditions = [None; Initiator::COUNT];
-        for number in 0..8 {
-            conditions[usize::from(number)] = raised_for(before, caller, change, number);
+        for number in 0..Initiator::COUNT {
+            conditions[number] = raised_for(before, caller, change, number as u8);
         }
         Raised { conditions }
     }
@@ -78,7 +71,7 @@ fn raised_for(
     ensures { result ≡ raised_for before.now caller change.now number }
 {
     let initiator = Initiator::new(number)?;
-    if initiator.number() == caller.number() || !before.has(initiator) {
+    if initiator == caller || !before.has(initiator) {
         return None;
     }
     if change.registrations.has(initiator) {

@@ -1,4 +1,4 @@
-// Registrations.
+// Who is registered, in the order of registration, and under which key.
 ghost use Rattle.std.specs.Prelude.{◌≡◌, ◌<◌, ◌≤◌, ◌==◌, [], length};
 ghost use Rattle.sg_units.specs.Registrations.{has_key, is_of, is_registered, is_registered_under};
 ghost use Rattle.sg_units.specs.Registrations.{key_of, max_registrations, with_key_replaced};
@@ -32,7 +32,7 @@ impl Registration {
     fn is_of(&self, initiator: Initiator) -> bool
         ensures { result ≡ is_of initiator self.now }
     {
-        self.initiator.number() == initiator.number()
+        self.initiator == initiator
     }
 }
 

@@ -1,4 +1,4 @@
-// The persistent reservation.
+// A persistent reservation by itself: its type, and who of the registrants holds it.
 ghost use Rattle.std.specs.Prelude.{◌≡◌};
 ghost use Rattle.sg_units.specs.ReserveOut.{released};
 ghost use Rattle.sg_units.specs.Reservations.{has_holder, holds, taken};
@@ -34,7 +34,7 @@ impl Reservation {
         ensures { result ≡ holds self.now registrant }
     {
         match self.holder {
-            Some(holder) => registrant.number() == holder.number(),
+            Some(holder) => registrant == holder,
             None => true,
         }
     }

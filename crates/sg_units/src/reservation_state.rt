@@ -1,4 +1,5 @@
-// Registrations and the persistent reservation.
+// The registrations, the reservation and PRGENERATION: who holds it, and whom it allows which
+// commands. The service actions are in the folder of this name.
 mod persistent_reserve_in;
 mod persistent_reserve_out;
 mod preempt;
@@ -56,7 +57,7 @@ impl ReservationState {
         ensures { result ≡ has_type self.now.reservation kind }
     {
         match &self.reservation {
-            Some(reservation) => reservation.kind.is(kind),
+            Some(reservation) => reservation.kind == kind,
             None => false,
         }
     }

@@ -1,4 +1,4 @@
-// Registrations and the persistent reservation.
+// Registrations and the persistent reservation for other crates: a value that is always consistent.
 use crate::reservation_state::ReservationState;
 use crate::{OutFault, OutList, Raised, ReservationChange};
 use sg_wire::{Class, Cut, Initiator, OutAction};

@@ -1,10 +1,10 @@
 // The types of persistent reservation.
 ghost use Rattle.std.specs.Prelude.{◌≡◌};
-ghost use Rattle.sg_units.specs.ReservationType.{code_of, is_all_registrants, is_same_type};
-ghost use Rattle.sg_units.specs.ReservationType.{is_shared, type_of};
+ghost use Rattle.sg_units.specs.ReservationType.{code_of, is_all_registrants, is_shared};
+ghost use Rattle.sg_units.specs.ReservationType.{type_of};
 
 /// A type of persistent reservation (SPC-4), with the code of its TYPE field.
-#[derive(Clone, Copy)]
+#[derive(Clone, Copy, PartialEq, Eq)]
 pub enum ReservationType {
     /// Write Exclusive.
     WriteExclusive = 0x01,
@@ -43,13 +43,6 @@ impl ReservationType {
         ensures { result ≡ code_of self }
     {
         self as u8
-    }
-
-    // Whether two types are the same.
-    pub(crate) fn is(self, other: ReservationType) -> bool
-        ensures { result ≡ is_same_type self other }
-    {
-        self.code() == other.code()
     }
 
     // Whether each registrant is a holder.

@@ -1,10 +1,10 @@
 // Unit attention conditions.
 ghost use Rattle.std.specs.Prelude.{◌≡◌};
-ghost use Rattle.sg_units.specs.UnitAttention.{code_of, number_of};
+ghost use Rattle.sg_units.specs.UnitAttention.{code_of};
 
 /// A unit attention condition that the disk establishes (SAM-5, 5.14), by its additional sense
 /// code.
-#[derive(Clone, Copy, Default)]
+#[derive(Clone, Copy, Default, PartialEq, Eq)]
 pub enum UnitAttention {
     /// 29h/00h, POWER ON, RESET, OR BUS DEVICE RESET OCCURRED.
     #[default]
@@ -31,13 +31,5 @@ impl UnitAttention {
             UnitAttention::ReservationsReleased => (0x2A, 0x04),
             UnitAttention::RegistrationsPreempted => (0x2A, 0x05),
         }
-    }
-
-    // Code and qualifier as one number, big-endian.
-    pub(crate) fn number(self) -> u16
-        ensures { result ≡ number_of self }
-    {
-        let (code, qualifier) = self.code();
-        256 * u16::from(code) + u16::from(qualifier)
     }
 }

@@ -9,13 +9,11 @@ loop-number-preserved c =
     let conditions = c.loop-number.conditions in
     let number = c.loop-number.number in
     let now = raised_for c.args.before.now c.args.caller c.args.change.now in
-    let e =
-    ap (λ i. set conditions i c.raised_for.result) c.from.ensures
-    ∙ ap (set conditions number) c.raised_for.ensures in
+    let e = ap (set conditions number) c.raised_for.ensures in
     let so_far = c.loop-number.invariant.raised_so_far in
     let room : number < length conditions = omega arith in
     record {
-      eight = omega (arith, length-set conditions c.from.result c.raised_for.result);
+      eight = omega (arith, length-set conditions number c.raised_for.result);
       raised_so_far =
           λ k h.
           ap (λ xs. get_or xs k None) e ∙ fill_by_more now conditions number None room so_far k h;
