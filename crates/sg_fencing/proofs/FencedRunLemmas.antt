@@ -1,8 +1,7 @@
 -- A command of the holder, in states that look alike to it; what it adds to the answers.
-use Rattle.std.proofs.Common.{◌≡◌, ◌==◌, ℕ, Bool, true, false, cond, not, ◌&&◌, List, ◌∷◌}
+use Rattle.std.proofs.Common.{◌≡◌, ℕ, Bool, true, false, cond, not, ◌&&◌, List, ◌∷◌}
 use Rattle.std.proofs.Common.{map}
-use Rattle.std.proofs.Common.{refl, sym, subst, arith}
-use Rattle.std.proofs.lemmas.Bool.Decides.{nat_tests}
+use Rattle.std.proofs.Common.{refl, sym, subst}
 use Rattle.sg_wire.specs.Layout.{command_of}
 use Rattle.sg_units.specs.Laws.{OneKeyEach}
 use Rattle.sg_fencing.specs.Fencing.{holds_alone}
@@ -32,12 +31,6 @@ pub none-more : (call : Call) (from shows : Bool) (x : Answer) (xs : List (Call 
     → from ≡ false → answers_in (cond (from && not shows) ((call, x) ∷ xs) xs) ≡ answers_in xs
 none-more call true shows x xs e = cc
 none-more call false shows x xs e = refl
-
-pub equal : (m n : ℕ) → (m == n) ≡ true → m ≡ n
-equal m n h = grind (arith, nat_tests)
-
-pub different : (m n : ℕ) → (m == n) ≡ false → m ≡ n → ⊥
-different m n h e = grind (arith, nat_tests)
 
 module _ (one : OneKeyEach) (i : ℕ) where
   pub own-step : (first second : State) (call : Call) → IsWithinLimits first → IsWithinLimits second

@@ -4,8 +4,7 @@ use Rattle.std.proofs.Common.{◌&&◌, ◌||◌, List, [], ◌∷◌, length, d
 use Rattle.std.proofs.Common.{None, refl, sym, ap, ◌∙◌, arith}
 use Rattle.std.specs.Prelude.{map}
 use Rattle.std.specs.List.{range_with_len}
-use Rattle.std.proofs.lemmas.Bool.{cases_lt, false≢true}
-use Rattle.std.proofs.lemmas.Bool.Decides.{nat_tests}
+use Rattle.std.proofs.lemmas.Bool.{and_right, cases_lt, eq-eqb, eqb-true, false≢true, ne_eqb}
 use Rattle.std.proofs.lemmas.List.{get_or-set_other, get_or_past}
 use Rattle.std.proofs.lemmas.List.FromFn.{get_or-map-range_with_len, length-map-range_with_len}
 use Rattle.sg_units.specs.Attentions.{Pending, pending_for, with_optional, without_oldest}
@@ -23,7 +22,6 @@ use Rattle.sg_units.specs.declared.types.ReservationType.{ReservationType}
 use Rattle.sg_units.specs.declared.types.ReservationType.TheVariants.{WriteExclusive}
 use Rattle.sg_units.specs.declared.types.ReservationType.TheVariants.{ExclusiveAccess}
 use Rattle.sg_units.specs.declared.types.ReservationType.TheVariants.{WriteExclusiveRegistrantsOnly}
-use Rattle.sg_units.specs.declared.types.ReservationType.TheVariants.{}
 use Rattle.sg_units.specs.declared.types.ReservationType.TheVariants.{ExclusiveAccessRegistrantsOnly}
 use Rattle.sg_units.specs.declared.types.ReservationType.TheVariants.{WriteExclusiveAllRegistrants}
 use Rattle.sg_units.specs.declared.types.ReservationType.TheVariants.{ExclusiveAccessAllRegistrants}
@@ -45,9 +43,6 @@ record Held (kind : ReservationType) (holder : Option ℕ) (registered : Bool) (
   named : holder ≡ Some i
   here : registered ≡ true
   unshared : is_shared kind ≡ false
-
-equal : (m n : ℕ) → (m == n) ≡ true → n ≡ m
-equal m n h = grind (arith, nat_tests)
 
 both : (a b x y : Bool) → (((a && b) && x) || ((a && b) && y)) ≡ true → (a ≡ true) × (b ≡ true)
 both true true x y h = (refl, refl)
@@ -72,7 +67,7 @@ held-named kind (Some holder) registered i u n h =
     let parts = both registered (i == holder) (is_same_type kind WriteExclusive)
     (is_same_type kind ExclusiveAccess) h in
     record {
-      named = ap Some (equal i holder parts.1);
+      named = ap Some (sym (eqb-true i holder parts.1));
       here = parts.0;
       unshared = u;
     }
@@ -112,10 +107,6 @@ held-in (Some reservation) rs i n h =
       unshared = parts.unshared;
     }
 
-pub or_right : (a b : Bool) → b ≡ true → (a || b) ≡ true
-or_right true b h = refl
-or_right false b h = h
-
 pub alone : (state : State) (i : ℕ) → IsWithinLimits state → holds_alone state i ≡ true
     → HoldsAlone state.reservations i
 alone state i w h =
@@ -128,21 +119,11 @@ alone state i w h =
       unshared = parts.unshared;
     }
 
-itself : (i : ℕ) → (i == i) ≡ true
-itself i = grind (arith, nat_tests)
-
 pub one-holder : (state : ReservationState) (i : ℕ) → HoldsAlone state i
     → is_one_holder state.reservation i ≡ true
-one-holder state i h = ap (λ held. is_one_holder held i) h.reservation_is ∙ itself i
+one-holder state i h = ap (λ held. is_one_holder held i) h.reservation_is ∙ eq-eqb i i refl
 
 -- ---- What is refused to others
-
-pub differ : (i j : ℕ) → (j ≡ i → ⊥) → (j == i) ≡ false
-differ i j h = grind (arith, nat_tests)
-
-and_no : (a b : Bool) → b ≡ false → (a && b) ≡ false
-and_no true b h = h
-and_no false b h = refl
 
 pub refuses-others : OthersAreRefused → (state : ReservationState) (i j : ℕ) → (j ≡ i → ⊥)
     → (h : HoldsAlone state i)
@@ -151,16 +132,16 @@ refuses-others refuses state i j other h =
     let rs = state.registrations in
     refuses state (record { kind = h.kind; holder = Some i }) j h.reservation_is
     (ap (λ held. is_held_by held rs j) h.reservation_is
-    ∙ and_no (is_registered rs j) (j == i) (differ i j other))
-    (and_no (is_registered rs j) (is_shared h.kind) h.unshared)
+    ∙ and_right (is_registered rs j) (j == i) (ne_eqb j i other))
+    (and_right (is_registered rs j) (is_shared h.kind) h.unshared)
 
 excludes : (a : Bool) (kind : ReservationType) → (a && is_same_type kind ExclusiveAccess) ≡ true
     → is_exclusive_access kind ≡ true
 excludes a ExclusiveAccess h = refl
-excludes a WriteExclusive h = absurd (false≢true (sym (and_no a false refl) ∙ h))
-excludes a WriteExclusiveRegistrantsOnly h = absurd (false≢true (sym (and_no a false refl) ∙ h))
+excludes a WriteExclusive h = absurd (false≢true (sym (and_right a false refl) ∙ h))
+excludes a WriteExclusiveRegistrantsOnly h = absurd (false≢true (sym (and_right a false refl) ∙ h))
 excludes a ExclusiveAccessRegistrantsOnly h = refl
-excludes a WriteExclusiveAllRegistrants h = absurd (false≢true (sym (and_no a false refl) ∙ h))
+excludes a WriteExclusiveAllRegistrants h = absurd (false≢true (sym (and_right a false refl) ∙ h))
 excludes a ExclusiveAccessAllRegistrants h = refl
 
 pub is-exclusive : (state : State) (i : ℕ) → (h : HoldsAlone state.reservations i)

@@ -3,7 +3,7 @@ use Rattle.std.proofs.Common.{◌≡◌, ◌==◌, ℕ, Bool, true, false, cond,
 use Rattle.std.proofs.Common.{None, Result, Ok, Err, refl, sym, ap, ◌∙◌, subst}
 use Rattle.std.specs.Prelude.{unwrap_or}
 use Rattle.std.specs.Result.{result_map_both}
-use Rattle.std.proofs.lemmas.Bool.{false≢true}
+use Rattle.std.proofs.lemmas.Bool.{false≢true, ne_eqb}
 use Rattle.sg_wire.specs.CutAnswer.{first_bytes}
 use Rattle.sg_wire.specs.Layout.{command_of}
 use Rattle.sg_wire.specs.OutList.{list_length, out_list}
@@ -41,7 +41,6 @@ use Rattle.sg_target.specs.declared.refusal.Refusal.{Refusal}
 use Rattle.sg_target.specs.declared.refusal.Refusal.TheVariants.{Check}
 use Rattle.sg_fencing.specs.Group.{IsSeen, registering_list}
 use Rattle.sg_fencing.specs.Registrants.{is_registering, is_registrant}
-use Rattle.sg_fencing.proofs.HolderLemmas.{differ}
 use Rattle.sg_fencing.proofs.LiftLemmas.{lifted}
 use Rattle.sg_fencing.proofs.OperationLemmas.{listed}
 use Rattle.sg_fencing.proofs.OthersLemmas.{changed-keeps}
@@ -64,12 +63,13 @@ module _ (state : ReservationState) (j : ℕ) (unknown : is_registered state.reg
   abbrev pub AddsIf : ReservationChange → Type 0
   AddsIf change = is_registered change.registrations j ≡ true → Adds state j list change
 
-  register-adds : FirstIs AddsIf (register_cases state j list.service_action_key list.aptpl)
+  register-adds : FirstIs (EffectIs AddsIf) (register_cases state j list.service_action_key list.aptpl)
   unfolding register_cases
   register-adds =
-      case_or AddsIf _ _ (λ _. effective AddsIf _ (λ known. absurd (false≢true (sym unknown ∙ known))))
-      (λ _. case_or AddsIf _ _ (λ _. refused AddsIf _)
-      (λ _. case_or AddsIf _ _
+      case_or (EffectIs AddsIf) _ _
+      (λ _. effective AddsIf _ (λ known. absurd (false≢true (sym unknown ∙ known))))
+      (λ _. case_or (EffectIs AddsIf) _ _ (λ _. refused AddsIf _)
+      (λ _. case_or (EffectIs AddsIf) _ _
       (λ _. effective AddsIf _ (λ _. record {
         registrations = refl;
         reservation = refl;
@@ -89,8 +89,8 @@ module _ (state : ReservationState) (j : ℕ) (unknown : is_registered state.reg
   unfolding outcome
   outcome-adds action scope_type h =
       let accepts = accepts_key state.registrations j action list.reservation_key in
-      choice AddsIf (has_unsupported_flag action list) _ _ (λ _. refused AddsIf (Field 20))
-      (λ _. choice AddsIf (not accepts) _ _ (λ _. refused AddsIf Conflict)
+      choice (EffectIs AddsIf) (has_unsupported_flag action list) _ _ (λ _. refused AddsIf (Field 20))
+      (λ _. choice (EffectIs AddsIf) (not accepts) _ _ (λ _. refused AddsIf Conflict)
       (λ _. action-adds action (type_of scope_type) h))
 
 -- ---- The command
@@ -111,7 +111,7 @@ module _ (state : State) (j : ℕ) (w : IsWithinLimits state) (unknown : is_regi
 
   abbrev LeavesOthers : Outcome → Type 0
   LeavesOthers o =
-      (i : ℕ) (other : j ≡ i → ⊥) → EffectIs (Leaves state.reservations i j (differ i j other) unknown) o
+      (i : ℕ) (other : j ≡ i → ⊥) → EffectIs (Leaves state.reservations i j (ne_eqb j i other) unknown) o
 
   change-seen : (change : ReservationChange) → Adds state.reservations j list change
       → LeavesOthers (Ok change) → IsSeen state (changing_reservations state j change).after j list
@@ -146,7 +146,7 @@ module _ (state : State) (j : ℕ) (w : IsWithinLimits state) (unknown : is_regi
   registering-seen action scope_type h =
       outcome-seen (outcome state.reservations j action scope_type list)
       (outcome-adds state.reservations j unknown list action scope_type h)
-      (λ i other. outcome-leaves state.reservations i j (differ i j other) unknown action scope_type list)
+      (λ i other. outcome-leaves state.reservations i j (ne_eqb j i other) unknown action scope_type list)
 
   registering : (b : Bool) (own : OutList) → cond b (Some own) None ≡ Some list
       → (b ≡ true) × (own ≡ list)

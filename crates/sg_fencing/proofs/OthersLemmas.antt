@@ -2,6 +2,7 @@
 use Rattle.std.proofs.Common.{◌≡◌, ℕ, true, false, List}
 use Rattle.std.proofs.Common.{Option, Some, None, Result, Ok, Err, refl, sym, ◌∙◌, subst}
 use Rattle.std.specs.Result.{result_map_both}
+use Rattle.std.proofs.lemmas.Bool.{ne_eqb}
 use Rattle.sg_wire.specs.Laws.{CommandsHaveTheirClass}
 use Rattle.sg_wire.specs.declared.command.Class.TheVariants.{Writes}
 use Rattle.sg_wire.specs.declared.command.out_action.OutAction.{OutAction}
@@ -36,7 +37,7 @@ use Rattle.sg_fencing.proofs.LiftLemmas.{lifted}
 use Rattle.sg_target.specs.Laws.{LimitsAreKept}
 use Rattle.sg_fencing.specs.Fencing.{holds_alone, view_of}
 use Rattle.sg_fencing.proofs.AccessLemmas.{asked-is-allowed}
-use Rattle.sg_fencing.proofs.HolderLemmas.{HoldsAlone, alone, cleared-other, differ, one-holder}
+use Rattle.sg_fencing.proofs.HolderLemmas.{HoldsAlone, alone, cleared-other, one-holder}
 use Rattle.sg_fencing.proofs.HolderLemmas.{raised-none, raised-others, refuses-others, same-view}
 use Rattle.sg_fencing.proofs.OperationLemmas.{class_for}
 
@@ -167,7 +168,7 @@ module _ (state : State) (i j : ℕ) (other : j ≡ i → ⊥) (h : HoldsAlone s
       λ d. record state.reservations { reservation = sym h.reservation_is d } in
       subst (λ (r : ReservationState). EffectIs P (outcome r j action scope_type list)) is
       (outcome_leaves rs h.kind state.reservations i j action scope_type list h.registered
-      (differ i j other))
+      (ne_eqb j i other))
 
   reserving-keeps : (action : OutAction) (scope_type : ℕ) (list : OutList)
       → HolderKeeps (when_sound (reservation_change state j action scope_type list)

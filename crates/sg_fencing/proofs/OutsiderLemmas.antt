@@ -1,10 +1,9 @@
 -- What a command of an initiator that is not registered leaves of a disk that is reserved.
 use Rattle.std.proofs.Common.{◌≡◌, ◌==◌, ℕ, Bool, true, false, not, ◌&&◌, List}
-use Rattle.std.proofs.Common.{Option, Some, None, Result, Ok, Err, refl, sym, ap, ◌∙◌, arith}
+use Rattle.std.proofs.Common.{Option, Some, None, Result, Ok, Err, refl, sym, ap, ◌∙◌}
 use Rattle.std.specs.Prelude.{is_some}
 use Rattle.std.specs.Result.{result_map_both}
-use Rattle.std.proofs.lemmas.Bool.{false≢true}
-use Rattle.std.proofs.lemmas.Bool.Decides.{nat_tests}
+use Rattle.std.proofs.lemmas.Bool.{and_left, eqb-true, false≢true, ne_eqb}
 use Rattle.sg_wire.specs.Laws.{CommandsHaveTheirClass}
 use Rattle.sg_wire.specs.Layout.{command_of}
 use Rattle.sg_wire.specs.declared.command.CdbFault.{CdbFault}
@@ -29,17 +28,12 @@ use Rattle.sg_target.specs.ReservationCommands.{reservation_change}
 use Rattle.sg_target.specs.State.{IsWithinLimits, State}
 use Rattle.sg_target.specs.Step.{step}
 use Rattle.sg_fencing.specs.Registrants.{excludes_reading, is_fenced_off, is_registering, registers}
-use Rattle.sg_fencing.proofs.HolderLemmas.{differ}
 use Rattle.sg_fencing.proofs.OthersLemmas.{EffectKeeps, Keeps, changed-keeps, step-keeps}
 use Rattle.sg_fencing.proofs.OperationLemmas.{is_of_kind}
 use Rattle.sg_fencing.proofs.RegistrationLemmas.{IsUnknown, Leaves, outcome-leaves, outcome-unknown}
 use Rattle.sg_fencing.proofs.StandingLemmas.{EffectStands, step-stands}
 
 -- ---- What is refused to it
-
-and_no : (a b : Bool) → a ≡ false → (a && b) ≡ false
-and_no true b h = absurd (false≢true (sym h))
-and_no false b h = refl
 
 pub record IsShutOff (state : ReservationState) (j : ℕ) : Type 0 where
   pub writes : allows state j Writes ≡ false
@@ -53,8 +47,8 @@ shut-off refuses state (Some r) j e some unknown =
     let rs = state.registrations in
     let is_refused =
     refuses state r j e
-    (ap (λ h. is_held_by h rs j) e ∙ and_no (is_registered rs j) (holds r j) unknown)
-    (and_no (is_registered rs j) (is_shared r.kind) unknown) in
+    (ap (λ h. is_held_by h rs j) e ∙ and_left (is_registered rs j) (holds r j) unknown)
+    (and_left (is_registered rs j) (is_shared r.kind) unknown) in
     record {
       writes = is_refused.writes;
       reads = λ exclusive. is_refused.reads (sym (ap excludes_reading e) ∙ exclusive);
@@ -88,7 +82,7 @@ module _ (refuses : OthersAreRefused) (classes : CommandsHaveTheirClass) (state 
   Always after = Unit {0}
 
   abbrev L : ReservationChange → Type 0
-  L = Leaves state.reservations i j (differ i j other) h.unknown
+  L = Leaves state.reservations i j (ne_eqb j i other) h.unknown
 
   changing-keeps : (o : Outcome) → EffectIs L o
       → EffectKeeps Always state i j other
@@ -104,7 +98,7 @@ module _ (refuses : OthersAreRefused) (classes : CommandsHaveTheirClass) (state 
   unfolding reservation_change
   reserving-keeps action scope_type list =
       changing-keeps (outcome state.reservations j action scope_type list)
-      (outcome-leaves state.reservations i j (differ i j other) h.unknown action scope_type list)
+      (outcome-leaves state.reservations i j (ne_eqb j i other) h.unknown action scope_type list)
 
   pub outsider-keeps : (cdb data_out : List ℕ) → Keeps state (step state j cdb data_out).state i
   outsider-keeps cdb data_out =
@@ -112,9 +106,6 @@ module _ (refuses : OthersAreRefused) (classes : CommandsHaveTheirClass) (state 
       data_out tt
 
 -- ---- Who stays unregistered
-
-equal : (m n : ℕ) → (m == n) ≡ true → m ≡ n
-equal m n h = grind (arith, nat_tests)
 
 module _ (state : State) (i j : ℕ)
     (unknown : is_registered state.reservations.registrations i ≡ false) where
@@ -155,7 +146,7 @@ module _ (state : State) (i j : ℕ)
   of-kind : (parsed : Result Command CdbFault) → (j ≡ i → registers parsed ≡ false)
       → is_of_kind spares parsed ≡ true
   of-kind (Ok (PersistentReserveOut c)) h =
-      spared (is_registering c.action) (j == i) (λ e. h (equal j i e))
+      spared (is_registering c.action) (j == i) (λ e. h (eqb-true j i e))
   of-kind (Ok _) h = refl
   of-kind (Err fault) h = refl
 

@@ -1,11 +1,11 @@
 -- The holder's own commands end alike where its views are equal.
-use Rattle.std.proofs.Common.{◌≡◌, ◌==◌, ℕ, Bool, true, not, ◌||◌, List}
+use Rattle.std.proofs.Common.{◌≡◌, ℕ, Bool, true, not, ◌||◌, List}
 use Rattle.std.proofs.Common.{get_or, Option, Some, None, Result, Ok, Err, refl, sym, ap}
 use Rattle.std.proofs.Common.{◌∙◌}
 use Rattle.std.proofs.Common.{subst, arith}
 use Rattle.std.specs.Prelude.{if◌then◌else◌, is_some}
 use Rattle.std.specs.Result.{result_map_both}
-use Rattle.std.proofs.lemmas.Bool.{false≢true}
+use Rattle.std.proofs.lemmas.Bool.{eq-eqb, false≢true}
 use Rattle.std.proofs.lemmas.Bool.Decides.{nat_tests}
 use Rattle.sg_wire.specs.Layout.{command_of}
 use Rattle.sg_wire.specs.declared.command.CdbFault.{CdbFault}
@@ -53,9 +53,6 @@ record Becomes (state : State) (i : ℕ) (left : Left) (after : State) : Type 0 
   identity : after.identity ≡ state.identity
   view : view_of after i ≡ view_with state i left
 
-itself : (i : ℕ) → (i == i) ≡ true
-itself i = grind (arith, nat_tests)
-
 module _ (state : State) (i : ℕ) (w : IsWithinLimits state) where
   abbrev rs : List Registration
   rs = state.reservations.registrations
@@ -68,7 +65,7 @@ module _ (state : State) (i : ℕ) (w : IsWithinLimits state) where
       (λ (b : Bool).
       if b || not (is_registered rs i) then None
       else (if is_registered change.registrations i then change.for_remaining else change.for_removed))
-      (itself i) in
+      (eq-eqb i i refl) in
       raised-none (raised_for rs i change) i for_caller
 
   changed : (change : ReservationChange)

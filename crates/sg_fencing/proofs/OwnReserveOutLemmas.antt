@@ -5,13 +5,12 @@ use Rattle.std.proofs.Common.{List}
 use Rattle.std.proofs.Common.{[], ◌∷◌, length, Option, Some, None, Ok, Err, refl, sym, ap, ◌∙◌}
 use Rattle.std.proofs.Common.{arith}
 use Rattle.std.specs.Prelude.{if◌then◌else◌, is_some}
-use Rattle.std.proofs.lemmas.Bool.{false≢true, not-false}
+use Rattle.std.proofs.lemmas.Bool.{and_from, eq-eqb, false≢true, not-false, not-true, or_left}
 use Rattle.std.proofs.lemmas.Bool.Decides.{nat_tests}
 use Rattle.sg_wire.specs.declared.command.out_action.OutAction.{OutAction}
 use Rattle.sg_wire.specs.declared.command.out_action.OutAction.TheVariants.{Register, Reserve}
 use Rattle.sg_wire.specs.declared.command.out_action.OutAction.TheVariants.{Release, Clear, Preempt}
 use Rattle.sg_wire.specs.declared.command.out_action.OutAction.TheVariants.{PreemptAndAbort}
-use Rattle.sg_wire.specs.declared.command.out_action.OutAction.TheVariants.{}
 use Rattle.sg_wire.specs.declared.command.out_action.OutAction.TheVariants.{RegisterAndIgnoreExistingKey}
 use Rattle.sg_wire.specs.declared.command.Class.{Class}
 use Rattle.sg_units.specs.Access.{allowed, allows, standing_of}
@@ -22,7 +21,7 @@ use Rattle.sg_units.specs.Registrations.{key_of, registration, with_key_replaced
 use Rattle.sg_units.specs.Registrations.{without_initiator, without_key}
 use Rattle.sg_units.specs.Reservations.{IsConsistent, has_type, is_holder, taken, while_held}
 use Rattle.sg_units.specs.ReservationType.{type_of}
-use Rattle.sg_units.specs.ReserveOut.{Case, Outcome, accepts_key, action_outcome, first_case}
+use Rattle.sg_units.specs.ReserveOut.{Outcome, accepts_key, action_outcome}
 use Rattle.sg_units.specs.ReserveOut.{outcome}
 use Rattle.sg_units.specs.ReserveOut.{preempt_cases, preempted, register_cases, release_cases}
 use Rattle.sg_units.specs.ReserveOut.{reserve_cases, state_after, with_type}
@@ -33,6 +32,7 @@ use Rattle.sg_units.specs.declared.reservation.Reservation.{Reservation}
 use Rattle.sg_units.specs.declared.reservation_change.ReservationChange.{ReservationChange}
 use Rattle.sg_units.specs.declared.reservation_state.ReservationState.{ReservationState}
 use Rattle.sg_units.specs.declared.types.ReservationType.{ReservationType}
+use Rattle.sg_units.proofs.OutcomeLemmas.{FirstIs, case_or, choice, last_case}
 use Rattle.sg_fencing.proofs.ReserveOutLemmas.{alone_in, held_alone, key_of-cons, key_of-filter}
 use Rattle.sg_fencing.proofs.ReserveOutLemmas.{key_of-without_key, is_registered-key_of}
 use Rattle.sg_fencing.proofs.ReserveOutLemmas.{only-key_of, stays_registered, under-key_of}
@@ -81,14 +81,11 @@ replaced-first r rs i key false e self rest h =
     key_of-cons r (with_key_replaced rs i key) i
     ∙ (ap (λ b. cond b (Some r.key) (key_of (with_key_replaced rs i key) i)) e ∙ rest h)
 
-itself : (i : ℕ) → (i == i) ≡ true
-itself i = grind (arith, nat_tests)
-
 key_of-own_replaced : (rs : List Registration) (i key : ℕ) → is_registered rs i ≡ true
     → key_of (with_key_replaced rs i key) i ≡ Some key
 key_of-own_replaced [] i key h = absurd (false≢true h)
 key_of-own_replaced (r ∷ rs) i key h =
-    replaced-first r rs i key (is_of i r) refl (itself i) (key_of-own_replaced rs i key) h
+    replaced-first r rs i key (is_of i r) refl (eq-eqb i i refl) (key_of-own_replaced rs i key) h
 
 -- ---- What is left
 
@@ -103,33 +100,6 @@ left_of state i = (key_of state.registrations i, state.reservation)
 pub record Leaves (state : ReservationState) (i : ℕ) (left : Left) (o : Outcome) : Type 0 where
   pub left_is : left_of (state_after state o) i ≡ left
 
-record CasesLeave (state : ReservationState) (i : ℕ) (left : Left) (cases : List Case) : Type 0 where
-  first : Leaves state i left (first_case cases)
-
-either : (state : ReservationState) (i : ℕ) (left : Left) (b : Bool) (x y : Outcome)
-    → (b ≡ true → Leaves state i left x) → (b ≡ false → Leaves state i left y)
-    → Leaves state i left (cond b x y)
-either state i left true x y f g = f refl
-either state i left false x y f g = g refl
-
-case_or : (state : ReservationState) (i : ℕ) (left : Left) (case : Case) (cases : List Case)
-    → (case.condition ≡ true → Leaves state i left case.outcome)
-    → (case.condition ≡ false → CasesLeave state i left cases)
-    → CasesLeave state i left (case ∷ cases)
-case_or state i left case cases f g = record {
-  first =
-      either state i left case.condition case.outcome (first_case cases) f (λ h. (g h).first);
-}
-
-last_case : (state : ReservationState) (i : ℕ) (left : Left) (case : Case) (cases : List Case)
-    → case.condition ≡ true → Leaves state i left case.outcome
-    → CasesLeave state i left (case ∷ cases)
-last_case state i left case cases e h = record {
-  first =
-      either state i left case.condition case.outcome (first_case cases) (λ _. h)
-      (λ no. absurd (false≢true (sym no ∙ e)));
-}
-
 at : (state : ReservationState) (i : ℕ) (left left' : Left) (o : Outcome) → left ≡ left'
     → Leaves state i left' o → Leaves state i left o
 at state i left left' o e h = record { left_is = h.left_is ∙ sym e }
@@ -142,22 +112,10 @@ not_true : (b : Bool) → b ≡ true → not b ≡ true → ⊥
 not_true true e h = false≢true h
 not_true false e h = false≢true e
 
-and_both : (a b : Bool) → a ≡ true → b ≡ true → (a && b) ≡ true
-and_both true b e f = f
-and_both false b e f = absurd (false≢true e)
-
 or_not_known : (a known b : Bool) → known ≡ true → (a || (not known && b)) ≡ a
 or_not_known true known b e = refl
 or_not_known false true b e = refl
 or_not_known false false b e = absurd (false≢true e)
-
-kept : (a b : Bool) → a ≡ true → (a || b) ≡ true
-kept true b e = refl
-kept false b e = absurd (false≢true e)
-
-not_so : (b : Bool) → not b ≡ true → b ≡ false
-not_so true h = absurd (false≢true h)
-not_so false h = refl
 
 -- i is registered under k, and the one holder of a reservation
 module _ (all : List Registration) (kind : ReservationType) (before : ReservationState) (i k : ℕ) where
@@ -194,43 +152,43 @@ module _ (all : List Registration) (kind : ReservationType) (before : Reservatio
       ap (λ b. if b then held else None) gone
 
   register_leaves : (sark : ℕ) (aptpl : Bool) → key_of all i ≡ Some k
-      → CasesLeave state i (register_left sark) (register_cases state i sark aptpl)
+      → FirstIs (Leaves state i (register_left sark)) (register_cases state i sark aptpl)
   unfolding register_cases
   register_leaves sark aptpl key =
       let v = register_left sark in
       let known = is_registered all i in
       let is = here key in
-      case_or state i v _ _ (λ h. absurd (not_known known (sark == 0) is h))
-      (λ _. case_or state i v _ _ (λ h. absurd (not_known known (length all == 6) is h))
-      (λ _. case_or state i v _ _ (λ h. absurd (not_true known is h))
-      (λ _. case_or state i v _ _
-      (λ other. at state i v (Some sark, held) _ (ap (λ b. register_or b sark) (not_so _ other))
+      case_or (Leaves state i v) _ _ (λ h. absurd (not_known known (sark == 0) is h))
+      (λ _. case_or (Leaves state i v) _ _ (λ h. absurd (not_known known (length all == 6) is h))
+      (λ _. case_or (Leaves state i v) _ _ (λ h. absurd (not_true known is h))
+      (λ _. case_or (Leaves state i v) _ _
+      (λ other. at state i v (Some sark, held) _ (ap (λ b. register_or b sark) (not-true _ other))
       (leaves _ (Some sark, held) (key_of-own_replaced all i sark is) refl))
-      (λ zero. last_case state i v _ _ refl
+      (λ zero. last_case (Leaves state i v) _ _ refl
       (at state i v (None, None) _ (ap (λ b. register_or b sark) (not-false _ zero))
       (leaves _ (None, None) (key_of-unregistered all i) ended))))))
 
   reserve_leaves : (new : ReservationType) → key_of all i ≡ Some k
-      → CasesLeave state i as_before (reserve_cases state i new)
+      → FirstIs (Leaves state i as_before) (reserve_cases state i new)
   unfolding reserve_cases
   reserve_leaves new key =
-      case_or state i as_before _ _ (λ no. absurd (false≢true no))
-      (λ _. case_or state i as_before _ _ (λ _. leaves _ as_before key refl)
-      (λ _. last_case state i as_before _ _ refl (refuses _ key)))
+      case_or (Leaves state i as_before) _ _ (λ no. absurd (false≢true no))
+      (λ _. case_or (Leaves state i as_before) _ _ (λ _. leaves _ as_before key refl)
+      (λ _. last_case (Leaves state i as_before) _ _ refl (refuses _ key)))
 
   abbrev release_or : Bool → Left
   release_or same = if same then (Some k, None) else as_before
 
   release_leaves : (new : ReservationType) → key_of all i ≡ Some k
-      → CasesLeave state i (release_or (has_type held new)) (release_cases state i new)
+      → FirstIs (Leaves state i (release_or (has_type held new))) (release_cases state i new)
   unfolding release_cases
   release_leaves new key =
       let v = release_or (has_type held new) in
-      let holds : is_holder state i ≡ true = and_both _ (i == i) (here key) (itself i) in
-      case_or state i v _ _ (λ h. absurd (not_true (is_holder state i) holds h))
-      (λ _. case_or state i v _ _
-      (λ other. at state i v as_before _ (ap release_or (not_so _ other)) (refuses _ key))
-      (λ same. last_case state i v _ _ refl
+      let holds : is_holder state i ≡ true = and_from _ (i == i) (here key) (eq-eqb i i refl) in
+      case_or (Leaves state i v) _ _ (λ h. absurd (not_true (is_holder state i) holds h))
+      (λ _. case_or (Leaves state i v) _ _
+      (λ other. at state i v as_before _ (ap release_or (not-true _ other)) (refuses _ key))
+      (λ same. last_case (Leaves state i v) _ _ refl
       (at state i v (Some k, None) _ (ap release_or (not-false _ same)) (leaves _ (Some k, None) key refl))))
 
   abbrev taken_left : Option ReservationType → Left
@@ -248,28 +206,28 @@ module _ (all : List Registration) (kind : ReservationType) (before : Reservatio
 
   preempt_leaves : (type : Option ReservationType) (sark : ℕ) → IsUnderAlone all i k
       → key_of all i ≡ Some k
-      → CasesLeave state i (preempt_or (sark == 0) (k == sark) type)
+      → FirstIs (Leaves state i (preempt_or (sark == 0) (k == sark) type))
       (preempt_cases state i type sark)
   unfolding preempt_cases
   preempt_leaves type sark one key =
       let v = preempt_or (sark == 0) (k == sark) type in
       let stay = λ (r : Registration). is_of i r || not (is_under sark r) in
       let under = one sark in
-      case_or state i v _ _
+      case_or (Leaves state i v) _ _
       (λ zero. at state i v as_before _ (ap (λ b. preempt_or b (k == sark) type) zero) (refuses _ key))
-      (λ no. case_or state i v _ _
+      (λ no. case_or (Leaves state i v) _ _
       (λ own. at state i v (taken_left type) _
       (ap (λ b. preempt_or b (k == sark) type) no
       ∙ ap (λ b. preempt_or false b type) (sym under ∙ own))
       (takes type _ key
-      (key_of-filter stay i (λ r e. kept (is_of i r) (not (is_under sark r)) e) all ∙ key)))
+      (key_of-filter stay i (λ r e. or_left (is_of i r) (not (is_under sark r)) e) all ∙ key)))
       (λ other.
       let before : v ≡ as_before =
       ap (λ b. preempt_or b (k == sark) type) no
       ∙ ap (λ b. preempt_or false b type) (sym under ∙ other) in
-      case_or state i v _ _ (λ none. absurd (false≢true none))
-      (λ _. case_or state i v _ _ (λ _. at state i v as_before _ before (refuses _ key))
-      (λ _. last_case state i v _ _ refl
+      case_or (Leaves state i v) _ _ (λ none. absurd (false≢true none))
+      (λ _. case_or (Leaves state i v) _ _ (λ _. at state i v as_before _ before (refuses _ key))
+      (λ _. last_case (Leaves state i v) _ _ refl
       (let gone = key_of-without_key all i sark other in
       let left = stays_registered all (without_key all sark) i gone (here key) in
       at state i v as_before _ before
@@ -343,9 +301,9 @@ module _ (all : List Registration) (kind : ReservationType) (before : Reservatio
       let left = action_left action (type_of scope_type) list.service_action_key in
       let not_own = not (accepts action list.reservation_key) in
       let is_own = ap not (accepts-key action list.reservation_key one key) in
-      either state i v flag _ _
+      choice (Leaves state i v) flag _ _
       (λ is. at state i v as_before _ (ap (λ b. left_or b not_own left) is) (refuses _ key))
-      (λ no. either state i v (not (accepts_key all i action list.reservation_key)) _ _
+      (λ no. choice (Leaves state i v) (not (accepts_key all i action list.reservation_key)) _ _
       (λ refused. at state i v as_before _
       (ap (λ b. left_or b not_own left) no ∙ ap (λ b. left_or false b left) (sym is_own ∙ refused))
       (refuses _ key))

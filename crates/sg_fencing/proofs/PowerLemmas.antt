@@ -46,9 +46,9 @@ drops state h = record {
   reservation = ap (λ b. (left b state.reservations).reservation) h;
 }
 
-pub told : (state : State) (i : ℕ) → i < initiator_count
+pub power-on-pending : (state : State) (i : ℕ) → i < initiator_count
     → pending_for (after_power_cycle state).attentions i ≡ PowerOn ∷ []
-told state i h = get_or-replicate initiator_count i (PowerOn ∷ []) [] h
+power-on-pending state i h = get_or-replicate initiator_count i (PowerOn ∷ []) [] h
 
 same-twice : (registrations : List Registration) (reservation : Option Reservation)
     (generation : ℕ) (persists : Bool) →

@@ -3,6 +3,7 @@
 use Rattle.std.proofs.Common.{◌≡◌, ℕ, suc, Bool, true, false, cond, ◌&&◌, List, [], ◌∷◌, Some}
 use Rattle.std.proofs.Common.{filter, map, take, refl, sym, ap, ◌∙◌, zero}
 use Rattle.std.specs.List.{zip}
+use Rattle.std.proofs.lemmas.Bool.{eqb-false, eqb-true}
 use Rattle.std.proofs.lemmas.List.{take-map}
 use Rattle.sg_wire.specs.Laws.{CommandsHaveTheirClass}
 use Rattle.sg_wire.specs.Layout.{command_of}
@@ -29,7 +30,7 @@ use Rattle.sg_target.specs.declared.event.Event.{Event}
 use Rattle.sg_target.specs.declared.event.Event.TheVariants as event
 use Rattle.sg_target.specs.Laws.{LimitsAreKept}
 use Rattle.sg_fencing.proofs.AlikeLemmas.{StepsAlike}
-use Rattle.sg_fencing.proofs.FencedRunLemmas.{both-more, different, equal, none-more, own-step}
+use Rattle.sg_fencing.proofs.FencedRunLemmas.{both-more, none-more, own-step}
 use Rattle.sg_fencing.proofs.OthersLemmas.{others-keep}
 use Rattle.sg_fencing.proofs.PowerLemmas.{keeps}
 
@@ -136,7 +137,7 @@ module _ (limits : LimitsAreKept) (refuses : OthersAreRefused) (one : OneKeyEach
       → AreAlike (event.Call call ∷ events) (cond is_own (event.Call call ∷ own) own)
   by-caller call events own true e rest first second a held persist =
       let h = own-step one i first second call a.first_within a.second_within a.identity a.view (held 0)
-      (equal call.initiator i e) in
+      (eqb-true call.initiator i e) in
       let next : LookAlike (step_of first call).state (step_of second call).state i = record {
         first_within = limits.command first call.initiator call.cdb.now call.data_out.now a.first_within;
         second_within = limits.command second call.initiator call.cdb.now call.data_out.now a.second_within;
@@ -148,7 +149,7 @@ module _ (limits : LimitsAreKept) (refuses : OthersAreRefused) (one : OneKeyEach
       (λ n at. persist (suc n) at))
   by-caller call events own false e rest first second a held persist =
       let h = others-keep limits refuses classes first i call.initiator call.cdb.now call.data_out.now
-      a.first_within (different call.initiator i e) (held 0) (held 1) in
+      a.first_within (eqb-false call.initiator i e) (held 0) (held 1) in
       let next : LookAlike (step_of first call).state second i = record {
         first_within = limits.command first call.initiator call.cdb.now call.data_out.now a.first_within;
         second_within = a.second_within;

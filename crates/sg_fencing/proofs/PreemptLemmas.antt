@@ -3,7 +3,7 @@ use Rattle.std.proofs.Common.{◌≡◌, ◌==◌, ℕ, Bool, true, false, cond,
 use Rattle.std.proofs.Common.{[], ◌∷◌, filter, length, Option, Some, None, Result, Ok, Err}
 use Rattle.std.proofs.Common.{refl, sym, ap, ◌∙◌, subst, arith}
 use Rattle.std.specs.Result.{result_map_both}
-use Rattle.std.proofs.lemmas.Bool.{false≢true}
+use Rattle.std.proofs.lemmas.Bool.{false≢true, ne_eqb, or_right}
 use Rattle.std.proofs.lemmas.Bool.Decides.{nat_tests}
 use Rattle.sg_wire.specs.CutAnswer.{first_bytes}
 use Rattle.sg_wire.specs.Layout.{command_of}
@@ -46,7 +46,6 @@ use Rattle.sg_fencing.proofs.LiftLemmas.{lifted}
 use Rattle.sg_fencing.proofs.OperationLemmas.{listed}
 use Rattle.sg_fencing.specs.Registrants.{is_preempting, preempted_key}
 use Rattle.sg_fencing.proofs.AccessLemmas.{not_good}
-use Rattle.sg_fencing.proofs.HolderLemmas.{differ, or_right}
 use Rattle.sg_fencing.proofs.RegistrationLemmas.{none-kept}
 
 -- ---- The one registration of an initiator
@@ -102,7 +101,8 @@ module _ (state : ReservationState) (i j : ℕ) (other : (j == i) ≡ false) (li
       → is_registered (filter keep state.registrations) i ≡ false
   gone keep drops = removed keep i key drops state.registrations only
 
-  preempt-removes : (type : Option ReservationType) → FirstIs IsRemoved (preempt_cases state j type key)
+  preempt-removes : (type : Option ReservationType)
+      → FirstIs (EffectIs IsRemoved) (preempt_cases state j type key)
   unfolding preempt_cases
   preempt-removes type =
       let unless_own =
@@ -110,13 +110,13 @@ module _ (state : ReservationState) (i j : ℕ) (other : (j == i) ≡ false) (li
       (λ r is under. neither (is_of j r) (is_under key r) (not-of r i j other is) under) in
       let own = gone (is_of j) (λ r is under. not-of r i j other is) in
       let under_key = gone (λ r. not (is_under key r)) (λ r is under. ap not under) in
-      case_or IsRemoved _ _ (λ _. refused IsRemoved _)
-      (λ _. case_or IsRemoved _ _
+      case_or (EffectIs IsRemoved) _ _ (λ _. refused IsRemoved _)
+      (λ _. case_or (EffectIs IsRemoved) _ _
       (λ _. taking IsRemoved state.reservation j type _ (λ type. effective IsRemoved _ unless_own))
-      (λ _. case_or IsRemoved _ _
+      (λ _. case_or (EffectIs IsRemoved) _ _
       (λ _. taking IsRemoved state.reservation j type _ (λ type. effective IsRemoved _ own))
-      (λ _. case_or IsRemoved _ _ (λ _. refused IsRemoved _)
-      (λ _. last_case IsRemoved _ _ refl (effective IsRemoved _ under_key)))))
+      (λ _. case_or (EffectIs IsRemoved) _ _ (λ _. refused IsRemoved _)
+      (λ _. last_case (EffectIs IsRemoved) _ _ refl (effective IsRemoved _ under_key)))))
 
   action-removes : (action : OutAction) (type : Option ReservationType) (aptpl : Bool)
       → is_preempting action ≡ true
@@ -130,8 +130,8 @@ module _ (state : ReservationState) (i j : ℕ) (other : (j == i) ≡ false) (li
   unfolding outcome
   outcome-removes action scope_type h =
       let accepts = accepts_key state.registrations j action list.reservation_key in
-      choice IsRemoved (has_unsupported_flag action list) _ _ (λ _. refused IsRemoved (Field 20))
-      (λ _. choice IsRemoved (not accepts) _ _ (λ _. refused IsRemoved Conflict)
+      choice (EffectIs IsRemoved) (has_unsupported_flag action list) _ _ (λ _. refused IsRemoved (Field 20))
+      (λ _. choice (EffectIs IsRemoved) (not accepts) _ _ (λ _. refused IsRemoved Conflict)
       (λ _. action-removes action (type_of scope_type) list.aptpl h))
 
 -- ---- The command
@@ -170,7 +170,7 @@ module _ (one : OneKeyEach) (state : State) (i j : ℕ) where
     unfolding reservation_change
     reserving-removes action scope_type list h here =
         changing-removes (outcome state.reservations j action scope_type list)
-        (outcome-removes state.reservations i j (differ i j other) list
+        (outcome-removes state.reservations i j (ne_eqb j i other) list
         (only-key_of one state.reservations i list.service_action_key w.registered here) action scope_type
         h)
 

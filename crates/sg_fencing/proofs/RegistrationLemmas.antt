@@ -89,12 +89,12 @@ module _ (state : ReservationState) (i j : ℕ) (other : (j == i) ≡ false)
         (is_registered change.registrations i) change.for_remaining change.for_removed remaining removed;
   })
 
-  register-leaves : (sark : ℕ) (aptpl : Bool) → FirstIs Leaves (register_cases state j sark aptpl)
+  register-leaves : (sark : ℕ) (aptpl : Bool) → FirstIs (EffectIs Leaves) (register_cases state j sark aptpl)
   unfolding register_cases
   register-leaves sark aptpl =
-      case_or Leaves _ _ (λ _. left _ refl refl refl refl)
-      (λ _. case_or Leaves _ _ (λ _. refused Leaves _)
-      (λ _. case_or Leaves _ _
+      case_or (EffectIs Leaves) _ _ (λ _. left _ refl refl refl refl)
+      (λ _. case_or (EffectIs Leaves) _ _ (λ _. refused Leaves _)
+      (λ _. case_or (EffectIs Leaves) _ _
       (λ _. left _ (key_of-push state.registrations i j sark other) refl refl refl)
       (λ known. absurd (not_so (is_registered state.registrations j) unknown known))))
 
@@ -118,8 +118,8 @@ module _ (state : ReservationState) (i j : ℕ) (other : (j == i) ≡ false)
   unfolding outcome
   outcome-leaves action scope_type list =
       let accepts = accepts_key state.registrations j action list.reservation_key in
-      choice Leaves (has_unsupported_flag action list) _ _ (λ _. refused Leaves (Field 20))
-      (λ _. choice Leaves (not accepts) _ _ (λ _. refused Leaves Conflict)
+      choice (EffectIs Leaves) (has_unsupported_flag action list) _ _ (λ _. refused Leaves (Field 20))
+      (λ _. choice (EffectIs Leaves) (not accepts) _ _ (λ _. refused Leaves Conflict)
       (λ yes. action-leaves action (type_of scope_type) list.service_action_key list.aptpl
       list.reservation_key (not-false accepts yes)))
 
@@ -146,8 +146,8 @@ module _ (state : ReservationState) (j : ℕ) (unknown : is_registered state.reg
   outcome-refused action scope_type list h =
       let all = state.registrations in
       let key = list.reservation_key in
-      choice Never (has_unsupported_flag action list) _ _ (λ _. refused Never (Field 20))
-      (λ _. choice Never (not (accepts_key all j action key)) _ _ (λ _. refused Never Conflict)
+      choice (EffectIs Never) (has_unsupported_flag action list) _ _ (λ _. refused Never (Field 20))
+      (λ _. choice (EffectIs Never) (not (accepts_key all j action key)) _ _ (λ _. refused Never Conflict)
       (λ yes. absurd (false≢true (sym (no-key action key h ∙ not-under all j key unknown)
       ∙ not-false (accepts_key all j action key) yes))))
 
@@ -168,45 +168,45 @@ module _ (state : ReservationState) (i j : ℕ) (unknown : is_registered state.r
   stays change h = effective IsUnknown change h
 
   registering-other : (sark : ℕ) (aptpl : Bool) → (j == i) ≡ false
-      → FirstIs IsUnknown (register_cases state j sark aptpl)
+      → FirstIs (EffectIs IsUnknown) (register_cases state j sark aptpl)
   unfolding register_cases
   registering-other sark aptpl other =
       let all = state.registrations in
       let gone = by-key (without_initiator all j) (key_of-without all i j other) in
       let pushed = by-key (with_registration all j sark) (key_of-push all i j sark other) in
       let replaced = by-key (with_key_replaced all j sark) (key_of-replaced all i j sark other) in
-      case_or IsUnknown _ _ (λ _. stays _ unknown)
-      (λ _. case_or IsUnknown _ _ (λ _. refused IsUnknown _)
-      (λ _. case_or IsUnknown _ _ (λ _. stays _ pushed)
-      (λ _. case_or IsUnknown _ _ (λ _. stays _ replaced)
-      (λ _. last_case IsUnknown _ _ refl (stays _ gone)))))
+      case_or (EffectIs IsUnknown) _ _ (λ _. stays _ unknown)
+      (λ _. case_or (EffectIs IsUnknown) _ _ (λ _. refused IsUnknown _)
+      (λ _. case_or (EffectIs IsUnknown) _ _ (λ _. stays _ pushed)
+      (λ _. case_or (EffectIs IsUnknown) _ _ (λ _. stays _ replaced)
+      (λ _. last_case (EffectIs IsUnknown) _ _ refl (stays _ gone)))))
 
-  reserving : (type : ReservationType) → FirstIs IsUnknown (reserve_cases state j type)
+  reserving : (type : ReservationType) → FirstIs (EffectIs IsUnknown) (reserve_cases state j type)
   unfolding reserve_cases
   reserving type =
-      case_or IsUnknown _ _ (λ _. stays _ unknown)
-      (λ _. case_or IsUnknown _ _ (λ _. stays _ unknown)
-      (λ _. last_case IsUnknown _ _ refl (refused IsUnknown _)))
+      case_or (EffectIs IsUnknown) _ _ (λ _. stays _ unknown)
+      (λ _. case_or (EffectIs IsUnknown) _ _ (λ _. stays _ unknown)
+      (λ _. last_case (EffectIs IsUnknown) _ _ refl (refused IsUnknown _)))
 
-  releasing : (type : ReservationType) → FirstIs IsUnknown (release_cases state j type)
+  releasing : (type : ReservationType) → FirstIs (EffectIs IsUnknown) (release_cases state j type)
   unfolding release_cases
   releasing type =
-      case_or IsUnknown _ _ (λ _. stays _ unknown)
-      (λ _. case_or IsUnknown _ _ (λ _. refused IsUnknown _)
-      (λ _. last_case IsUnknown _ _ refl (stays _ unknown)))
+      case_or (EffectIs IsUnknown) _ _ (λ _. stays _ unknown)
+      (λ _. case_or (EffectIs IsUnknown) _ _ (λ _. refused IsUnknown _)
+      (λ _. last_case (EffectIs IsUnknown) _ _ refl (stays _ unknown)))
 
   preempting : (type : Option ReservationType) (sark : ℕ)
-      → FirstIs IsUnknown (preempt_cases state j type sark)
+      → FirstIs (EffectIs IsUnknown) (preempt_cases state j type sark)
   unfolding preempt_cases
   preempting type sark =
       let gone = λ (p : Registration → Bool). not-in-filter p state.registrations i unknown in
-      case_or IsUnknown _ _ (λ _. refused IsUnknown _)
-      (λ _. case_or IsUnknown _ _
+      case_or (EffectIs IsUnknown) _ _ (λ _. refused IsUnknown _)
+      (λ _. case_or (EffectIs IsUnknown) _ _
       (λ _. taking IsUnknown state.reservation j type _ (λ type. stays _ (gone _)))
-      (λ _. case_or IsUnknown _ _
+      (λ _. case_or (EffectIs IsUnknown) _ _
       (λ _. taking IsUnknown state.reservation j type _ (λ type. stays _ (gone _)))
-      (λ _. case_or IsUnknown _ _ (λ _. refused IsUnknown _)
-      (λ _. last_case IsUnknown _ _ refl (stays _ (gone _))))))
+      (λ _. case_or (EffectIs IsUnknown) _ _ (λ _. refused IsUnknown _)
+      (λ _. last_case (EffectIs IsUnknown) _ _ refl (stays _ (gone _))))))
 
   action-unknown : (action : OutAction) (type : Option ReservationType) (sark : ℕ) (aptpl : Bool)
       → (is_registering action ≡ true → (j == i) ≡ false)
@@ -226,6 +226,6 @@ module _ (state : ReservationState) (i j : ℕ) (unknown : is_registered state.r
   unfolding outcome
   outcome-unknown action scope_type list h =
       let accepts = accepts_key state.registrations j action list.reservation_key in
-      choice IsUnknown (has_unsupported_flag action list) _ _ (λ _. refused IsUnknown (Field 20))
-      (λ _. choice IsUnknown (not accepts) _ _ (λ _. refused IsUnknown Conflict)
+      choice (EffectIs IsUnknown) (has_unsupported_flag action list) _ _ (λ _. refused IsUnknown (Field 20))
+      (λ _. choice (EffectIs IsUnknown) (not accepts) _ _ (λ _. refused IsUnknown Conflict)
       (λ _. action-unknown action (type_of scope_type) list.service_action_key list.aptpl h))

@@ -10,7 +10,6 @@ use Rattle.sg_wire.specs.declared.command.out_action.OutAction.{OutAction}
 use Rattle.sg_wire.specs.declared.command.out_action.OutAction.TheVariants.{Register, Reserve}
 use Rattle.sg_wire.specs.declared.command.out_action.OutAction.TheVariants.{Release, Clear, Preempt}
 use Rattle.sg_wire.specs.declared.command.out_action.OutAction.TheVariants.{PreemptAndAbort}
-use Rattle.sg_wire.specs.declared.command.out_action.OutAction.TheVariants.{}
 use Rattle.sg_wire.specs.declared.command.out_action.OutAction.TheVariants.{RegisterAndIgnoreExistingKey}
 use Rattle.sg_units.specs.Laws.{OneKeyEach, ends_for_others}
 use Rattle.sg_units.specs.UnsupportedFlags.{has_unsupported_flag}
@@ -246,48 +245,51 @@ module _ (all : List Registration) (kind : ReservationType) (before : Reservatio
   P = IsLeftIfHolder all (held_alone kind i) i j
 
   register_leaves : (sark : ℕ) (aptpl : Bool) → is_registered all i ≡ true → (j == i) ≡ false
-      → FirstIs P (register_cases (alone_in all kind i before) j sark aptpl)
+      → FirstIs (EffectIs P) (register_cases (alone_in all kind i before) j sark aptpl)
   unfolding register_cases
   register_leaves sark aptpl here other =
       let held = held_alone kind i in
       let gone = key_of-without all i j other in
       let left = stays_registered all (without_initiator all j) i gone here in
-      case_or P _ _ (λ _. stays all held i j _ here refl refl refl)
-      (λ _. case_or P _ _ (λ _. refused P _)
-      (λ _. case_or P _ _ (λ _. stays all held i j _ here (key_of-push all i j sark other) refl refl)
-      (λ _. case_or P _ _ (λ _. stays all held i j _ here (key_of-replaced all i j sark other) refl refl)
-      (λ _. last_case P _ _ refl
+      case_or (EffectIs P) _ _ (λ _. stays all held i j _ here refl refl refl)
+      (λ _. case_or (EffectIs P) _ _ (λ _. refused P _)
+      (λ _. case_or (EffectIs P) _ _
+      (λ _. stays all held i j _ here (key_of-push all i j sark other) refl refl)
+      (λ _. case_or (EffectIs P) _ _
+      (λ _. stays all held i j _ here (key_of-replaced all i j sark other) refl refl)
+      (λ _. last_case (EffectIs P) _ _ refl
       (stays all held i j _ here gone (while_held-alone kind i _ left) (released-alone kind i _ left))))))
 
   reserve_leaves : (new : ReservationType) → is_registered all i ≡ true
-      → FirstIs P (reserve_cases (alone_in all kind i before) j new)
+      → FirstIs (EffectIs P) (reserve_cases (alone_in all kind i before) j new)
   unfolding reserve_cases
   reserve_leaves new here =
-      case_or P _ _ (λ no. absurd (false≢true no))
-      (λ _. case_or P _ _ (λ _. stays all (held_alone kind i) i j _ here refl refl refl)
-      (λ _. last_case P _ _ refl (refused P _)))
+      case_or (EffectIs P) _ _ (λ no. absurd (false≢true no))
+      (λ _. case_or (EffectIs P) _ _ (λ _. stays all (held_alone kind i) i j _ here refl refl refl)
+      (λ _. last_case (EffectIs P) _ _ refl (refused P _)))
 
   release_leaves : (new : ReservationType) → is_registered all i ≡ true
-      → FirstIs P (release_cases (alone_in all kind i before) j new)
+      → FirstIs (EffectIs P) (release_cases (alone_in all kind i before) j new)
   unfolding release_cases
   release_leaves new here =
-      case_or P _ _ (λ _. stays all (held_alone kind i) i j _ here refl refl refl)
-      (λ _. case_or P _ _ (λ _. refused P _)
-      (λ _. last_case P _ _ refl (ends all (held_alone kind i) i j _ refl)))
+      case_or (EffectIs P) _ _ (λ _. stays all (held_alone kind i) i j _ here refl refl refl)
+      (λ _. case_or (EffectIs P) _ _ (λ _. refused P _)
+      (λ _. last_case (EffectIs P) _ _ refl (ends all (held_alone kind i) i j _ refl)))
 
   preempt_leaves : (type : Option ReservationType) (sark : ℕ) → is_registered all i ≡ true
-      → (j == i) ≡ false → FirstIs P (preempt_cases (alone_in all kind i before) j type sark)
+      → (j == i) ≡ false → FirstIs (EffectIs P) (preempt_cases (alone_in all kind i before) j type sark)
   unfolding preempt_cases
   preempt_leaves type sark here other =
       let held = held_alone kind i in
-      case_or P _ _ (λ _. refused P _)
-      (λ _. case_or P _ _ (λ _. took all held i j type _ other)
-      (λ absent. case_or P _ _ (λ no. absurd (false≢true no))
-      (λ _. case_or P _ _ (λ _. refused P _)
+      case_or (EffectIs P) _ _ (λ _. refused P _)
+      (λ _. case_or (EffectIs P) _ _ (λ _. took all held i j type _ other)
+      (λ absent. case_or (EffectIs P) _ _ (λ no. absurd (false≢true no))
+      (λ _. case_or (EffectIs P) _ _ (λ _. refused P _)
       (λ _.
       let gone = key_of-without_key all i sark absent in
       let left = stays_registered all (without_key all sark) i gone here in
-      last_case P _ _ refl (stays all held i j _ here gone (while_held-alone kind i _ left) refl)))))
+      last_case (EffectIs P) _ _ refl
+      (stays all held i j _ here gone (while_held-alone kind i _ left) refl)))))
 
   action_leaves : (action : OutAction) (type : Option ReservationType) (sark : ℕ) (aptpl : Bool)
       → is_registered all i ≡ true → (j == i) ≡ false
@@ -309,8 +311,8 @@ module _ (all : List Registration) (kind : ReservationType) (before : Reservatio
   unfolding outcome
   outcome_leaves action scope_type list here other =
       let accepts = accepts_key all j action list.reservation_key in
-      choice P (has_unsupported_flag action list) _ _ (λ _. refused P (Field 20))
-      (λ _. choice P (not accepts) _ _ (λ _. refused P Conflict)
+      choice (EffectIs P) (has_unsupported_flag action list) _ _ (λ _. refused P (Field 20))
+      (λ _. choice (EffectIs P) (not accepts) _ _ (λ _. refused P Conflict)
       (λ _. action_leaves action (type_of scope_type) list.service_action_key list.aptpl here
       other))
 
@@ -336,7 +338,7 @@ module _ (all : List Registration) (kind : ReservationType) (before : Reservatio
   H = IsHeld (held_alone kind i) i
 
   register_holds : (sark : ℕ) (aptpl : Bool) → is_registered all i ≡ true → (j == i) ≡ false
-      → FirstIs H (register_cases (alone_in all kind i before) j sark aptpl)
+      → FirstIs (EffectIs H) (register_cases (alone_in all kind i before) j sark aptpl)
   unfolding register_cases
   register_holds sark aptpl here other =
       let held = held_alone kind i in
@@ -346,25 +348,25 @@ module _ (all : List Registration) (kind : ReservationType) (before : Reservatio
       (key_of-push all i j sark other) here in
       let replaced = stays_registered all (with_key_replaced all j sark) i
       (key_of-replaced all i j sark other) here in
-      case_or H _ _ (λ _. stands held i _ here refl)
-      (λ _. case_or H _ _ (λ _. refused H _)
-      (λ _. case_or H _ _ (λ _. stands held i _ pushed refl)
-      (λ _. case_or H _ _ (λ _. stands held i _ replaced refl)
-      (λ _. last_case H _ _ refl (stands held i _ left (while_held-alone kind i _ left))))))
+      case_or (EffectIs H) _ _ (λ _. stands held i _ here refl)
+      (λ _. case_or (EffectIs H) _ _ (λ _. refused H _)
+      (λ _. case_or (EffectIs H) _ _ (λ _. stands held i _ pushed refl)
+      (λ _. case_or (EffectIs H) _ _ (λ _. stands held i _ replaced refl)
+      (λ _. last_case (EffectIs H) _ _ refl (stands held i _ left (while_held-alone kind i _ left))))))
 
   reserve_holds : (new : ReservationType) → is_registered all i ≡ true
-      → FirstIs H (reserve_cases (alone_in all kind i before) j new)
+      → FirstIs (EffectIs H) (reserve_cases (alone_in all kind i before) j new)
   unfolding reserve_cases
   reserve_holds new here =
-      case_or H _ _ (λ no. absurd (false≢true no))
-      (λ _. case_or H _ _ (λ _. stands (held_alone kind i) i _ here refl)
-      (λ _. last_case H _ _ refl (refused H _)))
+      case_or (EffectIs H) _ _ (λ no. absurd (false≢true no))
+      (λ _. case_or (EffectIs H) _ _ (λ _. stands (held_alone kind i) i _ here refl)
+      (λ _. last_case (EffectIs H) _ _ refl (refused H _)))
 
   release_holds : (new : ReservationType) → is_registered all i ≡ true → (j == i) ≡ false
-      → FirstIs H (release_cases (alone_in all kind i before) j new)
+      → FirstIs (EffectIs H) (release_cases (alone_in all kind i before) j new)
   unfolding release_cases
   release_holds new here other =
-      case_or H _ _ (λ _. stands (held_alone kind i) i _ here refl)
+      case_or (EffectIs H) _ _ (λ _. stands (held_alone kind i) i _ here refl)
       (λ is. absurd (no_holder (is_registered all j) (j == i) other is))
 
   action_holds : (action : OutAction) (type : Option ReservationType) (sark : ℕ) (aptpl : Bool)
@@ -387,7 +389,7 @@ module _ (all : List Registration) (kind : ReservationType) (before : Reservatio
   unfolding outcome
   outcome_holds action scope_type list mild here other =
       let accepts = accepts_key all j action list.reservation_key in
-      choice H (has_unsupported_flag action list) _ _ (λ _. refused H (Field 20))
-      (λ _. choice H (not accepts) _ _ (λ _. refused H Conflict)
+      choice (EffectIs H) (has_unsupported_flag action list) _ _ (λ _. refused H (Field 20))
+      (λ _. choice (EffectIs H) (not accepts) _ _ (λ _. refused H Conflict)
       (λ _. action_holds action (type_of scope_type) list.service_action_key list.aptpl mild here
       other))

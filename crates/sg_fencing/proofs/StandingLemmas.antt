@@ -2,7 +2,7 @@
 -- a reservation as it was.
 use Rattle.std.proofs.Common.{◌≡◌, ℕ, Bool, true, false, not, List, ◌&&◌, ◌||◌}
 use Rattle.std.proofs.Common.{Option, Some, None, Result, Ok, Err, refl, sym, ap, ◌∙◌, subst}
-use Rattle.std.proofs.lemmas.Bool.{false≢true}
+use Rattle.std.proofs.lemmas.Bool.{ne_eqb, not-true}
 use Rattle.std.specs.Option.{option_map_or}
 use Rattle.std.specs.Result.{result_map_both}
 use Rattle.sg_wire.specs.Layout.{command_of}
@@ -38,7 +38,7 @@ use Rattle.sg_target.specs.declared.refusal.Refusal.{Refusal}
 use Rattle.sg_target.specs.declared.refusal.Refusal.TheVariants.{Check}
 use Rattle.sg_fencing.proofs.LiftLemmas.{lifted}
 use Rattle.sg_fencing.specs.Fencing.{can_end_for_others, holds_alone}
-use Rattle.sg_fencing.proofs.HolderLemmas.{HoldsAlone, differ}
+use Rattle.sg_fencing.proofs.HolderLemmas.{HoldsAlone}
 use Rattle.sg_fencing.proofs.OperationLemmas.{asked-suits, fits, is_of_kind}
 
 -- What is true of the reservations, and of them after each PERSISTENT RESERVE OUT of some kind, is
@@ -98,10 +98,6 @@ pub record StillHeld (before after : ReservationState) (i : ℕ) : Type 0 where
   pub here : is_registered after.registrations i ≡ true
   pub reservation : after.reservation ≡ before.reservation
 
-not_so : (b : Bool) → not b ≡ true → b ≡ false
-not_so true e = absurd (false≢true e)
-not_so false e = refl
-
 -- The command is of another initiator j than i, the one holder of a reservation.
 module _ (state : State) (i j : ℕ) (other : j ≡ i → ⊥) (h : HoldsAlone state.reservations i) where
   abbrev Stays : ReservationState → Type 0
@@ -133,7 +129,7 @@ module _ (state : State) (i j : ℕ) (other : j ≡ i → ⊥) (h : HoldsAlone s
       λ d. record state.reservations { reservation = sym h.reservation_is d } in
       subst (λ (r : ReservationState). EffectIs H (outcome r j action scope_type list)) is
       (outcome_holds rs h.kind state.reservations i j action scope_type list mild h.registered
-      (differ i j other))
+      (ne_eqb j i other))
 
   reserving-stands : (action : OutAction) (scope_type : ℕ) (list : OutList)
       → not (ends_for_others action) ≡ true
@@ -142,7 +138,7 @@ module _ (state : State) (i j : ℕ) (other : j ≡ i → ⊥) (h : HoldsAlone s
   unfolding reservation_change
   reserving-stands action scope_type list mild =
       changing-stands (outcome state.reservations j action scope_type list)
-      (out-holds action scope_type list (not_so (ends_for_others action) mild))
+      (out-holds action scope_type list (not-true (ends_for_others action) mild))
 
   abbrev leaves_others : OutAction → Bool
   leaves_others action = not (ends_for_others action)

@@ -4,7 +4,7 @@ use Rattle.std.proofs.Common.{List, [], ◌∷◌, length, filter, Option, Some,
 use Rattle.std.proofs.Common.{ap, ◌∙◌, arith}
 use Rattle.std.specs.Prelude.{if◌then◌else◌}
 use Rattle.std.specs.List.{list_any}
-use Rattle.std.proofs.lemmas.Bool.{false≢true}
+use Rattle.std.proofs.lemmas.Bool.{false≢true, not-false, not-true}
 use Rattle.std.proofs.lemmas.Bool.Decides.{nat_tests}
 use Rattle.std.proofs.lemmas.List.{length-append}
 use Rattle.std.proofs.lemmas.List.Folds.{list_any-append}
@@ -23,12 +23,11 @@ use Rattle.sg_units.specs.Reservations.{AreConsistent, IsConsistent, has_holder,
 use Rattle.sg_units.specs.Reservations.{is_held_if_any, names_holder, names_holder_if_any, taken}
 use Rattle.sg_units.specs.Reservations.{while_held}
 use Rattle.sg_units.proofs.OutcomeLemmas.{EffectIs, FirstIs, and_false, case_or, choice, effective}
-use Rattle.sg_units.proofs.OutcomeLemmas.{last_case, not_false, not_true, refused, taking, typed}
+use Rattle.sg_units.proofs.OutcomeLemmas.{last_case, refused, taking, typed}
 use Rattle.sg_wire.specs.declared.command.out_action.OutAction.{OutAction}
 use Rattle.sg_wire.specs.declared.command.out_action.OutAction.TheVariants.{Register, Reserve}
 use Rattle.sg_wire.specs.declared.command.out_action.OutAction.TheVariants.{Release, Clear, Preempt}
 use Rattle.sg_wire.specs.declared.command.out_action.OutAction.TheVariants.{PreemptAndAbort}
-use Rattle.sg_wire.specs.declared.command.out_action.OutAction.TheVariants.{}
 use Rattle.sg_wire.specs.declared.command.out_action.OutAction.TheVariants.{RegisterAndIgnoreExistingKey}
 use Rattle.sg_units.specs.declared.out_fault.OutFault.TheVariants.{Conflict, Field}
 use Rattle.sg_wire.specs.declared.out_list.OutList.{OutList}
@@ -307,51 +306,51 @@ consistent-none = record {
 -- ---- Outcomes
 
 consistent-register : (state : ReservationState) (i sark : ℕ) (aptpl : Bool) → IsConsistent state
-    → FirstIs IsConsistentChange (register_cases state i sark aptpl)
+    → FirstIs (EffectIs IsConsistentChange) (register_cases state i sark aptpl)
 unfolding register_cases
 consistent-register state i sark aptpl h =
     let all = state.registrations in
     let held = state.reservation in
     let others = λ (r : Registration). not (is_of i r) in
-    case_or IsConsistentChange _ _ (λ _. effective IsConsistentChange _ h)
-    (λ zero. case_or IsConsistentChange _ _ (λ _. refused IsConsistentChange _)
-    (λ full. case_or IsConsistentChange _ _
+    case_or (EffectIs IsConsistentChange) _ _ (λ _. effective IsConsistentChange _ h)
+    (λ zero. case_or (EffectIs IsConsistentChange) _ _ (λ _. refused IsConsistentChange _)
+    (λ full. case_or (EffectIs IsConsistentChange) _ _
     (λ new. effective IsConsistentChange _
-    (consistent-push all held i sark (not_true _ new) (and_false _ _ new full)
+    (consistent-push all held i sark (not-true _ new) (and_false _ _ new full)
     (and_false _ _ new zero) h))
-    (λ _. case_or IsConsistentChange _ _
-    (λ other. effective IsConsistentChange _ (consistent-replaced all held i sark (not_true _ other) h))
-    (λ _. last_case IsConsistentChange _ _ refl
+    (λ _. case_or (EffectIs IsConsistentChange) _ _
+    (λ other. effective IsConsistentChange _ (consistent-replaced all held i sark (not-true _ other) h))
+    (λ _. last_case (EffectIs IsConsistentChange) _ _ refl
     (effective IsConsistentChange _
     (consistent-filter others all held _ h (held-while_held held _)
     (named-while_held held _ h.holder)))))))
 
 consistent-reserve : (state : ReservationState) (i : ℕ) (type : ReservationType)
     → is_registered state.registrations i ≡ true → IsConsistent state
-    → FirstIs IsConsistentChange (reserve_cases state i type)
+    → FirstIs (EffectIs IsConsistentChange) (reserve_cases state i type)
 unfolding reserve_cases
 consistent-reserve state i type here h =
     let all = state.registrations in
-    case_or IsConsistentChange _ _
+    case_or (EffectIs IsConsistentChange) _ _
     (λ _. effective IsConsistentChange _
     (consistent-held all state.reservation _ h (has_holder-taken type all i here)
     (named-taken type i)))
-    (λ _. case_or IsConsistentChange _ _ (λ _. effective IsConsistentChange _ h)
-    (λ _. last_case IsConsistentChange _ _ refl (refused IsConsistentChange _)))
+    (λ _. case_or (EffectIs IsConsistentChange) _ _ (λ _. effective IsConsistentChange _ h)
+    (λ _. last_case (EffectIs IsConsistentChange) _ _ refl (refused IsConsistentChange _)))
 
 consistent-release : (state : ReservationState) (i : ℕ) (type : ReservationType)
-    → IsConsistent state → FirstIs IsConsistentChange (release_cases state i type)
+    → IsConsistent state → FirstIs (EffectIs IsConsistentChange) (release_cases state i type)
 unfolding release_cases
 consistent-release state i type h =
     let all = state.registrations in
-    case_or IsConsistentChange _ _ (λ _. effective IsConsistentChange _ h)
-    (λ _. case_or IsConsistentChange _ _ (λ _. refused IsConsistentChange _)
-    (λ _. last_case IsConsistentChange _ _ refl
+    case_or (EffectIs IsConsistentChange) _ _ (λ _. effective IsConsistentChange _ h)
+    (λ _. case_or (EffectIs IsConsistentChange) _ _ (λ _. refused IsConsistentChange _)
+    (λ _. last_case (EffectIs IsConsistentChange) _ _ refl
     (effective IsConsistentChange _ (consistent-held all state.reservation None h refl refl))))
 
 consistent-preempt : (state : ReservationState) (i : ℕ) (type : Option ReservationType) (sark : ℕ)
     → is_registered state.registrations i ≡ true → IsConsistent state
-    → FirstIs IsConsistentChange (preempt_cases state i type sark)
+    → FirstIs (EffectIs IsConsistentChange) (preempt_cases state i type sark)
 unfolding preempt_cases
 consistent-preempt state i type sark here h =
     let all = state.registrations in
@@ -361,18 +360,18 @@ consistent-preempt state i type sark here h =
     let stays =
     is_registered-filter stay i (λ r e. or_left (is_of i r) (not (is_under sark r)) e) all here in
     let alone = is_registered-filter (is_of i) i (λ r e. e) all here in
-    case_or IsConsistentChange _ _ (λ _. refused IsConsistentChange _)
-    (λ _. case_or IsConsistentChange _ _
+    case_or (EffectIs IsConsistentChange) _ _ (λ _. refused IsConsistentChange _)
+    (λ _. case_or (EffectIs IsConsistentChange) _ _
     (λ _. taking IsConsistentChange held i type _
     (λ type. effective IsConsistentChange _
     (consistent-filter stay all held _ h (has_holder-taken type _ i stays) (named-taken type i))))
-    (λ _. case_or IsConsistentChange _ _
+    (λ _. case_or (EffectIs IsConsistentChange) _ _
     (λ _. taking IsConsistentChange held i type _
     (λ type. effective IsConsistentChange _
     (consistent-filter (is_of i) all held _ h (has_holder-taken type _ i alone)
     (named-taken type i))))
-    (λ _. case_or IsConsistentChange _ _ (λ _. refused IsConsistentChange _)
-    (λ _. last_case IsConsistentChange _ _ refl
+    (λ _. case_or (EffectIs IsConsistentChange) _ _ (λ _. refused IsConsistentChange _)
+    (λ _. last_case (EffectIs IsConsistentChange) _ _ refl
     (effective IsConsistentChange _
     (consistent-filter others all held _ h (held-while_held held _)
     (named-while_held held _ h.holder)))))))
@@ -407,11 +406,11 @@ consistent-outcome state i action scope_type list h =
     let key = list.reservation_key in
     let sark = list.service_action_key in
     let accepts = accepts_key state.registrations i action key in
-    choice IsConsistentChange (has_unsupported_flag action list) _ _
+    choice (EffectIs IsConsistentChange) (has_unsupported_flag action list) _ _
     (λ _. refused IsConsistentChange (Field 20))
-    (λ _. choice IsConsistentChange (not accepts) _ _ (λ _. refused IsConsistentChange Conflict)
+    (λ _. choice (EffectIs IsConsistentChange) (not accepts) _ _ (λ _. refused IsConsistentChange Conflict)
     (λ a. consistent-action state i action (type_of scope_type) key sark list.aptpl
-    (not_false accepts a) h))
+    (not-false accepts a) h))
 
 pub consistent-state_after : (state : ReservationState) (o : Outcome) → IsConsistent state
     → EffectIs IsConsistentChange o → IsConsistent (state_after state o)

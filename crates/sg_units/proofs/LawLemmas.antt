@@ -4,7 +4,7 @@ use Rattle.std.proofs.Common.{false, cond, not, ◌&&◌, ◌||◌, List, [], �
 use Rattle.std.proofs.Common.{None, Ok, Err, refl, sym, ap, ◌∙◌, arith}
 use Rattle.std.specs.Prelude.{if◌then◌else◌, is_none}
 use Rattle.std.specs.List.{list_any}
-use Rattle.std.proofs.lemmas.Bool.{false≢true}
+use Rattle.std.proofs.lemmas.Bool.{eqb-true, false_from_ne_true, false≢true}
 use Rattle.std.proofs.lemmas.Bool.Decides.{nat_tests}
 use Rattle.sg_wire.specs.declared.command.Class.{Class}
 use Rattle.sg_wire.specs.declared.command.Class.TheVariants.{Always, Reads, Writes}
@@ -29,7 +29,6 @@ use Rattle.sg_wire.specs.declared.command.out_action.OutAction.{OutAction}
 use Rattle.sg_wire.specs.declared.command.out_action.OutAction.TheVariants.{Register, Reserve}
 use Rattle.sg_wire.specs.declared.command.out_action.OutAction.TheVariants.{Release, Clear, Preempt}
 use Rattle.sg_wire.specs.declared.command.out_action.OutAction.TheVariants.{PreemptAndAbort}
-use Rattle.sg_wire.specs.declared.command.out_action.OutAction.TheVariants.{}
 use Rattle.sg_wire.specs.declared.command.out_action.OutAction.TheVariants.{RegisterAndIgnoreExistingKey}
 use Rattle.sg_units.specs.declared.out_fault.OutFault.TheVariants.{Conflict, Field}
 use Rattle.sg_wire.specs.declared.out_list.OutList.{OutList}
@@ -40,7 +39,6 @@ use Rattle.sg_units.specs.declared.types.ReservationType.{ReservationType}
 use Rattle.sg_units.specs.declared.types.ReservationType.TheVariants.{WriteExclusive}
 use Rattle.sg_units.specs.declared.types.ReservationType.TheVariants.{ExclusiveAccess}
 use Rattle.sg_units.specs.declared.types.ReservationType.TheVariants.{WriteExclusiveRegistrantsOnly}
-use Rattle.sg_units.specs.declared.types.ReservationType.TheVariants.{}
 use Rattle.sg_units.specs.declared.types.ReservationType.TheVariants.{ExclusiveAccessRegistrantsOnly}
 use Rattle.sg_units.specs.declared.types.ReservationType.TheVariants.{WriteExclusiveAllRegistrants}
 use Rattle.sg_units.specs.declared.types.ReservationType.TheVariants.{ExclusiveAccessAllRegistrants}
@@ -67,14 +65,10 @@ some_registration (r ∷ rs) i h =
     let step = registrations_of-cons r rs i in
     omega arith
 
-by_test : (b : Bool) → (b ≡ true → ⊥) → b ≡ false
-by_test true f = absurd (f refl)
-by_test false f = refl
-
-pub unregistered_under : (rs : List Registration) (i key : ℕ) → registrations_of rs i ≡ 0
+unregistered_under : (rs : List Registration) (i key : ℕ) → registrations_of rs i ≡ 0
     → is_registered_under rs i key ≡ false
 unregistered_under rs i key none =
-    by_test (is_registered_under rs i key)
+    false_from_ne_true (is_registered_under rs i key)
     (λ h.
     let k = some_registration rs i (is_registered-under rs i key h) in
     omega arith)
@@ -126,16 +120,13 @@ named_holder : (rs : List Registration) (type : ReservationType) (holder : Optio
 named_holder rs type holder named e h =
     ap (λ o. has_holder (with_holder type o) rs) (sym e) ∙ h
 
-equal : (m n : ℕ) → (m == n) ≡ true → m ≡ n
-equal m n h = grind (arith, nat_tests)
-
 alone : (rs : List Registration) (type : ReservationType) (holder : Option ℕ) (named other : ℕ)
     → holder ≡ Some named → is_registered rs named ≡ true
     → is_held_by (Some (with_holder type holder)) rs other ≡ (other == named)
 alone rs type holder named other e here =
     ap (λ o. is_held_by (Some (with_holder type o)) rs other) e
     ∙ and_implied (is_registered rs other) (other == named)
-    (λ h. ap (is_registered rs) (equal other named h) ∙ here)
+    (λ h. ap (is_registered rs) (eqb-true other named h) ∙ here)
 
 held_now : (state : ReservationState) (reservation : Reservation) → IsConsistent state
     → state.reservation ≡ Some reservation → has_holder reservation state.registrations ≡ true
@@ -321,43 +312,45 @@ registers state rs held remaining aptpl =
     effective (Counted state) _ (λ e. absurd (false≢true (sym e)))
 
 counted-register : (state : ReservationState) (i sark : ℕ) (aptpl : Bool)
-    → FirstIs (Counted state) (register_cases state i sark aptpl)
+    → FirstIs (EffectIs (Counted state)) (register_cases state i sark aptpl)
 unfolding register_cases
 counted-register state i sark aptpl =
     let P = Counted state in
-    case_or P _ _ (λ _. stays state _ _)
-    (λ _. case_or P _ _ (λ _. refused P _)
-    (λ _. case_or P _ _ (λ _. registers state _ _ _ _)
-    (λ _. case_or P _ _ (λ _. registers state _ _ _ _)
-    (λ _. last_case P _ _ refl (registers state _ _ _ _)))))
+    case_or (EffectIs P) _ _ (λ _. stays state _ _)
+    (λ _. case_or (EffectIs P) _ _ (λ _. refused P _)
+    (λ _. case_or (EffectIs P) _ _ (λ _. registers state _ _ _ _)
+    (λ _. case_or (EffectIs P) _ _ (λ _. registers state _ _ _ _)
+    (λ _. last_case (EffectIs P) _ _ refl (registers state _ _ _ _)))))
 
 counted-reserve : (state : ReservationState) (i : ℕ) (type : ReservationType)
-    → FirstIs (Counted state) (reserve_cases state i type)
+    → FirstIs (EffectIs (Counted state)) (reserve_cases state i type)
 unfolding reserve_cases
 counted-reserve state i type =
     let P = Counted state in
-    case_or P _ _ (λ _. stays state _ _)
-    (λ _. case_or P _ _ (λ _. stays state _ _) (λ _. last_case P _ _ refl (refused P _)))
+    case_or (EffectIs P) _ _ (λ _. stays state _ _)
+    (λ _. case_or (EffectIs P) _ _ (λ _. stays state _ _)
+    (λ _. last_case (EffectIs P) _ _ refl (refused P _)))
 
 counted-release : (state : ReservationState) (i : ℕ) (type : ReservationType)
-    → FirstIs (Counted state) (release_cases state i type)
+    → FirstIs (EffectIs (Counted state)) (release_cases state i type)
 unfolding release_cases
 counted-release state i type =
     let P = Counted state in
-    case_or P _ _ (λ _. stays state _ _)
-    (λ _. case_or P _ _ (λ _. refused P _) (λ _. last_case P _ _ refl (stays state _ _)))
+    case_or (EffectIs P) _ _ (λ _. stays state _ _)
+    (λ _. case_or (EffectIs P) _ _ (λ _. refused P _)
+    (λ _. last_case (EffectIs P) _ _ refl (stays state _ _)))
 
 counted-preempt : (state : ReservationState) (i : ℕ) (type : Option ReservationType) (sark : ℕ)
-    → FirstIs (Counted state) (preempt_cases state i type sark)
+    → FirstIs (EffectIs (Counted state)) (preempt_cases state i type sark)
 unfolding preempt_cases
 counted-preempt state i type sark =
     let P = Counted state in
     let held = state.reservation in
-    case_or P _ _ (λ _. refused P _)
-    (λ _. case_or P _ _ (λ _. taking P held i type _ (λ type. counts state _ _ _ _))
-    (λ _. case_or P _ _ (λ _. taking P held i type _ (λ type. counts state _ _ _ _))
-    (λ _. case_or P _ _ (λ _. refused P _)
-    (λ _. last_case P _ _ refl (counts state _ _ _ _)))))
+    case_or (EffectIs P) _ _ (λ _. refused P _)
+    (λ _. case_or (EffectIs P) _ _ (λ _. taking P held i type _ (λ type. counts state _ _ _ _))
+    (λ _. case_or (EffectIs P) _ _ (λ _. taking P held i type _ (λ type. counts state _ _ _ _))
+    (λ _. case_or (EffectIs P) _ _ (λ _. refused P _)
+    (λ _. last_case (EffectIs P) _ _ refl (counts state _ _ _ _)))))
 
 counted-action : (state : ReservationState) (i : ℕ) (action : OutAction)
     (type : Option ReservationType) (sark : ℕ) (aptpl : Bool)
@@ -379,8 +372,8 @@ unfolding outcome
 counted-outcome state i action scope_type list =
     let P = Counted state in
     let accepts = accepts_key state.registrations i action list.reservation_key in
-    choice P (has_unsupported_flag action list) _ _ (λ _. refused P (Field 20))
-    (λ _. choice P (not accepts) _ _ (λ _. refused P Conflict)
+    choice (EffectIs P) (has_unsupported_flag action list) _ _ (λ _. refused P (Field 20))
+    (λ _. choice (EffectIs P) (not accepts) _ _ (λ _. refused P Conflict)
     (λ _. counted-action state i action (type_of scope_type) list.service_action_key list.aptpl))
 
 same_or_next : (increments : Bool) (n : ℕ)

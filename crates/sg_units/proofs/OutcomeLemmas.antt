@@ -1,7 +1,7 @@
 -- What each change that PERSISTENT RESERVE OUT can make is shown to be, case by case.
-use Rattle.std.proofs.Common.{◌≡◌, ℕ, Bool, true, false, cond, not, ◌&&◌, List, ◌∷◌}
-use Rattle.std.proofs.Common.{Option, Some, None, Ok, Err, IfOk, refl, sym, ◌∙◌, subst}
-use Rattle.std.proofs.lemmas.Bool.{false≢true}
+use Rattle.std.proofs.Common.{◌≡◌, ℕ, Bool, true, false, cond, ◌&&◌, List, ◌∷◌}
+use Rattle.std.proofs.Common.{Option, Some, None, Ok, Err, IfOk, sym, ◌∙◌, subst}
+use Rattle.std.proofs.lemmas.Bool.{cond_both, false≢true}
 use Rattle.sg_units.specs.ReserveOut.{Case, Outcome, first_case, preempted, with_type}
 use Rattle.sg_units.specs.declared.reservation_change.ReservationChange.{ReservationChange}
 use Rattle.sg_units.specs.declared.out_fault.OutFault.{OutFault}
@@ -42,36 +42,23 @@ pub typed : (P : ReservationChange → Type 0) (type : Option ReservationType) (
 typed P None f h = refused P BadType
 typed P (Some type) f h = h type
 
--- the first case that applies
-pub record FirstIs (P : ReservationChange → Type 0) (cases : List Case) : Type 0 where
-  pub first : EffectIs P (first_case cases)
+-- the outcome of the first case that applies is P
+pub record FirstIs (P : Outcome → Type 0) (cases : List Case) : Type 0 where
+  pub first : P (first_case cases)
 
-pub choice : (P : ReservationChange → Type 0) (b : Bool) (x y : Outcome) → (b ≡ true → EffectIs P x)
-    → (b ≡ false → EffectIs P y) → EffectIs P (cond b x y)
-choice P true x y f g = f refl
-choice P false x y f g = g refl
+pub choice : (P : Outcome → Type 0) (b : Bool) (x y : Outcome) → (b ≡ true → P x) → (b ≡ false → P y)
+    → P (cond b x y)
+choice P b x y f g = cond_both b x y P f g
 
-pub case_or : (P : ReservationChange → Type 0) (case : Case) (cases : List Case)
-    → (case.condition ≡ true → EffectIs P case.outcome)
-    → (case.condition ≡ false → FirstIs P cases) → FirstIs P (case ∷ cases)
+pub case_or : (P : Outcome → Type 0) (case : Case) (cases : List Case)
+    → (case.condition ≡ true → P case.outcome) → (case.condition ≡ false → FirstIs P cases)
+    → FirstIs P (case ∷ cases)
 case_or P case cases f g =
     record { first = choice P case.condition case.outcome (first_case cases) f (λ h. (g h).first) }
 
-pub last_case : (P : ReservationChange → Type 0) (case : Case) (cases : List Case) → case.condition ≡ true
-    → EffectIs P case.outcome → FirstIs P (case ∷ cases)
-last_case P case cases e h = record {
-  first =
-      choice P case.condition case.outcome (first_case cases) (λ _. h)
-      (λ no. absurd (false≢true (sym no ∙ e)));
-}
-
-pub not_true : (b : Bool) → not b ≡ true → b ≡ false
-not_true true h = absurd (false≢true h)
-not_true false h = refl
-
-pub not_false : (b : Bool) → not b ≡ false → b ≡ true
-not_false true h = refl
-not_false false h = absurd (false≢true (sym h))
+pub last_case : (P : Outcome → Type 0) (case : Case) (cases : List Case) → case.condition ≡ true
+    → P case.outcome → FirstIs P (case ∷ cases)
+last_case P case cases e h = case_or P case cases (λ _. h) (λ no. absurd (false≢true (sym no ∙ e)))
 
 pub and_false : (a b : Bool) → a ≡ true → (a && b) ≡ false → b ≡ false
 and_false true b h k = k

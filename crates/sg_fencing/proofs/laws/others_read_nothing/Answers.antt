@@ -1,6 +1,7 @@
 use Rattle.std.proofs.Common.{◌≡◌, ℕ, zero, suc, true, List, [], ◌∷◌, take, Some}
 use Rattle.std.proofs.Common.{sym, ap, ◌∙◌}
 use Rattle.std.specs.Prelude.{slice_get}
+use Rattle.std.proofs.lemmas.Bool.{or_right}
 use Rattle.sg_wire.specs.Layout.{class_of}
 use Rattle.sg_wire.specs.declared.command.Class.TheVariants.{Reads}
 use Rattle.sg_units.specs.Laws.{OthersAreRefused}
@@ -11,7 +12,7 @@ use Rattle.sg_target.specs.State.{IsWithinLimits, State}
 use Rattle.sg_target.specs.Step.{Answer}
 use Rattle.sg_target.specs.declared.call.Call.{Call}
 use Rattle.sg_target.specs.declared.reply.Status.TheVariants.{Good}
-use Rattle.sg_fencing.proofs.HolderLemmas.{alone, is-exclusive, or_right, refuses-others}
+use Rattle.sg_fencing.proofs.HolderLemmas.{alone, is-exclusive, refuses-others}
 use Rattle.sg_target.specs.Laws.{LimitsAreKept}
 use Rattle.sg_fencing.proofs.AccessLemmas.{shut-out}
 use Rattle.sg_fencing.proofs.laws.others_read_nothing.Goals as goal

@@ -1,6 +1,7 @@
+use Rattle.std.proofs.lemmas.Bool.{or_right}
 use Rattle.sg_units.specs.declared.types.ReservationType.TheVariants.{WriteExclusive}
 use Rattle.sg_fencing.specs.Fencing.{holds_type}
-use Rattle.sg_fencing.proofs.HolderLemmas.{alone, is-exclusive, or_right, refuses-others}
+use Rattle.sg_fencing.proofs.HolderLemmas.{alone, is-exclusive, refuses-others}
 use Rattle.sg_fencing.proofs.UnseenLemmas.{unseen}
 use Rattle.sg_fencing.proofs.laws.others_see_no_block.Goals as goal
 
