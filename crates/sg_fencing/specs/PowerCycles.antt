@@ -1,4 +1,4 @@
--- Power cycles, in a user's words: what is left, who is told, and that fencing outlives them.
+-- Power cycles, in a user's words: what is left, what is reported, and that fencing outlives them.
 use Rattle.std.specs.Prelude.{◌≡◌, ◌<◌, ℕ, Bool, true, false, ◌&&◌, List, [], ◌∷◌, Some, None}
 use Rattle.std.specs.Prelude.{filter, map, slice_get, take}
 use Rattle.std.specs.List.{list_any, zip}
@@ -51,9 +51,9 @@ abbrev pub OthersAreGone : Type 0
 OthersAreGone =
     (state : State) → persists state ≡ false → HasNoReservations (after_power_cycle state)
 
--- Each initiator is told of it, and of nothing that was pending before.
-abbrev pub EachInitiatorIsTold : Type 0
-EachInitiatorIsTold =
+-- POWER ON is pending for each initiator, and nothing that was pending before (SAM-5, 5.14).
+abbrev pub PowerOnIsPendingForEach : Type 0
+PowerOnIsPendingForEach =
     (state : State) (initiator : ℕ) → initiator < initiator_count
     → pending_for (after_power_cycle state).attentions initiator ≡ PowerOn ∷ []
 

@@ -7,10 +7,9 @@ ghost use Rattle.sg_fencing.specs.Group.{NewcomersAreSeen, OutsidersMayBeLeftOut
 ghost use Rattle.sg_fencing.specs.Laws.{ConflictChangesNothing, OnlyWritesChangeBlocks};
 ghost use Rattle.sg_fencing.specs.Laws.{RefusedByReservation, RefusedChangesNothing};
 ghost use Rattle.sg_fencing.specs.Laws.{RefusedReturnsNothing};
-ghost use Rattle.sg_fencing.specs.PowerCycles.{BlocksAndSavedPagesStay, EachInitiatorIsTold};
-ghost use Rattle.sg_fencing.specs.PowerCycles.{FencedOffThroughPowerCycles};
+ghost use Rattle.sg_fencing.specs.PowerCycles.{BlocksAndSavedPagesStay, FencedOffThroughPowerCycles};
 ghost use Rattle.sg_fencing.specs.PowerCycles.{HolderIsAsIfAloneThroughPowerCycles, OthersAreGone};
-ghost use Rattle.sg_fencing.specs.PowerCycles.{PersistentOnesStay, TwoAreOne};
+ghost use Rattle.sg_fencing.specs.PowerCycles.{PersistentOnesStay, PowerOnIsPendingForEach, TwoAreOne};
 ghost use Rattle.sg_fencing.specs.Registrants.{FencedOffAreKeptOut, FencedOffLeaveTheView};
 ghost use Rattle.sg_fencing.specs.Registrants.{FencedOffReadNothing, FencedOffSeeNoBlock};
 ghost use Rattle.sg_fencing.specs.Registrants.{FencedOffWriteNothing};
@@ -225,8 +224,8 @@ pub fn other_reservations_end_with_power()
 
 /// After a power cycle one unit attention is pending for each initiator, POWER ON, and none that was
 /// pending before.
-pub fn each_initiator_is_told_of_power()
-    ensures { EachInitiatorIsTold }
+pub fn power_on_is_pending_for_each_initiator()
+    ensures { PowerOnIsPendingForEach }
 {}
 
 /// Two power cycles in a row are as one.
