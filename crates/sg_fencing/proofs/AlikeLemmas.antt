@@ -1,34 +1,39 @@
--- The holder's commands end alike in states that differ in what others see alone.
-use Rattle.std.proofs.Common.{◌≡◌, ℕ, Bool, true, false, cond, List, [], ◌∷◌}
-use Rattle.std.proofs.Common.{length, Option, Some, None, Result, Ok, Err, refl, sym, ap, ◌∙◌}
-use Rattle.std.proofs.Common.{subst}
-use Rattle.std.specs.Prelude.{if◌then◌else◌, replicate, drop, slice_get}
+-- A command ends alike in two states that are the same but for unit attentions of other initiators, and
+-- for what is registered and reserved, as far as this is related in some way.
+use Rattle.std.proofs.Common.{◌≡◌, ◌<◌, ◌≤◌, ◌⊎◌, inl, inr, ℕ, Bool, true, false, cond, List, [], ◌∷◌}
+use Rattle.std.proofs.Common.{get_or, drop, Option, Some, None, Result, Ok, Err, refl, sym, ap, ◌∙◌}
+use Rattle.std.proofs.Common.{subst, arith}
+use Rattle.std.specs.Prelude.{map, option_and_then, slice_get, if◌then◌else◌}
+use Rattle.std.specs.List.{range_with_len}
 use Rattle.std.specs.Option.{option_map}
-use Rattle.std.specs.Prelude.{option_and_then}
+use Rattle.std.proofs.lemmas.Bool.{cases_eq, cases_lt}
+use Rattle.std.proofs.lemmas.List.{get_or_past}
+use Rattle.std.proofs.lemmas.List.FromFn.{get_or-map-range_with_len, length-map-range_with_len}
 use Rattle.sg_wire.specs.Layout.{class_of, command_of, is_blocked_by_attention}
 use Rattle.sg_wire.specs.SenseData.{sense_data}
+use Rattle.sg_wire.specs.declared.command.CdbFault.{CdbFault}
 use Rattle.sg_wire.specs.declared.command.Class.{Class}
+use Rattle.sg_wire.specs.declared.command.Command.{Command}
+use Rattle.sg_wire.specs.declared.command.in_action.InAction.{InAction}
 use Rattle.sg_wire.specs.declared.sense.Format.{Format}
 use Rattle.sg_pages.specs.ModePage.{ModeState}
 use Rattle.sg_pages.specs.ModeSelect.{changed_by}
 use Rattle.sg_units.specs.Access.{allows}
-use Rattle.sg_units.specs.Registrations.{key_of}
-use Rattle.sg_units.specs.Attentions.{Pending, pending_for}
-use Rattle.sg_units.specs.Raised.{raised_for_others}
+use Rattle.sg_units.specs.Attentions.{Pending, pending_for, with_optional, without_oldest}
+use Rattle.sg_units.specs.Raised.{Conditions, queue_after, raised_for_each, raised_for_others}
 use Rattle.sg_units.specs.declared.reservation_state.ReservationState.{ReservationState}
 use Rattle.sg_units.specs.declared.unit_attention.UnitAttention.{UnitAttention}
 use Rattle.sg_units.specs.declared.unit_attention.UnitAttention.TheVariants.{ModeParametersChanged}
-use Rattle.sg_fencing.proofs.OwnReserveOutLemmas.{allows-same}
 use Rattle.sg_target.specs.BlockCommands.{read_capacity_10, read_capacity_16, reading, writing}
-use Rattle.sg_target.specs.Checks.{bad_field, cdb_checks, empty_cdb, no_space}
+use Rattle.sg_target.specs.Checks.{bad_field, cdb_checks, checked_parse, empty_cdb, no_space}
 use Rattle.sg_target.specs.Checks.{pending_attention, reservation_conflict, short_cdb}
 use Rattle.sg_target.specs.Checks.{unknown_opcode}
-use Rattle.sg_target.specs.Effect.{Effect, no_effect, returning_up_to, without_attention}
+use Rattle.sg_target.specs.Effect.{Effect, no_effect, returning_up_to}
 use Rattle.sg_target.specs.ModeCommands.{attentions_after, changing_modes, mode_parameters}
 use Rattle.sg_target.specs.ModeCommands.{selected_modes}
 use Rattle.sg_target.specs.PrimaryCommands.{returning_page, returning_sense}
 use Rattle.sg_target.specs.ProvisioningCommands.{anchoring, filling, reporting_status, unmapping}
-use Rattle.sg_target.specs.Refusal.{pending_sense, when_sound}
+use Rattle.sg_target.specs.Refusal.{first_some, pending_sense, when_sound}
 use Rattle.sg_target.specs.ReservationCommands.{reporting}
 use Rattle.sg_target.specs.State.{State}
 use Rattle.sg_target.specs.Step.{Step, cut, executed, good, outcome, refused, step_by, unless_no_space}
@@ -45,9 +50,43 @@ use Rattle.sg_target.specs.declared.operation.Operation.TheVariants.{ChangeReser
 use Rattle.sg_target.specs.declared.refusal.Reason.TheVariants.{UnitAttention as Attention}
 use Rattle.sg_target.specs.declared.refusal.Refusal.{Refusal}
 use Rattle.sg_target.specs.declared.refusal.Refusal.TheVariants.{Conflict, Check}
-use Rattle.sg_fencing.specs.Fencing.{View, view_of}
-use Rattle.sg_fencing.proofs.HolderLemmas.{cleared, none-for-caller, raised-others, same-view}
-use Rattle.sg_fencing.proofs.OperationLemmas.{shows as shows_of}
+use Rattle.sg_fencing.proofs.HolderLemmas.{cleared, cleared-other}
+use Rattle.sg_fencing.proofs.OperationLemmas.{shows}
+
+-- ---- Queues
+
+-- whose queue is the same in two tables has the same in what becomes of them
+abbrev pub StayEqual : (p q p' q' : Pending) → Type 0
+StayEqual p q p' q' =
+    (k : ℕ) → pending_for p k ≡ pending_for q k → pending_for p' k ≡ pending_for q' k
+
+cleared-equal : (p q : Pending) (i : ℕ) → StayEqual p q (without_oldest p i) (without_oldest q i)
+cleared-equal p q i k e = by-case (cases_eq i k)
+  where
+    by-case : (i ≡ k) ⊎ (i ≡ k → ⊥)
+        → pending_for (without_oldest p i) k ≡ pending_for (without_oldest q i) k
+    by-case (inl own) =
+        subst (λ j. pending_for (without_oldest p j) k ≡ pending_for (without_oldest q j) k) (sym own)
+        (cleared p k ∙ (ap (drop 1) e ∙ sym (cleared q k)))
+    by-case (inr other) = cleared-other p k i other ∙ (e ∙ sym (cleared-other q k i other))
+
+pub raised-equal : (p q : Pending) (conditions : Conditions)
+    → StayEqual p q (raised_for_each p conditions) (raised_for_each q conditions)
+unfolding raised_for_each
+raised-equal p q conditions k e = by-case (cases_lt k 8)
+  where
+    by-case : (k < 8) ⊎ (8 ≤ k)
+        → get_or (map (queue_after p conditions) (range_with_len 0 8)) k []
+        ≡ get_or (map (queue_after q conditions) (range_with_len 0 8)) k []
+    by-case (inl less) =
+        get_or-map-range_with_len (queue_after p conditions) 0 8 k k [] less (omega arith)
+        ∙ (ap (λ (queue : List UnitAttention). with_optional queue (get_or conditions k None)) e
+        ∙ sym (get_or-map-range_with_len (queue_after q conditions) 0 8 k k [] less (omega arith)))
+    by-case (inr past) =
+        let first = length-map-range_with_len (queue_after p conditions) 0 8 in
+        let second = length-map-range_with_len (queue_after q conditions) 0 8 in
+        get_or_past (map (queue_after p conditions) (range_with_len 0 8)) k [] (omega arith)
+        ∙ sym (get_or_past (map (queue_after q conditions) (range_with_len 0 8)) k [] (omega arith))
 
 -- ---- Words
 
@@ -57,213 +96,193 @@ abbrev pub with_others : State → Pending → ReservationState → State
 with_others state attentions reservations =
     record state { attentions = attentions; reservations = reservations }
 
--- Two steps end with equal views of i and equal identities, and with equal answers unless the
--- command shows others.
-pub record StepsAlike (shows : Bool) (i : ℕ) (first second : Step) : Type 0 where
-  pub identity : first.state.identity ≡ second.state.identity
-  pub view : view_of first.state i ≡ view_of second.state i
-  pub answer : shows ≡ false → first.answer ≡ second.answer
+module _ (Related : ReservationState → ReservationState → Type 0) (shows_others : Bool) (p q : Pending) where
+  -- Two steps end in such states, whose reservations are related, and with equal answers unless the
+  -- command shows others.
+  pub record StepsAgree (first second : Step) : Type 0 where
+    pub rest : with_others first.state second.state.attentions second.state.reservations
+        ≡ second.state
+    pub queues : StayEqual p q first.state.attentions second.state.attentions
+    pub reservations : Related first.state.reservations second.state.reservations
+    pub answer : shows_others ≡ false → first.answer ≡ second.answer
 
--- Two effects do.
-pub record EffectsAlike (shows : Bool) (i : ℕ) (first second : Effect) : Type 0 where
-  pub identity : first.after.identity ≡ second.after.identity
-  pub view : view_of first.after i ≡ view_of second.after i
-  pub answer : shows ≡ false → (executed first).answer ≡ (executed second).answer
+  -- Two effects do.
+  pub record EffectsAgree (first second : Effect) : Type 0 where
+    pub rest : with_others first.after second.after.attentions second.after.reservations ≡ second.after
+    pub queues : StayEqual p q first.after.attentions second.after.attentions
+    pub reservations : Related first.after.reservations second.after.reservations
+    pub answer : shows_others ≡ false → (executed first).answer ≡ (executed second).answer
 
--- ---- The operations of i, in a state and in one with the same view of i
+-- ---- The operations of i, in a state and in one that is the same for i
 
-module _ (s : State) (a : Pending) (r : ReservationState) (i : ℕ)
-    (attentions : pending_for s.attentions i ≡ pending_for a i)
-    (key : key_of s.reservations.registrations i ≡ key_of r.registrations i)
-    (reservation : s.reservations.reservation ≡ r.reservation)
-    (eight : length s.attentions ≡ 8) (eight' : length a ≡ 8) where
-  abbrev pub t : State
-  t = with_others s a r
+module _ (Related : ReservationState → ReservationState → Type 0) (s : State) (q : Pending)
+    (r : ReservationState) (i : ℕ) (own : pending_for s.attentions i ≡ pending_for q i)
+    (related : Related s.reservations r) where
+  abbrev p : Pending
+  p = s.attentions
 
-  pub seen : view_of s i ≡ view_of t i
-  seen = same-view s t i refl refl attentions key reservation
+  abbrev t : State
+  t = with_others s q r
 
-  pub refused-alike : (shows : Bool) (refusal : Refusal)
-      → StepsAlike shows i (refused s i refusal) (refused t i refusal)
-  refused-alike shows (Check (Attention condition)) = record {
-    identity = refl;
-    view =
-        same-view (without_attention s i) (without_attention t i) i refl refl
-        (cleared s.attentions i ∙ (ap (drop 1) attentions ∙ sym (cleared a i))) key reservation;
-    answer = λ _. refl;
+  abbrev Steps : Bool → Step → Step → Type 0
+  Steps shown first second = StepsAgree Related shown p q first second
+
+  abbrev Effects : Bool → Effect → Effect → Type 0
+  Effects shown first second = EffectsAgree Related shown p q first second
+
+  pub refused-agree : (shown : Bool) (refusal : Refusal)
+      → Steps shown (refused s i refusal) (refused t i refusal)
+  refused-agree shown (Check (Attention condition)) =
+      record { rest = refl; queues = cleared-equal p q i; reservations = related; answer = λ _. refl }
+  refused-agree shown _ =
+      record { rest = refl; queues = λ k e. e; reservations = related; answer = λ _. refl }
+
+  by-space : (shown : Bool) (first second : Effect) (refusal : Option Refusal)
+      → Effects shown first second
+      → Steps shown (unless_no_space s i first refusal) (unless_no_space t i second refusal)
+  by-space shown first second None h = record {
+    rest = h.rest;
+    queues = h.queues;
+    reservations = h.reservations;
+    answer = h.answer;
   }
-  refused-alike shows _ = record { identity = refl; view = seen; answer = λ _. refl }
+  by-space shown first second (Some refusal) h = refused-agree shown refusal
 
-  -- ---- Effects
+  effect-agree : (shown : Bool) (first second : Effect) → Effects shown first second
+      → Steps shown (outcome s i (Ok first)) (outcome t i (Ok second))
+  effect-agree shown first second h =
+      subst (λ (f : Option Refusal). Steps shown (outcome s i (Ok first)) (unless_no_space t i second f))
+      (ap (λ (x : State). no_space x.disk) h.rest)
+      (by-space shown first second (no_space first.after.disk) h)
 
-  same : (shows : Bool) (first second : Effect) → first.after ≡ s → second.after ≡ t
-      → ((shows ≡ false) → (executed first).answer ≡ (executed second).answer)
-      → EffectsAlike shows i first second
-  same shows first second e f answer = record {
-    identity =
-        ap (λ (x : State). x.identity) e ∙ sym (ap (λ (x : State). x.identity) f);
-    view = ap (λ (x : State). view_of x i) e ∙ (seen ∙ sym (ap (λ (x : State). view_of x i) f));
-    answer = answer;
-  }
+  pub sound-agree : {A : Type 0} (sound : Result A Refusal) (first second : A → Effect)
+      → ((value : A) → Effects false (first value) (second value))
+      → Steps false (outcome s i (when_sound sound first)) (outcome t i (when_sound sound second))
+  sound-agree (Ok value) first second h = effect-agree false (first value) (second value) (h value)
+  sound-agree (Err refusal) first second h = refused-agree false refusal
 
-  raised-alike : (changed : Bool)
-      → pending_for (attentions_after s.attentions i changed) i
-      ≡ pending_for (attentions_after a i changed) i
-  raised-alike true =
-      let raised = raised_for_others i ModeParametersChanged in
-      let none = none-for-caller (replicate 8 (Some ModeParametersChanged)) i in
-      raised-others s.attentions raised i eight none
-      ∙ (attentions ∙ sym (raised-others a raised i eight' none))
-  raised-alike false = attentions
-
-  changing-alike : (modes : ModeState)
-      → EffectsAlike false i (changing_modes s i modes) (changing_modes t i modes)
-  changing-alike modes =
-      let changed = (changed_by s.modes modes).0 in
+  -- effects that leave the unit attentions and the reservations
+  plain : (shown : Bool) (first second : Effect)
+      → (shown ≡ false → (executed first).answer ≡ (executed second).answer)
+      → with_others first.after q r ≡ second.after → first.after.attentions ≡ p
+      → first.after.reservations ≡ s.reservations → Effects shown first second
+  plain shown first second answer rest same kept =
+      let attentions : second.after.attentions ≡ q = sym (ap (λ (x : State). x.attentions) rest) in
+      let reservations : second.after.reservations ≡ r = sym (ap (λ (x : State). x.reservations) rest) in
       record {
-        identity = refl;
-        view =
-            same-view
-            (record s { modes = modes; attentions = attentions_after s.attentions i changed })
-            (record t { modes = modes; attentions = attentions_after a i changed })
-            i refl refl (raised-alike changed) key reservation;
-        answer = λ _. refl;
+        rest = (λ d. with_others first.after (attentions d) (reservations d)) ∙ rest;
+        queues =
+            λ k e. ap (λ (a : Pending). pending_for a k) same
+            ∙ (e ∙ sym (ap (λ (a : Pending). pending_for a k) attentions));
+        reservations =
+            subst (Related first.after.reservations) (sym reservations)
+            (subst (λ (x : ReservationState). Related x r) (sym kept) related);
+        answer = answer;
       }
 
-  contents-alike : (first second : Effect) (after : State) → first.after ≡ after
-      → second.after ≡ with_others after a r → after.attentions ≡ s.attentions
-      → after.reservations ≡ s.reservations → (executed first).answer ≡ (executed second).answer
-      → EffectsAlike false i first second
-  contents-alike first second after e f g h answer = record {
-    identity = ap (λ (x : State). x.identity) e ∙ sym (ap (λ (x : State). x.identity) f);
-    view =
-        ap (λ (x : State). view_of x i) e
-        ∙ (same-view after (with_others after a r) i refl refl
-        (ap (λ (p : Pending). pending_for p i) g ∙ attentions)
-        (ap (λ (p : ReservationState). key_of p.registrations i) h ∙ key)
-        (ap (λ (p : ReservationState). p.reservation) h ∙ reservation)
-        ∙ sym (ap (λ (x : State). view_of x i) f));
-    answer = λ _. answer;
-  }
+  leaving : (first second : Effect) → (executed first).answer ≡ (executed second).answer
+      → with_others first.after q r ≡ second.after → first.after.attentions ≡ p
+      → first.after.reservations ≡ s.reservations
+      → Steps false (outcome s i (Ok first)) (outcome t i (Ok second))
+  leaving first second answer rest same kept =
+      effect-agree false first second (plain false first second (λ _. answer) rest same kept)
 
-  sense-alike : (format : Format) (n : ℕ)
-      → EffectsAlike false i (returning_sense s i format n) (returning_sense t i format n)
-  sense-alike format n = record {
-    identity = refl;
-    view =
-        same-view (without_attention s i) (without_attention t i) i refl refl
-        (cleared s.attentions i ∙ (ap (drop 1) attentions ∙ sym (cleared a i))) key reservation;
+  sense-agree : (format : Format) (n : ℕ)
+      → Effects false (returning_sense s i format n) (returning_sense t i format n)
+  sense-agree format n = record {
+    rest = refl;
+    queues = cleared-equal p q i;
+    reservations = related;
     answer =
         λ _. ap
         (λ (queue : List UnitAttention). good (cut (Some n)
-        (sense_data format (pending_sense (slice_get queue 0))))) attentions;
+        (sense_data format (pending_sense (slice_get queue 0))))) own;
   }
 
-  -- ---- Their steps
+  raised-if : (changed : Bool)
+      → StayEqual p q (attentions_after p i changed) (attentions_after q i changed)
+  raised-if true = raised-equal p q (raised_for_others i ModeParametersChanged)
+  raised-if false = λ k e. e
 
-  by-space : (shows : Bool) (first second : Effect) (refusal : Option Refusal)
-      → EffectsAlike shows i first second
-      → StepsAlike shows i (unless_no_space s i first refusal) (unless_no_space t i second refusal)
-  by-space shows first second None h =
-      record { identity = h.identity; view = h.view; answer = h.answer }
-  by-space shows first second (Some refusal) h = refused-alike shows refusal
+  modes-agree : (modes : ModeState)
+      → Effects false (changing_modes s i modes) (changing_modes t i modes)
+  modes-agree modes = record {
+    rest = refl;
+    queues = raised-if (changed_by s.modes modes).0;
+    reservations = related;
+    answer = λ _. refl;
+  }
 
-  pub effect-alike : (shows : Bool) (first second : Effect) → EffectsAlike shows i first second
-      → StepsAlike shows i (outcome s i (Ok first)) (outcome t i (Ok second))
-  effect-alike shows first second h =
-      subst
-      (λ (f : Option Refusal). StepsAlike shows i (outcome s i (Ok first)) (unless_no_space t i second f))
-      (ap (λ (v : View). no_space v.disk) h.view)
-      (by-space shows first second (no_space first.after.disk) h)
+  -- PERSISTENT RESERVE IN, whose answers differ where the reservations do
+  pub reporting-agree : (shown : Bool) (action : InAction) (n : ℕ)
+      → (shown ≡ false → (executed (reporting s action n)).answer ≡ (executed (reporting t action n)).answer)
+      → Steps shown (step_by s i (ReturnReservations action n)) (step_by t i (ReturnReservations action n))
+  reporting-agree shown action n answer =
+      effect-agree shown (reporting s action n) (reporting t action n)
+      (plain shown (reporting s action n) (reporting t action n) answer refl refl refl)
 
-  sound-alike : {A : Type 0} (shows : Bool) (sound : Result A Refusal) (first second : A → Effect)
-      → ((value : A) → EffectsAlike shows i (first value) (second value))
-      → StepsAlike shows i (outcome s i (when_sound sound first)) (outcome t i (when_sound sound second))
-  sound-alike shows (Ok value) first second h = effect-alike shows (first value) (second value) (h value)
-  sound-alike shows (Err refusal) first second h = refused-alike shows refusal
-
-  written-alike : (first second : Effect) (after : State) → first.after ≡ after
-      → second.after ≡ with_others after a r → after.attentions ≡ s.attentions
-      → after.reservations ≡ s.reservations → (executed first).answer ≡ (executed second).answer
-      → StepsAlike false i (outcome s i (Ok first)) (outcome t i (Ok second))
-  written-alike first second after e f g h answer =
-      effect-alike false first second (contents-alike first second after e f g h answer)
-
-  read-alike : (first second : Effect) → first.after ≡ s → second.after ≡ t
-      → (executed first).answer ≡ (executed second).answer
-      → StepsAlike false i (outcome s i (Ok first)) (outcome t i (Ok second))
-  read-alike first second e f answer =
-      effect-alike false first second (same false first second e f (λ _. answer))
-
-  abbrev pub is_reserve_out : Operation → Bool
-  is_reserve_out (ChangeReservations action scope_type list) = true
-  is_reserve_out _ = false
-
-  pub operation-alike : (operation : Operation) → is_reserve_out operation ≡ false
-      → StepsAlike (shows_of operation) i (step_by s i operation) (step_by t i operation)
+  pub operation-agrees : (operation : Operation) → shows operation ≡ false
+      → Steps false (step_by s i operation) (step_by t i operation)
   unfolding selected_modes
-  operation-alike Nothing c = read-alike (no_effect s) (no_effect t) refl refl refl
-  operation-alike (ReturnSense format n) c =
-      effect-alike false (returning_sense s i format n) (returning_sense t i format n) (sense-alike format n)
-  operation-alike (ReturnInquiry page n) c =
-      read-alike (returning_page s page n) (returning_page t page n) refl refl refl
-  operation-alike (ReturnModes request n) c =
-      sound-alike false (mode_parameters s.modes request) (returning_up_to s n) (returning_up_to t n)
-      (λ list. same false (returning_up_to s n list) (returning_up_to t n list) refl refl (λ _. refl))
-  operation-alike (ChangeModes ten sp list) c =
-      sound-alike false (selected_modes s ten sp list) (changing_modes s i) (changing_modes t i)
-      changing-alike
-  operation-alike ReturnCapacity10 c =
-      read-alike (read_capacity_10 s) (read_capacity_10 t) refl refl refl
-  operation-alike (ReturnCapacity16 n) c =
-      read-alike (read_capacity_16 s n) (read_capacity_16 t n) refl refl refl
-  operation-alike (Read extent) c = read-alike (reading s extent) (reading t extent) refl refl refl
-  operation-alike (Write out) c =
-      written-alike (writing s out) (writing t out) (writing s out).after refl refl refl refl refl
-  operation-alike (Synchronize extent) c = read-alike (no_effect s) (no_effect t) refl refl refl
-  operation-alike (Fill extent block) c =
-      written-alike (filling s extent block) (filling t extent block) (filling s extent block).after
-      refl refl refl refl refl
-  operation-alike (Unmap extents) c =
-      written-alike (unmapping s extents) (unmapping t extents) (unmapping s extents).after
-      refl refl refl refl refl
-  operation-alike (UnmapExtent extent) c =
-      written-alike (unmapping s (extent ∷ [])) (unmapping t (extent ∷ []))
-      (unmapping s (extent ∷ [])).after refl refl refl refl refl
-  operation-alike (Anchor extents) c =
-      written-alike (anchoring s extents) (anchoring t extents) (anchoring s extents).after
-      refl refl refl refl refl
-  operation-alike (AnchorExtent extent) c =
-      written-alike (anchoring s (extent ∷ [])) (anchoring t (extent ∷ []))
-      (anchoring s (extent ∷ [])).after refl refl refl refl refl
-  operation-alike (ReturnLbaStatus start n) c =
-      read-alike (reporting_status s start n) (reporting_status t start n) refl refl refl
-  operation-alike (ReturnReservations action n) c =
-      effect-alike true (reporting s action n) (reporting t action n)
-      (same true (reporting s action n) (reporting t action n) refl refl (λ shown. cc))
-  operation-alike (ChangeReservations action scope_type list) c = cc
+  operation-agrees Nothing c = leaving (no_effect s) (no_effect t) refl refl refl refl
+  operation-agrees (ReturnSense format n) c =
+      effect-agree false (returning_sense s i format n) (returning_sense t i format n) (sense-agree format n)
+  operation-agrees (ReturnInquiry page n) c =
+      leaving (returning_page s page n) (returning_page t page n) refl refl refl refl
+  operation-agrees (ReturnModes request n) c =
+      sound-agree (mode_parameters s.modes request) (returning_up_to s n) (returning_up_to t n)
+      (λ list. plain false (returning_up_to s n list) (returning_up_to t n list) (λ _. refl) refl refl refl)
+  operation-agrees (ChangeModes ten sp list) c =
+      sound-agree (selected_modes s ten sp list) (changing_modes s i) (changing_modes t i) modes-agree
+  operation-agrees ReturnCapacity10 c =
+      leaving (read_capacity_10 s) (read_capacity_10 t) refl refl refl refl
+  operation-agrees (ReturnCapacity16 n) c =
+      leaving (read_capacity_16 s n) (read_capacity_16 t n) refl refl refl refl
+  operation-agrees (Read extent) c = leaving (reading s extent) (reading t extent) refl refl refl refl
+  operation-agrees (Write out) c = leaving (writing s out) (writing t out) refl refl refl refl
+  operation-agrees (Synchronize extent) c = leaving (no_effect s) (no_effect t) refl refl refl refl
+  operation-agrees (Fill extent block) c =
+      leaving (filling s extent block) (filling t extent block) refl refl refl refl
+  operation-agrees (Unmap extents) c =
+      leaving (unmapping s extents) (unmapping t extents) refl refl refl refl
+  operation-agrees (UnmapExtent extent) c =
+      leaving (unmapping s (extent ∷ [])) (unmapping t (extent ∷ [])) refl refl refl refl
+  operation-agrees (Anchor extents) c =
+      leaving (anchoring s extents) (anchoring t extents) refl refl refl refl
+  operation-agrees (AnchorExtent extent) c =
+      leaving (anchoring s (extent ∷ [])) (anchoring t (extent ∷ [])) refl refl refl refl
+  operation-agrees (ReturnLbaStatus start n) c =
+      leaving (reporting_status s start n) (reporting_status t start n) refl refl refl refl
+  operation-agrees (ReturnReservations action n) c = cc
+  operation-agrees (ChangeReservations action scope_type list) c = cc
 
   -- ---- The checks of a CDB
 
-  conflict-same : (class : Option Class)
-      → option_and_then
-      (λ class. if allows s.reservations i class then None else Some Conflict) class
-      ≡ option_and_then (λ class. if allows r i class then None else Some Conflict) class
-  conflict-same None = refl
-  conflict-same (Some class) =
-      ap (λ (b : Bool). cond {A = Option Refusal} b None (Some Conflict))
-      (allows-same s.reservations r i class key reservation)
+  module _ (allowed : (class : Class) → allows s.reservations i class ≡ allows r i class) where
+    conflict-same : (class : Option Class)
+        → option_and_then
+        (λ class. if allows s.reservations i class then None else Some Conflict) class
+        ≡ option_and_then (λ class. if allows r i class then None else Some Conflict) class
+    conflict-same None = refl
+    conflict-same (Some class) =
+        ap (λ (b : Bool). cond {A = Option Refusal} b None (Some Conflict)) (allowed class)
 
-  pub cdb-checks-same : (cdb : List ℕ) → cdb_checks s i cdb ≡ cdb_checks t i cdb
-  cdb-checks-same cdb =
-      let command = command_of cdb in
-      let pending : pending_attention s i cdb ≡ pending_attention t i cdb =
-      ap
-      (λ (queue : List UnitAttention).
-      cond {A = Option Refusal} (is_blocked_by_attention cdb)
-      (option_map (λ condition. Check (Attention condition)) (slice_get queue 0)) None) attentions in
-      let conflict : reservation_conflict s i cdb ≡ reservation_conflict t i cdb =
-      conflict-same (class_of cdb) in
-      λ d.
-      empty_cdb command ∷ pending d ∷ unknown_opcode command ∷ conflict d ∷ short_cdb command
-      ∷ bad_field command ∷ []
+    pub checks-same : (cdb : List ℕ)
+        → first_some (cdb_checks s i cdb) ≡ first_some (cdb_checks t i cdb)
+    checks-same cdb =
+        let command = command_of cdb in
+        let pending : pending_attention s i cdb ≡ pending_attention t i cdb =
+        ap
+        (λ (queue : List UnitAttention).
+        cond {A = Option Refusal} (is_blocked_by_attention cdb)
+        (option_map (λ condition. Check (Attention condition)) (slice_get queue 0)) None) own in
+        let conflict : reservation_conflict s i cdb ≡ reservation_conflict t i cdb =
+        conflict-same (class_of cdb) in
+        λ d. first_some (
+        empty_cdb command ∷ pending d ∷ unknown_opcode command ∷ conflict d ∷ short_cdb command
+        ∷ bad_field command ∷ [])
+
+  pub parse-same : (data_out : List ℕ) (parsed : Result Command CdbFault)
+      → checked_parse s parsed data_out ≡ checked_parse t parsed data_out
+  parse-same data_out (Err fault) = refl
+  parse-same data_out (Ok command) = refl

@@ -11,8 +11,7 @@ use Rattle.sg_target.specs.Runs.{step_of}
 use Rattle.sg_target.specs.State.{IsWithinLimits, State}
 use Rattle.sg_target.specs.Step.{Answer, step}
 use Rattle.sg_target.specs.declared.call.Call.{Call}
-use Rattle.sg_fencing.proofs.AlikeLemmas.{StepsAlike}
-use Rattle.sg_fencing.proofs.OwnLemmas.{own-alike}
+use Rattle.sg_fencing.proofs.OwnLemmas.{StepsAlike, own-alike}
 
 abbrev answers_in : List (Call × Answer) → List Answer
 answers_in exchanges = map (λ (exchange : Call × Answer). exchange.1) exchanges

@@ -1,6 +1,6 @@
 -- The holder of a reservation that nobody shares, and its view.
 use Rattle.std.proofs.Common.{◌≡◌, ◌≤◌, ◌<◌, ◌⊎◌, inl, inr, ◌==◌, ℕ, zero, suc, Bool, true, false}
-use Rattle.std.proofs.Common.{◌&&◌, ◌||◌, List, [], ◌∷◌, length, drop, get_or, set, Option, Some}
+use Rattle.std.proofs.Common.{◌&&◌, ◌||◌, List, [], ◌∷◌, length, drop, get_or, Option, Some}
 use Rattle.std.proofs.Common.{None, refl, sym, ap, ◌∙◌, arith}
 use Rattle.std.specs.Prelude.{map}
 use Rattle.std.specs.List.{range_with_len}
@@ -164,14 +164,6 @@ pub cleared : (pending : Pending) (i : ℕ)
 cleared [] i = refl
 cleared (queue ∷ rest) zero = refl
 cleared (queue ∷ rest) (suc i) = cleared rest i
-
-none-in : (conditions : Conditions) (i : ℕ) → get_or (set conditions i None) i None ≡ None
-none-in [] i = refl
-none-in (condition ∷ rest) zero = refl
-none-in (condition ∷ rest) (suc i) = none-in rest i
-
-pub none-for-caller : (conditions : Conditions) (i : ℕ) → get_or (set conditions i None) i None ≡ None
-none-for-caller conditions i = none-in conditions i
 
 queue-if : (pending : Pending) (conditions : Conditions) (i : ℕ) → length pending ≡ 8
     → get_or conditions i None ≡ None → (i < 8) ⊎ (8 ≤ i)

@@ -29,7 +29,8 @@ use Rattle.sg_fencing.specs.Fencing.{View, is_from, view_of}
 use Rattle.sg_fencing.specs.Group.{IsAsIfInsideAlone, IsReservedFrom, answers_inside, calls_inside}
 use Rattle.sg_fencing.specs.Group.{group_view, is_from_inside}
 use Rattle.sg_fencing.specs.Registrants.{has_registering, is_registering, is_registrant, registers}
-use Rattle.sg_fencing.proofs.AgreeLemmas.{StepsAgree, steps-agree, with_attentions}
+use Rattle.sg_fencing.proofs.AgreeLemmas.{AreSame, steps-agree, with_attentions}
+use Rattle.sg_fencing.proofs.AlikeLemmas.{StepsAgree, with_others}
 use Rattle.sg_fencing.proofs.OperationLemmas.{is_of_kind}
 use Rattle.sg_fencing.proofs.OthersLemmas.{Keeps}
 use Rattle.sg_fencing.proofs.OutsiderLemmas.{IsOutside, outsider-keeps}
@@ -113,9 +114,12 @@ module _ (limits : LimitsAreKept) (refuses : OthersAreRefused) (classes : Comman
     queues : (k : ℕ) → outside k ≡ false → pending_for s.attentions k ≡ pending_for t.attentions k
 
   both-next : (s t : State) (call : Call) → LookSame s t → outside call.initiator ≡ false
-      → StepsAgree s.attentions t.attentions (step_of s call) (step_of t call)
+      → StepsAgree AreSame false s.attentions t.attentions (step_of s call) (step_of t call)
   both-next s t call a inside =
-      subst (λ (x : State). StepsAgree s.attentions t.attentions (step_of s call) (step_of x call)) a.rest
+      subst
+      (λ (x : State). StepsAgree AreSame false s.attentions t.attentions (step_of s call)
+      (step_of x call))
+      a.rest
       (steps-agree s t.attentions call.initiator (a.queues call.initiator inside) call.cdb.now
       call.data_out.now)
 
@@ -172,8 +176,10 @@ module _ (limits : LimitsAreKept) (refuses : OthersAreRefused) (classes : Comman
       → RunAlike (call ∷ calls) (cond (not is_outside) (call ∷ own) own)
   by-caller call calls own false e rest s t h =
       let agree = both-next s t call h.same e in
-      let same : LookSame (step_of s call).state (step_of t call).state = record {
-        rest = agree.rest;
+      let one = (step_of s call).state in
+      let other = (step_of t call).state in
+      let same : LookSame one other = record {
+        rest = (λ d. with_others one other.attentions (agree.reservations d)) ∙ agree.rest;
         queues = λ k i. agree.queues k (h.same.queues k i);
       } in
       let ends = rest (step_of s call).state (step_of t call).state
@@ -182,7 +188,7 @@ module _ (limits : LimitsAreKept) (refuses : OthersAreRefused) (classes : Comman
       record {
         answers =
             ap (λ b. answers_in (cond (not b) ((call, (step_of s call).answer) ∷ more) more)) e
-            ∙ (λ d. agree.answer d ∷ ends.answers d);
+            ∙ (λ d. agree.answer refl d ∷ ends.answers d);
         same = ends.same;
       }
   by-caller call calls own true e rest s t h =

@@ -11,8 +11,9 @@ mod AccessLemmas
 mod OthersLemmas
 mod StandingLemmas
 mod UnseenLemmas
--- Commands of the holder
+-- A command in two states that look alike to its initiator
 mod AlikeLemmas
+-- Commands of the holder
 mod OwnLemmas
 -- Initiators that are not registered
 mod RegistrationLemmas

@@ -1,6 +1,6 @@
 -- The holder's own commands end alike where its views are equal.
-use Rattle.std.proofs.Common.{◌≡◌, ℕ, Bool, true, not, ◌||◌, List}
-use Rattle.std.proofs.Common.{get_or, Option, Some, None, Result, Ok, Err, refl, sym, ap}
+use Rattle.std.proofs.Common.{◌≡◌, ℕ, Bool, true, false, not, ◌||◌, List}
+use Rattle.std.proofs.Common.{get_or, Option, Some, None, Ok, Err, refl, sym, ap}
 use Rattle.std.proofs.Common.{◌∙◌}
 use Rattle.std.proofs.Common.{subst, arith}
 use Rattle.std.specs.Prelude.{if◌then◌else◌, is_some}
@@ -8,8 +8,6 @@ use Rattle.std.specs.Result.{result_map_both}
 use Rattle.std.proofs.lemmas.Bool.{eq-eqb, false≢true}
 use Rattle.std.proofs.lemmas.Bool.Decides.{nat_tests}
 use Rattle.sg_wire.specs.Layout.{command_of}
-use Rattle.sg_wire.specs.declared.command.CdbFault.{CdbFault}
-use Rattle.sg_wire.specs.declared.command.Command.{Command}
 use Rattle.sg_wire.specs.declared.command.out_action.OutAction.{OutAction}
 use Rattle.sg_units.specs.Attentions.{Pending, pending_for}
 use Rattle.sg_units.specs.Laws.{OneKeyEach}
@@ -21,21 +19,29 @@ use Rattle.sg_units.specs.declared.registrations.Registration.{Registration}
 use Rattle.sg_units.specs.declared.reservation_change.ReservationChange.{ReservationChange}
 use Rattle.sg_units.specs.declared.reservation_state.ReservationState.{ReservationState}
 use Rattle.sg_fencing.proofs.ReserveOutLemmas.{alone_in, is_registered-key_of}
-use Rattle.sg_fencing.proofs.OwnReserveOutLemmas.{Left, under-alone, left_of, own_agrees}
-use Rattle.sg_target.specs.Checks.{checked_parse, no_space}
-use Rattle.sg_target.specs.Refusal.{first_some, when_sound}
+use Rattle.sg_fencing.proofs.OwnReserveOutLemmas.{Left, allows-same, left_of, own_agrees, under-alone}
+use Rattle.sg_target.specs.Checks.{no_space}
+use Rattle.sg_target.specs.Refusal.{when_sound}
 use Rattle.sg_target.specs.ReservationCommands.{changing_reservations, out_refusal}
 use Rattle.sg_target.specs.ReservationCommands.{reservation_change}
 use Rattle.sg_target.specs.State.{IsWithinLimits, State}
 use Rattle.sg_target.specs.Step.{Step, outcome as step_outcome, step, step_by, unless_no_space}
 use Rattle.sg_target.specs.declared.operation.Operation.{Operation}
 use Rattle.sg_target.specs.declared.operation.Operation.TheVariants.{ChangeReservations}
+use Rattle.sg_target.specs.declared.operation.Operation.TheVariants.{ReturnReservations}
 use Rattle.sg_fencing.proofs.LiftLemmas.{lifted-both}
 use Rattle.sg_fencing.specs.Fencing.{View, holds_alone, shows_others, view_of}
-use Rattle.sg_fencing.proofs.AlikeLemmas.{StepsAlike, cdb-checks-same, operation-alike}
-use Rattle.sg_fencing.proofs.AlikeLemmas.{refused-alike, with_others}
-use Rattle.sg_fencing.proofs.HolderLemmas.{HoldsAlone, alone, raised-none, raised-others}
+use Rattle.sg_fencing.proofs.AlikeLemmas.{StepsAgree, checks-same, operation-agrees, parse-same}
+use Rattle.sg_fencing.proofs.AlikeLemmas.{refused-agree, reporting-agree, with_others}
+use Rattle.sg_fencing.proofs.HolderLemmas.{HoldsAlone, alone, raised-none, raised-others, same-view}
 use Rattle.sg_fencing.proofs.OperationLemmas.{asked-suits, shows as shows_of}
+
+-- Two steps end with equal views of i and equal identities, and with equal answers unless the
+-- command shows others.
+pub record StepsAlike (shows : Bool) (i : ℕ) (first second : Step) : Type 0 where
+  pub identity : first.state.identity ≡ second.state.identity
+  pub view : view_of first.state i ≡ view_of second.state i
+  pub answer : shows ≡ false → first.answer ≡ second.answer
 
 -- ---- PERSISTENT RESERVE OUT
 
@@ -181,30 +187,42 @@ module _ (one : OneKeyEach) (s : State) (a : Pending) (r : ReservationState) (i 
         answer = λ shown. cc;
       }
 
+  -- what is related of the reservations: the key of i, and the reservation
+  abbrev SeenAlike : ReservationState → ReservationState → Type 0
+  SeenAlike x y = (key_of x.registrations i ≡ key_of y.registrations i) × (x.reservation ≡ y.reservation)
+
+  alike : (shown : Bool) (first second : Step)
+      → StepsAgree SeenAlike shown s.attentions a first second → StepsAlike shown i first second
+  alike shown first second agree = record {
+    identity = ap (λ (x : State). x.identity) agree.rest;
+    view =
+        same-view first.state second.state i (ap (λ (x : State). x.disk) agree.rest)
+        (ap (λ (x : State). x.modes) agree.rest) (agree.queues i attentions) agree.reservations.0
+        agree.reservations.1;
+    answer = agree.answer;
+  }
+
   by-operation : (operation : Operation)
       → StepsAlike (shows_of operation) i (step_by s i operation) (step_by other i operation)
   by-operation (ChangeReservations action scope_type list) = out-alike action scope_type list
+  by-operation (ReturnReservations action n) =
+      alike true _ _ (reporting-agree SeenAlike s a r i attentions (key, reservation) true action n
+      (λ shown. cc))
   by-operation operation =
-      operation-alike s a r i attentions key reservation w.pending.one_for_each
-      w'.pending.one_for_each operation refl
-
-  parse-same : (data_out : List ℕ) (parsed : Result Command CdbFault)
-      → checked_parse s parsed data_out ≡ checked_parse other parsed data_out
-  parse-same data_out (Err fault) = refl
-  parse-same data_out (Ok command) = refl
+      alike false _ _ (operation-agrees SeenAlike s a r i attentions (key, reservation) operation refl)
 
   step-alike : (cdb data_out : List ℕ)
       → StepsAlike (shows_others (command_of cdb)) i (step s i cdb data_out)
       (step other i cdb data_out)
   step-alike cdb data_out =
-      let same =
-      ap (λ checks. first_some checks)
-      (cdb-checks-same s a r i attentions key reservation w.pending.one_for_each
-      w'.pending.one_for_each cdb) in
-      lifted-both s other i cdb data_out same (parse-same data_out)
-      (λ (first second : Step). StepsAlike (shows_others (command_of cdb)) i first second)
-      (refused-alike s a r i attentions key reservation w.pending.one_for_each
-      w'.pending.one_for_each (shows_others (command_of cdb)))
+      let shown = shows_others (command_of cdb) in
+      let related : SeenAlike s.reservations r = (key, reservation) in
+      lifted-both s other i cdb data_out
+      (checks-same SeenAlike s a r i attentions related
+      (λ class. allows-same s.reservations r i class key reservation) cdb)
+      (parse-same SeenAlike s a r i attentions related data_out)
+      (λ (first second : Step). StepsAlike shown i first second)
+      (λ refusal. alike shown _ _ (refused-agree SeenAlike s a r i attentions related shown refusal))
       (λ operation k. subst
       (λ (b : Bool). StepsAlike b i (step_by s i operation) (step_by other i operation))
       (sym (ap shows_others k.command_is

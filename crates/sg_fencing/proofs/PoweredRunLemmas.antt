@@ -29,9 +29,9 @@ use Rattle.sg_target.specs.declared.call.Call.{Call}
 use Rattle.sg_target.specs.declared.event.Event.{Event}
 use Rattle.sg_target.specs.declared.event.Event.TheVariants as event
 use Rattle.sg_target.specs.Laws.{LimitsAreKept}
-use Rattle.sg_fencing.proofs.AlikeLemmas.{StepsAlike}
 use Rattle.sg_fencing.proofs.FencedRunLemmas.{both-more, none-more, own-step}
 use Rattle.sg_fencing.proofs.OthersLemmas.{others-keep}
+use Rattle.sg_fencing.proofs.OwnLemmas.{StepsAlike}
 use Rattle.sg_fencing.proofs.PowerLemmas.{keeps}
 
 -- events from one state, and those that happen to i from another one
