@@ -24,7 +24,7 @@ use Rattle.sg_wire.specs.Layout.{blocks_of, joined, part_in, mask_in, mask_of, m
 use Rattle.sg_wire.specs.Layout.{length_of, unless_bad}
 use Rattle.sg_wire.specs.Layout.Place.{bit, bits, bytes, short_extent}
 use Rattle.sg_wire.specs.Layout.ServiceAction.{none, named}
-use Rattle.sg_wire.specs.Ranges.{fits_cdb, has_room, have_room}
+use Rattle.sg_wire.specs.FieldRoom.{fits_cdb, has_room, have_room}
 use Rattle.sg_wire.proofs.LayoutLemmas.{number_again}
 
 -- ---- numbers and masks

@@ -28,7 +28,7 @@ CommandsHaveTheirClass =
     (cdb : List ℕ) (command : Command) → command_of cdb ≡ Ok command
     → class_of cdb ≡ Some (layout command).class
 
--- Parts that are put one behind the other are put as one, and no byte that is put changes nothing.
+-- Parts that are put one behind the other are put as one, and putting no bytes changes nothing.
 pub record PartsArePutInTurn : Type 0 where
   pub in_turn : (answer : CutAnswer) (first second : List ℕ)
       → put (put answer first) second ≡ put answer (first ++ second)

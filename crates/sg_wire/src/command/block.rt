@@ -5,7 +5,7 @@ ghost use Rattle.byteorder.specs.Endian.{big_bytes};
 ghost use Rattle.sg_wire.specs.Layout.{cdb_of, command_with, extent_6, extent_10, extent_16};
 ghost use Rattle.sg_wire.specs.Layout.{number_at, value_at};
 ghost use Rattle.sg_wire.specs.Layout.Place.{short_extent};
-ghost use Rattle.sg_wire.specs.Ranges.{fits_cdb, have_room};
+ghost use Rattle.sg_wire.specs.FieldRoom.{fits_cdb, have_room};
 ghost use Rattle.sg_wire.specs.Table.{HasAction, IsDecoded, IsRefused, IsRow};
 
 use super::table::{

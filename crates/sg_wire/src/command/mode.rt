@@ -1,7 +1,7 @@
 // MODE SENSE and MODE SELECT (SPC-4, 6.11 to 6.14).
 ghost use Rattle.std.specs.Prelude.{◌≡◌, ◌+◌, ◌*◌, ◌<◌, if◌then◌else◌, true};
 ghost use Rattle.sg_wire.specs.Layout.{cdb_of, command_with};
-ghost use Rattle.sg_wire.specs.Ranges.{fits_cdb};
+ghost use Rattle.sg_wire.specs.FieldRoom.{fits_cdb};
 
 use super::table::{MODE_SELECT_6, MODE_SELECT_10, MODE_SENSE_6, MODE_SENSE_10, check_row};
 use super::{CdbFault, Command, PageCode, PageControlField};

@@ -1,7 +1,7 @@
 // Primary commands (SPC-4, 6).
 ghost use Rattle.std.specs.Prelude.{◌≡◌, true};
 ghost use Rattle.sg_wire.specs.Layout.{cdb_of, command_with};
-ghost use Rattle.sg_wire.specs.Ranges.{fits_cdb};
+ghost use Rattle.sg_wire.specs.FieldRoom.{fits_cdb};
 
 use super::{CdbFault, Command, table};
 use crate::bytes::{CdbBytes, MAX_CDB_LENGTH};

@@ -1,7 +1,7 @@
 // Commands of logical block provisioning (SBC-3, 4.7 and 5).
 ghost use Rattle.std.specs.Prelude.{◌≡◌, ◌+◌, slice_index, bit_and, if◌then◌else◌, true};
 ghost use Rattle.sg_wire.specs.Layout.{cdb_of, command_with};
-ghost use Rattle.sg_wire.specs.Ranges.{fits_cdb};
+ghost use Rattle.sg_wire.specs.FieldRoom.{fits_cdb};
 
 use super::block::{decode_extent_10, decode_extent_16};
 use super::{CdbFault, Command, GroupNumber, table};

@@ -1,7 +1,7 @@
 // PERSISTENT RESERVE IN and PERSISTENT RESERVE OUT (SPC-4, 6.15 and 6.16).
 ghost use Rattle.std.specs.Prelude.{◌≡◌, true};
 ghost use Rattle.sg_wire.specs.Layout.{cdb_of, command_with};
-ghost use Rattle.sg_wire.specs.Ranges.{fits_cdb};
+ghost use Rattle.sg_wire.specs.FieldRoom.{fits_cdb};
 
 use super::masks::{check_length, check_masks};
 use super::table::{PERSISTENT_RESERVE_IN, PERSISTENT_RESERVE_OUT, service_action};
