@@ -6,7 +6,6 @@ use Rattle.sg_pages.specs.declared.identity.IdentityFault.TheVariants.{Text, Loc
 use Rattle.sg_target.specs.Config.{ConfigFields, checked_config}
 use Rattle.sg_target.specs.declared.config.ConfigFault.{ConfigFault}
 use Rattle.sg_target.specs.declared.config.ConfigFault.TheVariants.{Blocks, Pool}
-use Rattle.sg_target.specs.declared.target.TheConstants.{BUFFER_LENGTH}
 use Rattle.sg_tools.specs.ParameterLists.{max_data_out}
 use Rattle.sg_tools.specs.declared.tool.Tool.{Tool}
 use Rattle.sg_tools.specs.declared.tool_fault.ToolFault.{ToolFault}
@@ -71,7 +70,7 @@ disk_outcome None = NoDisk
 abbrev pub execute_outcome : Option Kept → (initiator room : ℕ) → Outcome
 execute_outcome held initiator room =
     if not (nat_lt initiator 8) then UnknownInitiator else
-    (if not (nat_le BUFFER_LENGTH room) then BufferTooShort else disk_outcome held)
+    (if not (nat_le least_buffer room) then BufferTooShort else disk_outcome held)
 
 abbrev pub power_cycle_outcome : Option Kept → Outcome
 power_cycle_outcome = disk_outcome
@@ -86,6 +85,10 @@ tool_fault_outcome tool_fault.Usage = Usage
 tool_fault_outcome tool_fault.Exclusive = Exclusive
 tool_fault_outcome tool_fault.Number = Number
 tool_fault_outcome tool_fault.OutOfMemory = OutOfMemory
+-- The least length of a buffer for data-in, in bytes: that of 256 blocks.
+abbrev pub least_buffer : ℕ
+least_buffer = 131072
+
 
 abbrev pub text_outcome : TextFault → Outcome
 text_outcome text_fault.BadByte = BadByte

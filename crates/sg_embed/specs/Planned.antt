@@ -2,7 +2,6 @@
 use Rattle.std.specs.Prelude.{◌≡◌, ℕ, List, Some, Ok, length, replicate}
 use Rattle.sg_wire.specs.CutAnswer.{overwritten}
 use Rattle.sg_wire.specs.Layout.{cdb_of}
-use Rattle.sg_wire.specs.declared.bytes.TheConstants.{MAX_CDB_LENGTH}
 use Rattle.sg_tools.specs.ParameterLists.{parameter_list}
 use Rattle.sg_tools.specs.declared.tool.Plan.{Plan}
 use Rattle.sg_tools.specs.declared.tool.Tool.{Tool}
@@ -10,9 +9,13 @@ use Rattle.sg_run.specs.ToolText.{tool_of_text}
 use Rattle.sg_embed.specs.Kinds.{kind_numbered}
 use Rattle.sg_embed.specs.declared.command.CommandRecord.{CommandRecord}
 
+-- The room for a CDB in a record, in bytes.
+abbrev pub cdb_room : ℕ
+cdb_room = 16
+
 -- A CDB with zeros behind it.
 abbrev pub padded : List ℕ → List ℕ
-padded cdb = overwritten cdb (replicate MAX_CDB_LENGTH 0)
+padded cdb = overwritten cdb (replicate cdb_room 0)
 
 -- The words of a text ask a tool for a command, which a record and the buffer for data-out have. The
 -- bytes after data-out are as they were.

@@ -1,6 +1,5 @@
 -- What the records of the header contain.
-use Rattle.std.specs.Prelude.{◌≡◌, ℕ, Bool, true, false, Option, Some, None, Result, length, min, take}
-use Rattle.std.specs.Prelude.{replicate}
+use Rattle.std.specs.Prelude.{◌≡◌, ℕ, Bool, true, false, Option, Some, None, Result, length, replicate}
 use Rattle.sg_pages.specs.Identity.{IdentityFields, checked_identity, identity_fields}
 use Rattle.sg_pages.specs.declared.identity.IdentityFault.{IdentityFault}
 use Rattle.sg_wire.specs.CutAnswer.{overwritten}
@@ -11,13 +10,16 @@ use Rattle.sg_target.specs.declared.reply.Reply.{Reply}
 use Rattle.sg_embed.specs.declared.record.IdentityRecord.{IdentityRecord}
 use Rattle.sg_embed.specs.declared.record.ReplyRecord.{ReplyRecord}
 use Rattle.sg_embed.specs.declared.record.SenseRecord.{SenseRecord}
-use Rattle.sg_embed.specs.declared.record.TheConstants.{SENSE_LENGTH}
+
+-- The room for sense data in a record, in bytes.
+abbrev pub sense_room : ℕ
+sense_room = 20
 
 -- A record shows a reply.
 pub record Shows (shown : ReplyRecord) (reply : Reply) : Type 0 where
   pub status : shown.status ≡ status_code reply.status
-  pub sense_length : shown.sense_length ≡ min (length reply.sense) SENSE_LENGTH
-  pub sense : shown.sense ≡ overwritten (take SENSE_LENGTH reply.sense) (replicate SENSE_LENGTH 0)
+  pub sense_length : shown.sense_length ≡ length reply.sense
+  pub sense : shown.sense ≡ overwritten reply.sense (replicate sense_room 0)
   pub data_in : shown.data_in_length ≡ reply.data_in
   pub visits : shown.visits ≡ reply.counts.visits
   pub probes : shown.probes ≡ reply.counts.probes

@@ -3,16 +3,19 @@ use Rattle.std.specs.Prelude.{◌≡◌, ◌⊎◌, ℕ, List, [], ◌∷◌, �
 use Rattle.sg_wire.specs.CutAnswer.{overwritten}
 use Rattle.sg_run.specs.AnswerText.{answer_text}
 use Rattle.sg_embed.specs.Kinds.{kind_numbered}
-use Rattle.sg_embed.specs.declared.answer.TheConstants.{NO_TEXT}
 
 -- A buffer with a text at its beginning, cut to it, and a zero behind the text.
 abbrev pub text_in : List ℕ → List ℕ → List ℕ
 text_in text [] = []
 text_in text (byte ∷ rest) = overwritten (take (length rest) text ++ 0 ∷ []) (byte ∷ rest)
 
+-- What stands for no text: the largest number of 64 bits.
+abbrev pub no_text : ℕ
+no_text = 18446744073709551615
+
 -- There is no text, and the buffer is as it was.
 abbrev pub IsUntouched : (before after : List ℕ) → (result : ℕ) → Type 0
-IsUntouched before after result = (result ≡ NO_TEXT) × (after ≡ before)
+IsUntouched before after result = (result ≡ no_text) × (after ≡ before)
 
 -- A text is in a buffer, and its whole length is returned.
 abbrev pub IsText : (text before after : List ℕ) → (result : ℕ) → Type 0

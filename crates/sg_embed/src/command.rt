@@ -24,9 +24,10 @@ pub struct CommandRecord {
     pub data_out_length: usize,
 }
 
+const _: () = prove!(size_of::<CommandRecord>() == 32);
+
 impl CommandRecord {
     fn of(plan: &Plan) -> CommandRecord
-        requires { length plan.now.cdb ≤ MAX_CDB_LENGTH }
         ensures { ShowsPlan result plan.now }
     {
         let mut cdb = [0; MAX_CDB_LENGTH];

@@ -15,6 +15,6 @@ pub use answer::{NO_TEXT, decode};
 pub use command::{CommandRecord, plan_tool};
 pub use kept::Kept;
 pub use outcome::Outcome;
-pub use record::{IdentityRecord, ReplyRecord, SENSE_LENGTH, SenseRecord};
+pub use record::{IdentityRecord, ReplyRecord, SenseRecord};
 pub use slot::Slot;
 pub use text::{VERSION, copy_text};

@@ -1,16 +1,12 @@
 // The records that C reads and writes.
-ghost use Rattle.std.specs.Prelude.{◌≡◌};
+ghost use Rattle.std.specs.Prelude.{◌≡◌, option_map};
 ghost use Rattle.sg_embed.specs.Records.{Shows, asked_identity, sense_record};
-ghost use Rattle.std.specs.Prelude.{option_map};
 ghost use Rattle.sg_wire.specs.Sense.{fields_of};
 ghost use Rattle.sg_wire.specs.SenseData.{read_sense};
 
 use sg_pages::{Identity, IdentityFault};
-use sg_target::Reply;
+use sg_target::{Reply, SENSE_LENGTH};
 use sg_wire::Sense;
-
-/// The most bytes that the sense data of a reply has.
-pub const SENSE_LENGTH: usize = 20;
 
 /// What C declares as `mdl_reply`.
 #[repr(C)]
@@ -32,12 +28,14 @@ pub struct ReplyRecord {
     pub data_in_length: usize,
 }
 
+const _: () = prove!(size_of::<ReplyRecord>() == 56);
+
 impl ReplyRecord {
     /// Becomes the record of a reply.
     pub(crate) fn show(&mut self, reply: Reply)
         ensures { Shows self.new reply }
     {
-        let count = reply.sense.as_slice().len().min(SENSE_LENGTH);
+        let count = reply.sense.as_slice().len();
         self.status = reply.status.code();
         self.sense_length = count as u8;
         self.sense = [0; SENSE_LENGTH];
@@ -48,7 +46,7 @@ impl ReplyRecord {
         // Most replies have none, and then nothing is moved or called to copy it.
         if count > 0 {
             let sense = reply.sense;
-            self.sense[..count].copy_from_slice(&sense.as_slice()[..count]);
+            self.sense[..count].copy_from_slice(sense.as_slice());
         }
     }
 }
@@ -69,6 +67,8 @@ pub struct IdentityRecord {
     /// The locally assigned identifier.
     pub local: u64,
 }
+
+const _: () = prove!(size_of::<IdentityRecord>() == 48);
 
 impl IdentityRecord {
     /// The identity that it describes.
@@ -109,6 +109,8 @@ pub struct SenseRecord {
     /// The INFORMATION field, for this disk a logical block address.
     pub information: u64,
 }
+
+const _: () = prove!(size_of::<SenseRecord>() == 16);
 
 impl SenseRecord {
     /// The fields of sense data, in either format. None where it can't be read.

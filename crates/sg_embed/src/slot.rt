@@ -25,6 +25,8 @@ pub struct Slot {
     pub ghost held: { Option Kept } by { coded_option the_row.coded },
 }
 
+const _: () = prove!(size_of::<Slot>() == 8);
+
 impl Model for Slot {
     ghost also_owns = { λ s. holds the_row s.alloc s.at s.held };
 }

@@ -32,6 +32,6 @@ pub use operation::Operation;
 pub use primary::InquiryPage;
 pub use provisioning::BlockOut;
 pub use refusal::{Reason, Refusal};
-pub use reply::{Reply, SenseBytes, Status};
+pub use reply::{Reply, SENSE_LENGTH, SenseBytes, Status};
 pub use run::Sink;
 pub use target::{BUFFER_LENGTH, Target};

@@ -14,7 +14,7 @@ same-step state i e f j = step state i (e j) (f j)
 
 pub returns : goal.returns
 returns g c =
-    let cdb = c.as_slice.ensures ∙ (c.write-cdb.ensures.cdb ∙ ap cdb_of c.command.ensures) in
+    let cdb = c.as_slice.ensures.value ∙ (c.write-cdb.ensures.cdb ∙ ap cdb_of c.command.ensures) in
     let same = same-step c.args.target.now.state c.args.blocks.now.initiator cdb c.fill_prefix.ensures in
     let Sent : Step → Type 0 = λ s. HasOutcome g.W.Write.contents c.args.out.now c.send.new.out
     c.send.new.target.state c.send.result (reply_outcome c.args.number Nothing s) in

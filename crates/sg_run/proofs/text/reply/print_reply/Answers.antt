@@ -6,7 +6,7 @@ pub returns-in-Good : goal.returns-in-Good
 returns-in-Good g c =
     rw (
       ← c.status_name.ensures,
-      ← c.as_slice.ensures,
+      ← c.as_slice.ensures.value,
       shown-good c.args.reply.now.status c.args.show c.args.data_in.now c.in-Good.is,
     )
     (Prints-on c.print_line_header.ensures
@@ -16,7 +16,7 @@ pub returns-in_default : goal.returns-in_default
 returns-in_default g c =
     rw (
       ← c.status_name.ensures,
-      ← c.as_slice.ensures,
+      ← c.as_slice.ensures.value,
       shown-none c.args.reply.now.status c.args.show c.args.data_in.now c.in_default.not-Good,
     )
     (Prints-on c.print_line_header.ensures
