@@ -4,13 +4,14 @@
 //! `embed/mehdalung.c` tests the pointers of C, and calls these.
 #![tactic(auto)]
 
-ghost use Rattle.std.specs.Prelude.{◌≡◌, ◌≢◌, ◌⊎◌, None, Some, IfOk, MatchOption, length};
+ghost use Rattle.std.specs.Prelude.{◌≡◌, ◌≢◌, None, Some, IfOk, MatchOption, length};
 ghost use Rattle.sg_pages.specs.Identity.{standard_identity};
 ghost use Rattle.sg_tools.specs.ExitStatus.{exit_status};
 ghost use Rattle.sg_wire.specs.SenseData.{read_sense};
 ghost use Rattle.sg_embed.specs.Executed.{IsAnswered, IsPowerCycled, disk_config, new_disk};
-ghost use Rattle.sg_embed.specs.Outcome.{execute_outcome, make_outcome, outcome_code};
-ghost use Rattle.sg_embed.specs.Outcome.{make_as_outcome, plan_outcome, power_cycle_outcome};
+ghost use Rattle.sg_embed.specs.Outcome.{IsCodeUnlessOutOfMemory, execute_outcome, make_outcome};
+ghost use Rattle.sg_embed.specs.Outcome.{make_as_outcome, outcome_code, plan_outcome};
+ghost use Rattle.sg_embed.specs.Outcome.{power_cycle_outcome};
 ghost use Rattle.sg_embed.specs.Planned.{IsPlanned};
 ghost use Rattle.sg_embed.specs.Records.{asked_identity, sense_record};
 ghost use Rattle.sg_embed.specs.Text.{IsDecoded, text_in};
@@ -26,8 +27,8 @@ use std::alloc::Global;
 /// Makes a disk with the standard identity.
 #[unsafe(no_mangle)]
 pub extern "C" fn mehdalung_make(alloc: Global, disk: &mut Slot, blocks: u64, pool: u32) -> u32
-    ensures outcome { (result ≡ outcome_code Outcome.OutOfMemory) ⊎ (result ≡ outcome_code
-        (make_outcome disk.old.held (disk_config blocks pool standard_identity))) }
+    ensures outcome { IsCodeUnlessOutOfMemory
+        (make_outcome disk.old.held (disk_config blocks pool standard_identity)) result }
     ensures made { result ≡ 0 → disk.new.held
         ≡ Some (new_disk (disk_config blocks pool standard_identity)) }
     ensures refused { result ≢ 0 → disk.new.held ≡ disk.old.held }
@@ -44,8 +45,8 @@ pub extern "C" fn mehdalung_make_as(
     pool: u32,
     identity: &IdentityRecord,
 ) -> u32
-    ensures outcome { (result ≡ outcome_code Outcome.OutOfMemory) ⊎ (result ≡ outcome_code
-        (make_as_outcome disk.old.held blocks pool (asked_identity identity.now))) }
+    ensures outcome { IsCodeUnlessOutOfMemory
+        (make_as_outcome disk.old.held blocks pool (asked_identity identity.now)) result }
     ensures made { result ≡ 0 → IfOk (asked_identity identity.now)
         (λ names. disk.new.held ≡ Some (new_disk (disk_config blocks pool names))) }
     ensures refused { result ≢ 0 → disk.new.held ≡ disk.old.held }
@@ -107,8 +108,7 @@ pub extern "C" fn mehdalung_tool(
     data_out: &mut [u8],
     command: &mut CommandRecord,
 ) -> u32
-    ensures outcome { (result ≡ outcome_code Outcome.OutOfMemory)
-        ⊎ (result ≡ outcome_code (plan_outcome text.now (length data_out.old))) }
+    ensures outcome { IsCodeUnlessOutOfMemory (plan_outcome text.now (length data_out.old)) result }
     ensures planned { result ≡ 0 → IsPlanned text.now data_out.old data_out.new command.new }
 
     // Refused, it changes nothing.

@@ -1,6 +1,6 @@
 -- How calls end.
-use Rattle.std.specs.Prelude.{ℕ, List, Option, None, Some, Result, Ok, Err, if◌then◌else◌, not}
-use Rattle.std.specs.Prelude.{nat_le, nat_lt}
+use Rattle.std.specs.Prelude.{◌≡◌, ◌⊎◌, ℕ, List, Option, None, Some, Result, Ok, Err, Bool, true, false}
+use Rattle.std.specs.Prelude.{if◌then◌else◌, not, nat_le, nat_lt}
 use Rattle.sg_pages.specs.declared.identity.IdentityFault.{IdentityFault}
 use Rattle.sg_pages.specs.declared.identity.IdentityFault.TheVariants.{Text, Local}
 use Rattle.sg_target.specs.Config.{ConfigFields, checked_config}
@@ -44,6 +44,26 @@ outcome_code Usage = 15
 outcome_code Exclusive = 16
 outcome_code Number = 17
 
+-- Whether memory is asked for before a call ends so.
+abbrev pub has_asked : Outcome → Bool
+has_asked Done = true
+has_asked OutOfMemory = true
+has_asked Usage = true
+has_asked Exclusive = true
+has_asked Number = true
+has_asked outcome = false
+
+-- A call ends as is expected where memory is there; or memory was refused, where it is asked for.
+abbrev pub IsUnlessOutOfMemory : (expected outcome : Outcome) → Type 0
+IsUnlessOutOfMemory expected outcome =
+    (outcome ≡ expected) ⊎ ((outcome ≡ OutOfMemory) × (has_asked expected ≡ true))
+
+-- The same of the outcome with a number.
+abbrev pub IsCodeUnlessOutOfMemory : (expected : Outcome) → (code : ℕ) → Type 0
+IsCodeUnlessOutOfMemory expected code =
+    (code ≡ outcome_code expected)
+    ⊎ ((code ≡ outcome_code OutOfMemory) × (has_asked expected ≡ true))
+
 abbrev pub identity_outcome : IdentityFault → Outcome
 identity_outcome Text = IdentityText
 identity_outcome Local = IdentityLocal
@@ -65,6 +85,10 @@ abbrev disk_outcome : Option Kept → Outcome
 disk_outcome (Some disk) = Done
 disk_outcome None = NoDisk
 
+-- The least length of a buffer for data-in, in bytes: that of 256 blocks.
+abbrev pub least_buffer : ℕ
+least_buffer = 131072
+
 -- How a command ends for an initiator, with a buffer for data-in of a length. Each is checked before
 -- anything is executed.
 abbrev pub execute_outcome : Option Kept → (initiator room : ℕ) → Outcome
@@ -85,10 +109,6 @@ tool_fault_outcome tool_fault.Usage = Usage
 tool_fault_outcome tool_fault.Exclusive = Exclusive
 tool_fault_outcome tool_fault.Number = Number
 tool_fault_outcome tool_fault.OutOfMemory = OutOfMemory
--- The least length of a buffer for data-in, in bytes: that of 256 blocks.
-abbrev pub least_buffer : ℕ
-least_buffer = 131072
-
 
 abbrev pub text_outcome : TextFault → Outcome
 text_outcome text_fault.BadByte = BadByte

@@ -1,6 +1,6 @@
 // The commands of tools.
-ghost use Rattle.std.specs.Prelude.{◌≡◌, ◌≢◌, ◌≤◌, ◌⊎◌, IfErr, IfOk, OnErr, length};
-ghost use Rattle.sg_embed.specs.Outcome.{outcome_of, plan_outcome};
+ghost use Rattle.std.specs.Prelude.{◌≡◌, ◌≢◌, IfErr, IfOk, OnErr, length};
+ghost use Rattle.sg_embed.specs.Outcome.{IsUnlessOutOfMemory, outcome_of, plan_outcome};
 ghost use Rattle.sg_embed.specs.Planned.{IsPlanned, ShowsPlan};
 
 use crate::kinds::kind_number;
@@ -49,8 +49,8 @@ impl CommandRecord {
 /// The first outcome that applies of a buffer that is too short and the faults of
 /// [`TextFault`](sg_run::TextFault). The buffer is as it was then.
 pub fn plan_tool(alloc: Global, text: &[u8], data_out: &mut [u8]) -> Result<CommandRecord, Outcome>
-    ensures outcome { (outcome_of result ≡ Outcome.OutOfMemory)
-        ⊎ (outcome_of result ≡ plan_outcome text.now (length data_out.old)) }
+    ensures outcome { IsUnlessOutOfMemory (plan_outcome text.now (length data_out.old))
+        (outcome_of result) }
     ensures planned { IfOk result (λ command.
         IsPlanned text.now data_out.old data_out.new command) }
     ensures refused { IfErr result (λ outcome. outcome ≢ Outcome.Done) }

@@ -91,17 +91,17 @@ impl Drop for Slot {
 }
 
 impl Slot {
-    ghost use Rattle.std.specs.Prelude.{◌≢◌, ◌≡◌, ◌⊎◌, length};
+    ghost use Rattle.std.specs.Prelude.{◌≢◌, ◌≡◌, length};
     ghost use Rattle.sg_embed.specs.Executed.{IsAnswered, IsPowerCycled, disk_config, new_disk};
-    ghost use Rattle.sg_embed.specs.Outcome.{execute_outcome, make_outcome};
+    ghost use Rattle.sg_embed.specs.Outcome.{IsUnlessOutOfMemory, execute_outcome, make_outcome};
     ghost use Rattle.sg_embed.specs.Outcome.{power_cycle_outcome};
 
     /// Makes a disk as it is after power on, of `blocks` logical blocks, of which `pool` can be
     /// mapped at once. All memory is taken here. The disk stays as it was where another outcome than
     /// `Done` is returned.
     pub fn make(&mut self, alloc: Global, blocks: u64, pool: u32, identity: Identity) -> Outcome
-        ensures outcome { (result ≡ Outcome.OutOfMemory) ⊎ (result ≡ make_outcome self.old.held
-            (disk_config blocks pool identity)) }
+        ensures outcome { IsUnlessOutOfMemory
+            (make_outcome self.old.held (disk_config blocks pool identity)) result }
         ensures made { result ≡ Outcome.Done → self.new.held
             ≡ Some (new_disk (disk_config blocks pool identity)) }
         ensures refused { result ≢ Outcome.Done → self.new.held ≡ self.old.held }

@@ -1,5 +1,5 @@
 -- The words of a tool.
-use Rattle.std.proofs.Common.{◌≡◌, ◌≤◌, ◌<◌, ◌⊎◌, ℕ, ◌-◌, List, [], ◌∷◌, length, map, take, drop}
+use Rattle.std.proofs.Common.{◌≡◌, ◌≤◌, ◌<◌, ℕ, ◌-◌, List, [], ◌∷◌, length, map, take, drop}
 use Rattle.std.proofs.Common.{Bor, Option, Some, Result, Ok, Err, true, refl, sym, ap, ◌∙◌, arith}
 use Rattle.std.proofs.Common.{inl, inr}
 use Rattle.std.specs.List.{list_all}
@@ -12,10 +12,9 @@ use Rattle.sg_tools.specs.declared.tool_fault.ToolFault.TheVariants as tool_faul
 use Rattle.sg_tools.specs.declared.tool_name.ToolName.{ToolName}
 use Rattle.sg_run.specs.Limits.{word_limit}
 use Rattle.sg_run.specs.Request.{first_tool, is_allowed, named_tool, tool_line}
-use Rattle.sg_run.specs.ToolText.{asked_of, in_text, tool_of_text}
+use Rattle.sg_run.specs.ToolText.{IsReadUnlessOutOfMemory, asked_of, in_text, names_tool, tool_of_text}
 use Rattle.sg_run.specs.Words.{tool_words, words}
 use Rattle.sg_run.specs.declared.request.text_fault.TextFault.{TextFault}
-use Rattle.sg_run.specs.declared.request.text_fault.TextFault.TheVariants.{Refused}
 use Rattle.sg_run.proofs.RequestLemmas.{few-words}
 
 -- ---- the first of them is the name of the tool
@@ -87,15 +86,20 @@ asked-in_text text kept name allowed few same named =
     (ap (λ n. asked_of n (words text)) (ap first_tool (sym same) ∙ named)
     ∙ ap (λ ws. in_text (request name ws)) (sym same))
 
--- or memory was refused
-pub read-in_text : (result wanted : Result Tool TextFault) (expected parsed : ToolRequest)
-    → result ≡ in_text parsed → IsUnlessOutOfMemory expected parsed → wanted ≡ in_text expected
-    → (result ≡ wanted) ⊎ (result ≡ Err (Refused tool_fault.OutOfMemory))
-read-in_text result wanted expected (Ok tool) r is w = inl (r ∙ (ap in_text (sym is) ∙ sym w))
-read-in_text result wanted expected (Err tool_fault.OutOfMemory) r is w = inr r
-read-in_text result wanted expected (Err tool_fault.Usage) r is w =
+names-in_text : (asked : ToolRequest) → names_tool (in_text asked) ≡ true
+names-in_text (Ok tool) = refl
+names-in_text (Err fault) = refl
+
+-- what a tool returns is what its text asks for, or memory was refused
+pub read-in_text : (text : List ℕ) (result : Result Tool TextFault) (expected parsed : ToolRequest)
+    → result ≡ in_text parsed → IsUnlessOutOfMemory expected parsed
+    → tool_of_text text ≡ in_text expected → IsReadUnlessOutOfMemory text result
+read-in_text text result wanted (Ok tool) r is w = inl (r ∙ (ap in_text (sym is) ∙ sym w))
+read-in_text text result wanted (Err tool_fault.OutOfMemory) r is w =
+    inr (r, ap names_tool w ∙ names-in_text wanted)
+read-in_text text result wanted (Err tool_fault.Usage) r is w =
     inl (r ∙ (ap in_text (sym is) ∙ sym w))
-read-in_text result wanted expected (Err tool_fault.Number) r is w =
+read-in_text text result wanted (Err tool_fault.Number) r is w =
     inl (r ∙ (ap in_text (sym is) ∙ sym w))
-read-in_text result wanted expected (Err tool_fault.Exclusive) r is w =
+read-in_text text result wanted (Err tool_fault.Exclusive) r is w =
     inl (r ∙ (ap in_text (sym is) ∙ sym w))

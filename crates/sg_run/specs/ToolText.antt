@@ -1,12 +1,10 @@
 -- What the words of a text ask a tool for: those of a script's line without its initiator.
-use Rattle.std.specs.Prelude.{ℕ, List, length, Option, Some, None, Result, Ok, Err, not, nat_lt}
-use Rattle.std.specs.Prelude.{if◌then◌else◌}
-use Rattle.std.specs.List.{list_all}
+use Rattle.std.specs.Prelude.{◌≡◌, ◌⊎◌, ℕ, List, Option, Some, None, Result, Ok, Err, Bool, true, false}
 use Rattle.sg_tools.specs.Requests.{request, Request as ToolRequest}
 use Rattle.sg_tools.specs.declared.tool.Tool.{Tool}
+use Rattle.sg_tools.specs.declared.tool_fault.ToolFault.TheVariants.{OutOfMemory}
 use Rattle.sg_tools.specs.declared.tool_name.ToolName.{ToolName}
-use Rattle.sg_run.specs.Limits.{word_limit}
-use Rattle.sg_run.specs.Request.{first_tool, is_allowed}
+use Rattle.sg_run.specs.Request.{first_tool, unless_faulty}
 use Rattle.sg_run.specs.Words.{words}
 use Rattle.sg_run.specs.declared.request.text_fault.TextFault.{TextFault}
 use Rattle.sg_run.specs.declared.request.text_fault.TextFault.TheVariants.{BadByte, TooManyWords}
@@ -23,10 +21,20 @@ asked_of (Some name) words = in_text (request name words)
 
 abbrev pub by_tool_words : (text : List ℕ) → List (List ℕ) → Result Tool TextFault
 by_tool_words text words =
-    if not (list_all is_allowed text) then Err BadByte
-    else (if nat_lt word_limit (length words) then Err TooManyWords
-    else asked_of (first_tool words) words)
+    unless_faulty text words (Err BadByte) (Err TooManyWords) (asked_of (first_tool words) words)
 
--- The first word is the tool's name. Faults of the whole text come first.
+-- The first word is the tool's name.
 unfoldable pub tool_of_text : List ℕ → Result Tool TextFault
 tool_of_text text = by_tool_words text (words text)
+
+-- Whether a text that asks for this names a tool, which takes memory to read its words.
+abbrev pub names_tool : Result Tool TextFault → Bool
+names_tool (Ok tool) = true
+names_tool (Err (Refused fault)) = true
+names_tool (Err fault) = false
+
+-- What a text asks for; or memory was refused, where the text names a tool.
+abbrev pub IsReadUnlessOutOfMemory : (text : List ℕ) → Result Tool TextFault → Type 0
+IsReadUnlessOutOfMemory text result =
+    (result ≡ tool_of_text text)
+    ⊎ ((result ≡ Err (Refused OutOfMemory)) × (names_tool (tool_of_text text) ≡ true))

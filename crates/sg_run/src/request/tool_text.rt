@@ -1,6 +1,6 @@
 // The text of a tool.
-ghost use Rattle.std.specs.Prelude.{◌≡◌, ◌⊎◌, Err};
-ghost use Rattle.sg_run.specs.ToolText.{in_text, tool_of_text};
+ghost use Rattle.std.specs.Prelude.{◌≡◌};
+ghost use Rattle.sg_run.specs.ToolText.{IsReadUnlessOutOfMemory, in_text};
 
 use super::tool_words::{first_tool, parse_words};
 use super::words::Words;
@@ -18,11 +18,10 @@ use std::alloc::Global;
 /// - `UnknownTool` where there is no word, or the first is not the name of a tool,
 /// - the fault of [`Tool::parse`].
 ///
-/// `OutOfMemory` comes in place of what the tool's words ask for, where memory is refused.
+/// `OutOfMemory` comes in place of what [`Tool::parse`] returns, where memory is refused.
 #[tactic(auto, unfolding(crate::specs::ToolText::tool_of_text))]
 pub fn read_tool(alloc: Global, text: &[u8]) -> Result<Tool, TextFault>
-    ensures { (result ≡ tool_of_text text.now)
-        ⊎ (result ≡ Err (TextFault.Refused ToolFault.OutOfMemory)) }
+    ensures { IsReadUnlessOutOfMemory text.now result }
 {
     let mut words: Words<'_, WORD_LIMIT> = Words::new();
     words.split(text);

@@ -30,6 +30,6 @@ returns-in-Some c =
     let allowed = sym c.split.ensures.are_allowed ∙ c.if-not-words.false in
     let few : length (words c.args.text.now) ≤ word_limit = omega (arith, c.split.ensures.count) in
     let all = kept ∙ take_all 64 (words c.args.text.now) few in
-    read-in_text _ _ _ _ c.in_text.ensures c.parse_words.ensures
+    read-in_text c.args.text.now _ _ _ c.in_text.ensures c.parse_words.ensures
     (asked-in_text c.args.text.now _ c.in-Some.name allowed few all
     (sym c.first_tool.ensures ∙ c.in-Some.is))
