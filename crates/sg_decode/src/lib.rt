@@ -27,8 +27,8 @@ pub use mode_parameters::put_modes;
 pub use number_text::put_number;
 pub use persistent_reservation::{put_capabilities, put_full_status, put_keys, put_reservation};
 pub use print::{
-    print_capabilities, print_full_status, print_hex, print_inquiry, print_keys, print_lba_status,
-    print_modes, print_reservation, print_sense, print_vpd,
+    GATHERED, print_capabilities, print_full_status, print_hex, print_inquiry, print_keys,
+    print_lba_status, print_modes, print_reservation, print_sense, print_vpd,
 };
 pub use sense::{put_read_sense, put_sense};
 pub use vital_product_data::put_vpd;

@@ -22,8 +22,8 @@ use sg_wire::{Printer, Watched};
 use std::io;
 use std::io::Write;
 
-// How many bytes of a text are gathered for a write.
-const GATHERED: usize = 512;
+/// How many bytes of a text are gathered for a write.
+pub const GATHERED: usize = 512;
 
 /// Prints standard INQUIRY data (SPC-4, 6.6.2), and what follows its 36 bytes in hex lines.
 ///

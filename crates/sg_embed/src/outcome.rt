@@ -33,7 +33,7 @@ pub enum Outcome {
     BadByte = 12,
     /// A tool's text has more than 64 words.
     TooManyWords = 13,
-    /// The first word is not the name of a tool.
+    /// There is no word, or the first is not the name of a tool.
     UnknownTool = 14,
     /// The words are not those of the tool.
     Usage = 15,

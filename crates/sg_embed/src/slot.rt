@@ -107,13 +107,13 @@ impl Slot {
         ensures refused { result ≢ Outcome.Done → self.new.held ≡ self.old.held }
     {
         if let Some(kept) = self.take(alloc) {
-            *self = Slot::of(kept);
+            self.put(kept);
             return Outcome::DiskExists;
         }
         match Config::new(blocks, pool, identity) {
             Ok(config) => match Kept::new(alloc, config) {
                 Ok(kept) => {
-                    *self = Slot::of(kept);
+                    self.put(kept);
                     Outcome::Done
                 }
                 Err(_) => Outcome::OutOfMemory,
@@ -156,8 +156,7 @@ impl Slot {
         };
         let done = kept.target.execute(initiator, cdb, data_out, data_in);
         reply.show(done);
-        // There is nothing in the slot to drop, which the compiler doesn't know.
-        forget(replace(self, Slot::of(kept)));
+        self.put(kept);
         Outcome::Done
     }
 
@@ -171,7 +170,7 @@ impl Slot {
             return Outcome::NoDisk;
         };
         kept.target.power_cycle();
-        *self = Slot::of(kept);
+        self.put(kept);
         Outcome::Done
     }
 
@@ -181,6 +180,14 @@ impl Slot {
         ensures taken { self.new.held ≡ None }
     {
         replace(self, Slot::empty(alloc)).into_kept()
+    }
+
+    // Puts a disk into a slot without one. There is nothing to drop, which the compiler doesn't know.
+    fn put(&mut self, kept: Box<Kept>)
+        requires { self.old.held ≡ None }
+        ensures { self.new.held ≡ Some kept.value }
+    {
+        forget(replace(self, Slot::of(kept)));
     }
 }
 

@@ -10,14 +10,13 @@ ghost use Rattle.sg_run.specs.AnswerText.{answer_text};
 ghost use Rattle.sg_run.specs.Limits.{longest_line};
 ghost use Rattle.sg_run.specs.LineFault.{fault_message, fault_status};
 ghost use Rattle.sg_run.specs.LineText.{line_header};
-ghost use Rattle.sg_run.specs.Memory.{longest_transfer, reply_length};
 ghost use Rattle.sg_run.specs.Outcome.{by_request, fill_step, outcome, power_outcome};
 ghost use Rattle.sg_run.specs.Outcome.{reply_outcome};
 ghost use Rattle.sg_tools.specs.declared.show.Show.TheVariants.{Nothing};
 ghost use Rattle.sg_run.specs.Printed.{ExecutesLine, HasOutcome, HasOutcomeUnlessOutOfMemory};
 ghost use Rattle.sg_run.specs.RequestLines.{line_request, tool_request};
 
-use crate::buffers::Buffers;
+use crate::buffers::{Buffers, REPLY_LENGTH};
 use crate::request::{FilledBlocks, LineFault, Request, ToolLine, read_request};
 use crate::text::answer::put_answer;
 use crate::text::header::print_line_header;
@@ -69,8 +68,8 @@ fn execute_request<W: Write, S: Store>(
     target: &mut Target<S>,
     out: &mut Printer<'_, W>,
 ) -> u8
-    requires data_out { length data_out.old ≡ longest_transfer }
-    requires buffer { length buffer.old ≡ reply_length }
+    requires data_out { length data_out.old ≡ BUFFER_LENGTH }
+    requires buffer { length buffer.old ≡ REPLY_LENGTH }
     ensures { HasOutcomeUnlessOutOfMemory W.contents out.old out.new target.new.state result
         (λ out_of_memory.
         by_request number out_of_memory target.old.state (line_request request.now)) }
@@ -104,7 +103,7 @@ fn print_shown<W: Write>(
     buffer: &mut [u8],
     out: &mut Printer<'_, W>,
 ) -> u8
-    requires { length buffer.old ≡ reply_length }
+    requires { length buffer.old ≡ REPLY_LENGTH }
     ensures text { PrintsText W.contents out.old out.new
         (line_header number (codes "SHOWN") ++ answer_text show bytes.now) }
     ensures status { result ≡ 0 }
@@ -138,8 +137,8 @@ fn fill_blocks<W: Write, S: Store>(
     target: &mut Target<S>,
     out: &mut Printer<'_, W>,
 ) -> u8
-    requires data_out { length data_out.old ≡ longest_transfer }
-    requires buffer { length buffer.old ≡ reply_length }
+    requires data_out { length data_out.old ≡ BUFFER_LENGTH }
+    requires buffer { length buffer.old ≡ REPLY_LENGTH }
     ensures { let b = blocks.now in HasOutcome W.contents out.old out.new target.new.state result
         (reply_outcome number Nothing
         (fill_step target.old.state b.initiator b.lba b.count b.byte)) }
@@ -173,8 +172,8 @@ fn run_tool<W: Write, S: Store>(
     target: &mut Target<S>,
     out: &mut Printer<'_, W>,
 ) -> u8
-    requires data_out { length data_out.old ≡ longest_transfer }
-    requires buffer { length buffer.old ≡ reply_length }
+    requires data_out { length data_out.old ≡ BUFFER_LENGTH }
+    requires buffer { length buffer.old ≡ REPLY_LENGTH }
     ensures { HasOutcomeUnlessOutOfMemory W.contents out.old out.new target.new.state result
         (λ out_of_memory.
         by_request number out_of_memory target.old.state (tool_request line.now)) }
@@ -202,7 +201,7 @@ fn send<W: Write, S: Store>(
     target: &mut Target<S>,
     out: &mut Printer<'_, W>,
 ) -> u8
-    requires { length buffer.old ≡ reply_length }
+    requires { length buffer.old ≡ REPLY_LENGTH }
     ensures { let c = call.now in HasOutcome W.contents out.old out.new target.new.state result
         (reply_outcome number show (step target.old.state c.initiator c.cdb.now c.data_out.now)) }
 {

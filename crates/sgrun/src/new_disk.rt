@@ -52,8 +52,8 @@ fn run_in_new_session<'a, R: Read, W: Write, S: Store>(
     outcome_of_run(run_script(alloc, reader, writer, &mut session, target))
 }
 
-// The outcome of a run. Apart, so that the disk and the session are dropped in one place: the prover
-// follows that once.
+// The outcome of a run. Apart, so that the session is dropped in one place: the prover follows that
+// once.
 fn outcome_of_run<'a>(ran: Result<u8, RunFault>) -> Result<u8, Stop<'a>>
     ensures { result ≡ by_run ran }
 {

@@ -11,8 +11,8 @@ pub enum TextFault {
     /// There are more than 64 words.
     #[error("there are more than 64 words")]
     TooManyWords,
-    /// The first word is not the name of a tool.
-    #[error("the first word is not the name of a tool")]
+    /// There is no word, or the first is not the name of a tool.
+    #[error("there is no word, or the first is not the name of a tool")]
     UnknownTool,
     /// The tool refuses its words, or memory was refused.
     #[error(transparent)]

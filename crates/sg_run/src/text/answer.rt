@@ -6,16 +6,13 @@ ghost use Rattle.sg_decode.specs.HexText.{gathered_text};
 ghost use Rattle.sg_run.specs.AnswerText.{answer_text};
 
 use sg_decode::{
-    GATHERED_TEXT, put_capabilities, put_full_status, put_hex_lines, put_inquiry, put_keys,
-    put_lba_status, put_modes, put_reservation, put_sense, put_vpd,
+    GATHERED, GATHERED_TEXT, put_capabilities, put_full_status, put_hex_lines, put_inquiry,
+    put_keys, put_lba_status, put_modes, put_reservation, put_sense, put_vpd,
 };
 use sg_tools::Show;
 use sg_wire::{Printer, Watched};
 use std::io;
 use std::io::Write;
-
-// How many bytes of a text are gathered for a write.
-const GATHERED: usize = 512;
 
 /// Prints the bytes of an answer as they are asked for. Hexadecimal lines are gathered in `lines`.
 pub(crate) fn put_answer<W: Write>(
