@@ -26,8 +26,12 @@ fn count_needed<S: Store>(store: &mut S, ranges: &[AddressRange]) -> u64
     requires fits { AreWithin (S.disk store.old).capacity ranges.now }
     requires size { HasAllowedSize (S.disk store.old) }
     requires nothing_counted { (S.meter store.old).counts ≡ no_counts }
+
+    // The disk stays as it is.
     ensures value { result ≡ need_of (S.disk store.old).contents ranges.now }
     ensures disk { S.disk store.new ≡ S.disk store.old }
+
+    // What it costs.
     ensures counted { IsCounted (cost_bounds S.price S.least) (S.disk store.old).pool
         (counted_ranges (S.disk store.old).contents ranges.now)
         (S.meter store.old) (S.meter store.new) }
@@ -66,6 +70,8 @@ fn anchor_in_turn<S: Store>(store: &mut S, extents: &[Extent])
     requires room { len (anchored_in_turn (S.disk store.old).contents extents.now)
         ≤ (S.disk store.old).pool }
     requires counts { AreOfOneList (S.meter store.old).counts }
+
+    // All of them are anchored.
     ensures disk { S.disk store.new ≡ disk_anchored_in_turn (S.disk store.old) extents.now }
 
     // Whatever was counted before.

@@ -45,6 +45,8 @@ fn replace(leaves: &mut Leaves, from: Place, to: Place, runs: &[Run])
     requires room { length (replaced leaves.old.leaves from to runs.now) < MIN_LEAF * leaves.old.capacity }
     requires count { length (joined leaves.old.leaves) ≤ MAX_RECORDS }
     requires new_count { length (replaced leaves.old.leaves from to runs.now) ≤ MAX_RECORDS }
+
+    // The leaves are balanced again.
     ensures records { joined leaves.new.leaves ≡ replaced leaves.old.leaves from to runs.now }
     ensures spliced { IsSpliced leaves.old leaves.new (length runs.now) }
 {
@@ -149,6 +151,8 @@ fn level(leaves: &mut Leaves, leaf: usize)
     requires before { All IsFilled (take leaf leaves.old.leaves) }
     requires behind { All IsFilled (drop (leaf + 2) leaves.old.leaves) }
     requires count { length (joined leaves.old.leaves) ≤ MAX_RECORDS }
+
+    // All records are there still, and each leaf has enough of them.
     ensures records { joined leaves.new.leaves ≡ joined leaves.old.leaves }
     ensures filled { All IsFilled leaves.new.leaves }
     ensures moves { MovesAtMost leaves.old leaves.new level_bound }
