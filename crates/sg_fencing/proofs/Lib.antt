@@ -25,6 +25,7 @@ mod AgreeLemmas
 mod InsideLemmas
 -- Lists of commands
 mod OutsiderRunLemmas
+mod UnseenRunLemmas
 mod FencedRunLemmas
 mod PowerLemmas
 mod PoweredRunLemmas

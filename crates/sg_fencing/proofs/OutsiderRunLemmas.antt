@@ -49,7 +49,7 @@ writes-refused refuses state j held unknown =
     (shut refuses state j (record { held = held; unknown = unknown })).writes
 
 -- a reservation that excludes reading is held
-held-to-exclude : (held : Option Reservation) → excludes_reading held ≡ true → is_some held ≡ true
+pub held-to-exclude : (held : Option Reservation) → excludes_reading held ≡ true → is_some held ≡ true
 held-to-exclude (Some r) h = refl
 held-to-exclude None h = h
 

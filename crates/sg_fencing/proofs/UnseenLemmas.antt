@@ -41,7 +41,7 @@ use Rattle.sg_fencing.proofs.AccessLemmas.{asked-is-allowed}
 not-less : (m n : ℕ) → n ≤ m → nat_lt m n ≡ false
 not-less m n h = grind (arith, nat_tests)
 
-fits : (disk : Disk) → len disk.contents ≤ disk.pool → no_space disk ≡ None
+pub fits : (disk : Disk) → len disk.contents ≤ disk.pool → no_space disk ≡ None
 unfolding no_space
 fits disk h =
     ap (λ (b : Bool). cond {A = Option Refusal} b (Some (Check SpaceAllocationFailed)) None)
@@ -117,7 +117,7 @@ module _ (s : State) (x : Contents) (j : ℕ) (fit : len s.disk.contents ≤ s.d
   operation-alike (ReturnReservations action n) r w =
       effect-alike (reporting s action n) (reporting t action n) refl refl refl
 
-  parse-same : (data_out : List ℕ) (parsed : Result Command CdbFault)
+  pub parse-same : (data_out : List ℕ) (parsed : Result Command CdbFault)
       → checked_parse s parsed data_out ≡ checked_parse t parsed data_out
   parse-same data_out (Err fault) = refl
   parse-same data_out (Ok command) = refl

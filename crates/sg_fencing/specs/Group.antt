@@ -1,8 +1,7 @@
 -- The group of a disk: what its registrants see together, what a new registration changes of that, and
 -- that the commands of those outside may be left out.
-use Rattle.std.specs.Prelude.{◌≡◌, ℕ, ◌+◌, ◌%◌, ◌^◌, Bool, true, false, ◌&&◌, not, List, filter, map}
+use Rattle.std.specs.Prelude.{◌≡◌, ℕ, ◌+◌, ◌%◌, ◌^◌, Bool, true, false, ◌&&◌, not, List, filter}
 use Rattle.std.specs.Prelude.{slice_get, take, Option, Some, None, Result, Ok, if◌then◌else◌}
-use Rattle.std.specs.List.{zip}
 use Rattle.sg_wire.specs.CutAnswer.{first_bytes}
 use Rattle.sg_wire.specs.Layout.{command_of}
 use Rattle.sg_wire.specs.OutList.{out_list}
@@ -20,7 +19,8 @@ use Rattle.sg_target.specs.State.{IsWithinLimits, State}
 use Rattle.sg_target.specs.Step.{Answer, step}
 use Rattle.sg_target.specs.declared.call.Call.{Call}
 use Rattle.sg_fencing.specs.Fencing.{view_of}
-use Rattle.sg_fencing.specs.Registrants.{has_registering, is_registering, is_registrant, is_reserved}
+use Rattle.sg_fencing.specs.Registrants.{answers_where, has_registering, is_registering}
+use Rattle.sg_fencing.specs.Registrants.{is_registrant, is_reserved}
 
 -- ---- What a group sees
 
@@ -94,10 +94,7 @@ abbrev pub calls_inside : (outside : ℕ → Bool) → List Call → List Call
 calls_inside outside calls = filter (is_from_inside outside) calls
 
 abbrev pub answers_inside : (outside : ℕ → Bool) → State → List Call → List Answer
-answers_inside outside state calls =
-    map (λ (exchange : Call × Answer). exchange.1)
-    (filter (λ (exchange : Call × Answer). is_from_inside outside exchange.0)
-    (zip calls (answers state calls)))
+answers_inside outside state calls = answers_where (is_from_inside outside) state calls
 
 -- The calls from outside may be left out: the answers to all others are the same without them, also
 -- to PERSISTENT RESERVE IN and PERSISTENT RESERVE OUT, and in the end so are what the group sees and

@@ -3,8 +3,8 @@
 -- registrants all may write: another node removes its registration by PREEMPT.
 use Rattle.std.specs.Prelude.{◌≡◌, ◌≤◌, ℕ, Bool, true, false, ◌&&◌, not, List, Option, Some}
 use Rattle.std.specs.Prelude.{Result, Ok, None, if◌then◌else◌}
-use Rattle.std.specs.Prelude.{is_some, slice_get, take}
-use Rattle.std.specs.List.{list_all, list_any}
+use Rattle.std.specs.Prelude.{filter, is_some, map, slice_get, take}
+use Rattle.std.specs.List.{list_all, list_any, zip}
 use Rattle.std.specs.FinMap.{len}
 use Rattle.std.specs.Option.{option_map_or}
 use Rattle.sg_wire.specs.CutAnswer.{first_bytes}
@@ -151,6 +151,29 @@ FencedOffReadNothing =
     → call.initiator ≡ initiator → class_of call.cdb.now ≡ Some Reads
     → excludes_reading (state_after_all state (take n calls)).reservations.reservation ≡ true
     → answer.status ≡ Good → ⊥
+
+-- The answers to some calls of a list, in order.
+abbrev pub answers_where : (Call → Bool) → State → List Call → List Answer
+answers_where chosen state calls =
+    map (λ (exchange : Call × Answer). exchange.1)
+    (filter (λ (exchange : Call × Answer). chosen exchange.0) (zip calls (answers state calls)))
+
+-- Whenever an initiator sends a command the reservation is of an exclusive access type.
+abbrev pub ExcludesReadingFrom : (initiator : ℕ) → State → List Call → Type 0
+ExcludesReadingFrom initiator state calls =
+    (n : ℕ) (call : Call) → slice_get calls n ≡ Some call → call.initiator ≡ initiator
+    → excludes_reading (state_after_all state (take n calls)).reservations.reservation ≡ true
+
+-- Then it sees no block, whatever the others write: the answers to it are the same whatever the blocks
+-- were before the list, and whichever were mapped.
+abbrev pub NoBlockIsSeenOverAList : Type 0
+NoBlockIsSeenOverAList =
+    (state : State) (contents : Contents) (initiator : ℕ) (calls : List Call)
+    → IsWithinLimits state → IsWithinLimits (with_contents state contents)
+    → is_registrant state initiator ≡ false → has_registering initiator calls ≡ false
+    → ExcludesReadingFrom initiator state calls
+    → answers_where (is_from initiator) (with_contents state contents) calls
+    ≡ answers_where (is_from initiator) state calls
 
 -- So after a PREEMPT or a PREEMPT AND ABORT of its key an initiator writes nothing until it
 -- registers again, while a reservation is held.

@@ -12,7 +12,7 @@ ghost use Rattle.sg_fencing.specs.PowerCycles.{HolderIsAsIfAloneThroughPowerCycl
 ghost use Rattle.sg_fencing.specs.PowerCycles.{PersistentOnesStay, PowerOnIsPendingForEach, TwoAreOne};
 ghost use Rattle.sg_fencing.specs.Registrants.{FencedOffAreKeptOut, FencedOffLeaveTheView};
 ghost use Rattle.sg_fencing.specs.Registrants.{FencedOffReadNothing, FencedOffSeeNoBlock};
-ghost use Rattle.sg_fencing.specs.Registrants.{FencedOffWriteNothing};
+ghost use Rattle.sg_fencing.specs.Registrants.{FencedOffWriteNothing, NoBlockIsSeenOverAList};
 ghost use Rattle.sg_fencing.specs.Registrants.{OnlyRegisteringRegisters, OutsidersChangeNothing};
 ghost use Rattle.sg_fencing.specs.Registrants.{PreemptedAreUnregistered, PreemptedWriteNothing};
 
@@ -159,6 +159,17 @@ pub fn the_unregistered_read_nothing()
     ensures { FencedOffReadNothing }
 {
     others_are_refused();
+}
+
+/// Over a list of commands, where a reservation of an exclusive access type is held whenever an
+/// initiator sends one that is not registered and does not register: the answers to it are the same
+/// whatever the blocks were before.
+pub fn the_unregistered_see_no_block_over_a_list()
+    ensures { NoBlockIsSeenOverAList }
+{
+    limits_are_kept();
+    others_are_refused();
+    commands_have_their_class();
 }
 
 /// While a reservation of any type is held, a list of commands of initiators that are not
