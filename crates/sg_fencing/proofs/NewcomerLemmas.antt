@@ -1,5 +1,5 @@
 -- Where an initiator becomes registered, the group sees its registration and no other change.
-use Rattle.std.proofs.Common.{◌≡◌, ◌==◌, ℕ, Bool, true, false, cond, not, List, length, Option, Some}
+use Rattle.std.proofs.Common.{◌≡◌, ◌==◌, ℕ, Bool, true, false, cond, List, length, Option, Some}
 use Rattle.std.proofs.Common.{None, Result, Ok, Err, refl, sym, ap, ◌∙◌, subst}
 use Rattle.std.specs.Prelude.{unwrap_or}
 use Rattle.std.specs.Result.{result_map_both}
@@ -16,14 +16,12 @@ use Rattle.sg_wire.specs.declared.command.out_action.OutAction.TheVariants.{Regi
 use Rattle.sg_wire.specs.declared.out_list.OutList.{OutList}
 use Rattle.sg_units.specs.Registrations.{is_registered, with_registration}
 use Rattle.sg_units.specs.ReservationType.{type_of}
-use Rattle.sg_units.specs.ReserveOut.{Outcome, accepts_key, action_outcome, generation_after, outcome}
+use Rattle.sg_units.specs.ReserveOut.{Outcome, action_outcome, generation_after, outcome}
 use Rattle.sg_units.specs.ReserveOut.{register_cases}
-use Rattle.sg_units.specs.UnsupportedFlags.{has_unsupported_flag}
-use Rattle.sg_units.specs.declared.out_fault.OutFault.TheVariants.{Conflict, Field}
 use Rattle.sg_units.specs.declared.reservation_change.ReservationChange.{ReservationChange}
 use Rattle.sg_units.specs.declared.reservation_state.ReservationState.{ReservationState}
 use Rattle.sg_units.specs.declared.types.ReservationType.{ReservationType}
-use Rattle.sg_units.proofs.OutcomeLemmas.{EffectIs, FirstIs, case_or, choice, effective, refused}
+use Rattle.sg_units.proofs.OutcomeLemmas.{EffectIs, FirstIs, case_or, if-accepted, effective, refused}
 use Rattle.sg_target.specs.Checks.{no_space}
 use Rattle.sg_target.specs.Demands.{demands}
 use Rattle.sg_target.specs.Effect.{Effect}
@@ -86,12 +84,8 @@ module _ (state : ReservationState) (j : ℕ) (unknown : is_registered state.reg
 
   outcome-adds : (action : OutAction) (scope_type : ℕ) → is_registering action ≡ true
       → EffectIs AddsIf (outcome state j action scope_type list)
-  unfolding outcome
   outcome-adds action scope_type h =
-      let accepts = accepts_key state.registrations j action list.reservation_key in
-      choice (EffectIs AddsIf) (has_unsupported_flag action list) _ _ (λ _. refused AddsIf (Field 20))
-      (λ _. choice (EffectIs AddsIf) (not accepts) _ _ (λ _. refused AddsIf Conflict)
-      (λ _. action-adds action (type_of scope_type) h))
+      if-accepted AddsIf state j action scope_type list (λ _. action-adds action (type_of scope_type) h)
 
 -- ---- The command
 

@@ -12,20 +12,18 @@ use Rattle.sg_wire.specs.declared.command.Command.{Command}
 use Rattle.sg_wire.specs.declared.command.Command.TheVariants.{PersistentReserveOut}
 use Rattle.sg_wire.specs.declared.command.out_action.OutAction.{OutAction}
 use Rattle.sg_wire.specs.declared.command.out_action.OutAction.TheVariants.{Preempt, PreemptAndAbort}
-use Rattle.sg_units.specs.UnsupportedFlags.{has_unsupported_flag}
 use Rattle.sg_wire.specs.OutList.{list_length, out_list}
 use Rattle.sg_units.specs.Laws.{OneKeyEach}
 use Rattle.sg_units.specs.Registrations.{is_of, is_registered, is_registered_under, is_under, key_of}
 use Rattle.sg_units.specs.ReservationType.{type_of}
-use Rattle.sg_units.specs.ReserveOut.{Outcome, accepts_key, action_outcome, outcome, preempt_cases}
-use Rattle.sg_units.specs.declared.out_fault.OutFault.TheVariants.{Conflict, Field}
+use Rattle.sg_units.specs.ReserveOut.{Outcome, action_outcome, outcome, preempt_cases}
 use Rattle.sg_wire.specs.declared.out_list.OutList.{OutList}
 use Rattle.sg_units.specs.declared.registrations.Registration.{Registration}
 use Rattle.sg_units.specs.declared.reservation_change.ReservationChange.{ReservationChange}
 use Rattle.sg_units.specs.declared.reservation_state.ReservationState.{ReservationState}
 use Rattle.sg_units.specs.declared.types.ReservationType.{ReservationType}
 use Rattle.sg_fencing.proofs.ReserveOutLemmas.{only-key_of}
-use Rattle.sg_units.proofs.OutcomeLemmas.{EffectIs, FirstIs, case_or, choice, effective, last_case}
+use Rattle.sg_units.proofs.OutcomeLemmas.{EffectIs, FirstIs, case_or, if-accepted, effective, last_case}
 use Rattle.sg_units.proofs.OutcomeLemmas.{refused, taking}
 use Rattle.sg_target.specs.Checks.{no_space}
 use Rattle.sg_target.specs.Demands.{demands}
@@ -127,12 +125,9 @@ module _ (state : ReservationState) (i j : ℕ) (other : (j == i) ≡ false) (li
 
   outcome-removes : (action : OutAction) (scope_type : ℕ) → is_preempting action ≡ true
       → EffectIs IsRemoved (outcome state j action scope_type list)
-  unfolding outcome
   outcome-removes action scope_type h =
-      let accepts = accepts_key state.registrations j action list.reservation_key in
-      choice (EffectIs IsRemoved) (has_unsupported_flag action list) _ _ (λ _. refused IsRemoved (Field 20))
-      (λ _. choice (EffectIs IsRemoved) (not accepts) _ _ (λ _. refused IsRemoved Conflict)
-      (λ _. action-removes action (type_of scope_type) list.aptpl h))
+      if-accepted IsRemoved state j action scope_type list
+      (λ _. action-removes action (type_of scope_type) list.aptpl h)
 
 -- ---- The command
 

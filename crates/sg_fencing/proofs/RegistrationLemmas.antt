@@ -3,19 +3,17 @@
 use Rattle.std.proofs.Common.{◌≡◌, ◌==◌, ℕ, Bool, true, false, cond, not, ◌&&◌, ◌||◌, List}
 use Rattle.std.proofs.Common.{[], ◌∷◌, filter, Option, None, Ok, refl, sym, ap, ◌∙◌}
 use Rattle.std.specs.Prelude.{if◌then◌else◌, is_some}
-use Rattle.std.proofs.lemmas.Bool.{false≢true, not-false}
+use Rattle.std.proofs.lemmas.Bool.{false≢true}
 use Rattle.sg_wire.specs.declared.command.out_action.OutAction.{OutAction}
 use Rattle.sg_wire.specs.declared.command.out_action.OutAction.TheVariants.{Register, Reserve}
 use Rattle.sg_wire.specs.declared.command.out_action.OutAction.TheVariants.{Release, Clear, Preempt}
 use Rattle.sg_wire.specs.declared.command.out_action.OutAction.TheVariants.{PreemptAndAbort}
 use Rattle.sg_wire.specs.declared.command.out_action.OutAction.TheVariants.{RegisterAndIgnoreExistingKey}
-use Rattle.sg_units.specs.UnsupportedFlags.{has_unsupported_flag}
 use Rattle.sg_units.specs.Registrations.{is_of, is_registered, is_registered_under, is_under, key_of}
 use Rattle.sg_units.specs.Registrations.{with_key_replaced, with_registration, without_initiator}
 use Rattle.sg_units.specs.ReservationType.{type_of}
 use Rattle.sg_units.specs.ReserveOut.{accepts_key, action_outcome, outcome, preempt_cases}
 use Rattle.sg_units.specs.ReserveOut.{register_cases, release_cases, reserve_cases}
-use Rattle.sg_units.specs.declared.out_fault.OutFault.TheVariants.{Conflict, Field}
 use Rattle.sg_wire.specs.declared.out_list.OutList.{OutList}
 use Rattle.sg_units.specs.declared.registrations.Registration.{Registration}
 use Rattle.sg_units.specs.declared.reservation_change.ReservationChange.{ReservationChange}
@@ -24,7 +22,7 @@ use Rattle.sg_units.specs.declared.types.ReservationType.{ReservationType}
 use Rattle.sg_units.specs.declared.unit_attention.UnitAttention.{UnitAttention}
 use Rattle.sg_fencing.proofs.ReserveOutLemmas.{IsLeft, is_registered-key_of, key_of-push, key_of-replaced}
 use Rattle.sg_fencing.proofs.ReserveOutLemmas.{key_of-without}
-use Rattle.sg_units.proofs.OutcomeLemmas.{EffectIs, FirstIs, case_or, choice, effective, last_case}
+use Rattle.sg_units.proofs.OutcomeLemmas.{EffectIs, FirstIs, case_or, if-accepted, effective, last_case}
 use Rattle.sg_units.proofs.OutcomeLemmas.{refused, taking, typed}
 use Rattle.sg_fencing.specs.Registrants.{is_registering}
 
@@ -115,13 +113,9 @@ module _ (state : ReservationState) (i j : ℕ) (other : (j == i) ≡ false)
 
   pub outcome-leaves : (action : OutAction) (scope_type : ℕ) (list : OutList)
       → EffectIs Leaves (outcome state j action scope_type list)
-  unfolding outcome
   outcome-leaves action scope_type list =
-      let accepts = accepts_key state.registrations j action list.reservation_key in
-      choice (EffectIs Leaves) (has_unsupported_flag action list) _ _ (λ _. refused Leaves (Field 20))
-      (λ _. choice (EffectIs Leaves) (not accepts) _ _ (λ _. refused Leaves Conflict)
-      (λ yes. action-leaves action (type_of scope_type) list.service_action_key list.aptpl
-      list.reservation_key (not-false accepts yes)))
+      if-accepted Leaves state j action scope_type list
+      (action-leaves action (type_of scope_type) list.service_action_key list.aptpl list.reservation_key)
 
 -- ---- Other actions of it than those that register
 
@@ -142,14 +136,11 @@ module _ (state : ReservationState) (j : ℕ) (unknown : is_registered state.reg
   pub outcome-refused : (action : OutAction) (scope_type : ℕ) (list : OutList)
       → not (is_registering action) ≡ true
       → EffectIs Never (outcome state j action scope_type list)
-  unfolding outcome
   outcome-refused action scope_type list h =
-      let all = state.registrations in
       let key = list.reservation_key in
-      choice (EffectIs Never) (has_unsupported_flag action list) _ _ (λ _. refused Never (Field 20))
-      (λ _. choice (EffectIs Never) (not (accepts_key all j action key)) _ _ (λ _. refused Never Conflict)
-      (λ yes. absurd (false≢true (sym (no-key action key h ∙ not-under all j key unknown)
-      ∙ not-false (accepts_key all j action key) yes))))
+      if-accepted Never state j action scope_type list
+      (λ accepted. absurd (false≢true
+      (sym (no-key action key h ∙ not-under state.registrations j key unknown) ∙ accepted)))
 
 -- ---- An initiator stays unregistered
 
@@ -223,9 +214,6 @@ module _ (state : ReservationState) (i j : ℕ) (unknown : is_registered state.r
   pub outcome-unknown : (action : OutAction) (scope_type : ℕ) (list : OutList)
       → (is_registering action ≡ true → (j == i) ≡ false)
       → EffectIs IsUnknown (outcome state j action scope_type list)
-  unfolding outcome
   outcome-unknown action scope_type list h =
-      let accepts = accepts_key state.registrations j action list.reservation_key in
-      choice (EffectIs IsUnknown) (has_unsupported_flag action list) _ _ (λ _. refused IsUnknown (Field 20))
-      (λ _. choice (EffectIs IsUnknown) (not accepts) _ _ (λ _. refused IsUnknown Conflict)
-      (λ _. action-unknown action (type_of scope_type) list.service_action_key list.aptpl h))
+      if-accepted IsUnknown state j action scope_type list
+      (λ _. action-unknown action (type_of scope_type) list.service_action_key list.aptpl h)

@@ -12,18 +12,16 @@ use Rattle.sg_wire.specs.declared.command.out_action.OutAction.TheVariants.{Rele
 use Rattle.sg_wire.specs.declared.command.out_action.OutAction.TheVariants.{PreemptAndAbort}
 use Rattle.sg_wire.specs.declared.command.out_action.OutAction.TheVariants.{RegisterAndIgnoreExistingKey}
 use Rattle.sg_units.specs.Laws.{OneKeyEach, ends_for_others}
-use Rattle.sg_units.specs.UnsupportedFlags.{has_unsupported_flag}
 use Rattle.sg_units.specs.Registrations.{is_of, is_registered, is_registered_under, is_under}
 use Rattle.sg_units.specs.Registrations.{key_of}
 use Rattle.sg_units.specs.Registrations.{registration, with_key_replaced, with_registration}
 use Rattle.sg_units.specs.Registrations.{without_initiator, without_key}
 use Rattle.sg_units.specs.Reservations.{IsConsistent, while_held}
 use Rattle.sg_units.specs.ReservationType.{is_all_registrants, type_of}
-use Rattle.sg_units.specs.ReserveOut.{accepts_key, action_outcome, outcome, preempt_cases}
+use Rattle.sg_units.specs.ReserveOut.{action_outcome, outcome, preempt_cases}
 use Rattle.sg_units.specs.ReserveOut.{preempted}
 use Rattle.sg_units.specs.ReserveOut.{raised_for, register_cases, release_cases, released}
 use Rattle.sg_units.specs.ReserveOut.{released_unless_held, reserve_cases}
-use Rattle.sg_units.specs.declared.out_fault.OutFault.TheVariants.{Conflict, Field}
 use Rattle.sg_wire.specs.declared.out_list.OutList.{OutList}
 use Rattle.sg_units.specs.declared.registrations.Registration.{Registration}
 use Rattle.sg_units.specs.declared.reservation.Reservation.{Reservation}
@@ -31,7 +29,7 @@ use Rattle.sg_units.specs.declared.reservation_change.ReservationChange.{Reserva
 use Rattle.sg_units.specs.declared.reservation_state.ReservationState.{ReservationState}
 use Rattle.sg_units.specs.declared.types.ReservationType.{ReservationType}
 use Rattle.sg_units.specs.declared.unit_attention.UnitAttention.{UnitAttention}
-use Rattle.sg_units.proofs.OutcomeLemmas.{EffectIs, FirstIs, case_or, choice, effective}
+use Rattle.sg_units.proofs.OutcomeLemmas.{EffectIs, FirstIs, case_or, if-accepted, effective}
 use Rattle.sg_units.proofs.OutcomeLemmas.{last_case, refused, taking, typed}
 
 -- ---- The key of an initiator
@@ -308,13 +306,9 @@ module _ (all : List Registration) (kind : ReservationType) (before : Reservatio
   pub outcome_leaves : (action : OutAction) (scope_type : ℕ) (list : OutList)
       → is_registered all i ≡ true → (j == i) ≡ false
       → EffectIs P (outcome (alone_in all kind i before) j action scope_type list)
-  unfolding outcome
   outcome_leaves action scope_type list here other =
-      let accepts = accepts_key all j action list.reservation_key in
-      choice (EffectIs P) (has_unsupported_flag action list) _ _ (λ _. refused P (Field 20))
-      (λ _. choice (EffectIs P) (not accepts) _ _ (λ _. refused P Conflict)
-      (λ _. action_leaves action (type_of scope_type) list.service_action_key list.aptpl here
-      other))
+      if-accepted P (alone_in all kind i before) j action scope_type list
+      (λ _. action_leaves action (type_of scope_type) list.service_action_key list.aptpl here other)
 
 -- ---- The command of another initiator that can't end the reservation
 
@@ -386,10 +380,6 @@ module _ (all : List Registration) (kind : ReservationType) (before : Reservatio
   pub outcome_holds : (action : OutAction) (scope_type : ℕ) (list : OutList)
       → ends_for_others action ≡ false → is_registered all i ≡ true → (j == i) ≡ false
       → EffectIs H (outcome (alone_in all kind i before) j action scope_type list)
-  unfolding outcome
   outcome_holds action scope_type list mild here other =
-      let accepts = accepts_key all j action list.reservation_key in
-      choice (EffectIs H) (has_unsupported_flag action list) _ _ (λ _. refused H (Field 20))
-      (λ _. choice (EffectIs H) (not accepts) _ _ (λ _. refused H Conflict)
-      (λ _. action_holds action (type_of scope_type) list.service_action_key list.aptpl mild here
-      other))
+      if-accepted H (alone_in all kind i before) j action scope_type list
+      (λ _. action_holds action (type_of scope_type) list.service_action_key list.aptpl mild here other)

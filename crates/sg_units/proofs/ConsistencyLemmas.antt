@@ -4,12 +4,11 @@ use Rattle.std.proofs.Common.{List, [], ◌∷◌, length, filter, Option, Some,
 use Rattle.std.proofs.Common.{ap, ◌∙◌, arith}
 use Rattle.std.specs.Prelude.{if◌then◌else◌}
 use Rattle.std.specs.List.{list_any}
-use Rattle.std.proofs.lemmas.Bool.{false≢true, not-false, not-true}
+use Rattle.std.proofs.lemmas.Bool.{false≢true, not-true}
 use Rattle.std.proofs.lemmas.Bool.Decides.{nat_tests}
 use Rattle.std.proofs.lemmas.List.{length-append}
 use Rattle.std.proofs.lemmas.List.Folds.{list_any-append}
 use Rattle.std.proofs.lemmas.List.Sums.{sum_by-cons, sum_by_push, length-filter, count_by-le-length}
-use Rattle.sg_units.specs.UnsupportedFlags.{has_unsupported_flag}
 use Rattle.sg_units.specs.ReserveOut.{IsConsistentChange, Outcome, accepts_key, action_outcome}
 use Rattle.sg_units.specs.ReserveOut.{outcome}
 use Rattle.sg_units.specs.ReserveOut.{preempt_cases, register_cases, release_cases}
@@ -22,14 +21,13 @@ use Rattle.sg_units.specs.ReservationType.{is_all_registrants, type_of}
 use Rattle.sg_units.specs.Reservations.{AreConsistent, IsConsistent, has_holder, holds}
 use Rattle.sg_units.specs.Reservations.{is_held_if_any, names_holder, names_holder_if_any, taken}
 use Rattle.sg_units.specs.Reservations.{while_held}
-use Rattle.sg_units.proofs.OutcomeLemmas.{EffectIs, FirstIs, and_false, case_or, choice, effective}
+use Rattle.sg_units.proofs.OutcomeLemmas.{EffectIs, FirstIs, and_false, case_or, if-accepted, effective}
 use Rattle.sg_units.proofs.OutcomeLemmas.{last_case, refused, taking, typed}
 use Rattle.sg_wire.specs.declared.command.out_action.OutAction.{OutAction}
 use Rattle.sg_wire.specs.declared.command.out_action.OutAction.TheVariants.{Register, Reserve}
 use Rattle.sg_wire.specs.declared.command.out_action.OutAction.TheVariants.{Release, Clear, Preempt}
 use Rattle.sg_wire.specs.declared.command.out_action.OutAction.TheVariants.{PreemptAndAbort}
 use Rattle.sg_wire.specs.declared.command.out_action.OutAction.TheVariants.{RegisterAndIgnoreExistingKey}
-use Rattle.sg_units.specs.declared.out_fault.OutFault.TheVariants.{Conflict, Field}
 use Rattle.sg_wire.specs.declared.out_list.OutList.{OutList}
 use Rattle.sg_units.specs.declared.registrations.Registration.{Registration}
 use Rattle.sg_units.specs.declared.reservation.Reservation.{Reservation}
@@ -401,16 +399,10 @@ consistent-action state i RegisterAndIgnoreExistingKey type key sark aptpl a h =
 pub consistent-outcome : (state : ReservationState) (i : ℕ) (action : OutAction) (scope_type : ℕ)
     (list : OutList) → IsConsistent state
     → EffectIs IsConsistentChange (outcome state i action scope_type list)
-unfolding outcome
 consistent-outcome state i action scope_type list h =
-    let key = list.reservation_key in
-    let sark = list.service_action_key in
-    let accepts = accepts_key state.registrations i action key in
-    choice (EffectIs IsConsistentChange) (has_unsupported_flag action list) _ _
-    (λ _. refused IsConsistentChange (Field 20))
-    (λ _. choice (EffectIs IsConsistentChange) (not accepts) _ _ (λ _. refused IsConsistentChange Conflict)
-    (λ a. consistent-action state i action (type_of scope_type) key sark list.aptpl
-    (not-false accepts a) h))
+    if-accepted IsConsistentChange state i action scope_type list
+    (λ accepted. consistent-action state i action (type_of scope_type) list.reservation_key
+    list.service_action_key list.aptpl accepted h)
 
 pub consistent-state_after : (state : ReservationState) (o : Outcome) → IsConsistent state
     → EffectIs IsConsistentChange o → IsConsistent (state_after state o)

@@ -1,6 +1,6 @@
 -- What the laws stand on.
 use Rattle.std.proofs.Common.{◌≡◌, ◌⊎◌, inl, inr, ◌≤◌, ◌<◌, ◌+◌, ◌%◌, ◌^◌, ◌==◌, ℕ, Bool, true}
-use Rattle.std.proofs.Common.{false, cond, not, ◌&&◌, ◌||◌, List, [], ◌∷◌, length, Option, Some}
+use Rattle.std.proofs.Common.{false, cond, ◌&&◌, ◌||◌, List, [], ◌∷◌, length, Option, Some}
 use Rattle.std.proofs.Common.{None, Ok, Err, refl, sym, ap, ◌∙◌, arith}
 use Rattle.std.specs.Prelude.{if◌then◌else◌, is_none}
 use Rattle.std.specs.List.{list_any}
@@ -10,8 +10,7 @@ use Rattle.sg_wire.specs.declared.command.Class.{Class}
 use Rattle.sg_wire.specs.declared.command.Class.TheVariants.{Always, Reads, Writes}
 use Rattle.sg_units.specs.Access.{access_of, allowed, allows, highest_class, is_within, standing_of}
 use Rattle.sg_units.specs.Laws.{CountsChanges, HasOneHolder, IsHeldByAll, IsRefused}
-use Rattle.sg_units.specs.UnsupportedFlags.{has_unsupported_flag}
-use Rattle.sg_units.specs.ReserveOut.{Outcome, accepts_key, action_outcome}
+use Rattle.sg_units.specs.ReserveOut.{Outcome, action_outcome}
 use Rattle.sg_units.specs.ReserveOut.{generation_after, next_generation, outcome, registered}
 use Rattle.sg_units.specs.ReserveOut.{preempt_cases, register_cases, release_cases}
 use Rattle.sg_units.specs.ReserveOut.{reserve_cases, same_generation, state_after}
@@ -30,7 +29,6 @@ use Rattle.sg_wire.specs.declared.command.out_action.OutAction.TheVariants.{Regi
 use Rattle.sg_wire.specs.declared.command.out_action.OutAction.TheVariants.{Release, Clear, Preempt}
 use Rattle.sg_wire.specs.declared.command.out_action.OutAction.TheVariants.{PreemptAndAbort}
 use Rattle.sg_wire.specs.declared.command.out_action.OutAction.TheVariants.{RegisterAndIgnoreExistingKey}
-use Rattle.sg_units.specs.declared.out_fault.OutFault.TheVariants.{Conflict, Field}
 use Rattle.sg_wire.specs.declared.out_list.OutList.{OutList}
 use Rattle.sg_units.specs.declared.registrations.Registration.{Registration}
 use Rattle.sg_units.specs.declared.reservation.Reservation.{Reservation}
@@ -44,7 +42,7 @@ use Rattle.sg_units.specs.declared.types.ReservationType.TheVariants.{WriteExclu
 use Rattle.sg_units.specs.declared.types.ReservationType.TheVariants.{ExclusiveAccessAllRegistrants}
 use Rattle.sg_units.specs.declared.unit_attention.UnitAttention.{UnitAttention}
 use Rattle.sg_units.proofs.ConsistencyLemmas.{is_registered-under, registrations_of-cons}
-use Rattle.sg_units.proofs.OutcomeLemmas.{EffectIs, FirstIs, case_or, choice, effective, last_case}
+use Rattle.sg_units.proofs.OutcomeLemmas.{EffectIs, FirstIs, case_or, if-accepted, effective, last_case}
 use Rattle.sg_units.proofs.OutcomeLemmas.{refused, taking, typed}
 
 -- ---- One key each
@@ -368,13 +366,9 @@ counted-action state i RegisterAndIgnoreExistingKey type sark aptpl =
 
 counted-outcome : (state : ReservationState) (i : ℕ) (action : OutAction) (scope_type : ℕ)
     (list : OutList) → EffectIs (Counted state) (outcome state i action scope_type list)
-unfolding outcome
 counted-outcome state i action scope_type list =
-    let P = Counted state in
-    let accepts = accepts_key state.registrations i action list.reservation_key in
-    choice (EffectIs P) (has_unsupported_flag action list) _ _ (λ _. refused P (Field 20))
-    (λ _. choice (EffectIs P) (not accepts) _ _ (λ _. refused P Conflict)
-    (λ _. counted-action state i action (type_of scope_type) list.service_action_key list.aptpl))
+    if-accepted (Counted state) state i action scope_type list
+    (λ _. counted-action state i action (type_of scope_type) list.service_action_key list.aptpl)
 
 same_or_next : (increments : Bool) (n : ℕ)
     → (generation_after increments n ≡ n) ⊎ (generation_after increments n ≡ (n + 1) % 2 ^ 32)

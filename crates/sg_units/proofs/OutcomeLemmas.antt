@@ -1,13 +1,20 @@
 -- What each change that PERSISTENT RESERVE OUT can make is shown to be, case by case.
-use Rattle.std.proofs.Common.{◌≡◌, ℕ, Bool, true, false, cond, ◌&&◌, List, ◌∷◌}
+use Rattle.std.proofs.Common.{◌≡◌, ℕ, Bool, true, false, cond, not, ◌&&◌, List, ◌∷◌}
 use Rattle.std.proofs.Common.{Option, Some, None, Ok, Err, IfOk, sym, ◌∙◌, subst}
-use Rattle.std.proofs.lemmas.Bool.{cond_both, false≢true}
-use Rattle.sg_units.specs.ReserveOut.{Case, Outcome, first_case, preempted, with_type}
+use Rattle.std.proofs.lemmas.Bool.{cond_both, false≢true, not-false}
+use Rattle.sg_wire.specs.OutList.{flags_at}
+use Rattle.sg_wire.specs.declared.command.out_action.OutAction.{OutAction}
+use Rattle.sg_wire.specs.declared.out_list.OutList.{OutList}
+use Rattle.sg_units.specs.ReservationType.{type_of}
+use Rattle.sg_units.specs.ReserveOut.{Case, Outcome, accepts_key, action_outcome, first_case, outcome}
+use Rattle.sg_units.specs.ReserveOut.{preempted, with_type}
+use Rattle.sg_units.specs.UnsupportedFlags.{has_unsupported_flag}
 use Rattle.sg_units.specs.declared.reservation_change.ReservationChange.{ReservationChange}
 use Rattle.sg_units.specs.declared.out_fault.OutFault.{OutFault}
-use Rattle.sg_units.specs.declared.out_fault.OutFault.TheVariants.{BadType}
+use Rattle.sg_units.specs.declared.out_fault.OutFault.TheVariants.{BadType, Conflict, Field}
 use Rattle.sg_units.specs.declared.registrations.Registration.{Registration}
 use Rattle.sg_units.specs.declared.reservation.Reservation.{Reservation}
+use Rattle.sg_units.specs.declared.reservation_state.ReservationState.{ReservationState}
 use Rattle.sg_units.specs.declared.types.ReservationType.{ReservationType}
 
 -- The change of an outcome, if it has one, is P.
@@ -59,6 +66,19 @@ case_or P case cases f g =
 pub last_case : (P : Outcome → Type 0) (case : Case) (cases : List Case) → case.condition ≡ true
     → P case.outcome → FirstIs P (case ∷ cases)
 last_case P case cases e h = case_or P case cases (λ _. h) (λ no. absurd (false≢true (sym no ∙ e)))
+
+-- a command is refused, or its key is accepted and it has the outcome of its service action
+pub if-accepted : (P : ReservationChange → Type 0) (state : ReservationState) (i : ℕ) (action : OutAction)
+    (scope_type : ℕ) (list : OutList)
+    → (accepts_key state.registrations i action list.reservation_key ≡ true
+    → EffectIs P (action_outcome state i action (type_of scope_type) list.service_action_key list.aptpl))
+    → EffectIs P (outcome state i action scope_type list)
+unfolding outcome
+if-accepted P state i action scope_type list h =
+    let accepts = accepts_key state.registrations i action list.reservation_key in
+    choice (EffectIs P) (has_unsupported_flag action list) _ _ (λ _. refused P (Field flags_at))
+    (λ _. choice (EffectIs P) (not accepts) _ _ (λ _. refused P Conflict)
+    (λ yes. h (not-false accepts yes)))
 
 pub and_false : (a b : Bool) → a ≡ true → (a && b) ≡ false → b ≡ false
 and_false true b h k = k
