@@ -1,7 +1,7 @@
 -- Lists of commands while a reservation is held: those of initiators that are not registered.
 use Rattle.std.proofs.Common.{◌≡◌, ℕ, zero, suc, Bool, true, false, not, ◌&&◌, List}
 use Rattle.std.proofs.Common.{[], ◌∷◌, take, Option, Some, None, refl, sym, ap, ◌∙◌}
-use Rattle.std.specs.Prelude.{is_some, slice_get}
+use Rattle.std.specs.Prelude.{is_some}
 use Rattle.std.specs.List.{list_all, list_any}
 use Rattle.std.proofs.lemmas.Bool.{and_parts, eq-eqb, eqb-false, false≢true, not-true, or_parts}
 use Rattle.sg_wire.specs.Laws.{CommandsHaveTheirClass}
@@ -11,14 +11,14 @@ use Rattle.sg_wire.specs.declared.command.Class.TheVariants.{Reads, Writes}
 use Rattle.sg_units.specs.Access.{allows}
 use Rattle.sg_units.specs.Laws.{OthersAreRefused}
 use Rattle.sg_units.specs.declared.reservation.Reservation.{Reservation}
-use Rattle.sg_target.specs.Runs.{answers, state_after_all, step_of}
+use Rattle.sg_target.specs.Runs.{state_after_all, step_of}
 use Rattle.sg_target.specs.State.{IsWithinLimits, State}
 use Rattle.sg_target.specs.Step.{Answer}
 use Rattle.sg_target.specs.declared.call.Call.{Call}
 use Rattle.sg_target.specs.declared.reply.Status.TheVariants.{Good}
 use Rattle.sg_target.specs.Laws.{LimitsAreKept}
 use Rattle.sg_fencing.specs.Fencing.{View, is_from, view_of}
-use Rattle.sg_fencing.specs.Registrants.{excludes_reading, has_registering, is_from_outside}
+use Rattle.sg_fencing.specs.Registrants.{NoneIsServed, excludes_reading, has_registering, is_from_outside}
 use Rattle.sg_fencing.specs.Registrants.{is_registrant, is_reserved, registers}
 use Rattle.sg_fencing.proofs.AccessLemmas.{shut-out}
 use Rattle.sg_fencing.proofs.OutsiderLemmas.{outsider-keeps, shut, stays-unknown}
@@ -38,13 +38,13 @@ unknown-after-call state i call unknown silent =
 
 -- ---- Nothing is written, nor read
 
--- A class of commands is refused to whoever is not registered, where a condition holds of the state.
-abbrev pub IsRefusedWhere : (Where : State → Type 0) → Class → Type 0
-IsRefusedWhere Where class =
-    (state : State) (j : ℕ) → Where state → is_registrant state j ≡ false
+-- A class of commands is refused to whoever is not registered, in states that meet a condition.
+abbrev pub IsRefusedWhere : (condition : State → Bool) → Class → Type 0
+IsRefusedWhere condition class =
+    (state : State) (j : ℕ) → condition state ≡ true → is_registrant state j ≡ false
     → allows state.reservations j class ≡ false
 
-pub writes-refused : OthersAreRefused → IsRefusedWhere (λ state. is_reserved state ≡ true) Writes
+pub writes-refused : OthersAreRefused → IsRefusedWhere is_reserved Writes
 writes-refused refuses state j held unknown =
     (shut refuses state j (record { held = held; unknown = unknown })).writes
 
@@ -53,38 +53,36 @@ pub held-to-exclude : (held : Option Reservation) → excludes_reading held ≡ 
 held-to-exclude (Some r) h = refl
 held-to-exclude None h = h
 
-pub reads-refused : OthersAreRefused
-    → IsRefusedWhere (λ state. excludes_reading state.reservations.reservation ≡ true) Reads
+abbrev pub excludes : State → Bool
+excludes state = excludes_reading state.reservations.reservation
+
+pub reads-refused : OthersAreRefused → IsRefusedWhere excludes Reads
 reads-refused refuses state j exclusive unknown =
     let held = held-to-exclude state.reservations.reservation exclusive in
     (shut refuses state j (record { held = held; unknown = unknown })).reads exclusive
 
-module _ (Where : State → Type 0) (class : Class) (refuses : IsRefusedWhere Where class) (i : ℕ) where
-  pub not-first : (state : State) (call : Call)
+module _ (condition : State → Bool) (class : Class) (refuses : IsRefusedWhere condition class) where
+  pub not-first : (state : State) (i : ℕ) (call : Call)
       → is_registrant state i ≡ false → call.initiator ≡ i → class_of call.cdb.now ≡ Some class
-      → Where state → (step_of state call).answer.status ≡ Good → ⊥
-  not-first state call unknown from of_class held =
+      → condition state ≡ true → (step_of state call).answer.status ≡ Good → ⊥
+  not-first state i call unknown from of_class met =
       let here = ap (λ j. is_registrant state j) from ∙ unknown in
       shut-out state call.initiator call.cdb.now call.data_out.now class of_class
-      (refuses state call.initiator held here)
+      (refuses state call.initiator met here)
 
-  pub not-served : (state : State) (calls : List Call) (n : ℕ) (call : Call) (answer : Answer)
-      → is_registrant state i ≡ false → has_registering i (take n calls) ≡ false
-      → slice_get calls n ≡ Some call → slice_get (answers state calls) n ≡ Some answer
-      → call.initiator ≡ i → class_of call.cdb.now ≡ Some class
-      → Where (state_after_all state (take n calls)) → answer.status ≡ Good → ⊥
-  not-served state [] n call answer unknown silent e f from of_class held good = cc
-  not-served state (first ∷ calls) zero call answer unknown silent e f from of_class held good =
+  pub not-served : NoneIsServed class condition
+  not-served state i [] n call answer unknown silent e f from of_class met good = cc
+  not-served state i (first ∷ calls) zero call answer unknown silent e f from of_class met good =
       let same : first ≡ call = cc in
       let answered : (step_of state first).answer ≡ answer = cc in
-      not-first state call unknown from of_class held
+      not-first state i call unknown from of_class met
       (ap (λ (c : Call). (step_of state c).answer.status) (sym same)
       ∙ (ap (λ (a : Answer). a.status) answered ∙ good))
-  not-served state (first ∷ calls) (suc n) call answer unknown silent e f from of_class held good =
+  not-served state i (first ∷ calls) (suc n) call answer unknown silent e f from of_class met good =
       let parts = or_parts (is_from i first && registers (command_of first.cdb.now))
       (has_registering i (take n calls)) silent in
-      not-served (step_of state first).state calls n call answer
-      (unknown-after-call state i first unknown parts.0) parts.1 e f from of_class held good
+      not-served (step_of state first).state i calls n call answer
+      (unknown-after-call state i first unknown parts.0) parts.1 e f from of_class met good
 
 -- ---- Nothing is changed
 

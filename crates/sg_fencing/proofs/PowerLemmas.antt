@@ -100,6 +100,5 @@ pub stays-fenced-off : OthersAreRefused → (state : State) (i : ℕ) (events : 
     → is_reserved (state_after_events state events) ≡ true
     → (step_of (state_after_events state events) call).answer.status ≡ Good → ⊥
 stays-fenced-off refuses state i events call unknown silent from writes held good =
-    not-first (λ state. is_reserved state ≡ true) Writes (writes-refused refuses) i
-    (state_after_events state events) call
+    not-first is_reserved Writes (writes-refused refuses) (state_after_events state events) i call
     (unknown-still state i events unknown silent) from writes held good

@@ -10,6 +10,7 @@ use Rattle.std.specs.Option.{option_map_or}
 use Rattle.sg_wire.specs.CutAnswer.{first_bytes}
 use Rattle.sg_wire.specs.Layout.{class_of, command_of}
 use Rattle.sg_wire.specs.declared.command.CdbFault.{CdbFault}
+use Rattle.sg_wire.specs.declared.command.Class.{Class}
 use Rattle.sg_wire.specs.declared.command.Class.TheVariants.{Reads, Writes}
 use Rattle.sg_wire.specs.declared.command.Command.{Command}
 use Rattle.sg_wire.specs.declared.command.Command.TheVariants.{PersistentReserveOut}
@@ -130,27 +131,25 @@ abbrev pub has_registering : (initiator : ℕ) → List Call → Bool
 has_registering initiator calls =
     list_any (λ (call : Call). is_from initiator call && registers (command_of call.cdb.now)) calls
 
--- An initiator that is not registered writes nothing until it registers, while a reservation is
--- held: none of its commands that write ends with GOOD.
-abbrev pub FencedOffWriteNothing : Type 0
-FencedOffWriteNothing =
+-- No command of a class ends with GOOD whose initiator is not registered, and has not registered since
+-- the list began, in states that meet a condition.
+abbrev pub NoneIsServed : Class → (condition : State → Bool) → Type 0
+NoneIsServed class condition =
     (state : State) (initiator : ℕ) (calls : List Call) (n : ℕ) (call : Call) (answer : Answer)
     → is_registrant state initiator ≡ false → has_registering initiator (take n calls) ≡ false
     → slice_get calls n ≡ Some call → slice_get (answers state calls) n ≡ Some answer
-    → call.initiator ≡ initiator → class_of call.cdb.now ≡ Some Writes
-    → is_reserved (state_after_all state (take n calls)) ≡ true
+    → call.initiator ≡ initiator → class_of call.cdb.now ≡ Some class
+    → condition (state_after_all state (take n calls)) ≡ true
     → answer.status ≡ Good → ⊥
 
--- Nor does it read while the reservation is of an exclusive access type: none of its commands that
--- read, such as READ, ends with GOOD.
+-- So such an initiator writes nothing while a reservation is held.
+abbrev pub FencedOffWriteNothing : Type 0
+FencedOffWriteNothing = NoneIsServed Writes is_reserved
+
+-- It reads nothing, by commands such as READ, while the reservation is of an exclusive access type.
 abbrev pub FencedOffReadNothing : Type 0
 FencedOffReadNothing =
-    (state : State) (initiator : ℕ) (calls : List Call) (n : ℕ) (call : Call) (answer : Answer)
-    → is_registrant state initiator ≡ false → has_registering initiator (take n calls) ≡ false
-    → slice_get calls n ≡ Some call → slice_get (answers state calls) n ≡ Some answer
-    → call.initiator ≡ initiator → class_of call.cdb.now ≡ Some Reads
-    → excludes_reading (state_after_all state (take n calls)).reservations.reservation ≡ true
-    → answer.status ≡ Good → ⊥
+    NoneIsServed Reads (λ (state : State). excludes_reading state.reservations.reservation)
 
 -- The answers to some calls of a list, in order.
 abbrev pub answers_where : (Call → Bool) → State → List Call → List Answer
