@@ -54,8 +54,8 @@ registering_list (Ok (PersistentReserveOut c)) data_out =
     if is_registering c.action then Some (out_list (first_bytes c.list_length data_out)) else None
 registering_list _ data_out = None
 
--- There is one registration more, the last one, and PRGENERATION is incremented, of 32 bits; APTPL is
--- that of the parameter list (SPC-4, 5.13, registering).
+-- There is one registration more, at the end; PRGENERATION, which has 32 bits, is incremented; and APTPL
+-- is that of the parameter list (SPC-4, 5.13, registering).
 abbrev pub with_newcomer : GroupView → (initiator : ℕ) → OutList → GroupView
 with_newcomer view initiator list = record view {
   registrations = with_registration view.registrations initiator list.service_action_key;
@@ -107,13 +107,13 @@ pub record IsAsIfInsideAlone (outside : ℕ → Bool) (state : State) (calls : L
       → view_of (state_after_all state calls) initiator
       ≡ view_of (state_after_all state (calls_inside outside calls)) initiator
 
--- A reservation is held whenever one of them sends a command.
+-- A reservation is held whenever an initiator outside sends a command.
 abbrev pub IsReservedFrom : (outside : ℕ → Bool) → State → List Call → Type 0
 IsReservedFrom outside state calls =
     (n : ℕ) (call : Call) → slice_get calls n ≡ Some call → outside call.initiator ≡ true
     → is_reserved (state_after_all state (take n calls)) ≡ true
 
--- So it is, then, over each list of commands of registrants and others in any order.
+-- So it is over each list of commands, of registrants and others in any order.
 abbrev pub OutsidersMayBeLeftOut : Type 0
 OutsidersMayBeLeftOut =
     (state : State) (calls : List Call) → IsWithinLimits state
