@@ -1,7 +1,8 @@
 // Which texts and local identifiers an identity may have, the data that shows one, and how requests for
 // mode pages are refused.
-use sg_pages::{Ask, AskFault, Identity, IdentityFault, ModePages, PageControl, SelectFault};
-use sg_pages::{inquiry, vpd};
+use sg_pages::{
+    Ask, AskFault, Identity, IdentityFault, ModePages, PageControl, SelectFault, inquiry, vpd,
+};
 use sg_wire::Cut;
 
 const LOCAL: Option<IdentityFault> = Some(IdentityFault::Local);
@@ -62,11 +63,7 @@ const SUPPORTED_PAGES: &[u8] = &[0x00, 0x00, 0x00, 0x05, 0x00, 0x80, 0x83, 0xB0,
 const SERIAL_NUMBER: &[u8] = b"\x00\x80\x00\x0800000001";
 
 // Page codes, and the bytes of each page. The disk has no page 81h, and nothing is written.
-const PAGES: [(u8, &[u8]); 3] = [
-    (0x00, SUPPORTED_PAGES),
-    (0x80, SERIAL_NUMBER),
-    (0x81, &[]),
-];
+const PAGES: [(u8, &[u8]); 3] = [(0x00, SUPPORTED_PAGES), (0x80, SERIAL_NUMBER), (0x81, &[])];
 
 #[test]
 fn a_page_of_vital_product_data_is_written_by_its_code(rt: HostRuntime) {
@@ -76,7 +73,9 @@ fn a_page_of_vital_product_data_is_written_by_its_code(rt: HostRuntime) {
         let mut cut = Cut::new(&mut bytes, 12);
         let is_there = vpd(code, &identity, &mut cut);
         let written = cut.written();
-        assert!(rt; is_there != page.is_empty() && written == page.len() && bytes.starts_with(page));
+        assert!(rt;
+            is_there != page.is_empty() && written == page.len() && bytes.starts_with(page)
+        );
     }
 }
 
