@@ -1,7 +1,6 @@
 -- The mode parameter block descriptor (SBC-3, 6.4.2).
 use Rattle.std.specs.Prelude.{ℕ, min, List, [], ◌∷◌, ◌++◌, Bool, if◌then◌else◌}
 use Rattle.byteorder.specs.Endian.{big_bytes}
-use Rattle.sg_pages.specs.declared.mode_pages.block_descriptor.TheConstants.{LOGICAL_BLOCK_LENGTH}
 
 -- How many bytes the short and the long descriptor have, and how many of them are NUMBER OF LOGICAL
 -- BLOCKS.
@@ -11,9 +10,13 @@ descriptor_length long = if long then 16 else 8
 abbrev pub number_length : (long : Bool) → ℕ
 number_length long = if long then 8 else 4
 
+-- LOGICAL BLOCK LENGTH, in bytes.
+abbrev pub logical_block_length : ℕ
+logical_block_length = 512
+
 -- NUMBER OF LOGICAL BLOCKS, reserved bytes, and LOGICAL BLOCK LENGTH. In the short descriptor a
 -- greater number than fits is FFFFFFFFh.
 unfoldable pub block_descriptor : (long : Bool) (blocks : ℕ) → List ℕ
 block_descriptor long blocks =
-    if long then big_bytes 8 blocks ++ (0 ∷ 0 ∷ 0 ∷ 0 ∷ []) ++ big_bytes 4 LOGICAL_BLOCK_LENGTH
-    else big_bytes 4 (min blocks 0xFFFF_FFFF) ++ (0 ∷ []) ++ big_bytes 3 LOGICAL_BLOCK_LENGTH
+    if long then big_bytes 8 blocks ++ (0 ∷ 0 ∷ 0 ∷ 0 ∷ []) ++ big_bytes 4 logical_block_length
+    else big_bytes 4 (min blocks 0xFFFF_FFFF) ++ (0 ∷ []) ++ big_bytes 3 logical_block_length

@@ -5,7 +5,7 @@ ghost use Rattle.sg_pages.specs.BlockDescriptor.{block_descriptor};
 use byteorder::{BigEndian, ByteOrder};
 
 // In bytes.
-pub(super) const LOGICAL_BLOCK_LENGTH: u32 = 512;
+const LOGICAL_BLOCK_LENGTH: u32 = 512;
 
 // A greater number of blocks than fits is FFFFFFFFh.
 #[tactic(auto, unfolding(crate::specs::BlockDescriptor::block_descriptor))]
