@@ -4,17 +4,19 @@ use Rattle.std.specs.Prelude.{unwrap_or, ◌==◌, if◌then◌else◌}
 use Rattle.std.specs.Int.{to_be_bytes, w64}
 use Rattle.hex.specs.Hex.{encode_lower}
 use Rattle.sg_wire.specs.SenseData.{SenseFields, read_sense}
+use Rattle.sg_wire.specs.SenseKey.{no_sense, illegal_request, unit_attention, data_protect}
+use Rattle.sg_wire.specs.SenseKey.{aborted_command}
 use Rattle.sg_wire.specs.declared.sense.Pointer.{Pointer}
 use Rattle.sg_decode.specs.HexText.{upper_hex_byte}
 
 -- The name of a sense key (SPC-4, sense key descriptions).
 abbrev pub key_name : ℕ → Option (List ℕ)
 key_name key =
-    if key == 0 then Some (codes "NO SENSE")
-    else (if key == 5 then Some (codes "ILLEGAL REQUEST")
-    else (if key == 6 then Some (codes "UNIT ATTENTION")
-    else (if key == 7 then Some (codes "DATA PROTECT")
-    else (if key == 11 then Some (codes "ABORTED COMMAND")
+    if key == no_sense then Some (codes "NO SENSE")
+    else (if key == illegal_request then Some (codes "ILLEGAL REQUEST")
+    else (if key == unit_attention then Some (codes "UNIT ATTENTION")
+    else (if key == data_protect then Some (codes "DATA PROTECT")
+    else (if key == aborted_command then Some (codes "ABORTED COMMAND")
     else None))))
 
 abbrev pub key_text : ℕ → List ℕ

@@ -2,8 +2,9 @@
 ghost use Rattle.std.specs.Prelude.{◌≡◌, length};
 ghost use Rattle.sg_embed.specs.Text.{text_in};
 
-/// The library's version, and the proof kit's identity.
-pub const VERSION: &[u8] = b"mehdalung 1.0.0, proved with rattle-kit-13f logic dac8208d650f15bf";
+/// The library's version, and the identity of the logic that it is proved in: the last word that
+/// `rt version` prints.
+pub const VERSION: &[u8] = b"mehdalung 1.0.0, proved in Rattle's logic dac8208d650f15bf";
 
 /// Writes a text to the beginning of a buffer, cut to it, and a zero behind it. Returns the length of
 /// the whole text without the zero, as snprintf(3) does.

@@ -11,7 +11,7 @@ use Rattle.sg_target.specs.State.{State}
 use Rattle.sg_target.specs.Step.{Step, refused, step}
 use Rattle.sg_target.specs.declared.operation.Operation.{Operation}
 use Rattle.sg_target.specs.declared.refusal.Refusal.{Refusal}
-use Rattle.sg_target.specs.declared.refusal.Refusal.TheVariants.{Conflict, Check}
+use Rattle.sg_target.specs.declared.refusal.Refusal.TheVariants.{Conflict, CheckCondition}
 use Rattle.sg_target.specs.declared.reply.Status.TheVariants.{Good}
 use Rattle.sg_fencing.proofs.LiftLemmas.{Asked, lifted}
 use Rattle.sg_fencing.proofs.OperationLemmas.{asked-suits, class_for}
@@ -41,7 +41,7 @@ module _ (state : State) (j : ℕ) where
 
   pub not_good : (refusal : Refusal) → (refused state j refusal).answer.status ≡ Good → ⊥
   not_good Conflict e = cc
-  not_good (Check reason) e = cc
+  not_good (CheckCondition reason) e = cc
 
   -- nor is the operation that it asks for one of a class that is not
   pub asked-is-allowed : CommandsHaveTheirClass → (cdb data_out : List ℕ) (operation : Operation)

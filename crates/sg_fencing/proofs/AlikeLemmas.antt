@@ -49,7 +49,7 @@ use Rattle.sg_target.specs.declared.operation.Operation.TheVariants.{ReturnReser
 use Rattle.sg_target.specs.declared.operation.Operation.TheVariants.{ChangeReservations}
 use Rattle.sg_target.specs.declared.refusal.Reason.TheVariants.{UnitAttention as Attention}
 use Rattle.sg_target.specs.declared.refusal.Refusal.{Refusal}
-use Rattle.sg_target.specs.declared.refusal.Refusal.TheVariants.{Conflict, Check}
+use Rattle.sg_target.specs.declared.refusal.Refusal.TheVariants.{Conflict, CheckCondition}
 use Rattle.sg_fencing.proofs.HolderLemmas.{cleared, cleared-other}
 use Rattle.sg_fencing.proofs.OperationLemmas.{shows}
 
@@ -132,7 +132,7 @@ module _ (Related : ReservationState → ReservationState → Type 0) (s : State
 
   pub refused-agree : (shown : Bool) (refusal : Refusal)
       → Steps shown (refused s i refusal) (refused t i refusal)
-  refused-agree shown (Check (Attention condition)) =
+  refused-agree shown (CheckCondition (Attention condition)) =
       record { rest = refl; queues = cleared-equal p q i; reservations = related; answer = λ _. refl }
   refused-agree shown _ =
       record { rest = refl; queues = λ k e. e; reservations = related; answer = λ _. refl }
@@ -275,7 +275,7 @@ module _ (Related : ReservationState → ReservationState → Type 0) (s : State
         ap
         (λ (queue : List UnitAttention).
         cond {A = Option Refusal} (is_blocked_by_attention cdb)
-        (option_map (λ condition. Check (Attention condition)) (slice_get queue 0)) None) own in
+        (option_map (λ condition. CheckCondition (Attention condition)) (slice_get queue 0)) None) own in
         let conflict : reservation_conflict s i cdb ≡ reservation_conflict t i cdb =
         conflict-same (class_of cdb) in
         λ d. first_some (

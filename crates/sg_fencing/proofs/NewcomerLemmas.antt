@@ -36,7 +36,7 @@ use Rattle.sg_target.specs.declared.operation.Operation.TheVariants.{ChangeReser
 use Rattle.sg_target.specs.declared.refusal.Reason.TheVariants.{ParameterListLengthError}
 use Rattle.sg_target.specs.declared.refusal.Reason.TheVariants.{UnitAttention as Attention}
 use Rattle.sg_target.specs.declared.refusal.Refusal.{Refusal}
-use Rattle.sg_target.specs.declared.refusal.Refusal.TheVariants.{Check}
+use Rattle.sg_target.specs.declared.refusal.Refusal.TheVariants.{CheckCondition}
 use Rattle.sg_fencing.specs.Group.{IsSeen, registering_list}
 use Rattle.sg_fencing.specs.Registrants.{is_registering, is_registrant}
 use Rattle.sg_fencing.proofs.LiftLemmas.{lifted}
@@ -95,7 +95,7 @@ module _ (state : State) (j : ℕ) (w : IsWithinLimits state) (unknown : is_regi
   SeenIn after = is_registrant after j ≡ true → IsSeen state after j list
 
   unseen-refusal : (refusal : Refusal) → SeenIn (refused_step state j refusal).state
-  unseen-refusal (Check (Attention condition)) known = absurd (false≢true (sym unknown ∙ known))
+  unseen-refusal (CheckCondition (Attention condition)) known = absurd (false≢true (sym unknown ∙ known))
   unseen-refusal _ known = absurd (false≢true (sym unknown ∙ known))
 
   by-space : (effect : Effect) (refusal : Option Refusal) → SeenIn effect.after
@@ -157,7 +157,7 @@ module _ (state : State) (j : ℕ) (w : IsWithinLimits state) (unknown : is_regi
       let bytes = first_bytes c.list_length data_out in
       let parts = registering (is_registering c.action) (out_list bytes) h in
       let asked = listed c.action c.scope_type (length bytes == list_length) (out_list bytes)
-      (Check ParameterListLengthError) operation e in
+      (CheckCondition ParameterListLengthError) operation e in
       subst (λ (o : Operation). SeenIn (step_by state j o).state)
       (ap (λ (l : OutList). ChangeReservations c.action c.scope_type l) (sym parts.1) ∙ asked)
       (registering-seen c.action c.scope_type parts.0)

@@ -32,7 +32,7 @@ use Rattle.sg_target.specs.declared.operation.Operation.TheVariants.{Anchor, Anc
 use Rattle.sg_target.specs.declared.operation.Operation.TheVariants.{UnmapExtent, ChangeReservations}
 use Rattle.sg_target.specs.declared.refusal.Reason.TheVariants.{UnitAttention as Attention}
 use Rattle.sg_target.specs.declared.refusal.Refusal.{Refusal}
-use Rattle.sg_target.specs.declared.refusal.Refusal.TheVariants.{Check}
+use Rattle.sg_target.specs.declared.refusal.Refusal.TheVariants.{CheckCondition}
 use Rattle.sg_fencing.proofs.LiftLemmas.{lifted}
 use Rattle.sg_target.specs.Laws.{LimitsAreKept}
 use Rattle.sg_fencing.specs.Fencing.{holds_alone, view_of}
@@ -51,10 +51,10 @@ same state i = record { identity = refl; view = refl }
 
 refused-keeps : (state : State) (i j : ℕ) → (j ≡ i → ⊥) → (refusal : Refusal)
     → Keeps state (refused state j refusal).state i
-refused-keeps state i j other (Check (Attention condition)) = record {
+refused-keeps state i j other (CheckCondition (Attention condition)) = record {
   identity = refl;
   view =
-      same-view (refused state j (Check (Attention condition))).state state i refl refl
+      same-view (refused state j (CheckCondition (Attention condition))).state state i refl refl
       (cleared-other state.attentions i j other) refl refl;
 }
 refused-keeps state i j other _ = same state i

@@ -38,7 +38,7 @@ use Rattle.sg_target.specs.declared.operation.Operation.{Operation}
 use Rattle.sg_target.specs.declared.operation.Operation.TheVariants.{ChangeReservations}
 use Rattle.sg_target.specs.declared.refusal.Reason.TheVariants.{ParameterListLengthError}
 use Rattle.sg_target.specs.declared.refusal.Refusal.{Refusal}
-use Rattle.sg_target.specs.declared.refusal.Refusal.TheVariants.{Check}
+use Rattle.sg_target.specs.declared.refusal.Refusal.TheVariants.{CheckCondition}
 use Rattle.sg_target.specs.declared.reply.Status.TheVariants.{Good}
 use Rattle.sg_fencing.proofs.LiftLemmas.{lifted}
 use Rattle.sg_fencing.proofs.OperationLemmas.{listed}
@@ -185,7 +185,7 @@ module _ (one : OneKeyEach) (state : State) (i j : ℕ) where
         let parts = preempting (is_preempting c.action) (out_list list).service_action_key key h in
         subst (λ (o : Operation). EffectRemoves (effect_of state j o))
         (listed c.action c.scope_type (length list == list_length) (out_list list)
-        (Check ParameterListLengthError) operation e)
+        (CheckCondition ParameterListLengthError) operation e)
         (reserving-removes c.action c.scope_type (out_list list) parts.0
         (here ∙ ap Some (sym parts.1)))
     command-removes _ data_out operation key e h here = cc

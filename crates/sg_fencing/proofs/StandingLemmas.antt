@@ -35,7 +35,7 @@ use Rattle.sg_target.specs.declared.operation.Operation.TheVariants.{ReturnModes
 use Rattle.sg_target.specs.declared.operation.Operation.TheVariants.{ChangeReservations}
 use Rattle.sg_target.specs.declared.refusal.Reason.TheVariants.{UnitAttention as Attention}
 use Rattle.sg_target.specs.declared.refusal.Refusal.{Refusal}
-use Rattle.sg_target.specs.declared.refusal.Refusal.TheVariants.{Check}
+use Rattle.sg_target.specs.declared.refusal.Refusal.TheVariants.{CheckCondition}
 use Rattle.sg_fencing.proofs.LiftLemmas.{lifted}
 use Rattle.sg_fencing.specs.Fencing.{can_end_for_others, holds_alone}
 use Rattle.sg_fencing.proofs.HolderLemmas.{HoldsAlone}
@@ -50,7 +50,7 @@ module _ (Stands : ReservationState → Type 0) (state : State) (j : ℕ)
   EffectStands (Err refusal) = Unit {0}
 
   refused-stands : (refusal : Refusal) → Stands (refused state j refusal).state.reservations
-  refused-stands (Check (Attention condition)) = same
+  refused-stands (CheckCondition (Attention condition)) = same
   refused-stands _ = same
 
   sound-stands : {A : Type 0} (sound : Result A Refusal) (becomes : A → Effect)

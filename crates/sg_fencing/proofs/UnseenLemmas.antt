@@ -31,7 +31,7 @@ use Rattle.sg_target.specs.declared.operation.Operation.TheVariants.{ReturnReser
 use Rattle.sg_target.specs.declared.operation.Operation.TheVariants.{ChangeReservations}
 use Rattle.sg_target.specs.declared.refusal.Reason.TheVariants.{SpaceAllocationFailed}
 use Rattle.sg_target.specs.declared.refusal.Refusal.{Refusal}
-use Rattle.sg_target.specs.declared.refusal.Refusal.TheVariants.{Check}
+use Rattle.sg_target.specs.declared.refusal.Refusal.TheVariants.{CheckCondition}
 use Rattle.sg_fencing.proofs.LiftLemmas.{Asked, lifted-both}
 use Rattle.sg_fencing.proofs.OperationLemmas.{class_for}
 use Rattle.sg_fencing.proofs.AccessLemmas.{asked-is-allowed}
@@ -44,7 +44,7 @@ not-less m n h = grind (arith, nat_tests)
 pub fits : (disk : Disk) → len disk.contents ≤ disk.pool → no_space disk ≡ None
 unfolding no_space
 fits disk h =
-    ap (λ (b : Bool). cond {A = Option Refusal} b (Some (Check SpaceAllocationFailed)) None)
+    ap (λ (b : Bool). cond {A = Option Refusal} b (Some (CheckCondition SpaceAllocationFailed)) None)
     (not-less disk.pool (len disk.contents) h)
 
 -- ---- Effects in a state, and in one with other blocks

@@ -37,7 +37,7 @@ use Rattle.sg_target.specs.declared.operation.Operation.TheVariants.{ChangeReser
 use Rattle.sg_target.specs.declared.refusal.Reason.TheVariants.{SpaceAllocationFailed}
 use Rattle.sg_target.specs.declared.refusal.Reason.TheVariants.{UnitAttention as Attention}
 use Rattle.sg_target.specs.declared.refusal.Refusal.{Refusal}
-use Rattle.sg_target.specs.declared.refusal.Refusal.TheVariants.{Check}
+use Rattle.sg_target.specs.declared.refusal.Refusal.TheVariants.{CheckCondition}
 use Rattle.sg_fencing.specs.Fencing.{is_from}
 use Rattle.sg_fencing.specs.Registrants.{ExcludesReadingFrom, answers_where, excludes_reading}
 use Rattle.sg_fencing.specs.Registrants.{has_registering, is_registrant, registers}
@@ -61,7 +61,7 @@ module _ (s : State) (x : Contents) (i : ℕ) (fit : len s.disk.contents ≤ s.d
   t = with_contents s x
 
   refused-differ : (refusal : Refusal) → StepsDiffer (refused s i refusal) (refused t i refusal)
-  refused-differ (Check (Attention condition)) = refl
+  refused-differ (CheckCondition (Attention condition)) = refl
   refused-differ _ = refl
 
   -- a state like this one, with some blocks
@@ -72,7 +72,7 @@ module _ (s : State) (x : Contents) (i : ℕ) (fit : len s.disk.contents ≤ s.d
   like-differ a b e f = ap (λ (c : State). with_contents c b.disk.contents) e ∙ sym f
 
   abbrev lack : Bool → Option Refusal
-  lack lacks = cond {A = Option Refusal} lacks (Some (Check SpaceAllocationFailed)) None
+  lack lacks = cond {A = Option Refusal} lacks (Some (CheckCondition SpaceAllocationFailed)) None
 
   first-like : (first : Effect) → IsLike first.after → (lacks : Bool)
       → IsLike (unless_no_space s i first (lack lacks)).state

@@ -99,9 +99,13 @@ default_values = by_page (λ page. (row_of page).defaults)
 abbrev pub changeable_bits : PageValues
 changeable_bits = by_page (λ page. (row_of page).changeable)
 
+-- PS, a bit of a page's first byte: the page can be saved (SPC-4, 7.5).
+abbrev pub parameters_saveable : ℕ
+parameters_saveable = 0x80
+
 -- A whole page: PS, as each page can be saved, and PAGE CODE; PAGE LENGTH; and the bytes behind it.
 unfoldable pub page_bytes : (code : ℕ) (values : List ℕ) → List ℕ
-page_bytes code values = (0x80 + code) ∷ length values ∷ values
+page_bytes code values = (parameters_saveable + code) ∷ length values ∷ values
 
 abbrev pub page_data : PageValues → ModePage → List ℕ
 page_data values page = page_bytes (code_of page) (values_of values page)

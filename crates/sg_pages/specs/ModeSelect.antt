@@ -16,7 +16,7 @@ use Rattle.sg_pages.specs.declared.mode_pages.mode_select.ModeSelectFault.{ModeS
 use Rattle.sg_pages.specs.declared.mode_pages.mode_select.ModeSelectFault.TheVariants.{Length}
 use Rattle.sg_pages.specs.declared.mode_pages.mode_select.ModeSelectFault.TheVariants.{Field}
 use Rattle.sg_pages.specs.ModePage.{ModeState, row_of, code_of, page_with_code}
-use Rattle.sg_pages.specs.ModePage.{values_of, by_page, page_data}
+use Rattle.sg_pages.specs.ModePage.{values_of, by_page, page_data, parameters_saveable}
 use Rattle.sg_pages.specs.BlockDescriptor.{number_length, descriptor_length, block_descriptor}
 
 -- ---- The parts of the list
@@ -142,7 +142,8 @@ sent_code sent = bit_and (slice_index sent.bytes 0) 0x3F
 -- zero.
 abbrev pub faults_against : (current : PageValues) → Part → ModePage → List ℕ
 faults_against current sent page =
-    part_faults (page_data current page) (0x80 ∷ 0x00 ∷ (row_of page).changeable) sent
+    let changeable = parameters_saveable ∷ 0x00 ∷ (row_of page).changeable in
+    part_faults (page_data current page) changeable sent
 
 -- Of a page that the disk does not have, the first byte is at fault.
 abbrev pub page_faults : (current : PageValues) → Part → List ℕ

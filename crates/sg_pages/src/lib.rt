@@ -4,6 +4,7 @@
 
 mod identity;
 mod inquiry_data;
+pub mod laws;
 mod mode_pages;
 mod provisioning_pages;
 mod vital_product_data;
@@ -13,7 +14,6 @@ pub use inquiry_data::{write_standard_inquiry, write_standard_inquiry as inquiry
 pub use mode_pages::{
     Changed, ModePage, ModePages, ModeSelectFault, ModeSelectFault as SelectFault, ModeSenseFault,
     ModeSenseFault as AskFault, ModeSenseRequest, ModeSenseRequest as Ask, PageControl, PageValues,
-    only_changeable_bits_change, only_sp_saves, sp_saves_all,
 };
 pub use provisioning_pages::{MAXIMUM_TRANSFER_LENGTH, MAXIMUM_WRITE_SAME_LENGTH};
 pub use vital_product_data::{VpdPage, vpd, write_vpd_page};

@@ -7,7 +7,7 @@ use Rattle.sg_wire.specs.CutAnswer.{first_bytes}
 use Rattle.sg_target.specs.PrimaryCommands.{inquiry_page}
 use Rattle.sg_target.specs.ReservationCommands.{fields_out}
 use Rattle.sg_target.specs.declared.refusal.Reason.TheVariants.{LbaOutOfRange}
-use Rattle.sg_target.specs.declared.refusal.Refusal.TheVariants.{Check}
+use Rattle.sg_target.specs.declared.refusal.Refusal.TheVariants.{CheckCondition}
 use Rattle.std.proofs.lemmas.Bool.Decides.{nat_tests}
 use Rattle.sg_wire.specs.declared.command.Command.{Command}
 use Rattle.sg_wire.specs.declared.command.Command.TheVariants as command
@@ -151,7 +151,8 @@ on_disk : (capacity : ℕ) (extents : List Extent) → out_of_range capacity ext
 unfolding out_of_range
 on_disk capacity [] e = tt
 on_disk capacity (one ∷ rest) e =
-    let h = past-none capacity (one.lba + one.count) (Check (LbaOutOfRange (max one.lba capacity)))
+    let h = past-none capacity (one.lba + one.count)
+        (CheckCondition (LbaOutOfRange (max one.lba capacity)))
     (map (past_capacity capacity) rest) (nat_lt capacity (one.lba + one.count)) refl e in
     (h.0, on_disk capacity rest h.1)
 

@@ -33,7 +33,7 @@ use Rattle.sg_target.specs.declared.operation.Operation.TheVariants.{ReturnSense
 use Rattle.sg_target.specs.declared.operation.Operation.TheVariants.{ChangeModes, ChangeReservations}
 use Rattle.sg_target.specs.declared.refusal.Reason.TheVariants.{UnitAttention as Attention}
 use Rattle.sg_target.specs.declared.refusal.Refusal.{Refusal}
-use Rattle.sg_target.specs.declared.refusal.Refusal.TheVariants.{Check}
+use Rattle.sg_target.specs.declared.refusal.Refusal.TheVariants.{CheckCondition}
 
 -- the last check looks whether there is space
 space : (disk : Disk) → no_space disk ≡ None → len disk.contents ≤ disk.pool
@@ -61,7 +61,7 @@ module _ (reservations : ReservationsStayConsistent) (queues : QueuesKeepTheirLi
 
   refused-within : (state : State) (i : ℕ) (refusal : Refusal) → IsWithinLimits state
       → IsWithinLimits (refused state i refusal).state
-  refused-within state i (Check (Attention condition)) h = without-oldest-within state i h
+  refused-within state i (CheckCondition (Attention condition)) h = without-oldest-within state i h
   refused-within state i _ h = h
 
   -- the tables but that of the mapped blocks, which the check for space keeps

@@ -27,7 +27,7 @@ use Rattle.sg_target.specs.declared.refusal.Reason.TheVariants.{DataPhaseError, 
 use Rattle.sg_target.specs.declared.refusal.Reason.TheVariants.{SpaceAllocationFailed}
 use Rattle.sg_target.specs.declared.refusal.Reason.TheVariants.{SoftwareWriteProtected}
 use Rattle.sg_target.specs.declared.refusal.Refusal.{Refusal}
-use Rattle.sg_target.specs.declared.refusal.Refusal.TheVariants.{Conflict, Check}
+use Rattle.sg_target.specs.declared.refusal.Refusal.TheVariants.{Conflict, CheckCondition}
 
 -- ---- Checks of a CDB
 
@@ -40,7 +40,8 @@ empty_cdb _ = None
 abbrev pub pending_attention : State → (initiator : ℕ) → List ℕ → Option Refusal
 pending_attention state initiator cdb =
     if is_blocked_by_attention cdb
-    then option_map (λ condition. Check (Attention condition)) (oldest state.attentions initiator)
+    then option_map (λ condition. CheckCondition (Attention condition))
+        (oldest state.attentions initiator)
     else None
 
 abbrev pub unknown_opcode : Result Command CdbFault → Option Refusal
@@ -78,13 +79,14 @@ cdb_checks state initiator cdb = let command = command_of cdb in
 -- ---- Checks of a command
 
 abbrev pub unsupported_value : Option ℕ → Option Refusal
-unsupported_value unsupported = option_map (λ byte. Check (InvalidFieldInCdb byte)) unsupported
+unsupported_value unsupported =
+    option_map (λ byte. CheckCondition (InvalidFieldInCdb byte)) unsupported
 
 -- There is less data-out than the command needs. More is ignored.
 abbrev pub short_data_out : (data_out_length : Option ℕ) → List ℕ → Option Refusal
 short_data_out None data_out = None
 short_data_out (Some n) data_out =
-    if nat_lt (length data_out) n then Some (Check DataPhaseError) else None
+    if nat_lt (length data_out) n then Some (CheckCondition DataPhaseError) else None
 
 -- What a command asks for, or the first refusal: of a value, for want of data-out, or of the page or
 -- the parameter list that it names.
@@ -100,7 +102,7 @@ requested d data_out =
 abbrev pub past_capacity : (capacity : ℕ) → Extent → Option Refusal
 past_capacity capacity extent =
     if nat_lt capacity (extent.lba + extent.count)
-    then Some (Check (LbaOutOfRange (max extent.lba capacity)))
+    then Some (CheckCondition (LbaOutOfRange (max extent.lba capacity)))
     else None
 
 unfoldable pub out_of_range : (capacity : ℕ) → List Extent → Option Refusal
@@ -110,7 +112,9 @@ out_of_range capacity extents = first_some (map (past_capacity capacity) extents
 -- no block.
 unfoldable pub write_protection : ModeState → (writes_medium : Bool) → Option Refusal
 write_protection modes writes_medium =
-    if write_protected modes && writes_medium then Some (Check SoftwareWriteProtected) else None
+    if write_protected modes && writes_medium
+    then Some (CheckCondition SoftwareWriteProtected)
+    else None
 
 abbrev pub medium_checks : State → MediumUse → List (Option Refusal)
 medium_checks state medium =
@@ -150,4 +154,6 @@ checked_effect state initiator cdb data_out =
 -- More addresses would be mapped or anchored than the pool has blocks.
 unfoldable pub no_space : Disk → Option Refusal
 no_space after =
-    if nat_lt after.pool (len after.contents) then Some (Check SpaceAllocationFailed) else None
+    if nat_lt after.pool (len after.contents)
+    then Some (CheckCondition SpaceAllocationFailed)
+    else None

@@ -20,7 +20,7 @@ use Rattle.sg_target.specs.declared.refusal.Reason.TheVariants.{InvalidFieldInCd
 use Rattle.sg_target.specs.declared.refusal.Reason.TheVariants.{InvalidFieldInParameterList}
 use Rattle.sg_target.specs.declared.refusal.Reason.TheVariants.{ParameterListLengthError}
 use Rattle.sg_target.specs.declared.refusal.Refusal.{Refusal}
-use Rattle.sg_target.specs.declared.refusal.Refusal.TheVariants.{Check}
+use Rattle.sg_target.specs.declared.refusal.Refusal.TheVariants.{CheckCondition}
 
 -- ---- MODE SENSE
 
@@ -47,8 +47,8 @@ mode_sense_request blocks ten llbaa dbd pc page_code subpage_code = record {
 -- A page or a subpage that the disk does not have is an invalid field: PAGE CODE is in byte 2, and
 -- SUBPAGE CODE is byte 3.
 abbrev pub sense_refusal : ModeSenseFault → Refusal
-sense_refusal Page = Check (InvalidFieldInCdb 2)
-sense_refusal Subpage = Check (InvalidFieldInCdb 3)
+sense_refusal Page = CheckCondition (InvalidFieldInCdb 2)
+sense_refusal Subpage = CheckCondition (InvalidFieldInCdb 3)
 
 -- The mode parameter list that is requested, or the refusal.
 unfoldable pub mode_parameters : ModeState → RequestFields → Result (List ℕ) Refusal
@@ -59,8 +59,8 @@ mode_parameters modes request =
 
 -- Its parameter list ends early, or a byte of it has a value that is not supported.
 abbrev pub select_refusal : ModeSelectFault → Refusal
-select_refusal Length = Check ParameterListLengthError
-select_refusal (Field byte) = Check (InvalidFieldInParameterList byte)
+select_refusal Length = CheckCondition ParameterListLengthError
+select_refusal (Field byte) = CheckCondition (InvalidFieldInParameterList byte)
 
 -- The mode pages after a parameter list, or the refusal. With SP all of them are saved.
 unfoldable pub selected_modes : State → (ten sp : Bool) → (list : List ℕ) → Result ModeState Refusal

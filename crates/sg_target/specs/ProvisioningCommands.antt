@@ -16,7 +16,7 @@ use Rattle.sg_target.specs.State.{State}
 use Rattle.sg_target.specs.declared.refusal.Reason.TheVariants.{ParameterListLengthError}
 use Rattle.sg_target.specs.declared.refusal.Reason.TheVariants.{InvalidFieldInParameterList}
 use Rattle.sg_target.specs.declared.refusal.Refusal.{Refusal}
-use Rattle.sg_target.specs.declared.refusal.Refusal.TheVariants.{Check}
+use Rattle.sg_target.specs.declared.refusal.Refusal.TheVariants.{CheckCondition}
 
 -- ---- Unmapping
 
@@ -68,9 +68,9 @@ anchoring state extents = let contents = state.disk.contents in record (no_effec
 -- The sense data of each fault. Too many descriptors are an invalid UNMAP BLOCK DESCRIPTOR DATA
 -- LENGTH.
 abbrev pub unmap_list_refusal : UnmapListFault → Refusal
-unmap_list_refusal Short = Check ParameterListLengthError
+unmap_list_refusal Short = CheckCondition ParameterListLengthError
 unmap_list_refusal TooManyDescriptors =
-    Check (InvalidFieldInParameterList descriptor_data_length_at)
+    CheckCondition (InvalidFieldInParameterList descriptor_data_length_at)
 
 -- The extents that a list names, or the refusal.
 abbrev pub listed_extents : (list : List ℕ) → Result (List Extent) Refusal

@@ -1,6 +1,8 @@
 -- Why a command is refused, and the sense data that reports it.
 use Rattle.std.specs.Prelude.{ℕ, List, [], ◌∷◌, Option, Some, None, Result, Ok, Err, true, false}
 use Rattle.sg_wire.specs.SenseData.{SenseFields}
+use Rattle.sg_wire.specs.SenseKey.{no_sense, illegal_request, unit_attention, data_protect}
+use Rattle.sg_wire.specs.SenseKey.{aborted_command}
 use Rattle.sg_wire.specs.declared.command.CdbFault.{CdbFault}
 use Rattle.sg_wire.specs.declared.command.CdbFault.TheVariants.{Empty, Opcode, Short, Field}
 use Rattle.sg_units.specs.UnitAttention.{code_of}
@@ -18,23 +20,7 @@ use Rattle.sg_target.specs.declared.refusal.Reason.TheVariants.{LbaOutOfRange}
 use Rattle.sg_target.specs.declared.refusal.Reason.TheVariants.{SpaceAllocationFailed}
 use Rattle.sg_target.specs.declared.refusal.Reason.TheVariants.{SoftwareWriteProtected}
 use Rattle.sg_target.specs.declared.refusal.Refusal.{Refusal}
-use Rattle.sg_target.specs.declared.refusal.Refusal.TheVariants.{Check}
-
--- Sense keys (SPC-4, sense key descriptions).
-abbrev pub no_sense : ℕ
-no_sense = 0
-
-abbrev pub illegal_request : ℕ
-illegal_request = 5
-
-abbrev pub unit_attention : ℕ
-unit_attention = 6
-
-abbrev pub data_protect : ℕ
-data_protect = 7
-
-abbrev pub aborted_command : ℕ
-aborted_command = 11
+use Rattle.sg_target.specs.declared.refusal.Refusal.TheVariants.{CheckCondition}
 
 -- A sense key with an additional sense code and its qualifier (SPC-4, annex on numeric order codes),
 -- without INFORMATION and field pointer.
@@ -75,7 +61,7 @@ reason_for (Short length) = InvalidFieldInCdb length
 reason_for (Field byte) = InvalidFieldInCdb byte
 
 abbrev pub refusal_for : CdbFault → Refusal
-refusal_for fault = Check (reason_for fault)
+refusal_for fault = CheckCondition (reason_for fault)
 
 -- ---- Checks in order
 
@@ -103,4 +89,4 @@ checked_next (Err refusal) next = Err refusal
 -- What the disk does not support is an invalid field, at its byte in the CDB.
 abbrev pub if_supported : {A : Type 0} → (byte : ℕ) → Option A → Result A Refusal
 if_supported byte (Some value) = Ok value
-if_supported byte None = Err (Check (InvalidFieldInCdb byte))
+if_supported byte None = Err (CheckCondition (InvalidFieldInCdb byte))

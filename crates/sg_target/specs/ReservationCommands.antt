@@ -27,7 +27,7 @@ use Rattle.sg_target.specs.declared.refusal.Reason.TheVariants.{InvalidFieldInPa
 use Rattle.sg_target.specs.declared.refusal.Reason.TheVariants.{InvalidRelease}
 use Rattle.sg_target.specs.declared.refusal.Reason.TheVariants.{ParameterListLengthError}
 use Rattle.sg_target.specs.declared.refusal.Refusal.{Refusal}
-use Rattle.sg_target.specs.declared.refusal.Refusal.TheVariants.{Conflict, Check}
+use Rattle.sg_target.specs.declared.refusal.Refusal.TheVariants.{Conflict, CheckCondition}
 
 -- ---- PERSISTENT RESERVE IN
 
@@ -57,15 +57,17 @@ unless_type action scope_type =
 -- The status or the sense data of each fault.
 abbrev pub out_refusal : OutFault → Refusal
 out_refusal out_fault.Conflict = Conflict
-out_refusal out_fault.NoRoom = Check InsufficientRegistrationResources
-out_refusal out_fault.BadRelease = Check InvalidRelease
-out_refusal (out_fault.Field byte) = Check (InvalidFieldInParameterList byte)
-out_refusal out_fault.BadType = Check (InvalidFieldInCdb 2)
+out_refusal out_fault.NoRoom = CheckCondition InsufficientRegistrationResources
+out_refusal out_fault.BadRelease = CheckCondition InvalidRelease
+out_refusal (out_fault.Field byte) = CheckCondition (InvalidFieldInParameterList byte)
+out_refusal out_fault.BadType = CheckCondition (InvalidFieldInCdb 2)
 
 -- The fields of a parameter list. A list of another length than theirs is an error.
 abbrev pub fields_out : (list : List ℕ) → Result OutList Refusal
 fields_out list =
-    if length list == list_length then Ok (out_list list) else Err (Check ParameterListLengthError)
+    if length list == list_length
+    then Ok (out_list list)
+    else Err (CheckCondition ParameterListLengthError)
 
 -- What they ask for, or the refusal.
 unfoldable pub reservation_change : State → (initiator : ℕ) → OutAction → (scope_type : ℕ)

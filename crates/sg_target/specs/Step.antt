@@ -13,7 +13,7 @@ use Rattle.sg_target.specs.State.{State}
 use Rattle.sg_target.specs.declared.operation.Operation.{Operation}
 use Rattle.sg_target.specs.declared.refusal.Refusal.{Refusal}
 use Rattle.sg_target.specs.declared.refusal.Reason.TheVariants.{UnitAttention as Attention}
-use Rattle.sg_target.specs.declared.refusal.Refusal.TheVariants.{Conflict, Check}
+use Rattle.sg_target.specs.declared.refusal.Refusal.TheVariants.{Conflict, CheckCondition}
 use Rattle.sg_target.specs.declared.reply.Status.{Status}
 use Rattle.sg_target.specs.declared.reply.Status.TheVariants.{Good, CheckCondition, ReservationConflict}
 
@@ -37,12 +37,13 @@ sense_format state = format_of (descriptor_sense state.modes)
 -- A conflict has a status of its own, and all else CHECK CONDITION with sense data.
 abbrev pub refusal_answer : Format → Refusal → Answer
 refusal_answer format Conflict = record { status = ReservationConflict; sense = []; data_in = [] }
-refusal_answer format (Check reason) =
+refusal_answer format (CheckCondition reason) =
     record { status = CheckCondition; sense = sense_data format (sense_of reason); data_in = [] }
 
 -- A refused command changes nothing, but for the unit attention that it reports, which is cleared.
 abbrev pub after_refusal : State → (initiator : ℕ) → Refusal → State
-after_refusal state initiator (Check (Attention condition)) = without_attention state initiator
+after_refusal state initiator (CheckCondition (Attention condition)) =
+    without_attention state initiator
 after_refusal state initiator _ = state
 
 abbrev pub refused : State → (initiator : ℕ) → Refusal → Step

@@ -39,7 +39,7 @@ fn check_transfer_length(extent: Extent, byte: u16) -> Result<(), Refusal>
     ensures at_most_256 { IfOk result (λ _. extent.count ≤ maximum_transfer_length) }
 {
     if extent.count > MAXIMUM_TRANSFER_LENGTH {
-        return Err(Refusal::Check(Reason::InvalidFieldInCdb { byte }));
+        return Err(Refusal::CheckCondition(Reason::InvalidFieldInCdb { byte }));
     }
     Ok(())
 }
@@ -179,7 +179,7 @@ impl<S: Store> Target<S> {
     ) -> Reply
         ensures done { OnOk written (result ≡ executed_reply 0 self.old.meter.counts) }
         ensures refused { OnErr written (result ≡ refused_reply (sense_format self.old.state)
-            (Refusal.Check Reason.SpaceAllocationFailed) self.old.meter.counts) }
+            (Refusal.CheckCondition Reason.SpaceAllocationFailed) self.old.meter.counts) }
         ensures state { self.new ≡ self.old }
     {
         let counts = self.store.counts();
@@ -187,7 +187,7 @@ impl<S: Store> Target<S> {
             Ok(()) => Reply::good(0, counts),
             Err(Space) => self.refuse(
                 initiator,
-                Refusal::Check(Reason::SpaceAllocationFailed),
+                Refusal::CheckCondition(Reason::SpaceAllocationFailed),
                 counts,
             ),
         }

@@ -37,7 +37,7 @@ impl<S: Store> Target<S> {
             return Err(Refusal::from(CdbFault::Empty));
         }
         if let Some(condition) = self.blocking_attention(initiator, cdb) {
-            return Err(Refusal::Check(Reason::UnitAttention(condition)));
+            return Err(Refusal::CheckCondition(Reason::UnitAttention(condition)));
         }
         if let Err(CdbFault::Opcode) = command {
             return Err(Refusal::from(CdbFault::Opcode));
@@ -85,7 +85,7 @@ impl<S: Store> Target<S> {
             return Err(refusal);
         }
         if medium.writes && self.modes.write_protected() {
-            return Err(Refusal::Check(Reason::SoftwareWriteProtected));
+            return Err(Refusal::CheckCondition(Reason::SoftwareWriteProtected));
         }
         Ok(operation)
     }

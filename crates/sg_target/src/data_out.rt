@@ -14,7 +14,7 @@ pub(crate) fn needed_data_out(data_out: &[u8], count: usize) -> Result<&[u8], Re
     ensures whole { IfOk result (λ bytes. length bytes.now ≡ count) }
 {
     if data_out.len() < count {
-        return Err(Refusal::Check(Reason::DataPhaseError));
+        return Err(Refusal::CheckCondition(Reason::DataPhaseError));
     }
     Ok(&data_out[..count])
 }

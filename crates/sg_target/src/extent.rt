@@ -25,7 +25,7 @@ pub(crate) fn past_capacity(extent: Extent, capacity: u64) -> Option<Refusal>
     if count <= capacity && extent.lba <= capacity - count {
         return None;
     }
-    Some(Refusal::Check(Reason::LbaOutOfRange {
+    Some(Refusal::CheckCondition(Reason::LbaOutOfRange {
         lba: extent.lba.max(capacity),
     }))
 }

@@ -122,7 +122,7 @@ impl From<ModeSenseFault> for Refusal {
             ModeSenseFault::Page => PAGE_CODE_BYTE,
             ModeSenseFault::Subpage => SUBPAGE_CODE_BYTE,
         };
-        Refusal::Check(Reason::InvalidFieldInCdb { byte })
+        Refusal::CheckCondition(Reason::InvalidFieldInCdb { byte })
     }
 }
 
@@ -208,7 +208,7 @@ fn check_mode_select(
     ensures { result ≡ requested (mode_select ten pf sp list_length data_out.now) data_out.now }
 {
     if !pf {
-        return Err(Refusal::Check(Reason::InvalidFieldInCdb {
+        return Err(Refusal::CheckCondition(Reason::InvalidFieldInCdb {
             byte: PAGE_FORMAT_BYTE,
         }));
     }
@@ -253,7 +253,11 @@ impl<S: Store> Target<S> {
                 Reason::InvalidFieldInParameterList { byte: byte as u16 }
             }
         };
-        self.refuse(initiator, Refusal::Check(reason), Counts::default())
+        self.refuse(
+            initiator,
+            Refusal::CheckCondition(reason),
+            Counts::default(),
+        )
     }
 
     // Where a current value has changed, the other initiators get a unit attention.

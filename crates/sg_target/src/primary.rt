@@ -99,7 +99,7 @@ pub(crate) fn check_inquiry(fields: Inquiry) -> Result<Operation<'static>, Refus
             page,
             allocation_length: fields.allocation_length,
         }),
-        None => Err(Refusal::Check(Reason::InvalidFieldInCdb {
+        None => Err(Refusal::CheckCondition(Reason::InvalidFieldInCdb {
             byte: PAGE_CODE_BYTE,
         })),
     }

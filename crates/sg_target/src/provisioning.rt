@@ -46,9 +46,9 @@ impl From<UnmapListFault> for Refusal {
 
     fn from(fault: UnmapListFault) -> Refusal {
         match fault {
-            UnmapListFault::Short => Refusal::Check(Reason::ParameterListLengthError),
+            UnmapListFault::Short => Refusal::CheckCondition(Reason::ParameterListLengthError),
             UnmapListFault::TooManyDescriptors => {
-                Refusal::Check(Reason::InvalidFieldInParameterList {
+                Refusal::CheckCondition(Reason::InvalidFieldInParameterList {
                     byte: UnmapList::DESCRIPTOR_DATA_LENGTH_AT as u16,
                 })
             }
@@ -260,7 +260,7 @@ fn check_write_same(
     ensures { result ≡ requested (write_same anchor unmap extent byte data_out.now) data_out.now }
 {
     if anchor && !unmap {
-        return Err(Refusal::Check(Reason::InvalidFieldInCdb { byte: ANCHOR_BYTE }));
+        return Err(Refusal::CheckCondition(Reason::InvalidFieldInCdb { byte: ANCHOR_BYTE }));
     }
     check_write_same_length(extent, byte)?;
     let bytes = needed_data_out(data_out, BLOCK_LENGTH)?;
@@ -281,7 +281,7 @@ fn check_write_same_length(extent: Extent, byte: u16) -> Result<(), Refusal>
     ensures passed { IfOk result (λ _. bad_count extent.count byte ≡ None) }
 {
     if !(1..=MAXIMUM_WRITE_SAME_LENGTH).contains(&extent.count) {
-        return Err(Refusal::Check(Reason::InvalidFieldInCdb { byte }));
+        return Err(Refusal::CheckCondition(Reason::InvalidFieldInCdb { byte }));
     }
     Ok(())
 }

@@ -8,7 +8,7 @@ pub enum Refusal {
     /// RESERVATION CONFLICT, a status without sense data.
     Conflict,
     /// CHECK CONDITION.
-    Check(Reason),
+    CheckCondition(Reason),
 }
 
 /// Why a command ends with CHECK CONDITION (SPC-4, sense keys and additional sense codes).
@@ -40,7 +40,8 @@ pub enum Reason {
 
 ghost use Rattle.std.specs.Prelude.{◌≡◌, ◌≤◌, Some};
 ghost use Rattle.sg_wire.specs.Sense.{fields_of};
-ghost use Rattle.sg_target.specs.Refusal.{illegal_request, pending_sense, plain_sense, reason_for, sense_of};
+ghost use Rattle.sg_wire.specs.SenseKey.{illegal_request};
+ghost use Rattle.sg_target.specs.Refusal.{pending_sense, plain_sense, reason_for, sense_of};
 
 impl Reason {
     /// The sense data that reports it.
@@ -89,12 +90,12 @@ impl From<CdbFault> for Reason {
 }
 
 impl From<CdbFault> for Refusal {
-    ghost use Rattle.sg_target.specs.declared.refusal.Refusal.TheVariants.{Check};
+    ghost use Rattle.sg_target.specs.declared.refusal.Refusal.TheVariants.{CheckCondition};
 
-    ghost from_gives = { λ fault refusal. refusal ≡ Check (reason_for fault) };
+    ghost from_gives = { λ fault refusal. refusal ≡ CheckCondition (reason_for fault) };
 
     fn from(fault: CdbFault) -> Refusal {
-        Refusal::Check(Reason::from(fault))
+        Refusal::CheckCondition(Reason::from(fault))
     }
 }
 

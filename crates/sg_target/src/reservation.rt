@@ -76,12 +76,14 @@ impl From<OutFault> for Refusal {
     fn from(fault: OutFault) -> Refusal {
         match fault {
             OutFault::Conflict => Refusal::Conflict,
-            OutFault::NoRoom => { Refusal::Check(Reason::InsufficientRegistrationResources) }
-            OutFault::BadRelease => Refusal::Check(Reason::InvalidRelease),
-            OutFault::Field(byte) => Refusal::Check(Reason::InvalidFieldInParameterList {
+            OutFault::NoRoom => {
+                Refusal::CheckCondition(Reason::InsufficientRegistrationResources)
+            }
+            OutFault::BadRelease => Refusal::CheckCondition(Reason::InvalidRelease),
+            OutFault::Field(byte) => Refusal::CheckCondition(Reason::InvalidFieldInParameterList {
                 byte: u16::from(byte),
             }),
-            OutFault::BadType => Refusal::Check(Reason::InvalidFieldInCdb {
+            OutFault::BadType => Refusal::CheckCondition(Reason::InvalidFieldInCdb {
                 byte: SCOPE_TYPE_BYTE,
             }),
         }
@@ -108,13 +110,13 @@ pub(crate) fn check_reserve_out(
         list_length,
     } = fields;
     if always_needs_type(action) && ReservationType::with_scope_and_type(scope_type).is_none() {
-        return Err(Refusal::Check(Reason::InvalidFieldInCdb {
+        return Err(Refusal::CheckCondition(Reason::InvalidFieldInCdb {
             byte: SCOPE_TYPE_BYTE,
         }));
     }
     let list = needed_data_out(data_out, list_length as usize)?;
     if list.len() != OutList::LENGTH {
-        return Err(Refusal::Check(Reason::ParameterListLengthError));
+        return Err(Refusal::CheckCondition(Reason::ParameterListLengthError));
     }
     Ok(Operation::ChangeReservations {
         action,

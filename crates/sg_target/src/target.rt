@@ -142,7 +142,7 @@ impl<S: Store> Target<S> {
         ensures meter { self.new.meter ≡ self.old.meter }
     {
         let reply = Reply::refused(refusal, self.sense_format(), counts);
-        if let Refusal::Check(Reason::UnitAttention(_)) = refusal {
+        if let Refusal::CheckCondition(Reason::UnitAttention(_)) = refusal {
             self.attentions.clear_oldest(initiator);
         }
         reply

@@ -2,6 +2,7 @@
 use Rattle.std.specs.Prelude.{ℕ, List, [], ◌∷◌, Option, Some, None, Bool, true, ◌==◌, ◌&&◌}
 use Rattle.std.specs.Prelude.{if◌then◌else◌}
 use Rattle.sg_wire.specs.SenseData.{SenseFields}
+use Rattle.sg_wire.specs.SenseKey.{illegal_request, unit_attention, data_protect, aborted_command}
 
 -- Sense data with a sense key, and with an additional sense code and its qualifier where these
 -- matter, and its exit status.
@@ -20,12 +21,12 @@ with_key key exit_status = record { key = key; codes = None; exit_status = exit_
 -- The first row that applies decides.
 abbrev pub sense_statuses : List SenseStatus
 sense_statuses =
-    with_codes 0x5 0x20 0x00 9  -- ILLEGAL REQUEST, INVALID COMMAND OPERATION CODE
-    ∷ with_codes 0x5 0x21 0x00 22  -- ILLEGAL REQUEST, LOGICAL BLOCK ADDRESS OUT OF RANGE
-    ∷ with_key 0x5 5  -- ILLEGAL REQUEST
-    ∷ with_key 0x6 6  -- UNIT ATTENTION
-    ∷ with_key 0x7 7  -- DATA PROTECT
-    ∷ with_key 0xB 11  -- ABORTED COMMAND
+    with_codes illegal_request 0x20 0x00 9  -- INVALID COMMAND OPERATION CODE
+    ∷ with_codes illegal_request 0x21 0x00 22  -- LOGICAL BLOCK ADDRESS OUT OF RANGE
+    ∷ with_key illegal_request 5
+    ∷ with_key unit_attention 6
+    ∷ with_key data_protect 7
+    ∷ with_key aborted_command 11
     ∷ []
 
 -- Every other failure, unreadable sense data too.

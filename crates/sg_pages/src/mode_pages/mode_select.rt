@@ -3,7 +3,7 @@ ghost use Rattle.std.specs.Prelude.{◌≡◌, ◌≤◌, ◌<◌, ◌+◌, ◌�
 ghost use Rattle.std.specs.Prelude.{IsTrue, IfErr, IfOk, OnOk};
 ghost use Rattle.std.specs.List.{flat_map};
 ghost use Rattle.std.specs.Result.{result_map_both, result_unwrap_or};
-ghost use Rattle.sg_pages.specs.ModePage.{page_bytes};
+ghost use Rattle.sg_pages.specs.ModePage.{page_bytes, parameters_saveable};
 ghost use Rattle.sg_pages.specs.ModeSelect.{IsInside, changed_by, first_fault, mode_select};
 ghost use Rattle.sg_pages.specs.ModeSelect.{page_at, page_faults, pages_from, part_faults};
 ghost use Rattle.sg_pages.specs.ModeSelect.{selected_values, unless_fault, values_after, with_sent};
@@ -144,7 +144,7 @@ fn check_page(
     requires changeable { length changeable.now ≡ length expected.now }
     ensures result { let sent = page_at offset list.now in
         let faults = part_faults (page_bytes code expected.now)
-        (0x80 ∷ 0x00 ∷ changeable.now) sent in
+        (parameters_saveable ∷ 0x00 ∷ changeable.now) sent in
         result ≡ unless_fault (first_fault (length list.now) faults) (offset + sent.size) }
     ensures size { OnOk result ((page_at offset list.now).size ≡ 2 + length expected.now) }
     ensures end { IfOk result (λ end. end ≡ offset + 2 + length expected.now) }

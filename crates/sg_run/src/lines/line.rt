@@ -8,7 +8,7 @@ pub(crate) const LONGEST_LINE: usize = 4_096;
 
 /// The bytes of a line, at most 4,096, or that there were more.
 #[derive(Drop)]
-pub struct Line {
+pub(crate) struct Line {
     bytes: Vec<u8>,
     len: usize,
     is_too_long: bool,
@@ -34,7 +34,7 @@ impl Line {
     ///
     /// # Errors
     /// Memory was refused.
-    pub fn new(alloc: Global) -> Result<Line, AllocError>
+    pub(crate) fn new(alloc: Global) -> Result<Line, AllocError>
         ensures { IfOk result (λ line. line ≡ Some []) }
     {
         Ok(Line {
@@ -45,7 +45,7 @@ impl Line {
     }
 
     /// Makes the line empty.
-    pub fn clear(&mut self)
+    pub(crate) fn clear(&mut self)
         ensures { self.new ≡ Some [] }
     {
         self.len = 0;
@@ -53,7 +53,7 @@ impl Line {
     }
 
     /// Puts more bytes at the end. With more than 4,096 the line is too long.
-    pub fn extend(&mut self, more: &[u8])
+    pub(crate) fn extend(&mut self, more: &[u8])
         ensures { self.new ≡ extended self.old more.now }
     {
         if more.len() > LONGEST_LINE - self.len {
@@ -66,7 +66,7 @@ impl Line {
     }
 
     /// The bytes, or `None` where the line is too long.
-    pub fn bytes(&self) -> Option<&[u8]>
+    pub(crate) fn bytes(&self) -> Option<&[u8]>
         ensures bytes { option_map (λ b. b.now) result ≡ self.now }
         ensures bound { IfSome (option_map (λ b. b.now) result) (λ bytes.
             length bytes ≤ longest_line) }

@@ -13,7 +13,7 @@ use std::io::{Error, ErrorKind, Read};
 
 /// What ends the next line of a script.
 #[derive(Clone, Copy, PartialEq)]
-pub enum NextLine {
+pub(crate) enum NextLine {
     /// An LF ends it, and it is where it was read: `ReadAhead::line`.
     Ahead,
     /// An LF ends it, and its parts were copied to the `Line`.
@@ -73,7 +73,7 @@ fn take_whole(read_ahead: &mut ReadAhead, left: &mut u32) -> bool
 /// # Errors
 /// The script has more bytes than `left`, or the reader failed.
 #[tactic(auto, using(crate::proofs::Lemmas::parts))]
-pub fn next_line<R: Read>(
+pub(crate) fn next_line<R: Read>(
     reader: &mut Watched<R>,
     read_ahead: &mut ReadAhead,
     line: &mut Line,
@@ -108,7 +108,11 @@ pub fn next_line<R: Read>(
 }
 
 /// The bytes of the line that `next_line` took, or `None` where it is too long.
-pub fn line_bytes<'a>(next: NextLine, read_ahead: &'a ReadAhead, line: &'a Line) -> Option<&'a [u8]>
+pub(crate) fn line_bytes<'a>(
+    next: NextLine,
+    read_ahead: &'a ReadAhead,
+    line: &'a Line,
+) -> Option<&'a [u8]>
     ensures bytes { option_map (λ b. b.now) result ≡ line_of read_ahead.now line.now next }
     ensures bound { IfSome (option_map (λ b. b.now) result) (λ bytes. length bytes ≤ longest_line) }
 {

@@ -13,7 +13,7 @@ const LONGEST_READ_AHEAD: usize = 131_072;
 /// Bytes of a script that were read and are still to be taken, and the last line that was taken whole
 /// of them.
 #[derive(Drop)]
-pub struct ReadAhead {
+pub(crate) struct ReadAhead {
     bytes: Vec<u8>,
     line_start: usize,
     line_end: usize,
@@ -50,7 +50,7 @@ impl ReadAhead {
     ///
     /// # Errors
     /// Memory was refused.
-    pub fn new(alloc: Global) -> Result<ReadAhead, AllocError>
+    pub(crate) fn new(alloc: Global) -> Result<ReadAhead, AllocError>
         ensures { IfOk result (λ read. read.ahead ≡ []) }
     {
         Ok(ReadAhead {
@@ -63,14 +63,14 @@ impl ReadAhead {
     }
 
     /// Drops all the bytes.
-    pub fn clear(&mut self)
+    pub(crate) fn clear(&mut self)
         ensures { self.new.ahead ≡ [] }
     {
         self.start = self.end;
     }
 
     /// The bytes.
-    pub fn bytes(&self) -> &[u8]
+    pub(crate) fn bytes(&self) -> &[u8]
         ensures bytes { result.now ≡ self.now.ahead }
         ensures within { length self.now.ahead ≤ longest_read_ahead }
     {
@@ -78,7 +78,7 @@ impl ReadAhead {
     }
 
     /// The line that `take_line` took last, or `None` where it is too long. A read overwrites it.
-    pub fn line(&self) -> Option<&[u8]>
+    pub(crate) fn line(&self) -> Option<&[u8]>
         ensures bytes { option_map (λ b. b.now) result ≡ kept self.now.line }
         ensures bound { IfSome (option_map (λ b. b.now) result) (λ bytes.
             length bytes ≤ longest_line) }
@@ -92,7 +92,7 @@ impl ReadAhead {
     }
 
     /// Takes a line of `len` bytes and the LF after it.
-    pub fn take_line(&mut self, len: usize)
+    pub(crate) fn take_line(&mut self, len: usize)
         requires { len < length self.old.ahead }
         ensures line { self.new.line ≡ take len self.old.ahead }
         ensures ahead { self.new.ahead ≡ drop (len + 1) self.old.ahead }
@@ -103,7 +103,7 @@ impl ReadAhead {
     }
 
     /// Drops the first `count` bytes.
-    pub fn skip(&mut self, count: usize)
+    pub(crate) fn skip(&mut self, count: usize)
         requires { count ≤ length self.old.ahead }
         ensures { self.new.ahead ≡ drop count self.old.ahead }
     {
@@ -137,7 +137,7 @@ impl ReadAhead {
     /// # Errors
     /// The reader failed.
     #[tactic(auto, using(crate::proofs::Lemmas::refills))]
-    pub fn refill<R: Read>(&mut self, reader: &mut Watched<R>) -> io::Result<bool>
+    pub(crate) fn refill<R: Read>(&mut self, reader: &mut Watched<R>) -> io::Result<bool>
         requires { has_failed reader.old ≡ false }
         ensures refills { Refills
             (to_come R.remaining self.old.ahead reader.old)

@@ -6,7 +6,7 @@ use Rattle.sg_target.specs.State.{State}
 use Rattle.sg_target.specs.Step.{Step, outcome, refused, unless_no_space}
 use Rattle.sg_target.specs.declared.refusal.Reason.TheVariants.{UnitAttention as Attention}
 use Rattle.sg_target.specs.declared.refusal.Refusal.{Refusal}
-use Rattle.sg_target.specs.declared.refusal.Refusal.TheVariants.{Check}
+use Rattle.sg_target.specs.declared.refusal.Refusal.TheVariants.{CheckCondition}
 use Rattle.sg_target.specs.declared.reply.Status.TheVariants.{Good}
 use Rattle.sg_fencing.proofs.LiftLemmas.{lifted}
 use Rattle.sg_fencing.specs.Laws.{IsKept}
@@ -14,7 +14,7 @@ use Rattle.sg_fencing.proofs.laws.refused_changes_nothing.Goals as goal
 
 refused-keeps : (state : State) (i : ℕ) (refusal : Refusal)
     → IsKept state (refused state i refusal).state i
-refused-keeps state i (Check (Attention condition)) =
+refused-keeps state i (CheckCondition (Attention condition)) =
     record { identity = refl; disk = refl; modes = refl; reservations = refl; attentions = inr refl }
 refused-keeps state i _ =
     record { identity = refl; disk = refl; modes = refl; reservations = refl; attentions = inl refl }

@@ -4,7 +4,7 @@ use Rattle.sg_pages.specs.ModePage.{ModeState}
 use Rattle.sg_pages.specs.ModeSelect.{saved_after, selected_values}
 use Rattle.sg_pages.specs.declared.mode_pages.mode_page.PageValues.{PageValues}
 use Rattle.sg_pages.specs.declared.mode_pages.mode_select.ModeSelectFault.{ModeSelectFault}
-use Rattle.sg_pages.proofs.mode_pages.laws.only_sp_saves.Goals as goal
+use Rattle.sg_pages.proofs.laws.only_sp_saves.Goals as goal
 
 stays : (before after : ModeState) (selected : Result PageValues ModeSelectFault)
     → result_map_both (saved_after false before) (λ fault. fault) selected ≡ Ok after

@@ -4,7 +4,7 @@ use Rattle.sg_pages.specs.ModePage.{ModeState}
 use Rattle.sg_pages.specs.ModeSelect.{saved_after, selected_values}
 use Rattle.sg_pages.specs.declared.mode_pages.mode_page.PageValues.{PageValues}
 use Rattle.sg_pages.specs.declared.mode_pages.mode_select.ModeSelectFault.{ModeSelectFault}
-use Rattle.sg_pages.proofs.mode_pages.laws.sp_saves_all.Goals as goal
+use Rattle.sg_pages.proofs.laws.sp_saves_all.Goals as goal
 
 saves : (before after : ModeState) (selected : Result PageValues ModeSelectFault)
     → result_map_both (saved_after true before) (λ fault. fault) selected ≡ Ok after

@@ -1,5 +1,5 @@
 use Rattle.sg_pages.proofs.ChangeLemmas.{only_changeable}
-use Rattle.sg_pages.proofs.mode_pages.laws.only_changeable_bits_change.Goals as goal
+use Rattle.sg_pages.proofs.laws.only_changeable_bits_change.Goals as goal
 
 pub returns : goal.returns
 returns c = only_changeable
