@@ -152,7 +152,7 @@ unfolding out_of_range
 on_disk capacity [] e = tt
 on_disk capacity (one ∷ rest) e =
     let h = past-none capacity (one.lba + one.count)
-        (CheckCondition (LbaOutOfRange (max one.lba capacity)))
+    (CheckCondition (LbaOutOfRange (max one.lba capacity)))
     (map (past_capacity capacity) rest) (nat_lt capacity (one.lba + one.count)) refl e in
     (h.0, on_disk capacity rest h.1)
 

@@ -41,7 +41,7 @@ abbrev pub pending_attention : State → (initiator : ℕ) → List ℕ → Opti
 pending_attention state initiator cdb =
     if is_blocked_by_attention cdb
     then option_map (λ condition. CheckCondition (Attention condition))
-        (oldest state.attentions initiator)
+    (oldest state.attentions initiator)
     else None
 
 abbrev pub unknown_opcode : Result Command CdbFault → Option Refusal
