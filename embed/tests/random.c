@@ -1,6 +1,7 @@
 /* Random commands, from a seed:
  *     random script SEED COUNT       prints them as a script of sgrun
  *     random run SEED COUNT          executes them by the library, and prints what sgrun prints
+ *     random shared SEED COUNT       does so by four threads, which take turns at one disk
  *     random threads SEED COUNT DIR  does so for SEED to SEED + 3, in a thread each with a disk each,
  *                                    into DIR/SEED */
 #include <inttypes.h>
@@ -279,37 +280,100 @@ static void print_script(uint64_t seed, unsigned long count)
     }
 }
 
-static int run(uint64_t seed, unsigned long count, FILE *out)
+/* A disk with the commands that it is still to execute, and where their replies are printed. */
+struct run {
+    mdl_disk disk;
+    uint8_t *data_in;
+    uint64_t seed;
+    unsigned long line, count;
+    FILE *out;
+    int status;
+    pthread_mutex_t lock;
+};
+
+static int begin_run(struct run *it, uint64_t seed, unsigned long count, FILE *out)
+{
+    *it = (struct run){ .disk = MDL_NONE, .seed = seed, .count = count, .out = out,
+                        .lock = PTHREAD_MUTEX_INITIALIZER };
+    it->data_in = malloc(MDL_BUFFER_LENGTH);
+    return it->data_in && !mdl_make(&it->disk, BLOCKS, POOL, NULL) ? 0 : 99;
+}
+
+static void end_run(struct run *it)
+{
+    mdl_free(&it->disk);
+    free(it->data_in);
+}
+
+/* Executes the next command. Not 0 where there is none, or where it is refused by an error. */
+static int next_line(struct run *it)
 {
     static const char *const names[] = { "GOOD", "CHECK CONDITION", "RESERVATION CONFLICT" };
-    uint8_t *data_in = malloc(MDL_BUFFER_LENGTH);
-    mdl_disk disk = MDL_NONE;
-    mdl_reply reply;
     struct command c;
-    unsigned long line;
+    mdl_reply reply;
 
-    if (!data_in || mdl_make(&disk, BLOCKS, POOL, NULL))
-        return 99;
-    for (line = 1; line <= count; line++) {
-        next_command(&c, &seed);
-        if (c.is_power_cycle) {
-            if (mdl_power_cycle(&disk))
-                return 99;
-            fprintf(out, "line %lu: POWER\n", line);
-            continue;
-        }
-        if (mdl_execute(&disk, c.initiator, c.cdb, c.cdb_length, c.data_out, c.data_out_length,
-                        data_in, MDL_BUFFER_LENGTH, &reply))
-            return 99;
-        fprintf(out, "line %lu: %s\n", line,
-                names[reply.status == MDL_GOOD ? 0 : reply.status == MDL_CHECK_CONDITION ? 1 : 2]);
-        if (reply.sense_length)
-            put_sense(out, reply.sense, reply.sense_length);
-        put_data_in(out, data_in, reply.data_in_length);
+    if (it->status || it->line == it->count)
+        return 1;
+    it->line++;
+    next_command(&c, &it->seed);
+    if (c.is_power_cycle) {
+        it->status = mdl_power_cycle(&it->disk) ? 99 : 0;
+        fprintf(it->out, "line %lu: POWER\n", it->line);
+        return it->status;
     }
-    mdl_free(&disk);
-    free(data_in);
+    if (mdl_execute(&it->disk, c.initiator, c.cdb, c.cdb_length, c.data_out, c.data_out_length,
+                    it->data_in, MDL_BUFFER_LENGTH, &reply))
+        return it->status = 99;
+    fprintf(it->out, "line %lu: %s\n", it->line,
+            names[reply.status == MDL_GOOD ? 0 : reply.status == MDL_CHECK_CONDITION ? 1 : 2]);
+    if (reply.sense_length)
+        put_sense(it->out, reply.sense, reply.sense_length);
+    put_data_in(it->out, it->data_in, reply.data_in_length);
     return 0;
+}
+
+static int run(uint64_t seed, unsigned long count, FILE *out)
+{
+    struct run it;
+
+    if (begin_run(&it, seed, count, out))
+        return 99;
+    while (!next_line(&it))
+        ;
+    end_run(&it);
+    return it.status;
+}
+
+/* A thread that takes turns with others at one disk. */
+static void *take_turns(void *argument)
+{
+    struct run *it = argument;
+    int is_over;
+
+    do {
+        pthread_mutex_lock(&it->lock);
+        is_over = next_line(it);
+        pthread_mutex_unlock(&it->lock);
+    } while (!is_over);
+    return NULL;
+}
+
+/* The thread that makes the disk executes nothing, and frees it after the others have. */
+static int run_shared(uint64_t seed, unsigned long count)
+{
+    pthread_t threads[4];
+    struct run it;
+    int at;
+
+    if (begin_run(&it, seed, count, stdout))
+        return 99;
+    for (at = 0; at < 4; at++)
+        if (pthread_create(&threads[at], NULL, take_turns, &it))
+            return 99;
+    for (at = 0; at < 4; at++)
+        pthread_join(threads[at], NULL);
+    end_run(&it);
+    return it.status;
 }
 
 struct work {
@@ -365,5 +429,7 @@ int main(int count, char **words)
     }
     if (strcmp(words[1], "run") == 0)
         return run(strtoull(words[2], NULL, 10), strtoul(words[3], NULL, 10), stdout);
+    if (strcmp(words[1], "shared") == 0)
+        return run_shared(strtoull(words[2], NULL, 10), strtoul(words[3], NULL, 10));
     return count > 4 ? run_threads(strtoull(words[2], NULL, 10), strtoul(words[3], NULL, 10), words[4]) : 2;
 }

@@ -31,6 +31,9 @@ impl Model for Slot {
     ghost also_owns = { λ s. holds the_row s.alloc s.at s.held };
 }
 
+// What lies behind its pointer is a slot's alone: the thread that has the slot has the disk.
+unsafe impl Send for Slot {}
+
 impl Slot {
     /// No disk.
     pub fn empty(alloc: Global) -> Slot

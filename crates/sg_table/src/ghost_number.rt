@@ -14,6 +14,9 @@ impl Model for GhostNumber {
     ghost also_owns = { λ _. ftrue };
 }
 
+// It owns nothing.
+unsafe impl Send for GhostNumber {}
+
 impl GhostNumber {
     pub(crate) fn zero() -> GhostNumber
         ensures { result.value ≡ 0 }

@@ -1,4 +1,5 @@
-//! A SCSI disk in memory, by the C library Mehdalung. A disk is neither `Send` nor `Sync`.
+//! A SCSI disk in memory, by the C library Mehdalung. A disk may go to another thread:
+//! it is `Send`, and not `Sync`.
 use mehdalung_sys as sys;
 use std::{ffi::CString, fmt, ptr};
 
@@ -77,6 +78,10 @@ pub struct Disk {
     slot: sys::mdl_disk,
     data_in: Box<[u8]>,
 }
+
+// SAFETY: by the header, a disk may go to another thread, where the calls are ordered, as a move of a
+// `Send` value orders them.
+unsafe impl Send for Disk {}
 
 impl Disk {
     /// A disk of `blocks` blocks, of which `pool` can be mapped at once. None is the standard
