@@ -203,17 +203,15 @@ def links(folder):
     return bool(is_static) or os.path.exists(f"{folder}/src/main.rt")
 
 
-# How many edits are worth a second check of a crate in ./check.
-WORTH_A_CHECK = 10
+# How many checks of a crate ./check makes.
+CHECKS = 2
 
 
 def first_groups(root, crate):
-    """The groups of a crate's edits in audit/ that ./check tries: the first, and the second where it
-    has many, unless the crate links others."""
+    """The groups of a crate's edits in audit/ that ./check tries, of a crate that links one."""
     folder = f"{root}/crates/{crate}"
     groups, _ = together(of_audit(root, crate), folder, promised(root))
-    second = [it for it in groups[1:2] if len(it) >= WORTH_A_CHECK and not links(folder)]
-    return groups[:1] + second
+    return groups[:1 if links(folder) else CHECKS]
 
 
 def tried_by_check(root):

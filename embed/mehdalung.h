@@ -18,8 +18,8 @@
  * reads or writes until the function returns. Memory that it may write does not overlap any other
  * that it is passed. A null pointer is refused by MDL_NULL_POINTER, or serves where this says so.
  *
- * Threads. A disk is used by one thread at a time, which need not be the one that made it: a lock, or
- * the start or the end of a thread, orders its calls after those of the thread before. Many disks
+ * Threads. A disk is used by one thread at a time, which need not be the one that made it: a lock,
+ * or the start or the end of a thread, orders its calls after those of the thread before. Many disks
  * may be used at once, by a thread each. The library has no state of its own.
  */
 #ifndef MEHDALUNG_H

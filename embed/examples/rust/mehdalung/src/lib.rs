@@ -1,5 +1,4 @@
-//! A SCSI disk in memory, by the C library Mehdalung. A disk may go to another thread:
-//! it is `Send`, and not `Sync`.
+//! A SCSI disk in memory, by the C library Mehdalung. A disk is `Send`, and not `Sync`.
 use mehdalung_sys as sys;
 use std::{ffi::CString, fmt, ptr};
 
