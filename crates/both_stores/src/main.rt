@@ -185,7 +185,7 @@ fn list_extent(random: &mut Random, list: &mut [u8; LONGEST_LIST]) {
     list[19] = random.byte() % 32;
 }
 
-/// The parameter list of PERSISTENT RESERVE OUT with two small keys (SPC-4).
+/// The parameter list of PERSISTENT RESERVE OUT with two small keys (SPC-4, 6.16.3).
 fn list_keys(random: &mut Random, list: &mut [u8; LONGEST_LIST]) {
     list.fill(0);
     list[7] = random.byte() % 3;

@@ -1,4 +1,4 @@
-// How a command ends.
+// The endings that are expected: a status with its sense data, byte by byte from SPC-4, 4.5.3.
 use sg_target::{Reply, Status};
 
 #[derive(Clone, Copy)]

@@ -1,4 +1,4 @@
--- What a line of a list of rows names.
+-- A line of the file `rows` names a row and a disk.
 use Rattle.std.specs.Prelude.{◌≡◌, ◌^◌, ◌<◌, ℕ, List, length, ◌==◌, ◌⊎◌}
 use Rattle.std.specs.List.{before_first, after_first, position_or_len}
 use Rattle.std.specs.Str.Parse.{IsNumeral, digits_value, without_leading_plus}

@@ -1,4 +1,4 @@
-// A line of a list of rows.
+// The lines of the file `rows`: each names a row, and its disk where that is not the usual one.
 ghost use Rattle.std.specs.Prelude.{◌≡◌, MatchOption};
 ghost use Rattle.rows.specs.Row.{IsRow, IsNoRow};
 

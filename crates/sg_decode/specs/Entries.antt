@@ -112,7 +112,7 @@ lba_status_descriptor =
     ∷ part (codes " ") (ProvisioningStatus 12)
     ∷ []
 
--- A reservation key of READ KEYS (SPC-4).
+-- A reservation key of READ KEYS (SPC-4, 6.15.2).
 abbrev reservation_key : Line
 reservation_key = part (codes "  key: ") (Address 0) ∷ []
 

@@ -1,4 +1,4 @@
--- Bytes as hexadecimal text.
+-- Bytes and numbers in hexadecimal, and lines of sixteen bytes.
 use Rattle.std.specs.Prelude.{ℕ, ◌+◌, ◌*◌, ◌/◌, ◌%◌, ◌^◌, List, [], ◌∷◌, ◌++◌, length, map, codes}
 use Rattle.std.specs.Prelude.{slice_range}
 use Rattle.std.specs.List.{flat_map, join_with_byte, range_with_len}

@@ -1,4 +1,4 @@
--- The lines of a text.
+-- A line of a text is labels with values: its text, and the bytes that it needs.
 use Rattle.std.specs.Prelude.{ℕ, List, [], ◌∷◌, ◌++◌, map, max, codes, Bool}
 use Rattle.std.specs.List.{flat_map, list_all}
 use Rattle.std.specs.Borrow.{Bor}

@@ -1,4 +1,4 @@
--- The texts of PERSISTENT RESERVE IN parameter data (SPC-4).
+-- The texts of PERSISTENT RESERVE IN parameter data (SPC-4, 6.15).
 use Rattle.std.specs.Prelude.{ℕ, ◌+◌, List, [], ◌∷◌, drop, codes, ◌==◌, if◌then◌else◌}
 use Rattle.byteorder.specs.Endian.{big_number}
 use Rattle.sg_decode.specs.Lines.{Line, part}

@@ -1,4 +1,4 @@
--- The text of sense data.
+-- Sense data is one line: its key and its code, then INFORMATION and the field pointer, if any.
 use Rattle.std.specs.Prelude.{ℕ, List, [], ◌++◌, codes, decimal, Option, Some, None, Bool}
 use Rattle.std.specs.Prelude.{unwrap_or, ◌==◌, if◌then◌else◌}
 use Rattle.std.specs.Int.{to_be_bytes, w64}

@@ -35,8 +35,8 @@ abbrev pub provisioning_text : ℕ → List ℕ
 provisioning_text status =
     unwrap_or (provisioning_name status) (codes "reserved " ++ decimal status)
 
--- A bit of the PERSISTENT RESERVATION TYPE MASK of REPORT CAPABILITIES (SPC-4), and the name of the
--- type of persistent reservation that it stands for.
+-- A bit of the PERSISTENT RESERVATION TYPE MASK of REPORT CAPABILITIES (SPC-4, 6.15.4), and the
+-- name of the type of persistent reservation that it reports.
 pub record ReservationType : Type 0 where
   pub byte : ℕ
   pub mask : ℕ

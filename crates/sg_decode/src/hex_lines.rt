@@ -1,4 +1,4 @@
-// Bytes in hexadecimal.
+// Hexadecimal lines of sixteen bytes: for blocks, and for all bytes without a text of their own.
 ghost use Rattle.std.specs.Prelude.{◌≡◌, ◌<◌, ◌≤◌, ◌+◌, ◌*◌, ◌%◌, ◌^◌, ◌++◌, length, take, codes};
 ghost use Rattle.std.specs.List.{flat_map};
 ghost use Rattle.sg_decode.specs.HexText.{blank_hex_byte, gathered_text, hex_lines};

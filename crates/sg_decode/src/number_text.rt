@@ -1,4 +1,4 @@
-// Numbers and bytes as text.
+// How the values of fields are printed: in decimal, as characters in brackets, or as digits.
 ghost use Rattle.std.specs.Prelude.{◌≡◌, ◌++◌, decimal, codes, length, map};
 ghost use Rattle.hex.specs.Hex.{encode_lower};
 ghost use Rattle.sg_wire.specs.Printer.{PrintsText};

@@ -1,4 +1,4 @@
-// The texts of PERSISTENT RESERVE IN parameter data (SPC-4).
+// The texts of PERSISTENT RESERVE IN parameter data (SPC-4, 6.15).
 ghost use Rattle.std.specs.Prelude.{◌≤◌, ◌<◌, ◌+◌, ◌^◌, Some, length};
 ghost use Rattle.sg_wire.specs.Printer.{PrintsText};
 ghost use Rattle.sg_decode.specs.Items.{decoded, shown};
@@ -36,7 +36,7 @@ const CAPABILITIES: [&[Field]; 3] = [
     &[Field(b"  types:", Value::ReservationTypes(4))],
 ];
 
-/// Prints the parameter data of PERSISTENT RESERVE IN, READ KEYS (SPC-4).
+/// Prints the parameter data of PERSISTENT RESERVE IN, READ KEYS (SPC-4, 6.15.2).
 pub fn put_keys<W: Write>(bytes: &[u8], out: &mut Printer<'_, W>)
     ensures { PrintsText W.contents out.old out.new (decoded keys bytes.now) }
 {
@@ -60,7 +60,7 @@ fn put_list<W: Write>(kind: EntryKind, bytes: &[u8], out: &mut Printer<'_, W>)
     }
 }
 
-/// Prints the parameter data of PERSISTENT RESERVE IN, READ RESERVATION (SPC-4).
+/// Prints the parameter data of PERSISTENT RESERVE IN, READ RESERVATION (SPC-4, 6.15.3).
 pub fn put_reservation<W: Write>(bytes: &[u8], out: &mut Printer<'_, W>)
     ensures { PrintsText W.contents out.old out.new (decoded reservation bytes.now) }
 {
@@ -83,7 +83,7 @@ fn show_reservation<W: Write>(size: usize, bytes: &[u8], out: &mut Printer<'_, W
     }
 }
 
-/// Prints the parameter data of PERSISTENT RESERVE IN, REPORT CAPABILITIES (SPC-4).
+/// Prints the parameter data of PERSISTENT RESERVE IN, REPORT CAPABILITIES (SPC-4, 6.15.4).
 pub fn put_capabilities<W: Write>(bytes: &[u8], out: &mut Printer<'_, W>)
     ensures { PrintsText W.contents out.old out.new (decoded capabilities bytes.now) }
 {

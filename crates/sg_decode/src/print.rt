@@ -1,4 +1,4 @@
-// The texts of answers, each written to a writer.
+// The texts for callers with a writer and no `Printer`: each call gathers its text by itself.
 ghost use Rattle.std.specs.Prelude.{◌≡◌, false};
 ghost use Rattle.sg_wire.specs.Watched.{SendsText, has_failed};
 ghost use Rattle.sg_decode.specs.Items.{decoded};
@@ -93,7 +93,7 @@ pub fn print_lba_status<W: Write>(
     out.finish()
 }
 
-/// Prints the parameter data of PERSISTENT RESERVE IN, READ KEYS (SPC-4).
+/// Prints the parameter data of PERSISTENT RESERVE IN, READ KEYS (SPC-4, 6.15.2).
 ///
 /// # Errors
 ///
@@ -108,7 +108,7 @@ pub fn print_keys<W: Write>(bytes: &[u8], writer: &mut Watched<W>) -> io::Result
     out.finish()
 }
 
-/// Prints the parameter data of PERSISTENT RESERVE IN, READ RESERVATION (SPC-4).
+/// Prints the parameter data of PERSISTENT RESERVE IN, READ RESERVATION (SPC-4, 6.15.3).
 ///
 /// # Errors
 ///
@@ -138,7 +138,7 @@ pub fn print_full_status<W: Write>(bytes: &[u8], writer: &mut Watched<W>) -> io:
     out.finish()
 }
 
-/// Prints the parameter data of PERSISTENT RESERVE IN, REPORT CAPABILITIES (SPC-4).
+/// Prints the parameter data of PERSISTENT RESERVE IN, REPORT CAPABILITIES (SPC-4, 6.15.4).
 ///
 /// # Errors
 ///

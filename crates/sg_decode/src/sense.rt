@@ -1,4 +1,4 @@
-// The text of sense data.
+// Sense data is one line: its key and its code, then INFORMATION and the field pointer, if any.
 ghost use Rattle.std.specs.Prelude.{◌≡◌, option_map};
 ghost use Rattle.std.specs.Int.{to_be_bytes, w64};
 ghost use Rattle.hex.specs.Hex.{encode_lower};

@@ -32,7 +32,7 @@ pub(crate) enum Value {
     HexFrom(usize),
     /// PROVISIONING STATUS, the low four bits of a byte (SBC-3, 5.4.2.2).
     ProvisioningStatus(usize),
-    /// The types of a PERSISTENT RESERVATION TYPE MASK of two bytes, by name (SPC-4).
+    /// The types of a PERSISTENT RESERVATION TYPE MASK of two bytes, by name (SPC-4, 6.15.4).
     ReservationTypes(usize),
 }
 

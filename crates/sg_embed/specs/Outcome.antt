@@ -1,4 +1,4 @@
--- How calls end.
+-- How each call ends, by the number that the header has for C.
 use Rattle.std.specs.Prelude.{◌≡◌, ◌⊎◌, ℕ, List, Option, None, Some, Result, Ok, Err, Bool, true, false}
 use Rattle.std.specs.Prelude.{if◌then◌else◌, not, nat_le, nat_lt}
 use Rattle.sg_pages.specs.declared.identity.IdentityFault.{IdentityFault}

@@ -1,4 +1,4 @@
--- Texts for C.
+-- Texts as C takes them: cut to a buffer, with a zero behind.
 use Rattle.std.specs.Prelude.{◌≡◌, ◌⊎◌, ℕ, List, [], ◌∷◌, ◌++◌, MatchOption, length, take}
 use Rattle.sg_wire.specs.CutAnswer.{overwritten}
 use Rattle.sg_run.specs.AnswerText.{answer_text}
@@ -9,7 +9,7 @@ abbrev pub text_in : List ℕ → List ℕ → List ℕ
 text_in text [] = []
 text_in text (byte ∷ rest) = overwritten (take (length rest) text ++ 0 ∷ []) (byte ∷ rest)
 
--- What stands for no text: the largest number of 64 bits.
+-- What is returned where there is no text: the largest number of 64 bits.
 abbrev pub no_text : ℕ
 no_text = 18446744073709551615
 

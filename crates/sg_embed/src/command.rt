@@ -1,4 +1,4 @@
-// The commands of tools.
+// C gets a tool's command and sends it itself: the CDB, its data-out and the kind of its answer.
 ghost use Rattle.std.specs.Prelude.{◌≡◌, ◌≢◌, IfErr, IfOk, OnErr, length};
 ghost use Rattle.sg_embed.specs.Outcome.{IsUnlessOutOfMemory, outcome_of, plan_outcome};
 ghost use Rattle.sg_embed.specs.Planned.{IsPlanned, ShowsPlan};

@@ -1,4 +1,4 @@
-// The kinds of answers, by their numbers.
+// The kinds of answers, by the numbers that the header has for C.
 ghost use Rattle.std.specs.Prelude.{◌≡◌, Some};
 ghost use Rattle.sg_embed.specs.Kinds.{kind_numbered};
 

@@ -1,4 +1,4 @@
-// How a call of the library ends.
+// The faults of the crates below as one enum, so that C has one number for each.
 use sg_pages::IdentityFault;
 use sg_run::TextFault;
 use sg_target::ConfigFault;

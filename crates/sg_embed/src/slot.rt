@@ -1,4 +1,4 @@
-// The disk that C holds.
+// The disk that C holds by a pointer. What lies behind the pointer belongs to the slot alone.
 ghost use Rattle.std.specs.Coded.{coded_option};
 ghost use Rattle.std.specs.Prelude.{◌≡◌, Option, None, Some, option_map};
 ghost use Rattle.sg_embed.specs.Holds.{holds};

@@ -1,4 +1,4 @@
-// Texts for C.
+// Texts as C takes them: cut to a buffer, with a zero behind.
 ghost use Rattle.std.specs.Prelude.{◌≡◌, length};
 ghost use Rattle.sg_embed.specs.Text.{text_in};
 

@@ -1,4 +1,4 @@
-// The mode pages of a disk.
+// The mode pages between two commands. What MODE SENSE and MODE SELECT do is in the folder.
 use std::marker::Model;
 
 mod block_descriptor;

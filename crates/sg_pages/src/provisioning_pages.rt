@@ -1,4 +1,4 @@
-// The pages of a disk that is thin provisioned.
+// Block Limits and Logical Block Provisioning: what a thin provisioned disk adds to the pages.
 ghost use Rattle.std.specs.Prelude.{◌≡◌};
 ghost use Rattle.sg_pages.specs.ProvisioningPages.{block_limits, logical_block_provisioning};
 

@@ -1,4 +1,4 @@
--- What a line of a script does.
+-- From a line and the state before it to its text, its exit status and the state after it.
 use Rattle.std.specs.Prelude.{ℕ, ◌*◌, List, [], ◌∷◌, ◌++◌, replicate, Option, codes, Ok, Err, Bool}
 use Rattle.std.specs.Prelude.{if◌then◌else◌}
 use Rattle.sg_wire.specs.Layout.{cdb_of}

@@ -1,4 +1,4 @@
--- What was printed and done.
+-- How an outcome is met by what was printed, the status and the state.
 use Rattle.std.specs.Prelude.{◌≡◌, ℕ, List, Option, Result, Bool, IfOk}
 use Rattle.sg_wire.specs.Printer.{PrintsText}
 use Rattle.sg_wire.specs.Watched.{SendsText}

@@ -1,4 +1,4 @@
-// Executes a line.
+// From the bytes of a line to its text: the request is read and done, and its reply printed.
 ghost use Rattle.std.specs.Prelude.{◌≡◌, ◌≤◌, ◌++◌, false, length, take, replicate, codes};
 ghost use Rattle.std.specs.Prelude.{option_map, IfSome};
 ghost use Rattle.sg_wire.specs.Watched.{has_failed};

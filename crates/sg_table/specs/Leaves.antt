@@ -1,4 +1,4 @@
--- The leaves of the table of records.
+-- The records of a table in leaves: which has which, and how many move where some are replaced.
 use Rattle.std.specs.Prelude.{◌≡◌, ℕ, ◌+◌, ◌-◌, ◌*◌, ◌<◌, ◌≤◌, List, [], ◌∷◌, ◌++◌, length, take, drop}
 use Rattle.std.specs.Prelude.{map, slice_index_or, ◌⊎◌}
 use Rattle.std.specs.List.{All}

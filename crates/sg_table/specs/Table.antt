@@ -1,4 +1,4 @@
--- The table that maps addresses to slots.
+-- A table is its records and what was counted and moved.
 use Rattle.std.specs.Prelude.{ℕ, ◌+◌, List, []}
 use Rattle.std.specs.List.{splice}
 use Rattle.sg_table.specs.declared.run.Run.{Run}

@@ -1,4 +1,4 @@
--- Extents that a disk has.
+-- All blocks of extents lie below the capacity.
 use Rattle.std.specs.Prelude.{ℕ, ◌+◌, ◌≤◌, List, [], ◌∷◌}
 use Rattle.sg_wire.specs.declared.extent.Extent.{Extent}
 

@@ -1,4 +1,4 @@
--- The effects of MODE SENSE and MODE SELECT (SPC-4).
+-- The effects of MODE SENSE and MODE SELECT (SPC-4, 6.11 to 6.14).
 use Rattle.std.specs.Prelude.{ℕ, List, Bool, ◌==◌, if◌then◌else◌, Option, Some, None, Result}
 use Rattle.std.specs.Result.{result_map_both}
 use Rattle.sg_pages.specs.ModePage.{ModeState}

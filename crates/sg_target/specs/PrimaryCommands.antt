@@ -1,4 +1,4 @@
--- The effects of the primary commands (SPC-4).
+-- The effects of the primary commands (SPC-4, 6).
 use Rattle.std.specs.Prelude.{ℕ, List, Bool, true, false, Option, Some, None}
 use Rattle.std.specs.Prelude.{option_map, ◌==◌, if◌then◌else◌}
 use Rattle.sg_wire.specs.SenseData.{sense_data}

@@ -1,4 +1,4 @@
-// The data-out that a command needs.
+// A command without all of its data-out is refused before any address is checked.
 ghost use Rattle.std.specs.Prelude.{◌≡◌, ◌≤◌, length, Some, None, IfOk, IfErr};
 ghost use Rattle.sg_wire.specs.CutAnswer.{first_bytes};
 ghost use Rattle.sg_target.specs.Checks.{short_data_out};

@@ -1,4 +1,4 @@
-// Why a command is refused.
+// The refusals of commands, and the one place that makes their sense data.
 use sg_units::UnitAttention;
 use sg_wire::{CdbFault, Pointer, Sense};
 

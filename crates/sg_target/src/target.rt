@@ -1,4 +1,4 @@
-// The target over a store.
+// The parts of a target, and its calls: a new one, a command, a power cycle.
 use crate::config::Config;
 use crate::laws::limits_are_kept;
 use crate::refusal::{Reason, Refusal};

@@ -1,4 +1,4 @@
--- The options that words give.
+-- What `clap` finds in words: options with their texts, or a refusal.
 use Rattle.std.specs.Prelude.{◌≡◌, List, [], ◌∷◌, Option, Some, None, Result, Ok, Err, Bool, true}
 use Rattle.std.specs.Prelude.{false, codes, if◌then◌else◌}
 use Rattle.std.specs.Str.{bytes_eq}

@@ -1,4 +1,4 @@
--- Hexadecimal digits, as they are read.
+-- A hexadecimal digit has a value below 16, and any other byte 255.
 use Rattle.std.specs.Prelude.{ℕ, unwrap_or}
 use Rattle.hex.specs.Hex.{hex_digit_value}
 

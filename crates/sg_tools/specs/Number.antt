@@ -10,7 +10,7 @@ abbrev pub is_numeral : (radix : ℕ) → List ℕ → Bool
 is_numeral radix digits =
     nat_lt 0 (length digits) && list_all (λ digit. is_digit digit radix) digits
 
--- The number that digits stand for, where it has at most 64 bits.
+-- The value of digits, where it has at most 64 bits.
 unfoldable pub number_in : (radix : ℕ) → List ℕ → Option ℕ
 number_in radix digits =
     if is_numeral radix digits && nat_lt (digits_value radix digits) (2 ^ 64)

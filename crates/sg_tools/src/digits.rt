@@ -2,7 +2,7 @@
 ghost use Rattle.std.specs.Prelude.{◌≡◌};
 ghost use Rattle.sg_tools.specs.HexDigits.{digit_or_none};
 
-// What stands for a byte that is no digit.
+// The value of a byte that is no digit.
 const X: u8 = 255;
 
 // The values of the bytes `0` to `9`, `A` to `F` and `a` to `f` as digits, at 30h, 41h and 61h.

@@ -1,4 +1,4 @@
-// The options that words give.
+// What `clap` finds, as a list of options with their texts.
 use clap::ArgMatches;
 use std::marker::Model;
 

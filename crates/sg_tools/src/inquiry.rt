@@ -1,4 +1,4 @@
-// sg_inq and sg_vpd.
+// sg_inq and sg_vpd, which both send INQUIRY (SPC-4, 6.6).
 ghost use Rattle.std.specs.Prelude.{◌≡◌, option_map};
 ghost use Rattle.sg_tools.specs.Requests.{default_page, inquiry, inquiry_length, inquiry_show};
 ghost use Rattle.sg_tools.specs.Requests.{length_or_0, page_or, sg_inq, sg_vpd};
@@ -10,7 +10,7 @@ use crate::tool::Tool;
 use crate::tool_fault::ToolFault;
 use sg_wire::{Command, Inquiry};
 
-// Pages of vital product data that are asked for by default (SPC-4).
+// Pages of vital product data that are asked for by default (SPC-4, 7.8).
 const SUPPORTED_PAGES: u8 = 0x00;
 
 const DEVICE_IDENTIFICATION: u8 = 0x83;

@@ -1,4 +1,4 @@
-// sg_get_lba_status.
+// sg_get_lba_status, which sends GET LBA STATUS (SBC-3, 5.4).
 ghost use Rattle.std.specs.Prelude.{◌≡◌};
 ghost use Rattle.sg_tools.specs.Requests.{lba_status_show, sg_get_lba_status};
 

@@ -1,4 +1,4 @@
-// sg_modes.
+// sg_modes, which sends MODE SENSE(10), or MODE SENSE(6) with `--six` (SPC-4, 6.13 and 6.14).
 ghost use Rattle.std.specs.Prelude.{◌≡◌, ◌≤◌, option_map, IfSome};
 ghost use Rattle.sg_tools.specs.OptionTexts.{both, mode_page, number_or, value_or};
 ghost use Rattle.sg_tools.specs.Requests.{mode_sense, modes_show, sg_modes};
@@ -12,7 +12,7 @@ use crate::tool::Tool;
 use crate::tool_fault::ToolFault;
 use sg_wire::{Command, ModeSense6, ModeSense10, PageCode, PageControlField};
 
-// The page that stands for all pages (SPC-4).
+// The PAGE CODE by which all pages are requested (SPC-4, 6.13).
 const ALL_PAGES: u64 = 0x3f;
 
 // What the options of sg_modes ask for.

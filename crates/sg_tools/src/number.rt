@@ -1,4 +1,4 @@
-// Numbers in scripts and options.
+// Numbers are read in one way in scripts and in options: decimal, or hexadecimal with 0x or h.
 ghost use Rattle.std.specs.Prelude.{◌≡◌, ◌≤◌, IfSome};
 ghost use Rattle.sg_tools.specs.Number.{number_in, number_of, number_up_to};
 
@@ -29,7 +29,7 @@ pub fn read_number_up_to(limit: u64, word: &[u8]) -> Option<u64>
     Some(number)
 }
 
-// The number that digits of a radix stand for, without a sign.
+// The value of digits of a radix, without a sign.
 pub(crate) fn read_digits(digits: &[u8], radix: u64) -> Option<u64>
     requires at_least_1 { 1 ≤ radix }
     requires at_most_16 { radix ≤ 16 }

@@ -1,4 +1,4 @@
-// The values of options.
+// Options that are numbers have a default and a limit.
 ghost use Rattle.std.specs.Prelude.{◌≡◌, ◌≤◌, option_map, IfSome};
 ghost use Rattle.sg_tools.specs.OptionTexts.{number_or};
 

@@ -1,4 +1,4 @@
-// The options of the tools.
+// The options of each tool as a table, row by row that of `specs/Options.antt`.
 ghost use Rattle.std.specs.Prelude.{◌≡◌, IfOk, Some, map, false};
 ghost use Rattle.clap.specs.Words.{app_of, new_rule, rule_of};
 ghost use Rattle.sg_tools.specs.Options.{command_line, options_of, rule, with_rules};
@@ -110,7 +110,7 @@ fn with_options<'a>(
     Ok(command)
 }
 
-// What clap is told of an option.
+// The option as clap describes it.
 fn arg<'a>(alloc: Global, option: &'static ToolOption) -> Arg<'a>
     ensures rule { rule_of result ≡ rule (option_row option.now) }
     ensures global { result.global ≡ false }

@@ -1,4 +1,4 @@
-// The parameter lists that tools send.
+// The parameter lists that tools send, as `sg_wire` writes them.
 ghost use Rattle.std.specs.Prelude.{◌≡◌, ◌≤◌, length};
 ghost use Rattle.sg_wire.specs.Cut.{Puts};
 ghost use Rattle.sg_wire.specs.CutAnswer.{overwritten};

@@ -1,4 +1,4 @@
-// The exit status of a reply.
+// Exit statuses, by the status of a reply and its sense data, as sg3_utils(8) lists them.
 ghost use Rattle.std.specs.Prelude.{◌≡◌, option_map};
 ghost use Rattle.sg_tools.specs.ExitStatus.{exit_status, sense_status};
 ghost use Rattle.sg_wire.specs.Sense.{fields_of};

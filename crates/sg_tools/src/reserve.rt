@@ -1,4 +1,4 @@
-// sg_persist.
+// sg_persist, which sends PERSISTENT RESERVE IN or OUT (SPC-4, 6.15 and 6.16).
 ghost use Rattle.std.specs.Prelude.{◌≡◌, Ok, option_map};
 ghost use Rattle.sg_tools.specs.OptionTexts.{hex_digits_up_to, reservation_type, value_or};
 ghost use Rattle.sg_tools.specs.Requests.{key_or_0, reserve, reserve_in, reserve_in_show};
@@ -110,7 +110,7 @@ fn type_or_0(text: Option<&str>) -> Option<u8>
     }
 }
 
-// The number that hexadecimal digits stand for, with or without `0x`.
+// The value of hexadecimal digits, with or without `0x` before them.
 #[tactic(auto, unfolding(crate::specs::OptionTexts::hex_digits_up_to))]
 fn read_hex_digits(most: usize, text: &[u8]) -> Option<u64>
     ensures { result ≡ hex_digits_up_to most text.now }

@@ -1,4 +1,4 @@
-// How answers are shown.
+// The kinds of texts: the options of a tool choose one, and so does the word after `show`.
 ghost use Rattle.std.specs.Prelude.{◌≡◌};
 ghost use Rattle.sg_tools.specs.ShowKinds.{show_kinds, show_named};
 

@@ -1,4 +1,4 @@
-// What a tool sends.
+// The words of a tool become a command with its parameter list, and these become bytes.
 ghost use Rattle.std.specs.Prelude.{◌≡◌, ◌≤◌, Ok, length, map};
 ghost use Rattle.sg_wire.specs.CutAnswer.{overwritten};
 ghost use Rattle.sg_wire.specs.Layout.{cdb_of};

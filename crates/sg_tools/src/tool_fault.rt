@@ -1,4 +1,3 @@
-// Faults of the words of a tool.
 use thiserror::Error;
 
 /// Why words ask a tool for nothing.

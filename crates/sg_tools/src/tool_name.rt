@@ -1,4 +1,4 @@
-// The names of the tools.
+// The six tools, by their names in sg3_utils(8).
 ghost use Rattle.std.specs.Prelude.{◌≡◌};
 ghost use Rattle.sg_tools.specs.ToolNames.{name_of, tool_named};
 

@@ -1,4 +1,4 @@
-// sg_unmap.
+// sg_unmap, which sends UNMAP (SBC-3, 5.28): an address and a count make a descriptor.
 ghost use Rattle.std.specs.Prelude.{◌≡◌, ◌≤◌, ◌<◌, ◌^◌, ℕ, Ok, length, option_map, slice_index};
 ghost use Rattle.sg_wire.specs.UnmapList.{maximum_unmap_descriptors};
 ghost use Rattle.sg_tools.specs.OptionTexts.{number_or};

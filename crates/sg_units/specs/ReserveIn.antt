@@ -1,4 +1,4 @@
--- PERSISTENT RESERVE IN (SPC-4).
+-- PERSISTENT RESERVE IN (SPC-4, 6.15).
 use Rattle.std.specs.Prelude.{ℕ, ◌*◌, List, [], ◌∷◌, ◌++◌, length, replicate}
 use Rattle.std.specs.Prelude.{Option, Some, None, unwrap_or, option_and_then, if◌then◌else◌}
 use Rattle.std.specs.List.{flat_map}
@@ -16,7 +16,7 @@ header generation additional_length = big_bytes 4 generation ++ big_bytes 4 addi
 abbrev pub key_bytes : Registration → List ℕ
 key_bytes r = big_bytes 8 r.key
 
--- READ KEYS (SPC-4): the keys of all registrations, in their order.
+-- READ KEYS (SPC-4, 6.15.2): the keys of all registrations, in their order.
 unfoldable pub keys_data : ReservationState → List ℕ
 keys_data state =
     header state.generation (8 * length state.registrations)
@@ -35,7 +35,7 @@ abbrev pub descriptor : ReservationState → Reservation → List ℕ
 descriptor state reservation =
     descriptor_bytes (holder_key state.registrations reservation.holder) (code_of reservation.kind)
 
--- READ RESERVATION (SPC-4).
+-- READ RESERVATION (SPC-4, 6.15.3).
 abbrev pub reservation_data_of : ReservationState → Option Reservation → List ℕ
 reservation_data_of state None = header state.generation 0
 reservation_data_of state (Some reservation) =
@@ -44,9 +44,9 @@ reservation_data_of state (Some reservation) =
 unfoldable pub reservation_data : ReservationState → List ℕ
 reservation_data state = reservation_data_of state state.reservation
 
--- REPORT CAPABILITIES (SPC-4): LENGTH; PTPL_C, as registrations and reservation can persist through
--- a power loss; TMV, and PTPL_A where they do; and a PERSISTENT RESERVATION TYPE MASK of all six
--- types.
+-- REPORT CAPABILITIES (SPC-4, 6.15.4): LENGTH; PTPL_C, as registrations and reservation can persist
+-- through a power loss; TMV, and PTPL_A where they do; and a PERSISTENT RESERVATION TYPE MASK of
+-- all six types.
 abbrev pub capabilities_data : ReservationState → List ℕ
 capabilities_data state =
     0x00 ∷ 0x08 ∷ 0x01 ∷ (if state.persists_through_power_loss then 0x81 else 0x80)

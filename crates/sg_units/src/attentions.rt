@@ -1,4 +1,4 @@
-// Pending unit attention conditions.
+// A queue of conditions for each initiator. A new one goes to the end, and the oldest is reported.
 use crate::{Raised, UnitAttention};
 use arrayvec::ArrayVec;
 use sg_wire::Initiator;

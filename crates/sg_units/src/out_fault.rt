@@ -1,4 +1,3 @@
-// Why PERSISTENT RESERVE OUT is refused.
 use thiserror::Error;
 
 /// Why PERSISTENT RESERVE OUT is refused.

@@ -1,4 +1,4 @@
-// Unit attention conditions that a command establishes.
+// What a command establishes, as a value: what makes it knows no queue.
 ghost use Rattle.std.specs.Prelude.{◌≡◌, ◌<◌, slice_index_or, None};
 ghost use Rattle.sg_units.specs.ReserveOut.{raised_by, raised_for};
 ghost use Rattle.sg_units.specs.Attentions.{initiator_count};

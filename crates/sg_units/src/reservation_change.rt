@@ -1,4 +1,4 @@
-// The changes that PERSISTENT RESERVE OUT makes.
+// A change is a value, so that it is decided whole before any of it is made.
 use crate::registrations::Registrations;
 use crate::{Reservation, UnitAttention};
 

@@ -132,7 +132,8 @@ impl Reservations {
         self.state.allows(initiator, class)
     }
 
-    /// Writes the data-in of READ KEYS: PRGENERATION and the keys of all registrants (SPC-4).
+    /// Writes the data-in of READ KEYS: PRGENERATION and the keys of all registrants (SPC-4,
+    /// 6.15.2).
     pub fn read_keys(&self, cut: &mut Cut)
         ensures { Puts cut.old cut.new (keys_data self.now) }
     {
@@ -140,7 +141,7 @@ impl Reservations {
     }
 
     /// Writes the data-in of READ RESERVATION: PRGENERATION and the reservation that is held, if
-    /// any (SPC-4).
+    /// any (SPC-4, 6.15.3).
     pub fn read_reservation(&self, cut: &mut Cut)
         ensures { Puts cut.old cut.new (reservation_data self.now) }
     {
@@ -156,7 +157,7 @@ impl Reservations {
         self.state.read_full_status(cut);
     }
 
-    /// Writes the data-in of REPORT CAPABILITIES (SPC-4).
+    /// Writes the data-in of REPORT CAPABILITIES (SPC-4, 6.15.4).
     pub fn report_capabilities(&self, cut: &mut Cut)
         ensures { Puts cut.old cut.new (capabilities_data self.now) }
     {

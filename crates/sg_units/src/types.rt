@@ -1,9 +1,9 @@
-// The types of persistent reservation.
+// The six types, and who has the access of a holder under each.
 ghost use Rattle.std.specs.Prelude.{◌≡◌};
 ghost use Rattle.sg_units.specs.ReservationType.{code_of, is_all_registrants, is_shared};
 ghost use Rattle.sg_units.specs.ReservationType.{type_of};
 
-/// A type of persistent reservation (SPC-4), with the code of its TYPE field.
+/// A type of persistent reservation (SPC-4, 6.15.3), with the code of its TYPE field.
 #[derive(Clone, Copy, PartialEq, Eq)]
 pub enum ReservationType {
     /// Write Exclusive.

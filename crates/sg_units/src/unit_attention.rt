@@ -1,4 +1,3 @@
-// Unit attention conditions.
 ghost use Rattle.std.specs.Prelude.{◌≡◌};
 ghost use Rattle.sg_units.specs.UnitAttention.{code_of};
 

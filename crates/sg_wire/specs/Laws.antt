@@ -1,4 +1,4 @@
--- Laws of the definitions.
+-- Laws of CDBs, and of answers that are put in parts.
 use Rattle.std.specs.Prelude.{◌≡◌, ◌<◌, ◌≤◌, ℕ, ◌==◌, List, [], ◌++◌, length, take, Some, Ok, Err}
 use Rattle.std.specs.Prelude.{if◌then◌else◌}
 use Rattle.std.specs.Borrow.{GName}

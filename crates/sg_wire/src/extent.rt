@@ -1,4 +1,4 @@
-// Logical blocks that lie together.
+// The blocks that a command names, however wide its own fields are.
 use crate::command::{Extent10, Extent16, ShortExtent};
 
 /// Logical blocks from an address on.

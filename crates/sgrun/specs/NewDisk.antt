@@ -1,4 +1,4 @@
--- A script on a new disk.
+-- A script is run on a disk as it is after power on, or memory was refused.
 use Rattle.std.specs.Prelude.{◌≡◌, ℕ, Result, Ok, Err, ◌⊎◌}
 use Rattle.sg_run.specs.ScriptRun.{RunsScript, Snapshot}
 use Rattle.sg_run.specs.declared.run.RunFault.{RunFault}

@@ -1,4 +1,4 @@
-// What the command line asks for.
+// The words of the command line become a disk and a script, or the reason for a stop.
 use sg_target::Config;
 use std::marker::Model;
 

@@ -1,4 +1,4 @@
-// A script on a new disk.
+// Makes the disk and runs the script on it. Here alone the program names a store.
 ghost use Rattle.std.specs.Prelude.{◌≡◌, false};
 ghost use Rattle.sg_wire.specs.Watched.{has_failed};
 ghost use Rattle.sg_run.specs.ScriptRun.{snapshot};

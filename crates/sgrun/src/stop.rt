@@ -1,4 +1,4 @@
-// Why there is no script's status.
+// What ends the program without a status of the script, and the message that it prints.
 ghost use Rattle.std.specs.Prelude.{◌≡◌, ◌++◌};
 ghost use Rattle.sgrun.specs.Stops.{exit_status, row_of, stop_of_open, stop_of_words};
 

@@ -1,4 +1,4 @@
-// The mode pages of the disk, and their bytes.
+// The four mode pages of the disk, by code, and the bytes of each from byte 2 on.
 ghost use Rattle.std.specs.Prelude.{◌≡◌, ◌<◌, ◌≤◌, length};
 ghost use Rattle.sg_pages.specs.ModePage.{code_of, page_length, page_with_code};
 ghost use Rattle.sg_pages.specs.ModePage.{values_of, with_values};

@@ -1,4 +1,4 @@
-// MODE SELECT (SPC-4).
+// MODE SELECT (SPC-4, 6.11 and 6.12). A list is read to its end before a value changes.
 ghost use Rattle.std.specs.Prelude.{◌≡◌, ◌≤◌, ◌<◌, ◌+◌, ◌∷◌, length, not};
 ghost use Rattle.std.specs.Prelude.{IsTrue, IfErr, IfOk, OnOk};
 ghost use Rattle.std.specs.List.{flat_map};

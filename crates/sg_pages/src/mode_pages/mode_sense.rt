@@ -1,4 +1,4 @@
-// MODE SENSE (SPC-4).
+// MODE SENSE (SPC-4, 6.13 and 6.14): one list for both commands, whose headers differ.
 ghost use Rattle.std.specs.Prelude.{◌≡◌, ◌≤◌, ◌+◌, [], ◌++◌, IfOk, IfErr, length, if◌then◌else◌};
 ghost use Rattle.std.specs.Result.{result_map_both};
 ghost use Rattle.sg_wire.specs.Cut.{Puts, answer_of};

@@ -1,9 +1,10 @@
-// What a MODE SENSE requests.
+// MODE SENSE(6) and MODE SENSE(10) as one value, so that both have one list and one order of
+// faults.
 ghost use Rattle.std.specs.Prelude.{IsTrue};
 
 use thiserror::Error;
 
-/// Which values of the pages are requested: the PC field (SPC-4).
+/// Which values of the pages are requested: the PC field (SPC-4, 6.13).
 #[derive(Clone, Copy)]
 pub enum PageControl {
     /// The current values.
@@ -16,7 +17,7 @@ pub enum PageControl {
     Saved,
 }
 
-/// What a MODE SENSE requests (SPC-4).
+/// What a MODE SENSE requests (SPC-4, 6.13 and 6.14).
 #[derive(Clone, Copy)]
 pub struct ModeSenseRequest {
     /// MODE SENSE(10), and not MODE SENSE(6).

@@ -1,4 +1,4 @@
-// A line of a script.
+// The memory for a line that no single read brought whole, with its LF.
 use crate::buffers::zeroed;
 use std::alloc::{AllocError, Global};
 use std::marker::Model;

@@ -1,4 +1,4 @@
-// Takes lines from a reader.
+// Finds the LF of a line among the bytes ahead, and reads on where there is none.
 ghost use Rattle.std.specs.Prelude.{◌≡◌, ◌<◌, ◌≤◌, length, false, option_map, IfSome};
 ghost use Rattle.sg_wire.specs.Watched.{has_failed};
 ghost use Rattle.sg_run.specs.Limits.{longest_line, longest_read_ahead};

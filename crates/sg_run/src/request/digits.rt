@@ -1,4 +1,4 @@
-// Pairs of hexadecimal digits.
+// Decodes hexadecimal digits without a branch for each: long lines consist of them.
 ghost use Rattle.std.specs.Prelude.{◌≡◌, ◌*◌, length, Some, None, if◌then◌else◌};
 ghost use Rattle.std.specs.Result.{result_ok};
 ghost use Rattle.hex.specs.Hex.{decode_of};

@@ -1,4 +1,4 @@
-// Words of hexadecimal digits.
+// Bytes in a script: two hexadecimal digits each, or `-` for none.
 ghost use Rattle.std.specs.Prelude.{◌≡◌, ◌≤◌, ◌*◌, length, take, Some, None, MatchOption, IfSome};
 ghost use Rattle.sg_run.specs.Request.{hex_bytes};
 

@@ -1,4 +1,3 @@
-// The word of an initiator.
 ghost use Rattle.std.specs.Prelude.{◌≡◌};
 ghost use Rattle.sg_run.specs.Request.{initiator_of};
 

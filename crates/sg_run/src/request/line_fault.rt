@@ -1,4 +1,4 @@
-// Why a line is refused.
+// The faults of a line, with the message and the exit status of each.
 ghost use Rattle.std.specs.Prelude.{◌≡◌};
 ghost use Rattle.sg_run.specs.LineFault.{fault_message, fault_of_tool, fault_status};
 

@@ -1,4 +1,4 @@
-// The verb `power`.
+// `power` takes no words: it is for all initiators at once.
 ghost use Rattle.std.specs.Prelude.{◌≡◌, map};
 ghost use Rattle.sg_run.specs.Request.{power_of};
 ghost use Rattle.sg_run.specs.RequestLines.{line_request};

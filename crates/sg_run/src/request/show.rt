@@ -1,4 +1,4 @@
-// The verb `show`.
+// `show KIND HEX` prints bytes as an answer, and sends nothing (docs/SCRIPT.md).
 ghost use Rattle.std.specs.Prelude.{◌≡◌, ◌≤◌, All, length, map};
 ghost use Rattle.std.specs.Str.{IsAscii};
 ghost use Rattle.sg_run.specs.Limits.{longest_line};

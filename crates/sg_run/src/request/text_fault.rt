@@ -1,4 +1,4 @@
-// Why a text asks a tool for nothing.
+// The faults of a tool's text are its own: most faults of a line it can't have.
 use sg_tools::ToolFault;
 use thiserror::Error;
 

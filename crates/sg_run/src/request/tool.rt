@@ -1,4 +1,5 @@
-// The line of a tool.
+// The line of a tool: its name is read with the line, and its options when it is executed, as that
+// takes memory.
 ghost use Rattle.std.specs.Prelude.{◌≡◌, ◌≤◌, ◌<◌, All, true, length, map, take};
 ghost use Rattle.std.specs.List.{list_all};
 ghost use Rattle.std.specs.Str.{IsAscii};

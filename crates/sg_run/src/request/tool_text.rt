@@ -1,4 +1,4 @@
-// The text of a tool.
+// The words of a tool without a line, for a caller that has no script.
 ghost use Rattle.std.specs.Prelude.{◌≡◌};
 ghost use Rattle.sg_run.specs.ToolText.{IsReadUnlessOutOfMemory, in_text};
 

@@ -1,4 +1,4 @@
-// The words of a tool.
+// What a tool's line and a tool's text have in common: words, of which the first is the name.
 ghost use Rattle.std.specs.Prelude.{◌≡◌, ◌≤◌, All, length, map};
 ghost use Rattle.std.specs.Str.{IsAscii};
 ghost use Rattle.sg_tools.specs.GivenOptions.{IsUnlessOutOfMemory};

@@ -1,4 +1,4 @@
-// What is printed of a reply.
+// The text of a reply: a first line with the status, a line of sense data, and the data-in.
 ghost use Rattle.std.specs.Prelude.{◌≡◌, ◌≤◌, length, option_map};
 ghost use Rattle.sg_wire.specs.Printer.{PrintsText};
 ghost use Rattle.sg_wire.specs.Sense.{fields_of};

@@ -1,4 +1,4 @@
-// The sense data of a reply.
+// The line of sense data, which was read before, as the exit status needs it too.
 ghost use Rattle.std.specs.Prelude.{◌≡◌, option_map};
 ghost use Rattle.sg_wire.specs.Sense.{fields_of};
 ghost use Rattle.sg_wire.specs.SenseData.{read_sense};

@@ -22,7 +22,7 @@ impl HasStart for Run {
     }
 }
 
-/// An address stands for the record that begins there.
+/// An address by itself, in place of the record that begins there.
 impl HasStart for u64 {
     ghost start_of = { λ lba. lba };
 

@@ -1,4 +1,5 @@
-// PERSISTENT RESERVE IN.
+// READ KEYS and READ RESERVATION (SPC-4, 6.15.2 and 6.15.3). READ FULL STATUS has a file of its
+// own.
 ghost use Rattle.std.specs.Prelude.{◌≡◌};
 ghost use Rattle.std.specs.List.{flat_map};
 ghost use Rattle.byteorder.specs.Endian.{big_bytes};

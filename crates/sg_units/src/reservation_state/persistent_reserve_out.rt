@@ -1,4 +1,4 @@
-// PERSISTENT RESERVE OUT.
+// What is checked of each service action: flags, then the key. Then its own cases decide.
 ghost use Rattle.std.specs.Prelude.{◌≡◌};
 ghost use Rattle.sg_units.specs.ReserveOut.{accepts_key, action_outcome, outcome};
 ghost use Rattle.sg_units.specs.UnsupportedFlags.{has_unsupported_flag};

@@ -1,4 +1,4 @@
-// PREEMPT and PREEMPT AND ABORT.
+// PREEMPT and PREEMPT AND ABORT (SPC-4, 5.13) are the same here: no command is left to abort.
 ghost use Rattle.std.specs.Prelude.{◌≡◌, Ok, Some, None};
 ghost use Rattle.sg_units.specs.ReserveOut.{first_case, has_one_holder, is_held_by_all};
 ghost use Rattle.sg_units.specs.ReserveOut.{is_key_of_holder, next_generation, preempt_cases};

@@ -1,4 +1,4 @@
-// READ FULL STATUS.
+// READ FULL STATUS (SPC-4, 6.15.5). Initiators have the names of SAS ports.
 ghost use Rattle.std.specs.Prelude.{◌≡◌};
 ghost use Rattle.std.specs.List.{flat_map};
 ghost use Rattle.sg_wire.specs.Cut.{Puts};

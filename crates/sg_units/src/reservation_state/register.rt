@@ -1,4 +1,5 @@
-// REGISTER and REGISTER AND IGNORE EXISTING KEY.
+// REGISTER and REGISTER AND IGNORE EXISTING KEY (SPC-4, 5.13) differ in the check of the key alone,
+// which comes before.
 ghost use Rattle.std.specs.Prelude.{◌≡◌, Ok};
 ghost use Rattle.sg_units.specs.ReserveOut.{first_case, register_cases, registered};
 ghost use Rattle.sg_units.specs.ReserveOut.{released_unless_held};

@@ -1,4 +1,4 @@
-// RESERVE, RELEASE and CLEAR.
+// RESERVE, RELEASE and CLEAR (SPC-4, 5.13). Of these CLEAR alone changes registrations.
 ghost use Rattle.std.specs.Prelude.{◌≡◌, Ok};
 ghost use Rattle.sg_units.specs.ReserveOut.{cleared, first_case, release_cases};
 ghost use Rattle.sg_units.specs.ReserveOut.{reserve_cases};

@@ -1,4 +1,4 @@
-// Group numbers.
+// UNMAP keeps its GROUP NUMBER, though the disk groups no blocks and so ignores it.
 use std::marker::Model;
 
 /// A GROUP NUMBER, 0 to 31 (SBC-3, grouping function).

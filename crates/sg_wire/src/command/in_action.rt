@@ -1,4 +1,3 @@
-// The service actions of PERSISTENT RESERVE IN.
 ghost use Rattle.std.specs.Prelude.{◌≡◌};
 ghost use Rattle.sg_wire.specs.ReservationAction.{in_action_with, in_code};
 

@@ -1,4 +1,4 @@
-// The service actions of PERSISTENT RESERVE OUT.
+// The service actions but REGISTER AND MOVE and REPLACE LOST RESERVATION: the disk has neither.
 ghost use Rattle.std.specs.Prelude.{◌≡◌};
 ghost use Rattle.sg_wire.specs.ReservationAction.{out_action_with, out_code};
 

@@ -1,4 +1,4 @@
-// PAGE CODE of MODE SENSE.
+// A PAGE CODE has six bits, since PC is above it in the same byte.
 use std::marker::Model;
 
 /// A PAGE CODE of mode pages, 0 to 3Fh (SPC-4, 6.13).

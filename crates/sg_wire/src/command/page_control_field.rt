@@ -1,4 +1,4 @@
-// PC of MODE SENSE.
+// PC has two bits, above PAGE CODE in the same byte.
 use std::marker::Model;
 
 /// A PC field: which values of mode pages are requested, 0 to 3 (SPC-4, 6.13).

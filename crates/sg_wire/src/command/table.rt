@@ -1,5 +1,6 @@
 // One row a command: operation code, service action, class, unit attention and masks are here and
-// nowhere else. What the fields mean is in the families. `specs/Layout.antt` has the definition's rows.
+// nowhere else in code. What the fields mean is in the families. `specs/Layout.antt` has the
+// definition's rows, and contracts name the codes again.
 ghost use Rattle.std.specs.Prelude.{◌≡◌, ◌≤◌, bit_and, length, slice_index, IfErr, OnOk};
 ghost use Rattle.sg_wire.specs.Table.{HasAction, IsDecoded, IsFound, IsRefused, IsRow};
 

@@ -1,4 +1,4 @@
-// The limits of a configuration.
+// The smallest and the largest disk and pool, and those just past them.
 use sg_pages::Identity;
 use sg_target::{Config, ConfigFault};
 
