@@ -14,11 +14,11 @@ ghost use Rattle.sg_embed.specs.Outcome.{make_as_outcome, outcome_code, plan_out
 ghost use Rattle.sg_embed.specs.Outcome.{power_cycle_outcome};
 ghost use Rattle.sg_embed.specs.Planned.{IsPlanned};
 ghost use Rattle.sg_embed.specs.Records.{asked_identity, sense_record};
-ghost use Rattle.sg_embed.specs.Text.{IsDecoded, text_in};
+ghost use Rattle.sg_embed.specs.Text.{IsDecoded, text_in, version_text};
 
 use sg_embed::{
-    CommandRecord, IdentityRecord, Outcome, ReplyRecord, SenseRecord, Slot, VERSION, copy_text,
-    decode, plan_tool,
+    CommandRecord, IdentityRecord, Outcome, ReplyRecord, SenseRecord, Slot, copy_version, decode,
+    plan_tool,
 };
 use sg_pages::Identity;
 use sg_tools::status_of;
@@ -161,11 +161,11 @@ pub extern "C" fn mehdalung_decode(
     decode(alloc, kind, data_in, text)
 }
 
-/// Writes the version of the library and of the proof to the beginning of a buffer.
+/// Writes the version of the library and the logic of its proof to the beginning of a buffer.
 #[unsafe(no_mangle)]
 pub extern "C" fn mehdalung_version(text: &mut [u8]) -> usize
-    ensures length { result ≡ length VERSION.now }
-    ensures text { text.new ≡ text_in VERSION.now text.old }
+    ensures length { result ≡ length version_text }
+    ensures text { text.new ≡ text_in version_text text.old }
 {
-    copy_text(VERSION, text)
+    copy_version(text)
 }

@@ -1,5 +1,5 @@
 -- Texts as C takes them: cut to a buffer, with a zero behind.
-use Rattle.std.specs.Prelude.{◌≡◌, ◌⊎◌, ℕ, List, [], ◌∷◌, ◌++◌, MatchOption, length, take}
+use Rattle.std.specs.Prelude.{◌≡◌, ◌⊎◌, ℕ, List, [], ◌∷◌, ◌++◌, MatchOption, codes, length, take}
 use Rattle.sg_wire.specs.CutAnswer.{overwritten}
 use Rattle.sg_run.specs.AnswerText.{answer_text}
 use Rattle.sg_embed.specs.Kinds.{kind_numbered}
@@ -8,6 +8,10 @@ use Rattle.sg_embed.specs.Kinds.{kind_numbered}
 abbrev pub text_in : List ℕ → List ℕ → List ℕ
 text_in text [] = []
 text_in text (byte ∷ rest) = overwritten (take (length rest) text ++ 0 ∷ []) (byte ∷ rest)
+
+-- The library's version, and the logic that it is proved in.
+abbrev pub version_text : List ℕ
+version_text = codes "mehdalung 1.0.0, proved in Rattle's logic dac8208d650f15bf"
 
 -- What is returned where there is no text: the largest number of 64 bits.
 abbrev pub no_text : ℕ

@@ -17,4 +17,4 @@ pub use kept::Kept;
 pub use outcome::Outcome;
 pub use record::{IdentityRecord, ReplyRecord, SenseRecord};
 pub use slot::Slot;
-pub use text::{VERSION, copy_text};
+pub use text::{copy_text, copy_version};

@@ -1,10 +1,17 @@
 // Texts as C takes them: cut to a buffer, with a zero behind.
 ghost use Rattle.std.specs.Prelude.{◌≡◌, length};
-ghost use Rattle.sg_embed.specs.Text.{text_in};
+ghost use Rattle.sg_embed.specs.Text.{text_in, version_text};
 
-/// The library's version, and the identity of the logic that it is proved in: the last word that
-/// `rt version` prints.
-pub const VERSION: &[u8] = b"mehdalung 1.0.0, proved in Rattle's logic dac8208d650f15bf";
+const VERSION: &[u8] = b"mehdalung 1.0.0, proved in Rattle's logic dac8208d650f15bf";
+
+/// Writes the library's version and the logic that it is proved in, the last word that `rt version`
+/// prints, as [`copy_text`] writes a text.
+pub fn copy_version(out: &mut [u8]) -> usize
+    ensures length { result ≡ length version_text }
+    ensures text { out.new ≡ text_in version_text out.old }
+{
+    copy_text(VERSION, out)
+}
 
 /// Writes a text to the beginning of a buffer, cut to it, and a zero behind it. Returns the length of
 /// the whole text without the zero, as snprintf(3) does.
