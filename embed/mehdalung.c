@@ -1,5 +1,6 @@
 /* The functions of mehdalung.h: they test pointers and call the archive's, which are proved. This
  * file is not. */
+#include <stddef.h>
 #include <string.h>
 
 #include "mehdalung.h"
@@ -22,17 +23,45 @@ uint32_t mehdalung_tool(const uint8_t *words, size_t length, uint8_t *data_out,
                         size_t data_out_length, mdl_command *command);
 size_t mehdalung_version(uint8_t *text, size_t text_length);
 
-/* The types have the sizes that the archive takes them to have. */
+/* The types have the sizes, and their fields the places, that the archive takes them to have. A
+ * caller with short enums reads the lowest byte of an mdl_error, which has all of it. */
 #define HAS_SIZE(type, size) typedef char type##_has_its_size[sizeof(type) == (size) ? 1 : -1]
-HAS_SIZE(mdl_kind, 4);
+#define IS_AT(type, field, place) \
+    typedef char type##_##field##_is_at_its_place[offsetof(type, field) == (place) ? 1 : -1]
+HAS_SIZE(mdl_error, 4);
 HAS_SIZE(mdl_disk, 8);
+IS_AT(mdl_disk, target, 0);
 HAS_SIZE(mdl_identity, 48);
+IS_AT(mdl_identity, vendor, 0);
+IS_AT(mdl_identity, product, 8);
+IS_AT(mdl_identity, revision, 24);
+IS_AT(mdl_identity, serial, 28);
+IS_AT(mdl_identity, local, 40);
 HAS_SIZE(mdl_reply, 56);
+IS_AT(mdl_reply, status, 0);
+IS_AT(mdl_reply, sense_length, 1);
+IS_AT(mdl_reply, sense, 2);
+IS_AT(mdl_reply, visits, 24);
+IS_AT(mdl_reply, probes, 32);
+IS_AT(mdl_reply, links, 40);
+IS_AT(mdl_reply, data_in_length, 48);
 HAS_SIZE(mdl_sense, 16);
+IS_AT(mdl_sense, key, 0);
+IS_AT(mdl_sense, asc, 1);
+IS_AT(mdl_sense, ascq, 2);
+IS_AT(mdl_sense, has_information, 3);
+IS_AT(mdl_sense, has_pointer, 4);
+IS_AT(mdl_sense, in_command, 5);
+IS_AT(mdl_sense, byte, 6);
+IS_AT(mdl_sense, information, 8);
 HAS_SIZE(mdl_command, 32);
+IS_AT(mdl_command, cdb, 0);
+IS_AT(mdl_command, cdb_length, 16);
+IS_AT(mdl_command, kind, 20);
+IS_AT(mdl_command, data_out_length, 24);
 
 /* What no bytes are at. */
-static const uint8_t nothing[1];
+static const uint8_t nothing[1] = { 0 };
 
 mdl_error mdl_make(mdl_disk *disk, uint64_t blocks, uint32_t pool, const mdl_identity *identity)
 {
@@ -79,9 +108,9 @@ mdl_error mdl_read_sense(const uint8_t *sense, size_t length, mdl_sense *fields)
     mdl_sense read = { 0 };
     mdl_error error;
 
-    if (!sense || !fields)
+    if ((!sense && length) || !fields)
         return MDL_NULL_POINTER;
-    error = (mdl_error)mehdalung_sense(sense, length, &read);
+    error = (mdl_error)mehdalung_sense(sense ? sense : nothing, length, &read);
     if (error == MDL_OK)
         *fields = read;
     return error;
@@ -97,14 +126,14 @@ int mdl_exit_status(const mdl_reply *reply)
     return mehdalung_exit_status(reply->status, reply->sense, length);
 }
 
-size_t mdl_decode(mdl_kind kind, const uint8_t *data_in, size_t length, char *text,
+size_t mdl_decode(uint32_t kind, const uint8_t *data_in, size_t length, char *text,
                   size_t text_length)
 {
     uint8_t none[1];
 
     if ((!data_in && length) || (!text && text_length))
         return MDL_NO_TEXT;
-    return mehdalung_decode((uint32_t)kind, data_in ? data_in : nothing, length,
+    return mehdalung_decode(kind, data_in ? data_in : nothing, length,
                             text ? (uint8_t *)text : none, text_length);
 }
 
@@ -121,7 +150,7 @@ size_t mdl_version(char *text, size_t text_length)
 {
     uint8_t none[1];
 
-    if (!text)
-        return mehdalung_version(none, 0);
-    return mehdalung_version((uint8_t *)text, text_length);
+    if (!text && text_length)
+        return MDL_NO_TEXT;
+    return mehdalung_version(text ? (uint8_t *)text : none, text_length);
 }

@@ -14,9 +14,11 @@
  *
  * Stack. A call needs at most 64 KB of it; nothing checks that it is there.
  *
- * Pointers. A pointer is null, or points to as many bytes as the function says, which nobody else
- * reads or writes until the function returns. Memory that it may write does not overlap any other
- * that it is passed. A null pointer is refused by MDL_NULL_POINTER, or serves where this says so.
+ * Pointers. A pointer is null, or is aligned as its type and points to as many bytes as the
+ * function says, which nobody else writes until the function returns, nor reads where the function
+ * may write. Memory that it may write does not overlap any other that it is passed. A null pointer
+ * to 0 bytes serves, but for a buffer that has a least length. Another one is refused, by
+ * MDL_NULL_POINTER or MDL_NO_TEXT, or serves where this says so.
  *
  * Threads. A disk is used by one thread at a time, which need not be the one that made it: a lock,
  * or the start or the end of a thread, orders its calls after those of the thread before. Many disks
@@ -48,7 +50,7 @@ extern "C" {
  * most. */
 #define MDL_DATA_OUT_LENGTH 1032u
 
-/* How a call ends. Where it does not end in MDL_OK, it has changed nothing. */
+/* How a call ends that returns one of these. Where that is not MDL_OK, it has changed nothing. */
 typedef enum mdl_error {
     MDL_OK = 0,
     MDL_NO_DISK = 1,          /* there is no disk: it was not made, or it was freed */
@@ -153,10 +155,14 @@ typedef struct mdl_sense {
 } mdl_sense;
 
 /* Reads the fields of `length` bytes of sense data, in fixed or descriptor format.
- * MDL_NULL_POINTER, or MDL_UNREADABLE, also for deferred errors: `fields` are as they were. */
+ *     sense   read during the call. Null if there are 0 bytes
+ *     fields  are written
+ * MDL_NULL_POINTER, or MDL_UNREADABLE, also for deferred errors and for 0 bytes: `fields` are as
+ * they were. */
 mdl_error mdl_read_sense(const uint8_t *sense, size_t length, mdl_sense *fields);
 
-/* The exit status that the tools of sg3_utils have for a reply.
+/* The exit status that the tools of sg3_utils have for a reply, as far as docs/SCRIPT.md of the
+ * source says: its "Exit status" has the differences.
  *     reply  one that mdl_execute has written. Null serves as one that has neither a known status
  *            nor sense data: 99 */
 int mdl_exit_status(const mdl_reply *reply);
@@ -179,23 +185,25 @@ typedef enum mdl_kind {
     MDL_SENSE = 12             /* sense data */
 } mdl_kind;
 
-/* What mdl_decode returns where there is no text. */
+/* What mdl_decode and mdl_version return where there is no text. It is the greatest size_t, so one
+ * more is 0: a caller that makes room for a length and a zero looks for it first. */
 #define MDL_NO_TEXT ((size_t)-1)
 
 /* Writes what an answer of a kind contains, in lines, into `text`, cut to `text_length` bytes, of
  * which the last one is a zero. Returns the whole length without the zero, as snprintf does.
+ *     kind     one of mdl_kind
  *     data_in  length bytes, read during the call; any bytes have a text. Null if there are 0
- *     text     null serves if text_length is 0, and nothing is written
+ *     text     text_length bytes. Null if there are 0
  * MDL_NO_TEXT where `kind` is none of mdl_kind, a pointer is null that must not be, or memory was
  * refused: `text` is as it was. */
-size_t mdl_decode(mdl_kind kind, const uint8_t *data_in, size_t length, char *text,
+size_t mdl_decode(uint32_t kind, const uint8_t *data_in, size_t length, char *text,
                   size_t text_length);
 
 /* What a tool sends, and how its answer is printed. */
 typedef struct mdl_command {
     uint8_t cdb[MDL_CDB_LENGTH]; /* the CDB, and zeros behind it */
     uint8_t cdb_length;          /* its length */
-    mdl_kind kind;               /* the kind of its data-in, where it ends with MDL_GOOD */
+    uint32_t kind;               /* the mdl_kind of its data-in, where it ends with MDL_GOOD */
     size_t data_out_length;      /* data-out is the first bytes of the buffer */
 } mdl_command;
 
@@ -215,7 +223,9 @@ mdl_error mdl_tool(const char *words, uint8_t *data_out, size_t data_out_length,
 
 /* Writes the version of the library and of the proof, in one line, into `text`, cut to
  * `text_length` bytes, of which the last one is a zero. Returns the whole length without the zero,
- * as snprintf does. A null pointer serves, and nothing is written. */
+ * as snprintf does.
+ *     text  text_length bytes. Null if there are 0
+ * MDL_NO_TEXT where `text` is null that must not be. */
 size_t mdl_version(char *text, size_t text_length);
 
 #ifdef __cplusplus

@@ -10,7 +10,7 @@ enum { MOST_TEXT = 65536 };
 
 /* Whether the text of an answer, which has `length` bytes and is shorter than MOST_TEXT - 4, is cut
  * to each length of the buffer: a prefix of it and a zero are there, and nothing behind changes. */
-static inline int is_cut(mdl_kind kind, const uint8_t *data_in, size_t data_in_length,
+static inline int is_cut(uint32_t kind, const uint8_t *data_in, size_t data_in_length,
                          const char *whole, size_t length)
 {
     static char cut[MOST_TEXT], untouched[MOST_TEXT];

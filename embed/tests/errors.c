@@ -65,21 +65,23 @@ static void decode_every_length(void)
     static const uint8_t bytes[40] = { 0, 0xB2, 0, 36, 9, 0xE6, 2 };
     static char whole[MOST_TEXT], cut[4096], untouched[4096];
     const long held_before = held;
-    unsigned kind;
+    uint32_t kind;
     size_t length;
 
     memset(untouched, '?', sizeof untouched);
     for (kind = MDL_NOTHING; kind <= MDL_SENSE; kind++) {
         memset(whole, '?', sizeof whole);
-        length = mdl_decode((mdl_kind)kind, bytes, sizeof bytes, whole, sizeof whole);
+        length = mdl_decode(kind, bytes, sizeof bytes, whole, sizeof whole);
         WANT(length < sizeof cut && strlen(whole) == length && whole[length + 1] == '?');
         WANT((length == 0) == (kind == MDL_NOTHING));
-        WANT(mdl_decode((mdl_kind)kind, bytes, sizeof bytes, NULL, 0) == length);
-        WANT(is_cut((mdl_kind)kind, bytes, sizeof bytes, whole, length));
+        WANT(mdl_decode(kind, bytes, sizeof bytes, NULL, 0) == length);
+        WANT(is_cut(kind, bytes, sizeof bytes, whole, length));
     }
     memset(cut, '?', sizeof cut);
     kind = MDL_SENSE + 1;
-    WANT(mdl_decode((mdl_kind)kind, bytes, sizeof bytes, cut, sizeof cut) == MDL_NO_TEXT);
+    WANT(mdl_decode(kind, bytes, sizeof bytes, cut, sizeof cut) == MDL_NO_TEXT);
+    kind = 256 + MDL_HEX;
+    WANT(mdl_decode(kind, bytes, sizeof bytes, cut, sizeof cut) == MDL_NO_TEXT);
     WANT(mdl_decode(MDL_HEX, NULL, 1, cut, sizeof cut) == MDL_NO_TEXT);
     WANT(mdl_decode(MDL_HEX, bytes, 1, NULL, 1) == MDL_NO_TEXT);
     requests = 0;
@@ -286,7 +288,8 @@ static void read_sense(void)
     WANT(!fields.has_information && fields.information == 0);
     WANT(!fields.has_pointer && !fields.in_command && fields.byte == 0);
     WANT(mdl_read_sense(reply.sense, 3, &fields) == MDL_UNREADABLE && fields.key == 6);
-    WANT(mdl_read_sense(NULL, 0, &fields) == MDL_NULL_POINTER && fields.key == 6);
+    WANT(mdl_read_sense(NULL, 0, &fields) == MDL_UNREADABLE && fields.key == 6);
+    WANT(mdl_read_sense(NULL, 18, &fields) == MDL_NULL_POINTER && fields.key == 6);
     WANT(mdl_read_sense(reply.sense, 18, NULL) == MDL_NULL_POINTER);
     WANT(mdl_exit_status(&reply) == 6 && mdl_exit_status(NULL) == 99);
 
@@ -430,6 +433,7 @@ static void show_version(void)
     WANT(length == strlen(text) && !strncmp(text, "mehdalung ", 10));
     WANT(mdl_version(short_text, sizeof short_text) == length && !strcmp(short_text, "mehdalung"));
     WANT(mdl_version(NULL, 0) == length && mdl_version(text, 0) == length);
+    WANT(mdl_version(NULL, 1) == MDL_NO_TEXT);
     puts(text);
 }
 

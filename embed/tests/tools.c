@@ -238,7 +238,7 @@ static const char *message(mdl_error error)
     }
 }
 
-static void print_text(mdl_kind kind, const uint8_t *bytes, size_t length)
+static void print_text(uint32_t kind, const uint8_t *bytes, size_t length)
 {
     static char text[MOST_TEXT];
 

@@ -10,7 +10,7 @@ static mdl_reply reply;
 
 /* Sends a command, and prints its status and what its data-in contains. */
 static int send(uint32_t initiator, const uint8_t *cdb, size_t cdb_length, const uint8_t *bytes,
-                size_t length, mdl_kind kind)
+                size_t length, uint32_t kind)
 {
     static int line;
     static char text[4096];
