@@ -1,7 +1,8 @@
 /* Texts of random answers, from a seed:
  *     answers script SEED COUNT      prints them as a script of sgrun, a `show` each
- *     answers decode SEED COUNT      decodes them by the library, and prints what sgrun prints; each
- *                                    text is tried at every length of the buffer */
+ *     answers decode SEED COUNT      decodes them by the library, in a thread with a small stack, and
+ *                                    prints what sgrun prints; each text is tried at every length of
+ *                                    the buffer */
 #include <stdint.h>
 #include <stdio.h>
 #include <stdlib.h>
@@ -10,6 +11,7 @@
 #include "below.h"
 #include "cut.h"
 #include "mehdalung.h"
+#include "small_thread.h"
 
 enum { MOST_BYTES = 96 };
 
@@ -85,5 +87,5 @@ int main(int count, char **words)
         print_script(strtoull(words[2], NULL, 10), strtoul(words[3], NULL, 10));
         return 0;
     }
-    return decode(strtoull(words[2], NULL, 10), strtoul(words[3], NULL, 10));
+    return in_small_thread(decode, strtoull(words[2], NULL, 10), strtoul(words[3], NULL, 10));
 }

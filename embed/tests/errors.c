@@ -4,6 +4,7 @@
 #include <stdlib.h>
 #include <string.h>
 
+#include "commands.h"
 #include "cut.h"
 #include "mehdalung.h"
 
@@ -390,6 +391,40 @@ static void take_no_memory(void)
     WANT(mdl_exit_status(&reply) == 6 && requests == taken && held == held_before);
 }
 
+/* Nor does any of 10,000 random commands, whatever status it ends with. */
+static void take_no_memory_at_random(void)
+{
+    unsigned long taken, good = 0, checks = 0, conflicts = 0, cycles = 0;
+    mdl_disk other = MDL_NONE;
+    struct command c;
+    mdl_sense fields;
+    uint64_t seed = 1;
+    int number;
+
+    WANT(mdl_make(&other, 4096, 16, NULL) == MDL_OK);
+    taken = requests;
+    for (number = 0; number < 10000; number++) {
+        next_command(&c, &seed);
+        if (c.is_power_cycle) {
+            WANT(mdl_power_cycle(&other) == MDL_OK);
+            cycles++;
+            continue;
+        }
+        WANT(mdl_execute(&other, c.initiator, c.cdb, c.cdb_length, c.data_out, c.data_out_length,
+                         data_in, sizeof data_in, &reply) == MDL_OK);
+        WANT((mdl_read_sense(reply.sense, reply.sense_length, &fields) == MDL_OK)
+             == (reply.status == MDL_CHECK_CONDITION));
+        WANT((mdl_exit_status(&reply) == 0) == (reply.status == MDL_GOOD));
+        good += reply.status == MDL_GOOD;
+        checks += reply.status == MDL_CHECK_CONDITION;
+        conflicts += reply.status == MDL_RESERVATION_CONFLICT;
+        WANT(requests == taken);
+    }
+    WANT(good > 1000 && checks > 1000 && conflicts > 500 && cycles > 50);
+    WANT(good + checks + conflicts + cycles == 10000);
+    mdl_free(&other);
+}
+
 /* A READ or a WRITE of `count` blocks, whose counts are in the reply then. */
 static void access_blocks(uint8_t opcode, uint8_t lba, uint8_t count)
 {
@@ -446,6 +481,7 @@ int main(void)
     read_sense();
     show_identities();
     take_no_memory();
+    take_no_memory_at_random();
     count_visits();
     mdl_free(&disk);
     WANT(!disk.target && mdl_power_cycle(&disk) == MDL_NO_DISK && held == held_before);

@@ -1,6 +1,7 @@
 /* Lines of tools, some chosen and the others random from a seed:
  *     tools script SEED COUNT   prints them as a script of sgrun, each behind an initiator
- *     tools run SEED COUNT      plans and executes them by the library, and prints what sgrun prints
+ *     tools run SEED COUNT      plans and executes them by the library, and prints what sgrun prints,
+ *                               in a thread with a small stack
  * Now and then a line is a `fill`, so that there are blocks to unmap. */
 #include <stdint.h>
 #include <stdio.h>
@@ -9,6 +10,7 @@
 
 #include "below.h"
 #include "mehdalung.h"
+#include "small_thread.h"
 
 enum { BLOCKS = 4096, POOL = 16, MOST_WORDS = 2048, MOST_TEXT = 65536, FILLED = 4 };
 
@@ -306,5 +308,5 @@ int main(int count, char **words)
         print_script(strtoull(words[2], NULL, 10), strtoul(words[3], NULL, 10));
         return 0;
     }
-    return run(strtoull(words[2], NULL, 10), strtoul(words[3], NULL, 10));
+    return in_small_thread(run, strtoull(words[2], NULL, 10), strtoul(words[3], NULL, 10));
 }

@@ -1,0 +1,179 @@
+/* Random commands of all kinds, from a seed. */
+#ifndef COMMANDS_H
+#define COMMANDS_H
+
+#include <string.h>
+
+#include "below.h"
+#include "mehdalung.h"
+
+enum { MOST_DATA_OUT = 3 * MDL_BLOCK_LENGTH };
+
+struct command {
+    uint32_t initiator;
+    int is_power_cycle;
+    size_t cdb_length, data_out_length;
+    uint8_t cdb[16], data_out[MOST_DATA_OUT];
+};
+
+static void cdb_of(struct command *c, uint8_t opcode, size_t length)
+{
+    memset(c->cdb, 0, sizeof c->cdb);
+    c->cdb[0] = opcode;
+    c->cdb_length = length;
+}
+
+/* The data-out is any bytes, once in sixteen too short or too long by one. */
+static void fill_data_out(struct command *c, uint64_t *seed, size_t length)
+{
+    uint8_t byte = (uint8_t)below(seed, 256);
+    size_t at;
+
+    if (below(seed, 16) == 0 && length > 0)
+        length += below(seed, 2) && length < MOST_DATA_OUT ? 1 : (size_t)-1;
+    for (at = 0; at < length; at++)
+        c->data_out[at] = (uint8_t)(byte + at / 64);
+    c->data_out_length = length;
+}
+
+static void reserve_out(struct command *c, uint64_t *seed)
+{
+    static const uint8_t actions[] = { 0, 0, 0, 1, 1, 2, 3, 4, 5, 6, 6, 7 };
+
+    cdb_of(c, 0x5F, 10);
+    c->cdb[1] = actions[below(seed, sizeof actions)];
+    c->cdb[2] = (uint8_t)(below(seed, 8) + 1);
+    c->cdb[8] = 24;
+    fill_data_out(c, seed, 24);
+    memset(c->data_out, 0, 24);
+    c->data_out[7] = (uint8_t)(below(seed, 4) ? 0xA0 + c->initiator : 0);
+    c->data_out[15] = (uint8_t)(0xA0 + below(seed, 4));
+    c->data_out[20] = (uint8_t)(below(seed, 8) == 0);
+}
+
+static void select_mode(struct command *c, uint64_t *seed)
+{
+    static const uint8_t page[] = { 0, 0, 0, 0, 0x0A, 0x0A, 0, 0, 0, 0, 0, 0, 0, 0, 0, 0 };
+
+    cdb_of(c, 0x15, 6);
+    c->cdb[1] = (uint8_t)(0x10 | below(seed, 2));
+    c->cdb[4] = sizeof page;
+    fill_data_out(c, seed, sizeof page);
+    memcpy(c->data_out, page, sizeof page);
+    c->data_out[6] = (uint8_t)(below(seed, 2) << 2);
+    c->data_out[8] = (uint8_t)(below(seed, 8) == 0 ? 8 : 0);
+}
+
+static void unmap(struct command *c, uint64_t *seed)
+{
+    uint32_t count = below(seed, 4), at;
+
+    cdb_of(c, 0x42, 10);
+    c->cdb[8] = (uint8_t)(8 + 16 * count);
+    fill_data_out(c, seed, 8 + 16 * count);
+    memset(c->data_out, 0, 8 + 16 * count);
+    c->data_out[1] = (uint8_t)(6 + 16 * count);
+    c->data_out[3] = (uint8_t)(16 * count);
+    for (at = 0; at < count; at++) {
+        c->data_out[8 + 16 * at + 7] = (uint8_t)below(seed, 40);
+        c->data_out[8 + 16 * at + 11] = (uint8_t)below(seed, 6);
+    }
+}
+
+static void random_bytes(struct command *c, uint64_t *seed)
+{
+    static const uint8_t opcodes[] = { 0x00, 0x03, 0x12, 0x15, 0x1A, 0x25, 0x28, 0x2A, 0x35, 0x41,
+                                       0x42, 0x55, 0x5A, 0x5E, 0x5F, 0x88, 0x8A, 0x91, 0x93, 0x9E };
+    size_t at;
+
+    cdb_of(c, opcodes[below(seed, sizeof opcodes)], 1 + below(seed, 16));
+    for (at = 1; at < c->cdb_length; at++)
+        c->cdb[at] = (uint8_t)(below(seed, 3) ? 0 : below(seed, 256));
+    if (below(seed, 8) == 0)
+        c->cdb[0] = (uint8_t)below(seed, 256);
+    fill_data_out(c, seed, below(seed, 64));
+}
+
+static void next_command(struct command *c, uint64_t *seed)
+{
+    static const uint8_t pages[] = { 0x00, 0x80, 0x83, 0xB0, 0xB2, 0x81 };
+
+    c->initiator = below(seed, MDL_INITIATORS);
+    c->is_power_cycle = 0;
+    c->data_out_length = 0;
+    switch (below(seed, 20)) {
+    case 0:
+    case 1:
+    case 2:
+        cdb_of(c, 0x2A, 10);
+        c->cdb[5] = (uint8_t)below(seed, 40);
+        c->cdb[8] = (uint8_t)below(seed, 4);
+        fill_data_out(c, seed, MDL_BLOCK_LENGTH * c->cdb[8]);
+        break;
+    case 3:
+    case 4:
+        cdb_of(c, 0x28, 10);
+        c->cdb[4] = (uint8_t)(below(seed, 16) ? 0 : 0x0F);
+        c->cdb[5] = (uint8_t)(below(seed, 40) + (c->cdb[4] ? 0xE0 : 0));
+        c->cdb[8] = (uint8_t)below(seed, 5);
+        break;
+    case 5:
+        unmap(c, seed);
+        break;
+    case 6:
+        cdb_of(c, 0x9E, 16);
+        c->cdb[1] = (uint8_t)(0x10 + 2 * below(seed, 2));
+        c->cdb[9] = (uint8_t)below(seed, 40);
+        c->cdb[13] = (uint8_t)below(seed, 120);
+        break;
+    case 7:
+        cdb_of(c, 0x5E, 10);
+        c->cdb[1] = (uint8_t)below(seed, 5);
+        c->cdb[8] = (uint8_t)below(seed, 200);
+        break;
+    case 8:
+    case 9:
+    case 10:
+        reserve_out(c, seed);
+        break;
+    case 11:
+        cdb_of(c, 0x12, 6);
+        c->cdb[1] = (uint8_t)below(seed, 2);
+        c->cdb[2] = c->cdb[1] ? pages[below(seed, sizeof pages)] : 0;
+        c->cdb[4] = (uint8_t)below(seed, 100);
+        break;
+    case 12:
+    case 13:
+        cdb_of(c, 0x03, 6);
+        c->cdb[1] = (uint8_t)below(seed, 2);
+        c->cdb[4] = (uint8_t)below(seed, 40);
+        break;
+    case 14:
+        cdb_of(c, 0x1A, 6);
+        c->cdb[2] = (uint8_t)(below(seed, 4) << 6 | (below(seed, 2) ? 0x3F : 0x0A));
+        c->cdb[4] = (uint8_t)below(seed, 200);
+        break;
+    case 15:
+        select_mode(c, seed);
+        break;
+    case 16:
+        cdb_of(c, 0x93, 16);
+        c->cdb[1] = (uint8_t)(below(seed, 2) << 3);
+        c->cdb[9] = (uint8_t)below(seed, 40);
+        c->cdb[13] = (uint8_t)below(seed, 6);
+        fill_data_out(c, seed, MDL_BLOCK_LENGTH);
+        break;
+    case 17:
+        cdb_of(c, below(seed, 2) ? 0x00 : 0x35, 10);
+        c->cdb_length = c->cdb[0] ? 10 : 6;
+        break;
+    case 18:
+        random_bytes(c, seed);
+        break;
+    default:
+        c->is_power_cycle = below(seed, 8) == 0;
+        cdb_of(c, 0x25, 10);
+    }
+}
+
+#endif
