@@ -1,9 +1,54 @@
 //! The functions of mehdalung.h, which says what each asks of its caller.
 #![allow(non_camel_case_types)]
 use std::ffi::{c_char, c_int, c_uint};
+use std::mem::size_of;
 
 pub const BUFFER_LENGTH: usize = 131_072;
 pub const DATA_OUT_LENGTH: usize = 1_032;
+pub const NO_TEXT: usize = usize::MAX;
+
+pub const GOOD: u8 = 0x00;
+pub const CHECK_CONDITION: u8 = 0x02;
+pub const RESERVATION_CONFLICT: u8 = 0x18;
+
+/// `mdl_error`.
+pub mod error {
+    pub const OK: u32 = 0;
+    pub const NO_DISK: u32 = 1;
+    pub const DISK_EXISTS: u32 = 2;
+    pub const BLOCKS: u32 = 3;
+    pub const POOL: u32 = 4;
+    pub const IDENTITY_TEXT: u32 = 5;
+    pub const IDENTITY_LOCAL: u32 = 6;
+    pub const OUT_OF_MEMORY: u32 = 7;
+    pub const NO_INITIATOR: u32 = 8;
+    pub const BUFFER_TOO_SHORT: u32 = 9;
+    pub const NULL_POINTER: u32 = 10;
+    pub const UNREADABLE: u32 = 11;
+    pub const BAD_BYTE: u32 = 12;
+    pub const TOO_MANY_WORDS: u32 = 13;
+    pub const UNKNOWN_TOOL: u32 = 14;
+    pub const USAGE: u32 = 15;
+    pub const EXCLUSIVE: u32 = 16;
+    pub const NUMBER: u32 = 17;
+}
+
+/// `mdl_kind`.
+pub mod kind {
+    pub const NOTHING: u32 = 0;
+    pub const HEX: u32 = 1;
+    pub const INQUIRY: u32 = 2;
+    pub const VPD: u32 = 3;
+    pub const MODES_6: u32 = 4;
+    pub const MODES_10: u32 = 5;
+    pub const LBA_STATUS: u32 = 6;
+    pub const LBA_STATUS_BRIEF: u32 = 7;
+    pub const KEYS: u32 = 8;
+    pub const RESERVATION: u32 = 9;
+    pub const CAPABILITIES: u32 = 10;
+    pub const FULL_STATUS: u32 = 11;
+    pub const SENSE: u32 = 12;
+}
 
 #[repr(C)]
 pub struct mdl_disk {
@@ -36,12 +81,12 @@ pub struct mdl_reply {
 pub struct mdl_command {
     pub cdb: [u8; 16],
     pub cdb_length: u8,
-    pub kind: c_uint,
+    pub kind: u32,
     pub data_out_length: usize,
 }
 
 #[repr(C)]
-#[derive(Clone, Copy, Default)]
+#[derive(Clone, Copy, Debug, Default, PartialEq, Eq)]
 pub struct mdl_sense {
     pub key: u8,
     pub asc: u8,
@@ -52,6 +97,9 @@ pub struct mdl_sense {
     pub byte: u16,
     pub information: u64,
 }
+
+const _: () = assert!(size_of::<mdl_identity>() == 48 && size_of::<mdl_reply>() == 56);
+const _: () = assert!(size_of::<mdl_command>() == 32 && size_of::<mdl_sense>() == 16);
 
 extern "C" {
     pub fn mdl_make(
@@ -82,7 +130,7 @@ extern "C" {
     pub fn mdl_read_sense(sense: *const u8, length: usize, fields: *mut mdl_sense) -> c_uint;
     pub fn mdl_exit_status(reply: *const mdl_reply) -> c_int;
     pub fn mdl_decode(
-        kind: c_uint,
+        kind: u32,
         data_in: *const u8,
         length: usize,
         text: *mut c_char,

@@ -1,15 +1,16 @@
-//! The first minute of README, from Rust: each line's status is printed as sgrun prints it.
-use mehdalung::{Disk, Error, Reply};
+//! The first minute of README, from Rust: it prints what sgrun prints.
+use mehdalung::{Disk, Error, Reply, CHECK_CONDITION, GOOD};
 use std::process::ExitCode;
 
-/// Prints the status of a line, and returns its exit status.
+/// Prints the reply of a line, and returns its exit status.
 fn print(line: u32, reply: Reply) -> u8 {
     let name = match reply.status() {
-        0x00 => "GOOD",
-        0x02 => "CHECK CONDITION",
+        GOOD => "GOOD",
+        CHECK_CONDITION => "CHECK CONDITION",
         _ => "RESERVATION CONFLICT",
     };
     println!("line {line}: {name}");
+    print!("{}", reply.text().unwrap_or_default());
     reply.exit_status()
 }
 

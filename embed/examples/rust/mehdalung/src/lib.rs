@@ -1,59 +1,46 @@
 //! A SCSI disk in memory, by the C library Mehdalung. A disk is `Send`, and not `Sync`.
+mod error;
+
+use error::check;
 use mehdalung_sys as sys;
-use std::{ffi::CString, fmt, ptr};
+use std::{ffi::CString, ptr};
 
-pub use sys::mdl_identity as Identity;
+pub use error::Error;
+pub use sys::{kind, mdl_identity as Identity, mdl_sense as Sense};
+pub use sys::{CHECK_CONDITION, GOOD, RESERVATION_CONFLICT};
 
-/// Why a call is refused. It has changed nothing then.
-#[derive(Clone, Copy, Debug, PartialEq, Eq)]
-pub enum Error {
-    Blocks,
-    Pool,
-    IdentityText,
-    IdentityLocal,
-    OutOfMemory,
-    NoInitiator,
-    BadByte,
-    TooManyWords,
-    UnknownTool,
-    Usage,
-    Exclusive,
-    Number,
-    /// An error that these calls can't have.
-    Other(u32),
-}
-
-impl fmt::Display for Error {
-    fn fmt(&self, f: &mut fmt::Formatter<'_>) -> fmt::Result {
-        write!(f, "{self:?}")
+/// The text that is written as snprintf(3) writes, or none.
+fn text_of(write: impl Fn(&mut [u8]) -> usize) -> Option<String> {
+    let length = write(&mut []);
+    // Where there is no text, the length is the greatest number.
+    let mut text = vec![0; length.checked_add(1)?];
+    if write(&mut text) != length {
+        return None;
     }
+    text.truncate(length);
+    String::from_utf8(text).ok()
 }
 
-impl std::error::Error for Error {}
-
-fn check(error: u32) -> Result<(), Error> {
-    Err(match error {
-        0 => return Ok(()),
-        3 => Error::Blocks,
-        4 => Error::Pool,
-        5 => Error::IdentityText,
-        6 => Error::IdentityLocal,
-        7 => Error::OutOfMemory,
-        8 => Error::NoInitiator,
-        12 => Error::BadByte,
-        13 => Error::TooManyWords,
-        14 => Error::UnknownTool,
-        15 => Error::Usage,
-        16 => Error::Exclusive,
-        17 => Error::Number,
-        other => Error::Other(other),
+/// What an answer of a `kind` contains, in lines. None where there is no such kind, or no memory.
+pub fn decode(kind: u32, data_in: &[u8]) -> Option<String> {
+    // SAFETY: each pointer has the bytes that its length says, and they don't overlap.
+    text_of(|text| unsafe {
+        sys::mdl_decode(kind, data_in.as_ptr(), data_in.len(), text.as_mut_ptr().cast(), text.len())
     })
 }
 
-/// The reply to a command. Its data-in is that of the disk until the next command.
+/// The version of the library and of the proof.
+pub fn version() -> Option<String> {
+    // SAFETY: the text has the bytes that its length says.
+    text_of(|text| unsafe { sys::mdl_version(text.as_mut_ptr().cast(), text.len()) })
+}
+
+/// The reply to a command. Its data-in is that of the disk until the next command, and of the kind
+/// that a tool's is, or else of `kind::HEX`.
 pub struct Reply<'a> {
     record: sys::mdl_reply,
     pub data_in: &'a [u8],
+    pub kind: u32,
 }
 
 impl Reply<'_> {
@@ -65,7 +52,24 @@ impl Reply<'_> {
         &self.record.sense[..usize::from(self.record.sense_length)]
     }
 
-    /// The exit status that the tools of sg3_utils have for it.
+    /// The fields of its sense data, if it has any.
+    pub fn fields(&self) -> Option<Sense> {
+        let (sense, mut fields) = (self.sense(), Sense::default());
+        // SAFETY: there are as many bytes, and the fields are a whole record.
+        check(unsafe { sys::mdl_read_sense(sense.as_ptr(), sense.len(), &mut fields) }).ok()?;
+        Some(fields)
+    }
+
+    /// What sgrun prints of it behind its status, data-in or sense data. None without memory.
+    pub fn text(&self) -> Option<String> {
+        match self.status() {
+            GOOD => decode(self.kind, self.data_in),
+            _ if self.sense().is_empty() => Some(String::new()),
+            _ => decode(kind::SENSE, self.sense()),
+        }
+    }
+
+    /// The exit status that the tools of sg3_utils have for it, as far as docs/SCRIPT.md says.
     pub fn exit_status(&self) -> u8 {
         // SAFETY: the pointer is to a whole record.
         unsafe { sys::mdl_exit_status(&self.record) as u8 }
@@ -78,8 +82,8 @@ pub struct Disk {
     data_in: Box<[u8]>,
 }
 
-// SAFETY: by the header, a disk may go to another thread, where the calls are ordered, as a move of a
-// `Send` value orders them.
+// SAFETY: by the header, a disk may go to another thread, where the calls are ordered, as a move of
+// a `Send` value orders them.
 unsafe impl Send for Disk {}
 
 impl Disk {
@@ -106,7 +110,7 @@ impl Disk {
             sys::mdl_execute(&mut self.slot, initiator, cdb.as_ptr(), cdb.len(), data_out.as_ptr(),
                              data_out.len(), buffer, length, &mut record)
         })?;
-        Ok(Reply { record, data_in: &self.data_in[..record.data_in_length] })
+        Ok(Reply { record, data_in: &self.data_in[..record.data_in_length], kind: kind::HEX })
     }
 
     /// Executes what the words of a tool ask for, as "sg_vpd -p lbpv".
@@ -119,7 +123,8 @@ impl Disk {
             sys::mdl_tool(words.as_ptr(), data_out.as_mut_ptr(), data_out.len(), &mut command)
         })?;
         let cdb = &command.cdb[..usize::from(command.cdb_length)];
-        self.execute(initiator, cdb, &data_out[..command.data_out_length])
+        let reply = self.execute(initiator, cdb, &data_out[..command.data_out_length])?;
+        Ok(Reply { kind: command.kind, ..reply })
     }
 
     pub fn power_cycle(&mut self) -> Result<(), Error> {

@@ -1,0 +1,223 @@
+"""A SCSI disk in memory, by the C library Mehdalung: docs/EMBEDDING.md.
+
+It needs nothing but Python 3.8 and libmehdalung.so, which MEHDALUNG_LIBRARY names, or ../../build
+has. A disk is used by one thread at a time."""
+import ctypes
+import os
+from ctypes import c_size_t, c_uint8, c_uint32, c_uint64, c_void_p
+from enum import IntEnum
+from pathlib import Path
+from typing import NamedTuple
+
+BUFFER_LENGTH = 131_072
+DATA_OUT_LENGTH = 1_032
+NO_TEXT = c_size_t(-1).value
+GOOD, CHECK_CONDITION, RESERVATION_CONFLICT = 0x00, 0x02, 0x18
+
+
+class Error(IntEnum):
+    """mdl_error."""
+    OK = 0
+    NO_DISK = 1
+    DISK_EXISTS = 2
+    BLOCKS = 3
+    POOL = 4
+    IDENTITY_TEXT = 5
+    IDENTITY_LOCAL = 6
+    OUT_OF_MEMORY = 7
+    NO_INITIATOR = 8
+    BUFFER_TOO_SHORT = 9
+    NULL_POINTER = 10
+    UNREADABLE = 11
+    BAD_BYTE = 12
+    TOO_MANY_WORDS = 13
+    UNKNOWN_TOOL = 14
+    USAGE = 15
+    EXCLUSIVE = 16
+    NUMBER = 17
+
+
+class Kind(IntEnum):
+    """mdl_kind: what the bytes of an answer are."""
+    NOTHING = 0
+    HEX = 1
+    INQUIRY = 2
+    VPD = 3
+    MODES_6 = 4
+    MODES_10 = 5
+    LBA_STATUS = 6
+    LBA_STATUS_BRIEF = 7
+    KEYS = 8
+    RESERVATION = 9
+    CAPABILITIES = 10
+    FULL_STATUS = 11
+    SENSE = 12
+
+
+class Refused(Exception):
+    """Why a call is refused, an Error. It has changed nothing then."""
+
+    def __init__(self, error):
+        self.error = Error(error)
+        super().__init__("MDL_" + self.error.name)
+
+
+class Slot(ctypes.Structure):
+    """mdl_disk."""
+    _fields_ = [("target", c_void_p)]
+
+
+class IdentityRecord(ctypes.Structure):
+    """mdl_identity."""
+    _fields_ = [("vendor", c_uint8 * 8), ("product", c_uint8 * 16), ("revision", c_uint8 * 4),
+                ("serial", c_uint8 * 8), ("local", c_uint64)]
+
+
+class ReplyRecord(ctypes.Structure):
+    """mdl_reply."""
+    _fields_ = [("status", c_uint8), ("sense_length", c_uint8), ("sense", c_uint8 * 20),
+                ("visits", c_uint64), ("probes", c_uint64), ("links", c_uint64),
+                ("data_in_length", c_size_t)]
+
+
+class Command(ctypes.Structure):
+    """mdl_command."""
+    _fields_ = [("cdb", c_uint8 * 16), ("cdb_length", c_uint8), ("kind", c_uint32),
+                ("data_out_length", c_size_t)]
+
+
+class Sense(ctypes.Structure):
+    """mdl_sense: the fields of sense data. One that is not there is 0."""
+    _fields_ = [("key", c_uint8), ("asc", c_uint8), ("ascq", c_uint8), ("has_information", c_uint8),
+                ("has_pointer", c_uint8), ("in_command", c_uint8), ("byte", ctypes.c_uint16),
+                ("information", c_uint64)]
+
+
+def load():
+    beside = Path(__file__).resolve().parents[2] / "build" / "libmehdalung.so"
+    library = ctypes.CDLL(os.environ.get("MEHDALUNG_LIBRARY", str(beside)))
+    slot, bytes_of = ctypes.POINTER(Slot), ctypes.c_char_p
+    library.mdl_make.argtypes = [slot, c_uint64, c_uint32, ctypes.POINTER(IdentityRecord)]
+    library.mdl_free.argtypes = [slot]
+    library.mdl_free.restype = None
+    library.mdl_execute.argtypes = [slot, c_uint32, bytes_of, c_size_t, bytes_of, c_size_t,
+                                    c_void_p, c_size_t, ctypes.POINTER(ReplyRecord)]
+    library.mdl_power_cycle.argtypes = [slot]
+    library.mdl_read_sense.argtypes = [bytes_of, c_size_t, ctypes.POINTER(Sense)]
+    library.mdl_exit_status.argtypes = [ctypes.POINTER(ReplyRecord)]
+    library.mdl_decode.argtypes = [c_uint32, bytes_of, c_size_t, c_void_p, c_size_t]
+    library.mdl_decode.restype = c_size_t
+    library.mdl_tool.argtypes = [bytes_of, c_void_p, c_size_t, ctypes.POINTER(Command)]
+    library.mdl_version.argtypes = [c_void_p, c_size_t]
+    library.mdl_version.restype = c_size_t
+    return library
+
+
+LIBRARY = load()
+
+
+def check(error):
+    if error:
+        raise Refused(error)
+
+
+def within(name, number, bits):
+    """A number, unless ctypes would cut it."""
+    if not 0 <= number < 1 << bits:
+        raise ValueError(f"{name} is not 0 to 2^{bits} - 1: {number}")
+    return number
+
+
+def text_of(write, *arguments):
+    """The text that a function writes as snprintf does."""
+    length = write(*arguments, None, 0)
+    if length != NO_TEXT:
+        text = ctypes.create_string_buffer(length + 1)
+        if write(*arguments, text, length + 1) == length:
+            return text.raw[:length].decode("ascii")
+    raise MemoryError("there is no memory for a text")
+
+
+def decode(kind, data_in):
+    """What an answer of a kind contains, in lines."""
+    return text_of(LIBRARY.mdl_decode, Kind(kind), data_in, len(data_in))
+
+
+def version():
+    return text_of(LIBRARY.mdl_version)
+
+
+def identity(vendor="SGMODEL", product="THIN DISK", revision="0100", serial="00000001", local=1):
+    """An identity: texts, which are padded with spaces, and a number of 60 bits."""
+    record = IdentityRecord(local=within("local", local, 64))
+    texts = {"vendor": vendor, "product": product, "revision": revision, "serial": serial}
+    for name, text in texts.items():
+        field = getattr(record, name)
+        if len(text) > len(field):
+            raise ValueError(f"{name} has more than {len(field)} characters: {text}")
+        field[:] = text.encode("ascii").ljust(len(field))
+    return record
+
+
+class Reply(NamedTuple):
+    """What a command ends with. Data-in is of the kind that a tool's is, or else of Kind.HEX."""
+    status: int
+    sense: bytes
+    data_in: bytes
+    kind: Kind
+    exit_status: int
+
+    def text(self):
+        """What sgrun prints of it behind its status: sense data, or else data-in."""
+        if self.sense:
+            return decode(Kind.SENSE, self.sense)
+        return decode(self.kind, self.data_in) if self.status == GOOD else ""
+
+    def fields(self):
+        """The fields of its sense data, a Sense."""
+        fields = Sense()
+        check(LIBRARY.mdl_read_sense(self.sense, len(self.sense), fields))
+        return fields
+
+
+class Disk:
+    """A disk of `blocks` blocks, of which `pool` can be mapped at once, with an identity or the
+    standard one."""
+
+    def __init__(self, blocks=4096, pool=4, identity=None):
+        self.slot = Slot()
+        self.data_in = (c_uint8 * BUFFER_LENGTH)()
+        blocks, pool = within("blocks", blocks, 64), within("pool", pool, 32)
+        check(LIBRARY.mdl_make(self.slot, blocks, pool, identity))
+
+    def execute(self, initiator, cdb, data_out=b"", kind=Kind.HEX):
+        """The Reply to the command of an initiator, 0 to 7."""
+        record = ReplyRecord()
+        check(LIBRARY.mdl_execute(
+            self.slot, within("initiator", initiator, 32), cdb, len(cdb), data_out, len(data_out),
+            self.data_in, BUFFER_LENGTH, record))
+        return Reply(record.status, bytes(record.sense[:record.sense_length]),
+                     bytes(self.data_in[:record.data_in_length]), Kind(kind),
+                     LIBRARY.mdl_exit_status(record))
+
+    def tool(self, initiator, words):
+        """Executes what the words of a tool ask for, as "sg_vpd -p lbpv"."""
+        if "\0" in words:
+            raise ValueError("C would take the words to end at their NUL")
+        command = Command()
+        data_out = (c_uint8 * DATA_OUT_LENGTH)()
+        check(LIBRARY.mdl_tool(words.encode(), data_out, DATA_OUT_LENGTH, command))
+        return self.execute(initiator, bytes(command.cdb[:command.cdb_length]),
+                            bytes(data_out[:command.data_out_length]), command.kind)
+
+    def power_cycle(self):
+        check(LIBRARY.mdl_power_cycle(self.slot))
+
+    def close(self):
+        LIBRARY.mdl_free(self.slot)
+
+    def __enter__(self):
+        return self
+
+    def __exit__(self, *_):
+        self.close()

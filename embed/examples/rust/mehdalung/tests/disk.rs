@@ -1,0 +1,43 @@
+//! What the crate has beside what the first minute uses.
+use mehdalung::{decode, kind, version, Disk, Error, Identity, Reply, CHECK_CONDITION, GOOD};
+
+const TEST_UNIT_READY: [u8; 6] = [0; 6];
+const INQUIRY: [u8; 6] = [0x12, 0, 0, 0, 36, 0];
+
+#[test]
+fn replies_have_texts_and_fields() -> Result<(), Error> {
+    let identity = Identity {
+        vendor: *b"ACME    ",
+        product: *b"DISK            ",
+        revision: *b"0200",
+        serial: *b"00000042",
+        local: 42,
+    };
+    let mut disk = Disk::new(64, 4, Some(&identity))?;
+    let reply = disk.execute(7, &TEST_UNIT_READY, &[])?;
+    assert_eq!((reply.status(), reply.exit_status()), (CHECK_CONDITION, 6));
+    assert_eq!(reply.text().unwrap(), "  sense: UNIT ATTENTION, 29h/00h\n");
+    let fields = reply.fields().unwrap();
+    assert_eq!((fields.key, fields.asc, fields.ascq, fields.has_information), (6, 0x29, 0, 0));
+    let reply = disk.execute(7, &INQUIRY, &[])?;
+    assert_eq!((reply.status(), reply.fields()), (GOOD, None));
+    assert_eq!(&reply.data_in[8..], b"ACME    DISK            0200");
+    assert!(reply.text().unwrap().starts_with("  00000000  "));
+    let text = decode(kind::INQUIRY, reply.data_in);
+    assert!(text.is_some() && text == disk.tool(7, "sg_inq")?.text());
+    disk.power_cycle()
+}
+
+#[test]
+fn calls_are_refused() -> Result<(), Error> {
+    let why = |refused: Result<Reply, Error>| refused.err();
+    let mut disk = Disk::new(64, 4, None)?;
+    assert_eq!(why(disk.execute(8, &TEST_UNIT_READY, &[])), Some(Error::NoInitiator));
+    assert_eq!(why(disk.tool(0, "sg_foo")), Some(Error::UnknownTool));
+    assert_eq!(why(disk.tool(0, "sg_inq\0")), Some(Error::BadByte));
+    assert_eq!(Disk::new(0, 4, None).err(), Some(Error::Blocks));
+    assert_eq!(Disk::new(64, 65_537, None).err(), Some(Error::Pool));
+    assert_eq!(decode(kind::SENSE + 1, &[]), None);
+    assert!(version().unwrap().starts_with("mehdalung "));
+    Ok(())
+}
