@@ -68,7 +68,6 @@ pub extern "C" fn mehdalung_free(alloc: Global, disk: &mut Slot)
 /// Executes a command.
 #[unsafe(no_mangle)]
 pub extern "C" fn mehdalung_execute(
-    alloc: Global,
     disk: &mut Slot,
     initiator: u32,
     cdb: &[u8],
@@ -86,18 +85,18 @@ pub extern "C" fn mehdalung_execute(
     ensures untouched { result ≢ 0 → data_in.new ≡ data_in.old }
     ensures silent { result ≢ 0 → reply.new ≡ reply.old }
 {
-    let outcome = disk.execute(alloc, initiator, cdb, data_out, data_in, reply);
+    let outcome = disk.execute(initiator, cdb, data_out, data_in, reply);
     outcome.code()
 }
 
 /// Takes the power of a disk away, and gives it back.
 #[unsafe(no_mangle)]
-pub extern "C" fn mehdalung_power_cycle(alloc: Global, disk: &mut Slot) -> u32
+pub extern "C" fn mehdalung_power_cycle(disk: &mut Slot) -> u32
     ensures outcome { result ≡ outcome_code (power_cycle_outcome disk.old.held) }
     ensures cycled { result ≡ 0 → IsPowerCycled disk.old.held disk.new.held }
     ensures refused { result ≢ 0 → disk.new.held ≡ disk.old.held }
 {
-    disk.power_cycle(alloc).code()
+    disk.power_cycle().code()
 }
 
 /// Plans the command that the words of a text ask a tool for.

@@ -82,10 +82,10 @@ module _ {M : Type 1} {𝓤 : Ura M} {𝓛 : Logic 𝓤} {K : Type 0} {Γ : List
 
     -- A slot is empty, or what a box owns.
     pub slot_out : K → (p : Ptr) (a : Global) (k : Option E.row.Denot) (vs : List Val)
-        → ((h : Val) → k ≡ None → vs ≡ bare_word h ∷ [] → Fits E.al h
+        → ((h : Val) → k ≡ None → p ≡ null_ptr → vs ≡ bare_word h ∷ [] → Fits E.al h
         → Seq K 𝓛 (‵ (Heap.the_row.own_val a (h ∷ [])) ∷ Γ) G)
-        → ((x : E.row.Denot) (b o : ℕ) (h : Val) → k ≡ Some x → vs ≡ word E h b o ∷ [] → Fits E.al h
-        → Testable (block_ptr b o)
+        → ((x : E.row.Denot) (b o : ℕ) (h : Val) → k ≡ Some x → p ≡ block_ptr b o
+        → vs ≡ word E h b o ∷ [] → Fits E.al h → Testable (block_ptr b o)
         → Seq K 𝓛 (‵ (part_at (R E) full_share x b o)
         ∷ ‵ (ghosts.dealloc_token a (bare (τ E)) (block_ptr b o))
         ∷ ‵ (Heap.the_row.own_val a (h ∷ [])) ∷ Γ) G)
@@ -94,7 +94,7 @@ module _ {M : Type 1} {𝓤 : Ura M} {𝓛 : Logic 𝓤} {K : Type 0} {Γ : List
         fsplit t $ fpick t (λ vss. fsplit t $ feq_l t (λ ev. fsplit t $ feq_l t (λ ep. fsplit t $
         handle_tells E.al t a vss.1.0 (λ h ea fits. move t (1 ∷ []) $ drop t $ move t (1 ∷ []) $
         feq_l t (λ is_null.
-        none h refl
+        none h refl is_null
         (subst (λ (q : Ptr). vs ≡ vstruct (of_list (ptr_val q ∷ h ∷ [])) ∷ []) is_null
         (subst (λ (ws : List Val). vs ≡ vstruct (of_list (ptr_val p ∷ (ws ++ []))) ∷ []) ea
         (subst (λ (ps : List Val). vs ≡ vstruct (of_list (ps ++ (vss.1.0 ++ [])))
@@ -104,4 +104,4 @@ module _ {M : Type 1} {𝓤 : Ura M} {𝓛 : Logic 𝓤} {K : Type 0} {Γ : List
         ∷ []) $
         use1 𝓛 (given (Testable (block_ptr b o)) (‵ (ghosts.dealloc_token a (bare (τ E)) (block_ptr b
         o)))) (tested 𝓛 a (block_ptr b o)) $
-        learn t (λ testable. move t (1 ∷ 0 ∷ []) $ some x b o h refl ws fits testable))
+        learn t (λ testable. move t (1 ∷ 0 ∷ []) $ some x b o h refl e ws fits testable))

@@ -1,5 +1,6 @@
 -- What public contracts cite, in the order in which it is read best.
 pub mod Holds
+pub mod Lends
 pub mod Outcome
 pub mod Executed
 pub mod Records

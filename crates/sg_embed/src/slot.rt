@@ -35,6 +35,10 @@ impl Model for Slot {
 unsafe impl Send for Slot {}
 
 impl Slot {
+    ghost use Rattle.std.specs.Prelude.{◌≡◌, None, Some, option_map};
+    ghost use Rattle.std.specs.Borrow.{sem};
+    ghost use Rattle.sg_embed.specs.Lends.{lends_kept};
+
     /// No disk.
     pub fn empty(alloc: Global) -> Slot
         ensures { result.held ≡ None }
@@ -59,6 +63,17 @@ impl Slot {
         match self.into_parts() {
             Some(parts) => Some(parts.into_box()),
             None => None,
+        }
+    }
+
+    // The disk where it is, if there is one.
+    fn kept(&mut self) -> Option<&mut Kept>
+        ensures* lends { sem 𝓛 (lends_kept self.entry result) }
+        ensures value { option_map (λ kept. kept.now) result ≡ self.old.held }
+    {
+        unsafe {
+            let at = self.at as *mut Kept;
+            if at.is_null() { None } else { Some(&mut *at) }
         }
     }
 
@@ -109,8 +124,7 @@ impl Slot {
             ≡ Some (new_disk (disk_config blocks pool identity)) }
         ensures refused { result ≢ Outcome.Done → self.new.held ≡ self.old.held }
     {
-        if let Some(kept) = self.take(alloc) {
-            self.put(kept);
+        if let Some(_) = self.kept() {
             return Outcome::DiskExists;
         }
         match Config::new(blocks, pool, identity) {
@@ -132,7 +146,6 @@ impl Slot {
     /// too short and no disk. Nothing is executed then, and disk, buffer and reply are as they were.
     pub fn execute(
         &mut self,
-        alloc: Global,
         initiator: u32,
         cdb: &[u8],
         data_out: &[u8],
@@ -154,35 +167,25 @@ impl Slot {
         if data_in.len() < BUFFER_LENGTH {
             return Outcome::BufferTooShort;
         }
-        let Some(mut kept) = self.take(alloc) else {
+        let Some(kept) = self.kept() else {
             return Outcome::NoDisk;
         };
         let done = kept.target.execute(initiator, cdb, data_out, data_in);
         reply.show(done);
-        self.put(kept);
         Outcome::Done
     }
 
     /// A power cycle. The disk stays as it was where another outcome than `Done` is returned.
-    pub fn power_cycle(&mut self, alloc: Global) -> Outcome
+    pub fn power_cycle(&mut self) -> Outcome
         ensures outcome { result ≡ power_cycle_outcome self.old.held }
         ensures cycled { result ≡ Outcome.Done → IsPowerCycled self.old.held self.new.held }
         ensures refused { result ≢ Outcome.Done → self.new.held ≡ self.old.held }
     {
-        let Some(mut kept) = self.take(alloc) else {
+        let Some(kept) = self.kept() else {
             return Outcome::NoDisk;
         };
         kept.target.power_cycle();
-        self.put(kept);
         Outcome::Done
-    }
-
-    // Takes the disk out of the slot, if there is one.
-    fn take(&mut self, alloc: Global) -> Option<Box<Kept>>
-        ensures value { option_map (λ b. b.value) result ≡ self.old.held }
-        ensures taken { self.new.held ≡ None }
-    {
-        replace(self, Slot::empty(alloc)).into_kept()
     }
 
     // Puts a disk into a slot without one. There is nothing to drop, which the compiler doesn't know.

@@ -6,7 +6,7 @@ returns-clause-executed c done = record {
   reply = c.execute-done.result;
   shows = search rules;
   executed = record {
-    disk = c.in-Some-take.kept.value;
+    disk = c.in-Some-kept.kept.now;
     left = record { target = c.execute-done.new.self };
     was = search rules;
     is = search rules;

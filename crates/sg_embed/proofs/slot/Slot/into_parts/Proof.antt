@@ -150,10 +150,10 @@ module _ {M : Type 1} {𝓤 : Ura M} (𝓛 : Logic 𝓤) (at_mem : Memory → SP
         qed 𝓛 ((‵ ftrue ⊛ ‵ (fsep (slot.the_row.own_val s z.0.4.0) ftrue)) ∷ raw (emp 𝓤)
         ∷ []) ∵ split ! $ drop ! $ fsplit ! $
         slot_out ! s.at s.alloc s.held z.0.4.0
-        (λ h e ws fits. move ! (1 ∷ 2 ∷ []) $ drop ! $ drop ! $
+        (λ h e _ ws fits. move ! (1 ∷ 2 ∷ []) $ drop ! $ drop ! $
         by ! (subst (λ (us : List Val). ent 𝓤 (types.Kit.⋆ 𝓛 (‵ (Heap.the_row.own_val s.alloc (h
         ∷ [])) ∷ [])) (Runs us)) (sym ws) (without h e fits)))
-        (λ x b o h e ws fits testable. move ! (3 ∷ 4 ∷ []) $ drop ! $ drop ! $
+        (λ x b o h e _ ws fits testable. move ! (3 ∷ 4 ∷ []) $ drop ! $ drop ! $
         by ! (subst (λ (us : List Val). ent 𝓤 (types.Kit.⋆ 𝓛 (Held x b o h)) (Runs us)) (sym ws)
         (within x b o h e fits testable)))
 

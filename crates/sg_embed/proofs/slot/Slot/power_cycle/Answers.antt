@@ -3,7 +3,7 @@ use Rattle.sg_embed.proofs.slot.Slot.power_cycle.Goals as goal
 
 pub returns-clause-cycled : goal.returns-clause-cycled
 returns-clause-cycled c _ = record {
-  disk = c.in-Some.kept.value;
+  disk = c.in-Some.kept.now;
   left = record { target = c.power_cycle.new.self };
   was = search rules;
   is = search rules;
