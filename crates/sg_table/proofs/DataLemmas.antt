@@ -3,7 +3,7 @@ use Rattle.std.proofs.Common.{◌≡◌, ℕ, zero, suc, ◌+◌, ◌-◌, ◌*�
 use Rattle.std.proofs.Common.{length, set, arith, ap, ◌∙◌, take, drop, get_or, length-append}
 use Rattle.std.proofs.Common.{drop-drop, take-append-drop}
 use Rattle.std.proofs.lemmas.List.{take_more}
-use Rattle.std.proofs.lemmas.List.Elements.{All-append, All-drop, All-head, All-tail, All-take}
+use Rattle.std.proofs.lemmas.List.Elements.{All-head, All-tail}
 use Rattle.std.specs.List.{All, splice}
 use Rattle.std.specs.Prelude.{insert, remove}
 use Rattle.sg_table.specs.Leaves.{joined, leaf_at}
@@ -46,12 +46,6 @@ data-splice rs runs from to le =
       ap data_in (take-append-drop (to - from) (drop from rs)),
       rest,
     )
-
-pub short-splice : (rs runs : List Run) (from to : ℕ) → FitCounts rs → FitCounts runs
-    → FitCounts (splice rs from to runs)
-short-splice rs runs from to short others =
-    All-append FitsCount (take from rs) (runs ++ drop to rs) (All-take FitsCount from rs short)
-    (All-append FitsCount runs (drop to rs) others (All-drop FitsCount to rs short))
 
 -- a leaf gets other records
 data-set : (ls : List (List Run)) (k : ℕ) (new : List Run) → k < length ls

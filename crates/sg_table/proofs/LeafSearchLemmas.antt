@@ -129,13 +129,13 @@ module _ (ls : List (List Run)) (sorted : IsSorted (joined ls)) (balanced : AreB
       )
 
   -- the leaf that a search of them finds
-  leaf-within : (k lba : ℕ) → IsFirstFrom (drop 1 (first_addresses ls)) k lba → k < length ls
-  leaf-within k lba first = let others = other-firsts in let end = first.within in omega arith
+  leaf-within : (k address : ℕ) → IsFirstFrom (drop 1 (first_addresses ls)) k address → k < length ls
+  leaf-within k address first = let others = other-firsts in let end = first.within in omega arith
 
-  pub leaf-rising : (k lba : ℕ) → IsFirstFrom (drop 1 (first_addresses ls)) k lba
+  pub leaf-rising : (k address : ℕ) → IsFirstFrom (drop 1 (first_addresses ls)) k address
       → AreRising (addresses (leaf_at ls k))
-  leaf-rising k lba first = λ i j lt end.
-      let within = leaf-within k lba first in
+  leaf-rising k address first = λ i j lt end.
+      let within = leaf-within k address first in
       let leaf = leaf_at ls k in
       let size = length-map leaf (λ (run : Run). run.start) in
       let before = count_before ls k in
@@ -154,11 +154,11 @@ module _ (ls : List (List Run)) (sorted : IsSorted (joined ls)) (balanced : AreB
       )
 
   -- the record that is looked for is the one of its leaf, as the next leaf begins behind it
-  pub leaf-bound : (k offset lba : ℕ) → IsFirstFrom (drop 1 (first_addresses ls)) k lba
-      → IsFirstFrom (addresses (leaf_at ls k)) offset lba
-      → IsLowerBound (joined ls) (count_before ls k + offset) lba
-  leaf-bound k offset lba first is =
-      let within = leaf-within k lba first in
+  pub leaf-bound : (k offset address : ℕ) → IsFirstFrom (drop 1 (first_addresses ls)) k address
+      → IsFirstFrom (addresses (leaf_at ls k)) offset address
+      → IsLowerBound (joined ls) (count_before ls k + offset) address
+  leaf-bound k offset address first is =
+      let within = leaf-within k address first in
       let leaf = leaf_at ls k in
       let begin = count_before ls k in
       let inside = is.within in
@@ -214,11 +214,11 @@ module _ (ls : List (List Run)) (sorted : IsSorted (joined ls)) (balanced : AreB
       }
 
   -- what both searches cost
-  pub leaf-cost : (k q p lba : ℕ) → IsFirstFrom (drop 1 (first_addresses ls)) k lba → All FitsLeaf ls
+  pub leaf-cost : (k q p address : ℕ) → IsFirstFrom (drop 1 (first_addresses ls)) k address → All FitsLeaf ls
       → CostsHalving (length (drop 1 (first_addresses ls))) q
       → CostsHalving (length (addresses (leaf_at ls k))) p → CostsSearch (length (joined ls)) (q + p)
-  leaf-cost k q p lba found fits first is =
-      let within = leaf-within k lba found in
+  leaf-cost k q p address found fits first is =
+      let within = leaf-within k address found in
       let leaf = leaf_at ls k in
       let size = length-map leaf (λ (run : Run). run.start) in
       let leaf_is : CostsHalving (length leaf) p = rw size at is in

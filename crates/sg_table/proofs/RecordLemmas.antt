@@ -1,9 +1,11 @@
 -- Records by their indices, and the index of an address.
 use Rattle.std.proofs.Common.{◌≡◌, ◌≢◌, ℕ, ◌+◌, ◌<◌, ◌≤◌, zero, suc, List, [], ◌∷◌, length, get_or}
-use Rattle.std.proofs.Common.{arith, refl, ap}
+use Rattle.std.proofs.Common.{arith, refl, ap, Bool, true, false, Some, None, cond}
 use Rattle.std.proofs.Common.{inl, inr}
-use Rattle.sg_table.specs.Records.{start_of, IsSorted, IsLowerBound}
-use Rattle.sg_table.specs.declared.run.Kind.TheVariants.{Data}
+use Rattle.std.specs.Prelude.{unwrap_or}
+use Rattle.sg_table.specs.Records.{start_of, IsSorted, IsLowerBound, same_kind}
+use Rattle.sg_table.specs.declared.run.Kind.{Kind}
+use Rattle.sg_table.specs.declared.run.Kind.TheVariants.{Data, Anchored}
 use Rattle.sg_table.specs.declared.run.Run.{Run}
 use Rattle.std.proofs.lemmas.Bool.{cases_lt}
 
@@ -24,6 +26,26 @@ start_of-at (x ∷ rs) (suc i) = start_of-at rs i
 
 pub sorted_tail : (x : Run) (rs : List Run) → IsSorted (x ∷ rs) → IsSorted rs
 sorted_tail x rs h i j lt below = h (suc i) (suc j) (omega arith) (omega arith)
+
+-- kinds that are the same
+pub alike : (j k : Kind) → same_kind j k ≡ true → j ≡ k
+alike Data Data e = refl
+alike Data Anchored e = let wrong = e in cc
+alike Anchored Data e = let wrong = e in cc
+alike Anchored Anchored e = refl
+
+pub own_kind : (k : Kind) → same_kind k k ≡ true
+own_kind Data = refl
+own_kind Anchored = refl
+
+-- a record that passes a test, or does not
+pub picked : (b : Bool) (r run : Run) → cond b (Some r) None ≡ Some run → (b ≡ true) × (r ≡ run)
+picked true r run e = (refl, ap (λ o. unwrap_or o r) e)
+picked false r run e = let wrong = e in cc
+
+pub dropped : (b : Bool) (r : Run) → cond b (Some r) None ≡ None → b ≡ false
+dropped true r e = let wrong = e in cc
+dropped false r e = refl
 
 -- the index after a record that was at the address
 pub index-mapped : (rs : List Run) (i a : ℕ) (r : Run) → IsSorted rs → IsLowerBound rs i a

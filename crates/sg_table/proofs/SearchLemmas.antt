@@ -5,23 +5,23 @@ use Rattle.std.proofs.lemmas.Bool.{cases_lt}
 use Rattle.sg_table.specs.Search.{AreRising, ProbedStarts, address_at}
 use Rattle.sg_table.proofs.HalvingLemmas.{halved-more, halved-less, cost-more}
 
--- The first address that is not before `lba` has an index from `low` to `high`, and each of `probes`
+-- The first address that is not before `address` has an index from `low` to `high`, and each of `probes`
 -- steps of a search halved what lies between.
-pub record IsWindow (starts : List ℕ) (lba low high probes : ℕ) : Type 0 where
+pub record IsWindow (starts : List ℕ) (address low high probes : ℕ) : Type 0 where
   pub ordered : low ≤ high
   pub within : high ≤ length starts
-  pub before : (i : ℕ) → i < low → address_at starts i < lba
-  pub after : (i : ℕ) → high ≤ i → i < length starts → lba ≤ address_at starts i
+  pub before : (i : ℕ) → i < low → address_at starts i < address
+  pub after : (i : ℕ) → high ≤ i → i < length starts → address ≤ address_at starts i
   pub halved : 2 ^ probes * (high - low) ≤ length starts
   pub cost : 2 ^ probes ≤ 2 * length starts + 1
   pub least : length starts + 2 ≤ 2 ^ probes * (high - low + 2)
 
 -- a step whose address is before the one that is looked for
-window-behind : (starts : List ℕ) (lba low high probes : ℕ) → AreRising starts
-    → IsWindow starts lba low high probes → low < high
-    → address_at starts (low + (high - low) / 2) < lba
-    → IsWindow starts lba (low + (high - low) / 2 + 1) high (probes + 1)
-window-behind starts lba low high probes rising is lt less =
+window-behind : (starts : List ℕ) (address low high probes : ℕ) → AreRising starts
+    → IsWindow starts address low high probes → low < high
+    → address_at starts (low + (high - low) / 2) < address
+    → IsWindow starts address (low + (high - low) / 2 + 1) high (probes + 1)
+window-behind starts address low high probes rising is lt less =
     let n = high - low in
     let middle = low + n / 2 in
     let within = is.within in
@@ -39,11 +39,11 @@ window-behind starts lba low high probes rising is lt less =
     }
 
 -- and one whose address is not
-window-before : (starts : List ℕ) (lba low high probes : ℕ) → AreRising starts
-    → IsWindow starts lba low high probes → low < high
-    → lba ≤ address_at starts (low + (high - low) / 2)
-    → IsWindow starts lba low (low + (high - low) / 2) (probes + 1)
-window-before starts lba low high probes rising is lt past =
+window-before : (starts : List ℕ) (address low high probes : ℕ) → AreRising starts
+    → IsWindow starts address low high probes → low < high
+    → address ≤ address_at starts (low + (high - low) / 2)
+    → IsWindow starts address low (low + (high - low) / 2) (probes + 1)
+window-before starts address low high probes rising is lt past =
     let n = high - low in
     let middle = low + n / 2 in
     let within = is.within in
@@ -61,13 +61,13 @@ window-before starts lba low high probes rising is lt past =
     }
 
 -- What a search left of the addresses that it began with.
-pub record IsSearched (old now : ProbedStarts) (lba low high : ℕ) : Type 0 where
+pub record IsSearched (old now : ProbedStarts) (address low high : ℕ) : Type 0 where
   pub starts : now.starts ≡ old.starts
-  pub window : IsWindow old.starts lba low high now.probes
+  pub window : IsWindow old.starts address low high now.probes
 
 -- a step that read `start` at the middle
-module _ (old now next : ProbedStarts) (lba low high start : ℕ) (rising : AreRising old.starts)
-    (is : IsSearched old now lba low high) (lt : low < high)
+module _ (old now next : ProbedStarts) (address low high start : ℕ) (rising : AreRising old.starts)
+    (is : IsSearched old now address low high) (lt : low < high)
     (probed : next ≡ record now { probes = now.probes + 1 })
     (value : start ≡ address_at now.starts (low + (high - low) / 2)) where
   same : next.starts ≡ old.starts
@@ -79,16 +79,16 @@ module _ (old now next : ProbedStarts) (lba low high start : ℕ) (rising : AreR
   at : start ≡ address_at old.starts (low + (high - low) / 2)
   at = value ∙ ap (λ xs. address_at xs (low + (high - low) / 2)) is.starts
 
-  pub searched-behind : start < lba → IsSearched old next lba (low + (high - low) / 2 + 1) high
+  pub searched-behind : start < address → IsSearched old next address (low + (high - low) / 2 + 1) high
   searched-behind less = record {
     starts = same;
-    window = rw more (window-behind old.starts lba low high now.probes rising is.window lt
+    window = rw more (window-behind old.starts address low high now.probes rising is.window lt
         (omega (arith, at, less)));
   }
 
-  pub searched-before : lba ≤ start → IsSearched old next lba low (low + (high - low) / 2)
+  pub searched-before : address ≤ start → IsSearched old next address low (low + (high - low) / 2)
   searched-before past = record {
     starts = same;
-    window = rw more (window-before old.starts lba low high now.probes rising is.window lt
+    window = rw more (window-before old.starts address low high now.probes rising is.window lt
         (omega (arith, at, past)));
   }

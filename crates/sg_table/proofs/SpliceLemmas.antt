@@ -6,7 +6,8 @@ use Rattle.std.proofs.Math.Seq.{drop-cons, take-append_seam, take-append-add, dr
 use Rattle.std.proofs.Math.Seq.{length-take-le, get_or-append_seam}
 use Rattle.std.proofs.Common.{Result, Ok, Err, true, true≢false}
 use Rattle.std.specs.Result.{is_ok, OnOk}
-use Rattle.std.specs.List.{splice}
+use Rattle.std.proofs.lemmas.List.Elements.{All-append, All-drop, All-take}
+use Rattle.std.specs.List.{All, splice}
 use Rattle.std.specs.Prelude.{insert}
 use Rattle.sg_table.specs.Records.{IsNext}
 use Rattle.sg_table.specs.declared.run.Run.{Run}
@@ -48,6 +49,13 @@ turned-right p b runs from n left e f g =
     let rest : drop from ((p ++ b) ++ runs) ≡ b ++ runs =
     rw (append_assoc, e) (drop-append_seam p (b ++ runs)) in
     rw (front, mid, rest) (ap (λ x. p ++ (runs ++ x)) (written_back left b runs g))
+
+-- what is so of each record, and of those that replace some
+pub all-splice : (P : Run → Type 0) (rs runs : List Run) (from to : ℕ) → All P rs → All P runs
+    → All P (splice rs from to runs)
+all-splice P rs runs from to each others =
+    All-append P (take from rs) (runs ++ drop to rs) (All-take P from rs each)
+    (All-append P runs (drop to rs) others (All-drop P to rs each))
 
 -- a new record is drafted
 pub insert-splice : (rs done : List Run) (from i : ℕ) (r : Run) → from ≤ length rs

@@ -1,11 +1,18 @@
 -- Records of runs, in the order of their addresses.
 use Rattle.std.specs.Prelude.{◌≡◌, ℕ, ◌+◌, ◌^◌, ◌<◌, ◌≤◌, zero, suc, List, [], ◌∷◌, length, slice_index_or}
-use Rattle.std.specs.Prelude.{Option, Some, None, if◌then◌else◌, ◌==◌}
+use Rattle.std.specs.Prelude.{Bool, true, false, Option, Some, None, if◌then◌else◌, ◌==◌}
 use Rattle.std.specs.List.{All}
 use Rattle.sg_table.specs.declared.cursor.Cursor.{Cursor}
 use Rattle.sg_table.specs.declared.run.Kind.{Kind}
 use Rattle.sg_table.specs.declared.run.Kind.TheVariants.{Data, Anchored}
 use Rattle.sg_table.specs.declared.run.Run.{Run}
+
+-- Whether two kinds are the same.
+abbrev pub same_kind : Kind → Kind → Bool
+same_kind Data Data = true
+same_kind Data Anchored = false
+same_kind Anchored Data = false
+same_kind Anchored Anchored = true
 
 -- A record of one address.
 abbrev pub single : (start slot : ℕ) → Kind → Run
@@ -54,10 +61,10 @@ HaveSlots records count = (i : ℕ) (run : Run) →
     i < length records → slice_index_or records i run ≡ run → run.first < count
 
 -- The index of the first record that is not before the address, or the end of the table.
-pub record IsLowerBound (records : List Run) (index lba : ℕ) : Type 0 where
+pub record IsLowerBound (records : List Run) (index address : ℕ) : Type 0 where
   pub within : index ≤ length records
-  pub before : (i : ℕ) → i < index → start_of records i < lba
-  pub after : (i : ℕ) → index ≤ i → i < length records → lba ≤ start_of records i
+  pub before : (i : ℕ) → i < index → start_of records i < address
+  pub after : (i : ℕ) → index ≤ i → i < length records → address ≤ start_of records i
 
 -- The record at the index, or none at the end.
 abbrev pub IsNext : List Run → (index : ℕ) → Option Run → Type 0
@@ -65,14 +72,14 @@ IsNext records index None = length records ≤ index
 IsNext records index (Some run) = (index < length records) × (slice_index_or records index run ≡ run)
 
 -- The record, if it is that of the address.
-abbrev pub run_at : Option Run → (lba : ℕ) → Option Run
-run_at None lba = None
-run_at (Some run) lba = if run.start == lba then Some run else None
+abbrev pub run_at : Option Run → (address : ℕ) → Option Run
+run_at None address = None
+run_at (Some run) address = if run.start == address then Some run else None
 
--- Where the addresses end that are not mapped: at the next record, or with the disk.
-abbrev pub end_of_gap : (next : Option Run) → (capacity : ℕ) → ℕ
-end_of_gap None capacity = capacity
-end_of_gap (Some run) capacity = run.start
+-- Where the addresses end that have no record: at the next record, or at a bound.
+abbrev pub end_of_gap : (next : Option Run) → (bound : ℕ) → ℕ
+end_of_gap None bound = bound
+end_of_gap (Some run) bound = run.start
 
 -- One where a record was visited before its address is reached.
 abbrev pub ahead : Option Run → ℕ

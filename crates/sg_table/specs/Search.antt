@@ -16,10 +16,10 @@ abbrev pub AreRising : List ℕ → Type 0
 AreRising starts = (i j : ℕ) → i < j → j < length starts → address_at starts i < address_at starts j
 
 -- The index of the first one that is not before an address, or the end of the list.
-pub record IsFirstFrom (starts : List ℕ) (index lba : ℕ) : Type 0 where
+pub record IsFirstFrom (starts : List ℕ) (index address : ℕ) : Type 0 where
   pub within : index ≤ length starts
-  pub before : (i : ℕ) → i < index → address_at starts i < lba
-  pub after : (i : ℕ) → index ≤ i → i < length starts → lba ≤ address_at starts i
+  pub before : (i : ℕ) → i < index → address_at starts i < address
+  pub after : (i : ℕ) → index ≤ i → i < length starts → address ≤ address_at starts i
 
 -- How many of `count` addresses a search compares that halves what is left: at most as many as
 -- `count` has binary digits.

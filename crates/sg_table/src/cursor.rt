@@ -1,5 +1,4 @@
-// Going through the table from an index on, one visit for each record. It knows addresses, and neither
-// slots nor blocks.
+// Going through the table from an index on, one visit for each record. It knows addresses, and no slots.
 ghost use Rattle.std.specs.Prelude.{◌≡◌, ◌-◌, ◌<◌, ◌≤◌, length, min};
 ghost use Rattle.sg_table.specs.Records.{IsNext, ahead, end_of_gap};
 ghost use Rattle.sg_table.specs.Table.{visited};
@@ -33,22 +32,27 @@ impl Cursor {
     }
 
     /// The record of an address, if the cursor is at it.
-    pub fn run_at(self, lba: u64) -> Option<Run>
-        ensures { result ≡ run_at self.next lba }
+    pub fn run_at(self, address: u64) -> Option<Run>
+        ensures { result ≡ run_at self.next address }
     {
         let run = self.next?;
-        if run.start == lba { Some(run) } else { None }
+        if run.start == address {
+            Some(run)
+        } else {
+            None
+        }
     }
 
-    /// How many addresses from one before the record on are not mapped, `limit` at most.
-    pub fn count_unmapped(self, lba: u64, capacity: u64, limit: u32) -> u32
-        requires { lba ≤ end_of_gap self.next capacity }
-        ensures { result ≡ min limit (end_of_gap self.next capacity - lba) }
+    /// How many addresses from one on have no record, up to the cursor's or to a bound, and `limit` at
+    /// most.
+    pub fn count_unmapped(self, address: u64, bound: u64, limit: u32) -> u32
+        requires { address ≤ end_of_gap self.next bound }
+        ensures { result ≡ min limit (end_of_gap self.next bound - address) }
     {
         let end = match self.next {
             Some(run) => run.start,
-            None => capacity,
+            None => bound,
         };
-        u64::from(limit).min(end - lba) as u32
+        u64::from(limit).min(end - address) as u32
     }
 }

@@ -7,7 +7,7 @@ use std::marker::Model;
 /// A number without bound, on which no code depends.
 #[derive(Drop)]
 pub(crate) struct GhostNumber {
-    pub ghost value: { ℕ },
+    pub(crate) ghost value: { ℕ },
 }
 
 impl Model for GhostNumber {

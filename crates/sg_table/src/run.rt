@@ -6,7 +6,7 @@ ghost use Rattle.sg_table.specs.Records.{FitCounts, count_if_data, data_in, sing
 /// What the addresses of a run have in their slots.
 #[derive(Clone, Copy, Default, PartialEq)]
 pub enum Kind {
-    /// A block of data each.
+    /// Data.
     #[default]
     Data,
     /// No data: whatever a slot holds is not read.

@@ -146,10 +146,10 @@ impl RunTable {
     }
 
     /// The index of the first record that is not before an address, found by binary search.
-    pub fn lower_bound(&mut self, lba: u64) -> usize
+    pub fn lower_bound(&mut self, address: u64) -> usize
         requires sorted { IsSorted self.old.records }
         requires headroom { self.old.probes + search_bound ≤ u64.MAX }
-        ensures index { IsLowerBound self.old.records result lba }
+        ensures index { IsLowerBound self.old.records result address }
 
         // Only probes are counted, as many as a binary search takes.
         ensures table { self.new ≡ probed self.old (self.new.probes - self.old.probes) }
@@ -157,7 +157,7 @@ impl RunTable {
         ensures probe_count { self.new.probes ≤ self.old.probes + search_bound }
         ensures search { CostsSearch (length self.old.records) (self.new.probes - self.old.probes) }
     {
-        let found = lower_bound(&mut self.leaves, lba);
+        let found = lower_bound(&mut self.leaves, address);
         self.probes += found.probes;
         found.index
     }

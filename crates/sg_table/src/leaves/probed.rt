@@ -24,7 +24,7 @@ impl HasStart for Run {
 
 /// An address by itself, in place of the record that begins there.
 impl HasStart for u64 {
-    ghost start_of = { λ lba. lba };
+    ghost start_of = { λ address. address };
 
     fn start(&self) -> u64 {
         *self

@@ -5,9 +5,10 @@ use Rattle.std.proofs.lemmas.List.Elements.{All-set}
 use Rattle.std.specs.List.{splice}
 use Rattle.sg_table.specs.LeafList.{LeafRow}
 use Rattle.sg_table.specs.Leaves.{FitsLeaf, LeafTable, joined, leaf_at}
-use Rattle.sg_table.specs.Records.{FitCounts, start_of}
+use Rattle.sg_table.specs.Records.{FitCounts, FitsCount, start_of}
 use Rattle.sg_table.specs.declared.run.Run.{Run}
-use Rattle.sg_table.proofs.DataLemmas.{data-edit, data-fits, leaves-fit, short-splice}
+use Rattle.sg_table.proofs.DataLemmas.{data-edit, data-fits, leaves-fit}
+use Rattle.sg_table.proofs.SpliceLemmas.{all-splice}
 use Rattle.sg_table.proofs.LeafSearchLemmas.{firsts-set}
 use Rattle.sg_table.proofs.LeavesLemmas.{directory-behind, directory-set, length-splice, same-table}
 use Rattle.sg_table.proofs.leaves.Leaves.edit.Goals as goal
@@ -119,7 +120,7 @@ invariant_of-self c =
           ∙ firsts-set leaves _ k new _ spliced (c.start.ensures ∙ ap (λ leaf. start_of leaf 0) first),
       omega (arith, capacity, c.self.invariant.6),
       λ lt. absurd (omega arith),
-      rw spliced (All-set FitCounts leaves k new (short-splice (leaf_at leaves k) c.args.runs.now
+      rw spliced (All-set FitCounts leaves k new (all-splice FitsCount (leaf_at leaves k) c.args.runs.now
           c.args.from c.args.to (c.self.invariant.8 k [] within) c.data_count.ensures.short)
           c.self.invariant.8),
       rw spliced (omega (

@@ -16,14 +16,14 @@ search-offset-requires-clause-rising c =
     let r = c.requires in
     let f = c.other_firsts-firsts.ensures in
     rw c.probed-records.ensures.starts (leaf-rising c.args.leaves.now.leaves r.sorted r.balanced f.not_empty
-    c.search-leaf.result c.args.lba (rw f.starts at c.search-leaf.ensures.index))
+    c.search-leaf.result c.args.address (rw f.starts at c.search-leaf.ensures.index))
 
 pub overflow_add-probes : goal.overflow_add-probes
 overflow_add-probes c =
     let r = c.requires in
     let f = c.other_firsts-firsts.ensures in
     let cost = leaf-cost c.args.leaves.now.leaves r.sorted r.balanced f.not_empty c.search-leaf.result
-    c.probes.result c.probes-2.result c.args.lba (rw f.starts at c.search-leaf.ensures.index) f.fits
+    c.probes.result c.probes-2.result c.args.address (rw f.starts at c.search-leaf.ensures.index) f.fits
     (rw (f.starts, sym c.probes.ensures) at c.search-leaf.ensures.halving)
     (rw (c.probed-records.ensures.starts, sym c.probes-2.ensures) at c.search-offset.ensures.halving) in
     omega (arith, probes-le _ _ cost.most_probes r.count)
@@ -34,7 +34,7 @@ overflow_add-result c =
     let f = c.other_firsts-firsts.ensures in
     let ls = c.args.leaves.now.leaves in
     let bound = leaf-bound ls r.sorted r.balanced f.not_empty c.search-leaf.result c.search-offset.result
-    c.args.lba (rw f.starts at c.search-leaf.ensures.index)
+    c.args.address (rw f.starts at c.search-leaf.ensures.index)
     (rw c.probed-records.ensures.starts at c.search-offset.ensures.index) in
     let within = bound.within in
     omega (arith, c.enter-span.ensures.span.start, ap (count_before ls) c.enter-span.ensures.leaf, r.count)
@@ -45,7 +45,7 @@ returns-clause-index c =
     let f = c.other_firsts-firsts.ensures in
     let ls = c.args.leaves.now.leaves in
     rw (c.enter-span.ensures.span.start ∙ ap (count_before ls) c.enter-span.ensures.leaf)
-    (leaf-bound ls r.sorted r.balanced f.not_empty c.search-leaf.result c.search-offset.result c.args.lba
+    (leaf-bound ls r.sorted r.balanced f.not_empty c.search-leaf.result c.search-offset.result c.args.address
     (rw f.starts at c.search-leaf.ensures.index)
     (rw c.probed-records.ensures.starts at c.search-offset.ensures.index))
 
@@ -54,6 +54,6 @@ returns-clause-search c =
     let r = c.requires in
     let f = c.other_firsts-firsts.ensures in
     rw (c.probes.ensures, c.probes-2.ensures)
-    (leaf-cost c.args.leaves.now.leaves r.sorted r.balanced f.not_empty c.search-leaf.result _ _ c.args.lba
+    (leaf-cost c.args.leaves.now.leaves r.sorted r.balanced f.not_empty c.search-leaf.result _ _ c.args.address
     (rw f.starts at c.search-leaf.ensures.index) f.fits (rw f.starts at c.search-leaf.ensures.halving)
     (rw c.probed-records.ensures.starts at c.search-offset.ensures.halving))

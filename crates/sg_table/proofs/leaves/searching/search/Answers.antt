@@ -12,12 +12,12 @@ start-requires-clause-headroom g c =
     )
 
 -- what a step leaves
-pub loop-low-preserved-then-start-lba : goal.loop-low-preserved-then-start-lba
-loop-low-preserved-then-start-lba g c =
+pub loop-low-preserved-then-start-address : goal.loop-low-preserved-then-start-address
+loop-low-preserved-then-start-address g c =
     searched-behind _ _ _ _ c.loop-low.low c.loop-low.high _ c.requires.rising c.loop-low.invariant
-    c.loop-low-test.true c.start.ensures.probed c.start.ensures.value c.if-start-lba.true
+    c.loop-low-test.true c.start.ensures.probed c.start.ensures.value c.if-start-address.true
 
 pub loop-low-preserved : goal.loop-low-preserved
 loop-low-preserved g c =
     searched-before _ _ _ _ c.loop-low.low c.loop-low.high _ c.requires.rising c.loop-low.invariant
-    c.loop-low-test.true c.start.ensures.probed c.start.ensures.value c.if-start-lba.false
+    c.loop-low-test.true c.start.ensures.probed c.start.ensures.value c.if-start-address.false
