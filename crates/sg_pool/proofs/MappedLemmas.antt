@@ -103,7 +103,7 @@ pub status-unmapped : (rs : List Run) (bs : List (List ℕ)) (q : ℕ)
     → status_at (contents_of rs bs) q ≡ Deallocated
 status-unmapped rs bs q none = ap status_in (get-unmapped (mapping_in bs) rs q none)
 
-status-seen : (bs : List (List ℕ)) (slot : ℕ) (kind : Kind)
+pub status-seen : (bs : List (List ℕ)) (slot : ℕ) (kind : Kind)
     → status_in (Some (mapping_in bs slot kind)) ≡ status_of_kind kind
 status-seen bs slot Data = refl
 status-seen bs slot Anchored = refl

@@ -1,10 +1,13 @@
-// What GET LBA STATUS reports of addresses that have a record. It knows neither the addresses nor their
-// slots.
-ghost use Rattle.std.specs.Prelude.{◌≡◌};
-ghost use Rattle.sg_pool.specs.MappedRecords.{status_of_kind};
+// What is seen of addresses that have a record, by its kind: what GET LBA STATUS reports, and what is
+// read. It knows no table and no order.
+ghost use Rattle.std.specs.Prelude.{◌≡◌, ◌<◌, length, Some};
+ghost use Rattle.sg_store.specs.Disk.{data_in};
+ghost use Rattle.sg_pool.specs.MappedRecords.{mapping_in, status_of_kind};
 
+use crate::pool::Pool;
+use sg_store::BLOCK_LENGTH;
 use sg_store::lba_status::ProvisioningStatus;
-use sg_table::Kind;
+use sg_table::{Kind, Run};
 
 /// The provisioning status of addresses whose record has a kind.
 pub fn status_of(kind: Kind) -> ProvisioningStatus
@@ -13,5 +16,17 @@ pub fn status_of(kind: Kind) -> ProvisioningStatus
     match kind {
         Kind::Data => ProvisioningStatus::Mapped,
         Kind::Anchored => ProvisioningStatus::Anchored,
+    }
+}
+
+/// Reads the block of a record's first address: that of its slot, or zeros where it is anchored.
+pub fn read_first(pool: &Pool, run: Run, bytes: &mut [u8])
+    requires slot { run.first < length pool.now.blocks }
+    requires byte_count { length bytes.old ≡ BLOCK_LENGTH }
+    ensures { bytes.new ≡ data_in (Some (mapping_in pool.now.blocks run.first run.kind)) }
+{
+    match run.kind {
+        Kind::Data => bytes.copy_from_slice(pool.bytes(run.first)),
+        Kind::Anchored => bytes.fill(0),
     }
 }

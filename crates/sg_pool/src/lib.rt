@@ -6,6 +6,6 @@ pub mod laws;
 mod pool;
 mod source;
 
-pub use kind::status_of;
+pub use kind::{read_first, status_of};
 pub use pool::Pool;
 pub use source::Source;

@@ -1,6 +1,6 @@
 -- Ranges of a disk, one block at a time.
-use Rattle.std.proofs.Common.{◌≡◌, ◌≢◌, ℕ, ◌+◌, ◌≤◌, zero, suc, List, [], ◌++◌, ◌∷◌, sym, refl, ap}
-use Rattle.std.proofs.Common.{◌∙◌, arith, cond, Bool, true, false, Some, is_some}
+use Rattle.std.proofs.Common.{◌≡◌, ◌≢◌, ℕ, ◌+◌, ◌<◌, ◌≤◌, zero, suc, List, [], ◌++◌, ◌∷◌, sym, refl}
+use Rattle.std.proofs.Common.{ap, ◌∙◌, arith, cond, Bool, true, false, Some, is_some, replicate}
 use Rattle.std.specs.Ordering.{nat_cmp, eq_by_cmp, is_eq}
 use Rattle.std.specs.Cmp.{nat_cmp_total}
 use Rattle.std.specs.FinMap as map
@@ -10,9 +10,28 @@ use Rattle.std.specs.List.{flat_map, range_with_len, count_by}
 use Rattle.std.proofs.lemmas.List.{flat_map_more}
 use Rattle.std.proofs.lemmas.List.FromFn.{map-range_with_len_more}
 use Rattle.sg_store.specs.Disk.{Contents, Mapping, block, blocks, used_among, used_at}
-use Rattle.sg_store.specs.Disk.{remapped, with_mappings, addressed}
-use Rattle.std.proofs.lemmas.List.Sums.{fold-append}
+use Rattle.sg_store.specs.Disk.{remapped, with_mappings, addressed, lies_in, zero_block}
+use Rattle.std.proofs.lemmas.Bool.Decides.{nat_tests}
+use Rattle.std.proofs.lemmas.List.Sums.{fold-append, sum_by-cons}
 use Rattle.std.specs.Cmp.{nat_cmp_is}
+
+-- where an address lies
+pub inside : (a k q : ℕ) → a ≤ q → q < a + k → lies_in a k q ≡ true
+inside a k q ge lt = grind (arith, nat_tests)
+
+pub below : (a k q : ℕ) → q < a → lies_in a k q ≡ false
+below a k q lt = grind (arith, nat_tests)
+
+pub above : (a k q : ℕ) → a + k ≤ q → lies_in a k q ≡ false
+above a k q ge = grind (arith, nat_tests)
+
+pub lies_in-none : (a q : ℕ) → lies_in a 0 q ≡ false
+lies_in-none a q = grind (arith, nat_tests)
+
+-- as many zeros as a block has
+pub zeros : (n : ℕ) (xs : List ℕ) → n ≡ 512 → xs ≡ replicate n 0 → xs ≡ zero_block
+unfolding zero_block
+zeros n xs e is = is ∙ ap (λ k. replicate k 0) e
 
 -- one address more
 pub range-more : (a k : ℕ) → range_with_len a (k + 1) ≡ range_with_len a k ++ (a + k) ∷ []
@@ -34,15 +53,20 @@ pub used_among-none : (m : Contents) (a : ℕ) → used_among m a 0 ≡ 0
 unfolding used_among
 used_among-none m a = refl
 
-pub count-more : (p : ℕ → Bool) (xs : List ℕ) (x : ℕ) → count_by p (xs ++ x ∷ [])
+-- an element more, at the end or before the others
+pub count-last : (p : ℕ → Bool) (xs : List ℕ) (x : ℕ) → count_by p (xs ++ x ∷ [])
     ≡ count_by p xs + cond (p x) 1 0
-count-more p xs x = fold-append (λ n y. n + cond (p y) 1 0) 0 xs (x ∷ [])
+count-last p xs x = fold-append (λ n y. n + cond (p y) 1 0) 0 xs (x ∷ [])
+
+pub count-more : {X : Type 0} (p : X → Bool) (x : X) (xs : List X)
+    → count_by p (x ∷ xs) ≡ cond (p x) 1 0 + count_by p xs
+count-more p x xs = sum_by-cons (λ y. cond (p y) 1 0) x xs
 
 pub used_among-more : (m : Contents) (a k : ℕ) → used_among m a (k + 1) ≡
     used_among m a k + used_at m (a + k)
 unfolding used_among
 used_among-more m a k = ap (count_by (map.contains_key m)) (range-more a k)
-    ∙ count-more (map.contains_key m) (range_with_len a k) (a + k)
+    ∙ count-last (map.contains_key m) (range_with_len a k) (a + k)
 
 one_le : (b : Bool) → cond b 1 0 ≤ 1
 one_le true = omega arith

@@ -5,7 +5,7 @@ use Rattle.std.specs.FinMap as map
 use Rattle.std.specs.List.{range_with_len, count_by}
 use Rattle.std.specs.Prelude.{not}
 use Rattle.sg_store.specs.Disk.{Contents, Mapping, need, remapped, used_among}
-use Rattle.sg_store.proofs.DiskLemmas.{count-more, range-more, used_among-more, used_among-none}
+use Rattle.sg_store.proofs.DiskLemmas.{count-last, range-more, used_among-more, used_among-none}
 use Rattle.sg_store.proofs.DiskLemmas.{len-remapped}
 
 pub need-none : (m : Contents) (a : ℕ) → need m a 0 ≡ 0
@@ -16,7 +16,7 @@ pub need-more : (m : Contents) (a k : ℕ)
     → need m a (k + 1) ≡ need m a k + cond (not (map.contains_key m (a + k))) 1 0
 unfolding need
 need-more m a k = ap (count_by (λ q. not (map.contains_key m q))) (range-more a k)
-    ∙ count-more (λ q. not (map.contains_key m q)) (range_with_len a k) (a + k)
+    ∙ count-last (λ q. not (map.contains_key m q)) (range_with_len a k) (a + k)
 
 one_of : (b : Bool) → cond {A = ℕ} b 1 0 + cond (not b) 1 0 ≡ 1
 one_of true = refl

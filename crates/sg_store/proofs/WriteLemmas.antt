@@ -12,10 +12,7 @@ use Rattle.sg_store.specs.LbaStatus.{status_at, status_in}
 use Rattle.sg_store.specs.Laws.{WritesEachBlock, MapsEachAddress, FillsEachBlock, FillMapsEachAddress}
 use Rattle.sg_store.specs.Laws.{AnchorZeroesEachBlock, AnchorsEachAddress}
 use Rattle.sg_store.proofs.DiskLemmas.{remapped-none, remapped-more, eq_other}
-use Rattle.sg_store.proofs.DiskLemmas.{eq_same}
-
-lies_in-none : (a q : ℕ) → lies_in a 0 q ≡ false
-lies_in-none a q = grind (arith, nat_tests)
+use Rattle.sg_store.proofs.DiskLemmas.{eq_same, lies_in-none}
 
 lies_in-last : (a k q : ℕ) → q ≡ a + k → lies_in a (k + 1) q ≡ true
 lies_in-last a k q e = grind (arith, nat_tests)

@@ -85,10 +85,14 @@ written contents lba count bytes = replaced contents lba count (block_at bytes)
 abbrev pub filled : Contents → (lba count : ℕ) → (block : List ℕ) → Contents
 filled contents lba count block = replaced contents lba count (λ index. block)
 
+-- The disk with the addresses of a range remapped, each as its index says.
+abbrev pub disk_remapped : Disk → (lba count : ℕ) → (mapping : ℕ → Mapping) → Disk
+disk_remapped disk lba count mapping =
+    record disk { contents = remapped disk.contents lba count mapping }
+
 -- The disk with blocks replaced.
 abbrev pub disk_replaced : Disk → (lba count : ℕ) → (block : ℕ → List ℕ) → Disk
-disk_replaced disk lba count block =
-    record disk { contents = replaced disk.contents lba count block }
+disk_replaced disk lba count block = disk_remapped disk lba count (λ index. Data (block index))
 
 abbrev pub disk_written : Disk → (lba count : ℕ) → (bytes : List ℕ) → Disk
 disk_written disk lba count bytes = disk_replaced disk lba count (block_at bytes)
@@ -114,7 +118,7 @@ anchored contents lba count = remapped contents lba count (λ index. Anchored)
 
 -- The disk with a range anchored.
 abbrev pub disk_anchored : Disk → (lba count : ℕ) → Disk
-disk_anchored disk lba count = record disk { contents = anchored disk.contents lba count }
+disk_anchored disk lba count = disk_remapped disk lba count (λ index. Anchored)
 
 -- More addresses are mapped or anchored than the pool has blocks.
 abbrev pub IsOverfull : Disk → Type 0

@@ -5,5 +5,5 @@ pub mod DiskProps
 pub mod Meter
 pub mod LbaStatus
 pub mod Laws
--- What only the models of private types cite.
+-- What the model of a type cites that has a store, as that of the target.
 pub mod ContentsCode
