@@ -1,45 +1,20 @@
 -- The record at an address, from the cursor.
 use Rattle.std.proofs.Common.{◌≡◌, ◌≢◌, ℕ, ◌+◌, ◌<◌, List, length, arith, refl, sym, ap, ◌∙◌}
-use Rattle.sg_store.specs.Disk.{zero_block}
-use Rattle.std.proofs.Common.{replicate, Option, Some, None, cond, Bool, true, false, eq-eqb}
+use Rattle.std.proofs.Common.{Option, Some, None, cond, Bool, true, false, eq-eqb, true≢false}
 use Rattle.std.proofs.lemmas.Bool.Decides.{nat_tests}
-use Rattle.std.specs.Prelude.{slice_index_or, unwrap_or, ◌==◌}
-use Rattle.sg_table.specs.Records.{start_of, IsSorted, IsNext, ahead}
+use Rattle.std.specs.Prelude.{slice_index_or, is_some, ◌==◌}
+use Rattle.sg_table.specs.Records.{start_of, IsSorted, IsNext, ahead, same_kind}
 use Rattle.sg_plain_map.specs.Editing.{IsAt}
 use Rattle.sg_table.specs.Records.{run_at}
-use Rattle.sg_plain_map.specs.Editing.{is_data}
 use Rattle.sg_plain_map.specs.Status.{of_kind}
 use Rattle.sg_table.specs.declared.run.Kind.{Kind}
-use Rattle.sg_table.specs.declared.run.Kind.TheVariants.{Data, Anchored}
 use Rattle.sg_table.specs.declared.run.Run.{Run}
 use Rattle.sg_table.specs.declared.cursor.Cursor.{Cursor}
 use Rattle.sg_table.proofs.RecordLemmas.{start_of-read, none_at, index-unmapped}
-
-picked : (b : Bool) (r run : Run) → cond b (Some r) None ≡ Some run → (b ≡ true) × (r ≡ run)
-picked true r run e = (refl, ap (λ o. unwrap_or o r) e)
-picked false r run e = let wrong = e in cc
-
-dropped : (b : Bool) (r : Run) → cond b (Some r) None ≡ None → b ≡ false
-dropped true r e = let wrong = e in cc
-dropped false r e = refl
+use Rattle.sg_table.proofs.RecordLemmas.{alike, own_kind, picked, dropped}
 
 same_number : (x y : ℕ) → (x == y) ≡ true → x ≡ y
 same_number x y e = grind (arith, nat_tests)
-
-of_data : (r run : Run) (kind : Kind) → r.kind ≡ kind
-    → cond (is_data kind) (Some r) None ≡ Some run → (Some r ≡ Some run) × (run.kind ≡ Data)
-of_data r run Data is e = (e, ap (λ (x : Run). x.kind) (sym (ap (λ o. unwrap_or o r) e)) ∙ is)
-of_data r run Anchored is e = let wrong = e in cc
-
-of_anchored : (r run : Run) (kind : Kind) → r.kind ≡ kind
-    → cond (is_data kind) None (Some r) ≡ Some run → (Some r ≡ Some run) × (run.kind ≡ Anchored)
-of_anchored r run Data is e = let wrong = e in cc
-of_anchored r run Anchored is e =
-    (e, ap (λ (x : Run). x.kind) (sym (ap (λ o. unwrap_or o r) e)) ∙ is)
-
-none_of : (r : Run) (kind : Kind) → r.kind ≡ kind → of_kind kind (Some r) ≡ None → ⊥
-none_of r Data is e = let wrong = rw is at e in cc
-none_of r Anchored is e = let wrong = rw is at e in cc
 
 -- the record that was looked for is at the index
 pub found : (rs : List Run) (next : Option Run) (p lba : ℕ) (run : Run) → IsNext rs p next
@@ -82,14 +57,21 @@ stays-at rs cursor lba sorted at e = record {
 pub of_kind-found : (kind : Kind) (o : Option Run) (run : Run) → of_kind kind o ≡ Some run
     → (o ≡ Some run) × (run.kind ≡ kind)
 of_kind-found kind None run e = let wrong = e in cc
-of_kind-found Data (Some r) run e = of_data r run r.kind refl e
-of_kind-found Anchored (Some r) run e = of_anchored r run r.kind refl e
+of_kind-found kind (Some r) run e =
+    let both = picked (same_kind r.kind kind) r run e in
+    (ap Some both.1, ap (λ (x : Run). x.kind) (sym both.1) ∙ alike r.kind kind both.0)
 
 pub of_kind-missed : (kind : Kind) (o : Option Run) (run : Run) → of_kind kind o ≡ None
     → o ≡ Some run → run.kind ≢ kind
-of_kind-missed kind o run e is same = let wrong = rw is at e in none_of run kind same wrong
+of_kind-missed kind o run e is same =
+    let off = dropped (same_kind run.kind kind) run (ap (of_kind kind) (sym is) ∙ e) in
+    true≢false (sym (ap (λ k. same_kind k kind) same ∙ own_kind kind) ∙ off)
 
--- what a block of zeros has
-pub zeros : (n : ℕ) (xs : List ℕ) → n ≡ 512 → xs ≡ replicate n 0 → xs ≡ zero_block
-unfolding zero_block
-zeros n xs e is = is ∙ ap (λ k. replicate k 0) e
+is_there : (b : Bool) (r : Run) → is_some (cond b (Some r) None) ≡ true → b ≡ true
+is_there true r e = refl
+is_there false r e = e
+
+pub of_kind-some : (kind : Kind) (o : Option Run) → is_some (of_kind kind o) ≡ true
+    → (run : Run) × (o ≡ Some run) × (run.kind ≡ kind)
+of_kind-some kind None e = absurd (true≢false (sym e))
+of_kind-some kind (Some r) e = (r, refl, alike r.kind kind (is_there (same_kind r.kind kind) r e))

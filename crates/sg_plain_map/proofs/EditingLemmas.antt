@@ -1,23 +1,24 @@
 -- One step of an edit.
 use Rattle.std.proofs.Common.{◌≡◌, ◌≢◌, ℕ, ◌+◌, ◌<◌, List, [], ◌∷◌, ◌++◌, length, set, arith, sym}
 use Rattle.std.proofs.Common.{ap, ◌∙◌, Some, None, length-append, length-set, refl, get_or, drop}
-use Rattle.std.proofs.Common.{Option, append_assoc, take, add-one, ◌≤◌}
+use Rattle.std.proofs.Common.{append_assoc, take, add-one, ◌≤◌}
 use Rattle.std.proofs.Math.Seq.{drop-cons, set-append_seam}
 use Rattle.std.specs.FinMap as map
-use Rattle.std.specs.Prelude.{slice_index_or, insert}
+use Rattle.std.specs.Prelude.{slice_index_or, insert, unwrap_or}
 use Rattle.std.specs.List.{splice}
 use Rattle.sg_store.specs.Disk.{Contents}
 use Rattle.sg_store.specs.Disk.{Mapping}
 use Rattle.sg_store.specs.Disk.Mapping.{Data, Anchored}
-use Rattle.std.proofs.lemmas.List.Sums.{sum_by-insert, sum_by-set}
+use Rattle.std.proofs.lemmas.List.Elements.{All-append, All-cons, All-drop, All-get_or, All-set}
+use Rattle.std.proofs.lemmas.List.Elements.{All-take}
 use Rattle.sg_pool.specs.MappedRecords.{contents_of, mapping_in}
 use Rattle.sg_table.specs.Records.{start_of, IsLowerBound, IsNext, with_kind}
 use Rattle.sg_store.specs.Disk.{used_at}
 use Rattle.sg_pool.specs.Slots.{Slots}
 use Rattle.sg_pool.specs.MappedRecords.{IsConsistent}
 use Rattle.sg_table.specs.Draft.{Drafted, pushed}
-use Rattle.sg_plain_map.specs.Editing.{data_at, data_records, edited, one_if_data, IsEditing}
-use Rattle.sg_plain_map.specs.Content.{data_for, filled_slot, kind_for, mapping_for}
+use Rattle.sg_plain_map.specs.Editing.{edited, IsEditing, IsSingle}
+use Rattle.sg_plain_map.specs.Content.{filled_slot, kind_for, mapping_for}
 use Rattle.sg_plain_map.specs.declared.content.Content.{Content}
 use Rattle.sg_plain_map.specs.declared.content.Content.TheVariants.{Blocks, Anchor}
 use Rattle.sg_table.specs.Records.{run_at}
@@ -48,14 +49,6 @@ set-splice rs done from i r h lt =
     sym (rw (next, whole, n) (set-append_seam (p ++ done) (get_or rs i r) t r
     ∙ append_assoc p done (r ∷ t) ∙ ap (λ x. p ++ x) (sym (append_assoc done (r ∷ []) t))))
 
-pub one_if_data-le : (kind : Kind) → one_if_data kind ≤ 1
-one_if_data-le DataKind = omega arith
-one_if_data-le AnchoredKind = omega arith
-
-pub data_at-le : (o : Option Run) → data_at o ≤ 1
-data_at-le None = omega arith
-data_at-le (Some run) = one_if_data-le run.kind
-
 -- ---- What an address is to have
 
 -- the kind of its record
@@ -66,10 +59,6 @@ kind_in Anchored = AnchoredKind
 pub kind-of : (content : Content) (index : ℕ) → kind_for content ≡ kind_in (mapping_for content index)
 kind-of (Blocks source) index = refl
 kind-of Anchor index = refl
-
-pub data_for-le : (content : Content) (count : ℕ) → data_for content count ≤ count
-data_for-le (Blocks source) count = omega arith
-data_for-le Anchor count = omega arith
 
 -- a record more, or one of another kind, with its block
 consistent-filled : (rs : List Run) (bs : List (List ℕ)) (free : List ℕ) (room s : ℕ) (x : Mapping)
@@ -96,15 +85,9 @@ filled-changed rs bs free room i r (Data b) consistent h e =
 filled-changed rs bs free room i r Anchored consistent h e =
     contents-anchored rs bs free room i r consistent h e
 
--- what is data already does not change
-same-kind : (run : Run) (kind : Kind) → kind ≡ DataKind → one_if_data run.kind ≡ 1
-    → with_kind kind run ≡ run
-same-kind run kind data_kind e =
-    ap (λ k. with_kind k run) data_kind
-    ∙ (elim run.kind as (λ k. one_if_data k ≡ 1 → with_kind DataKind run ≡ with_kind k run) [
-      | DataKind ↦ λ is. refl
-      | AnchoredKind ↦ λ is. absurd (omega arith)
-    ]) e
+-- what has the kind already does not change
+same-kind : (run : Run) (kind : Kind) → run.kind ≡ kind → with_kind kind run ≡ run
+same-kind run kind is = ap (λ k. with_kind k run) (sym is)
 
 abbrev edited_contents : List Run → Slots → Drafted → Cursor → Contents
 edited_contents rs slots draft cursor = contents_of (edited rs draft cursor) slots.blocks
@@ -115,9 +98,7 @@ pub record IsPut (rs : List Run) (room : ℕ) (slots slots' : Slots) (draft draf
   pub contents : edited_contents rs slots' draft' cursor'
       ≡ map.insert (edited_contents rs slots draft cursor) lba x
   pub editing : IsEditing rs room slots' draft' cursor' (lba + 1)
-  pub data_count : data_records (edited rs draft' cursor') + data_at (run_at cursor.next lba)
-      ≡ data_records (edited rs draft cursor) + one_if_data kind
-  pub same : kind ≡ DataKind → data_at (run_at cursor.next lba) ≡ 1
+  pub same : (run : Run) → run_at cursor.next lba ≡ Some run → run.kind ≡ kind
       → edited rs draft' cursor' ≡ edited rs draft cursor
 
 module _ {rs : List Run} {room : ℕ} {slots : Slots} {draft : Drafted} {cursor : Cursor} {lba : ℕ}
@@ -148,13 +129,11 @@ module _ {rs : List Run} {room : ℕ} {slots : Slots} {draft : Drafted} {cursor 
     pub unmapped-there : used_at (contents slots draft cursor) lba ≡ 0
     unmapped-there = none_used (mapping_in slots.blocks) now lba not-there
 
-    unmapped-data : data_at (run_at cursor.next lba) ≡ 0
-    unmapped-data = ap data_at none
-
     module _ (slots' : Slots) (draft' : Drafted) (run : Run) (x : Mapping)
         (taken : slots.free ≡ run.first ∷ slots'.free)
         (put : slots'.blocks ≡ filled_slot slots.blocks run.first x) (start : run.start ≡ lba)
-        (kind : run.kind ≡ kind_in x) (drafted : draft' ≡ pushed draft run) where
+        (kind : run.kind ≡ kind_in x) (one : run.count ≡ 1)
+        (drafted : draft' ≡ pushed draft run) where
       consistent : IsConsistent now slots.blocks (run.first ∷ slots'.free) room
       consistent = rw taken at h.consistent
 
@@ -173,6 +152,9 @@ module _ {rs : List Run} {room : ℕ} {slots : Slots} {draft : Drafted} {cursor 
 
       added-editing : IsEditing rs room slots' draft' cursor (lba + 1)
       added-editing = rw (drafted, sym start) (record {
+        single = rw inserted (All-append IsSingle (take at now) (run ∷ drop at now)
+            (All-take IsSingle at now h.single)
+            (All-cons IsSingle run (drop at now) one (All-drop IsSingle at now h.single)));
         consistent = rw (put, inserted)
             (consistent-filled (insert now at run) slots.blocks slots'.free room run.first x
             (consistent-inserted now slots.blocks slots'.free room at run consistent index other));
@@ -181,15 +163,11 @@ module _ {rs : List Run} {room : ℕ} {slots : Slots} {draft : Drafted} {cursor 
         index = rw (inserted, on run) (index-insert now at run index other);
       })
 
-      added-data : data_records (edited rs draft' cursor) ≡ data_records now + one_if_data run.kind
-      added-data = rw (drafted, inserted) (sum_by-insert (λ (r : Run). one_if_data r.kind) now at run)
-
       pub added : IsPut rs room slots slots' draft draft' cursor cursor lba x run.kind
       added = record {
         contents = added-contents;
         editing = added-editing;
-        data_count = omega (arith, added-data, unmapped-data);
-        same = λ is e. absurd (omega (arith, unmapped-data, e));
+        same = λ other is _. let wrong = sym none ∙ is in cc;
       }
 
   -- the address is mapped
@@ -224,6 +202,10 @@ module _ {rs : List Run} {room : ℕ} {slots : Slots} {draft : Drafted} {cursor 
       consistent' = consistent-kind now slots.blocks slots.free room at run kind h.consistent
           there.0 (sym there.1)
 
+      single-there : run.count ≡ 1
+      single-there = ap (λ (r : Run). r.count) (sym there.1)
+          ∙ All-get_or IsSingle now at run there.0 h.single
+
       starts : draft'.from ≡ draft.from
       starts = ap (λ (d : Drafted). d.from) drafted
 
@@ -246,6 +228,7 @@ module _ {rs : List Run} {room : ℕ} {slots : Slots} {draft : Drafted} {cursor 
       over-editing : IsNext rs cursor'.index cursor'.next
           → IsEditing rs room slots' draft' cursor' (lba + 1)
       over-editing next = record {
+        single = rw changed (All-set IsSingle now at new single-there h.single);
         consistent = rw (changed, put, free)
             (consistent-filled (set now at new) slots.blocks slots.free room run.first x consistent');
         within = (omega (arith, starts, moved, h.within), omega (arith, moved, here.0));
@@ -253,25 +236,19 @@ module _ {rs : List Run} {room : ℕ} {slots : Slots} {draft : Drafted} {cursor 
         index = rw (changed, drafted, on new) index';
       }
 
-      -- an address that has data keeps its record
-      over-same : kind ≡ DataKind → data_at (run_at cursor.next lba) ≡ 1 → edited rs draft' cursor' ≡ now
-      over-same data_kind e =
-          let kept = same-kind run kind data_kind (rw is at e) in
+      -- an address that has the kind keeps its record
+      over-same : (other : Run) → run_at cursor.next lba ≡ Some other → other.kind ≡ kind
+          → edited rs draft' cursor' ≡ now
+      over-same other found_there is_kind =
+          let same : other ≡ run = ap (λ o. unwrap_or o run) (sym found_there ∙ is) in
+          let kept = same-kind run kind (ap (λ (r : Run). r.kind) (sym same) ∙ is_kind) in
           rw (drafted, moved, kept)
           (same-splice rs draft.records draft.from cursor.index run here.0 (sym here.1))
-
-      over-data : data_records (edited rs draft' cursor') + data_at (run_at cursor.next lba)
-          ≡ data_records now + one_if_data kind
-      over-data =
-          let sum = sum_by-set (λ (r : Run). one_if_data r.kind) now at new run there.0 in
-          rw (changed, is) (ap (λ (r : Run). data_records (set now at new) + one_if_data r.kind)
-          (sym there.1) ∙ sum)
 
       pub over : IsNext rs cursor'.index cursor'.next
           → IsPut rs room slots slots' draft draft' cursor cursor' lba x kind
       over next = record {
         contents = over-contents;
         editing = over-editing next;
-        data_count = over-data;
         same = over-same;
       }

@@ -5,8 +5,6 @@ use Rattle.std.proofs.Common.{true, false, Some, None, inl, inr}
 use Rattle.std.proofs.lemmas.Bool.{cases_lt}
 use Rattle.std.proofs.lemmas.Bool.Decides.{nat_tests}
 use Rattle.std.proofs.lemmas.List.Edits.{length-insert}
-use Rattle.std.proofs.lemmas.List.Sums.{sum_by-insert}
-use Rattle.sg_plain_map.specs.Editing.{data_records, one_if_data}
 use Rattle.std.specs.List.{splice}
 use Rattle.std.specs.Prelude.{take, drop, insert, not}
 use Rattle.std.specs.Ordering.{nat_cmp}
@@ -95,9 +93,6 @@ module _ (rs : List Run) (from i : ℕ) (r : Run) (le : from ≤ i) (lt : i < le
 
   within : from ≤ length less
   within = omega (arith, length-append (take from rs) ([] ++ drop (i + 1) rs), front_of rs from (omega arith))
-
-  pub less-data : data_records (splice rs from i []) ≡ data_records less + one_if_data r.kind
-  less-data = ap data_records one_less ∙ sum_by-insert (λ (x : Run). one_if_data x.kind) less from r
 
   module _ (bs : List (List ℕ)) (free : List ℕ) (room : ℕ)
       (h : IsConsistent (splice rs from i []) bs free room) where

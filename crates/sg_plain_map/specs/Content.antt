@@ -17,14 +17,10 @@ mapping_for Anchor index = Anchored
 abbrev pub HasMappings : Content → (count : ℕ) → Type 0
 HasMappings content count = (index : ℕ) → index < count → HasBlockLength (mapping_for content index)
 
--- The kind of the records, and how many of `count` addresses have data then.
+-- The kind of the records.
 abbrev pub kind_for : Content → Kind
 kind_for (Blocks source) = DataKind
 kind_for Anchor = AnchoredKind
-
-abbrev pub data_for : Content → (count : ℕ) → ℕ
-data_for (Blocks source) count = count
-data_for Anchor count = 0
 
 -- The blocks of the slots, with that of an address in its slot. An anchored address has none.
 abbrev pub filled_slot : (blocks : List (List ℕ)) → (slot : ℕ) → Mapping → List (List ℕ)

@@ -1,6 +1,5 @@
 -- What a `PlainMap` keeps, as its callers see it: a disk and a meter.
-use Rattle.std.specs.Prelude.{ℕ}
-use Rattle.sg_store.specs.Disk.{Disk, Mapping, remapped}
+use Rattle.sg_store.specs.Disk.{Disk}
 use Rattle.sg_store.specs.Meter.{Meter}
 use Rattle.sg_plain_map.specs.Editing.{stored}
 use Rattle.sg_plain_map.specs.declared.plain_map.PlainMap.{PlainMap}
@@ -12,11 +11,6 @@ disk_of map = record {
   pool = map.table.room;
   contents = stored map.table map.pool;
 }
-
--- The disk with a range remapped.
-abbrev pub disk_remapped : Disk → (lba count : ℕ) → (mapping : ℕ → Mapping) → Disk
-disk_remapped disk lba count mapping =
-    record disk { contents = remapped disk.contents lba count mapping }
 
 -- What its calls cost so far. It follows no links.
 abbrev pub meter_of : PlainMap → Meter

@@ -1,12 +1,10 @@
 -- The records of addresses in a row, and the gaps between them.
 use Rattle.std.specs.Prelude.{◌≡◌, ℕ, ◌+◌, ◌<◌, ◌≤◌, List, length, slice_index_or}
 use Rattle.std.specs.Prelude.{Option, Some, None, if◌then◌else◌}
-use Rattle.sg_table.specs.Records.{start_of, IsSorted}
+use Rattle.sg_table.specs.Records.{start_of, IsSorted, same_kind}
 use Rattle.sg_table.specs.declared.run.Kind.{Kind}
-use Rattle.sg_table.specs.declared.run.Kind.TheVariants.{Data, Anchored}
 use Rattle.sg_table.specs.declared.run.Run.{Run}
 use Rattle.sg_store.specs.declared.store.TheConstants.{MAX_CAPACITY, MAX_POOL}
-use Rattle.sg_plain_map.specs.Editing.{is_data}
 
 -- A sorted table of a disk, of which no record lies past the end. Both are no larger than allowed.
 pub record IsTableOf (capacity : ℕ) (records : List Run) : Type 0 where
@@ -18,8 +16,7 @@ pub record IsTableOf (capacity : ℕ) (records : List Run) : Type 0 where
 -- The record, if it has a kind.
 abbrev pub of_kind : Kind → Option Run → Option Run
 of_kind kind None = None
-of_kind Data (Some run) = if is_data run.kind then Some run else None
-of_kind Anchored (Some run) = if is_data run.kind then None else Some run
+of_kind kind (Some run) = if same_kind run.kind kind then Some run else None
 
 -- The records from one index to another are those of the addresses from one on, without a gap, and
 -- each has the kind.

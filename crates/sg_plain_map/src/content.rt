@@ -1,8 +1,7 @@
 // What the addresses of a range are to have. It knows no address and no record.
-ghost use Rattle.std.specs.Prelude.{◌≡◌, ◌<◌, length, true};
+ghost use Rattle.std.specs.Prelude.{◌≡◌, ◌<◌, length};
 ghost use Rattle.sg_store.specs.Disk.{HasBlockLength};
-ghost use Rattle.sg_plain_map.specs.Content.{data_for, filled_slot, kind_for, mapping_for};
-ghost use Rattle.sg_table.specs.declared.run.Kind.TheVariants.{Data};
+ghost use Rattle.sg_plain_map.specs.Content.{filled_slot, kind_for, mapping_for};
 
 use sg_pool::{Pool, Source};
 use sg_table::Kind;
@@ -24,26 +23,6 @@ impl Content<'_> {
         match self {
             Content::Blocks(_) => Kind::Data,
             Content::Anchor => Kind::Anchored,
-        }
-    }
-
-    /// How many of `count` addresses have data then.
-    pub(crate) fn data(&self, count: u32) -> u32
-        ensures { result ≡ data_for self.now count }
-    {
-        match self {
-            Content::Blocks(_) => count,
-            Content::Anchor => 0,
-        }
-    }
-
-    /// Whether the records stay as they are, where `had_data` of `count` addresses had data.
-    pub(crate) fn keeps_records(&self, had_data: u32, count: u32) -> bool
-        ensures { result ≡ true → (had_data ≡ count) × (kind_for self.now ≡ Data) }
-    {
-        match self {
-            Content::Blocks(_) => had_data == count,
-            Content::Anchor => false,
         }
     }
 

@@ -2,6 +2,7 @@
 #![tactic(auto)]
 
 mod content;
+mod kind;
 mod need;
 mod plain_map;
 mod read;

@@ -1,12 +1,12 @@
 // The store itself: a record for each mapped or anchored address, in a table, and its block in a slot
 // of a pool. What its calls do to the records is in the other files.
 ghost use Rattle.std.specs.Prelude.{◌≡◌, ◌+◌, ◌≤◌, ◌↔◌, IsErr, OnOk, OnErr};
-ghost use Rattle.sg_store.specs.Disk.{IsWellFormed, IsOverfull};
+ghost use Rattle.sg_store.specs.Disk.{IsWellFormed, IsOverfull, disk_remapped};
 ghost use Rattle.sg_store.specs.DiskProps.{IsWellFormed-IsProp};
 ghost use Rattle.sg_store.specs.Meter.{HasHeadroom, ChargedOnOk};
 ghost use Rattle.sg_plain_map.specs.PlainCost.{plain_price, plain_price-within, plain_least};
 ghost use Rattle.sg_plain_map.specs.PlainCost.{plain_least-positive, plain_price-joined};
-ghost use Rattle.sg_plain_map.specs.Editing.{data_records, stored};
+ghost use Rattle.sg_plain_map.specs.Editing.{AreSingle, stored};
 ghost use Rattle.sg_pool.specs.MappedRecords.{IsConsistent};
 ghost use Rattle.sg_store.specs.declared.store.TheConstants.{MAX_CAPACITY, MAX_POOL};
 
@@ -34,19 +34,17 @@ pub struct PlainMap {
     table: RunTable,
     pool: Pool,
     draft: Draft,
-    /// How many records have data.
-    mapped: u32,
     ghost capacity_fits: { capacity ≤ MAX_CAPACITY },
     ghost pool_fits: { table.room ≤ MAX_POOL },
     ghost draft_fits: { draft.room ≡ table.room },
     ghost well_formed: { IsWellFormed capacity (stored table pool) } by { IsWellFormed-IsProp _ _ },
+    ghost single: { AreSingle table.records },
     ghost consistent: { IsConsistent table.records pool.blocks pool.free table.room },
-    ghost counted: { mapped ≡ data_records table.records },
 }
 
 impl PlainMap {
     ghost use Rattle.sg_plain_map.specs.Content.{HasMappings, mapping_for};
-    ghost use Rattle.sg_plain_map.specs.State.{disk_of, disk_remapped, meter_of};
+    ghost use Rattle.sg_plain_map.specs.State.{disk_of, meter_of};
 
     // Gives the addresses from one on what they are to have.
     //
@@ -78,7 +76,7 @@ impl PlainMap {
         if count as usize > self.pool.free_count() + used {
             return Err(Space);
         }
-        let had_data = put_range(
+        put_range(
             &mut self.table,
             &mut self.pool,
             &mut self.draft,
@@ -87,7 +85,6 @@ impl PlainMap {
             count,
             content,
         );
-        self.mapped = self.mapped + content.data(count) - had_data;
         Ok(())
     }
 }
@@ -109,7 +106,6 @@ impl Store for PlainMap {
             table: RunTable::new(alloc, pool)?,
             pool: Pool::new(alloc, pool)?,
             draft: Draft::new(alloc, pool)?,
-            mapped: 0,
         })
     }
 
@@ -130,8 +126,7 @@ impl Store for PlainMap {
         disks_stay_well_formed();
         let from = self.table.lower_bound(lba);
         let to = self.table.lower_bound(lba + u64::from(count));
-        let had_data = unmap_records(&mut self.table, &mut self.pool, from, to, lba, count);
-        self.mapped -= had_data;
+        unmap_records(&mut self.table, &mut self.pool, from, to, lba, count);
     }
 
     fn anchor(&mut self, lba: u64, count: u32) -> Result<(), Space> {
@@ -157,7 +152,7 @@ impl Store for PlainMap {
     }
 
     fn mapped(&self) -> u32 {
-        self.mapped
+        self.table.data_count() as u32
     }
 
     fn used(&self) -> u32 {

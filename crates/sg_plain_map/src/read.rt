@@ -1,27 +1,14 @@
 // Reading a range: the records are passed in the order of addresses, and where one is missing or
 // anchored the block is zeros.
-ghost use Rattle.std.specs.Prelude.{◌≡◌, ◌+◌, ◌-◌, ◌*◌, ◌<◌, length, Some};
-ghost use Rattle.sg_store.specs.Disk.{block, blocks, data_in, used_at};
-ghost use Rattle.sg_pool.specs.MappedRecords.{mapping_in};
+ghost use Rattle.std.specs.Prelude.{◌≡◌, ◌+◌, ◌-◌, ◌*◌, ◌<◌, length};
+ghost use Rattle.sg_store.specs.Disk.{block, blocks, used_at};
 ghost use Rattle.sg_table.specs.Table.{visited};
 ghost use Rattle.sg_plain_map.specs.Editing.{IsAt, IsReadable, IsReady, VisitsRange, stored};
 ghost use Rattle.sg_table.specs.Records.{passed};
 
-use sg_pool::Pool;
+use sg_pool::{Pool, read_first};
 use sg_store::BLOCK_LENGTH;
-use sg_table::{Cursor, Kind, Run, RunTable};
-
-// Reads the block of a record: that of its slot, or zeros where it is anchored.
-fn read_record(pool: &Pool, run: Run, bytes: &mut [u8])
-    requires slot { run.first < length pool.now.blocks }
-    requires byte_count { length bytes.old ≡ BLOCK_LENGTH }
-    ensures { bytes.new ≡ data_in (Some (mapping_in pool.now.blocks run.first run.kind)) }
-{
-    match run.kind {
-        Kind::Data => bytes.copy_from_slice(pool.bytes(run.first)),
-        Kind::Anchored => bytes.fill(0),
-    }
-}
+use sg_table::{Cursor, RunTable};
 
 // Reads the block at the cursor's address, and goes on to the next address. Each record that the
 // cursor passes was visited, and the one where it is.
@@ -53,7 +40,7 @@ fn read_block(
         bytes.fill(0);
         return cursor;
     };
-    read_record(pool, run, bytes);
+    read_first(pool, run, bytes);
     Cursor::new(table, cursor.index + 1)
 }
 

@@ -11,20 +11,13 @@ ghost use Rattle.sg_table.specs.Records.{passed};
 ghost use Rattle.sg_table.specs.Records.{run_at};
 ghost use Rattle.sg_plain_map.specs.Status.{AreInRow, IsTableOf, of_kind};
 
+use crate::kind::run_of_kind;
 use sg_pool::status_of;
 use sg_store::lba_status::{MAX_ADDRESSES, MAX_DESCRIPTORS, ProvisioningStatus, StatusDescriptor};
 use sg_store::{MAX_CAPACITY, MAX_COUNT, MAX_POOL};
-use sg_table::{Cursor, Kind, Run, RunTable};
+use sg_table::{Cursor, Kind, RunTable};
 use sg_wire::Cut;
 use sg_wire::laws::parts_are_put_in_turn;
-
-// The record of an address, if the cursor is at it and it has a kind.
-fn run_of_kind(cursor: Cursor, lba: u64, kind: Kind) -> Option<Run>
-    ensures { result ≡ of_kind kind (run_at cursor.next lba) }
-{
-    let run = cursor.run_at(lba)?;
-    if run.kind == kind { Some(run) } else { None }
-}
 
 // Goes past the records of one kind with addresses in a row, of which the cursor's address is the
 // first.

@@ -5,12 +5,10 @@ ghost use Rattle.sg_table.specs.Leaves.{move_bound};
 ghost use Rattle.sg_table.specs.Records.{IsLowerBound};
 ghost use Rattle.sg_plain_map.specs.Editing.{ChangesRecords, IsReady, VisitsRange, stored};
 
-use crate::write::data_count;
 use sg_pool::Pool;
 use sg_table::RunTable;
 
 /// Frees the slots of a range and removes its records, which are those from one index to another.
-/// Returns how many had data.
 pub(crate) fn unmap_records(
     table: &mut RunTable,
     pool: &mut Pool,
@@ -18,22 +16,19 @@ pub(crate) fn unmap_records(
     to: usize,
     lba: u64,
     count: u32,
-) -> u32
+)
     requires ready { IsReady table.old pool.old from lba count }
     requires end { IsLowerBound table.old.records to (lba + count) }
 
     // The addresses are unmapped, and the table changes by its records, their moves and its visits
     // alone.
     ensures contents { stored table.new pool.new ≡ unmapped (stored table.old pool.old) lba count }
-    ensures changes { ChangesRecords move_bound result 0 table.old table.new pool.new }
+    ensures changes { ChangesRecords move_bound table.old table.new pool.new }
     ensures visits { VisitsRange (stored table.old pool.old) lba count table.old table.new }
 {
-    let mut had_data = 0;
     for index in from..to {
         let run = table.visit(index);
         pool.give(run.first);
-        had_data += data_count(run.kind);
     }
     table.splice(from, to, &[]);
-    had_data
 }

@@ -1,39 +1,28 @@
 // Writing or anchoring a range: the records that it is to have are drafted, and put into the table at
 // once. That there are slots enough is for the store to know.
-ghost use Rattle.std.specs.Prelude.{◌≡◌, ◌+◌, ◌<◌, ◌≤◌, length};
+ghost use Rattle.std.specs.Prelude.{◌≡◌, ◌+◌, ◌<◌, ◌≤◌, is_some, length};
 ghost use Rattle.std.specs.FinMap.{insert};
 ghost use Rattle.sg_store.specs.Disk.{HasBlockLength, remapped, used_among};
 ghost use Rattle.sg_table.specs.Leaves.{move_bound};
 ghost use Rattle.sg_store.specs.Disk.{used_at};
-ghost use Rattle.sg_plain_map.specs.Content.{HasMappings, data_for, kind_for, mapping_for};
+ghost use Rattle.sg_plain_map.specs.Content.{HasMappings, kind_for, mapping_for};
 ghost use Rattle.sg_table.specs.Table.{visited};
 ghost use Rattle.sg_plain_map.specs.Editing.{Drafts, HasRoom, IsEditing, IsReady, VisitsRange, stored};
 ghost use Rattle.sg_plain_map.specs.Editing.{ChangesRecords};
 ghost use Rattle.sg_table.specs.Records.{passed, run_at};
-ghost use Rattle.sg_plain_map.specs.Editing.{data_at, edited_contents, one_if_data};
+ghost use Rattle.sg_plain_map.specs.Editing.{edited_contents};
+ghost use Rattle.sg_plain_map.specs.Status.{of_kind};
 
 use crate::content::Content;
+use crate::kind::run_of_kind;
 use sg_pool::Pool;
 use sg_table::{Cursor, Draft, Kind, Run, RunTable};
 
-// One where an address has data.
-fn data_at(cursor: Cursor, lba: u64) -> u32
-    ensures { result ≡ data_at (run_at cursor.next lba) }
+// Whether an address has a record that stays as it is, since it has the kind that it is to have.
+fn keeps_record(cursor: Cursor, lba: u64, kind: Kind) -> bool
+    ensures { result ≡ is_some (of_kind kind (run_at cursor.next lba)) }
 {
-    match cursor.run_at(lba) {
-        Some(run) => data_count(run.kind),
-        None => 0,
-    }
-}
-
-/// One for a record of data.
-pub(crate) fn data_count(kind: Kind) -> u32
-    ensures { result ≡ one_if_data kind }
-{
-    match kind {
-        Kind::Data => 1,
-        Kind::Anchored => 0,
-    }
+    run_of_kind(cursor, lba, kind).is_some()
 }
 
 // Drafts the record of the cursor's address, puts its block, and goes on to the next address. An
@@ -79,8 +68,8 @@ fn put_address(
     Cursor::new(table, cursor.index + 1)
 }
 
-/// Gives the addresses from one on what they are to have, and returns how many had data. Their
-/// records begin at an index. There have to be free slots for the addresses without one.
+/// Gives the addresses from one on what they are to have. Their records begin at an index. There have
+/// to be free slots for the addresses without one.
 pub(crate) fn put_range(
     table: &mut RunTable,
     pool: &mut Pool,
@@ -89,7 +78,7 @@ pub(crate) fn put_range(
     lba: u64,
     count: u32,
     content: &Content,
-) -> u32
+)
     requires ready { IsReady table.old pool.old from lba count }
     requires whole { HasMappings content.now count }
     requires free { count ≤ length pool.old.free
@@ -100,22 +89,21 @@ pub(crate) fn put_range(
     // alone.
     ensures contents { stored table.new pool.new
         ≡ remapped (stored table.old pool.old) lba count (mapping_for content.now) }
-    ensures changes { ChangesRecords (move_bound + count) result (data_for content.now count)
-        table.old table.new pool.new }
+    ensures changes { ChangesRecords (move_bound + count) table.old table.new pool.new }
     ensures room { draft.new.room ≡ draft.old.room }
     ensures visits { VisitsRange (stored table.old pool.old) lba count table.old table.new }
 {
     draft.begin(from);
     let mut cursor = Cursor::new(table, from);
-    let mut had_data = 0;
+    let kind = content.kind();
+    let mut same = true;
     for i in 0..count {
         let address = lba + u64::from(i);
-        had_data += data_at(cursor, address);
+        same &= keeps_record(cursor, address, kind);
         cursor = put_address(table, pool, draft, cursor, address, content, i as usize);
     }
     // Otherwise the drafted records are those of the table.
-    if !content.keeps_records(had_data, count) {
+    if !same {
         table.splice(draft.from(), cursor.index, draft.records());
     }
-    had_data
 }

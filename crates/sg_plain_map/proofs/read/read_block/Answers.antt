@@ -1,10 +1,11 @@
 use Rattle.std.proofs.Common.{◌+◌, ap, sym, ◌∙◌, arith}
 use Rattle.sg_store.specs.Disk.{block}
+use Rattle.sg_store.proofs.DiskLemmas.{zeros}
 use Rattle.sg_pool.specs.MappedRecords.{contents_of, mapping_in}
 use Rattle.sg_table.specs.Records.{ahead}
 use Rattle.sg_table.specs.Table.{visited}
 use Rattle.sg_table.proofs.TableLemmas.{visited-more}
-use Rattle.sg_plain_map.proofs.CursorLemmas.{zeros, found, ahead-found, none-found, stays-at}
+use Rattle.sg_plain_map.proofs.CursorLemmas.{found, ahead-found, none-found, stays-at}
 use Rattle.sg_pool.proofs.MappedLemmas.{block-mapped, block-unmapped, one_used, none_used}
 use Rattle.sg_table.proofs.RecordLemmas.{index-mapped}
 use Rattle.sg_plain_map.proofs.read.read_block.Goals as goal
@@ -41,7 +42,7 @@ returns-clause-bytes c =
     let blocks = c.args.pool.now.blocks in
     let at = found rs c.args.cursor.next c.args.cursor.index c.args.lba c.in-Some.run'
     c.requires.cursor.next (sym c.run_at.ensures ∙ c.in-Some.is) in
-    c.read_record.ensures
+    c.read_first.ensures
     ∙ sym (block-mapped rs blocks c.args.cursor.index c.in-Some.run' c.requires.readable.sorted at.0
     (sym at.1)) ∙ ap (block (contents_of rs blocks)) at.2
 

@@ -1,4 +1,5 @@
 use Rattle.std.proofs.Common.{◌≡◌, ◌+◌, ◌-◌, ℕ, [], get_or, ap, ap₂, sym, ◌∙◌, arith}
+use Rattle.std.proofs.lemmas.List.Elements.{All-nil}
 use Rattle.std.specs.List.{splice}
 use Rattle.std.specs.Prelude.{slice_index_or}
 use Rattle.sg_pool.specs.MappedRecords.{contents_of, mapping_in}
@@ -7,9 +8,10 @@ use Rattle.sg_table.specs.Table.{Table, visited}
 use Rattle.sg_table.specs.declared.run.Run.{Run}
 use Rattle.sg_table.proofs.TableLemmas.{visited-more}
 use Rattle.sg_plain_map.proofs.RangeLemmas.{used_among-indices}
-use Rattle.sg_plain_map.proofs.RemovalLemmas.{less-data, unmapped-slot, unmapped-consistent}
+use Rattle.sg_table.proofs.SpliceLemmas.{all-splice}
+use Rattle.sg_plain_map.specs.Editing.{IsSingle}
+use Rattle.sg_plain_map.proofs.RemovalLemmas.{unmapped-slot, unmapped-consistent}
 use Rattle.sg_plain_map.proofs.RemovalLemmas.{contents-unmapped}
-use Rattle.sg_plain_map.proofs.EditingLemmas.{one_if_data-le}
 use Rattle.sg_plain_map.proofs.unmap.unmap_records.Goals as goal
 
 -- the record that was visited is that of the table before the loop
@@ -44,18 +46,12 @@ loop-index-preserved c =
     record {
       table = c.visit-run.ensures.table ∙ ap (λ t. visited t 1) inv.table
           ∙ visited-more t (index - c.args.from) 1 ∙ ap (visited t) on;
+      single = all-splice IsSingle t.records [] c.args.from (index + 1) c.requires.ready.single
+          (All-nil IsSingle);
       consistent = rw (given, c.give.ensures.free)
           (unmapped-consistent t.records c.args.from index run (omega arith)
           (omega (arith, c.requires.end.within)) at c.loop-index.pool.blocks
           c.loop-index.pool.free t.room inv.consistent);
-      had = omega (arith, inv.had, c.data_count-had_data.ensures, one_if_data-le run.kind);
-      data_count = omega (
-        arith,
-        inv.data_count,
-        c.data_count-had_data.ensures,
-        less-data t.records c.args.from index run (omega arith)
-            (omega (arith, c.requires.end.within)) at,
-      );
       blocks = given ∙ inv.blocks;
     }
 

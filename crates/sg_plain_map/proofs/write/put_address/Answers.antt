@@ -42,7 +42,7 @@ added-here c =
     (ap (λ (s : Slots). s.blocks) c.fill.ensures) in
     added c.requires.editing (sym c.run_at.ensures ∙ c.in_default.is) c.fill.new.pool
     c.push.new.self run (mapping_for c.args.content.now c.args.index) taken put refl
-    (kind-of c.args.content.now c.args.index) pushed
+    (kind-of c.args.content.now c.args.index) refl pushed
 
 pub returns-in_default-clause-contents : goal.returns-in_default-clause-contents
 returns-in_default-clause-contents c = (added-here c).contents
@@ -63,7 +63,6 @@ returns-in_default-clause-drafts c = record {
       ∙ length_push c.args.draft.now.records c.single.result;
   room = ap (λ (d : Drafted). d.room) c.push.ensures;
   same = (added-here c).same;
-  data_count = (added-here c).data_count;
 }
 
 -- the address is mapped
@@ -100,7 +99,6 @@ returns-clause-drafts c = record {
       ∙ length_push c.args.draft.now.records (with_kind c.kind-2.result c.in-Some.run');
   room = ap (λ (d : Drafted). d.room) c.push-2.ensures;
   same = (over-here c).same;
-  data_count = (over-here c).data_count;
 }
 
 pub returns-clause-cost : goal.returns-clause-cost

@@ -1,31 +1,18 @@
-use Rattle.std.proofs.Common.{◌≡◌, ◌+◌, ◌-◌, ap, ap₂, sym, ◌∙◌, arith, refl, [], ℕ}
+use Rattle.std.proofs.Common.{◌≡◌, ◌+◌, ◌-◌, ap, ap₂, sym, ◌∙◌, arith, refl, []}
+use Rattle.std.proofs.lemmas.Bool.{and_parts}
 use Rattle.std.proofs.lemmas.List.{take-append-drop}
 use Rattle.std.specs.List.{splice}
 use Rattle.sg_store.specs.Disk.{used_among}
 use Rattle.sg_pool.specs.MappedRecords.{contents_of}
 use Rattle.sg_store.specs.Disk.{used_at}
-use Rattle.sg_plain_map.specs.Content.{data_for, kind_for, mapping_for}
-use Rattle.sg_plain_map.specs.Editing.{one_if_data}
-use Rattle.sg_plain_map.specs.declared.content.Content.{Content}
-use Rattle.sg_plain_map.specs.declared.content.Content.TheVariants.{Blocks, Anchor}
-use Rattle.sg_table.specs.Records.{run_at}
-use Rattle.sg_plain_map.proofs.EditingLemmas.{data_at-le}
-use Rattle.sg_table.specs.Records.{ahead}
+use Rattle.sg_plain_map.specs.Content.{mapping_for}
+use Rattle.sg_plain_map.proofs.CursorLemmas.{of_kind-some}
+use Rattle.sg_table.specs.Records.{ahead, run_at}
 use Rattle.sg_table.specs.Table.{visited}
 use Rattle.sg_store.proofs.DiskLemmas.{remapped-none, remapped-more, used_among-none}
 use Rattle.sg_store.proofs.DiskLemmas.{used_among-more, used_among-rest, used_at-past}
 use Rattle.sg_table.proofs.TableLemmas.{visited-more, visited-less}
 use Rattle.sg_plain_map.proofs.write.put_range.Goals as goal
-
--- a further address that is to have what the content says
-more-data : (content : Content) (i : ℕ)
-    → data_for content (i + 1) ≡ data_for content i + one_if_data (kind_for content)
-more-data (Blocks source) i = refl
-more-data Anchor i = refl
-
-no-data : (content : Content) → data_for content 0 ≡ 0
-no-data (Blocks source) = refl
-no-data Anchor = refl
 
 pub loop-i-init : goal.loop-i-init
 loop-i-init c =
@@ -39,6 +26,7 @@ loop-i-init c =
     let first : c.args.lba + 0 ≡ c.args.lba = omega arith in
     record {
       editing = rw c.begin.ensures (record {
+        single = rw (e.index, whole) c.requires.ready.single;
         consistent = rw (e.index, whole) c.requires.ready.consistent;
         within = (omega (arith, e.index), omega (arith, e.index, c.requires.ready.index.within));
         next = rw e.index e.next;
@@ -48,9 +36,7 @@ loop-i-init c =
           (sym (remapped-none contents c.args.lba (mapping_for c.args.content.now)));
       draft = rw c.begin.ensures (refl, refl, c.requires.room.1);
       index = omega (arith, e.index, none);
-      same = λ _ _. rw (c.begin.ensures, e.index, whole) refl;
-      had = omega arith;
-      data_count = rw (c.begin.ensures, e.index, whole) (omega (arith, no-data c.args.content.now));
+      same = λ _. rw (c.begin.ensures, e.index, whole) refl;
       free = omega (arith, none);
       table = e.table ∙ ap (visited t) (omega (arith, none));
     }
@@ -95,7 +81,6 @@ loop-i-preserved c =
     let drafts = rw (inv.table, same) at e.drafts in
     let index = drafts.index in
     let address = c.args.lba + c.from.result in
-    let at = c.data_at-had_data.ensures in
     let before = used_among contents c.args.lba i + ahead c.loop-i.cursor.next in
     let passed = c.loop-i.cursor.index + ahead c.loop-i.cursor.next in
     let after = c.put_address-cursor.result.index + ahead c.put_address-cursor.result.next in
@@ -113,17 +98,11 @@ loop-i-preserved c =
         drafts.room ∙ inv.draft.2,
       );
       index = omega (arith, index, inv.index, more);
-      same = λ kind all.
-          drafts.same kind (omega (arith, inv.had, at, data_at-le (run_at c.loop-i.cursor.next address), all))
-          ∙ inv.same kind (omega (arith, inv.had, at, data_at-le (run_at c.loop-i.cursor.next address), all));
-      had = omega (arith, inv.had, at, data_at-le (run_at c.loop-i.cursor.next address));
-      data_count = omega (
-        arith,
-        drafts.data_count,
-        inv.data_count,
-        at,
-        more-data c.args.content.now i,
-      );
+      same = λ all.
+          let each = and_parts c.loop-i.same c.keeps_record-same.result all in
+          let run = of_kind-some c.kind-kind.result (run_at c.loop-i.cursor.next address)
+          (sym c.keeps_record-same.ensures ∙ each.1) in
+          drafts.same run.0 run.1 (run.2 ∙ c.kind-kind.ensures) ∙ inv.same each.0;
       free = omega (arith, drafts.free, index, inv.free, more);
       table = visited-less c.put_address-cursor.new.table t passed (before + after) _ paid
           (omega (arith, index, more));

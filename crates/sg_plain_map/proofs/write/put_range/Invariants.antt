@@ -1,11 +1,10 @@
-use Rattle.std.proofs.Common.{◌≡◌, ◌+◌, ◌≤◌, length}
+use Rattle.std.proofs.Common.{◌≡◌, ◌+◌, length, true}
 use Rattle.sg_store.specs.Disk.{remapped, used_among}
 use Rattle.sg_pool.specs.MappedRecords.{contents_of}
 use Rattle.sg_table.specs.Records.{ahead}
 use Rattle.sg_table.specs.Table.{visited}
-use Rattle.sg_plain_map.specs.Editing.{IsEditing, data_records, edited, edited_contents}
-use Rattle.sg_plain_map.specs.Content.{data_for, kind_for, mapping_for}
-use Rattle.sg_table.specs.declared.run.Kind.TheVariants.{Data}
+use Rattle.sg_plain_map.specs.Editing.{IsEditing, edited, edited_contents}
+use Rattle.sg_plain_map.specs.Content.{mapping_for}
 use Rattle.sg_plain_map.proofs.write.put_range.Given as goal
 
 -- the blocks so far are replaced, and the cursor is at the next address
@@ -18,10 +17,7 @@ invariant-loop-i l =
       contents : edited_contents t l.pool l.draft l.cursor ≡ remapped was l.lba l.i (mapping_for l.content);
       draft : (l.draft.from ≡ l.from) × (length l.draft.records ≡ l.i) × (l.draft.room ≡ t.room);
       index : l.cursor.index ≡ l.from + used_among was l.lba l.i;
-      same : kind_for l.content ≡ Data → l.had_data ≡ l.i → edited t.records l.draft l.cursor ≡ t.records;
-      had : l.had_data ≤ l.i;
-      data_count : data_records (edited t.records l.draft l.cursor) + l.had_data
-          ≡ data_records t.records + data_for l.content l.i;
+      same : l.same ≡ true → edited t.records l.draft l.cursor ≡ t.records;
       free : length l.pool.free + l.i ≡ length l.fn.pool.free + used_among was l.lba l.i;
       table : l.table ≡ visited t (used_among was l.lba l.i + ahead l.cursor.next);
     }

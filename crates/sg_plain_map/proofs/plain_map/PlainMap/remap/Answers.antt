@@ -5,8 +5,6 @@ use Rattle.sg_pool.specs.MappedRecords.{contents_of}
 use Rattle.sg_plain_map.specs.Content.{mapping_for}
 use Rattle.sg_table.specs.Table.{Table, probed}
 use Rattle.sg_plain_map.proofs.RangeLemmas.{len-after, used_between}
-use Rattle.sg_plain_map.proofs.CountLemmas.{data_records-le}
-use Rattle.sg_plain_map.proofs.EditingLemmas.{data_for-le}
 use Rattle.sg_plain_map.proofs.plain_map.PlainMap.remap.Goals as goal
 
 pub returns-then-count-free_count-clause-space : goal.returns-then-count-free_count-clause-space
@@ -18,8 +16,8 @@ returns-then-count-free_count-clause-space c =
     (mapping_for c.args.content.now) s.consistent c.lower_bound-from.ensures.index to in
     (λ _. omega (arith, c.if-count-free_count.true, c.free_count.ensures), λ _. cc)
 
-pub put_range-had_data-requires-clause-free : goal.put_range-had_data-requires-clause-free
-put_range-had_data-requires-clause-free c =
+pub put_range-requires-clause-free : goal.put_range-requires-clause-free
+put_range-requires-clause-free c =
     let s = c.args.self.now in
     let to = rw (c.lower_bound-from.ensures.table, c.from.ensures) at c.lower_bound-to.ensures.index in
     let e = used_between s.table.records s.pool.blocks c.lower_bound-from.result
@@ -49,26 +47,6 @@ invariant_of-self-2-clause-well_formed c =
     (c.lower_bound-to.new.self.probes - c.lower_bound-from.new.self.probes))
     c.lower_bound-from.ensures.table) in
     let before = subst (IsWellFormed map.capacity) (sym same) map.well_formed in
-    subst (IsWellFormed map.capacity) (sym c.put_range-had_data.ensures.contents)
+    subst (IsWellFormed map.capacity) (sym c.put_range.ensures.contents)
     (c.disks_stay_well_formed.ensures.mapping map.capacity _ c.args.lba c.args.count
     (mapping_for c.args.content.now) before c.requires.range c.requires.whole)
-
--- there are no more records than the pool has slots
-pub overflow_add-self : goal.overflow_add-self
-overflow_add-self c =
-    let s = c.args.self.now in
-    let to = rw (c.lower_bound-from.ensures.table, c.from.ensures) at c.lower_bound-to.ensures.index in
-    record {
-      fits = omega (
-        arith,
-        s.counted,
-        data_records-le s.table.records,
-        s.consistent.count,
-        s.pool_fits,
-        c.data.ensures,
-        data_for-le c.args.content.now c.args.count,
-        c.if-count-free_count.false,
-        c.free_count.ensures,
-        to.within,
-      );
-    }

@@ -17,5 +17,5 @@ invariant_of-self-clause-well_formed c =
     (c.lower_bound-to.new.self.probes - c.lower_bound-from.new.self.probes))
     c.lower_bound-from.ensures.table) in
     let before = subst (IsWellFormed map.capacity) (sym same) map.well_formed in
-    subst (IsWellFormed map.capacity) (sym c.unmap_records-had_data.ensures.contents)
+    subst (IsWellFormed map.capacity) (sym c.unmap_records.ensures.contents)
     (c.disks_stay_well_formed.ensures.unmapping map.capacity _ c.args.lba c.args.count before)

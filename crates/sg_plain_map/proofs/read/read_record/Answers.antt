@@ -1,7 +1,0 @@
-use Rattle.sg_plain_map.proofs.CursorLemmas.{zeros}
-use Rattle.sg_plain_map.proofs.read.read_record.Goals as goal
-
--- whatever the slot holds, zeros are read
-pub returns-in-Anchored : goal.returns-in-Anchored
-returns-in-Anchored c =
-    rw c.in-Anchored.is (zeros _ _ c.requires.byte_count (c.fill.ensures.after (λ y e. e)))
