@@ -8,7 +8,7 @@ use Rattle.std.specs.FinMap.{find, get, get-from_entries, contains_key}
 use Rattle.std.specs.Ordering.{nat_cmp, eq_by_cmp}
 use Rattle.std.specs.Prelude.{slice_index, is_some}
 use Rattle.sg_store.specs.Disk.{Mapping}
-use Rattle.sg_table.specs.Records.{start_of}
+use Rattle.sg_table.specs.Records.{start_of, same_kind}
 use Rattle.sg_pool.specs.MappedRecords.{Seen, entries_by, contents_by}
 use Rattle.sg_table.specs.declared.run.Kind.{Kind}
 use Rattle.sg_table.specs.declared.run.Kind.TheVariants.{Data, Anchored}
@@ -16,7 +16,6 @@ use Rattle.sg_table.specs.declared.run.Run.{Run}
 use Rattle.sg_block_map.specs.Gathering.{end_at}
 use Rattle.sg_block_map.specs.Runs.{end_of, singles, singles_of, expanded, behind, AreApart}
 use Rattle.sg_block_map.specs.Runs.{Bound, AreMaximalIn}
-use Rattle.sg_block_map.specs.MaximalRuns.{same_kind}
 use Rattle.sg_store.proofs.DiskLemmas.{eq_same, eq_other}
 use Rattle.sg_block_map.proofs.BetweenLemmas.{between-singles, apart-le}
 use Rattle.sg_block_map.proofs.ContentsLemmas.{find-below, find-above, find-right}

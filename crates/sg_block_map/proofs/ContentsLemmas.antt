@@ -3,7 +3,6 @@ use Rattle.std.proofs.Common.{◌≡◌, ℕ, ◌+◌, ◌<◌, ◌≤◌, zero,
 use Rattle.std.proofs.Common.{sym, ap, ap₂, ◌∙◌, inl, inr, Option, Some, None, cond, Bool, true}
 use Rattle.std.proofs.Common.{false}
 use Rattle.std.proofs.lemmas.Bool.{cases_lt}
-use Rattle.std.proofs.lemmas.Bool.Decides.{nat_tests}
 use Rattle.std.specs.Cmp.{nat_cmp_total}
 use Rattle.std.specs.FinMap as map
 use Rattle.std.specs.FinMap.{find, get-from_entries, get-retain_keys, same_map}
@@ -15,7 +14,7 @@ use Rattle.sg_pool.specs.MappedRecords.{Seen, entries_by, contents_by}
 use Rattle.sg_table.specs.declared.run.Run.{Run}
 use Rattle.sg_block_map.specs.Runs.{AreBetween}
 use Rattle.sg_store.proofs.DiskLemmas.{blocks-none, blocks-more, used_among-none}
-use Rattle.sg_store.proofs.DiskLemmas.{used_among-more}
+use Rattle.sg_store.proofs.DiskLemmas.{used_among-more, inside, below, above, lies_in-none}
 use Rattle.sg_pool.proofs.MappedLemmas.{find-unmapped}
 use Rattle.sg_block_map.proofs.BetweenLemmas.{between-low, between-high}
 
@@ -106,15 +105,6 @@ get-unmapped m lba count q =
     (λ x tied. ap (λ k. not (lies_in lba count k)) (sym (nat_cmp-IsAntisymmetric q x tied)))
     ∙ turned (lies_in lba count q) (map.get m q)
 
-pub inside : (a k q : ℕ) → a ≤ q → q < a + k → lies_in a k q ≡ true
-inside a k q h l = grind (arith, nat_tests)
-
-pub below : (a k q : ℕ) → q < a → lies_in a k q ≡ false
-below a k q h = grind (arith, nat_tests)
-
-pub above : (a k q : ℕ) → a + k ≤ q → lies_in a k q ≡ false
-above a k q h = grind (arith, nat_tests)
-
 find-without : (xs ys zs : List Run) (f : Seen) (a lba count b q : ℕ)
     → AreBetween a lba xs → AreBetween lba (lba + count) ys → AreBetween (lba + count) b zs
     → find nat_cmp q (entries_by f (xs ++ zs)) ≡
@@ -147,9 +137,6 @@ contents-without xs ys zs f a lba count b h k l =
     (get-from_entries nat_cmp_total (entries_by f (xs ++ (ys ++ zs))) q))
     ∙ sym (get-unmapped (contents_by f (xs ++ (ys ++ zs))) lba count q))
 
-outside : (a x : ℕ) → lies_in a 0 x ≡ false
-outside a x = grind (arith, nat_tests)
-
 pub unmapped-none : (m : Contents) (lba : ℕ) → unmapped m lba 0 ≡ m
 unmapped-none m lba = same_map nat_cmp_total nat_cmp-IsAntisymmetric _ _
-    (λ q. get-unmapped m lba 0 q ∙ ap (λ b. cond b None (map.get m q)) (outside lba q))
+    (λ q. get-unmapped m lba 0 q ∙ ap (λ b. cond b None (map.get m q)) (lies_in-none lba q))

@@ -13,7 +13,8 @@ use Rattle.sg_table.proofs.DataLemmas.{data-within}
 use Rattle.sg_pool.specs.MappedRecords.{contents_of, entries_by, mapping_in}
 use Rattle.sg_block_map.specs.Runs.{AreMaximal, blocks_of, expanded, singles, singles_of}
 use Rattle.sg_block_map.proofs.ExpandedLemmas.{expanded-more, expanded-none}
-use Rattle.sg_block_map.proofs.GatheringLemmas.{count-append, count-more}
+use Rattle.sg_store.proofs.DiskLemmas.{count-more}
+use Rattle.sg_block_map.proofs.GatheringLemmas.{count-append}
 use Rattle.sg_pool.proofs.EntryLemmas.{entries-append, entries-sorted}
 use Rattle.sg_block_map.proofs.MaximalLemmas.{maximal-expanded}
 

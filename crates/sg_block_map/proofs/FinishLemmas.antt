@@ -6,7 +6,7 @@ use Rattle.std.proofs.lemmas.List.{append-nil}
 use Rattle.std.specs.FinMap as map
 use Rattle.std.specs.Prelude.{unwrap_or, option_to_list, IfSome}
 use Rattle.sg_store.specs.Disk.{Contents, Mapping, used_among, remapped}
-use Rattle.sg_table.specs.Records.{run_at}
+use Rattle.sg_table.specs.Records.{run_at, same_kind}
 use Rattle.sg_pool.specs.MappedRecords.{mapping_in, contents_of}
 use Rattle.sg_store.specs.Disk.{used_at}
 use Rattle.sg_pool.specs.Slots.{Slots}
@@ -18,7 +18,6 @@ use Rattle.sg_store.specs.declared.store.TheConstants.{MAX_CAPACITY}
 use Rattle.sg_block_map.specs.Gathering.{AreNear}
 use Rattle.sg_block_map.specs.Joining.{begun, begun_by, joined, linked, no_run, IsWriting}
 use Rattle.sg_block_map.specs.Joining.{IsFinished, IsFinishedBy}
-use Rattle.sg_block_map.specs.MaximalRuns.{same_kind}
 use Rattle.sg_block_map.specs.Runs.{end_of, singles_of, expanded, AreChained, AreMaximal, AreRuns}
 use Rattle.sg_block_map.specs.Runs.{Bound, any_from, behind, begins, AreMaximalIn}
 use Rattle.sg_block_map.specs.Runs.{chained_contents, blocks_of}
@@ -33,7 +32,8 @@ use Rattle.sg_block_map.proofs.BetweenLemmas.{apart-left, apart-right, apart-le,
 use Rattle.sg_block_map.proofs.OrderLemmas.{apart-loose, apart-maximal, behind-low, behind-high}
 use Rattle.sg_block_map.proofs.OrderLemmas.{behind-at-most, behind_all, begins-low, front-kept}
 use Rattle.sg_block_map.proofs.OrderLemmas.{maximal-before, maximal-from, maximal-right, maximal-to}
-use Rattle.sg_block_map.proofs.OrderLemmas.{alike, narrow-any, same_kind-swap, written-maximal}
+use Rattle.sg_table.proofs.RecordLemmas.{alike}
+use Rattle.sg_block_map.proofs.OrderLemmas.{narrow-any, same_kind-swap, written-maximal}
 use Rattle.sg_block_map.proofs.RunSlotLemmas.{below-sub, length-expanded}
 use Rattle.sg_block_map.proofs.ExpandedLemmas.{expanded-append, expanded-more, singles-none}
 use Rattle.sg_block_map.proofs.ExpandedLemmas.{length-singles, chained-append, chained-left}

@@ -1,12 +1,11 @@
 -- Gathering the runs near a range.
 use Rattle.std.proofs.Common.{◌≡◌, ℕ, ◌+◌, ◌-◌, ◌<◌, ◌≤◌, zero, suc, List, [], ◌∷◌, ◌++◌, length}
-use Rattle.std.proofs.Common.{length-drop, take, drop, get_or, arith, refl, sym, ap, ap₂, ◌∙◌, inl}
-use Rattle.std.proofs.Common.{inr, length-append, cond, Bool, true, false, zero-add}
+use Rattle.std.proofs.Common.{length-drop, take, drop, get_or, arith, refl, sym, ap, ◌∙◌, inl}
+use Rattle.std.proofs.Common.{inr, cond, Bool, true, false}
 use Rattle.std.proofs.lemmas.Bool.{cases_lt}
 use Rattle.std.proofs.lemmas.Bool.Decides.{nat_tests}
 use Rattle.std.proofs.lemmas.List.{take-append-drop}
-use Rattle.std.proofs.lemmas.List.Elements.{filter-append}
-use Rattle.std.proofs.lemmas.List.Sums.{length-filter}
+use Rattle.std.proofs.lemmas.List.Sums.{sum_by-append}
 use Rattle.std.specs.List.{count_by, splice}
 use Rattle.std.specs.Prelude.{nat_lt, nat_le, ◌&&◌}
 use Rattle.sg_table.specs.Draft.{Drafted}
@@ -15,6 +14,7 @@ use Rattle.sg_table.specs.Search.{CostsSearch}
 use Rattle.sg_table.specs.Table.{Table, visited, probed}
 use Rattle.sg_table.specs.declared.run.Kind.{Kind}
 use Rattle.sg_table.specs.declared.run.Run.{Run}
+use Rattle.sg_store.proofs.DiskLemmas.{count-more}
 use Rattle.sg_table.proofs.TableLemmas.{visited-more}
 use Rattle.sg_block_map.specs.Gathering.{end_at, AreNear, starts_in, end_index, AreGathered}
 use Rattle.sg_block_map.specs.Gathering.{AreBegun, AreGatheredOn}
@@ -26,12 +26,7 @@ use Rattle.sg_block_map.proofs.OrderLemmas.{behind-low, behind-high}
 
 pub count-append : {X : Type 0} (p : X → Bool) (xs ys : List X)
     → count_by p (xs ++ ys) ≡ count_by p xs + count_by p ys
-count-append p xs ys = sym (length-filter p (xs ++ ys)) ∙ ap length (filter-append p xs ys)
-    ∙ length-append _ _ ∙ ap₂ (λ x y. x + y) (length-filter p xs) (length-filter p ys)
-
-pub count-more : {X : Type 0} (p : X → Bool) (x : X) (xs : List X)
-    → count_by p (x ∷ xs) ≡ cond (p x) 1 0 + count_by p xs
-count-more p x xs = count-append p (x ∷ []) xs ∙ ap (λ n. n + count_by p xs) (zero-add _)
+count-append p xs ys = sum_by-append (λ x. cond (p x) 1 0) xs ys
 
 one_if : (b : Bool) → b ≡ true → cond {A = ℕ} b 1 0 ≡ 1
 one_if true e = refl

@@ -13,16 +13,17 @@ use Rattle.sg_table.specs.declared.run.Kind.{Kind}
 use Rattle.sg_table.specs.declared.run.Kind.TheVariants.{Data as DataRun, Anchored as AnchoredRun}
 use Rattle.sg_table.specs.declared.run.Run.{Run}
 use Rattle.sg_block_map.specs.Gathering.{starts_in, AreNear, AreGathered, end_index}
-use Rattle.sg_block_map.specs.MaximalRuns.{Extent, kind_of, same_kind, with_address, runs_of, runs}
+use Rattle.sg_block_map.specs.MaximalRuns.{Extent, kind_of, with_address, runs_of, runs}
 use Rattle.sg_block_map.specs.MaximalRuns.{meets, meet, blocks_near}
 use Rattle.sg_block_map.specs.Runs.{end_of, singles, singles_of, expanded, AreApart, AreMaximal}
 use Rattle.sg_block_map.specs.Runs.{Bound, any_from, behind, AreMaximalIn, extent_of, blocks_of}
 use Rattle.sg_pool.proofs.EntryLemmas.{entries-append, entries-sorted}
-use Rattle.sg_table.specs.Records.{IsSorted}
+use Rattle.sg_table.specs.Records.{IsSorted, same_kind}
 use Rattle.sg_block_map.proofs.BetweenLemmas.{between-expanded, apart-le, sorted-between}
 use Rattle.sg_block_map.proofs.OrderLemmas.{apart-loose}
 use Rattle.sg_block_map.proofs.ExpandedLemmas.{expanded-more, expanded-none}
-use Rattle.sg_block_map.proofs.GatheringLemmas.{count-more, count-append}
+use Rattle.sg_store.proofs.DiskLemmas.{count-more}
+use Rattle.sg_block_map.proofs.GatheringLemmas.{count-append}
 
 -- what is seen of blocks shows the kinds
 blocks-show : (bs : List (List ℕ)) (slot : ℕ) (kind : Kind) → kind_of (mapping_in bs slot kind) ≡ kind

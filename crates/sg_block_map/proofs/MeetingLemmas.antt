@@ -13,7 +13,7 @@ use Rattle.sg_block_map.specs.Gathering.{end_at}
 use Rattle.sg_block_map.specs.MaximalRuns.{meets, meet}
 use Rattle.sg_block_map.specs.Runs.{AreRuns, chained_contents, extent_of}
 use Rattle.sg_block_map.specs.Status.{IsRunTable, AreMet, AreFrom, records_met}
-use Rattle.sg_block_map.proofs.GatheringLemmas.{count-more}
+use Rattle.sg_store.proofs.DiskLemmas.{count-more}
 use Rattle.sg_block_map.proofs.MaximalLemmas.{ends_before, begins_past, none-meet, runs-extents}
 
 -- how many runs a range meets

@@ -2,11 +2,10 @@
 use Rattle.std.proofs.Common.{◌≡◌, ℕ, ◌+◌, ◌<◌, ◌≤◌, List, [], ◌∷◌, ◌++◌, cond}
 use Rattle.std.proofs.Common.{Bool, true, false, refl, arith, Option, Some, None}
 use Rattle.std.specs.Prelude.{option_to_list, IfSome}
-use Rattle.sg_table.specs.Records.{IsSorted}
+use Rattle.sg_table.specs.Records.{IsSorted, same_kind}
 use Rattle.sg_table.specs.declared.run.Kind.{Kind}
 use Rattle.sg_table.specs.declared.run.Kind.TheVariants.{Data, Anchored}
 use Rattle.sg_table.specs.declared.run.Run.{Run}
-use Rattle.sg_block_map.specs.MaximalRuns.{same_kind}
 use Rattle.sg_block_map.specs.Runs.{end_of, Bound, any_from, behind, begins, AreMaximalIn, AreMaximal}
 use Rattle.sg_block_map.specs.Runs.{AreApart}
 use Rattle.sg_block_map.proofs.BetweenLemmas.{apart-sorted}
@@ -85,12 +84,6 @@ behind-at-most a b same le kind = rw same (less (same_kind kind b.kind) (end_of 
     less false m n le = le
 
 -- kinds that are the same
-pub alike : (j k : Kind) → same_kind j k ≡ true → j ≡ k
-alike Data Data e = refl
-alike Data Anchored e = let wrong = e in cc
-alike Anchored Data e = let wrong = e in cc
-alike Anchored Anchored e = refl
-
 pub same_kind-swap : (j k : Kind) → same_kind j k ≡ same_kind k j
 same_kind-swap Data Data = refl
 same_kind-swap Data Anchored = refl

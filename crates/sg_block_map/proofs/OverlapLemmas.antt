@@ -3,7 +3,6 @@ use Rattle.std.proofs.Common.{◌≡◌, ℕ, ◌+◌, ◌-◌, ◌<◌, ◌≤�
 use Rattle.std.proofs.Common.{drop, arith, refl, sym, ap, ap₂, ◌∙◌, inl, inr, cond, Bool, true}
 use Rattle.std.proofs.Common.{false, Some, Option}
 use Rattle.std.proofs.lemmas.Bool.{cases_lt}
-use Rattle.std.proofs.lemmas.Bool.Decides.{nat_tests}
 use Rattle.std.proofs.lemmas.List.Sums.{sum_by-cons}
 use Rattle.std.specs.Cmp.{nat_cmp_total}
 use Rattle.std.specs.FinMap as map
@@ -22,22 +21,19 @@ use Rattle.sg_block_map.specs.Gathering.{overlap, AreGathered, end_index}
 use Rattle.sg_block_map.specs.Runs.{singles, singles_of, expanded, AreApart, AreBetween}
 use Rattle.sg_block_map.specs.Runs.{chained_contents}
 use Rattle.sg_store.proofs.DiskLemmas.{used_among-none, used_among-more, eq_other}
-use Rattle.sg_store.proofs.DiskLemmas.{eq_same}
+use Rattle.sg_store.proofs.DiskLemmas.{eq_same, inside, below, above, lies_in-none, count-more}
 use Rattle.sg_pool.proofs.MappedLemmas.{none_used}
 use Rattle.sg_block_map.proofs.BetweenLemmas.{between-expanded, between-low}
 use Rattle.sg_block_map.proofs.OrderLemmas.{apart-loose}
-use Rattle.sg_block_map.proofs.ContentsLemmas.{inside, below, above, blocks-same, used_among-same}
+use Rattle.sg_block_map.proofs.ContentsLemmas.{blocks-same, used_among-same}
 use Rattle.sg_block_map.proofs.ContentsLemmas.{get-middle}
 use Rattle.sg_block_map.proofs.ExpandedLemmas.{expanded-more, expanded-none, expanded-append}
-use Rattle.sg_block_map.proofs.GatheringLemmas.{count-append, count-more}
+use Rattle.sg_block_map.proofs.GatheringLemmas.{count-append}
 
 either_some : (b : Bool) (v : Mapping) (o : Option Mapping)
     → cond {A = ℕ} (is_some (cond b (Some v) o)) 1 0 ≡ cond b 1 (cond (is_some o) 1 0)
 either_some true v o = refl
 either_some false v o = refl
-
-outside : (a x : ℕ) → lies_in a 0 x ≡ false
-outside a x = grind (arith, nat_tests)
 
 empty_at : (f : Seen) (q : ℕ) → used_at (contents_by f []) q ≡ 0
 empty_at f q = none_used f [] q (λ j lt. absurd (omega arith))
@@ -60,7 +56,7 @@ at_insert m x q v = ap (λ o. cond (is_some o) 1 0) (map.get-insert nat_cmp_tota
 among_insert : (m : Contents) (x : ℕ) (v : Mapping) (a k : ℕ) → used_at m x ≡ 0
     → used_among (map.insert m x v) a k ≡ used_among m a k + cond (lies_in a k x) 1 0
 among_insert m x v a zero none = used_among-none (map.insert m x v) a
-    ∙ sym (ap₂ (λ n c. n + cond c 1 0) (used_among-none m a) (outside a x))
+    ∙ sym (ap₂ (λ n c. n + cond c 1 0) (used_among-none m a) (lies_in-none a x))
 among_insert m x v a (suc k) none =
     let e : suc k ≡ k + 1 = omega arith in
     let rest = among_insert m x v a k none in

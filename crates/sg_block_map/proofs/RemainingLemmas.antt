@@ -10,8 +10,9 @@ use Rattle.sg_store.specs.Disk.{lies_in, unmapped}
 use Rattle.sg_pool.specs.MappedRecords.{Seen, entries_by, contents_by}
 use Rattle.sg_table.specs.declared.run.Run.{Run}
 use Rattle.sg_block_map.specs.Runs.{expanded, AreApart, AreBetween}
+use Rattle.sg_store.proofs.DiskLemmas.{inside, below, above}
 use Rattle.sg_block_map.proofs.BetweenLemmas.{between-expanded}
-use Rattle.sg_block_map.proofs.ContentsLemmas.{get-unmapped, inside, below, above, find-below}
+use Rattle.sg_block_map.proofs.ContentsLemmas.{get-unmapped, find-below}
 use Rattle.sg_block_map.proofs.ContentsLemmas.{find-above, find-right}
 use Rattle.sg_block_map.proofs.ExpandedLemmas.{expanded-append}
 

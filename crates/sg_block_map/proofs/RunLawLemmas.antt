@@ -10,13 +10,15 @@ use Rattle.std.specs.Ordering.{nat_cmp, eq_by_cmp}
 use Rattle.std.specs.Cmp.{unsigned_tied}
 use Rattle.std.specs.FinMap.{find, get-entries, entries, entries_sorted}
 use Rattle.sg_store.specs.Disk.{Contents, Mapping, lies_in}
+use Rattle.sg_table.specs.Records.{same_kind}
 use Rattle.sg_table.specs.declared.run.Kind.{Kind}
 use Rattle.sg_table.specs.declared.run.Kind.TheVariants.{Data as DataRun, Anchored as AnchoredRun}
-use Rattle.sg_block_map.specs.MaximalRuns.{Extent, kind_of, same_kind, with_address, runs_of, runs}
+use Rattle.sg_block_map.specs.MaximalRuns.{Extent, kind_of, with_address, runs_of, runs}
 use Rattle.sg_block_map.specs.RunLaws.{is_kind, has_kind, HasExactlyTheMaximalRuns, RunsRise}
 use Rattle.sg_block_map.specs.RunCostLaws.{AreRising, either_way, rising}
 use Rattle.sg_block_map.specs.Runs.{Bound, any_from}
-use Rattle.sg_block_map.proofs.OrderLemmas.{alike}
+use Rattle.sg_store.proofs.DiskLemmas.{inside, below, above}
+use Rattle.sg_table.proofs.RecordLemmas.{alike, own_kind}
 
 -- ---- The runs rise, and none could be joined to the next
 
@@ -150,15 +152,6 @@ and_both : (b c : Bool) → b ≡ true → c ≡ true → (b && c) ≡ true
 and_both true c e f = f
 and_both false c e f = let wrong = e in cc
 
-inside : (s n a : ℕ) → s ≤ a → a < s + n → lies_in s n a ≡ true
-inside s n a ge lt = grind (arith, nat_tests)
-
-before : (s n a : ℕ) → a < s → lies_in s n a ≡ false
-before s n a lt = grind (arith, nat_tests)
-
-behind : (s n a : ℕ) → s + n ≤ a → lies_in s n a ≡ false
-behind s n a ge = grind (arith, nat_tests)
-
 -- an address before the runs of a kind
 has_none : (k : Kind) (low : Bound) (r : Extent) (a : ℕ) → low r.2 ≤ r.0 → a < low k
     → has k a r ≡ false
@@ -167,7 +160,7 @@ has_none k low r a le lt = by_kind (same_kind k r.2) refl
     by_kind : (b : Bool) → same_kind k r.2 ≡ b → has k a r ≡ false
     by_kind false e = and_other (lies_in r.0 r.1 a) (same_kind k r.2) e
     by_kind true e = and_none (lies_in r.0 r.1 a) (same_kind k r.2)
-        (before r.0 r.1 a (omega (arith, le, lt, ap low (alike k r.2 e))))
+        (below r.0 r.1 a (omega (arith, le, lt, ap low (alike k r.2 e))))
 
 covers-below : (k : Kind) (low : Bound) (rs : List Extent) (a : ℕ) → IsNarrow low → Rise low rs
     → a < low k → covers k rs a ≡ false
@@ -241,10 +234,6 @@ covers-runs m k a = ap (is_kind k) (get-entries m a) ∙ covers-entries k 0 a (e
 
 -- ---- Each of them is maximal
 
-own_kind : (k : Kind) → same_kind k k ≡ true
-own_kind DataRun = refl
-own_kind AnchoredRun = refl
-
 own_behind : (run : Extent) (k : Kind) → run.2 ≡ k → behind_it run k ≡ run.0 + run.1 + 1
 own_behind run k e = rw e (ap (λ b. cond b (run.0 + run.1 + 1) (run.0 + run.1)) (own_kind k))
 
@@ -283,14 +272,14 @@ module _ (s n : ℕ) (k : Kind) where
       let own = own_behind r k (ap (λ (x : Extent). x.2) is) in
       or_right (has k (s + n) r) (covers k rs (s + n))
       (and_none (lies_in r.0 r.1 (s + n)) (same_kind k r.2)
-      (behind r.0 r.1 (s + n) (omega (arith, start, count))))
+      (above r.0 r.1 (s + n) (omega (arith, start, count))))
       ∙ covers-below k (behind_it r) rs (s + n) (narrow_behind r) h.2
       (omega (arith, start, count, own))
   covers-behind low (r ∷ rs) (suc i) narrow h lt is =
       let more = found-low (behind_it r) rs i (narrow_behind r) h.2 (omega arith) is in
       or_right (has k (s + n) r) (covers k rs (s + n))
       (and_none (lies_in r.0 r.1 (s + n)) (same_kind k r.2)
-      (behind r.0 r.1 (s + n) (omega (arith, more.0, behind_low r k))))
+      (above r.0 r.1 (s + n) (omega (arith, more.0, behind_low r k))))
       ∙ covers-behind (behind_it r) rs i (narrow_behind r) h.2 (omega arith) is
 
   covers-before : (low : Bound) (rs : List Extent) (i : ℕ) → IsNarrow low → Rise low rs
@@ -302,7 +291,7 @@ module _ (s n : ℕ) (k : Kind) where
       let count = ap (λ (x : Extent). x.1) is in
       or_right (has k (s - 1) r) (covers k rs (s - 1))
       (and_none (lies_in r.0 r.1 (s - 1)) (same_kind k r.2)
-      (before r.0 r.1 (s - 1) (omega (arith, start, pos))))
+      (below r.0 r.1 (s - 1) (omega (arith, start, pos))))
       ∙ covers-below k (behind_it r) rs (s - 1) (narrow_behind r) h.2
       (omega (arith, start, pos, behind_low r k))
   covers-before low (r ∷ rs) (suc i) narrow h lt is pos =
@@ -313,7 +302,7 @@ module _ (s n : ℕ) (k : Kind) where
       at_end : (b : Bool) → same_kind k r.2 ≡ b → behind_it r k ≤ s → has k (s - 1) r ≡ false
       at_end false e le = and_other (lies_in r.0 r.1 (s - 1)) (same_kind k r.2) e
       at_end true e le = and_none (lies_in r.0 r.1 (s - 1)) (same_kind k r.2)
-          (behind r.0 r.1 (s - 1) (omega (arith, le, own_behind r k (sym (alike k r.2 e)))))
+          (above r.0 r.1 (s - 1) (omega (arith, le, own_behind r k (sym (alike k r.2 e)))))
 
   -- ---- And each that is maximal is there
 
@@ -330,7 +319,7 @@ module _ (s n : ℕ) (k : Kind) where
         in_run (same_kind k r.2) refl high later
     | inr past ↦
         let none : (a : ℕ) → s ≤ a → has k a r ≡ false = λ a ge.
-        and_none (lies_in r.0 r.1 a) (same_kind k r.2) (behind r.0 r.1 a (omega arith)) in
+        and_none (lies_in r.0 r.1 a) (same_kind k r.2) (above r.0 r.1 a (omega arith)) in
         let rest : Contains rs (s, n, k) = found (behind_it r) rs (narrow_behind r) h.2 some
         (λ a ge lt. sym (or_right (has k a r) (covers k rs a) (none a ge)) ∙ all a ge lt)
         (λ pos. (or_none (has k (s - 1) r) (covers k rs (s - 1)) (first pos)).1)
@@ -350,7 +339,7 @@ module _ (s n : ℕ) (k : Kind) where
       in_run true e high later = elim (cases_lt s r.0) [
         | inl low' ↦
             let none = or_right (has k s r) (covers k rs s)
-            (and_none (lies_in r.0 r.1 s) (same_kind k r.2) (before r.0 r.1 s low')) ∙ later in
+            (and_none (lies_in r.0 r.1 s) (same_kind k r.2) (below r.0 r.1 s low')) ∙ later in
             let wrong : true ≡ false = sym (all s (omega arith) (omega arith)) ∙ none in cc
         | inr ge ↦ elim (cases_lt r.0 s) [
           | inl past ↦
@@ -370,7 +359,7 @@ module _ (s n : ℕ) (k : Kind) where
                   let own = own_behind r k (sym (alike k r.2 e)) in
                   let none = or_right (has k end r) (covers k rs end)
                   (and_none (lies_in r.0 r.1 end) (same_kind k r.2)
-                  (behind r.0 r.1 end (omega arith)))
+                  (above r.0 r.1 end (omega arith)))
                   ∙ covers-below k (behind_it r) rs end (narrow_behind r) h.2 (omega (arith, own)) in
                   let wrong : true ≡ false = sym (all end (omega arith) (omega arith)) ∙ none in cc
               | inr fits ↦

@@ -1,12 +1,12 @@
 -- The descriptors of runs, and the visits that they take.
 use Rattle.std.proofs.Common.{◌≡◌, ◌≢◌, ℕ, ◌+◌, ◌-◌, ◌<◌, ◌≤◌, zero, suc, List, [], ◌∷◌, length}
 use Rattle.std.proofs.Common.{arith, refl, sym, ap, ◌∙◌, ◌⊎◌, inl}
-use Rattle.std.proofs.Common.{inr, cond, Bool, true, false, Option, Some, None}
+use Rattle.std.proofs.Common.{inr, true, false, Option, Some, None}
 use Rattle.std.proofs.lemmas.Bool.{cases_lt}
 use Rattle.std.proofs.lemmas.Bool.Decides.{nat_tests}
 use Rattle.std.proofs.lemmas.List.Sums.{sum_by-cons}
 use Rattle.std.specs.FinMap.{get}
-use Rattle.std.specs.Prelude.{slice_index_or, unwrap_or, min}
+use Rattle.std.specs.Prelude.{slice_index_or, min}
 use Rattle.std.specs.Prelude.{nat_le}
 use Rattle.sg_store.specs.Disk.{IsWellFormed}
 use Rattle.sg_store.specs.LbaStatus.{descriptor_at, status_at, status_in}
@@ -29,7 +29,8 @@ use Rattle.sg_block_map.specs.Runs.{AreRuns, chained_contents, blocks_of}
 use Rattle.sg_block_map.specs.Status.{IsRunTable, IsOver, run_over, AreMet, AreFrom}
 use Rattle.sg_store.proofs.DescriptorLemmas.{described}
 use Rattle.sg_store.proofs.WellFormedLemmas.{below-some}
-use Rattle.sg_table.proofs.RecordLemmas.{start_of-read}
+use Rattle.sg_table.proofs.RecordLemmas.{start_of-read, picked, dropped}
+use Rattle.sg_pool.proofs.MappedLemmas.{status-seen}
 use Rattle.sg_table.proofs.TableLemmas.{visited-more, visited-less}
 use Rattle.sg_block_map.proofs.OrderLemmas.{maximal-sorted, apart-maximal}
 use Rattle.sg_block_map.proofs.OrderLemmas.{behind-high}
@@ -43,11 +44,6 @@ apart : {capacity : ℕ} {rs : List Run} → IsRunTable capacity rs → AreApart
 apart {capacity} {rs} t = apart-maximal rs 0 capacity (omega arith) t.maximal
 
 -- the status that is seen
-status_seen : (bs : List (List ℕ)) (slot : ℕ) (kind : Kind)
-    → status_in (Some (mapping_in bs slot kind)) ≡ status_of_kind kind
-status_seen bs slot DataRun = refl
-status_seen bs slot AnchoredRun = refl
-
 status_kind : (bs : List (List ℕ)) (slot : ℕ) (j k : Kind)
     → status_in (Some (mapping_in bs slot j)) ≡ status_of_kind k → j ≡ k
 status_kind bs slot DataRun DataRun e = refl
@@ -66,14 +62,6 @@ kind_at-read (x ∷ rs) zero r lt e = ap (λ (y : Run). y.kind) e
 kind_at-read (x ∷ rs) (suc i) r lt e = kind_at-read rs i r (omega arith) e
 
 -- the run of an address, from the cursor
-picked : (b : Bool) (r run : Run) → cond b (Some r) None ≡ Some run → (b ≡ true) × (r ≡ run)
-picked true r run e = (refl, ap (λ o. unwrap_or o r) e)
-picked false r run e = let wrong = e in cc
-
-dropped : (b : Bool) (r : Run) → cond b (Some r) None ≡ None → b ≡ false
-dropped true r e = let wrong = e in cc
-dropped false r e = refl
-
 le_true : (x y : ℕ) → nat_le x y ≡ true → x ≤ y
 le_true x y e = grind (arith, nat_tests)
 
@@ -187,7 +175,7 @@ module _ (rs : List Run) (capacity lba : ℕ) (cursor : Cursor) (t : IsRunTable 
         = λ i lt.
         let found = get-inside next rs (mapping_in bs) 0 capacity cursor.index (lba + i) (apart t)
         there.0 (omega (arith, over-start, over-low)) (omega (arith, over-end)) in
-        ap status_in found.1 ∙ status_seen bs found.0 (kind_at rs cursor.index)
+        ap status_in found.1 ∙ status-seen bs found.0 (kind_at rs cursor.index)
         ∙ ap status_of_kind over_kind in
         described (contents_of (expanded next rs) bs) capacity lba k (status_of_kind run.kind)
         (rw first at (all 0 (omega (arith, over-high))))
@@ -261,7 +249,7 @@ gap-stop next rs bs capacity index lba k (Some r) t n low is lt =
     n.0 (omega arith) (t.filled index n.0) in
     λ same. none_status (kind_at rs index) (sym same
     ∙ ap (status_at (contents_of (expanded next rs) bs)) here
-    ∙ ap status_in found.1 ∙ status_seen bs found.0 (kind_at rs index))
+    ∙ ap status_in found.1 ∙ status-seen bs found.0 (kind_at rs index))
 
 module _ (rs : List Run) (capacity lba k : ℕ) (cursor : Cursor) (t : IsRunTable capacity rs)
     (at : IsOver rs cursor lba) (none : run_over cursor.next lba ≡ None)

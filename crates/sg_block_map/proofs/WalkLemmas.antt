@@ -1,7 +1,7 @@
 -- Going over the addresses of runs.
 use Rattle.std.proofs.Common.{◌≡◌, ◌≢◌, ℕ, ◌+◌, ◌-◌, ◌<◌, ◌≤◌, List, [], ◌∷◌, ◌++◌, length, drop}
 use Rattle.std.proofs.Common.{arith, refl, sym, ap, ◌∙◌, append_assoc, Option, Some, None, cond}
-use Rattle.std.proofs.Common.{false, eq-eqb, length-append, replicate}
+use Rattle.std.proofs.Common.{false, eq-eqb, length-append}
 use Rattle.std.proofs.lemmas.Bool.{eqb-true}
 use Rattle.std.proofs.lemmas.Bool.Decides.{nat_tests}
 use Rattle.std.specs.Cmp.{nat_cmp_total}
@@ -10,7 +10,7 @@ use Rattle.std.specs.FinMap.{find, get-from_entries}
 use Rattle.std.specs.Ordering.{nat_cmp}
 use Rattle.std.specs.Prelude.{slice_index, option_to_list, IfSome, unwrap_or, ◌==◌}
 use Rattle.sg_pool.specs.Chains.{chain, AreBelow}
-use Rattle.sg_store.specs.Disk.{data_in, zero_block, block}
+use Rattle.sg_store.specs.Disk.{data_in, block}
 use Rattle.sg_pool.specs.MappedRecords.{Seen, entries_by, contents_by}
 use Rattle.sg_table.specs.Records.{run_at, single}
 use Rattle.sg_table.specs.Records.{slots_of}
@@ -163,11 +163,6 @@ ahead-skip next count lba at runs (Some run) h low none =
       below =
           h.below;
     }
-
--- zeros that are as many as a block has bytes
-pub zeros : (n : ℕ) (xs : List ℕ) → n ≡ 512 → xs ≡ replicate n 0 → xs ≡ zero_block
-unfolding zero_block
-zeros n xs e is = is ∙ ap (λ k. replicate k 0) e
 
 -- the first address ahead
 pub block-first : (f : Seen) (r : Run) (more : List Run)

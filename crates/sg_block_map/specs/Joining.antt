@@ -13,12 +13,12 @@ use Rattle.sg_pool.specs.MappedRecords.{IsConsistent}
 use Rattle.sg_table.specs.Draft.{Drafted}
 use Rattle.sg_table.specs.Leaves.{move_bound}
 use Rattle.sg_table.specs.Table.{Table}
+use Rattle.sg_table.specs.Records.{same_kind}
 use Rattle.sg_table.specs.declared.run.Kind.{Kind}
 use Rattle.sg_table.specs.declared.run.Kind.TheVariants.{Data as DataRun, Anchored as AnchoredRun}
 use Rattle.sg_table.specs.declared.run.Run.{Run}
 use Rattle.sg_store.specs.declared.store.TheConstants.{MAX_CAPACITY, MAX_COUNT, MAX_POOL}
 use Rattle.sg_block_map.specs.Gathering.{AreGathered, AreNear}
-use Rattle.sg_block_map.specs.MaximalRuns.{same_kind}
 use Rattle.sg_block_map.specs.Metering.{FollowsLinks}
 use Rattle.sg_block_map.specs.Runs.{end_of, expanded, AreChained, AreMaximal, AreRuns}
 use Rattle.sg_block_map.specs.Runs.{chained_contents, any_from, begins, blocks_of, AreMaximalIn}

@@ -1,22 +1,17 @@
 -- The maximal runs of addresses that have data, or are anchored, and which of them a range meets.
-use Rattle.std.specs.Prelude.{ℕ, ◌+◌, List, [], ◌∷◌, Bool, true, false, nat_lt, nat_le, ◌&&◌, ◌==◌}
+use Rattle.std.specs.Prelude.{ℕ, ◌+◌, List, [], ◌∷◌, Bool, nat_lt, nat_le, ◌&&◌, ◌==◌}
 use Rattle.std.specs.Prelude.{if◌then◌else◌, min, max}
 use Rattle.std.specs.List.{count_by, sum_by}
 use Rattle.std.specs.FinMap.{entries}
 use Rattle.sg_store.specs.Disk.{Contents, Mapping}
 use Rattle.sg_store.specs.Disk.Mapping.{Data, Anchored}
+use Rattle.sg_table.specs.Records.{same_kind}
 use Rattle.sg_table.specs.declared.run.Kind.{Kind}
 use Rattle.sg_table.specs.declared.run.Kind.TheVariants.{Data as DataRun, Anchored as AnchoredRun}
 
 abbrev pub kind_of : Mapping → Kind
 kind_of (Data block) = DataRun
 kind_of Anchored = AnchoredRun
-
-abbrev pub same_kind : Kind → Kind → Bool
-same_kind DataRun DataRun = true
-same_kind DataRun AnchoredRun = false
-same_kind AnchoredRun DataRun = false
-same_kind AnchoredRun AnchoredRun = true
 
 -- A run: its first address, its count and its kind.
 abbrev pub Extent : Type 0

@@ -1,6 +1,6 @@
 -- The laws of what a store with a record for each maximal run may visit.
 use Rattle.std.specs.Prelude.{◌≡◌, ℕ, ◌+◌, ◌-◌, ◌<◌, ◌≤◌, suc, List, [], ◌∷◌, Bool, true, false}
-use Rattle.std.specs.Prelude.{cond, T, ◌==◌, ◌&&◌, zero, max, length, is_some, Option, Some}
+use Rattle.std.specs.Prelude.{cond, T, ◌==◌, ◌&&◌, zero, max, is_some, Option, Some}
 use Rattle.std.specs.Prelude.{None}
 use Rattle.std.specs.List.{count_by}
 use Rattle.std.specs.Ordering.{nat_cmp, is_lt, is_eq}
@@ -9,24 +9,16 @@ use Rattle.std.specs.declared.cmp.Ordering.TheVariants.{Less, Equal, Greater}
 use Rattle.std.specs.FinMap.{entries, entries_sorted, is_sorted, find, get-entries}
 use Rattle.std.specs.FinMap.{contains_key}
 use Rattle.std.specs.FinMap.{nat_cmp-IsAntisymmetric}
-use Rattle.std.proofs.Common.{arith, refl, sym, ap, ap₂, ◌∙◌, ◌⊎◌, inl, inr, length-append}
-use Rattle.std.proofs.Common.{zero-add}
+use Rattle.std.proofs.Common.{arith, refl, sym, ap, ◌∙◌, ◌⊎◌, inl, inr}
 use Rattle.std.proofs.lemmas.Bool.{cases_lt, eqb-true}
 use Rattle.std.proofs.lemmas.Bool.Decides.{nat_tests}
-use Rattle.std.proofs.lemmas.List.Sums.{length-filter}
-use Rattle.std.proofs.lemmas.List.Elements.{filter-append}
 use Rattle.sg_store.specs.Disk.{Contents, Mapping, lies_in, used_among}
+use Rattle.sg_table.specs.Records.{same_kind}
 use Rattle.sg_table.specs.declared.run.Kind.{Kind}
-use Rattle.sg_store.proofs.DiskLemmas.{used_among-none, used_among-more}
-use Rattle.sg_block_map.specs.MaximalRuns.{Extent, kind_of, same_kind, with_address, runs_of, runs}
+use Rattle.sg_store.proofs.DiskLemmas.{used_among-none, used_among-more, count-more, inside, below, above}
+use Rattle.sg_block_map.specs.MaximalRuns.{Extent, kind_of, with_address, runs_of, runs}
 use Rattle.sg_block_map.specs.MaximalRuns.{meets, meet}
 use Rattle.sg_block_map.specs.RunCost.{block_price, block_least}
-
-count-more : {X : Type 0} (p : X → Bool) (x : X) (xs : List X)
-    → count_by p (x ∷ xs) ≡ cond (p x) 1 0 + count_by p xs
-count-more p x xs = sym (length-filter p (x ∷ xs)) ∙ ap length (filter-append p (x ∷ []) xs)
-    ∙ length-append _ _ ∙ ap₂ (λ m n. m + n) (length-filter p (x ∷ [])) (length-filter p xs)
-    ∙ ap (λ n. n + count_by p xs) (zero-add _)
 
 -- at most two more than the range has addresses
 
@@ -91,15 +83,6 @@ runs_meet lba count (e ∷ es) = omega (
 abbrev pub AreRising : ℕ → List (ℕ × Mapping) → Type 0
 AreRising low [] = Unit
 AreRising low (e ∷ es) = (low ≤ e.0) × AreRising (e.0 + 1) es
-
-inside : (a k q : ℕ) → a ≤ q → q < a + k → lies_in a k q ≡ true
-inside a k q h l = grind (arith, nat_tests)
-
-below : (a k q : ℕ) → q < a → lies_in a k q ≡ false
-below a k q h = grind (arith, nat_tests)
-
-above : (a k q : ℕ) → a + k ≤ q → lies_in a k q ≡ false
-above a k q h = grind (arith, nat_tests)
 
 in_step : (lba count low x rest : ℕ) → low ≤ x → rest ≤ lba + count - max (x + 1) lba
     → cond (lies_in lba count x) 1 0 + rest ≤ lba + count - max low lba
@@ -227,9 +210,6 @@ used_or_less : (b : Bool) (n : ℕ) → 0 < n + cond b 1 0 → (0 < n) ⊎ (b �
 used_or_less true n h = inr refl
 used_or_less false n h = inl (omega (arith, h))
 
-inside_range : (lba count i : ℕ) → i < count → lies_in lba count (lba + i) ≡ true
-inside_range lba count i lt = grind (arith, nat_tests)
-
 used-meets : (contents : Contents) (lba count n : ℕ) → n ≤ count → 0 < used_among contents lba n
     → 0 < meet contents lba count
 unfolding meet runs
@@ -242,7 +222,7 @@ used-meets contents lba count (suc n) le some =
     (omega (arith, ap (used_among contents lba) e))) [
       | inl before ↦ used-meets contents lba count n (omega arith) before
       | inr here ↦ key-meets lba count (lba + n) (entries contents)
-          (inside_range lba count n (omega arith))
+          (inside lba count (lba + n) (omega arith) (omega arith))
           (ap is_some (sym (get-entries contents (lba + n))) ∙ here)
     ]
 

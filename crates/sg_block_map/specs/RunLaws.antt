@@ -4,9 +4,10 @@ use Rattle.std.specs.Prelude.{Option, Some, None}
 use Rattle.std.specs.List.{Contains}
 use Rattle.std.specs.FinMap.{get}
 use Rattle.sg_store.specs.Disk.{Contents, Mapping}
+use Rattle.sg_table.specs.Records.{same_kind}
 use Rattle.sg_table.specs.declared.run.Kind.{Kind}
 use Rattle.sg_table.specs.declared.run.Kind.TheVariants.{Data}
-use Rattle.sg_block_map.specs.MaximalRuns.{kind_of, same_kind, runs}
+use Rattle.sg_block_map.specs.MaximalRuns.{kind_of, runs}
 
 -- Whether an address has a block of the pool and is of a kind.
 abbrev pub is_kind : Kind → Option Mapping → Bool

@@ -4,14 +4,14 @@ use Rattle.std.specs.Prelude.{length, if◌then◌else◌}
 use Rattle.std.specs.List.{sum_by}
 use Rattle.sg_pool.specs.Chains.{IsChain}
 use Rattle.sg_store.specs.Disk.{Contents, IsWellFormed}
-use Rattle.sg_table.specs.Records.{single}
+use Rattle.sg_table.specs.Records.{single, same_kind}
 use Rattle.sg_pool.specs.MappedRecords.{contents_of}
 use Rattle.sg_pool.specs.Slots.{Slots}
 use Rattle.sg_pool.specs.MappedRecords.{IsConsistent}
 use Rattle.sg_table.specs.declared.run.Kind.{Kind}
 use Rattle.sg_table.specs.declared.run.Run.{Run}
 use Rattle.sg_store.specs.declared.store.TheConstants.{MAX_CAPACITY}
-use Rattle.sg_block_map.specs.MaximalRuns.{Extent, same_kind}
+use Rattle.sg_block_map.specs.MaximalRuns.{Extent}
 
 -- The address past a run.
 abbrev pub end_of : Run → ℕ

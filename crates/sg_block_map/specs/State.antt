@@ -1,7 +1,7 @@
 -- What a `BlockMap` keeps, as its callers see it: a disk, records, slots and a meter.
 use Rattle.std.specs.Prelude.{◌≡◌, ℕ, List, Some, map}
 use Rattle.std.specs.FinMap.{get}
-use Rattle.sg_store.specs.Disk.{Contents, Disk, Mapping, remapped}
+use Rattle.sg_store.specs.Disk.{Contents, Disk, Mapping}
 use Rattle.sg_store.specs.Meter.{Meter}
 use Rattle.sg_pool.specs.MappedRecords.{slot_numbers}
 use Rattle.sg_pool.specs.Slots.{Slots}
@@ -20,11 +20,6 @@ disk_at capacity table slots = record {
 
 abbrev pub disk_of : BlockMap → Disk
 disk_of map = disk_at map.capacity map.table map.pool
-
--- The disk with the addresses of a range remapped, each as its index says.
-abbrev pub disk_remapped : Disk → (lba count : ℕ) → (mapping : ℕ → Mapping) → Disk
-disk_remapped disk lba count mapping =
-    record disk { contents = remapped disk.contents lba count mapping }
 
 -- What its calls cost so far.
 abbrev pub meter_at : Table → Slots → Meter

@@ -5,7 +5,7 @@ ghost use Rattle.std.specs.Prelude.{IsErr, OnOk, OnErr};
 ghost use Rattle.std.specs.FinMap.{len};
 ghost use Rattle.sg_store.specs.Disk.{IsWellFormed, IsOverfull, blocks};
 ghost use Rattle.sg_store.specs.Disk.{disk_written, disk_filled, disk_unmapped, disk_anchored};
-ghost use Rattle.sg_store.specs.Disk.{data_count, need, unmapped};
+ghost use Rattle.sg_store.specs.Disk.{data_count, disk_remapped, need, unmapped};
 ghost use Rattle.sg_store.specs.LbaStatus.{lba_status, covered, status_data};
 ghost use Rattle.sg_store.specs.Meter.{HasHeadroom, restarted};
 ghost use Rattle.sg_wire.specs.Cut.{Puts};
@@ -56,7 +56,7 @@ pub struct BlockMap {
 impl BlockMap {
     ghost use Rattle.sg_pool.specs.Source.{HasBlocks, block_of};
     ghost use Rattle.sg_block_map.specs.Joining.{mapping_as};
-    ghost use Rattle.sg_block_map.specs.State.{disk_of, disk_remapped, meter_of, records_of};
+    ghost use Rattle.sg_block_map.specs.State.{disk_of, meter_of, records_of};
     ghost use Rattle.sg_block_map.specs.State.{slots_by_address, Keeps};
 
     /// How many maximal runs of addresses of one kind there are. Each has one record, and the table

@@ -1,5 +1,5 @@
-// Gathering the runs near a range from the table: the only place that reads records for a command
-// over blocks. It knows neither slots nor blocks.
+// Gathering the runs near a range from the table: no other file visits records for a command over a
+// range, and for GET LBA STATUS `status` does. It knows neither slots nor blocks.
 ghost use Rattle.std.specs.Prelude.{◌≡◌, ◌+◌, ◌-◌, ◌≤◌, length, drop, nat_lt};
 ghost use Rattle.std.specs.List.{count_by, sum_by};
 ghost use Rattle.sg_table.specs.Records.{IsLowerBound};

@@ -1,28 +1,15 @@
 // Reading a range from the runs near it. It follows links of the pool and knows no table.
-ghost use Rattle.std.specs.Prelude.{◌≡◌, ◌+◌, ◌*◌, ◌<◌, ◌≤◌, length, Some};
-ghost use Rattle.sg_store.specs.Disk.{block, blocks, data_in};
-ghost use Rattle.sg_pool.specs.MappedRecords.{mapping_in};
+ghost use Rattle.std.specs.Prelude.{◌≡◌, ◌+◌, ◌*◌, ◌<◌, ◌≤◌, length};
+ghost use Rattle.sg_store.specs.Disk.{block, blocks};
 ghost use Rattle.sg_block_map.specs.Gathering.{AreNear};
 ghost use Rattle.sg_block_map.specs.Metering.{OnlyFollows, OnlyFollowsPassed};
 ghost use Rattle.sg_block_map.specs.Runs.{expanded, chained_contents};
 ghost use Rattle.sg_block_map.specs.Walking.{ahead_of, AreAhead, GoesPast};
 
 use crate::walk::{Walk, walk_from};
-use sg_pool::Pool;
+use sg_pool::{Pool, read_first};
 use sg_store::{BLOCK_LENGTH, MAX_CAPACITY};
-use sg_table::{Kind, Run};
-
-// Reads the block at the first address of a run.
-fn read_first(pool: &Pool, run: Run, bytes: &mut [u8])
-    requires slot { run.first < length pool.now.blocks }
-    requires byte_count { length bytes.old ≡ BLOCK_LENGTH }
-    ensures { bytes.new ≡ data_in (Some (mapping_in pool.now.blocks run.first run.kind)) }
-{
-    match run.kind {
-        Kind::Data => bytes.copy_from_slice(pool.bytes(run.first)),
-        Kind::Anchored => bytes.fill(0),
-    }
-}
+use sg_table::Run;
 
 // Reads the block at an address, and goes on to the next one.
 fn read_address(pool: &mut Pool, runs: &[Run], walk: Walk, lba: u64, bytes: &mut [u8]) -> Walk

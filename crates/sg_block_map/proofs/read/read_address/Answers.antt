@@ -1,9 +1,10 @@
 use Rattle.std.proofs.Common.{length, ap, sym, ◌∙◌, arith}
 use Rattle.std.specs.FinMap as map
 use Rattle.sg_store.specs.Disk.{data_in}
+use Rattle.sg_store.proofs.DiskLemmas.{zeros}
 use Rattle.sg_pool.specs.MappedRecords.{mapping_in, contents_of}
 use Rattle.sg_block_map.specs.Runs.{expanded}
-use Rattle.sg_block_map.proofs.WalkLemmas.{zeros, first-slot, first-block, first-ahead, first-later}
+use Rattle.sg_block_map.proofs.WalkLemmas.{first-slot, first-block, first-ahead, first-later}
 use Rattle.sg_block_map.proofs.WalkLemmas.{first-length, skip-block}
 use Rattle.sg_block_map.proofs.read.read_address.Goals as goal
 
