@@ -9,7 +9,7 @@ ghost use Rattle.sg_block_map.specs.Walking.{ahead_of, AreAhead, GoesPast};
 use crate::walk::{Walk, walk_from};
 use sg_pool::{Pool, read_first};
 use sg_store::{BLOCK_LENGTH, MAX_CAPACITY};
-use sg_table::Run;
+use sg_table::{Run, run_at};
 
 // Reads the block at an address, and goes on to the next one.
 fn read_address(pool: &mut Pool, runs: &[Run], walk: Walk, lba: u64, bytes: &mut [u8]) -> Walk
@@ -32,7 +32,7 @@ fn read_address(pool: &mut Pool, runs: &[Run], walk: Walk, lba: u64, bytes: &mut
         (length (expanded pool.old.next (ahead_of runs.now result.run result.at)))
         pool.old pool.new }
 {
-    let Some(run) = walk.run_at(lba) else {
+    let Some(run) = run_at(walk.run, lba) else {
         bytes.fill(0);
         return walk;
     };

@@ -1,7 +1,6 @@
 // Going over the addresses of runs in a row, one link of the pool for each. It knows a list of runs, and
 // not the table.
 ghost use Rattle.std.specs.Prelude.{◌≡◌, ◌+◌, ◌<◌, ◌≤◌, length, drop, option_to_list};
-ghost use Rattle.sg_table.specs.Records.{run_at};
 ghost use Rattle.sg_block_map.specs.Metering.{OnlyFollows};
 ghost use Rattle.sg_block_map.specs.Runs.{expanded};
 ghost use Rattle.sg_block_map.specs.Walking.{ahead_of, passed, AreAhead, IsWalkFrom};
@@ -32,14 +31,6 @@ impl Walk {
             };
         }
         Walk { run: None, at }
-    }
-
-    /// The run that begins at an address, if it is the first one ahead.
-    pub(crate) fn run_at(self, lba: u64) -> Option<Run>
-        ensures { result ≡ run_at self.run lba }
-    {
-        let run = self.run?;
-        if run.start == lba { Some(run) } else { None }
     }
 
     /// Passes the first address of the run, which is the first one ahead.

@@ -19,7 +19,7 @@ use crate::put::put_parts;
 use crate::walk::{Walk, walk_from};
 use sg_pool::{Pool, Source};
 use sg_store::{BLOCK_LENGTH, MAX_CAPACITY};
-use sg_table::{Kind, Run, RunTable};
+use sg_table::{Kind, Run, RunTable, run_at};
 
 // How far a range is written.
 #[derive(Clone, Copy)]
@@ -96,7 +96,7 @@ fn put_address(
     ensures links { FollowsPassed (blocks_of (ahead_of runs.now progress.walk.run progress.walk.at))
         (blocks_of (ahead_of runs.now result.walk.run result.walk.at)) pool.old pool.new }
 {
-    let Some(run) = progress.walk.run_at(lba) else {
+    let Some(run) = run_at(progress.walk.run, lba) else {
         let slot = pool.take();
         set_block(pool, slot, progress.done.kind, bytes);
         let done = join(

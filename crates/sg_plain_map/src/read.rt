@@ -8,7 +8,7 @@ ghost use Rattle.sg_table.specs.Records.{passed};
 
 use sg_pool::{Pool, read_first};
 use sg_store::BLOCK_LENGTH;
-use sg_table::{Cursor, RunTable};
+use sg_table::{Cursor, RunTable, run_at};
 
 // Reads the block at the cursor's address, and goes on to the next address. Each record that the
 // cursor passes was visited, and the one where it is.
@@ -36,7 +36,7 @@ fn read_block(
     ensures index { result.index ≡ cursor.index + used_at (stored table.old pool.now) lba }
     ensures cost { visited table.new (passed cursor) ≡ visited table.old (passed result) }
 {
-    let Some(run) = cursor.run_at(lba) else {
+    let Some(run) = run_at(cursor.next, lba) else {
         bytes.fill(0);
         return cursor;
     };

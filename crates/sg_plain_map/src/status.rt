@@ -15,7 +15,7 @@ use crate::kind::run_of_kind;
 use sg_pool::status_of;
 use sg_store::lba_status::{MAX_ADDRESSES, MAX_DESCRIPTORS, ProvisioningStatus, StatusDescriptor};
 use sg_store::{MAX_CAPACITY, MAX_COUNT, MAX_POOL};
-use sg_table::{Cursor, Kind, RunTable};
+use sg_table::{Cursor, Kind, RunTable, run_at};
 use sg_wire::Cut;
 use sg_wire::laws::parts_are_put_in_turn;
 
@@ -62,7 +62,7 @@ fn describe(
     ensures cursor { IsAt table.old.records result.1 (lba + result.0.count) }
     ensures cost { visited table.new (passed cursor) ≡ visited table.old (passed result.1) }
 {
-    match cursor.run_at(lba) {
+    match run_at(cursor.next, lba) {
         None => {
             let count = cursor.count_unmapped(lba, capacity, MAX_ADDRESSES);
             let status = ProvisioningStatus::Deallocated;

@@ -16,7 +16,7 @@ ghost use Rattle.sg_plain_map.specs.Status.{of_kind};
 use crate::content::Content;
 use crate::kind::run_of_kind;
 use sg_pool::Pool;
-use sg_table::{Cursor, Draft, Kind, Run, RunTable};
+use sg_table::{Cursor, Draft, Kind, Run, RunTable, run_at};
 
 // Whether an address has a record that stays as it is, since it has the kind that it is to have.
 fn keeps_record(cursor: Cursor, lba: u64, kind: Kind) -> bool
@@ -54,7 +54,7 @@ fn put_address(
     // Only the visits on the cursor's way are counted.
     ensures cost { visited table.new (passed cursor) ≡ visited table.old (passed result) }
 {
-    let Some(run) = cursor.run_at(lba) else {
+    let Some(run) = run_at(cursor.next, lba) else {
         let slot = pool.take();
         content.fill(pool, slot, index);
         draft.push(Run::single(lba, slot, content.kind()));

@@ -2,7 +2,6 @@
 ghost use Rattle.std.specs.Prelude.{◌≡◌, ◌-◌, ◌<◌, ◌≤◌, length, min};
 ghost use Rattle.sg_table.specs.Records.{IsNext, ahead, end_of_gap};
 ghost use Rattle.sg_table.specs.Table.{visited};
-ghost use Rattle.sg_table.specs.Records.{run_at};
 
 use crate::run::Run;
 use crate::table::RunTable;
@@ -29,18 +28,6 @@ impl Cursor {
             next = Some(table.visit(index));
         }
         Cursor { index, next }
-    }
-
-    /// The record of an address, if the cursor is at it.
-    pub fn run_at(self, address: u64) -> Option<Run>
-        ensures { result ≡ run_at self.next address }
-    {
-        let run = self.next?;
-        if run.start == address {
-            Some(run)
-        } else {
-            None
-        }
     }
 
     /// How many addresses from one on have no record, up to the cursor's or to a bound, and `limit` at

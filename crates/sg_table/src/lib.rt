@@ -14,5 +14,5 @@ mod table;
 
 pub use cursor::Cursor;
 pub use draft::Draft;
-pub use run::{Kind, Run};
+pub use run::{Kind, Run, run_at};
 pub use table::{MAX_RECORDS, RunTable};

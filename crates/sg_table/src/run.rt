@@ -1,7 +1,7 @@
 // A record of the table: addresses in a row. It knows no order, and of its slots no more than their
 // numbers.
 ghost use Rattle.std.specs.Prelude.{◌≡◌, ◌^◌, ◌<◌, ◌≤◌, length};
-ghost use Rattle.sg_table.specs.Records.{FitCounts, count_if_data, data_in, single};
+ghost use Rattle.sg_table.specs.Records.{FitCounts, count_if_data, data_in, run_at, single};
 
 /// What the addresses of a run have in their slots.
 #[derive(Clone, Copy, Default, PartialEq)]
@@ -52,6 +52,14 @@ impl Run {
             Kind::Anchored => 0,
         }
     }
+}
+
+/// A record, if it begins at an address.
+pub fn run_at(next: Option<Run>, start: u64) -> Option<Run>
+    ensures { result ≡ run_at next start }
+{
+    let run = next?;
+    if run.start == start { Some(run) } else { None }
 }
 
 /// How many addresses of records have data.
