@@ -1,5 +1,6 @@
-// The bits that a CDB may have set.
-ghost use Rattle.std.specs.Prelude.{◌≡◌, ◌≤◌, ◌<◌, length, IfErr, OnOk, IfSome};
+// The bits that a CDB may have set, and those that are set in it.
+ghost use Rattle.std.specs.Prelude.{◌≡◌, ◌≤◌, ◌<◌, ◌+◌, if◌then◌else◌};
+ghost use Rattle.std.specs.Prelude.{length, IfErr, OnOk, IfSome};
 ghost use Rattle.sg_wire.specs.Layout.{first_bad, fits_masks};
 
 use super::CdbFault;
@@ -45,4 +46,14 @@ fn first_bad(masks: &[u8], cdb: &[u8]) -> Option<usize>
         }
     }
     None
+}
+
+// Two bits of one byte, each with its mask.
+pub(super) fn two_bits(high: bool, high_mask: u8, low: bool, low_mask: u8) -> u8
+    requires { high_mask + low_mask < 256 }
+    ensures { result ≡ (if high then high_mask else 0) + (if low then low_mask else 0) }
+{
+    let high_bit = if high { high_mask } else { 0 };
+    let low_bit = if low { low_mask } else { 0 };
+    high_bit + low_bit
 }

@@ -1,8 +1,9 @@
 // MODE SENSE and MODE SELECT (SPC-4, 6.11 to 6.14).
-ghost use Rattle.std.specs.Prelude.{◌≡◌, ◌+◌, ◌*◌, ◌<◌, if◌then◌else◌, true};
+ghost use Rattle.std.specs.Prelude.{◌≡◌, true};
 ghost use Rattle.sg_wire.specs.Layout.{cdb_of, command_with};
 ghost use Rattle.sg_wire.specs.FieldRoom.{fits_cdb};
 
+use super::masks::two_bits;
 use super::table::{MODE_SELECT_6, MODE_SELECT_10, MODE_SENSE_6, MODE_SENSE_10, check_row};
 use super::{CdbFault, Command, PageCode, PageControlField};
 use crate::bytes::{CdbBytes, MAX_CDB_LENGTH};
@@ -182,14 +183,4 @@ impl ModeSelect10 {
         BigEndian::write_u16(&mut cdb[7..], self.list_length);
         CdbBytes::new(cdb, 10)
     }
-}
-
-// Two bits of one byte, each with its mask.
-fn two_bits(high: bool, high_mask: u8, low: bool, low_mask: u8) -> u8
-    requires { high_mask + low_mask < 256 }
-    ensures { result ≡ (if high then high_mask else 0) + (if low then low_mask else 0) }
-{
-    let high_bit = if high { high_mask } else { 0 };
-    let low_bit = if low { low_mask } else { 0 };
-    high_bit + low_bit
 }

@@ -1,9 +1,10 @@
 // Commands of logical block provisioning (SBC-3, 4.7 and 5).
-ghost use Rattle.std.specs.Prelude.{◌≡◌, ◌+◌, slice_index, bit_and, if◌then◌else◌, true};
+ghost use Rattle.std.specs.Prelude.{◌≡◌, slice_index, bit_and, true};
 ghost use Rattle.sg_wire.specs.Layout.{cdb_of, command_with};
 ghost use Rattle.sg_wire.specs.FieldRoom.{fits_cdb};
 
 use super::block::{decode_extent_10, decode_extent_16};
+use super::masks::two_bits;
 use super::{CdbFault, Command, GroupNumber, table};
 use crate::bytes::{CdbBytes, MAX_CDB_LENGTH};
 use byteorder::{BigEndian, ByteOrder};
@@ -120,7 +121,7 @@ impl WriteSame10 {
     {
         let mut cdb = [0; MAX_CDB_LENGTH];
         cdb[0] = table::WRITE_SAME_10.opcode;
-        cdb[1] = write_same_bits(self.anchor, self.unmap);
+        cdb[1] = two_bits(self.anchor, WRITE_SAME_ANCHOR, self.unmap, WRITE_SAME_UNMAP);
         BigEndian::write_u32(&mut cdb[2..], self.lba);
         BigEndian::write_u16(&mut cdb[7..], self.count);
         CdbBytes::new(cdb, 10)
@@ -135,20 +136,11 @@ impl WriteSame16 {
     {
         let mut cdb = [0; MAX_CDB_LENGTH];
         cdb[0] = table::WRITE_SAME_16.opcode;
-        cdb[1] = write_same_bits(self.anchor, self.unmap);
+        cdb[1] = two_bits(self.anchor, WRITE_SAME_ANCHOR, self.unmap, WRITE_SAME_UNMAP);
         BigEndian::write_u64(&mut cdb[2..], self.lba);
         BigEndian::write_u32(&mut cdb[10..], self.count);
         CdbBytes::new(cdb, MAX_CDB_LENGTH)
     }
-}
-
-// Byte 1 of WRITE SAME.
-fn write_same_bits(anchor: bool, unmap: bool) -> u8
-    ensures { result ≡ (if anchor then 0x10 else 0) + (if unmap then 0x08 else 0) }
-{
-    let anchor_bit = if anchor { WRITE_SAME_ANCHOR } else { 0 };
-    let unmap_bit = if unmap { WRITE_SAME_UNMAP } else { 0 };
-    anchor_bit + unmap_bit
 }
 
 impl Unmap {
