@@ -1,21 +1,8 @@
 -- The pages of a disk that is thin provisioned: Block Limits and Logical Block Provisioning (SBC-3,
 -- vital product data parameters).
 use Rattle.std.specs.Prelude.{ℕ, List, [], ◌∷◌}
-use Rattle.std.specs.List.{flat_map}
-use Rattle.byteorder.specs.Endian.{big_bytes}
+use Rattle.sg_wire.specs.Fields.{Field, field, fields_bytes}
 use Rattle.sg_wire.specs.UnmapList.{maximum_unmap_descriptors}
-
--- A field: its length in bytes, and its value.
-pub record Field : Type 0 where
-  pub size : ℕ
-  pub value : ℕ
-
-abbrev field : (size value : ℕ) → Field
-field size value = record { size = size; value = value }
-
--- Fields one behind the other.
-abbrev pub in_bytes : List Field → List ℕ
-in_bytes fields = flat_map (λ f. big_bytes f.size f.value) fields
 
 -- ---- Block Limits, from byte 4 of the page on
 
@@ -77,7 +64,7 @@ reserved = field 20 0
 
 unfoldable pub block_limits : List ℕ
 block_limits =
-    in_bytes (
+    fields_bytes (
     wsnz
     ∷ compare_and_write_length
     ∷ transfer_granularity
@@ -115,4 +102,4 @@ reserved_byte = field 1 0
 
 unfoldable pub logical_block_provisioning : List ℕ
 logical_block_provisioning =
-    in_bytes (threshold_exponent ∷ provisioning_bits ∷ provisioning_type ∷ reserved_byte ∷ [])
+    fields_bytes (threshold_exponent ∷ provisioning_bits ∷ provisioning_type ∷ reserved_byte ∷ [])

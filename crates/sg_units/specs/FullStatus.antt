@@ -2,24 +2,13 @@
 use Rattle.std.specs.Prelude.{ℕ, ◌+◌, ◌*◌, List, [], ◌∷◌, ◌++◌, length, if◌then◌else◌}
 use Rattle.std.specs.Prelude.{Option, Some, None}
 use Rattle.std.specs.List.{flat_map}
-use Rattle.byteorder.specs.Endian.{big_bytes}
+use Rattle.sg_wire.specs.Fields.{Field, field, fields_bytes}
 use Rattle.sg_units.specs.Reservations.{holds}
 use Rattle.sg_units.specs.ReservationType.{code_of}
 use Rattle.sg_units.specs.ReserveIn.{header}
 use Rattle.sg_units.specs.declared.registrations.Registration.{Registration}
 use Rattle.sg_units.specs.declared.reservation.Reservation.{Reservation}
 use Rattle.sg_units.specs.declared.reservation_state.ReservationState.{ReservationState}
-
--- A field of some bytes, with its value.
-pub record Field : Type 0 where
-  pub size : ℕ
-  pub value : ℕ
-
-abbrev field : (size value : ℕ) → Field
-field size value = record { size = size; value = value }
-
-abbrev pub fields_bytes : List Field → List ℕ
-fields_bytes fields = flat_map (λ (f : Field). big_bytes f.size f.value) fields
 
 -- ---- A TransportID (SPC-4, 7.6.4)
 
