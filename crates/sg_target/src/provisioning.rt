@@ -1,7 +1,6 @@
 // UNMAP, WRITE SAME and GET LBA STATUS: logical block provisioning (SBC-3, 4.7 and 5).
-ghost use Rattle.std.specs.Prelude.{◌≡◌, ◌+◌, ◌≤◌, ◌∷◌, ◌==◌, [], length};
+ghost use Rattle.std.specs.Prelude.{◌≡◌, ◌+◌, ◌≤◌, ◌∷◌, [], length};
 ghost use Rattle.std.specs.Prelude.{Some, None, IfOk, IfErr, IfNone};
-ghost use Rattle.std.specs.List.{list_all};
 ghost use Rattle.std.specs.FinMap.{len};
 ghost use Rattle.sg_wire.specs.UnmapList.{maximum_unmap_descriptors};
 ghost use Rattle.sg_store.specs.Meter.{no_counts};
@@ -32,7 +31,7 @@ use sg_store::{BLOCK_LENGTH, MAX_CAPACITY, Store};
 use sg_wire::laws::answers_are_in_their_buffers;
 use sg_wire::{
     Cut, Extent, Initiator, ListedExtents, Unmap, UnmapList, UnmapListFault, WriteSame10,
-    WriteSame16,
+    WriteSame16, are_zeros,
 };
 use std::marker::Model;
 
@@ -291,13 +290,7 @@ fn check_write_same_length(extent: Extent, byte: u16) -> Result<(), Refusal>
 fn unmaps(unmap: bool, block: &[u8]) -> bool
     ensures { result ≡ unmaps unmap block.now }
 {
-    unmap && is_zero(block)
-}
-
-fn is_zero(block: &[u8]) -> bool
-    ensures { result ≡ list_all (λ byte. byte == 0) block.now }
-{
-    block.iter().all(|byte| *byte == 0)
+    unmap && are_zeros(block)
 }
 
 impl<S: Store> Target<S> {

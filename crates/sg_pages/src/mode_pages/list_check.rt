@@ -1,7 +1,6 @@
 // Checks of a mode parameter list: of a part of it, of its header, and of its block descriptor.
 ghost use Rattle.std.specs.Prelude.{◌≡◌, ◌≤◌, ◌<◌, ◌==◌, ◌||◌, ◌+◌, ◌^◌, []};
 ghost use Rattle.std.specs.Prelude.{drop, take, length, IsTrue, OnOk};
-ghost use Rattle.std.specs.List.{list_all};
 ghost use Rattle.sg_pages.specs.BlockDescriptor.{descriptor_length};
 ghost use Rattle.sg_pages.specs.ModeSelect.{accepted_blocks, block_descriptor_length};
 ghost use Rattle.sg_pages.specs.ModeSelect.{descriptor_faults, differences, first_fault};
@@ -12,6 +11,7 @@ ghost use Rattle.sg_pages.specs.ModeSelect.{part_faults, unless_fault};
 use super::ModeSelectFault;
 use super::block_descriptor::{long_descriptor, short_descriptor};
 use byteorder::{BigEndian, ByteOrder};
+use sg_wire::are_zeros;
 
 // What is ignored in the header before BLOCK DESCRIPTOR LENGTH.
 const IGNORED_IN_HEADER_6: [u8; 3] = [0xFF, 0x00, 0xFF];
@@ -140,10 +140,4 @@ fn accepted_blocks(list: &[u8], offset: usize, count: usize, blocks: u64) -> u64
     let rest = &list[offset..];
     let number = &rest[..count.min(rest.len())];
     if are_zeros(number) { 0 } else { blocks }
-}
-
-fn are_zeros(bytes: &[u8]) -> bool
-    ensures { result ≡ list_all (λ byte. byte == 0) bytes.now }
-{
-    bytes.iter().all(|byte| *byte == 0)
 }
