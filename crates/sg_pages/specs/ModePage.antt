@@ -48,8 +48,14 @@ abbrev caching_row : PageRow
 caching_row = row 0x08 0x12 ((2, 0x04) ∷ []) ((2, 0x04) ∷ [])
 
 -- Byte 2: D_SENSE is bit 2. Byte 4: SWP is bit 3.
+abbrev d_sense : ℕ
+d_sense = 0x04
+
+abbrev swp : ℕ
+swp = 0x08
+
 abbrev control_row : PageRow
-control_row = row 0x0A 0x0A [] ((2, 0x04) ∷ (4, 0x08) ∷ [])
+control_row = row 0x0A 0x0A [] ((2, d_sense) ∷ (4, swp) ∷ [])
 
 -- Byte 2: DEXCPT is bit 3.
 abbrev exceptions_row : PageRow
@@ -134,11 +140,11 @@ byte_4 values = slice_index values 2
 
 -- D_SENSE of the control page: sense data is in descriptor format (SPC-4, Control mode page).
 abbrev pub descriptor_sense : ModeState → Bool
-descriptor_sense state = has_bit (byte_2 (values_of state.current Control)) 0x04
+descriptor_sense state = has_bit (byte_2 (values_of state.current Control)) d_sense
 
 -- SWP of the control page: the disk refuses to write (SPC-4, Control mode page).
 abbrev pub write_protected : ModeState → Bool
-write_protected state = has_bit (byte_4 (values_of state.current Control)) 0x08
+write_protected state = has_bit (byte_4 (values_of state.current Control)) swp
 
 -- ---- Cited by private contracts alone
 

@@ -8,7 +8,7 @@ mod mode_select;
 mod mode_sense;
 mod request;
 
-use mode_page::DEFAULT;
+use mode_page::{D_SENSE, DEFAULT, SWP};
 pub use mode_page::{ModePage, PageValues};
 pub use mode_select::{Changed, ModeSelectFault};
 pub use request::{ModeSenseFault, ModeSenseRequest, PageControl};
@@ -30,9 +30,8 @@ impl Model for ModePages {
     ghost inverse = { λ m. record { current = m.current; saved = m.saved } };
 }
 
-ghost use Rattle.std.specs.Prelude.{◌≡◌, length};
-ghost use Rattle.sg_pages.specs.ModePage.{after_power_on, changeable_bits, default_values};
-ghost use Rattle.sg_pages.specs.ModePage.{descriptor_sense, initial_state, page_length, values_of};
+ghost use Rattle.std.specs.Prelude.{◌≡◌};
+ghost use Rattle.sg_pages.specs.ModePage.{after_power_on, descriptor_sense, initial_state};
 ghost use Rattle.sg_pages.specs.ModePage.{write_protected};
 
 impl ModePages {
@@ -57,26 +56,13 @@ impl ModePages {
     pub fn descriptor_sense(&self) -> bool
         ensures { result ≡ descriptor_sense self.now }
     {
-        self.current.control[0] & 0x04 != 0
+        self.current.control[0] & D_SENSE != 0
     }
 
     /// SWP: the disk refuses to write (SPC-4, Control mode page).
     pub fn write_protected(&self) -> bool
         ensures { result ≡ write_protected self.now }
     {
-        self.current.control[2] & 0x08 != 0
-    }
-
-    /// The current, the saved and the default values of a page, and its changeable bits, have one
-    /// length: PAGE LENGTH.
-    #[tactic(auto, using(crate::proofs::PageTable::lengths))]
-    pub fn values_have_page_length(&self, page: ModePage)
-        ensures current { length (values_of self.now.current page) ≡ page_length page }
-        ensures saved { length (values_of self.now.saved page) ≡ page_length page }
-        ensures defaults { length (values_of default_values page) ≡ page_length page }
-        ensures changeable { length (values_of changeable_bits page) ≡ page_length page }
-    {
-        let _current = self.current.of(page);
-        let _saved = self.saved.of(page);
+        self.current.control[2] & SWP != 0
     }
 }

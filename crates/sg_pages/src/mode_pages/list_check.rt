@@ -9,16 +9,31 @@ ghost use Rattle.sg_pages.specs.ModeSelect.{least, part_at};
 ghost use Rattle.sg_pages.specs.ModeSelect.{part_faults, unless_fault};
 
 use super::ModeSelectFault;
-use super::block_descriptor::{long_descriptor, short_descriptor};
+use super::block_descriptor::{
+    LONG_DESCRIPTOR_LENGTH, LONG_NUMBER_LENGTH, SHORT_DESCRIPTOR_LENGTH, SHORT_NUMBER_LENGTH,
+    long_descriptor, short_descriptor,
+};
 use byteorder::{BigEndian, ByteOrder};
 use sg_wire::are_zeros;
 
-// What is ignored in the header before BLOCK DESCRIPTOR LENGTH.
-const IGNORED_IN_HEADER_6: [u8; 3] = [0xFF, 0x00, 0xFF];
+// The length of the header of MODE SELECT(6) and of (10), in bytes.
+const HEADER_LENGTH_6: usize = 4;
 
-const IGNORED_IN_HEADER_10: [u8; 6] = [0xFF, 0xFF, 0x00, 0xFF, 0x01, 0x00];
+const HEADER_LENGTH_10: usize = 8;
 
-// Byte 4 of the header of MODE SELECT(10).
+// Where BLOCK DESCRIPTOR LENGTH begins in it.
+const LENGTH_OFFSET_6: usize = 3;
+
+const LENGTH_OFFSET_10: usize = 6;
+
+// What is ignored before that.
+const IGNORED_IN_HEADER_6: [u8; LENGTH_OFFSET_6] = [0xFF, 0x00, 0xFF];
+
+const IGNORED_IN_HEADER_10: [u8; LENGTH_OFFSET_10] = [0xFF, 0xFF, 0x00, 0xFF, 0x01, 0x00];
+
+// LONGLBA of the header of MODE SELECT(10): its byte, and its bit there.
+const LONGLBA_OFFSET: usize = 4;
+
 const LONGLBA: u8 = 0x01;
 
 // The offset of the first byte that differs from the expected one in a bit that is not ignored. The
@@ -69,7 +84,11 @@ pub(super) fn check(
 pub(super) fn header_length(ten: bool) -> usize
     ensures { result ≡ header_length ten }
 {
-    if ten { 8 } else { 4 }
+    if ten {
+        HEADER_LENGTH_10
+    } else {
+        HEADER_LENGTH_6
+    }
 }
 
 // Checks the header, and returns the length of the block descriptor.
@@ -81,17 +100,19 @@ pub(super) fn check_header(list: &[u8], ten: bool) -> Result<usize, ModeSelectFa
     ensures length { OnOk result (IsTrue (is_descriptor_length ten list.now)) }
 {
     if ten {
-        check(list, 0, 8, &[0; 6], &IGNORED_IN_HEADER_10)?;
-        let descriptor = usize::from(BigEndian::read_u16(&list[6..]));
-        if !is_descriptor_length(descriptor, list[4] & LONGLBA != 0) {
-            return Err(ModeSelectFault::Field(6));
+        let zeros = [0; LENGTH_OFFSET_10];
+        check(list, 0, HEADER_LENGTH_10, &zeros, &IGNORED_IN_HEADER_10)?;
+        let descriptor = usize::from(BigEndian::read_u16(&list[LENGTH_OFFSET_10..]));
+        if !is_descriptor_length(descriptor, list[LONGLBA_OFFSET] & LONGLBA != 0) {
+            return Err(ModeSelectFault::Field(LENGTH_OFFSET_10));
         }
         Ok(descriptor)
     } else {
-        check(list, 0, 4, &[0; 3], &IGNORED_IN_HEADER_6)?;
-        let descriptor = usize::from(list[3]);
+        let zeros = [0; LENGTH_OFFSET_6];
+        check(list, 0, HEADER_LENGTH_6, &zeros, &IGNORED_IN_HEADER_6)?;
+        let descriptor = usize::from(list[LENGTH_OFFSET_6]);
         if !is_descriptor_length(descriptor, false) {
-            return Err(ModeSelectFault::Field(3));
+            return Err(ModeSelectFault::Field(LENGTH_OFFSET_6));
         }
         Ok(descriptor)
     }
@@ -100,7 +121,12 @@ pub(super) fn check_header(list: &[u8], ten: bool) -> Result<usize, ModeSelectFa
 fn is_descriptor_length(length: usize, long: bool) -> bool
     ensures { result ≡ (length == 0 || length == descriptor_length long) }
 {
-    length == 0 || length == if long { 16 } else { 8 }
+    let whole = if long {
+        LONG_DESCRIPTOR_LENGTH
+    } else {
+        SHORT_DESCRIPTOR_LENGTH
+    };
+    length == 0 || length == whole
 }
 
 // Checks the block descriptor, which has the length that the header names.
@@ -120,13 +146,17 @@ pub(super) fn check_descriptor(
     let offset = header_length(ten);
     match descriptor {
         0 => Ok(()),
-        8 => {
-            let expected = short_descriptor(accepted_blocks(list, offset, 4, blocks));
-            check(list, offset, 8, &expected, &[0; 8])
+        SHORT_DESCRIPTOR_LENGTH => {
+            let accepted = accepted_blocks(list, offset, SHORT_NUMBER_LENGTH, blocks);
+            let expected = short_descriptor(accepted);
+            let ignored = [0; SHORT_DESCRIPTOR_LENGTH];
+            check(list, offset, SHORT_DESCRIPTOR_LENGTH, &expected, &ignored)
         }
         _ => {
-            let expected = long_descriptor(accepted_blocks(list, offset, 8, blocks));
-            check(list, offset, 16, &expected, &[0; 16])
+            let accepted = accepted_blocks(list, offset, LONG_NUMBER_LENGTH, blocks);
+            let expected = long_descriptor(accepted);
+            let ignored = [0; LONG_DESCRIPTOR_LENGTH];
+            check(list, offset, LONG_DESCRIPTOR_LENGTH, &expected, &ignored)
         }
     }
 }

@@ -8,7 +8,9 @@ ghost use Rattle.sg_pages.specs.ModeSense.{header_after_length, is_requested, le
 ghost use Rattle.sg_pages.specs.ModeSense.{mode_parameter_list, mode_sense};
 ghost use Rattle.sg_pages.specs.ModeSense.{requested_pages, selected_by};
 
-use super::block_descriptor::{long_descriptor, short_descriptor};
+use super::block_descriptor::{
+    LONG_DESCRIPTOR_LENGTH, SHORT_DESCRIPTOR_LENGTH, long_descriptor, short_descriptor,
+};
 use super::mode_page::{CHANGEABLE, DEFAULT, PS};
 use super::{ModePage, ModePages, ModeSenseFault, ModeSenseRequest, PageControl, PageValues};
 use byteorder::{BigEndian, ByteOrder};
@@ -127,8 +129,8 @@ fn descriptor_length(request: &ModeSenseRequest) -> u16
 {
     match (request.dbd, request.llbaa) {
         (true, _) => 0,
-        (false, false) => 8,
-        (false, true) => 16,
+        (false, false) => SHORT_DESCRIPTOR_LENGTH as u16,
+        (false, true) => LONG_DESCRIPTOR_LENGTH as u16,
     }
 }
 

@@ -16,7 +16,7 @@ returns-in-8-clause-result c =
     let list = c.args.list.now in
     let zeros : List ℕ = 0 ∷ 0 ∷ 0 ∷ 0 ∷ 0 ∷ 0 ∷ 0 ∷ 0 ∷ [] in
     let expected = c.short_descriptor-expected.ensures
-    ∙ ap (block_descriptor false) c.accepted_blocks.ensures in
+    ∙ ap (block_descriptor false) c.accepted_blocks-accepted.ensures in
     let faults = short-faults c.args.ten c.args.blocks list c.requires.known
     (sym c.requires.length ∙ c.in-8.is) in
     c.check.ensures.result
@@ -33,7 +33,7 @@ returns-in_default-clause-result c =
     let list = c.args.list.now in
     let zeros : List ℕ = 0 ∷ 0 ∷ 0 ∷ 0 ∷ 0 ∷ 0 ∷ 0 ∷ 0 ∷ 0 ∷ 0 ∷ 0 ∷ 0 ∷ 0 ∷ 0 ∷ 0 ∷ 0 ∷ [] in
     let expected = c.long_descriptor-expected.ensures
-    ∙ ap (block_descriptor true) c.accepted_blocks-in_default.ensures in
+    ∙ ap (block_descriptor true) c.accepted_blocks-accepted-in_default.ensures in
     let faults = long-faults c.args.ten c.args.blocks list c.requires.known
     (λ e. omega (arith, c.requires.length)) (λ e. omega (arith, c.requires.length)) in
     c.check-in_default.ensures.result
