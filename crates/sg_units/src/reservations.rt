@@ -107,6 +107,7 @@ impl Reservations {
             state_after self.old (outcome self.old caller action scope_type list.now) }
         ensures consistent { IsConsistent self.new }
     {
+        // Where a field is used it is known that the state is consistent, which a fault leaves so.
         let _ = &self.state;
         let change = self.change(caller, action, scope_type, list)?;
         Ok(self.apply(caller, change))

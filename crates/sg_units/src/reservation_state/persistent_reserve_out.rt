@@ -58,15 +58,17 @@ impl ReservationState {
         ensures { result ≡ action_outcome self.now caller action kind
             list.now.service_action_key list.now.aptpl }
     {
-        let sark = list.service_action_key;
+        let service_action_key = list.service_action_key;
         match action {
-            OutAction::Register => self.register(caller, sark, list.aptpl),
+            OutAction::Register => self.register(caller, service_action_key, list.aptpl),
             OutAction::Reserve => { self.reserve(caller, kind.ok_or(OutFault::BadType)?) }
             OutAction::Release => { self.release(caller, kind.ok_or(OutFault::BadType)?) }
             OutAction::Clear => Ok(self.clear()),
-            OutAction::Preempt => self.preempt(caller, kind, sark),
-            OutAction::PreemptAndAbort => self.preempt(caller, kind, sark),
-            OutAction::RegisterAndIgnoreExistingKey => self.register(caller, sark, list.aptpl),
+            OutAction::Preempt => self.preempt(caller, kind, service_action_key),
+            OutAction::PreemptAndAbort => self.preempt(caller, kind, service_action_key),
+            OutAction::RegisterAndIgnoreExistingKey => {
+                self.register(caller, service_action_key, list.aptpl)
+            }
         }
     }
 }

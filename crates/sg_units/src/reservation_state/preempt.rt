@@ -20,26 +20,26 @@ impl ReservationState {
         &self,
         caller: Initiator,
         kind: Option<ReservationType>,
-        sark: u64,
+        service_action_key: u64,
     ) -> Result<ReservationChange, OutFault>
-        ensures { result ≡ first_case (preempt_cases self.now caller kind sark) }
+        ensures { result ≡ first_case (preempt_cases self.now caller kind service_action_key) }
     {
-        if self.has_one_holder() && sark == 0 {
+        if self.has_one_holder() && service_action_key == 0 {
             return Err(OutFault::Field(OutList::SERVICE_ACTION_KEY_AT as u8));
         }
         let mut registrations = self.registrations.copied();
-        if self.is_key_of_holder(sark) {
-            registrations.remove_key_of_others(caller, sark);
+        if self.is_key_of_holder(service_action_key) {
+            registrations.remove_key_of_others(caller, service_action_key);
             return self.preempted(caller, kind, registrations);
         }
-        if self.is_held_by_all() && sark == 0 {
+        if self.is_held_by_all() && service_action_key == 0 {
             registrations.remove_others(caller);
             return self.preempted(caller, kind, registrations);
         }
-        if !self.registrations.has_key(sark) {
+        if !self.registrations.has_key(service_action_key) {
             return Err(OutFault::Conflict);
         }
-        registrations.remove_key(sark);
+        registrations.remove_key(service_action_key);
         Ok(self.with_registrations_preempted(registrations))
     }
 

@@ -19,26 +19,28 @@ impl ReservationState {
     pub(super) fn register(
         &self,
         caller: Initiator,
-        sark: u64,
+        service_action_key: u64,
         aptpl: bool,
     ) -> Result<ReservationChange, OutFault>
-        ensures { result ≡ first_case (register_cases self.now caller sark aptpl) }
+        ensures { result ≡ first_case (register_cases self.now caller service_action_key aptpl) }
     {
         if self.registrations.has(caller) {
-            return Ok(if sark == 0 {
-                self.unregistered(caller, aptpl)
-            } else {
-                self.with_registrations(self.registrations.with_key_replaced(caller, sark), aptpl)
-            });
+            if service_action_key == 0 {
+                return Ok(self.unregistered(caller, aptpl));
+            }
+            let replaced = self
+                .registrations
+                .with_key_replaced(caller, service_action_key);
+            return Ok(self.with_registrations(replaced, aptpl));
         }
-        if sark == 0 {
+        if service_action_key == 0 {
             return Ok(self.unchanged());
         }
         if self.registrations.is_full() {
             return Err(OutFault::NoRoom);
         }
         let mut registrations = self.registrations.copied();
-        registrations.register(caller, sark);
+        registrations.register(caller, service_action_key);
         Ok(self.with_registrations(registrations, aptpl))
     }
 
