@@ -6,6 +6,7 @@ use Rattle.sg_pages.specs.declared.identity.IdentityFault.TheVariants.{Text, Loc
 use Rattle.sg_target.specs.Config.{ConfigFields, checked_config}
 use Rattle.sg_target.specs.declared.config.ConfigFault.{ConfigFault}
 use Rattle.sg_target.specs.declared.config.ConfigFault.TheVariants.{Blocks, Pool}
+use Rattle.sg_target.specs.declared.target.TheConstants.{BUFFER_LENGTH}
 use Rattle.sg_tools.specs.ParameterLists.{max_data_out}
 use Rattle.sg_tools.specs.declared.tool.Tool.{Tool}
 use Rattle.sg_tools.specs.declared.tool_fault.ToolFault.{ToolFault}
@@ -85,16 +86,12 @@ abbrev disk_outcome : Option Kept → Outcome
 disk_outcome (Some disk) = Done
 disk_outcome None = NoDisk
 
--- The least length of a buffer for data-in, in bytes: that of 256 blocks.
-abbrev pub least_buffer : ℕ
-least_buffer = 131072
-
 -- How a command ends for an initiator, with a buffer for data-in of a length. Each is checked before
 -- anything is executed.
 abbrev pub execute_outcome : Option Kept → (initiator room : ℕ) → Outcome
 execute_outcome held initiator room =
     if not (nat_lt initiator 8) then UnknownInitiator else
-    (if not (nat_le least_buffer room) then BufferTooShort else disk_outcome held)
+    (if not (nat_le BUFFER_LENGTH room) then BufferTooShort else disk_outcome held)
 
 abbrev pub power_cycle_outcome : Option Kept → Outcome
 power_cycle_outcome = disk_outcome

@@ -3,16 +3,16 @@ use crate::config::Config;
 use crate::laws::limits_are_kept;
 use crate::refusal::{Reason, Refusal};
 use crate::reply::{Reply, format_of};
-use sg_pages::ModePages;
-use sg_store::{Counts, Store};
+use sg_pages::{MAXIMUM_TRANSFER_LENGTH, ModePages};
+use sg_store::{BLOCK_LENGTH, Counts, Store};
 use sg_units::{Attentions, Reservations};
 use sg_wire::{Format, Initiator};
 use std::alloc::{AllocError, Global};
 use std::marker::Model;
 
-/// The least length of the buffer for data-in, in bytes: the 256 blocks that a READ returns at
-/// most.
-pub const BUFFER_LENGTH: usize = 131_072;
+/// The least length of the buffer for data-in, in bytes: that of the most blocks that a READ
+/// returns.
+pub const BUFFER_LENGTH: usize = MAXIMUM_TRANSFER_LENGTH as usize * BLOCK_LENGTH;
 
 /// A target that was built and executes commands.
 #[derive(Drop)]
