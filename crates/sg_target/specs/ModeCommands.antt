@@ -1,6 +1,5 @@
 -- The effects of MODE SENSE and MODE SELECT (SPC-4, 6.11 to 6.14).
 use Rattle.std.specs.Prelude.{ℕ, List, Bool, ◌==◌, if◌then◌else◌, Option, Some, None, Result}
-use Rattle.std.specs.Result.{result_map_both}
 use Rattle.sg_pages.specs.ModePage.{ModeState}
 use Rattle.sg_pages.specs.ModeSelect.{changed_by, mode_select}
 use Rattle.sg_pages.specs.ModeSense.{RequestFields, mode_sense}
@@ -15,6 +14,7 @@ use Rattle.sg_units.specs.Attentions.{Pending}
 use Rattle.sg_units.specs.Raised.{raised_for_each, raised_for_others}
 use Rattle.sg_units.specs.declared.unit_attention.UnitAttention.TheVariants.{ModeParametersChanged}
 use Rattle.sg_target.specs.Effect.{Effect, no_effect}
+use Rattle.sg_target.specs.Refusal.{or_refused}
 use Rattle.sg_target.specs.State.{State}
 use Rattle.sg_target.specs.declared.refusal.Reason.TheVariants.{InvalidFieldInCdb}
 use Rattle.sg_target.specs.declared.refusal.Reason.TheVariants.{InvalidFieldInParameterList}
@@ -52,8 +52,7 @@ sense_refusal Subpage = CheckCondition (InvalidFieldInCdb 3)
 
 -- The mode parameter list that is requested, or the refusal.
 unfoldable pub mode_parameters : ModeState → RequestFields → Result (List ℕ) Refusal
-mode_parameters modes request =
-    result_map_both (λ list. list) sense_refusal (mode_sense modes request)
+mode_parameters modes request = or_refused sense_refusal (mode_sense modes request)
 
 -- ---- MODE SELECT
 
@@ -65,8 +64,7 @@ select_refusal (Field byte) = CheckCondition (InvalidFieldInParameterList byte)
 -- The mode pages after a parameter list, or the refusal. With SP all of them are saved.
 unfoldable pub selected_modes : State → (ten sp : Bool) → (list : List ℕ) → Result ModeState Refusal
 selected_modes state ten sp list =
-    result_map_both (λ modes. modes) select_refusal
-    (mode_select state.modes list ten sp state.disk.capacity)
+    or_refused select_refusal (mode_select state.modes list ten sp state.disk.capacity)
 
 -- Where a current value has changed, MODE PARAMETERS CHANGED is established for every other
 -- initiator.

@@ -1,7 +1,6 @@
 -- The effects of the commands of logical block provisioning (SBC-3, 4.7 and 5).
 use Rattle.std.specs.Prelude.{ℕ, ◌==◌, ◌&&◌, List, [], ◌∷◌, ◌++◌, map, Bool, false, Result}
 use Rattle.std.specs.List.{list_all}
-use Rattle.std.specs.Result.{result_map_both}
 use Rattle.sg_wire.specs.CutAnswer.{first_bytes}
 use Rattle.sg_wire.specs.UnmapList.{descriptor_data_length_at, unmap_list}
 use Rattle.sg_wire.specs.declared.unmap_list.UnmapListFault.{UnmapListFault}
@@ -12,6 +11,7 @@ use Rattle.sg_store.specs.LbaStatus.{covered, lba_status, status_data}
 use Rattle.sg_target.specs.CapacityData.{block_length}
 use Rattle.sg_target.specs.Effect.{Effect, Range, no_effect, range, counted_range}
 use Rattle.sg_target.specs.Effect.{returning_up_to, with_contents}
+use Rattle.sg_target.specs.Refusal.{or_refused}
 use Rattle.sg_target.specs.State.{State}
 use Rattle.sg_target.specs.declared.refusal.Reason.TheVariants.{ParameterListLengthError}
 use Rattle.sg_target.specs.declared.refusal.Reason.TheVariants.{InvalidFieldInParameterList}
@@ -74,8 +74,7 @@ unmap_list_refusal TooManyDescriptors =
 
 -- The extents that a list names, or the refusal.
 abbrev pub listed_extents : (list : List ℕ) → Result (List Extent) Refusal
-listed_extents list =
-    result_map_both (λ extents. extents) unmap_list_refusal (unmap_list list)
+listed_extents list = or_refused unmap_list_refusal (unmap_list list)
 
 -- ---- WRITE SAME
 

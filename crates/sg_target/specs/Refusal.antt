@@ -1,5 +1,6 @@
 -- Why a command is refused, and the sense data that reports it.
 use Rattle.std.specs.Prelude.{ℕ, List, [], ◌∷◌, Option, Some, None, Result, Ok, Err, true, false}
+use Rattle.std.specs.Result.{result_map_both}
 use Rattle.sg_wire.specs.SenseData.{SenseFields}
 use Rattle.sg_wire.specs.SenseKey.{no_sense, illegal_request, unit_attention, data_protect}
 use Rattle.sg_wire.specs.SenseKey.{aborted_command}
@@ -74,6 +75,10 @@ first_some (None ∷ rest) = first_some rest
 abbrev pub unless_refused : {A : Type 0} → Option Refusal → Result A Refusal → Result A Refusal
 unless_refused None result = result
 unless_refused (Some refusal) result = Err refusal
+
+-- A value that was found sound, or the refusal that reports what is wrong with it.
+abbrev pub or_refused : {A F : Type 0} → (F → Refusal) → Result A F → Result A Refusal
+or_refused refusal found = result_map_both (λ value. value) refusal found
 
 -- What becomes of a value that was found sound, and the refusal where it was not.
 abbrev pub when_sound : {A B : Type 0} → Result A Refusal → (A → B) → Result B Refusal

@@ -1,7 +1,6 @@
 -- The effects of PERSISTENT RESERVE IN and PERSISTENT RESERVE OUT (SPC-4, 5.13).
 use Rattle.std.specs.Prelude.{ℕ, ◌==◌, List, length, Bool, true, false, ◌&&◌, Option, Some, None}
 use Rattle.std.specs.Prelude.{is_none, Result, Ok, Err, if◌then◌else◌}
-use Rattle.std.specs.Result.{result_map_both}
 use Rattle.sg_wire.specs.declared.command.in_action.InAction.{InAction}
 use Rattle.sg_wire.specs.declared.command.in_action.InAction.TheVariants.{ReadKeys, ReadReservation}
 use Rattle.sg_wire.specs.declared.command.in_action.InAction.TheVariants.{ReportCapabilities}
@@ -20,6 +19,7 @@ use Rattle.sg_wire.specs.declared.out_list.OutList.{OutList}
 use Rattle.sg_units.specs.declared.reservation_change.ReservationChange.{ReservationChange}
 use Rattle.sg_units.specs.declared.reservation_state.ReservationState.{ReservationState}
 use Rattle.sg_target.specs.Effect.{Effect, no_effect, returning_up_to}
+use Rattle.sg_target.specs.Refusal.{or_refused}
 use Rattle.sg_target.specs.State.{State}
 use Rattle.sg_target.specs.declared.refusal.Reason.TheVariants.{InsufficientRegistrationResources}
 use Rattle.sg_target.specs.declared.refusal.Reason.TheVariants.{InvalidFieldInCdb}
@@ -73,8 +73,7 @@ fields_out list =
 unfoldable pub reservation_change : State → (initiator : ℕ) → OutAction → (scope_type : ℕ)
     → OutList → Result ReservationChange Refusal
 reservation_change state initiator action scope_type list =
-    result_map_both (λ change. change) out_refusal
-    (outcome state.reservations initiator action scope_type list)
+    or_refused out_refusal (outcome state.reservations initiator action scope_type list)
 
 -- Registrations and reservation change, and conditions are established for other initiators.
 abbrev pub changing_reservations : State → (initiator : ℕ) → ReservationChange → Effect
