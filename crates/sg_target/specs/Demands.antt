@@ -18,7 +18,7 @@ use Rattle.sg_wire.specs.declared.extent.Extent.{Extent}
 use Rattle.sg_pages.specs.ProvisioningPages.{maximum_transfer_length, maximum_write_same_length}
 use Rattle.sg_target.specs.BlockCommands.{blocks_out, bytes_of}
 use Rattle.sg_target.specs.CapacityData.{block_length}
-use Rattle.sg_target.specs.ModeCommands.{mode_sense_request, unless_page_format}
+use Rattle.sg_target.specs.ModeCommands.{page_control_of, unless_page_format}
 use Rattle.sg_target.specs.PrimaryCommands.{format_of, inquiry_page}
 use Rattle.sg_target.specs.ProvisioningCommands.{block_out, listed_extents, unmaps}
 use Rattle.sg_target.specs.Refusal.{if_supported, when_sound}
@@ -70,16 +70,26 @@ mode_select_10 c data_out = mode_select true c.pf c.sp c.list_length data_out
 
 -- MODE SENSE asks for pages of a disk of some blocks; the CDB of six bytes has no LLBAA.
 abbrev pub mode_sense_6 : (blocks : ℕ) → ModeSense6 → Operation
-mode_sense_6 blocks c =
-    let request =
-    mode_sense_request blocks false false c.dbd c.page_control c.page_code c.subpage_code in
-    operation.ReturnModes request c.allocation_length
+mode_sense_6 blocks c = operation.ReturnModes (record {
+  ten = false;
+  llbaa = false;
+  dbd = c.dbd;
+  page_control = page_control_of c.page_control;
+  page_code = c.page_code;
+  subpage_code = c.subpage_code;
+  blocks = blocks;
+}) c.allocation_length
 
 abbrev pub mode_sense_10 : (blocks : ℕ) → ModeSense10 → Operation
-mode_sense_10 blocks c =
-    let request =
-    mode_sense_request blocks true c.llbaa c.dbd c.page_control c.page_code c.subpage_code in
-    operation.ReturnModes request c.allocation_length
+mode_sense_10 blocks c = operation.ReturnModes (record {
+  ten = true;
+  llbaa = c.llbaa;
+  dbd = c.dbd;
+  page_control = page_control_of c.page_control;
+  page_code = c.page_code;
+  subpage_code = c.subpage_code;
+  blocks = blocks;
+}) c.allocation_length
 
 abbrev pub reserve_out : PersistentReserveOut → (data_out : List ℕ) → Demands
 reserve_out c data_out =

@@ -30,20 +30,6 @@ page_control_of pc =
     if pc == 0 then Current
     else (if pc == 1 then Changeable else (if pc == 2 then Default else Saved))
 
--- What a MODE SENSE requests of a disk with a number of blocks: by the CDB of ten bytes, which has
--- LLBAA, or by that of six.
-abbrev pub mode_sense_request : (blocks : ℕ) (ten llbaa dbd : Bool) (pc page_code subpage_code : ℕ)
-    → RequestFields
-mode_sense_request blocks ten llbaa dbd pc page_code subpage_code = record {
-  ten = ten;
-  llbaa = llbaa;
-  dbd = dbd;
-  page_control = page_control_of pc;
-  page_code = page_code;
-  subpage_code = subpage_code;
-  blocks = blocks;
-}
-
 -- A page or a subpage that the disk does not have is an invalid field: PAGE CODE is in byte 2, and
 -- SUBPAGE CODE is byte 3.
 abbrev pub sense_refusal : ModeSenseFault → Refusal

@@ -1,9 +1,9 @@
 // MODE SENSE and MODE SELECT (SPC-4, 6).
-ghost use Rattle.std.specs.Prelude.{◌≡◌, ◌≤◌, ◌<◌, ◌^◌, length, IsTrue};
+ghost use Rattle.std.specs.Prelude.{◌≡◌, ◌≤◌, ◌<◌, ◌^◌, length};
 ghost use Rattle.sg_target.specs.Checks.{requested};
 ghost use Rattle.sg_target.specs.Demands.{mode_select, mode_select_6, mode_select_10};
 ghost use Rattle.sg_target.specs.Demands.{mode_sense_6, mode_sense_10};
-ghost use Rattle.sg_target.specs.ModeCommands.{attentions_after, mode_sense_request, page_control_of};
+ghost use Rattle.sg_target.specs.ModeCommands.{attentions_after, page_control_of};
 ghost use Rattle.sg_target.specs.ModeCommands.{select_refusal, sense_refusal};
 ghost use Rattle.sg_target.specs.Ranges.{IsCharged, cost_bounds, ranges_in};
 ghost use Rattle.sg_target.specs.Reply.{Carries};
@@ -21,7 +21,7 @@ use sg_store::{Counts, Store};
 use sg_units::{Raised, UnitAttention};
 use sg_wire::laws::{answers_are_in_their_buffers, parts_are_put_in_turn};
 use sg_wire::{
-    Cut, Initiator, ModeSelect6, ModeSelect10, ModeSense6, ModeSense10, PageCode, PageControlField,
+    Cut, Initiator, ModeSelect6, ModeSelect10, ModeSense6, ModeSense10, PageControlField,
 };
 use std::marker::Model;
 
@@ -52,11 +52,17 @@ impl Model for RequestedModes {
 pub(crate) fn check_mode_sense_6(blocks: u64, fields: ModeSense6) -> Operation<'static>
     ensures { result ≡ mode_sense_6 blocks fields }
 {
-    let (dbd, pc) = (fields.dbd, fields.page_control);
-    let (page, subpage) = (fields.page_code, fields.subpage_code);
-    let request = mode_sense_request(blocks, false, false, dbd, pc, page, subpage);
+    let request = ModeSenseRequest {
+        ten: false,
+        llbaa: false,
+        dbd: fields.dbd,
+        page_control: page_control_of(fields.page_control),
+        page_code: fields.page_code.number(),
+        subpage_code: fields.subpage_code,
+        blocks,
+    };
     Operation::ReturnModes {
-        request,
+        request: RequestedModes { request },
         allocation_length: u16::from(fields.allocation_length),
     }
 }
@@ -65,39 +71,18 @@ pub(crate) fn check_mode_sense_6(blocks: u64, fields: ModeSense6) -> Operation<'
 pub(crate) fn check_mode_sense_10(blocks: u64, fields: ModeSense10) -> Operation<'static>
     ensures { result ≡ mode_sense_10 blocks fields }
 {
-    let (llbaa, dbd, pc) = (fields.llbaa, fields.dbd, fields.page_control);
-    let (page, subpage) = (fields.page_code, fields.subpage_code);
-    let request = mode_sense_request(blocks, true, llbaa, dbd, pc, page, subpage);
+    let request = ModeSenseRequest {
+        ten: true,
+        llbaa: fields.llbaa,
+        dbd: fields.dbd,
+        page_control: page_control_of(fields.page_control),
+        page_code: fields.page_code.number(),
+        subpage_code: fields.subpage_code,
+        blocks,
+    };
     Operation::ReturnModes {
-        request,
+        request: RequestedModes { request },
         allocation_length: fields.allocation_length,
-    }
-}
-
-// What a MODE SENSE requests of a disk of `blocks` blocks: by the CDB of ten bytes, or by that of six,
-// which has no LLBAA.
-fn mode_sense_request(
-    blocks: u64,
-    ten: bool,
-    llbaa: bool,
-    dbd: bool,
-    page_control: PageControlField,
-    page_code: PageCode,
-    subpage_code: u8,
-) -> RequestedModes
-    requires { IsTrue llbaa → IsTrue ten }
-    ensures { result ≡ mode_sense_request blocks ten llbaa dbd page_control page_code subpage_code }
-{
-    RequestedModes {
-        request: ModeSenseRequest {
-            ten,
-            llbaa,
-            dbd,
-            page_control: page_control_of(page_control),
-            page_code: page_code.number(),
-            subpage_code,
-            blocks,
-        },
     }
 }
 
