@@ -13,7 +13,7 @@ reading state extent =
     record (returning state (blocks state.disk.contents extent.lba extent.count))
     { ranges = range state.disk.contents extent ∷ [] }
 
--- WRITE replaces its blocks by those of data-out, of which it takes 512 bytes for each block.
+-- How many bytes the blocks of an extent have.
 abbrev pub bytes_of : Extent → ℕ
 bytes_of extent = block_length * extent.count
 
@@ -22,10 +22,12 @@ pub record BlocksOutFields : Type 0 where
   pub extent : Extent
   pub bytes : List ℕ
 
+-- They are the first of data-out.
 abbrev pub blocks_out : Extent → (data_out : List ℕ) → BlocksOutFields
 blocks_out extent data_out =
     record { extent = extent; bytes = first_bytes (bytes_of extent) data_out }
 
+-- WRITE replaces its blocks by these.
 abbrev pub writing : State → BlocksOutFields → Effect
 writing state out = let contents = state.disk.contents in record (no_effect state) {
   ranges = range contents out.extent ∷ [];

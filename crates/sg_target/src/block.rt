@@ -123,13 +123,21 @@ impl<'a> Model for BlocksOut<'a> {
         × (length b.bytes.now ≡ bytes_of b.extent) };
 }
 
-/// WRITE(6), whose layout names at most 256 blocks.
-pub(crate) fn check_write_6(extent: Extent, data_out: &[u8]) -> Result<Operation<'_>, Refusal>
+// Takes the bytes of blocks from data-out.
+fn take_blocks(extent: Extent, data_out: &[u8]) -> Result<Operation<'_>, Refusal>
     requires { extent.count ≤ maximum_transfer_length }
     ensures { result ≡ requested (write extent None data_out.now) data_out.now }
 {
     let bytes = needed_data_out(data_out, byte_length(extent) as usize)?;
     Ok(Operation::Write(BlocksOut { extent, bytes }))
+}
+
+/// WRITE(6), whose layout names at most 256 blocks.
+pub(crate) fn check_write_6(extent: Extent, data_out: &[u8]) -> Result<Operation<'_>, Refusal>
+    requires { extent.count ≤ maximum_transfer_length }
+    ensures { result ≡ requested (write extent None data_out.now) data_out.now }
+{
+    take_blocks(extent, data_out)
 }
 
 /// WRITE (10) and (16); TRANSFER LENGTH begins at the byte.
@@ -142,7 +150,7 @@ pub(crate) fn check_write(
         ≡ requested (write extent (too_long extent.count byte) data_out.now) data_out.now }
 {
     check_transfer_length(extent, byte)?;
-    check_write_6(extent, data_out)
+    take_blocks(extent, data_out)
 }
 
 impl<S: Store> Target<S> {

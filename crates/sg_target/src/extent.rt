@@ -32,7 +32,7 @@ pub(crate) fn past_capacity(extent: Extent, capacity: u64) -> Option<Refusal>
 
 /// The refusal of the first of some extents of which some block is past the last one of a disk.
 #[tactic(auto, unfolding(crate::specs::Checks::out_of_range))]
-pub(crate) fn first_past_capacity(capacity: u64, extents: &[Extent]) -> Option<Refusal>
+pub(crate) fn first_past_capacity(extents: &[Extent], capacity: u64) -> Option<Refusal>
     requires { capacity ≤ MAX_CAPACITY }
     ensures value { result ≡ out_of_range capacity extents.now }
     ensures on_disk { IfNone result (AreOnDisk capacity extents.now) }

@@ -76,7 +76,7 @@ pub(crate) fn listed_out_of_range(listed: &ListedExtents<'_>, capacity: u64) -> 
     ensures on_disk { IfNone result (AreOnDisk capacity listed.now) }
 {
     let extents = listed.to_list();
-    first_past_capacity(capacity, extents.as_slice())
+    first_past_capacity(extents.as_slice(), capacity)
 }
 
 impl<S: Store> Target<S> {
