@@ -8,11 +8,12 @@ use Rattle.std.proofs.lemmas.List.{length-map, map-append}
 use Rattle.std.specs.Prelude.{map}
 use Rattle.sg_store.specs.Meter.{Costs, Meter, restarted}
 use Rattle.sg_store.specs.declared.store.Counts.{Counts}
-use Rattle.sg_target.specs.Anchoring.{IsWithinPrice, counted, counted_ranges, disk_anchored_in_turn}
+use Rattle.sg_target.specs.Anchoring.{counted, counted_ranges, disk_anchored_in_turn}
 use Rattle.sg_target.specs.Effect.{Range, range, counted_range}
 use Rattle.sg_target.specs.ProvisioningCommands.{anchored_in_turn, anchoring_in_turn}
 use Rattle.sg_target.specs.ProvisioningCommands.{anchoring_ranges}
-use Rattle.sg_target.specs.Ranges.{Cost, CostBounds, IsCharged, IsCounted, sum_over, least_over}
+use Rattle.sg_target.specs.Ranges.{Cost, CostBounds, IsCharged, IsCounted, IsWithinPrice}
+use Rattle.sg_target.specs.Ranges.{sum_over, least_over}
 use Rattle.sg_target.specs.declared.reply.Reply.{Reply}
 use Rattle.sg_target.specs.declared.reply.Status.TheVariants.{Good}
 use Rattle.sg_store.specs.Disk.{Contents, Disk, anchored, disk_anchored}
@@ -47,13 +48,16 @@ counted-more bounds pool over last before between after so_far costs price least
     let leasts = least-append bounds.least over (last ∷ []) in
     let one = at_most last.counted (bounds.least last.contents last.lba last.count) in
     let longer = length-append over (last ∷ []) in
+    let c = so_far.charge in
     record {
-      visits = omega (arith, so_far.visits, so_far.visited, costs.visits, costs.visits_rise);
-      probes = rw longer (omega (arith, so_far.probes, costs.probes));
-      links = rw longer (omega (arith, so_far.links, costs.links));
-      least = omega (arith, so_far.least, so_far.visited, costs.visits);
-      visited = omega (arith, so_far.visited, costs.visits, costs.visits_rise);
-      restarts = costs.restarts ∙ so_far.restarts;
+      charge = record {
+        visits = omega (arith, c.visits, c.visited, costs.visits, costs.visits_rise);
+        probes = rw longer (omega (arith, c.probes, costs.probes));
+        links = rw longer (omega (arith, c.links, costs.links));
+        visited = omega (arith, c.visited, costs.visits, costs.visits_rise);
+        restarts = costs.restarts ∙ c.restarts;
+      };
+      least = omega (arith, so_far.least, c.visited, costs.visits);
     }
 
 pub turn-more : (m : Contents) (extents : List Extent) (last : Extent)
@@ -170,7 +174,7 @@ module _ (bounds : CostBounds) (pool : ℕ) (m : Contents) (extents : List Exten
 
   -- what was counted over others is within the price where these cost no more and are no longer
   within : (over : List Range) → sum_over bounds.price over ≤ sum_over bounds.price (sent ++ turn)
-      → length over ≤ length (sent ++ turn) → IsCounted bounds pool over before after
+      → length over ≤ length (sent ++ turn) → IsWithinPrice bounds pool over before after
       → IsWithinPrice bounds pool (anchoring_ranges m extents) before after
   within over price count c =
       let links : pool * length over ≤ pool * length (sent ++ turn) =
@@ -189,7 +193,7 @@ module _ (bounds : CostBounds) (pool : ℕ) (m : Contents) (extents : List Exten
   counted-charged c =
       let price = sum-append bounds.price sent turn in
       let count = length-append sent turn in
-      within (counted_ranges m joined) (omega (arith, cheaper)) (omega (arith, shorter)) c
+      within (counted_ranges m joined) (omega (arith, cheaper)) (omega (arith, shorter)) c.charge
 
   -- and else each range was gone over again
   pub all-charged : IsCounted bounds pool (counted_ranges m joined ++ turn) before after
@@ -199,7 +203,7 @@ module _ (bounds : CostBounds) (pool : ℕ) (m : Contents) (extents : List Exten
       let price' = sum-append bounds.price (counted_ranges m joined) turn in
       let count = length-append sent turn in
       let count' = length-append (counted_ranges m joined) turn in
-      within (counted_ranges m joined ++ turn) (omega (arith, cheaper)) (omega (arith, shorter)) c
+      within (counted_ranges m joined ++ turn) (omega (arith, cheaper)) (omega (arith, shorter)) c.charge
 
   pub all-least : IsCounted bounds pool (counted_ranges m joined ++ turn) before after
       → least_over bounds.least (anchoring_ranges m extents) ≤ after.counts.visits

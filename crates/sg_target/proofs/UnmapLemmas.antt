@@ -13,7 +13,6 @@ use Rattle.sg_target.specs.Reply.{executed_reply}
 use Rattle.sg_target.specs.ProvisioningCommands.{ranges_in_turn, unmapped_in_turn}
 use Rattle.sg_target.specs.Ranges.{CostBounds, IsCharged, IsCounted}
 use Rattle.sg_target.proofs.ChargingLemmas.{charged, counted-more}
-use Rattle.sg_target.specs.Anchoring.{IsWithinPrice}
 use Rattle.sg_target.specs.declared.reply.Reply.{Reply}
 
 -- one more extent
@@ -81,21 +80,9 @@ has_headroom bounds pool i contents extents before after p few short visits coun
     mul-le-mul {m₂ = 64} p (omega arith) in
     record {
       visits = omega arith;
-      probes = omega (arith, counted.probes);
-      links =
-          omega (arith, counted.links);
+      probes = omega (arith, counted.charge.probes);
+      links = omega (arith, counted.charge.links);
     }
-
--- what is counted over ranges is within their price
-pub within_price : (bounds : CostBounds) (pool : ℕ) (over : List Range) (before after : Meter)
-    → IsCounted bounds pool over before after → IsWithinPrice bounds pool over before after
-within_price bounds pool over before after c = record {
-  visits = c.visits;
-  probes = c.probes;
-  links = c.links;
-  visited = c.visited;
-  restarts = c.restarts;
-}
 
 -- the reply to a command that has restarted the counts and has unmapped extents
 pub unmapping-charged : (bounds : CostBounds) (extents : List Extent) (before between : Disk)
@@ -112,5 +99,4 @@ unmapping-charged bounds extents before between meter mid after counts reply lef
     let all = subst (λ (m : Meter). IsCounted bounds before.pool over m after) anew here in
     charged bounds before.pool over meter after reply
     (omega (arith, length-ranges before.contents extents))
-    (within_price bounds before.pool over (restarted meter) after all)
-    (λ good. all.least) (ap (λ (r : Reply). r.counts) is ∙ same)
+    all.charge (λ good. all.least) (ap (λ (r : Reply). r.counts) is ∙ same)

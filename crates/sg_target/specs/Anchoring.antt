@@ -1,5 +1,5 @@
 -- What anchoring extents takes, as the store counts it.
-use Rattle.std.specs.Prelude.{◌≡◌, ℕ, ◌+◌, ◌*◌, ◌^◌, ◌≤◌, List, length, map, true, Result, OnOk}
+use Rattle.std.specs.Prelude.{◌≡◌, ℕ, ◌*◌, ◌^◌, ◌≤◌, List, map, true, Result, OnOk}
 use Rattle.sg_wire.specs.UnmapList.{maximum_unmap_descriptors}
 use Rattle.sg_wire.specs.declared.extent.Extent.{Extent}
 use Rattle.sg_store.specs.Disk.{Contents, Disk, need}
@@ -9,7 +9,7 @@ use Rattle.sg_store.specs.declared.store.TheConstants.{MAX_CAPACITY, MAX_POOL}
 use Rattle.sg_target.specs.Effect.{Range}
 use Rattle.sg_target.specs.Joining.{cost_of}
 use Rattle.sg_target.specs.ProvisioningCommands.{anchored_in_turn}
-use Rattle.sg_target.specs.Ranges.{CostBounds, least_over, sum_over}
+use Rattle.sg_target.specs.Ranges.{CostBounds, IsWithinPrice, least_over}
 use Rattle.sg_target.specs.declared.joining.AddressRange.{AddressRange}
 
 abbrev pub disk_anchored_in_turn : Disk → List Extent → Disk
@@ -43,15 +43,6 @@ pub record AreOfOneList (counts : Counts) : Type 0 where
   pub visits : counts.visits ≤ visits_of_list
   pub probes : counts.probes ≤ probe_bound * maximum_unmap_descriptors
   pub links : counts.links ≤ MAX_POOL * maximum_unmap_descriptors
-
--- A store has counted no more than ranges may cost, since a restart.
-pub record IsWithinPrice (bounds : CostBounds) (pool : ℕ) (over : List Range)
-    (before after : Meter) : Type 0 where
-  pub visits : after.counts.visits ≤ sum_over bounds.price over
-  pub probes : after.counts.probes ≤ probe_bound * length over
-  pub links : after.counts.links ≤ pool * length over
-  pub visited : after.total ≡ before.total + after.counts.visits
-  pub restarts : after.restarts ≡ before.restarts
 
 -- A call that can fail has counted no more than ranges may cost, since a restart, and no less than they
 -- cost at least if it succeeds.
