@@ -39,6 +39,7 @@ impl ToEvent for Call<'_> {
     ghost event = { λ call. Event.Call call };
 
     fn to_event(&self) -> Event<'_> {
+        // Field by field, as rt's borrow checker does not cover `*self` where a field is a reference.
         Event::Call(Call {
             initiator: self.initiator,
             cdb: self.cdb,

@@ -36,6 +36,7 @@ use sg_wire::{Command, Extent, Format, InAction, Initiator, ListedExtents, OutAc
 /// which MODE SENSE, MODE SELECT and PERSISTENT RESERVE OUT are checked against as they are executed.
 #[derive(Drop)]
 pub enum Operation<'a> {
+    /// TEST UNIT READY, which its checks answer.
     Nothing,
     /// Returns the oldest unit attention as sense data, and clears it.
     ReturnSense {
@@ -43,11 +44,13 @@ pub enum Operation<'a> {
         /// In bytes.
         allocation_length: u8,
     },
+    /// Returns the standard INQUIRY data, or a page of vital product data.
     ReturnInquiry {
         page: InquiryPage,
         /// In bytes.
         allocation_length: u16,
     },
+    /// Returns a mode parameter list.
     ReturnModes {
         request: RequestedModes,
         /// In bytes.
@@ -61,8 +64,9 @@ pub enum Operation<'a> {
         sp: bool,
         list: ModeList<'a>,
     },
+    /// Returns READ CAPACITY(10) parameter data.
     ReturnCapacity10,
-    /// Up to an allocation length, in bytes.
+    /// Returns READ CAPACITY(16) parameter data, up to an allocation length, in bytes.
     ReturnCapacity16(u32),
     /// Returns blocks.
     Read(BlocksIn),
@@ -89,6 +93,7 @@ pub enum Operation<'a> {
         /// In bytes.
         allocation_length: u32,
     },
+    /// Returns what a service action of PERSISTENT RESERVE IN asks for.
     ReturnReservations {
         action: InAction,
         /// In bytes.
