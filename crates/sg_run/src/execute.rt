@@ -19,8 +19,8 @@ ghost use Rattle.sg_run.specs.RequestLines.{line_request, tool_request};
 use crate::buffers::{Buffers, REPLY_LENGTH};
 use crate::request::{FilledBlocks, LineFault, Request, ToolLine, read_request};
 use crate::text::answer::put_answer;
-use crate::text::header::print_line_header;
-use crate::text::reply::print_reply;
+use crate::text::header::put_line_header;
+use crate::text::reply::put_reply;
 use sg_store::{BLOCK_LENGTH, Store};
 use sg_target::{BUFFER_LENGTH, Call, Target};
 use sg_tools::{Show, exit_status};
@@ -76,27 +76,27 @@ fn execute_request<W: Write, S: Store>(
 {
     match request {
         Request::Nothing => 0,
-        Request::Faulty(fault) => print_fault(number, *fault, out),
+        Request::Faulty(fault) => put_fault(number, *fault, out),
         Request::Send(call) => send(number, call, Show::Hex, buffer, target, out),
         Request::Fill(blocks) => fill_blocks(number, blocks, data_out, buffer, target, out),
-        Request::Show(show, bytes) => print_shown(number, *show, bytes, buffer, out),
+        Request::Show(show, bytes) => put_shown(number, *show, bytes, buffer, out),
         Request::Power => cycle_power(number, target, out),
         Request::Tool(line) => run_tool(alloc, number, line, data_out, buffer, target, out),
     }
 }
 
 // Prints why a line is refused, and returns its exit status.
-fn print_fault<W: Write>(number: u64, fault: LineFault, out: &mut Printer<'_, W>) -> u8
+fn put_fault<W: Write>(number: u64, fault: LineFault, out: &mut Printer<'_, W>) -> u8
     ensures text { PrintsText W.contents out.old out.new
         (line_header number (fault_message fault)) }
     ensures status { result ≡ fault_status fault }
 {
-    print_line_header(number, fault.message(), out);
+    put_line_header(number, fault.message(), out);
     fault.status()
 }
 
 // Prints bytes as an answer, and returns the exit status.
-fn print_shown<W: Write>(
+fn put_shown<W: Write>(
     number: u64,
     show: Show,
     bytes: &[u8],
@@ -109,7 +109,7 @@ fn print_shown<W: Write>(
     ensures status { result ≡ 0 }
 {
     let (_, lines) = buffer.split_at_mut(BUFFER_LENGTH);
-    print_line_header(number, b"SHOWN", out);
+    put_line_header(number, b"SHOWN", out);
     put_answer(show, bytes, lines, out);
     0
 }
@@ -124,7 +124,7 @@ fn cycle_power<W: Write, S: Store>(
         (power_outcome number target.old.state) }
 {
     target.power_cycle();
-    print_line_header(number, b"POWER", out);
+    put_line_header(number, b"POWER", out);
     0
 }
 
@@ -188,7 +188,7 @@ fn run_tool<W: Write, S: Store>(
             };
             send(number, &call, plan.show, buffer, target, out)
         }
-        Err(fault) => print_fault(number, LineFault::of_tool(fault), out),
+        Err(fault) => put_fault(number, LineFault::of_tool(fault), out),
     }
 }
 
@@ -208,7 +208,7 @@ fn send<W: Write, S: Store>(
     let (data_in, lines) = buffer.split_at_mut(BUFFER_LENGTH);
     let reply = target.execute(call.initiator, call.cdb, call.data_out, data_in);
     let sense = Sense::read(reply.sense.as_slice());
-    print_reply(
+    put_reply(
         number,
         &reply,
         sense,

@@ -8,7 +8,7 @@ use std::io::Write;
 
 /// Prints a message about the line with this number, as in `line 12: GOOD`.
 #[tactic(auto, using(crate::proofs::TextLemmas::prints))]
-pub(crate) fn print_line_header<W: Write>(number: u64, message: &[u8], out: &mut Printer<'_, W>)
+pub(crate) fn put_line_header<W: Write>(number: u64, message: &[u8], out: &mut Printer<'_, W>)
     ensures { PrintsText W.contents out.old out.new (line_header number message.now) }
 {
     out.put(b"line ");

@@ -7,8 +7,8 @@ ghost use Rattle.sg_decode.specs.HexText.{gathered_text};
 ghost use Rattle.sg_run.specs.Outcome.{reply_text, status_name};
 
 use super::answer::put_answer;
-use super::header::print_line_header;
-use super::sense::print_sense;
+use super::header::put_line_header;
+use super::sense::put_reply_sense;
 use sg_target::{Reply, Status};
 use sg_tools::Show;
 use sg_wire::{Printer, Sense};
@@ -17,7 +17,7 @@ use std::io::Write;
 /// Prints a reply: its status, its sense data, of which `sense` was read, and under GOOD its data-in,
 /// by lines that are gathered in `lines`.
 #[tactic(auto, using(crate::proofs::TextLemmas::prints))]
-pub(crate) fn print_reply<W: Write>(
+pub(crate) fn put_reply<W: Write>(
     number: u64,
     reply: &Reply,
     sense: Option<Sense>,
@@ -31,8 +31,8 @@ pub(crate) fn print_reply<W: Write>(
     ensures { PrintsText W.contents out.old out.new
         (reply_text number show reply.now.status reply.now.sense data_in.now) }
 {
-    print_line_header(number, status_name(reply.status), out);
-    print_sense(reply.sense.as_slice(), sense, out);
+    put_line_header(number, status_name(reply.status), out);
+    put_reply_sense(reply.sense.as_slice(), sense, out);
     if let Status::Good = reply.status {
         put_answer(show, data_in, lines, out);
     }

@@ -12,7 +12,11 @@ use std::io::Write;
 /// Prints the line of sense data, if there is some. `sense` is what was read of it, `None` where it could
 /// not be read.
 #[tactic(auto, using(crate::proofs::TextLemmas::prints), unfolding(sg_decode::specs::SenseText::sense_line))]
-pub(crate) fn print_sense<W: Write>(bytes: &[u8], sense: Option<Sense>, out: &mut Printer<'_, W>)
+pub(crate) fn put_reply_sense<W: Write>(
+    bytes: &[u8],
+    sense: Option<Sense>,
+    out: &mut Printer<'_, W>,
+)
     requires { option_map fields_of sense ≡ read_sense bytes.now }
     ensures { PrintsText W.contents out.old out.new (sense_lines bytes.now) }
 {

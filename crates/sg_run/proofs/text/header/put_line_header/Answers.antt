@@ -1,5 +1,5 @@
 use Rattle.sg_wire.proofs.PrintingLemmas.{Prints-on}
-use Rattle.sg_run.proofs.text.header.print_line_header.Goals as goal
+use Rattle.sg_run.proofs.text.header.put_line_header.Goals as goal
 
 pub returns : goal.returns
 returns g c = Prints-on c.put.ensures

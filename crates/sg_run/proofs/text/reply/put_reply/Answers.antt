@@ -1,6 +1,6 @@
 use Rattle.sg_wire.proofs.PrintingLemmas.{Prints-nil, Prints-on}
 use Rattle.sg_run.proofs.TextLemmas.{shown-good, shown-none}
-use Rattle.sg_run.proofs.text.reply.print_reply.Goals as goal
+use Rattle.sg_run.proofs.text.reply.put_reply.Goals as goal
 
 pub returns-in-Good : goal.returns-in-Good
 returns-in-Good g c =
@@ -9,8 +9,8 @@ returns-in-Good g c =
       ← c.as_slice.ensures.value,
       shown-good c.args.reply.now.status c.args.show c.args.data_in.now c.in-Good.is,
     )
-    (Prints-on c.print_line_header.ensures
-    (Prints-on c.print_sense.ensures c.put_answer.ensures))
+    (Prints-on c.put_line_header.ensures
+    (Prints-on c.put_reply_sense.ensures c.put_answer.ensures))
 
 pub returns-in_default : goal.returns-in_default
 returns-in_default g c =
@@ -19,5 +19,5 @@ returns-in_default g c =
       ← c.as_slice.ensures.value,
       shown-none c.args.reply.now.status c.args.show c.args.data_in.now c.in_default.not-Good,
     )
-    (Prints-on c.print_line_header.ensures
-    (Prints-on c.print_sense.ensures (Prints-nil _)))
+    (Prints-on c.put_line_header.ensures
+    (Prints-on c.put_reply_sense.ensures (Prints-nil _)))
