@@ -1,7 +1,6 @@
 -- No command takes a table of the disk past its limit.
 use Rattle.std.proofs.Common.{◌≡◌, ◌≤◌, ℕ, List}
 use Rattle.std.proofs.Common.{Bool, true, false, Option, Some, None, Result, Ok, Err, refl, arith}
-use Rattle.std.specs.Result.{result_map_both}
 use Rattle.std.specs.FinMap.{len}
 use Rattle.std.proofs.lemmas.Bool.Decides.{nat_tests}
 use Rattle.sg_wire.specs.declared.command.out_action.OutAction.{OutAction}
@@ -22,7 +21,7 @@ use Rattle.sg_target.specs.Effect.{Effect, returning_up_to}
 use Rattle.sg_target.specs.ModeCommands.{attentions_after, changing_modes, mode_parameters}
 use Rattle.sg_target.specs.ModeCommands.{selected_modes}
 use Rattle.sg_target.specs.PowerCycle.{after_power_cycle}
-use Rattle.sg_target.specs.Refusal.{checked_next, when_sound}
+use Rattle.sg_target.specs.Refusal.{checked_next, or_refused, when_sound}
 use Rattle.sg_target.specs.ReservationCommands.{changing_reservations, out_refusal}
 use Rattle.sg_target.specs.ReservationCommands.{reservation_change}
 use Rattle.sg_target.specs.Semantics.{effect_of}
@@ -83,7 +82,7 @@ module _ (reservations : ReservationsStayConsistent) (queues : QueuesKeepTheirLi
   sound-keeps (Err refusal) becomes h = tt
 
   pub changed : (state : State) (o : Outcome) (change : ReservationChange)
-      → result_map_both (λ change. change) out_refusal o ≡ Ok change → o ≡ Ok change
+      → or_refused out_refusal o ≡ Ok change → o ≡ Ok change
   changed state (Ok change) other e = cc
   changed state (Err fault) other e = cc
 

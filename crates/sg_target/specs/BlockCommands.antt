@@ -22,12 +22,12 @@ pub record BlocksOutFields : Type 0 where
   pub extent : Extent
   pub bytes : List ℕ
 
--- They are the first of data-out.
+-- These bytes are the first of data-out.
 abbrev pub blocks_out : Extent → (data_out : List ℕ) → BlocksOutFields
 blocks_out extent data_out =
     record { extent = extent; bytes = first_bytes (bytes_of extent) data_out }
 
--- WRITE replaces its blocks by these.
+-- WRITE replaces its blocks by these bytes.
 abbrev pub writing : State → BlocksOutFields → Effect
 writing state out = let contents = state.disk.contents in record (no_effect state) {
   ranges = range contents out.extent ∷ [];

@@ -36,7 +36,7 @@ use sg_wire::{Command, Extent, Format, InAction, Initiator, ListedExtents, OutAc
 /// which MODE SENSE, MODE SELECT and PERSISTENT RESERVE OUT are checked against as they are executed.
 #[derive(Drop)]
 pub enum Operation<'a> {
-    /// TEST UNIT READY, which its checks answer.
+    /// Nothing more than the checks: TEST UNIT READY.
     Nothing,
     /// Returns the oldest unit attention as sense data, and clears it.
     ReturnSense {
