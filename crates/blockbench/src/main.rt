@@ -21,10 +21,10 @@ const BLOCKS: u64 = 1 << 30;
 
 const POOL: u32 = 65_536;
 
-// A prime that is no divisor of a range's length, so that its multiples meet each address of the range once.
+/// A prime that is no divisor of a range's length, so that its multiples meet each address of the range once.
 const STRIDE: u64 = 1_000_003;
 
-// The blocks of each READ.
+/// The blocks of each READ.
 const READ_BLOCKS: u32 = 8;
 
 const BLOCK: [u8; BLOCK_LENGTH] = [0xAB; BLOCK_LENGTH];

@@ -24,7 +24,7 @@ const MODES: &[u8] = b"\x43\x00\x10\x08\
     \x8a\x0a\x00\x00\x00\x00\x00\x00\x00\x00\x00\x00\
     \x9c\x0a\x08\x00\x00\x00\x00\x00\x00\x00\x00\x00";
 
-// The bytes of text that are gathered for a write.
+/// The bytes of text that are gathered for a write.
 const TEXT_LENGTH: usize = 65_536;
 
 /// An answer that is decoded.

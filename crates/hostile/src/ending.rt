@@ -47,7 +47,7 @@ impl Ending {
     }
 }
 
-// SKSV and C/D are set, and the pointer is to a byte of the CDB (SPC-4, 4.5.2.4.2).
+/// SKSV and C/D are set, and the pointer is to a byte of the CDB (SPC-4, 4.5.2.4.2).
 fn invalid_field(byte: usize) -> [u8; 18] {
     let [high, low] = u16::try_from(byte).unwrap_or(u16::MAX).to_be_bytes();
     [

@@ -34,7 +34,7 @@ const BITS: [u8; 8] = [0x01, 0x02, 0x04, 0x08, 0x10, 0x20, 0x40, 0x80];
 /// How many tries of the wrong rows end otherwise than the rows say.
 const FOUND: u64 = 4;
 
-// In bytes.
+/// In bytes.
 const LONGEST_CDB: usize = 16;
 
 /// A disk, and the initiator whose commands are tried.

@@ -68,10 +68,10 @@ impl BlockMap {
         self.table.count()
     }
 
-    // Makes the addresses from one on data, with the blocks of a source, or anchors them.
-    //
-    // # Errors
-    // More addresses would have a block of the pool than it has. Nothing is changed then.
+    /// Makes the addresses from one on data, with the blocks of a source, or anchors them.
+    ///
+    /// # Errors
+    /// More addresses would have a block of the pool than it has. Nothing is changed then.
     fn remap(&mut self, lba: u64, count: u32, kind: Kind, source: &Source) -> Result<(), Space>
         requires range { lba + count ≤ (disk_of self.old).capacity }
         requires blocks { HasBlocks source.now count }

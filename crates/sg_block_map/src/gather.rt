@@ -15,7 +15,7 @@ use sg_table::{Draft, Run, RunTable};
 /// changing these.
 pub(crate) type Gathered = Draft;
 
-// Begins at the index of an address, with the run before it if that reaches the address.
+/// Begins at the index of an address, with the run before it if that reaches the address.
 fn gather_before(table: &mut RunTable, gathered: &mut Gathered, index: usize, low: u64)
     requires index { IsLowerBound table.old.records index low }
     requires room { HaveRoom table.old gathered.old }
@@ -39,7 +39,7 @@ fn gather_before(table: &mut RunTable, gathered: &mut Gathered, index: usize, lo
     }
 }
 
-// Goes on from an index, up to the first run that begins past an address.
+/// Goes on from an index, up to the first run that begins past an address.
 fn gather_from(table: &mut RunTable, gathered: &mut Gathered, index: usize, high: u64)
     requires runs { AreMaximal 0 (MAX_CAPACITY + 1) table.old.records }
     requires gathered { AreGatheredTo table.old.records gathered.old index }

@@ -11,7 +11,7 @@ use sg_pool::{Pool, read_first};
 use sg_store::{BLOCK_LENGTH, MAX_CAPACITY};
 use sg_table::{Run, run_at};
 
-// Reads the block at an address, and goes on to the next one.
+/// Reads the block at an address, and goes on to the next one.
 fn read_address(pool: &mut Pool, runs: &[Run], walk: Walk, lba: u64, bytes: &mut [u8]) -> Walk
     requires ahead { AreAhead pool.old.next (length pool.old.next) lba
         (ahead_of runs.now walk.run walk.at) }

@@ -25,7 +25,7 @@ pub(crate) fn follow(pool: &mut Pool, first: u32, count: u32) -> u32
     slot
 }
 
-// The first `count` addresses of a run, and those behind them.
+/// The first `count` addresses of a run, and those behind them.
 fn split(pool: &mut Pool, run: Run, count: u32) -> (Run, Run)
     requires within { (0 < count) × (count < run.count) }
     requires below { AreBelow (length pool.old.next) (chain pool.old.next run.first count) }

@@ -44,7 +44,7 @@ pub(crate) fn cursor_over(table: &mut RunTable, lba: u64) -> Cursor
     Cursor::new(table, index)
 }
 
-// The cursor's run, if it has the address or one before it.
+/// The cursor's run, if it has the address or one before it.
 fn run_over(cursor: Cursor, lba: u64) -> Option<Run>
     ensures { result ≡ run_over cursor.next lba }
 {
@@ -52,7 +52,7 @@ fn run_over(cursor: Cursor, lba: u64) -> Option<Run>
     if run.start <= lba { Some(run) } else { None }
 }
 
-// The descriptor that begins at an address, and the cursor where it ends.
+/// The descriptor that begins at an address, and the cursor where it ends.
 fn describe(
     table: &mut RunTable,
     cursor: Cursor,

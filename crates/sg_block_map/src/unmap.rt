@@ -19,7 +19,7 @@ use sg_pool::Pool;
 use sg_store::{MAX_CAPACITY, MAX_POOL};
 use sg_table::{Draft, Run, RunTable};
 
-// Keeps a part of a run, if there is one.
+/// Keeps a part of a run, if there is one.
 fn keep(remaining: &mut Draft, part: Option<Run>)
     requires { length remaining.old.records + length (option_to_list part) ≤ remaining.old.room }
     ensures { remaining.new
@@ -30,7 +30,7 @@ fn keep(remaining: &mut Draft, part: Option<Run>)
     }
 }
 
-// Frees the slots of a part of a run, if there is one.
+/// Frees the slots of a part of a run, if there is one.
 fn give(pool: &mut Pool, part: Option<Run>)
     requires chain { IfSome part (λ run. IsChain pool.old.next run.first run.last run.count) }
     requires below { AreBelow (length pool.old.next)
@@ -53,7 +53,7 @@ fn give(pool: &mut Pool, part: Option<Run>)
     }
 }
 
-// Frees the slots of a run's addresses in a range, and keeps its other parts.
+/// Frees the slots of a run's addresses in a range, and keeps its other parts.
 fn unmap_run(pool: &mut Pool, remaining: &mut Draft, run: Run, low: u64, high: u64)
     requires slots { HasOwnSlots pool.old run }
     requires room { length remaining.old.records + run.count ≤ remaining.old.room }

@@ -21,7 +21,7 @@ use sg_pool::{Pool, Source};
 use sg_store::{BLOCK_LENGTH, MAX_CAPACITY};
 use sg_table::{Kind, Run, RunTable, run_at};
 
-// How far a range is written.
+/// How far a range is written.
 #[derive(Clone, Copy)]
 struct Progress {
     // The run of the addresses that are written, with the data right before the range. At
@@ -31,7 +31,7 @@ struct Progress {
     walk: Walk,
 }
 
-// Joins a run to the end of another, which may have no address yet.
+/// Joins a run to the end of another, which may have no address yet.
 fn join(pool: &mut Pool, done: Run, other: Run) -> Run
     requires slot { 0 < done.count → done.last < length pool.old.next }
     requires used { 0 < done.count → occurrences done.last pool.old.free ≡ 0 }
@@ -56,7 +56,7 @@ fn join(pool: &mut Pool, done: Run, other: Run) -> Run
     }
 }
 
-// Puts a block into a slot, if it is for a run of data. No block is touched for one that is anchored.
+/// Puts a block into a slot, if it is for a run of data. No block is touched for one that is anchored.
 fn set_block(pool: &mut Pool, slot: u32, kind: Kind, bytes: &[u8])
     requires slot { slot < length pool.old.blocks }
     requires byte_count { length bytes.now ≡ BLOCK_LENGTH }
@@ -69,8 +69,8 @@ fn set_block(pool: &mut Pool, slot: u32, kind: Kind, bytes: &[u8])
     }
 }
 
-// Puts the address where the run ends, and joins the address to the run. One that has a slot keeps
-// it, and any other takes a free one. A run of data gets the block there.
+/// Puts the address where the run ends, and joins the address to the run. One that has a slot keeps
+/// it, and any other takes a free one. A run of data gets the block there.
 fn put_address(
     pool: &mut Pool,
     runs: &[Run],
@@ -119,8 +119,8 @@ fn put_address(
     Progress { done, walk }
 }
 
-// Splits the runs at the first address of a range. The part before it is to be joined if it is of the
-// range's kind, and is kept apart if not.
+/// Splits the runs at the first address of a range. The part before it is to be joined if it is of the
+/// range's kind, and is kept apart if not.
 fn begin(pool: &mut Pool, runs: &[Run], lba: u64, kind: Kind) -> (Option<Run>, Progress)
     requires ahead { AreAhead pool.old.next (length pool.old.next) 0 runs.now }
     requires headroom { pool.old.links + length (expanded pool.old.next runs.now) ≤ u64.MAX }
@@ -150,8 +150,8 @@ fn begin(pool: &mut Pool, runs: &[Run], lba: u64, kind: Kind) -> (Option<Run>, P
     (front, Progress { done: none, walk })
 }
 
-// Joins the run that is ahead, which meets or touches the end of the range, if it is of the range's
-// kind. Any other is kept apart.
+/// Joins the run that is ahead, which meets or touches the end of the range, if it is of the range's
+/// kind. Any other is kept apart.
 fn finish(pool: &mut Pool, progress: Progress) -> (Run, Option<Run>)
     requires slot { 0 < progress.done.count → progress.done.last < length pool.old.next }
     requires used { 0 < progress.done.count → occurrences progress.done.last pool.old.free ≡ 0 }
@@ -167,9 +167,9 @@ fn finish(pool: &mut Pool, progress: Progress) -> (Run, Option<Run>)
     (progress.done, Some(run))
 }
 
-// Puts the addresses from one on into a run of a kind, with the blocks of a source if it is data. The
-// runs of this kind near the range and its addresses become one run of the table. There have to be
-// free slots for the addresses that have none.
+/// Puts the addresses from one on into a run of a kind, with the blocks of a source if it is data. The
+/// runs of this kind near the range and its addresses become one run of the table. There have to be
+/// free slots for the addresses that have none.
 fn put_range(
     table: &mut RunTable,
     pool: &mut Pool,

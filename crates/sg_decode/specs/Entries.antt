@@ -75,7 +75,7 @@ caching = part (codes "    WCE: ") (Bits 2 2 2) ∷ part (codes ", RCD: ") (Bits
 abbrev control : Line
 control = part (codes "    D_SENSE: ") (Bits 2 2 2) ∷ part (codes ", SWP: ") (Bits 4 3 3) ∷ []
 
--- Informational exceptions control (SBC-3, 6.4).
+-- Informational exceptions control (SPC-4, 7.5).
 abbrev informational_exceptions : Line
 informational_exceptions = part (codes "    DEXCPT: ") (Bits 2 3 3) ∷ []
 

@@ -113,7 +113,7 @@ impl EntryKind {
         }
     }
 
-    // The length of its header.
+    /// The length of its header.
     fn header(self, bytes: &[u8]) -> usize
         ensures value { result ≡ (entry_of self).header bytes.now }
         ensures not_zero { 1 ≤ result }
@@ -129,7 +129,7 @@ impl EntryKind {
         }
     }
 
-    // The number of bytes behind its header.
+    /// The number of bytes behind its header.
     fn following(self, bytes: &[u8]) -> usize
         requires { (entry_of self).header bytes.now ≤ length bytes.now }
         ensures value { result ≡ (entry_of self).following bytes.now }
@@ -161,7 +161,7 @@ impl EntryKind {
     }
 }
 
-// The line of a designation descriptor.
+/// The line of a designation descriptor.
 fn designator_line(own: &[u8]) -> &'static [Field]
     requires { 4 ≤ length own.now }
     ensures line { line_of result.now ≡ designator_line own.now }
@@ -175,10 +175,10 @@ fn designator_line(own: &[u8]) -> &'static [Field]
     }
 }
 
-// SPF, a bit of a mode page's first byte (SPC-4, 7.5): there is a subpage code.
+/// SPF, a bit of a mode page's first byte (SPC-4, 7.5): there is a subpage code.
 const SPF: u8 = 0x40;
 
-// Whether a mode page has a subpage code, and two bytes of length.
+/// Whether a mode page has a subpage code, and two bytes of length.
 fn has_subpage(page: &[u8]) -> bool
     ensures { result ≡ has_subpage page.now }
 {
@@ -188,7 +188,7 @@ fn has_subpage(page: &[u8]) -> bool
     }
 }
 
-// PAGE LENGTH of a mode page.
+/// PAGE LENGTH of a mode page.
 fn parameter_length(page: &[u8]) -> usize
     requires { (entry_of EntryKind.ModePages).header page.now ≤ length page.now }
     ensures value { result ≡ (entry_of EntryKind.ModePages).following page.now }
@@ -222,7 +222,7 @@ fn page_line(page: &[u8]) -> &'static [Field]
     }
 }
 
-// Prints some parameters of a page without subpage code that has them all.
+/// Prints some parameters of a page without subpage code that has them all.
 fn put_parameters<W: Write>(page: &[u8], out: &mut Printer<'_, W>)
     requires { 1 ≤ length page.now }
     ensures { PrintsText W.contents out.old out.new
@@ -239,7 +239,7 @@ fn put_parameters<W: Write>(page: &[u8], out: &mut Printer<'_, W>)
     }
 }
 
-// The line of some parameters of a page, by its page code.
+/// The line of some parameters of a page, by its page code.
 fn parameter_line(code: u8) -> Option<&'static [Field]>
     ensures line { option_to_list (option_map (λ fields. line_of fields.now) result)
         ≡ parameter_lines code }

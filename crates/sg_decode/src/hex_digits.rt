@@ -74,14 +74,14 @@ pub(super) fn padded(bytes: &[u8]) -> u8x16
     u8x16::from_array(padded)
 }
 
-// The first digit of each byte: its high half, looked up in the sixteen digits.
+/// The first digit of each byte: its high half, looked up in the sixteen digits.
 fn high_digits(bytes: u8x16) -> u8x16
     ensures { result ≡ map high_digit bytes }
 {
     u8x16::from_array(LOWER_DIGITS).swizzle_dyn(bytes >> u8x16::splat(4))
 }
 
-// The second digit of each byte, by its low half.
+/// The second digit of each byte, by its low half.
 fn low_digits(bytes: u8x16) -> u8x16
     ensures { result ≡ map low_digit bytes }
 {

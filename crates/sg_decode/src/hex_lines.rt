@@ -17,11 +17,11 @@ const LINE_BYTES: usize = 16;
 
 const LINE_TEXT: usize = 60;
 
-// How many lines are put at once: as many as have offsets that differ in one digit. They are
-// gathered first, since bytes that were just written in small parts are slow to copy.
+/// How many lines are put at once: as many as have offsets that differ in one digit. They are
+/// gathered first, since bytes that were just written in small parts are slow to copy.
 const LINES: usize = 16;
 
-// An offset has 32 bits.
+/// An offset has 32 bits.
 const OFFSETS: usize = 1 << 32;
 
 /// The length of the text of the lines that are gathered, in bytes.
@@ -52,8 +52,8 @@ pub fn put_hex_lines<W: Write>(bytes: &[u8], text: &mut [u8], out: &mut Printer<
     }
 }
 
-// Writes the lines of bytes that begin at an offset, a multiple of 256, over the first bytes of a
-// text, and returns their length.
+/// Writes the lines of bytes that begin at an offset, a multiple of 256, over the first bytes of a
+/// text, and returns their length.
 #[tactic(auto, unfolding(crate::specs::HexPieces::first_hex_lines_from))]
 fn write_lines(offset: u32, bytes: &[u8], text: &mut [u8]) -> usize
     requires multiple { offset % 256 ≡ 0 }
@@ -70,8 +70,8 @@ fn write_lines(offset: u32, bytes: &[u8], text: &mut [u8]) -> usize
     len
 }
 
-// Writes a line of at most sixteen bytes, likewise. Its offset is that of `head`, but for the last
-// digit but one, which is the line's number.
+/// Writes a line of at most sixteen bytes, likewise. Its offset is that of `head`, but for the last
+/// digit but one, which is the line's number.
 fn write_line(head: u8x16, number: usize, bytes: &[u8], text: &mut [u8]) -> usize
     requires head { length head ≡ 16 }
     requires number { number < 16 }
@@ -89,7 +89,7 @@ fn write_line(head: u8x16, number: usize, bytes: &[u8], text: &mut [u8]) -> usiz
     12 + 3 * bytes.len()
 }
 
-// Writes at most sixteen bytes, each with a blank before it, and ends the line.
+/// Writes at most sixteen bytes, each with a blank before it, and ends the line.
 fn write_bytes(bytes: &[u8], text: &mut [u8])
     requires at_most_16 { length bytes.now ≤ 16 }
     requires room { 49 ≤ length text.old }

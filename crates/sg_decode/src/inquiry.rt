@@ -25,7 +25,7 @@ const LINES: [&[Field]; 8] = [
     &[Field(b"  revision: ", Value::Text(32, 4))],
 ];
 
-// The bytes behind those of the lines.
+/// The bytes behind those of the lines.
 const DUMP: usize = 36;
 
 /// Prints standard INQUIRY data (SPC-4, 6.6.2), and what follows its 36 bytes in hex lines.

@@ -94,7 +94,7 @@ pub(crate) fn show_entries<W: Write>(
     }
 }
 
-// The bytes from `first` on, none where it is past them.
+/// The bytes from `first` on, none where it is past them.
 fn bytes_from(first: usize, bytes: &[u8]) -> &[u8]
     ensures { result.now ≡ drop first bytes.now }
 {

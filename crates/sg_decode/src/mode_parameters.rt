@@ -14,8 +14,8 @@ use crate::value::{Field, Value, number_of_two};
 use sg_wire::Printer;
 use std::io::Write;
 
-// LONGLBA, a bit of byte 4 of the header of MODE SENSE(10) (SPC-4, 7.5): the block descriptor is the
-// long one.
+/// LONGLBA, a bit of byte 4 of the header of MODE SENSE(10) (SPC-4, 7.5): the block descriptor is the
+/// long one.
 const LONGLBA: u8 = 0x01;
 
 const HEADER_6: [&[Field]; 4] = [
@@ -82,7 +82,7 @@ fn put_modes_10<W: Write>(bytes: &[u8], out: &mut Printer<'_, W>)
     }
 }
 
-// Shows the block descriptor, which begins at `first`, and the pages behind it.
+/// Shows the block descriptor, which begins at `first`, and the pages behind it.
 fn show_body<W: Write>(
     first: usize,
     long: bool,
@@ -109,7 +109,7 @@ fn show_body<W: Write>(
     }
 }
 
-// Shows the block descriptor, if there is one, and returns whether the pages can follow.
+/// Shows the block descriptor, if there is one, and returns whether the pages can follow.
 fn show_descriptor<W: Write>(
     first: usize,
     long: bool,
@@ -139,7 +139,7 @@ fn show_descriptor<W: Write>(
     true
 }
 
-// The line of a block descriptor.
+/// The line of a block descriptor.
 fn descriptor_line(long: bool, size: usize) -> &'static [Field]
     ensures line { line_of result.now ≡ descriptor_line long size }
     ensures sound { is_sound_line (line_of result.now) ≡ true }

@@ -64,7 +64,7 @@ pub(crate) fn sixteen_digits(bytes: &[u8]) -> [u8; 16]
     digits
 }
 
-// The two digits of a byte, in lower case.
+/// The two digits of a byte, in lower case.
 fn digits_of(byte: u8) -> [u8; 2]
     ensures { result ≡ hex_byte byte }
 {

@@ -56,7 +56,7 @@ fn put_key<W: Write>(key: u8, out: &mut Printer<'_, W>)
     }
 }
 
-// The name of a sense key.
+/// The name of a sense key.
 fn key_name(key: u8) -> Option<&'static [u8]>
     ensures { option_map (λ b. b.now) result ≡ key_name key }
 {

@@ -145,7 +145,7 @@ fn provisioning_name(status: u8) -> Option<&'static [u8]>
     }
 }
 
-// Prints the name of each type whose bit is set in a type mask.
+/// Prints the name of each type whose bit is set in a type mask.
 fn put_reservation_types<W: Write>(types: &[u8], out: &mut Printer<'_, W>)
     requires { 2 ≤ length types.now }
     ensures { PrintsText W.contents out.old out.new (type_names types.now) }

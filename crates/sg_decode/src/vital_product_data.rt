@@ -51,7 +51,7 @@ pub fn put_vpd<W: Write>(bytes: &[u8], out: &mut Printer<'_, W>)
     }
 }
 
-// Shows what follows the header, by the page code.
+/// Shows what follows the header, by the page code.
 fn show_page<W: Write>(code: u8, end: usize, bytes: &[u8], out: &mut Printer<'_, W>)
     requires end { end ≤ 2 ^ 17 }
     requires header { 4 ≤ length bytes.now }
@@ -72,7 +72,7 @@ fn show_page<W: Write>(code: u8, end: usize, bytes: &[u8], out: &mut Printer<'_,
     }
 }
 
-// Shows the unit serial number, as far as it is present.
+/// Shows the unit serial number, as far as it is present.
 fn show_serial<W: Write>(end: usize, bytes: &[u8], out: &mut Printer<'_, W>)
     ensures { PrintsText W.contents out.old out.new
         (shown (Some end) bytes.now (as_present 4 end serial_line bytes.now)) }

@@ -7,7 +7,7 @@ use Rattle.sg_target.specs.Config.{ConfigFields}
 use Rattle.sg_target.specs.PowerCycle.{after_power_cycle}
 use Rattle.sg_target.specs.Ranges.{IsCharged, cost_bounds, ranges, visit_bound}
 use Rattle.sg_target.specs.Reply.{Carries}
-use Rattle.sg_target.specs.State.{IsWithinLimits, powered_on}
+use Rattle.sg_target.specs.State.{IsWithinLimits, new_state}
 use Rattle.sg_target.specs.Step.{step}
 use Rattle.sg_target.specs.declared.reply.Reply.{Reply}
 use Rattle.sg_embed.specs.declared.kept.Kept.{Kept}
@@ -20,7 +20,7 @@ disk_config blocks pool identity = record { blocks = blocks; pool = pool; identi
 
 -- A disk as it is after power on.
 abbrev pub new_disk : ConfigFields → Kept
-new_disk config = record { target = record { state = powered_on config; meter = new_meter } }
+new_disk config = record { target = record { state = new_state config; meter = new_meter } }
 
 -- A command is executed on the disk that was there: reply, state and charge are the target's.
 pub record IsExecuted (initiator : ℕ) (cdb data_out : List ℕ) (old new : Option Kept)

@@ -31,7 +31,7 @@ pub fn decode(alloc: Global, kind: u32, data_in: &[u8], text: &mut [u8]) -> usiz
     }
 }
 
-// The text of an answer. None where memory was refused.
+/// The text of an answer. None where memory was refused.
 fn print(alloc: Global, show: Show, data_in: &[u8]) -> Option<Vec<u8>>
     ensures { IfSome result (λ text. text.items ≡ answer_text show data_in.now) }
 {

@@ -66,7 +66,7 @@ impl Slot {
         }
     }
 
-    // The disk where it is, if there is one.
+    /// The disk where it is, if there is one.
     fn kept(&mut self) -> Option<&mut Kept>
         ensures* lends { sem 𝓛 (lends_kept self.entry result) }
         ensures value { option_map (λ kept. kept.now) result ≡ self.old.held }
@@ -188,7 +188,7 @@ impl Slot {
         Outcome::Done
     }
 
-    // Puts a disk into a slot without one. There is nothing to drop, which the compiler doesn't know.
+    /// Puts a disk into a slot without one. There is nothing to drop, which the compiler doesn't know.
     fn put(&mut self, kept: Box<Kept>)
         requires { self.old.held ≡ None }
         ensures { self.new.held ≡ Some kept.value }
@@ -200,7 +200,7 @@ impl Slot {
 ghost use Rattle.std.specs.Prelude.{◌<◌};
 ghost use Rattle.std.specs.Option.{SomeIff};
 
-// The initiator with a number, if it has one.
+/// The initiator with a number, if it has one.
 fn known_initiator(number: u32) -> Option<Initiator>
     ensures { SomeIff result (number < 8) number }
 {

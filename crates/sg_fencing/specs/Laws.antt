@@ -21,7 +21,7 @@ OnlyWritesChangeBlocks =
     → effect.after.disk ≡ state.disk
 
 -- Nothing has changed, but that the oldest unit attention of an initiator may have been cleared.
--- The reservations of a state are its registrations, its reservation and PRGENERATION.
+-- The reservations of a state are its registrations, its reservation, PRGENERATION and APTPL.
 pub record IsKept (before after : State) (initiator : ℕ) : Type 0 where
   pub identity : after.identity ≡ before.identity
   pub disk : after.disk ≡ before.disk

@@ -11,17 +11,17 @@ pub const MAXIMUM_TRANSFER_LENGTH: u32 = 256;
 /// The most blocks that a WRITE SAME writes.
 pub const MAXIMUM_WRITE_SAME_LENGTH: u32 = 65_536;
 
-// A WRITE SAME of no block is refused.
+/// A WRITE SAME of no block is refused.
 const WSNZ: u8 = 0x01;
 
-// UNMAP and WRITE SAME (16) and (10) unmap blocks (LBPU, LBPWS and LBPWS10), unmapped blocks read as
-// zeros (LBPRZ), and blocks can be anchored (ANC_SUP).
+/// UNMAP and WRITE SAME (16) and (10) unmap blocks (LBPU, LBPWS and LBPWS10), unmapped blocks read as
+/// zeros (LBPRZ), and blocks can be anchored (ANC_SUP).
 const PROVISIONING_BITS: u8 = 0x80 | 0x40 | 0x20 | 0x04 | 0x02;
 
-// PROVISIONING TYPE.
+/// PROVISIONING TYPE.
 const THIN_PROVISIONED: u8 = 0x02;
 
-// The content of Block Limits: fields that are not named here are zero.
+/// The content of Block Limits: fields that are not named here are zero.
 #[tactic(auto, unfolding(crate::specs::ProvisioningPages::block_limits))]
 pub(crate) fn block_limits() -> [u8; 60]
     ensures { result ≡ block_limits }
@@ -40,7 +40,7 @@ pub(crate) fn block_limits() -> [u8; 60]
     bytes
 }
 
-// The content of Logical Block Provisioning: no thresholds, and no group descriptor.
+/// The content of Logical Block Provisioning: no thresholds, and no group descriptor.
 #[tactic(auto, unfolding(crate::specs::ProvisioningPages::logical_block_provisioning))]
 pub(crate) fn logical_block_provisioning() -> [u8; 4]
     ensures { result ≡ logical_block_provisioning }

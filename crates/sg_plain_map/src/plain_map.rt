@@ -46,10 +46,10 @@ impl PlainMap {
     ghost use Rattle.sg_plain_map.specs.Content.{HasMappings, mapping_for};
     ghost use Rattle.sg_plain_map.specs.State.{disk_of, meter_of};
 
-    // Gives the addresses from one on what they are to have.
-    //
-    // # Errors
-    // More addresses would have a slot than the pool has. Nothing changes then.
+    /// Gives the addresses from one on what they are to have.
+    ///
+    /// # Errors
+    /// More addresses would have a slot than the pool has. Nothing changes then.
     fn remap(&mut self, lba: u64, count: u32, content: &Content) -> Result<(), Space>
         requires range { lba + count ≤ (disk_of self.old).capacity }
         requires whole { HasMappings content.now count }

@@ -10,8 +10,8 @@ use sg_pool::{Pool, read_first};
 use sg_store::BLOCK_LENGTH;
 use sg_table::{Cursor, RunTable, run_at};
 
-// Reads the block at the cursor's address, and goes on to the next address. Each record that the
-// cursor passes was visited, and the one where it is.
+/// Reads the block at the cursor's address, and goes on to the next address. Each record that the
+/// cursor passes was visited, and the one where it is.
 fn read_block(
     table: &mut RunTable,
     pool: &Pool,

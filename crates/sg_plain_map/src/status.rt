@@ -19,8 +19,8 @@ use sg_table::{Cursor, Kind, RunTable, run_at};
 use sg_wire::Cut;
 use sg_wire::laws::parts_are_put_in_turn;
 
-// Goes past the records of one kind with addresses in a row, of which the cursor's address is the
-// first.
+/// Goes past the records of one kind with addresses in a row, of which the cursor's address is the
+/// first.
 fn pass_alike(table: &mut RunTable, cursor: Cursor, lba: u64, kind: Kind) -> Cursor
     requires cursor { IsAt table.old.records cursor lba }
     requires table { IsTableOf MAX_CAPACITY table.old.records }
@@ -44,7 +44,7 @@ fn pass_alike(table: &mut RunTable, cursor: Cursor, lba: u64, kind: Kind) -> Cur
     end
 }
 
-// The descriptor that begins at the cursor's address, and the cursor where it ends.
+/// The descriptor that begins at the cursor's address, and the cursor where it ends.
 fn describe(
     table: &mut RunTable,
     cursor: Cursor,

@@ -18,15 +18,15 @@ use crate::kind::run_of_kind;
 use sg_pool::Pool;
 use sg_table::{Cursor, Draft, Kind, Run, RunTable, run_at};
 
-// Whether an address has a record that stays as it is, since it has the kind that it is to have.
+/// Whether an address has a record that stays as it is, since it has the kind that it is to have.
 fn keeps_record(cursor: Cursor, lba: u64, kind: Kind) -> bool
     ensures { result ≡ is_some (of_kind kind (run_at cursor.next lba)) }
 {
     run_of_kind(cursor, lba, kind).is_some()
 }
 
-// Drafts the record of the cursor's address, puts its block, and goes on to the next address. An
-// address that has a slot keeps it, and any other takes a free one.
+/// Drafts the record of the cursor's address, puts its block, and goes on to the next address. An
+/// address that has a slot keeps it, and any other takes a free one.
 fn put_address(
     table: &mut RunTable,
     pool: &mut Pool,

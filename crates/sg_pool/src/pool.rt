@@ -52,7 +52,7 @@ impl Model for Pool {
         × (length p.next.items ≤ MAX_POOL) };
 }
 
-// Appends blocks of zeros as far as that of a slot, unless it is there.
+/// Appends blocks of zeros as far as that of a slot, unless it is there.
 fn extend_to(blocks: &mut Vec<[u8; BLOCK_LENGTH]>, slot: u32)
     requires { slot < vec_capacity blocks.old }
     ensures blocks { blocks.new.items

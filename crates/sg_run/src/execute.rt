@@ -58,7 +58,7 @@ pub(crate) fn execute_line<W: Write, S: Store>(
     Ok(status)
 }
 
-// Does what a line asks for, and prints its text.
+/// Does what a line asks for, and prints its text.
 fn execute_request<W: Write, S: Store>(
     alloc: Global,
     number: u64,
@@ -85,7 +85,7 @@ fn execute_request<W: Write, S: Store>(
     }
 }
 
-// Prints why a line is refused, and returns its exit status.
+/// Prints why a line is refused, and returns its exit status.
 fn put_fault<W: Write>(number: u64, fault: LineFault, out: &mut Printer<'_, W>) -> u8
     ensures text { PrintsText W.contents out.old out.new
         (line_header number (fault_message fault)) }
@@ -95,7 +95,7 @@ fn put_fault<W: Write>(number: u64, fault: LineFault, out: &mut Printer<'_, W>) 
     fault.status()
 }
 
-// Prints bytes as an answer, and returns the exit status.
+/// Prints bytes as an answer, and returns the exit status.
 fn put_shown<W: Write>(
     number: u64,
     show: Show,
@@ -114,7 +114,7 @@ fn put_shown<W: Write>(
     0
 }
 
-// Takes the disk through a power cycle, and returns the exit status.
+/// Takes the disk through a power cycle, and returns the exit status.
 fn cycle_power<W: Write, S: Store>(
     number: u64,
     target: &mut Target<S>,
@@ -128,7 +128,7 @@ fn cycle_power<W: Write, S: Store>(
     0
 }
 
-// Fills blocks with a byte, by WRITE(16), prints the reply and returns its exit status.
+/// Fills blocks with a byte, by WRITE(16), prints the reply and returns its exit status.
 fn fill_blocks<W: Write, S: Store>(
     number: u64,
     blocks: &FilledBlocks,
@@ -154,7 +154,7 @@ fn fill_blocks<W: Write, S: Store>(
     send(number, &call, Show::Nothing, buffer, target, out)
 }
 
-// Fills the first bytes of a buffer.
+/// Fills the first bytes of a buffer.
 fn fill_prefix(buffer: &mut [u8], len: usize, byte: u8)
     requires { len ≤ length buffer.old }
     ensures { take len buffer.new ≡ replicate len byte }
@@ -162,7 +162,7 @@ fn fill_prefix(buffer: &mut [u8], len: usize, byte: u8)
     buffer[..len].fill(byte);
 }
 
-// Sends the command of a tool, prints its reply and returns its exit status.
+/// Sends the command of a tool, prints its reply and returns its exit status.
 fn run_tool<W: Write, S: Store>(
     alloc: Global,
     number: u64,
@@ -192,7 +192,7 @@ fn run_tool<W: Write, S: Store>(
     }
 }
 
-// Sends a command, prints its reply and returns its exit status.
+/// Sends a command, prints its reply and returns its exit status.
 fn send<W: Write, S: Store>(
     number: u64,
     call: &Call,

@@ -29,7 +29,7 @@ pub enum ProvisioningStatus {
 }
 
 impl ProvisioningStatus {
-    // PROVISIONING STATUS.
+    /// PROVISIONING STATUS.
     fn code(self) -> u8
         ensures { result ≡ code_of self }
     {

@@ -93,7 +93,7 @@ impl Leaf {
     }
 }
 
-// Moves the first `count` of the records from an index on to the end.
+/// Moves the first `count` of the records from an index on to the end.
 fn rotate_left(records: &mut [Run], from: usize, count: usize)
     requires { from + count ≤ length records.old }
     ensures { records.new ≡ rotated_left records.old from count }
@@ -101,7 +101,7 @@ fn rotate_left(records: &mut [Run], from: usize, count: usize)
     records[from..].rotate_left(count);
 }
 
-// Moves the last `count` records to an index.
+/// Moves the last `count` records to an index.
 fn rotate_right(records: &mut [Run], from: usize, count: usize)
     requires { from + count ≤ length records.old }
     ensures { records.new ≡ rotated_right records.old from count }

@@ -43,7 +43,7 @@ impl Model for LeafList {
         × (vec_capacity l.slots ≤ MAX_LEAVES) };
 }
 
-// Takes a free slot, or a new one where none is free. Its leaf has no records.
+/// Takes a free slot, or a new one where none is free. Its leaf has no records.
 fn take_slot(slots: &mut Vec<Leaf>, free: &mut Vec<u16>) -> u16
     requires free { All (λ slot. slot < length slots.old.items) free.old.items }
     requires room { length slots.old.items < vec_capacity slots.old + length free.old.items }

@@ -48,7 +48,7 @@ pub(crate) struct Span {
     pub(crate) end: usize,
 }
 
-// No index is in it.
+/// No index is in it.
 const NO_SPAN: Span = Span {
     leaf: 0,
     start: 0,
@@ -56,7 +56,7 @@ const NO_SPAN: Span = Span {
 };
 
 impl Span {
-    // The place of an index in the leaf.
+    /// The place of an index in the leaf.
     fn place(self, index: usize) -> Place
         requires { self.start ≤ index }
         ensures { result ≡ record { leaf = self.leaf; offset = index - self.start } }
@@ -111,7 +111,7 @@ impl Model for Leaves {
         × (l.data_count ≡ data_in (joined l.leaves.leaves)) };
 }
 
-// The directory of one leaf without records, with room for `count` leaves.
+/// The directory of one leaf without records, with room for `count` leaves.
 fn empty_directory(alloc: Global, count: usize) -> Result<Vec<u32>, AllocError>
     requires { count ≤ MAX_LEAVES }
     ensures starts { IfOk result (λ starts. starts.items ≡ 0 ∷ 0 ∷ []) }
@@ -123,7 +123,7 @@ fn empty_directory(alloc: Global, count: usize) -> Result<Vec<u32>, AllocError>
     Ok(starts)
 }
 
-// Adds `more` to the numbers from an index on, and takes `less` off.
+/// Adds `more` to the numbers from an index on, and takes `less` off.
 fn shift(starts: &mut [u32], from: usize, less: u32, more: u32)
     requires from { from ≤ length starts.old }
     requires less { All (λ start. less ≤ start) (drop from starts.old) }
@@ -196,7 +196,7 @@ impl Leaves {
         self.leaves.leaf(leaf).len()
     }
 
-    // The first addresses of all leaves but the first, for a search.
+    /// The first addresses of all leaves but the first, for a search.
     fn other_firsts(&self) -> Probed<'_, u64>
         ensures starts { result.starts ≡ drop 1 (first_addresses self.now.leaves) }
         ensures fresh { result.probes ≡ 0 }
@@ -206,7 +206,7 @@ impl Leaves {
         Probed::new(&self.firsts[1..])
     }
 
-    // The records of a leaf, for a search.
+    /// The records of a leaf, for a search.
     fn probed(&self, leaf: usize) -> Probed<'_, Run>
         requires { leaf < length self.now.leaves }
         ensures starts { result.starts ≡ addresses (leaf_at self.now.leaves leaf) }
@@ -224,7 +224,7 @@ impl Leaves {
         self.leaves.leaf(place.leaf).record(place.offset)
     }
 
-    // The leaf of the record at an index, or the last leaf, found by binary search.
+    /// The leaf of the record at an index, or the last leaf, found by binary search.
     fn leaf_of(&self, index: usize) -> usize
         requires { index ≤ length (joined self.now.leaves) }
         ensures { IsLeafOf self.now.leaves index result }
@@ -241,7 +241,7 @@ impl Leaves {
         low
     }
 
-    // A leaf with its indexes.
+    /// A leaf with its indexes.
     fn span(&self, leaf: usize) -> Span
         requires { leaf < length self.now.leaves }
         ensures span { IsSpan self.now.leaves result }
@@ -254,7 +254,7 @@ impl Leaves {
         }
     }
 
-    // A leaf with its indexes. The calls that follow will mostly look for records of it.
+    /// A leaf with its indexes. The calls that follow will mostly look for records of it.
     fn enter(&mut self, leaf: usize) -> Span
         requires { leaf < length self.old.leaves }
         ensures span { IsSpan self.old.leaves result }

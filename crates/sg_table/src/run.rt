@@ -42,7 +42,7 @@ impl Run {
         }
     }
 
-    // How many of its addresses have data.
+    /// How many of its addresses have data.
     fn data_count(self) -> u64
         ensures value { result ≡ count_if_data self.kind self.count }
         ensures fits { result ≤ u32.MAX }

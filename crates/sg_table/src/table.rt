@@ -135,7 +135,7 @@ impl RunTable {
         self.record(index).start
     }
 
-    // The record at an index. The callers count it.
+    /// The record at an index. The callers count it.
     fn record(&mut self, index: usize) -> Run
         requires { index < length self.old.records }
         ensures value { slice_index_or self.old.records index result ≡ result }

@@ -108,8 +108,8 @@ past_capacity capacity extent =
 unfoldable pub out_of_range : (capacity : ℕ) → List Extent → Option Refusal
 out_of_range capacity extents = first_some (map (past_capacity capacity) extents)
 
--- SWP is set, and the command writes to the medium (SPC-4, Control mode page): also where it names
--- no block.
+-- SWP of the Control mode page is set (SPC-4, 7.5), and the command writes to the medium: also where
+-- it names no block. The additional sense code is our choice.
 unfoldable pub write_protection : ModeState → (writes_medium : Bool) → Option Refusal
 write_protection modes writes_medium =
     if write_protected modes && writes_medium

@@ -16,10 +16,10 @@ pub record State : Type 0 where
   pub attentions : Pending
   pub reservations : ReservationState
 
--- After power on no block is mapped, the mode pages have their default values, and no initiator is
--- registered.
-abbrev pub powered_on : ConfigFields → State
-powered_on config = record {
+-- On a new disk no block is mapped, the mode pages have their default values, POWER ON is pending for
+-- each initiator, and none is registered. `PowerCycle` has what a disk is like after power on.
+abbrev pub new_state : ConfigFields → State
+new_state config = record {
   identity = config.identity;
   disk = empty_disk config.blocks config.pool;
   modes = initial_state;

@@ -20,7 +20,7 @@ use sg_store::laws::remapping_takes_what_is_needed;
 use sg_store::{Space, Store};
 use sg_wire::Extent;
 
-// How many blocks of the pool ranges need, of a store that has counted nothing.
+/// How many blocks of the pool ranges need, of a store that has counted nothing.
 fn count_needed<S: Store>(store: &mut S, ranges: &[AddressRange]) -> u64
     requires at_most { length ranges.now ≤ maximum_unmap_descriptors }
     requires fits { AreWithin (S.disk store.old).capacity ranges.now }
@@ -45,7 +45,7 @@ fn count_needed<S: Store>(store: &mut S, ranges: &[AddressRange]) -> u64
     needed
 }
 
-// Anchors an extent for which the pool has blocks.
+/// Anchors an extent for which the pool has blocks.
 fn anchor_with_room<S: Store>(store: &mut S, extent: Extent)
     requires range { extent.lba + extent.count ≤ (S.disk store.old).capacity }
     requires headroom { HasHeadroom (S.meter store.old).counts }
@@ -62,7 +62,7 @@ fn anchor_with_room<S: Store>(store: &mut S, extent: Extent)
     let _ = anchored;
 }
 
-// Anchors extents in turn, for which the pool has blocks.
+/// Anchors extents in turn, for which the pool has blocks.
 fn anchor_in_turn<S: Store>(store: &mut S, extents: &[Extent])
     requires at_most { length extents.now ≤ maximum_unmap_descriptors }
     requires on_disk { AreOnDisk (S.disk store.old).capacity extents.now }

@@ -31,7 +31,7 @@ pub(crate) const TRANSFER_LENGTH_10: u16 = 7;
 
 pub(crate) const TRANSFER_LENGTH_16: u16 = 10;
 
-// Refuses more blocks than the disk moves at once; TRANSFER LENGTH begins at the byte.
+/// Refuses more blocks than the disk moves at once; TRANSFER LENGTH begins at the byte.
 fn check_transfer_length(extent: Extent, byte: u16) -> Result<(), Refusal>
     ensures refused { IfErr result (λ refusal.
         unsupported_value (too_long extent.count byte) ≡ Some refusal) }
@@ -123,7 +123,7 @@ impl<'a> Model for BlocksOut<'a> {
         × (length b.bytes.now ≡ bytes_of b.extent) };
 }
 
-// Takes the bytes of blocks from data-out.
+/// Takes the bytes of blocks from data-out.
 fn take_blocks(extent: Extent, data_out: &[u8]) -> Result<Operation<'_>, Refusal>
     requires { extent.count ≤ maximum_transfer_length }
     ensures { result ≡ requested (write extent None data_out.now) data_out.now }
@@ -179,7 +179,7 @@ impl<S: Store> Target<S> {
         self.reply_to_write(initiator, written)
     }
 
-    // The reply to a command that writes blocks, or for which there is no space.
+    /// The reply to a command that writes blocks, or for which there is no space.
     pub(crate) fn reply_to_write(
         &mut self,
         initiator: Initiator,
@@ -204,13 +204,13 @@ impl<S: Store> Target<S> {
 
 // ---- READ CAPACITY
 
-// The length of READ CAPACITY(10) parameter data, in bytes.
+/// The length of READ CAPACITY(10) parameter data, in bytes.
 const CAPACITY_10_LENGTH: usize = 8;
 
-// The length of READ CAPACITY(16) parameter data, in bytes.
+/// The length of READ CAPACITY(16) parameter data, in bytes.
 const CAPACITY_16_LENGTH: usize = 32;
 
-// Logical block provisioning is enabled, and blocks that are not mapped read as zeros.
+/// Logical block provisioning is enabled, and blocks that are not mapped read as zeros.
 const LBPME_LBPRZ: u8 = 0xC0;
 
 /// READ CAPACITY(10) parameter data (SBC-3, 5.15.2).

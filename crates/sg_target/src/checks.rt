@@ -50,7 +50,7 @@ impl<S: Store> Target<S> {
         self.check_operation(operation)
     }
 
-    // The unit attention condition that is reported in place of a command.
+    /// The unit attention condition that is reported in place of a command.
     fn blocking_attention(&self, initiator: Initiator, cdb: &[u8]) -> Option<UnitAttention>
         ensures { result ≡ (if is_blocked_by_attention cdb.now
             then oldest self.now.state.attentions initiator else None) }
@@ -62,7 +62,7 @@ impl<S: Store> Target<S> {
         }
     }
 
-    // The refusal of a command that the reservation does not allow to an initiator.
+    /// The refusal of a command that the reservation does not allow to an initiator.
     fn reservation_conflict(&self, initiator: Initiator, cdb: &[u8]) -> Option<Refusal>
         ensures { result ≡ reservation_conflict self.now.state initiator cdb.now }
     {
@@ -72,8 +72,8 @@ impl<S: Store> Target<S> {
         }
     }
 
-    // Checks how an operation uses the medium: whether the disk has its blocks, and whether it writes
-    // while SWP is set.
+    /// Checks how an operation uses the medium: whether the disk has its blocks, and whether it writes
+    /// while SWP is set.
     #[tactic(auto, unfolding(crate::specs::Checks::write_protection))]
     fn check_operation<'a>(&self, operation: Operation<'a>) -> Result<Operation<'a>, Refusal>
         ensures checked { result ≡ checked_operation self.now.state operation.entry }

@@ -25,7 +25,7 @@ impl AddressRange {
         }
     }
 
-    // Both as one, where they overlap or one begins where the other ends.
+    /// Both as one, where they overlap or one begins where the other ends.
     fn joined(self, other: AddressRange) -> Option<AddressRange>
         requires fits { (end_of self ≤ MAX_CAPACITY) × (end_of other ≤ MAX_CAPACITY) }
         ensures { result ≡ joined_if_near self other }
@@ -45,7 +45,7 @@ impl AddressRange {
 /// Ranges of addresses, as many as a command names at most.
 pub(crate) type RangeList = ArrayVec<AddressRange, MAXIMUM_UNMAP_DESCRIPTORS>;
 
-// Ranges without an address in common, and one more: those that are near it are joined to it.
+/// Ranges without an address in common, and one more: those that are near it are joined to it.
 fn with_range(ranges: &[AddressRange], range: AddressRange) -> RangeList
     requires disjoint { AreDisjoint ranges.now }
     requires fits { AreWithin MAX_CAPACITY (range ∷ ranges.now) }

@@ -245,7 +245,7 @@ impl<S: Store> Target<S> {
         )
     }
 
-    // Where a current value has changed, the other initiators get a unit attention.
+    /// Where a current value has changed, the other initiators get a unit attention.
     fn report_changed_modes(&mut self, initiator: Initiator, changed: bool)
         ensures state { self.new.state ≡ record self.old.state {
           attentions = attentions_after self.old.state.attentions initiator changed;

@@ -53,7 +53,7 @@ impl<S: Store> Target<S> {
 
 // ---- INQUIRY
 
-// Where PAGE CODE is in the CDB.
+/// Where PAGE CODE is in the CDB.
 const PAGE_CODE_BYTE: u16 = 2;
 
 /// The data that INQUIRY returns (SPC-4, 6.6).
@@ -66,7 +66,7 @@ pub enum InquiryPage {
 }
 
 impl InquiryPage {
-    // The page that EVPD and PAGE CODE name, if the disk has it.
+    /// The page that EVPD and PAGE CODE name, if the disk has it.
     fn named(evpd: bool, page_code: u8) -> Option<InquiryPage>
         ensures { result ≡ inquiry_page evpd page_code }
     {

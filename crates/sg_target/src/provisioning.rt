@@ -35,7 +35,7 @@ use sg_wire::{
 };
 use std::marker::Model;
 
-// Where ANCHOR is in the CDB of WRITE SAME.
+/// Where ANCHOR is in the CDB of WRITE SAME.
 const ANCHOR_BYTE: u16 = 1;
 
 // ---- UNMAP
@@ -118,7 +118,7 @@ impl<S: Store> Target<S> {
     }
 }
 
-// Unmaps extents of a store that has counted nothing.
+/// Unmaps extents of a store that has counted nothing.
 fn unmap_in_turn<S: Store>(store: &mut S, extents: &[Extent])
     requires on_disk { AreOnDisk (S.disk store.old).capacity extents.now }
     requires at_most { length extents.now ≤ maximum_unmap_descriptors }
@@ -248,7 +248,7 @@ pub(crate) fn check_write_same_16(
     )
 }
 
-// NUMBER OF LOGICAL BLOCKS begins at the byte.
+/// NUMBER OF LOGICAL BLOCKS begins at the byte.
 fn check_write_same(
     anchor: bool,
     unmap: bool,
@@ -273,7 +273,7 @@ fn check_write_same(
     }
 }
 
-// Refuses no block, and more blocks than WRITE SAME writes.
+/// Refuses no block, and more blocks than WRITE SAME writes.
 fn check_write_same_length(extent: Extent, byte: u16) -> Result<(), Refusal>
     ensures refused { IfErr result (λ refusal.
         unsupported_value (bad_count extent.count byte) ≡ Some refusal) }
@@ -285,7 +285,7 @@ fn check_write_same_length(extent: Extent, byte: u16) -> Result<(), Refusal>
     Ok(())
 }
 
-// Whether WRITE SAME unmaps its blocks, which are read as zeros then.
+/// Whether WRITE SAME unmaps its blocks, which are read as zeros then.
 #[tactic(auto, unfolding(crate::specs::ProvisioningCommands::unmaps))]
 fn unmaps(unmap: bool, block: &[u8]) -> bool
     ensures { result ≡ unmaps unmap block.now }

@@ -109,7 +109,7 @@ pub(crate) fn pending_sense(condition: Option<UnitAttention>) -> Sense
     }
 }
 
-// The sense of an invalid field, with a pointer to its byte in the CDB or in the parameter list.
+/// The sense of an invalid field, with a pointer to its byte in the CDB or in the parameter list.
 fn invalid_field(asc: u8, in_command: bool, byte: u16) -> Sense
     ensures { fields_of result ≡ record (plain_sense illegal_request asc 0x00)
         { pointer = Some (record { in_command = in_command; byte = byte }) } }

@@ -22,7 +22,7 @@ use sg_store::{Counts, Store};
 use sg_units::{OutFault, OutList, ReservationType, Reservations};
 use sg_wire::{Cut, InAction, Initiator, OutAction, PersistentReserveIn, PersistentReserveOut};
 
-// Where SCOPE and TYPE are in the CDB of PERSISTENT RESERVE OUT.
+/// Where SCOPE and TYPE are in the CDB of PERSISTENT RESERVE OUT.
 const SCOPE_TYPE_BYTE: u16 = 2;
 
 // ---- PERSISTENT RESERVE IN
@@ -90,7 +90,7 @@ impl From<OutFault> for Refusal {
     }
 }
 
-// Whether a service action is refused without a valid scope and type.
+/// Whether a service action is refused without a valid scope and type.
 fn always_needs_type(action: OutAction) -> bool
     ensures { result ≡ always_needs_type action }
 {

@@ -104,7 +104,7 @@ impl<S: Store> Target<S> {
         self.run_list(events, buf, sink)
     }
 
-    // What both do.
+    /// What both do.
     fn run_list<E: ToEvent, K: Sink>(
         &mut self,
         list: &[E],

@@ -62,7 +62,7 @@ ghost use Rattle.sg_store.specs.Meter.{new_meter};
 ghost use Rattle.sg_target.specs.Reply.{Carries, refused_reply};
 ghost use Rattle.sg_target.specs.PowerCycle.{after_power_cycle};
 ghost use Rattle.sg_target.specs.Ranges.{IsCharged, cost_bounds, ranges, visit_bound};
-ghost use Rattle.sg_target.specs.State.{IsWithinLimits, powered_on};
+ghost use Rattle.sg_target.specs.State.{IsWithinLimits, new_state};
 ghost use Rattle.sg_target.specs.Step.{after_refusal, sense_format, step};
 
 impl<S: Store> Target<S> {
@@ -73,7 +73,7 @@ impl<S: Store> Target<S> {
     /// # Errors
     /// Memory was refused.
     pub fn new(alloc: Global, config: Config) -> Result<Target<S>, AllocError>
-        ensures { IfOk result (λ target. target ≡ record { state = powered_on config; meter = new_meter }) }
+        ensures { IfOk result (λ target. target ≡ record { state = new_state config; meter = new_meter }) }
     {
         let store = S::make(alloc, config.blocks(), config.pool())?;
         Ok(Target {
@@ -135,7 +135,7 @@ impl<S: Store> Target<S> {
         self.reservations.power_on();
     }
 
-    // The reply to a command that is refused. A unit attention that it reports is cleared.
+    /// The reply to a command that is refused. A unit attention that it reports is cleared.
     pub(crate) fn refuse(&mut self, initiator: Initiator, refusal: Refusal, counts: Counts) -> Reply
         ensures reply { result ≡ refused_reply (sense_format self.old.state) refusal counts }
         ensures state { self.new.state ≡ after_refusal self.old.state initiator refusal }
@@ -148,7 +148,7 @@ impl<S: Store> Target<S> {
         reply
     }
 
-    // The format of the disk's sense data.
+    /// The format of the disk's sense data.
     fn sense_format(&self) -> Format
         ensures { result ≡ sense_format self.now.state }
     {

@@ -2,10 +2,10 @@
 ghost use Rattle.std.specs.Prelude.{◌≡◌};
 ghost use Rattle.sg_tools.specs.HexDigits.{digit_or_none};
 
-// The value of a byte that is no digit.
+/// The value of a byte that is no digit.
 const X: u8 = 255;
 
-// The values of the bytes `0` to `9`, `A` to `F` and `a` to `f` as digits, at 30h, 41h and 61h.
+/// The values of the bytes `0` to `9`, `A` to `F` and `a` to `f` as digits, at 30h, 41h and 61h.
 const VALUES: [u8; 256] = [
     X, X, X, X, X, X, X, X, X, X, X, X, X, X, X, X, X, X, X, X, X, X, X, X, X, X, X, X, X, X, X, X,
     X, X, X, X, X, X, X, X, X, X, X, X, X, X, X, X, 0, 1, 2, 3, 4, 5, 6, 7, 8, 9, X, X, X, X, X, X,

@@ -31,7 +31,7 @@ use std::alloc::Global;
 use std::convert::AsStr;
 
 impl<'a> GivenOptions<'a> {
-    // The options that the words of a tool give.
+    /// The options that the words of a tool give.
     pub(crate) fn of_tool(
         alloc: Global,
         tool: ToolName,
@@ -69,7 +69,7 @@ impl<'a> GivenOptions<'a> {
         }
     }
 
-    // Whether a flag is given.
+    /// Whether a flag is given.
     pub(crate) fn is_set(&self, option: &str) -> bool
         ensures { result ≡ is_set option.now self.now }
     {

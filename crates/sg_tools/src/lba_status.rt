@@ -9,10 +9,10 @@ use crate::tool::Tool;
 use crate::tool_fault::ToolFault;
 use sg_wire::{Command, GetLbaStatus};
 
-// The allocation length that is sent by default, of one descriptor.
+/// The allocation length that is sent by default, of one descriptor.
 const DEFAULT_LENGTH: u64 = 24;
 
-// What the options of sg_get_lba_status ask for.
+/// What the options of sg_get_lba_status ask for.
 pub(crate) fn sg_get_lba_status(options: &GivenOptions) -> Result<Tool, ToolFault>
     ensures { result ≡ sg_get_lba_status options.now }
 {

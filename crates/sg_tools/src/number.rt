@@ -29,7 +29,7 @@ pub fn read_number_up_to(limit: u64, word: &[u8]) -> Option<u64>
     Some(number)
 }
 
-// The value of digits of a radix, without a sign.
+/// The value of digits of a radix, without a sign.
 pub(crate) fn read_digits(digits: &[u8], radix: u64) -> Option<u64>
     requires at_least_1 { 1 ≤ radix }
     requires at_most_16 { radix ≤ 16 }

@@ -8,14 +8,14 @@ use crate::number::read_number_up_to;
 use arrayvec::ArrayVec;
 use sg_wire::MAXIMUM_UNMAP_DESCRIPTORS;
 
-// The numbers of a list: as many as UNMAP takes, and how many there are.
+/// The numbers of a list: as many as UNMAP takes, and how many there are.
 #[derive(Drop)]
 pub(crate) struct NumberList {
     pub(crate) first: ArrayVec<u64, MAXIMUM_UNMAP_DESCRIPTORS>,
     pub(crate) count: usize,
 }
 
-// The numbers of a list. None where an entry is no number or one past the limit.
+/// The numbers of a list. None where an entry is no number or one past the limit.
 pub(crate) fn read_list(limit: u64, text: &[u8]) -> Option<NumberList>
     ensures { ReadsList (numbers_up_to limit text.now) result }
 {
@@ -40,7 +40,7 @@ pub(crate) fn read_list(limit: u64, text: &[u8]) -> Option<NumberList>
     }
 }
 
-// One more number. It is counted also where there is no room for it.
+/// One more number. It is counted also where there is no room for it.
 fn push(numbers: &mut NumberList, number: u64)
     requires { numbers.old.count < usize.MAX }
     ensures { PushesNumber numbers.old number numbers.new }
@@ -49,7 +49,7 @@ fn push(numbers: &mut NumberList, number: u64)
     let _ = numbers.first.try_push(number);
 }
 
-// The text after a byte.
+/// The text after a byte.
 pub(crate) fn after(index: usize, text: &[u8]) -> &[u8]
     requires { index < length text.now }
     ensures { result.now ≡ drop (index + 1) text.now }
@@ -57,7 +57,7 @@ pub(crate) fn after(index: usize, text: &[u8]) -> &[u8]
     &text[index + 1..]
 }
 
-// The index of the first comma.
+/// The index of the first comma.
 pub(crate) fn first_comma(text: &[u8]) -> Option<usize>
     ensures index { result ≡ position (λ byte. byte == 0x2C) text.now }
     ensures within { IfSome result (λ n. n < length text.now) }

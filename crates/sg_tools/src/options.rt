@@ -9,7 +9,7 @@ use ToolOption::{Flag, LongFlag, Text};
 use clap::{Arg, ArgAction, Command};
 use std::alloc::{AllocError, Global};
 
-// An option: its short name, if it has one, and its long name.
+/// An option: its short name, if it has one, and its long name.
 pub(crate) enum ToolOption {
     // It has no text.
     Flag(char, &'static str),
@@ -73,7 +73,7 @@ const SG_PERSIST: &[ToolOption] = &[
     Flag('o', "out"),
 ];
 
-// The options of a tool.
+/// The options of a tool.
 fn options_of(tool: ToolName) -> &'static [ToolOption]
     ensures { option_rows result.now ≡ options_of tool }
 {
@@ -87,7 +87,7 @@ fn options_of(tool: ToolName) -> &'static [ToolOption]
     }
 }
 
-// The command line of a tool.
+/// The command line of a tool.
 pub(crate) fn command_line<'a>(alloc: Global, tool: ToolName) -> Result<Command<'a>, AllocError>
     ensures { IfOk result (λ c. app_of c ≡ command_line tool) }
 {
@@ -110,7 +110,7 @@ fn with_options<'a>(
     Ok(command)
 }
 
-// The option as clap describes it.
+/// The option as clap describes it.
 fn arg<'a>(alloc: Global, option: &'static ToolOption) -> Arg<'a>
     ensures rule { rule_of result ≡ rule (option_row option.now) }
     ensures global { result.global ≡ false }
@@ -122,7 +122,7 @@ fn arg<'a>(alloc: Global, option: &'static ToolOption) -> Arg<'a>
     }
 }
 
-// An option without a short name.
+/// An option without a short name.
 fn named<'a>(alloc: Global, long: &'static str, action: ArgAction) -> Arg<'a>
     ensures rule { let plain = new_rule long.now in
         rule_of result ≡ record plain { long = Some long.now; action = Some action } }

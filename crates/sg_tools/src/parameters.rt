@@ -22,7 +22,7 @@ pub enum Parameters {
 }
 
 impl Parameters {
-    // Writes the parameter list and returns its length in bytes.
+    /// Writes the parameter list and returns its length in bytes.
     pub(crate) fn write(&self, data_out: &mut [u8]) -> usize
         requires { max_data_out ≤ length data_out.old }
         ensures list { data_out.new ≡ overwritten (parameter_list self.now) data_out.old }

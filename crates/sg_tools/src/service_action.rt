@@ -8,7 +8,7 @@ use ServiceAction::{In, Out};
 use arrayvec::ArrayVec;
 use sg_wire::{InAction, OutAction};
 
-// A service action of PERSISTENT RESERVE IN or PERSISTENT RESERVE OUT.
+/// A service action of PERSISTENT RESERVE IN or PERSISTENT RESERVE OUT.
 #[derive(Clone, Copy)]
 pub(crate) enum ServiceAction {
     In(InAction),
@@ -21,7 +21,7 @@ impl Default for ServiceAction {
     }
 }
 
-// A flag and the service action that it asks for.
+/// A flag and the service action that it asks for.
 pub(crate) struct ActionFlag(&'static str, ServiceAction);
 
 const ACTION_COUNT: usize = 11;
@@ -43,10 +43,10 @@ const ACTION_FLAGS: &[ActionFlag] = &[
     ActionFlag("preempt-abort", Out(OutAction::PreemptAndAbort)),
 ];
 
-// Service actions in the order of their flags.
+/// Service actions in the order of their flags.
 pub(crate) type ServiceActions = ArrayVec<ServiceAction, ACTION_COUNT>;
 
-// The service actions whose flags are given.
+/// The service actions whose flags are given.
 pub(crate) fn given_actions(options: &GivenOptions) -> ServiceActions
     ensures { result.items ≡ given_actions action_flags options.now }
 {
@@ -66,7 +66,7 @@ fn actions_of(flags: &'static [ActionFlag], options: &GivenOptions) -> ServiceAc
     actions
 }
 
-// Whether service actions exclude one another, --in or --out, or these one another.
+/// Whether service actions exclude one another, --in or --out, or these one another.
 pub(crate) fn are_exclusive(as_in: bool, as_out: bool, actions: &[ServiceAction]) -> bool
     ensures { result ≡ are_exclusive as_in as_out actions.now }
 {

@@ -83,7 +83,7 @@ impl Tool {
         }
     }
 
-    // A tool without data-out.
+    /// A tool without data-out.
     pub(crate) fn without_parameters(command: Command, show: Show) -> Tool
         ensures { Ok result ≡ asks command show }
     {
@@ -95,7 +95,7 @@ impl Tool {
     }
 }
 
-// What the options of a tool ask for.
+/// What the options of a tool ask for.
 fn request_of(tool: ToolName, options: &GivenOptions) -> Result<Tool, ToolFault>
     ensures { result ≡ request_of tool options.now }
 {

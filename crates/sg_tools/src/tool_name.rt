@@ -35,7 +35,7 @@ impl ToolName {
         })
     }
 
-    // Its name.
+    /// Its name.
     pub(crate) fn name(self) -> &'static str
         ensures { result.now ≡ name_of self }
     {

@@ -118,7 +118,8 @@ GenerationCountsChanges =
 
 -- ---- The end of a reservation
 
--- The service actions that can end the reservation of another initiator.
+-- The service actions that can end the reservation of another initiator that holds it alone. (Where
+-- all registrants hold it, a RELEASE of any of them ends it, too.)
 abbrev pub ends_for_others : OutAction → Bool
 ends_for_others Clear = true
 ends_for_others Preempt = true

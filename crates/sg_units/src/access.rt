@@ -5,7 +5,7 @@ ghost use Rattle.sg_units.specs.Access.{access_of, highest_class, is_within};
 use crate::ReservationType;
 use sg_wire::Class;
 
-// How an initiator stands to the reservation.
+/// How an initiator stands to the reservation.
 #[derive(Clone, Copy)]
 pub(crate) enum Standing {
     // It is a holder.
@@ -16,7 +16,7 @@ pub(crate) enum Standing {
     Other,
 }
 
-// The highest class of commands that a reservation allows to an initiator.
+/// The highest class of commands that a reservation allows to an initiator.
 pub(crate) fn highest_class(kind: ReservationType, standing: Standing) -> Class
     ensures { result ≡ highest_class (access_of kind) standing }
 {
@@ -27,7 +27,7 @@ pub(crate) fn highest_class(kind: ReservationType, standing: Standing) -> Class
     }
 }
 
-// The highest class that is allowed to those who do not share the reservation.
+/// The highest class that is allowed to those who do not share the reservation.
 fn class_of_others(kind: ReservationType) -> Class
     ensures { result ≡ highest_class (access_of kind) Standing.Other }
 {
@@ -41,7 +41,7 @@ fn class_of_others(kind: ReservationType) -> Class
     }
 }
 
-// Whether a class is the highest one that is allowed, or a lower one.
+/// Whether a class is the highest one that is allowed, or a lower one.
 pub(crate) fn is_within(highest: Class, class: Class) -> bool
     ensures { result ≡ is_within highest class }
 {

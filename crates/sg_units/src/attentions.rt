@@ -5,7 +5,7 @@ use sg_wire::Initiator;
 use std::array;
 use std::marker::Model;
 
-// How many conditions can be pending for an initiator: as many as there are.
+/// How many conditions can be pending for an initiator: as many as there are.
 const MAX_PENDING: usize = 5;
 
 /// The unit attention conditions that are pending for each initiator, the oldest first (SAM-5,
@@ -63,7 +63,7 @@ impl Attentions {
         }
     }
 
-    // Establishes a condition, if any, for the initiator with a number.
+    /// Establishes a condition, if any, for the initiator with a number.
     fn raise_at(&mut self, number: usize, condition: Option<UnitAttention>)
         requires { number < initiator_count }
         ensures pending { self.new ≡
@@ -108,7 +108,7 @@ fn power_on() -> ArrayVec<UnitAttention, MAX_PENDING>
     queue
 }
 
-// Adds a condition, if any, to a queue, unless it is there already.
+/// Adds a condition, if any, to a queue, unless it is there already.
 fn establish(queue: &mut ArrayVec<UnitAttention, MAX_PENDING>, condition: Option<UnitAttention>)
     requires { IsQueue queue.old.items }
     ensures { queue.new.items ≡ with_optional queue.old.items condition }
@@ -120,7 +120,7 @@ fn establish(queue: &mut ArrayVec<UnitAttention, MAX_PENDING>, condition: Option
     }
 }
 
-// Removes the first condition of a queue, if there is one.
+/// Removes the first condition of a queue, if there is one.
 fn remove_first(queue: &mut ArrayVec<UnitAttention, MAX_PENDING>)
     ensures { queue.new.items ≡ drop 1 queue.old.items }
 {

@@ -35,7 +35,7 @@ impl Raised {
         Raised { conditions }
     }
 
-    // The condition for the initiator with a number.
+    /// The condition for the initiator with a number.
     pub(crate) fn at(&self, number: usize) -> Option<UnitAttention>
         requires { number < initiator_count }
         ensures { result ≡ slice_index_or self.now number None }
@@ -43,7 +43,7 @@ impl Raised {
         self.conditions[number]
     }
 
-    // What a change of PERSISTENT RESERVE OUT raises for each initiator.
+    /// What a change of PERSISTENT RESERVE OUT raises for each initiator.
     #[tactic(auto, unfolding(crate::specs::ReserveOut::raised_by))]
     pub(crate) fn by(
         before: &Registrations,
@@ -60,7 +60,7 @@ impl Raised {
     }
 }
 
-// What a change raises for the initiator with a number.
+/// What a change raises for the initiator with a number.
 fn raised_for(
     before: &Registrations,
     caller: Initiator,

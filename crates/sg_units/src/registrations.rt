@@ -36,10 +36,10 @@ impl Registration {
     }
 }
 
-// How many registrations there is room for.
+/// How many registrations there is room for.
 const MAX_REGISTRATIONS: usize = 6;
 
-// The registrations, in the order in which they were made.
+/// The registrations, in the order in which they were made.
 #[derive(Drop)]
 pub(crate) struct Registrations {
     items: ArrayVec<Registration, MAX_REGISTRATIONS>,
@@ -77,7 +77,7 @@ impl Registrations {
         self.items.is_full()
     }
 
-    // Whether an initiator is registered.
+    /// Whether an initiator is registered.
     pub(crate) fn has(&self, initiator: Initiator) -> bool
         ensures { result ≡ is_registered self.now initiator }
     {
@@ -87,7 +87,7 @@ impl Registrations {
             .any(|registration| registration.is_of(initiator))
     }
 
-    // Whether an initiator is registered under a key.
+    /// Whether an initiator is registered under a key.
     pub(crate) fn has_under(&self, initiator: Initiator, key: u64) -> bool
         ensures { result ≡ is_registered_under self.now initiator key }
     {
@@ -95,7 +95,7 @@ impl Registrations {
             && registration.key == key)
     }
 
-    // Whether some initiator is registered under a key.
+    /// Whether some initiator is registered under a key.
     pub(crate) fn has_key(&self, key: u64) -> bool
         ensures { result ≡ has_key self.now key }
     {
@@ -105,7 +105,7 @@ impl Registrations {
             .any(|registration| registration.key == key)
     }
 
-    // The reservation key of an initiator.
+    /// The reservation key of an initiator.
     pub(crate) fn key_of(&self, initiator: Initiator) -> Option<u64>
         ensures { result ≡ key_of self.now initiator }
     {
@@ -126,7 +126,7 @@ impl Registrations {
         Registrations { items }
     }
 
-    // Adds a registration.
+    /// Adds a registration.
     pub(crate) fn register(&mut self, initiator: Initiator, key: u64)
         requires { length self.old < max_registrations }
         ensures { self.new ≡ with_registration self.old initiator key }
@@ -134,7 +134,7 @@ impl Registrations {
         self.items.push(Registration { initiator, key });
     }
 
-    // The registrations with an initiator's key replaced.
+    /// The registrations with an initiator's key replaced.
     pub(crate) fn with_key_replaced(&self, initiator: Initiator, key: u64) -> Registrations
         ensures { result ≡ with_key_replaced self.now initiator key }
     {
@@ -149,7 +149,7 @@ impl Registrations {
         Registrations { items }
     }
 
-    // Removes the registration of an initiator.
+    /// Removes the registration of an initiator.
     pub(crate) fn remove(&mut self, initiator: Initiator)
         ensures { self.new ≡ without_initiator self.old initiator }
     {
@@ -157,21 +157,21 @@ impl Registrations {
             .retain(|registration| !registration.is_of(initiator));
     }
 
-    // Removes all registrations under a key.
+    /// Removes all registrations under a key.
     pub(crate) fn remove_key(&mut self, key: u64)
         ensures { self.new ≡ without_key self.old key }
     {
         self.items.retain(|registration| registration.key != key);
     }
 
-    // Removes the registrations under a key that are not an initiator's.
+    /// Removes the registrations under a key that are not an initiator's.
     pub(crate) fn remove_key_of_others(&mut self, initiator: Initiator, key: u64)
         ensures { self.new ≡ without_key_of_others self.old initiator key }
     {
         self.items.retain(|registration| registration.is_of(initiator) || registration.key != key);
     }
 
-    // Removes all registrations that are not an initiator's.
+    /// Removes all registrations that are not an initiator's.
     pub(crate) fn remove_others(&mut self, initiator: Initiator)
         ensures { self.new ≡ without_others self.old initiator }
     {

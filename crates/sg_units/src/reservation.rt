@@ -17,7 +17,7 @@ pub struct Reservation {
 }
 
 impl Reservation {
-    // The reservation of a type that an initiator takes.
+    /// The reservation of a type that an initiator takes.
     pub(crate) fn taken(kind: ReservationType, initiator: Initiator) -> Reservation
         ensures { result ≡ taken kind initiator }
     {
@@ -29,7 +29,7 @@ impl Reservation {
         Reservation { kind, holder }
     }
 
-    // Whether a registrant is a holder.
+    /// Whether a registrant is a holder.
     pub(crate) fn is_held_by(&self, registrant: Initiator) -> bool
         ensures { result ≡ holds self.now registrant }
     {
@@ -39,7 +39,7 @@ impl Reservation {
         }
     }
 
-    // Whether one of the registrants is a holder.
+    /// Whether one of the registrants is a holder.
     pub(crate) fn has_holder(&self, registrations: &Registrations) -> bool
         ensures { result ≡ has_holder self.now registrations.now }
     {
@@ -49,7 +49,7 @@ impl Reservation {
             .any(|registration| self.is_held_by(registration.initiator))
     }
 
-    // What its end raises for the other registrants.
+    /// What its end raises for the other registrants.
     pub(crate) fn released(kind: ReservationType) -> Option<UnitAttention>
         ensures { result ≡ released kind }
     {

@@ -18,8 +18,8 @@ use crate::reservation_change::ReservationChange;
 use crate::{Reservation, ReservationType};
 use sg_wire::{Class, Initiator};
 
-// The registrations, the reservation that is held, PRGENERATION, and whether a power loss leaves
-// registrations and reservation.
+/// The registrations, the reservation that is held, PRGENERATION, and whether a power loss leaves
+/// registrations and reservation.
 #[derive(Drop)]
 pub(crate) struct ReservationState {
     pub(crate) registrations: Registrations,
@@ -40,7 +40,7 @@ impl ReservationState {
         }
     }
 
-    // Whether an initiator holds the reservation.
+    /// Whether an initiator holds the reservation.
     pub(crate) fn is_holder(&self, initiator: Initiator) -> bool
         ensures { result ≡ is_holder self.now initiator }
     {
@@ -52,7 +52,7 @@ impl ReservationState {
         }
     }
 
-    // Whether a reservation is held, and is of a type.
+    /// Whether a reservation is held, and is of a type.
     pub(crate) fn has_type(&self, kind: ReservationType) -> bool
         ensures { result ≡ has_type self.now.reservation kind }
     {
@@ -62,7 +62,7 @@ impl ReservationState {
         }
     }
 
-    // The reservation, where one of the registrants holds it.
+    /// The reservation, where one of the registrants holds it.
     pub(crate) fn while_held(&self, registrations: &Registrations) -> Option<Reservation>
         ensures { result ≡ while_held self.now.reservation registrations.now }
     {
@@ -84,7 +84,7 @@ impl ReservationState {
         }
     }
 
-    // Whether an initiator's command of a class is allowed.
+    /// Whether an initiator's command of a class is allowed.
     pub(crate) fn allows(&self, initiator: Initiator, class: Class) -> bool
         ensures { result ≡ allows self.now initiator class }
     {
@@ -97,7 +97,7 @@ impl ReservationState {
         }
     }
 
-    // Nothing changes.
+    /// Nothing changes.
     fn unchanged(&self) -> ReservationChange
         ensures { Ok result ≡ same_generation self.now.registrations self.now.reservation None }
     {
@@ -111,7 +111,7 @@ impl ReservationState {
         }
     }
 
-    // An initiator registers: the reservation stays, and nothing is raised.
+    /// An initiator registers: the reservation stays, and nothing is raised.
     fn with_registrations(&self, registrations: Registrations, aptpl: bool) -> ReservationChange
         ensures { Ok result ≡ registered registrations self.now.reservation None aptpl }
     {

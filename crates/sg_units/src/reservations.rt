@@ -171,7 +171,7 @@ impl Reservations {
     }
 }
 
-// PRGENERATION after a command.
+/// PRGENERATION after a command.
 fn generation_after(increments: bool, generation: u32) -> u32
     ensures { result ≡ generation_after increments generation }
 {

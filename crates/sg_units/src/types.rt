@@ -45,7 +45,7 @@ impl ReservationType {
         self as u8
     }
 
-    // Whether each registrant is a holder.
+    /// Whether each registrant is a holder.
     pub(crate) fn is_all_registrants(self) -> bool
         ensures { result ≡ is_all_registrants self }
     {
@@ -56,7 +56,7 @@ impl ReservationType {
         )
     }
 
-    // Whether each registrant has the access of a holder.
+    /// Whether each registrant has the access of a holder.
     pub(crate) fn is_shared(self) -> bool
         ensures { result ≡ is_shared self }
     {

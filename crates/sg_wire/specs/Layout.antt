@@ -193,8 +193,8 @@ abbrev group_number : (byte : ℕ) → List Place
 group_number byte = bits byte 4 0 ∷ []
 
 -- One row for each command: operation code, service action, class, unit attention, fields, ignored
--- places, and the command itself. The commands of SPC-4, 6, and then those of SBC-3, 5 (READ(6) and
--- WRITE(6) of SBC-2).
+-- places, and the command itself. The commands of SPC-4, 6, then those of SBC-3, 5 (READ(6) and
+-- WRITE(6) of SBC-2), and last PERSISTENT RESERVE IN and OUT of SPC-4, which have service actions.
 abbrev pub layout : Command → Layout
 layout command.TestUnitReady = row 0x00 none Always blocked [] [] command.TestUnitReady
 layout (command.RequestSense c) =

@@ -3,7 +3,7 @@ use Rattle.std.specs.Prelude.{◌≡◌, ℕ, Result, Ok, Err, ◌⊎◌}
 use Rattle.sg_run.specs.ScriptRun.{RunsScript, Snapshot}
 use Rattle.sg_run.specs.declared.run.RunFault.{RunFault}
 use Rattle.sg_target.specs.Config.{ConfigFields}
-use Rattle.sg_target.specs.State.{State, powered_on}
+use Rattle.sg_target.specs.State.{State, new_state}
 use Rattle.sgrun.specs.Stops.{stop_of_run}
 use Rattle.sgrun.specs.declared.stop.Stop.{Stop}
 use Rattle.sgrun.specs.declared.stop.Stop.TheVariants.{OutOfMemory}
@@ -33,4 +33,4 @@ RunsUnlessRefused before after old new result =
 pub record RunsOnNewDisk (disk : ConfigFields) (old new : State → Snapshot) (result : Result ℕ Stop)
     : Type 0 where
   pub state : State
-  pub runs : RunsUnlessRefused (powered_on disk) state old new result
+  pub runs : RunsUnlessRefused (new_state disk) state old new result

@@ -71,7 +71,7 @@ impl<'a> Arguments<'a> {
     }
 }
 
-// The disk that options ask for.
+/// The disk that options ask for.
 fn disk<'a>(options: &GivenOptions) -> Result<Config, Stop<'a>>
     ensures { result ≡ disk_of options.now }
 {
@@ -80,14 +80,14 @@ fn disk<'a>(options: &GivenOptions) -> Result<Config, Stop<'a>>
     checked_disk(blocks, pool)
 }
 
-// The number of a text, or the default where there is none.
+/// The number of a text, or the default where there is none.
 fn number_of_option(default: u64, text: Option<&str>) -> Option<u64>
     ensures { result ≡ number_of_option default (option_map (λ t. t.now) text.entry) }
 {
     number_or(default, u64::MAX, text)
 }
 
-// A disk of a size, if there can be one.
+/// A disk of a size, if there can be one.
 fn checked_disk<'a>(blocks: u64, pool: u64) -> Result<Config, Stop<'a>>
     ensures { result ≡ checked_disk blocks pool }
 {
@@ -96,7 +96,7 @@ fn checked_disk<'a>(blocks: u64, pool: u64) -> Result<Config, Stop<'a>>
     Ok(Config::new(blocks, pool, Identity::standard())?)
 }
 
-// The command line of the program.
+/// The command line of the program.
 fn command_line<'a>(alloc: Global) -> Result<Command<'a>, AllocError>
     ensures { IfOk result (λ c. app_of c ≡ command_line) }
 {
@@ -106,7 +106,7 @@ fn command_line<'a>(alloc: Global) -> Result<Command<'a>, AllocError>
         .arg(text_option(alloc, "script"))
 }
 
-// An option without a short name, which has a text.
+/// An option without a short name, which has a text.
 fn text_option<'a>(alloc: Global, long: &'static str) -> Arg<'a>
     ensures rule { rule_of result ≡ rule (text_option long.now) }
     ensures global { result.global ≡ false }

@@ -30,7 +30,7 @@ fn main(rt: HostRuntime) -> ExitCode {
     ExitCode::from(exit_status(outcome))
 }
 
-// The words of the command line, the first of which is the program's name.
+/// The words of the command line, the first of which is the program's name.
 fn words<'a>(rt: &HostRuntime) -> Result<Vec<String>, Stop<'a>> {
     match env::args(rt) {
         Ok(words) => Ok(words.collect(rt.alloc())?),
@@ -38,7 +38,7 @@ fn words<'a>(rt: &HostRuntime) -> Result<Vec<String>, Stop<'a>> {
     }
 }
 
-// Runs the script that words ask for.
+/// Runs the script that words ask for.
 fn run<'a>(rt: &HostRuntime, words: &'a [String]) -> Result<u8, Stop<'a>> {
     let arguments = Arguments::parse(rt.alloc(), words)?;
     let disk = arguments.disk;

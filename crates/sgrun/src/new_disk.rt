@@ -34,7 +34,7 @@ pub(crate) fn run_on_new_disk<'a, R: Read, W: Write>(
     run_in_new_session(alloc, reader, writer, &mut target)
 }
 
-// Runs a script. Apart from the disk, so that each is dropped in a function of its own.
+/// Runs a script. Apart from the disk, so that each is dropped in a function of its own.
 fn run_in_new_session<'a, R: Read, W: Write, S: Store>(
     alloc: Global,
     reader: &mut Watched<R>,
@@ -52,8 +52,8 @@ fn run_in_new_session<'a, R: Read, W: Write, S: Store>(
     outcome_of_run(run_script(alloc, reader, writer, &mut session, target))
 }
 
-// The outcome of a run. Apart, so that the session is dropped in one place: the prover follows that
-// once.
+/// The outcome of a run. Apart, so that the session is dropped in one place: the prover follows that
+/// once.
 fn outcome_of_run<'a>(ran: Result<u8, RunFault>) -> Result<u8, Stop<'a>>
     ensures { result ≡ by_run ran }
 {

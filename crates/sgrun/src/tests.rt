@@ -3,7 +3,7 @@ use crate::arguments::Arguments;
 use std::alloc::{AllocError, Global};
 use std::test::Fail;
 
-// The words after the program's name, the blocks and the pool of the disk, and the script's file.
+/// The words after the program's name, the blocks and the pool of the disk, and the script's file.
 const ASKED: [(&str, u64, u32, Option<&str>); 10] = [
     ("", 4_096, 4, None),
     ("--blocks 1", 1, 4, None),
@@ -17,7 +17,7 @@ const ASKED: [(&str, u64, u32, Option<&str>); 10] = [
     ("--script - --", 4_096, 4, Some("-")),
 ];
 
-// The words after the program's name, and the message of the stop.
+/// The words after the program's name, and the message of the stop.
 const REFUSED: [(&str, &str); 20] = [
     ("FILE", "usage"),
     ("-h", "usage"),
@@ -41,7 +41,7 @@ const REFUSED: [(&str, &str); 20] = [
     ("--pool 4294967297", "pool"),
 ];
 
-// A command line: the program's name, and words with blanks between them.
+/// A command line: the program's name, and words with blanks between them.
 fn words(alloc: Global, line: &str) -> Result<Vec<String>, AllocError> {
     let mut words = Vec::new(alloc);
     words.push(String::from_str(alloc, "sgrun")?)?;

@@ -14,7 +14,7 @@ use std::test::Fail;
 
 const READY: &[u8] = &[0x00, 0, 0, 0, 0, 0];
 
-// How a command ends.
+/// How a command ends.
 #[derive(Clone, Copy)]
 enum Ending {
     Good,
@@ -29,7 +29,7 @@ enum Ending {
 
 use Ending::{DataPhaseError, Good, InvalidField, NoSpace, OutOfRange, PowerOn, UnknownOpcode};
 
-// The sense data, if there is some.
+/// The sense data, if there is some.
 fn sense_of(ending: Ending) -> Option<[u8; 18]> {
     match ending {
         Good => None,
@@ -58,7 +58,7 @@ fn out_of_range([a, b, c, d]: [u8; 4]) -> [u8; 18] {
     ]
 }
 
-// A disk of 4,096 blocks with a pool of 4, and the buffer of its data-in.
+/// A disk of 4,096 blocks with a pool of 4, and the buffer of its data-in.
 #[derive(Drop)]
 struct Disk {
     target: Target<PlainMap>,
@@ -74,14 +74,14 @@ impl Disk {
         })
     }
 
-    // The same, after the unit attention of initiator 0 was reported.
+    /// The same, after the unit attention of initiator 0 was reported.
     fn ready(alloc: Global) -> Result<Disk, Fail> {
         let mut disk = Disk::new(alloc)?;
         disk.execute(0, READY, &[])?;
         Ok(disk)
     }
 
-    // Executes a command by the initiator of a number, with A5h in each byte of the buffer.
+    /// Executes a command by the initiator of a number, with A5h in each byte of the buffer.
     fn execute(&mut self, number: u8, cdb: &[u8], data_out: &[u8]) -> Result<Reply, Fail> {
         let initiator = Initiator::new(number).ok_or("no initiator")?;
         self.buf.fill(0xA5);

@@ -154,7 +154,7 @@ const CDBS: [(&[u8], Command); 20] = [
     ),
 ];
 
-// For a message: Debug of all bytes takes long to prove.
+/// For a message: Debug of all bytes takes long to prove.
 fn operation_code(cdb: &[u8]) -> u8 {
     match cdb {
         [code, ..] => *code,
@@ -162,7 +162,7 @@ fn operation_code(cdb: &[u8]) -> u8 {
     }
 }
 
-// Whether a CDB is read as a command, which is written as the CDB.
+/// Whether a CDB is read as a command, which is written as the CDB.
 fn is_read_and_written(cdb: &[u8], command: Command) -> bool {
     Command::read(cdb) == Ok(command) && command.write().as_slice() == cdb
 }
@@ -175,7 +175,7 @@ fn commands_are_read_and_written(rt: HostRuntime) {
     }
 }
 
-// CDBs of six bytes, with the address and the count that they mean.
+/// CDBs of six bytes, with the address and the count that they mean.
 const SHORT: [(&[u8; 6], u32, u16); 4] = [
     (&[0x08, 0, 0, 0, 0, 0], 0, 256),
     (&[0x08, 0, 0, 0, 1, 0], 0, 1),
@@ -197,7 +197,7 @@ fn six_bytes_name_1_to_256_blocks(rt: HostRuntime) -> Result<(), Fail> {
     Ok(())
 }
 
-// The class, and whether a pending unit attention blocks the command.
+/// The class, and whether a pending unit attention blocks the command.
 const COLUMNS: [(&[u8], Option<Class>, bool); 20] = [
     (&[0x03], Some(Class::Always), false),
     (&[0x00], Some(Class::Always), true),

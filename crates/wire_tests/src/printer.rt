@@ -8,7 +8,7 @@ const PIECES: [&[u8]; 5] = [b"line ", b"12", b": ", b"", b"GOOD\n"];
 
 const TEXT: &[u8] = b"line 12: GOOD\n";
 
-// How many writes the pieces take by the length of the buffer.
+/// How many writes the pieces take by the length of the buffer.
 const WRITES: [(usize, usize); 9] = [
     (0, 4),
     (1, 4),

@@ -11,14 +11,14 @@ const IN_LIST: Pointer = Pointer {
     byte: 18,
 };
 
-// Sense data: the key, the additional sense code and its qualifier, INFORMATION and the pointer.
+/// Sense data: the key, the additional sense code and its qualifier, INFORMATION and the pointer.
 type Fields = (u8, u8, u8, Option<u64>, Option<Pointer>);
 
 const ILLEGAL_REQUEST: u8 = Sense::ILLEGAL_REQUEST;
 
 const UNIT_ATTENTION: u8 = Sense::UNIT_ATTENTION;
 
-// Sense data with one of the two keys of the table.
+/// Sense data with one of the two keys of the table.
 fn sense_of(fields: Fields) -> Sense {
     let (key, asc, ascq, information, pointer) = fields;
     if key == UNIT_ATTENTION {
@@ -45,7 +45,7 @@ fn read(data: &[u8]) -> Option<Fields> {
     Some((sense.key, asc, ascq, sense.information, sense.pointer))
 }
 
-// What the disk writes.
+/// What the disk writes.
 const WRITTEN: [(Fields, Format, &[u8]); 8] = [
     (
         (ILLEGAL_REQUEST, 0x24, 0x00, None, Some(IN_COMMAND)),
@@ -121,8 +121,8 @@ fn sense_data_is_written_and_read(rt: HostRuntime) {
     }
 }
 
-// Sense data that the disk does not write, in both formats, and what is read as nothing. The walk over
-// descriptors ends at the additional length, at the end of the bytes and before a part of one.
+/// Sense data that the disk does not write, in both formats, and what is read as nothing. The walk over
+/// descriptors ends at the additional length, at the end of the bytes and before a part of one.
 const READ: [(&[u8], Option<Fields>); 21] = [
     // Medium error with information.
     (

@@ -3,7 +3,7 @@ use sg_tools::{MAX_DATA_OUT, Show, Tool, ToolName, status_of};
 use std::alloc::Global;
 use std::test::Fail;
 
-// The words of a tool, the CDB and the data-out that it sends, and how the answer is shown.
+/// The words of a tool, the CDB and the data-out that it sends, and how the answer is shown.
 const SENT: [(&str, &[u8], &[u8], Show); 28] = [
     ("sg_inq", b"\x12\x00\x00\x00\x24\x00", b"", Show::Inquiry),
     ("sg_inq --", b"\x12\x00\x00\x00\x24\x00", b"", Show::Inquiry),
@@ -146,7 +146,7 @@ const SENT: [(&str, &[u8], &[u8], Show); 28] = [
     ),
 ];
 
-// What the words of a line ask for, of which the first is the tool's name.
+/// What the words of a line ask for, of which the first is the tool's name.
 fn parse(alloc: Global, line: &str) -> Result<Tool, Fail> {
     let mut words = Vec::new(alloc);
     for word in line.split_whitespace() {
@@ -157,7 +157,7 @@ fn parse(alloc: Global, line: &str) -> Result<Tool, Fail> {
     Ok(Tool::parse(alloc, name, &words).or(Err("words are refused"))?)
 }
 
-// Whether a tool sends this CDB and data-out, and shows the answer so.
+/// Whether a tool sends this CDB and data-out, and shows the answer so.
 fn sends(tool: &Tool, cdb: &[u8], data_out: &[u8], show: Show) -> bool {
     let mut buffer = [0xEE; MAX_DATA_OUT];
     let plan = tool.plan(&mut buffer);
@@ -176,7 +176,7 @@ fn tools_send_what_their_words_ask_for(rt: HostRuntime) -> Result<(), Fail> {
     Ok(())
 }
 
-// The status code of a reply, its sense data, and the exit status.
+/// The status code of a reply, its sense data, and the exit status.
 const STATUSES: [(u8, &[u8], u8); 16] = [
     (0x00, b"", 0),
     (0x18, b"", 24),

@@ -6,15 +6,15 @@ use std::io;
 use std::io::{Error, ErrorKind, Read, Write};
 use std::test::Fail;
 
-// What a `FakeWriter` does at its faulty call.
+/// What a `FakeWriter` does at its faulty call.
 #[derive(Clone, Copy)]
 pub(super) enum Fault {
     TakesNone,
     Fails(ErrorKind),
 }
 
-// A writer that keeps what it takes, and counts the calls. It takes at most `most` bytes a call,
-// and none at the faulty call. A flush fails.
+/// A writer that keeps what it takes, and counts the calls. It takes at most `most` bytes a call,
+/// and none at the faulty call. A flush fails.
 #[derive(Drop)]
 pub(super) struct FakeWriter {
     pub(super) bytes: Vec<u8>,
@@ -26,12 +26,12 @@ pub(super) struct FakeWriter {
 }
 
 impl FakeWriter {
-    // It takes all bytes of each call.
+    /// It takes all bytes of each call.
     pub(super) fn new(alloc: Global) -> FakeWriter {
         FakeWriter::with_fault(alloc, usize::MAX, usize::MAX, Fault::TakesNone)
     }
 
-    // Its first call is call 0.
+    /// Its first call is call 0.
     pub(super) fn with_fault(
         alloc: Global,
         most: usize,
@@ -78,7 +78,7 @@ const FAULTS: [(Fault, ErrorKind); 3] = [
 
 const LINE: &[u8; 12] = b"line 1: GOOD";
 
-// Writes of fewer bytes than the writer takes, of as many, and of more.
+/// Writes of fewer bytes than the writer takes, of as many, and of more.
 #[test]
 fn writes_are_passed_on(rt: HostRuntime) -> Result<(), Fail> {
     for most in 1..=12 {
@@ -142,7 +142,7 @@ fn ends_at_the_first_failure(rt: HostRuntime) -> Result<(), Fail> {
     Ok(())
 }
 
-// A reader of some bytes. It delivers at most `most` bytes a call, and fails at the faulty call.
+/// A reader of some bytes. It delivers at most `most` bytes a call, and fails at the faulty call.
 #[derive(Drop)]
 struct FakeReader<'a> {
     rest: &'a [u8],
@@ -177,7 +177,7 @@ impl<'a> Read for FakeReader<'a> {
     }
 }
 
-// Into buffers shorter than what the reader delivers, as long, and longer.
+/// Into buffers shorter than what the reader delivers, as long, and longer.
 #[test]
 fn reads_are_passed_on(rt: HostRuntime) -> Result<(), Fail> {
     for most in 1..=13 {

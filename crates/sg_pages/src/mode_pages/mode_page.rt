@@ -17,7 +17,7 @@ pub enum ModePage {
 }
 
 impl ModePage {
-    // In ascending order of their codes.
+    /// In ascending order of their codes.
     pub(super) const ALL: [ModePage; 4] = [
         ModePage::ReadWriteErrorRecovery,
         ModePage::Caching,
@@ -62,15 +62,15 @@ pub(super) const DEFAULT: PageValues = PageValues {
     exceptions_control: [0x08, 0, 0, 0, 0, 0, 0, 0, 0, 0],
 };
 
-// PS, a bit of a page's first byte: the page can be saved. MODE SELECT ignores it.
+/// PS, a bit of a page's first byte: the page can be saved. MODE SELECT ignores it.
 pub(super) const PS: u8 = 0x80;
 
-// Bits of page 0Ah: D_SENSE is in byte 2, and SWP in byte 4.
+/// Bits of page 0Ah: D_SENSE is in byte 2, and SWP in byte 4.
 pub(super) const D_SENSE: u8 = 0x04;
 
 pub(super) const SWP: u8 = 0x08;
 
-// The bits that MODE SELECT may change.
+/// The bits that MODE SELECT may change.
 pub(super) const CHANGEABLE: PageValues = PageValues {
     error_recovery: [0xC0, 0xFF, 0, 0, 0, 0, 0xFF, 0, 0, 0],
     caching: [0x04, 0, 0, 0, 0, 0, 0, 0, 0, 0, 0, 0, 0, 0, 0, 0, 0, 0],

@@ -83,7 +83,7 @@ fn selected_values(
     take_pages(current, list, header_length(ten) + descriptor)
 }
 
-// The current values after the pages from an offset on.
+/// The current values after the pages from an offset on.
 fn take_pages(
     current: &PageValues,
     list: &[u8],
@@ -103,7 +103,7 @@ fn take_pages(
     Ok(values)
 }
 
-// Takes the page at an offset into the values, and returns where it ends.
+/// Takes the page at an offset into the values, and returns where it ends.
 fn take_page(
     current: &PageValues,
     list: &[u8],
@@ -129,8 +129,8 @@ fn take_page(
     }
 }
 
-// Checks the page at an offset, which has to have this code and these values but for the changeable
-// bits, and returns where it ends.
+/// Checks the page at an offset, which has to have this code and these values but for the changeable
+/// bits, and returns where it ends.
 fn check_page(
     list: &[u8],
     offset: usize,

@@ -17,7 +17,7 @@ use byteorder::{BigEndian, ByteOrder};
 use sg_wire::Cut;
 use sg_wire::laws::parts_are_put_in_turn;
 
-// PAGE CODE of all pages.
+/// PAGE CODE of all pages.
 const ALL_PAGES: u8 = 0x3F;
 
 const DPOFUA: u8 = 0x10;
@@ -60,7 +60,7 @@ impl ModePages {
         write_requested_pages(values, request.page_code, cut);
     }
 
-    // Writes the header. The block descriptor and the pages have `following` bytes.
+    /// Writes the header. The block descriptor and the pages have `following` bytes.
     fn write_header(
         &self,
         request: &ModeSenseRequest,
@@ -96,7 +96,7 @@ impl ModePages {
         }
     }
 
-    // The values that PC selects.
+    /// The values that PC selects.
     fn selected_by(&self, page_control: PageControl) -> &PageValues
         ensures { result.now ≡ selected_by self.now page_control }
     {
@@ -121,7 +121,7 @@ fn is_requested(page_code: u8, page: ModePage) -> bool
     page_code == ALL_PAGES || page_code == page.code()
 }
 
-// The length of the block descriptor.
+/// The length of the block descriptor.
 #[tactic(auto, unfolding(crate::specs::BlockDescriptor::block_descriptor))]
 fn descriptor_length(request: &ModeSenseRequest) -> u16
     ensures length { result ≡ length (descriptor_data (fields_of request.now)) }
@@ -144,7 +144,7 @@ fn write_descriptor(request: &ModeSenseRequest, cut: &mut Cut)
     }
 }
 
-// The length of the requested pages together.
+/// The length of the requested pages together.
 #[tactic(auto, unfolding(crate::specs::ModeSense::requested_pages))]
 fn requested_length(values: &PageValues, page_code: u8) -> u16
     ensures length { result ≡ length (requested_pages values.now page_code) }

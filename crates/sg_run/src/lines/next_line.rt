@@ -24,8 +24,8 @@ pub(crate) enum NextLine {
     End,
 }
 
-// Takes the bytes that are ahead, at most `left`, up to the LF that ends the line, and returns whether
-// it is among them.
+/// Takes the bytes that are ahead, at most `left`, up to the LF that ends the line, and returns whether
+/// it is among them.
 fn take_part(read_ahead: &mut ReadAhead, line: &mut Line, left: &mut u32) -> bool
     requires ahead { 0 < length read_ahead.old.ahead }
     requires allowed { 0 < left.old }
@@ -52,8 +52,8 @@ fn take_part(read_ahead: &mut ReadAhead, line: &mut Line, left: &mut u32) -> boo
     }
 }
 
-// Takes the next line where it is whole among the bytes that are ahead, at most `left`, and returns
-// whether it is. It stays where it is: most lines are not copied.
+/// Takes the next line where it is whole among the bytes that are ahead, at most `left`, and returns
+/// whether it is. It stays where it is: most lines are not copied.
 fn take_whole(read_ahead: &mut ReadAhead, left: &mut u32) -> bool
     ensures takes { TakesIfWhole read_ahead.old read_ahead.new left.old left.new result }
     ensures within { length read_ahead.new.ahead ≤ longest_read_ahead }

@@ -7,7 +7,7 @@ use std::io;
 use std::io::Read;
 use std::marker::Model;
 
-// The most bytes that one read takes.
+/// The most bytes that one read takes.
 const LONGEST_READ_AHEAD: usize = 131_072;
 
 /// Bytes of a script that were read and are still to be taken, and the last line that was taken whole
@@ -117,7 +117,7 @@ impl ReadAhead {
         self.bytes().is_empty()
     }
 
-    // Reads once, over the bytes that are there.
+    /// Reads once, over the bytes that are there.
     fn read_more<R: Read>(&mut self, reader: &mut Watched<R>) -> io::Result<()>
         requires { has_failed reader.old ≡ false }
         ensures reads { ReadsMore

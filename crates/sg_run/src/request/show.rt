@@ -10,7 +10,7 @@ use super::word_text::word_text;
 use super::{LineFault, Request};
 use sg_tools::Show;
 
-// The bytes of `show`, by the words after the verb.
+/// The bytes of `show`, by the words after the verb.
 pub(super) fn read_show<'a>(operands: &[&[u8]], buffer: &'a mut [u8]) -> Request<'a>
     requires operands { All (λ word. length word.now ≤ longest_line) operands.now }
     requires ascii { All (λ word. IsAscii word.now) operands.now }

@@ -17,7 +17,7 @@ use sg_tools::{Tool, ToolFault};
 use sg_wire::Initiator;
 use std::alloc::Global;
 
-// The line of a tool, by the words after the initiator, of which the first are kept.
+/// The line of a tool, by the words after the initiator, of which the first are kept.
 pub(super) fn read_tool_line<'a>(
     initiator: Initiator,
     operands: &[&[u8]],

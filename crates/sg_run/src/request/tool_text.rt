@@ -38,7 +38,7 @@ pub fn read_tool(alloc: Global, text: &[u8]) -> Result<Tool, TextFault>
     }
 }
 
-// With a tool's fault as one of its text.
+/// With a tool's fault as one of its text.
 fn in_text(request: Result<Tool, ToolFault>) -> Result<Tool, TextFault>
     ensures { result ≡ in_text request }
 {

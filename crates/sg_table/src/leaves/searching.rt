@@ -37,7 +37,7 @@ pub(crate) fn lower_bound(leaves: &mut Leaves, address: u64) -> Found
     }
 }
 
-// The index of the first start that is not before an address.
+/// The index of the first start that is not before an address.
 fn search<T: HasStart>(starts: &mut Probed<'_, T>, address: u64) -> usize
     requires fresh { starts.old.probes ≡ 0 }
     requires rising { AreRising starts.old.starts }

@@ -38,7 +38,7 @@ pub(crate) fn splice(leaves: &mut Leaves, from: usize, to: usize, runs: &[Run])
     }
 }
 
-// Replaces the records from one place to another, with the leaves between.
+/// Replaces the records from one place to another, with the leaves between.
 fn replace(leaves: &mut Leaves, from: Place, to: Place, runs: &[Run])
     requires places { ArePlaces leaves.old.leaves from to }
     requires balanced { AreBalanced leaves.old.leaves }
@@ -57,8 +57,8 @@ fn replace(leaves: &mut Leaves, from: Place, to: Place, runs: &[Run])
     balance(leaves, last);
 }
 
-// Removes the records from a place on to the end of a leaf. Those of that leaf that are behind
-// another place are copied to a list first.
+/// Removes the records from a place on to the end of a leaf. Those of that leaf that are behind
+/// another place are copied to a list first.
 fn cut(leaves: &mut Leaves, from: Place, to: Place, rest: &mut ArrayVec<Run, TWO_LEAVES>)
     requires places { ArePlaces leaves.old.leaves from to }
     requires empty { rest.old.items ≡ [] }
@@ -75,7 +75,7 @@ fn cut(leaves: &mut Leaves, from: Place, to: Place, rest: &mut ArrayVec<Run, TWO
     leaves.edit(from.leaf, from.offset, len, &[]);
 }
 
-// Removes the leaves behind one up to another.
+/// Removes the leaves behind one up to another.
 fn close_behind(leaves: &mut Leaves, first: usize, last: usize)
     requires leaves { (first ≤ last) × (last < length leaves.old.leaves) }
     requires count { length (joined leaves.old.leaves) ≤ MAX_RECORDS }
@@ -88,8 +88,8 @@ fn close_behind(leaves: &mut Leaves, first: usize, last: usize)
     }
 }
 
-// Appends records to a leaf, and to new leaves behind it where it is full. The last leaf that was
-// written is returned.
+/// Appends records to a leaf, and to new leaves behind it where it is full. The last leaf that was
+/// written is returned.
 fn append(leaves: &mut Leaves, leaf: usize, runs: &[Run]) -> usize
     requires leaf { leaf < length leaves.old.leaves }
     requires filled { AreFilledBut leaves.old.leaves leaf }
@@ -110,7 +110,7 @@ fn append(leaves: &mut Leaves, leaf: usize, runs: &[Run]) -> usize
     last
 }
 
-// A leaf, or a new one behind it where it is full.
+/// A leaf, or a new one behind it where it is full.
 fn with_room(leaves: &mut Leaves, leaf: usize) -> usize
     requires leaf { leaf < length leaves.old.leaves }
     requires filled { AreFilledBut leaves.old.leaves leaf }
@@ -125,7 +125,7 @@ fn with_room(leaves: &mut Leaves, leaf: usize) -> usize
     leaf + 1
 }
 
-// Takes a leaf together with its neighbour where it has too few records.
+/// Takes a leaf together with its neighbour where it has too few records.
 fn balance(leaves: &mut Leaves, leaf: usize)
     requires leaf { leaf < length leaves.old.leaves }
     requires filled { AreFilledBut leaves.old.leaves leaf }
@@ -143,7 +143,7 @@ fn balance(leaves: &mut Leaves, leaf: usize)
     level(leaves, leaf.saturating_sub(1));
 }
 
-// Gives all records of two neighbours to the first one, or half of them where they are too many.
+/// Gives all records of two neighbours to the first one, or half of them where they are too many.
 fn level(leaves: &mut Leaves, leaf: usize)
     requires leaf { leaf + 1 < length leaves.old.leaves }
     requires pair { MIN_LEAF
@@ -166,7 +166,7 @@ fn level(leaves: &mut Leaves, leaf: usize)
     }
 }
 
-// Copies the records of two neighbours to a list.
+/// Copies the records of two neighbours to a list.
 fn gather(leaves: &mut Leaves, leaf: usize, records: &mut ArrayVec<Run, TWO_LEAVES>)
     requires leaf { leaf + 1 < length leaves.old.leaves }
     requires empty { records.old.items ≡ [] }
@@ -179,7 +179,7 @@ fn gather(leaves: &mut Leaves, leaf: usize, records: &mut ArrayVec<Run, TWO_LEAV
     leaves.copy(leaf + 1, 0, records);
 }
 
-// Makes one leaf of two neighbours, whose records are given.
+/// Makes one leaf of two neighbours, whose records are given.
 fn merge(leaves: &mut Leaves, leaf: usize, records: &[Run])
     requires leaf { leaf + 1 < length leaves.old.leaves }
     requires records { records.now ≡ pair_at leaves.old.leaves leaf }
@@ -194,7 +194,7 @@ fn merge(leaves: &mut Leaves, leaf: usize, records: &[Run])
     leaves.close(leaf + 1);
 }
 
-// Gives half of the records of two neighbours to each of them. The records are given.
+/// Gives half of the records of two neighbours to each of them. The records are given.
 fn halve(leaves: &mut Leaves, leaf: usize, records: &[Run])
     requires leaf { leaf + 1 < length leaves.old.leaves }
     requires records { records.now ≡ pair_at leaves.old.leaves leaf }

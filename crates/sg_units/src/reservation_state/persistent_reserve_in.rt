@@ -19,7 +19,7 @@ const KEY_LENGTH: u32 = 8;
 const DESCRIPTOR_LENGTH: u32 = 16;
 
 impl ReservationState {
-    // READ KEYS.
+    /// READ KEYS.
     #[tactic(auto, unfolding(crate::specs::ReserveIn::keys_data))]
     pub(crate) fn read_keys(&self, cut: &mut Cut)
         ensures { Puts cut.old cut.new (keys_data self.now) }
@@ -30,7 +30,7 @@ impl ReservationState {
         put_keys(registrations, cut);
     }
 
-    // READ RESERVATION.
+    /// READ RESERVATION.
     #[tactic(auto, unfolding(crate::specs::ReserveIn::reservation_data))]
     pub(crate) fn read_reservation(&self, cut: &mut Cut)
         ensures { Puts cut.old cut.new (reservation_data self.now) }
@@ -54,7 +54,7 @@ impl ReservationState {
         cut.put(&[0, 0, 0, 0, 0, reservation.kind.code(), 0, 0]);
     }
 
-    // The key of the one holder, or 0 where each registrant is a holder.
+    /// The key of the one holder, or 0 where each registrant is a holder.
     fn holder_key(&self, holder: Option<Initiator>) -> u64
         ensures { result ≡ holder_key self.now.registrations holder }
     {
@@ -74,7 +74,7 @@ fn put_keys(registrations: &[Registration], cut: &mut Cut)
     }
 }
 
-// PRGENERATION, and how many bytes follow.
+/// PRGENERATION, and how many bytes follow.
 pub(super) fn header(generation: u32, additional_length: u32) -> [u8; 8]
     ensures { result ≡ header generation additional_length }
 {

@@ -17,13 +17,13 @@ const FULL_STATUS_LENGTH: usize = 48;
 
 const TRANSPORT_ID_LENGTH: u32 = 24;
 
-// RELATIVE TARGET PORT IDENTIFIER of the one port of the disk.
+/// RELATIVE TARGET PORT IDENTIFIER of the one port of the disk.
 const RELATIVE_TARGET_PORT: u16 = 1;
 
-// PROTOCOL IDENTIFIER of a SAS initiator port, with FORMAT CODE 0h.
+/// PROTOCOL IDENTIFIER of a SAS initiator port, with FORMAT CODE 0h.
 const SAS: u8 = 0x06;
 
-// The locally assigned SAS ADDRESS of initiator 0.
+/// The locally assigned SAS ADDRESS of initiator 0.
 const FIRST_SAS_ADDRESS: u64 = 0x3000_0000_0000_0100;
 
 impl ReservationState {
@@ -74,7 +74,7 @@ fn full_status_descriptor(
     bytes
 }
 
-// R_HOLDER.
+/// R_HOLDER.
 fn holder_flag(reservation: &Option<Reservation>, registrant: Initiator) -> u8
     ensures { result ≡ holder_flag reservation.now registrant }
 {
@@ -84,7 +84,7 @@ fn holder_flag(reservation: &Option<Reservation>, registrant: Initiator) -> u8
     }
 }
 
-// SCOPE and TYPE of the reservation that a registrant holds, and zeros where it holds none.
+/// SCOPE and TYPE of the reservation that a registrant holds, and zeros where it holds none.
 fn held_type(reservation: &Option<Reservation>, registrant: Initiator) -> u8
     ensures { result ≡ held_type reservation.now registrant }
 {

@@ -13,8 +13,8 @@ use crate::{OutFault, Reservation, UnitAttention};
 use sg_wire::Initiator;
 
 impl ReservationState {
-    // Registers an initiator, replaces its key, or with key 0 unregisters it. From then on APTPL
-    // decides what a power loss leaves.
+    /// Registers an initiator, replaces its key, or with key 0 unregisters it. From then on APTPL
+    /// decides what a power loss leaves.
     #[tactic(auto, unfolding(crate::specs::ReserveOut::register_cases))]
     pub(super) fn register(
         &self,
@@ -44,7 +44,7 @@ impl ReservationState {
         Ok(self.with_registrations(registrations, aptpl))
     }
 
-    // An initiator is unregistered. The reservation ends where no registrant holds it any more.
+    /// An initiator is unregistered. The reservation ends where no registrant holds it any more.
     fn unregistered(&self, caller: Initiator, aptpl: bool) -> ReservationChange
         ensures { let rest = without_initiator self.now.registrations caller in
             Ok result ≡ registered rest (while_held self.now.reservation rest)
@@ -64,7 +64,7 @@ impl ReservationState {
         }
     }
 
-    // What is raised for the registrants that remain, where none of them holds the reservation.
+    /// What is raised for the registrants that remain, where none of them holds the reservation.
     fn released_unless_held(&self, registrations: &Registrations) -> Option<UnitAttention>
         ensures { result ≡ released_unless_held self.now.reservation registrations.now }
     {

@@ -10,7 +10,7 @@ use crate::{OutFault, Reservation, ReservationType, UnitAttention};
 use sg_wire::Initiator;
 
 impl ReservationState {
-    // A registrant takes a reservation, where none is held.
+    /// A registrant takes a reservation, where none is held.
     #[tactic(auto, unfolding(crate::specs::ReserveOut::reserve_cases))]
     pub(super) fn reserve(
         &self,
@@ -31,7 +31,7 @@ impl ReservationState {
         Err(OutFault::Conflict)
     }
 
-    // A holder ends the reservation.
+    /// A holder ends the reservation.
     #[tactic(auto, unfolding(crate::specs::ReserveOut::release_cases))]
     pub(super) fn release(
         &self,
@@ -53,7 +53,7 @@ impl ReservationState {
         })
     }
 
-    // All registrations are removed, and the reservation ends.
+    /// All registrations are removed, and the reservation ends.
     pub(super) fn clear(&self) -> ReservationChange
         ensures { Ok result ≡ cleared }
     {

@@ -105,7 +105,7 @@ pub(super) fn decode_read_capacity_16(cdb: &[u8]) -> Result<Command, CdbFault>
     }))
 }
 
-// The address and the count of READ(6) and WRITE(6).
+/// The address and the count of READ(6) and WRITE(6).
 fn decode_extent_6(row: &Row, cdb: &[u8]) -> Result<ShortExtent, CdbFault>
     requires row { IsRow row.now × (length row.now.masks.now ≡ 6) }
     requires action { HasAction cdb.now row.now.name }
@@ -119,7 +119,7 @@ fn decode_extent_6(row: &Row, cdb: &[u8]) -> Result<ShortExtent, CdbFault>
     Ok(ShortExtent::of_fields(high * 65536 + rest, cdb[4]))
 }
 
-// The address and the count of commands of 10 bytes.
+/// The address and the count of commands of 10 bytes.
 pub(super) fn decode_extent_10(row: &Row, cdb: &[u8]) -> Result<Extent10, CdbFault>
     requires row { IsRow row.now × (length row.now.masks.now ≡ 10) }
     requires action { HasAction cdb.now row.now.name }
@@ -136,8 +136,8 @@ pub(super) fn decode_extent_10(row: &Row, cdb: &[u8]) -> Result<Extent10, CdbFau
     })
 }
 
-// An address, and the number behind it, of commands of 16 bytes.
-// Inlined, since the masks of each caller are constant: a byte that may have any bit takes no test.
+/// An address, and the number behind it, of commands of 16 bytes.
+/// Inlined, since the masks of each caller are constant: a byte that may have any bit takes no test.
 #[inline(always)]
 pub(super) fn decode_extent_16(row: &Row, cdb: &[u8]) -> Result<Extent16, CdbFault>
     requires row { IsRow row.now × (length row.now.masks.now ≡ 16) }
@@ -157,7 +157,7 @@ pub(super) fn decode_extent_16(row: &Row, cdb: &[u8]) -> Result<Extent16, CdbFau
 
 // ---- Encoding
 
-// READ(6) and WRITE(6). A TRANSFER LENGTH of 0 means 256 blocks.
+/// READ(6) and WRITE(6). A TRANSFER LENGTH of 0 means 256 blocks.
 pub(super) fn encode_extent_6(row: &Row, extent: ShortExtent) -> CdbBytes
     ensures bytes { result ≡ (row.now.opcode ∷ extent.0 / 65536 ∷ [])
         ++ big_bytes 2 (extent.0 % 65536) ++ (extent.1 % 256 ∷ 0 ∷ []) }
@@ -173,7 +173,7 @@ pub(super) fn encode_extent_6(row: &Row, extent: ShortExtent) -> CdbBytes
 }
 
 impl Extent10 {
-    // The CDB of a row's command.
+    /// The CDB of a row's command.
     pub(super) fn encode(self, row: &Row) -> CdbBytes
         ensures cdb { result ≡ (row.now.opcode ∷ 0 ∷ []) ++ big_bytes 4 self.lba ++ (0 ∷ [])
             ++ big_bytes 2 self.count ++ (0 ∷ []) }
@@ -188,7 +188,7 @@ impl Extent10 {
 }
 
 impl Extent16 {
-    // The CDB of a row's command.
+    /// The CDB of a row's command.
     pub(super) fn encode(self, row: &Row) -> CdbBytes
         ensures cdb { result ≡ (row.now.opcode ∷ 0 ∷ []) ++ big_bytes 8 self.lba
             ++ big_bytes 4 self.count ++ (0 ∷ 0 ∷ []) }

@@ -42,7 +42,7 @@ impl GroupNumber {
         self.number
     }
 
-    // The group in the low five bits of a byte.
+    /// The group in the low five bits of a byte.
     pub(super) fn of_byte(byte: u8) -> GroupNumber
         ensures { result ≡ bit_and byte 0x1F }
     {

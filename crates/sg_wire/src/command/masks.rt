@@ -6,7 +6,7 @@ ghost use Rattle.sg_wire.specs.Layout.{first_bad, fits_masks};
 use super::CdbFault;
 use crate::bytes::MAX_CDB_LENGTH;
 
-// Refuses a CDB that ends early or has a bit outside the masks.
+/// Refuses a CDB that ends early or has a bit outside the masks.
 #[tactic(auto, unfolding(crate::specs::Layout::fits_masks))]
 pub(super) fn check_masks(masks: &[u8], cdb: &[u8]) -> Result<(), CdbFault>
     requires { length masks.now ≤ MAX_CDB_LENGTH }
@@ -20,7 +20,7 @@ pub(super) fn check_masks(masks: &[u8], cdb: &[u8]) -> Result<(), CdbFault>
     }
 }
 
-// Refuses a CDB of fewer bytes than the command has.
+/// Refuses a CDB of fewer bytes than the command has.
 pub(super) fn check_length(cdb: &[u8], wanted: usize) -> Result<(), CdbFault>
     requires { wanted ≤ MAX_CDB_LENGTH }
     ensures short { IfErr result (λ fault. fault ≡ CdbFault.Short (length cdb.now)) }
@@ -33,7 +33,7 @@ pub(super) fn check_length(cdb: &[u8], wanted: usize) -> Result<(), CdbFault>
     Ok(())
 }
 
-// The first byte with a bit outside its mask.
+/// The first byte with a bit outside its mask.
 #[tactic(auto, using(crate::proofs::LayoutLemmas::byte_by_byte))]
 fn first_bad(masks: &[u8], cdb: &[u8]) -> Option<usize>
     requires { length masks.now ≤ length cdb.now }
@@ -48,7 +48,7 @@ fn first_bad(masks: &[u8], cdb: &[u8]) -> Option<usize>
     None
 }
 
-// Two bits of one byte, each with its mask.
+/// Two bits of one byte, each with its mask.
 pub(super) fn two_bits(high: bool, high_mask: u8, low: bool, low_mask: u8) -> u8
     requires { high_mask + low_mask < 256 }
     ensures { result ≡ (if high then high_mask else 0) + (if low then low_mask else 0) }

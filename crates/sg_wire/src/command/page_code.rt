@@ -42,7 +42,7 @@ impl PageCode {
         self.number
     }
 
-    // The code in the low six bits of a byte.
+    /// The code in the low six bits of a byte.
     pub(super) fn of_byte(byte: u8) -> PageCode
         ensures { result ≡ bit_and byte 0x3F }
     {

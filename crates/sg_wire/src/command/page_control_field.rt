@@ -42,7 +42,7 @@ impl PageControlField {
         self.number
     }
 
-    // The field in the high two bits of a byte.
+    /// The field in the high two bits of a byte.
     pub(super) fn of_byte(byte: u8) -> PageControlField
         ensures { result ≡ bit_and (byte / 64) 0x03 }
     {

@@ -7,7 +7,7 @@ ghost use Rattle.sg_wire.specs.Table.{HasAction, IsDecoded, IsFound, IsRefused, 
 use super::masks::check_masks;
 use super::{CdbFault, Class};
 
-// The name of a command.
+/// The name of a command.
 #[derive(Clone, Copy)]
 pub(super) enum Name {
     TestUnitReady,
@@ -34,7 +34,7 @@ pub(super) enum Name {
     GetLbaStatus,
 }
 
-// What is known of a command.
+/// What is known of a command.
 pub(super) struct Row {
     pub(super) name: Name,
     pub(super) opcode: u8,
@@ -171,7 +171,7 @@ pub(super) static GET_LBA_STATUS: Row = row! {
     [0xFF, 0x1F, 0xFF, 0xFF, 0xFF, 0xFF, 0xFF, 0xFF, 0xFF, 0xFF, 0xFF, 0xFF, 0xFF, 0xFF, 0x00, 0x00]
 };
 
-// What the table has for a CDB.
+/// What the table has for a CDB.
 pub(super) enum Found {
     Row(&'static Row),
     // The operation code is known, and its service action is not.
@@ -179,9 +179,9 @@ pub(super) enum Found {
     NoOpcode,
 }
 
-// The row of a CDB: by its operation code, and by its service action where several commands share
-// the code. A CDB that ends before its service action counts as one of service action 00h.
-// Inlined, so that each caller's match is one over the operation code.
+/// The row of a CDB: by its operation code, and by its service action where several commands share
+/// the code. A CDB that ends before its service action counts as one of service action 00h.
+/// Inlined, so that each caller's match is one over the operation code.
 #[inline(always)]
 pub(super) fn row_of(cdb: &[u8]) -> Found
     ensures { IsFound cdb.now result }
@@ -215,7 +215,7 @@ pub(super) fn row_of(cdb: &[u8]) -> Found
     }
 }
 
-// The row of SERVICE ACTION IN(16), whose service action names the command (SPC-4, 4.2.5.2).
+/// The row of SERVICE ACTION IN(16), whose service action names the command (SPC-4, 4.2.5.2).
 fn with_service_action(cdb: &[u8]) -> Found
     requires { slice_index cdb.now 0 ≡ 0x9E }
     ensures { IsFound cdb.now result }
@@ -227,14 +227,14 @@ fn with_service_action(cdb: &[u8]) -> Found
     }
 }
 
-// The SERVICE ACTION field (SPC-4, 4.2.5.2), zero where the CDB ends before it.
+/// The SERVICE ACTION field (SPC-4, 4.2.5.2), zero where the CDB ends before it.
 pub(super) fn service_action(cdb: &[u8]) -> u8
     ensures { result ≡ bit_and (slice_index cdb.now 1) 0x1F }
 {
     cdb.get(1).copied().unwrap_or(0) & 0x1F
 }
 
-// Refuses a CDB that ends early or has a bit outside the masks of its row.
+/// Refuses a CDB that ends early or has a bit outside the masks of its row.
 pub(super) fn check_row(row: &Row, cdb: &[u8]) -> Result<(), CdbFault>
     requires row { IsRow row.now }
     requires action { HasAction cdb.now row.now.name }

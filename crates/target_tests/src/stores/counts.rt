@@ -9,27 +9,27 @@ const NONE: [u64; 3] = [0, 0, 0];
 
 const ANY: [u64; 3] = [u64::MAX, u64::MAX, u64::MAX];
 
-// A read of an empty disk counts nothing.
+/// A read of an empty disk counts nothing.
 const EMPTY: [Step; 1] = [(Read(0), 0, 256, DONE, NONE, NONE, NONE)];
 
-// Of three records two are in the range, and the third shows its end. A search among three takes two
-// probes, and a write searches for the end of its range as well.
+/// Of three records two are in the range, and the third shows its end. A search among three takes two
+/// probes, and a write searches for the end of its range as well.
 const THREE: [Step; 3] = [
     (Write(0xA1), 0, 3, DONE, [3, 3, 3], NONE, ANY),
     (Read(0xA1), 0, 2, DONE, [3, 3, 3], [3, 2, 0], [3, 2, 0]),
     (Write(0xA1), 0, 2, DONE, [3, 3, 3], [3, 4, 0], [3, 4, 0]),
 ];
 
-// Among four records, the searches for both ends of the range that is unmapped take five probes, and its
-// two records are visited. The status of all addresses visits the two that are left.
+/// Among four records, the searches for both ends of the range that is unmapped take five probes, and its
+/// two records are visited. The status of all addresses visits the two that are left.
 const FOUR: [Step; 3] = [
     (Write(0xA1), 10, 4, DONE, [4, 4, 4], NONE, ANY),
     (Unmap, 11, 2, DONE, [2, 2, 2], [2, 5, 0], [2, 5, 0]),
     (Status, 0, 0, DONE, [2, 2, 2], [2, 2, 0], [2, 2, 0]),
 ];
 
-// Of the four blocks three are anchored. They read as zeros, and one of them is written: its record is
-// there, and no block is taken. An anchoring that needs two more finds one.
+/// Of the four blocks three are anchored. They read as zeros, and one of them is written: its record is
+/// there, and no block is taken. An anchoring that needs two more finds one.
 const ANCHORED: [Step; 7] = [
     (Anchor, 0, 3, DONE, [3, 0, 3], NONE, ANY),
     (Read(0), 0, 3, DONE, [3, 0, 3], NONE, ANY),
@@ -56,7 +56,7 @@ fn a_plain_map_counts(rt: HostRuntime) -> Result<(), Fail> {
     Ok(())
 }
 
-// A write between two runs joins them.
+/// A write between two runs joins them.
 const JOINED: [Step; 4] = [
     (Write(0xA1), 0, 1, DONE, [1, 1, 1], NONE, ANY),
     (Write(0xB2), 2, 1, DONE, [2, 2, 2], NONE, ANY),
@@ -64,11 +64,11 @@ const JOINED: [Step; 4] = [
     (Read(0xB2), 2, 1, DONE, [3, 3, 1], NONE, ANY),
 ];
 
-// An unmap of an empty disk counts nothing.
+/// An unmap of an empty disk counts nothing.
 const NO_RUN: [Step; 1] = [(Unmap, 0, 0xFFFF_FFFF, DONE, NONE, NONE, NONE)];
 
-// The longest fill takes all blocks of the largest pool. A read in the middle of its run goes along the
-// links from the first address on.
+/// The longest fill takes all blocks of the largest pool. A read in the middle of its run goes along the
+/// links from the first address on.
 const LONGEST: [Step; 2] = [
     (Fill(0xA1), 0, 65_536, DONE, [65_536, 65_536, 1], NONE, ANY),
     (
@@ -82,7 +82,7 @@ const LONGEST: [Step; 2] = [
     ),
 ];
 
-// An unmap in a run leaves two and frees a block.
+/// An unmap in a run leaves two and frees a block.
 const CUT: [Step; 9] = [
     (Fill(0xA1), 0, 4, DONE, [4, 4, 1], NONE, ANY),
     (Write(0xB2), 9, 1, NOT_DONE, [4, 4, 1], NONE, ANY),
@@ -95,7 +95,7 @@ const CUT: [Step; 9] = [
     (Unmap, 0, 4096, DONE, NONE, NONE, ANY),
 ];
 
-// An anchored address has its block of the pool before it is written. Its runs have a kind of their own.
+/// An anchored address has its block of the pool before it is written. Its runs have a kind of their own.
 const ANCHORED_RUN: [Step; 7] = [
     (Write(0xA1), 1, 1, DONE, [1, 1, 1], NONE, ANY),
     (Need, 0, 4, 3, [1, 1, 1], NONE, ANY),
@@ -106,7 +106,7 @@ const ANCHORED_RUN: [Step; 7] = [
     (Read(0xB2), 2, 1, DONE, [4, 1, 3], NONE, ANY),
 ];
 
-// The status of a disk with one run visits that.
+/// The status of a disk with one run visits that.
 const ONE_RUN: [Step; 2] = [
     (Write(0xA1), 2, 3, DONE, [3, 3, 1], NONE, ANY),
     (

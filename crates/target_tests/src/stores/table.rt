@@ -10,7 +10,7 @@ const THREE_AT_40: Run = Run {
     kind: Kind::Data,
 };
 
-// The probes and the visits that a table has counted.
+/// The probes and the visits that a table has counted.
 fn counted(table: &RunTable) -> (u64, u64) {
     (table.probes(), table.visits())
 }

@@ -5,7 +5,7 @@ use std::alloc::{AllocError, Global};
 use std::marker::Model;
 use std::process::Abort;
 
-// A reply that was taken, with its data-in.
+/// A reply that was taken, with its data-in.
 #[derive(Drop)]
 pub(super) struct Entry {
     pub(super) status: Status,
@@ -43,11 +43,11 @@ impl Entry {
     }
 }
 
-// A reply was refused.
+/// A reply was refused.
 #[derive(Drop)]
 pub(super) struct Refused;
 
-// Takes at most `most` replies.
+/// Takes at most `most` replies.
 #[derive(Drop)]
 pub(super) struct Log<'a, A: Abort> {
     pub(super) rt: &'a A,
@@ -68,7 +68,7 @@ impl<'a, A: Abort> Log<'a, A> {
         }
     }
 
-    // Keeps a reply, if there is memory for it.
+    /// Keeps a reply, if there is memory for it.
     fn keep(&mut self, reply: &Reply, data_in: &[u8]) -> Result<(), AllocError>
         ensures kept { OnOk result (self.new.entries.items
             ≡ self.old.entries.items ++ exchange reply.now data_in.now ∷ []) }

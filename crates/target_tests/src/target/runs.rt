@@ -4,15 +4,15 @@ use super::*;
 use sg_target::{Call, Event};
 use std::process::Abort;
 
-// A command and its answer: the initiator's number, the CDB, data-out, the ending and data-in.
+/// A command and its answer: the initiator's number, the CDB, data-out, the ending and data-in.
 type Step = (u8, &'static [u8], &'static [u8], Ending, &'static [u8]);
 
-// In the place of an initiator's number, which is less than 8: a power cycle, which has no answer.
+/// In the place of an initiator's number, which is less than 8: a power cycle, which has no answer.
 const POWER: u8 = 0xFF;
 
 const POWER_CYCLE: Step = (POWER, &[], &[], Good, &[]);
 
-// How a run ends, and what its sink has taken.
+/// How a run ends, and what its sink has taken.
 type Ran = (Result<(), Refused>, Vec<Entry>);
 
 // Both calls by themselves, so that what they ensure has to be carried no further.
@@ -30,7 +30,7 @@ impl Disk {
     }
 }
 
-// Runs the commands of steps, into a sink that takes at most `most` replies.
+/// Runs the commands of steps, into a sink that takes at most `most` replies.
 fn run(
     rt: &(impl Abort + AllocGlobal),
     disk: &mut Disk,
@@ -55,7 +55,7 @@ fn run(
     Ok((ended, log.entries))
 }
 
-// Runs steps.
+/// Runs steps.
 fn run_events(
     rt: &(impl Abort + AllocGlobal),
     disk: &mut Disk,
@@ -82,7 +82,7 @@ fn run_events(
     Ok((ended, log.entries))
 }
 
-// How many of the first commands of steps have their answers, one entry after another.
+/// How many of the first commands of steps have their answers, one entry after another.
 fn count_answered(entries: &[Entry], steps: &[Step]) -> usize {
     let mut rest = entries.iter();
     let mut count: usize = 0;
@@ -101,7 +101,7 @@ fn count_answered(entries: &[Entry], steps: &[Step]) -> usize {
     count
 }
 
-// Whether an entry is a reply with this ending and data-in.
+/// Whether an entry is a reply with this ending and data-in.
 fn is_answered(entry: &Entry, ending: Ending, data_in: &[u8]) -> bool {
     let ends_so = match sense_of(ending) {
         Some(sense) => {
@@ -150,7 +150,7 @@ const CONVERSATION: [Step; 15] = [
     (2, READY, &[], PowerOn, &[]),
 ];
 
-// Whether a new disk answers to steps, `count` of them, as they say.
+/// Whether a new disk answers to steps, `count` of them, as they say.
 fn are_answered(
     rt: &(impl Abort + AllocGlobal),
     steps: &[Step],
@@ -168,7 +168,7 @@ fn replies_are_taken_in_order_with_their_data_in(rt: HostRuntime) -> Result<(), 
     Ok(())
 }
 
-// TEST UNIT READY by each initiator.
+/// TEST UNIT READY by each initiator.
 const READY_BY_ALL: [Step; 8] = [
     (0, READY, &[], PowerOn, &[]),
     (1, READY, &[], PowerOn, &[]),
@@ -180,7 +180,7 @@ const READY_BY_ALL: [Step; 8] = [
     (7, READY, &[], PowerOn, &[]),
 ];
 
-// How many of the first initiators have sent TEST UNIT READY: no unit attention is pending for them.
+/// How many of the first initiators have sent TEST UNIT READY: no unit attention is pending for them.
 fn count_sent(disk: &mut Disk) -> Result<usize, Fail> {
     let mut sent: usize = 0;
     for number in 0..8 {
@@ -192,8 +192,8 @@ fn count_sent(disk: &mut Disk) -> Result<usize, Fail> {
     Ok(sent)
 }
 
-// Runs steps on a new disk, into a sink that takes at most `most` replies. Whether the next one ends the
-// run, and no command is executed after it.
+/// Runs steps on a new disk, into a sink that takes at most `most` replies. Whether the next one ends the
+/// run, and no command is executed after it.
 fn ends_after(rt: &(impl Abort + AllocGlobal), steps: &[Step], most: usize) -> Result<bool, Fail> {
     let mut disk = Disk::new(rt.alloc())?;
     let (ended, entries) = run(rt, &mut disk, steps, most)?;
@@ -213,14 +213,14 @@ fn no_command_is_executed_after_a_refused_reply(rt: HostRuntime) -> Result<(), F
     Ok(())
 }
 
-// Two blocks, and READ of three.
+/// Two blocks, and READ of three.
 const TWO_WRITES_AND_A_READ: [Step; 3] = [
     (0, &[0x2A, 0, 0, 0, 0, 0, 0, 0, 1, 0], &A, Good, &[]),
     (0, &[0x2A, 0, 0, 0, 0, 1, 0, 0, 1, 0], &A, Good, &[]),
     (0, &[0x28, 0, 0, 0, 0, 0, 0, 0, 3, 0], &[], Good, &[]),
 ];
 
-// Whether entries have the counts that the commands of steps have where each is executed by itself.
+/// Whether entries have the counts that the commands of steps have where each is executed by itself.
 fn have_own_counts(disk: &mut Disk, entries: &[Entry], steps: &[Step]) -> Result<bool, Fail> {
     let mut each = true;
     for (entry, step) in entries.iter().zip(steps) {
@@ -230,7 +230,7 @@ fn have_own_counts(disk: &mut Disk, entries: &[Entry], steps: &[Step]) -> Result
     Ok(each)
 }
 
-// Whether the last entry has visited two records, and counts probes.
+/// Whether the last entry has visited two records, and counts probes.
 fn has_visited_two(entries: &[Entry]) -> bool {
     match entries.last() {
         Some(last) => last.counts.visits == 2 && last.counts.probes > 0,
@@ -238,7 +238,7 @@ fn has_visited_two(entries: &[Entry]) -> bool {
     }
 }
 
-// Whether the replies of a run have the counts of their commands, and the last one those of two records.
+/// Whether the replies of a run have the counts of their commands, and the last one those of two records.
 fn are_counted(rt: &(impl Abort + AllocGlobal), steps: &[Step]) -> Result<bool, Fail> {
     let mut disk = Disk::ready(rt.alloc())?;
     let (ended, entries) = run(rt, &mut disk, steps, usize::MAX)?;
@@ -253,7 +253,7 @@ fn each_reply_of_a_run_has_the_counts_of_its_command(rt: HostRuntime) -> Result<
     Ok(())
 }
 
-// Commands with their answers, and power cycles, which have none.
+/// Commands with their answers, and power cycles, which have none.
 const THROUGH_POWER_CYCLES: [Step; 10] = [
     (0, READY, &[], PowerOn, &[]),
     (0, &[0x2A, 0, 0, 0, 0, 3, 0, 0, 1, 0], &A, Good, &[]),
@@ -267,7 +267,7 @@ const THROUGH_POWER_CYCLES: [Step; 10] = [
     (1, READY, &[], PowerOn, &[]),
 ];
 
-// Whether a new disk answers to steps, `count` of them, as they say, and power cycles come between them.
+/// Whether a new disk answers to steps, `count` of them, as they say, and power cycles come between them.
 fn are_answered_through_power_cycles(
     rt: &(impl Abort + AllocGlobal),
     steps: &[Step],

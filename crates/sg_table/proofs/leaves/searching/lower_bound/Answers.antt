@@ -54,6 +54,7 @@ returns-clause-search c =
     let r = c.requires in
     let f = c.other_firsts-firsts.ensures in
     rw (c.probes.ensures, c.probes-2.ensures)
-    (leaf-cost c.args.leaves.now.leaves r.sorted r.balanced f.not_empty c.search-leaf.result _ _ c.args.address
+    (leaf-cost c.args.leaves.now.leaves r.sorted r.balanced f.not_empty c.search-leaf.result _ _
+    c.args.address
     (rw f.starts at c.search-leaf.ensures.index) f.fits (rw f.starts at c.search-leaf.ensures.halving)
     (rw c.probed-records.ensures.starts at c.search-offset.ensures.halving))
