@@ -14,7 +14,8 @@ use types.Logic.{Logic, sem}
 use contract.Monad.{Fun, fact_use}
 use contract.Running.{tables, tables_of}
 use sound.WpLaws.{WpFn-mono}
-use types.Kit.{Item, at_ret, any_q, ‵, raw, some, later, ◌⊛◌, ◌$◌, ◌∵◌, !, qed, by, move, drop, keep, use0, use1, await, pick}
+use types.Kit.{Item, at_ret, any_q, ‵, raw, some, later, ◌⊛◌, ◌$◌, ◌∵◌, !, qed, move, drop, keep}
+use types.Kit.{use0, use1, await, pick}
 use types.Kit.{join, split, split3, group, rewrite, fsplit, fsplit3, fjoin, fpack, suffices, frame, done}
 use types.Match.{live}
 use types.Part.{whole, sub, look_in, agg}
