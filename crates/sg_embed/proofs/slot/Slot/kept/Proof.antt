@@ -19,7 +19,8 @@ use types.Kit.{use0, use1, await, pick}
 use types.Kit.{join, split, split3, group, rewrite, fsplit, fsplit3, fjoin, fpack, suffices, frame, done}
 use types.Match.{live}
 use types.Part.{whole, sub, look_in, agg}
-use types.Run.{stop, fld, load, lit, bin, addr, no_more, and_then, of_opd, first, blocks, branches, exec, returns, enter}
+use types.Run.{stop, fld, load, lit, bin, addr, no_more, and_then, of_opd, first, blocks}
+use types.Run.{branches, exec, returns, enter}
 use types.ByLocal.{alloc_all, pass_all, free_all, look_at, get, through, sets, sets_last, env}
 use types.SemTy.{Body as Borrowed}
 use denote.Exit.{no}
