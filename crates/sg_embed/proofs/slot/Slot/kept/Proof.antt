@@ -6,7 +6,7 @@ use mir.Raw.{raw as bare}
 use mir.Syntax.{named}
 use mir.Val.{Val, vptr, vcons, vnil}
 use base.Logic.{SProp, ent, sep, emp, via, fst∗, snd∗, id⊢}
-use base.Fml.{Lft, GName, Share, Fml, ftrue, fsep, flft, fobs, fobor, fauth, fres}
+use base.Fml.{Lft, GName, Share, Fml, ftrue, fsep, flft, fres}
 use prog.Memory.{Memory}
 use prog.Routine.{Routine}
 use prog.Wp.{Env, Calls, Loops, Wp, WpFn, Tables, after_block, after_seq, at_return}
@@ -14,7 +14,7 @@ use types.Logic.{Logic, sem}
 use contract.Monad.{Fun, fact_use}
 use contract.Running.{tables, tables_of}
 use sound.WpLaws.{WpFn-mono}
-use types.Kit.{Item, at_ret, any_q, ‵, raw, some, later, ◌⊛◌, ◌$◌, ◌∵◌, !, qed, move, drop, keep}
+use types.Kit.{at_ret, any_q, ‵, raw, some, later, ◌⊛◌, ◌$◌, ◌∵◌, !, qed, move, drop, keep}
 use types.Kit.{use0, use1, await, pick}
 use types.Kit.{join, split, split3, group, rewrite, fsplit, fsplit3, fjoin, fpack, suffices, frame, done}
 use types.Match.{live}
@@ -22,13 +22,12 @@ use types.Part.{whole, sub, look_in, agg}
 use types.Run.{stop, fld, load, lit, bin, addr, no_more, and_then, of_opd, first, blocks}
 use types.Run.{branches, exec, returns, enter}
 use types.ByLocal.{alloc_all, pass_all, free_all, look_at, get, through, sets, sets_last, env}
-use types.SemTy.{Body as Borrowed}
 use denote.Exit.{no}
 use denote.Follow.{follows, follows_by, lends_Part}
 use denote.Laws.{Are, Ises, owns_show, showss}
 use denote.Memory.{mem, cell_at, part_at, part_of}
 use denote.RattleType.{RattleType, owns}
-use denote.RawPtr.{Ptr, block_ptr, null_ptr, tests_null, Testable}
+use denote.RawPtr.{Ptr, block_ptr, tests_null}
 use denote.Ref.{MutRef, MutBor}
 use denote.Signature.{plain, mut_ref_to, types_at}
 use denote.Steps.{nothing, opens, closes}
@@ -42,7 +41,6 @@ use Rattle.std.specs.declared.option.Option.TheVariants.{None, Some}
 use Rattle.std.specs.contracts.option.Option as Opt
 use Rattle.std.specs.contracts.alloc.Global as Heap
 use Rattle.std.specs.contracts.impls.GlobalAllocator.TheImpl.{ghosts}
-use Rattle.std.proofs.alloc.Calls.{Fits}
 use Rattle.std.proofs.alloc.Shapes.{after, head, inside}
 use Rattle.std.proofs.option.Made.{Some-of, none_of}
 use Rattle.std.proofs.BoxSteps.Form.{D, R, τ, word}
