@@ -36,6 +36,8 @@ with Disk(64, 4, identity("ACME", "DISK", "0200", "00000042", 42)) as disk:
     disk.power_cycle()
     disk.close()
     assert refusal(disk.power_cycle) == Error.NO_DISK
+slot = Disk(64, 4).slot
+assert slot.target is None
 for blocks, pool, why in ((0, 4, Error.BLOCKS), (64, 65_537, Error.POOL), (-1, 4, ValueError),
                           ((1 << 64) + 64, 4, ValueError), (64, (1 << 32) + 4, ValueError)):
     assert refusal(Disk, blocks, pool) == why

@@ -189,7 +189,8 @@ static void *take_turns(void *argument)
     return NULL;
 }
 
-/* The thread that makes the disk executes nothing, and frees it after the others have. */
+/* The thread that makes the disk executes nothing, and frees it after the others have. Where one of
+ * these can't be started, the program ends: those that were use `it`. */
 static int run_shared(uint64_t seed, unsigned long count)
 {
     pthread_t threads[4];
@@ -200,7 +201,7 @@ static int run_shared(uint64_t seed, unsigned long count)
         return 99;
     for (at = 0; at < 4; at++)
         if (start_small_thread(&threads[at], take_turns, &it))
-            return 99;
+            exit(99);
     for (at = 0; at < 4; at++)
         pthread_join(threads[at], NULL);
     end_run(&it);
@@ -237,7 +238,7 @@ static int run_threads(uint64_t seed, unsigned long count, const char *folder)
     for (at = 0; at < 4; at++) {
         works[at] = (struct work){ seed + (uint64_t)at, count, folder, 99 };
         if (start_small_thread(&threads[at], work, &works[at]))
-            return 99;
+            exit(99);
     }
     for (at = 0; at < 4; at++) {
         pthread_join(threads[at], NULL);

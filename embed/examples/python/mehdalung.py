@@ -182,7 +182,7 @@ class Reply(NamedTuple):
 
 class Disk:
     """A disk of `blocks` blocks, of which `pool` can be mapped at once, with an identity or the
-    standard one."""
+    standard one. It is freed by `close`, by the end of a `with`, or with its last reference."""
 
     def __init__(self, blocks=4096, pool=4, identity=None):
         self.slot = Slot()
@@ -215,6 +215,11 @@ class Disk:
 
     def close(self):
         LIBRARY.mdl_free(self.slot)
+
+    # LIBRARY may be gone when the interpreter ends, and there is no slot where __init__ made none.
+    def __del__(self, free=LIBRARY.mdl_free):
+        if hasattr(self, "slot"):
+            free(self.slot)
 
     def __enter__(self):
         return self

@@ -10,7 +10,7 @@ fn print(line: u32, reply: Reply) -> u8 {
         _ => "RESERVATION CONFLICT",
     };
     println!("line {line}: {name}");
-    print!("{}", reply.text().unwrap_or_default());
+    print!("{}", reply.text().expect("no memory for a text"));
     reply.exit_status()
 }
 
