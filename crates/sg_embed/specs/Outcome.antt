@@ -3,10 +3,10 @@ use Rattle.std.specs.Prelude.{◌≡◌, ◌⊎◌, ℕ, List, Option, None, Som
 use Rattle.std.specs.Prelude.{if◌then◌else◌, not, nat_le, nat_lt}
 use Rattle.sg_pages.specs.declared.identity.IdentityFault.{IdentityFault}
 use Rattle.sg_pages.specs.declared.identity.IdentityFault.TheVariants.{Text, Local}
+use Rattle.sg_target.specs.BlockCommands.{longest_data_in}
 use Rattle.sg_target.specs.Config.{ConfigFields, checked_config}
 use Rattle.sg_target.specs.declared.config.ConfigFault.{ConfigFault}
 use Rattle.sg_target.specs.declared.config.ConfigFault.TheVariants.{Blocks, Pool}
-use Rattle.sg_target.specs.declared.target.TheConstants.{BUFFER_LENGTH}
 use Rattle.sg_tools.specs.ParameterLists.{max_data_out}
 use Rattle.sg_tools.specs.declared.tool.Tool.{Tool}
 use Rattle.sg_tools.specs.declared.tool_fault.ToolFault.{ToolFault}
@@ -91,7 +91,7 @@ disk_outcome None = NoDisk
 abbrev pub execute_outcome : Option Kept → (initiator room : ℕ) → Outcome
 execute_outcome held initiator room =
     if not (nat_lt initiator 8) then UnknownInitiator else
-    (if not (nat_le BUFFER_LENGTH room) then BufferTooShort else disk_outcome held)
+    (if not (nat_le longest_data_in room) then BufferTooShort else disk_outcome held)
 
 abbrev pub power_cycle_outcome : Option Kept → Outcome
 power_cycle_outcome = disk_outcome

@@ -3,16 +3,16 @@ use Rattle.std.proofs.Common.{◌≡◌, ◌≢◌, ℕ, ◌+◌, ◌-◌, ◌<�
 use Rattle.std.proofs.Common.{arith, refl, sym, ap, ap₂, ◌∙◌, eq-eqb}
 use Rattle.std.proofs.Common.{cond, Bool, true, false}
 use Rattle.std.proofs.lemmas.Bool.Decides.{nat_tests}
-use Rattle.std.proofs.lemmas.List.Sums.{sum_by-append}
+use Rattle.std.proofs.lemmas.List.FromFn.{length-range_with_len}
+use Rattle.std.proofs.lemmas.List.Sums.{prefix_len-le-length, sum_by-append, sum_by-cons}
 use Rattle.std.specs.List.{prefix_len, range_with_len}
 use Rattle.std.specs.Prelude.{min, nat_lt, ◌==◌}
 use Rattle.sg_store.specs.Disk.{Contents}
 use Rattle.sg_store.specs.LbaStatus.{code_of, count_alike, covered, descriptor_at, descriptors_from}
-use Rattle.sg_store.specs.LbaStatus.{status_at}
+use Rattle.sg_store.specs.LbaStatus.{max_addresses, status_at}
 use Rattle.sg_store.specs.declared.lba_status.ProvisioningStatus.{ProvisioningStatus}
 use Rattle.sg_store.specs.declared.lba_status.ProvisioningStatus.TheVariants.{Mapped, Deallocated, Anchored}
 use Rattle.sg_store.specs.declared.lba_status.StatusDescriptor.{StatusDescriptor}
-use Rattle.sg_store.specs.declared.lba_status.TheConstants.{MAX_ADDRESSES}
 
 not_true : (b : Bool) → b ≢ true → b ≡ false
 not_true true wrong = absurd (wrong refl)
@@ -51,12 +51,12 @@ other_code s t other = not_true (code_of s == code_of t) (λ e. other (same_stat
 
 -- a descriptor, by the status of its addresses
 module _ (m : Contents) (capacity a k : ℕ) (s : ProvisioningStatus) (here : status_at m a ≡ s)
-    (within : k ≤ min MAX_ADDRESSES (capacity - a))
+    (within : k ≤ min max_addresses (capacity - a))
     (all : (i : ℕ) → i < k → status_at m (a + i) ≡ s)
-    (stop : k < min MAX_ADDRESSES (capacity - a) → status_at m (a + k) ≢ s) where
+    (stop : k < min max_addresses (capacity - a) → status_at m (a + k) ≢ s) where
   alike : count_alike m capacity a ≡ k
   unfolding count_alike
-  alike = prefix-is _ a (min MAX_ADDRESSES (capacity - a)) k within
+  alike = prefix-is _ a (min max_addresses (capacity - a)) k within
       (λ i lt. eq-eqb _ _ (ap code_of (all i lt ∙ sym here)))
       (λ lt. other_code _ _ (λ e. stop lt (e ∙ here)))
 
@@ -64,6 +64,22 @@ module _ (m : Contents) (capacity a k : ℕ) (s : ProvisioningStatus) (here : st
       (descriptor_at m capacity a)
   described = ap₂ (λ n (c : ProvisioningStatus). record { lba = a; count = n; status = c })
       (sym alike) (sym here)
+
+-- a descriptor covers no more addresses than its count has room for, and none past the end
+pub alike-within : (m : Contents) (capacity a : ℕ)
+    → count_alike m capacity a ≤ min max_addresses (capacity - a)
+unfolding count_alike
+alike-within m capacity a = omega (
+  arith,
+  prefix_len-le-length (λ x. code_of (status_at m x) == code_of (status_at m a))
+      (range_with_len a (min max_addresses (capacity - a))),
+  length-range_with_len a (min max_addresses (capacity - a)),
+)
+
+-- those of one more
+pub covered-first : (d : StatusDescriptor) (ds : List StatusDescriptor)
+    → covered (d ∷ ds) ≡ d.count + covered ds
+covered-first d ds = sum_by-cons (λ (x : StatusDescriptor). x.count) d ds
 
 -- the descriptors from an address on
 pub descriptors-first : (m : Contents) (capacity a most : ℕ) → a < capacity

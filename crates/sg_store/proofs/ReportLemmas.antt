@@ -1,12 +1,11 @@
 -- What the answer of GET LBA STATUS covers and reports.
-use Rattle.std.proofs.Common.{◌≡◌, ◌≢◌, ℕ, ◌+◌, ◌-◌, ◌<◌, ◌≤◌, zero, suc, List, [], ◌∷◌, length}
+use Rattle.std.proofs.Common.{◌≡◌, ◌≢◌, ℕ, ◌+◌, ◌-◌, ◌<◌, ◌≤◌, zero, suc, List, ◌∷◌, length}
 use Rattle.std.proofs.Common.{get_or, arith, refl, sym, ap, subst, ◌∙◌, eq-eqb, inl, inr, Bool}
 use Rattle.std.proofs.Common.{true, false, Some}
 use Rattle.std.proofs.lemmas.Bool.{cases_lt}
 use Rattle.std.proofs.lemmas.Bool.Decides.{nat_tests}
 use Rattle.std.proofs.lemmas.List.FromFn.{get_or-range_with_len, length-range_with_len}
-use Rattle.std.proofs.lemmas.List.Sums.{sum_by-append, prefix_len_passes, prefix_len_stops}
-use Rattle.std.proofs.lemmas.List.Sums.{prefix_len-le-length}
+use Rattle.std.proofs.lemmas.List.Sums.{prefix_len_passes, prefix_len_stops}
 use Rattle.std.proofs.lemmas.List.Elements.{All-nil, All-cons}
 use Rattle.std.specs.List.{prefix_len, range_with_len}
 use Rattle.std.specs.Prelude.{All, min, ◌==◌}
@@ -14,36 +13,22 @@ use Rattle.sg_store.specs.Disk.{Contents, Disk, lies_in}
 use Rattle.sg_store.specs.Laws.{status_reported, ReportsEachStatus, CoversTheRest}
 use Rattle.sg_store.specs.Laws.{EndsAtAnotherStatus, CoversTheMost}
 use Rattle.sg_store.specs.LbaStatus.{code_of, status_at, count_alike, covered, descriptor_at}
-use Rattle.sg_store.specs.LbaStatus.{descriptors_from}
+use Rattle.sg_store.specs.LbaStatus.{descriptors_from, max_addresses}
 use Rattle.sg_store.specs.declared.lba_status.StatusDescriptor.{StatusDescriptor}
-use Rattle.sg_store.specs.declared.lba_status.TheConstants.{MAX_ADDRESSES}
-use Rattle.sg_store.proofs.DescriptorLemmas.{same_status, descriptors-first, descriptors-none}
-use Rattle.sg_store.proofs.DescriptorLemmas.{descriptors-end}
+use Rattle.sg_store.proofs.DescriptorLemmas.{alike-within, covered-first, descriptors-end}
+use Rattle.sg_store.proofs.DescriptorLemmas.{descriptors-first, descriptors-none, same_status}
 
 -- the addresses that a descriptor covers
-alike-within : (m : Contents) (capacity a : ℕ) → count_alike m capacity a ≤ min MAX_ADDRESSES (capacity - a)
-unfolding count_alike
-alike-within m capacity a = omega (
-  arith,
-  prefix_len-le-length (λ x. code_of (status_at m x) == code_of (status_at m a))
-      (range_with_len a (min MAX_ADDRESSES (capacity - a))),
-  length-range_with_len a
-      (min MAX_ADDRESSES (capacity - a)),
-)
-
 alike-status : (m : Contents) (capacity a i : ℕ) → i < count_alike m capacity a
     → status_at m (a + i) ≡ status_at m a
 unfolding count_alike
 alike-status m capacity a i lt =
-    let n = min MAX_ADDRESSES (capacity - a) in
+    let n = min max_addresses (capacity - a) in
     let within = alike-within m capacity a in
     let passes = prefix_len_passes (λ x. code_of (status_at m x) == code_of (status_at m a))
     (range_with_len a n) i 0 lt in
     let at : get_or (range_with_len a n) i 0 ≡ a + i = get_or-range_with_len a n i 0 (omega arith) in
     same_status (status_at m (a + i)) (status_at m a) (rw at at passes)
-
-covered-first : (d : StatusDescriptor) (ds : List StatusDescriptor) → covered (d ∷ ds) ≡ d.count + covered ds
-covered-first d ds = sum_by-append (λ (x : StatusDescriptor). x.count) (d ∷ []) ds ∙ omega arith
 
 reported-first : (d : StatusDescriptor) (ds : List StatusDescriptor) (a : ℕ)
     → lies_in d.lba d.count a ≡ true → status_reported (d ∷ ds) a ≡ Some d.status
@@ -102,12 +87,12 @@ covers m capacity (suc most) lba low room = elim (cases_lt lba capacity) [
 ]
 
 -- where the addresses of one status end
-alike-stops : (m : Contents) (capacity a : ℕ) → count_alike m capacity a < MAX_ADDRESSES
+alike-stops : (m : Contents) (capacity a : ℕ) → count_alike m capacity a < max_addresses
     → a + count_alike m capacity a < capacity
     → status_at m (a + count_alike m capacity a) ≢ status_at m a
 unfolding count_alike
 alike-stops m capacity a small before same =
-    let n = min MAX_ADDRESSES (capacity - a) in
+    let n = min max_addresses (capacity - a) in
     let test : ℕ → Bool = λ x. code_of (status_at m x) == code_of (status_at m a) in
     let k = prefix_len test (range_with_len a n) in
     let stops = prefix_len_stops test (range_with_len a n) 0 (omega (arith, length-range_with_len a n)) in

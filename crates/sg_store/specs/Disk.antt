@@ -1,12 +1,20 @@
 -- The disk: blocks of 512 bytes, of which those that were written are mapped to blocks of a pool, and
 -- others may be anchored there (SBC-3, 4.7, logical block provisioning).
-use Rattle.std.specs.Prelude.{◌≡◌, ℕ, ◌+◌, ◌*◌, ◌<◌, Bool, true, false, ◌&&◌, not, nat_le, nat_lt}
-use Rattle.std.specs.Prelude.{if◌then◌else◌}
+use Rattle.std.specs.Prelude.{◌≡◌, ℕ, ◌+◌, ◌*◌, ◌^◌, ◌<◌, Bool, true, false, ◌&&◌, not, nat_le}
+use Rattle.std.specs.Prelude.{nat_lt, if◌then◌else◌}
 use Rattle.std.specs.Prelude.{List, [], ◌∷◌, Option, Some, None, length, take, drop, replicate, map}
 use Rattle.std.specs.List.{flat_map, range_with_len, count_by}
 use Rattle.std.specs.Ordering.{nat_cmp}
 use Rattle.std.specs.FinMap.{FinMap, get, insert, contains_key, retain_keys, empty, entries, len}
 use Rattle.sg_store.specs.declared.store.TheConstants.{BLOCK_LENGTH}
+
+-- The most addresses that a disk can have, and the most of them that can be mapped or anchored at
+-- once.
+abbrev pub max_capacity : ℕ
+max_capacity = 2 ^ 40
+
+abbrev pub max_pool : ℕ
+max_pool = 65536
 
 -- What an address has a block of the pool for: data, or none yet. It is anchored then (SBC-3, 4.7.4):
 -- it reads as zeros, and writing it takes no more of the pool.

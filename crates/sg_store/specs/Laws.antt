@@ -5,11 +5,10 @@ use Rattle.std.specs.Prelude.{Bool, List, All, length, find, Option, Some, optio
 use Rattle.sg_store.specs.Disk.{Contents, Disk, Mapping, block, block_at, zero_block, lies_in}
 use Rattle.sg_store.specs.Disk.{written, filled, unmapped, anchored, remapped}
 use Rattle.sg_store.specs.Disk.{IsWellFormed, HasBlockLength, need}
-use Rattle.sg_store.specs.LbaStatus.{status_at, lba_status, covered}
+use Rattle.sg_store.specs.LbaStatus.{covered, lba_status, max_addresses, max_descriptors, status_at}
 use Rattle.sg_store.specs.declared.lba_status.ProvisioningStatus.{ProvisioningStatus}
 use Rattle.sg_store.specs.declared.lba_status.ProvisioningStatus.TheVariants.{Mapped, Deallocated, Anchored}
 use Rattle.sg_store.specs.declared.lba_status.StatusDescriptor.{StatusDescriptor}
-use Rattle.sg_store.specs.declared.lba_status.TheConstants.{MAX_ADDRESSES, MAX_DESCRIPTORS}
 
 -- After a write, the block at an address is the one given for it inside the range, and the old one
 -- outside.
@@ -80,14 +79,14 @@ ReportsEachStatus = (disk : Disk) (lba address : ℕ) →
 -- and covers the addresses up to the end of the disk, unless it has no room for more descriptors.
 abbrev pub CoversTheRest : Type 0
 CoversTheRest = (disk : Disk) (lba : ℕ) →
-    lba ≤ disk.capacity → length (lba_status disk lba) < MAX_DESCRIPTORS →
+    lba ≤ disk.capacity → length (lba_status disk lba) < max_descriptors →
     lba + covered (lba_status disk lba) ≡ disk.capacity
 
 -- A descriptor that covers fewer addresses than it could ends before one of another status.
 abbrev pub EndsAtAnotherStatus : Disk → StatusDescriptor → Type 0
 EndsAtAnotherStatus disk descriptor =
     let next = descriptor.lba + descriptor.count in
-    descriptor.count < MAX_ADDRESSES → next < disk.capacity →
+    descriptor.count < max_addresses → next < disk.capacity →
     status_at disk.contents next ≢ descriptor.status
 
 -- So do all that GET LBA STATUS reports.

@@ -13,7 +13,14 @@ use Rattle.sg_store.specs.declared.lba_status.ProvisioningStatus.{ProvisioningSt
 use Rattle.sg_store.specs.declared.lba_status.ProvisioningStatus.TheVariants.{Mapped, Deallocated}
 use Rattle.sg_store.specs.declared.lba_status.ProvisioningStatus.TheVariants.{Anchored as AnchoredStatus}
 use Rattle.sg_store.specs.declared.lba_status.StatusDescriptor.{StatusDescriptor}
-use Rattle.sg_store.specs.declared.lba_status.TheConstants.{MAX_ADDRESSES, MAX_DESCRIPTORS}
+
+-- The most descriptors that an answer has, and the most addresses that one covers: NUMBER OF LOGICAL
+-- BLOCKS has four bytes.
+abbrev pub max_descriptors : ℕ
+max_descriptors = 512
+
+abbrev pub max_addresses : ℕ
+max_addresses = 0xFFFFFFFF
 
 -- ---- Which descriptors an answer has
 
@@ -36,7 +43,7 @@ code_of AnchoredStatus = 2
 unfoldable pub count_alike : Contents → (capacity lba : ℕ) → ℕ
 count_alike contents capacity lba =
     prefix_len (λ address. code_of (status_at contents address) == code_of (status_at contents lba))
-    (range_with_len lba (min MAX_ADDRESSES (capacity - lba)))
+    (range_with_len lba (min max_addresses (capacity - lba)))
 
 -- The descriptor that begins at an address.
 abbrev pub descriptor_at : Contents → (capacity lba : ℕ) → StatusDescriptor
@@ -58,7 +65,7 @@ descriptors_from contents capacity lba (suc limit) =
 
 -- Those of an answer.
 abbrev pub lba_status : Disk → (lba : ℕ) → List StatusDescriptor
-lba_status disk lba = descriptors_from disk.contents disk.capacity lba MAX_DESCRIPTORS
+lba_status disk lba = descriptors_from disk.contents disk.capacity lba max_descriptors
 
 -- How many addresses they cover.
 abbrev pub covered : List StatusDescriptor → ℕ
@@ -81,9 +88,11 @@ unfoldable pub status_data : List StatusDescriptor → List ℕ
 status_data descriptors =
     status_header (length descriptors) ++ flat_map descriptor_bytes descriptors
 
+-- ---- Cited by private contracts alone
+
 -- The descriptors from an address on are put, `count` of them.
 pub record PutsDescriptors (contents : Contents) (capacity lba : ℕ) (old new : Cut) (count : ℕ) :
     Type 0 where
   pub bytes : Puts old new
-      (flat_map descriptor_bytes (descriptors_from contents capacity lba MAX_DESCRIPTORS))
-  pub count_is : count ≡ length (descriptors_from contents capacity lba MAX_DESCRIPTORS)
+      (flat_map descriptor_bytes (descriptors_from contents capacity lba max_descriptors))
+  pub count_is : count ≡ length (descriptors_from contents capacity lba max_descriptors)
