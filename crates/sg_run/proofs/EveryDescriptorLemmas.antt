@@ -4,16 +4,14 @@ use Rattle.std.proofs.Common.{take, arith, refl, sym, ap, ap₂, subst, ◌∙�
 use Rattle.std.proofs.Common.{eq-eqb}
 use Rattle.std.proofs.lemmas.Bool.{cases_lt}
 use Rattle.std.proofs.lemmas.List.Elements.{All-nil, All-cons}
-use Rattle.std.proofs.lemmas.List.FromFn.{length-range_with_len}
-use Rattle.std.proofs.lemmas.List.Sums.{prefix_len-le-length, sum_by-cons}
 use Rattle.std.specs.List.{prefix_len, range_with_len}
 use Rattle.std.specs.Prelude.{All, min, ◌==◌}
 use Rattle.sg_store.specs.Disk.{Contents}
 use Rattle.sg_store.specs.LbaStatus.{code_of, count_alike, covered, descriptor_at, descriptors_from}
-use Rattle.sg_store.specs.LbaStatus.{status_at}
+use Rattle.sg_store.specs.LbaStatus.{max_addresses, status_at}
 use Rattle.sg_store.specs.declared.lba_status.StatusDescriptor.{StatusDescriptor}
-use Rattle.sg_store.specs.declared.lba_status.TheConstants.{MAX_ADDRESSES}
-use Rattle.sg_store.proofs.DescriptorLemmas.{descriptors-end, descriptors-first, descriptors-none}
+use Rattle.sg_store.proofs.DescriptorLemmas.{alike-within, covered-first, descriptors-end}
+use Rattle.sg_store.proofs.DescriptorLemmas.{descriptors-first, descriptors-none}
 
 -- ---- One descriptor
 
@@ -23,28 +21,15 @@ prefix-some p a zero some here = absurd (omega arith)
 prefix-some p a (suc n) some here =
     omega (arith, ap (λ b. cond b (1 + prefix_len p (range_with_len (a + 1) n)) 0) here)
 
--- it covers an address,
+-- it covers an address
 alike-some : (m : Contents) (capacity a : ℕ) → a < capacity → 0 < count_alike m capacity a
 unfolding count_alike
 alike-some m capacity a below =
     prefix-some (λ x. code_of (status_at m x) == code_of (status_at m a)) a
-    (min MAX_ADDRESSES (capacity - a)) (omega arith)
+    (min max_addresses (capacity - a)) (omega arith)
     (eq-eqb (code_of (status_at m a)) (code_of (status_at m a)) refl)
 
--- no more than its count has room for, and none past the end
-alike-within : (m : Contents) (capacity a : ℕ) → count_alike m capacity a ≤ min MAX_ADDRESSES (capacity - a)
-unfolding count_alike
-alike-within m capacity a = omega (
-  arith,
-  prefix_len-le-length (λ x. code_of (status_at m x) == code_of (status_at m a))
-      (range_with_len a (min MAX_ADDRESSES (capacity - a))),
-  length-range_with_len a (min MAX_ADDRESSES (capacity - a)),
-)
-
 -- ---- Descriptors that follow one another
-
-covered-first : (d : StatusDescriptor) (ds : List StatusDescriptor) → covered (d ∷ ds) ≡ d.count + covered ds
-covered-first d ds = sum_by-cons (λ (x : StatusDescriptor). x.count) d ds
 
 module _ (m : Contents) (capacity : ℕ) where
   -- those from an address on, and where they end
@@ -195,7 +180,7 @@ module _ (m : Contents) (capacity : ℕ) where
 
   -- it ends with the disk or before, and its count has room
   abbrev pub IsNarrow : StatusDescriptor → Type 0
-  IsNarrow d = (d.lba + d.count ≤ capacity) × (d.count ≤ MAX_ADDRESSES)
+  IsNarrow d = (d.lba + d.count ≤ capacity) × (d.count ≤ max_addresses)
 
   pub each-narrow : (most start : ℕ) → All IsNarrow (from start most)
   each-narrow zero start = subst (All IsNarrow) (sym (descriptors-none m capacity start)) (All-nil IsNarrow)

@@ -13,8 +13,8 @@ use Rattle.std.proofs.lemmas.List.Elements.{All-nil, All-cons, All-head, All-tai
 use Rattle.std.proofs.lemmas.List.Sums.{sum_by-cons}
 use Rattle.sg_store.specs.Disk.{Contents, Disk, lies_in}
 use Rattle.sg_store.specs.LbaStatus.{covered, count_alike, descriptor_at, lba_status}
+use Rattle.sg_store.specs.LbaStatus.{max_descriptors}
 use Rattle.sg_store.specs.declared.lba_status.StatusDescriptor.{StatusDescriptor}
-use Rattle.sg_store.specs.declared.lba_status.TheConstants.{MAX_DESCRIPTORS}
 use Rattle.sg_store.proofs.DescriptorLemmas.{descriptors-end, descriptors-first, descriptors-none}
 use Rattle.sg_decode.specs.LbaStatus.{Descriptor, address_after, next_start, whole_descriptors}
 use Rattle.sg_run.specs.Walk.{AnswersHaveTheFirst, WalksInOrder, end_of, every_descriptor, every_read}
@@ -87,14 +87,14 @@ module _ (disk : Disk) (fits : disk.capacity < 2 ^ 64) where
 
   -- how many whole descriptors it has, at most
   abbrev whole_of : (n : ℕ) → ℕ
-  whole_of n = min ((n - 8) / 16) MAX_DESCRIPTORS
+  whole_of n = min ((n - 8) / 16) max_descriptors
 
   answer-whole : (start n : ℕ) → 24 ≤ n → whole_descriptors (status_answer disk start n)
       ≡ map fields_of (those start (whole_of n))
   answer-whole start n enough =
-      whole-are (lba_status disk start) n (few m c MAX_DESCRIPTORS start) enough
-      (room-each MAX_DESCRIPTORS start)
-      ∙ ap (map fields_of) (take-from m c ((n - 8) / 16) MAX_DESCRIPTORS start)
+      whole-are (lba_status disk start) n (few m c max_descriptors start) enough
+      (room-each max_descriptors start)
+      ∙ ap (map fields_of) (take-from m c ((n - 8) / 16) max_descriptors start)
 
   answer-next : (start n : ℕ) → start < c → 24 ≤ n
       → next_start (status_answer disk start n) ≡ Some (after start (whole_of n))
@@ -373,7 +373,7 @@ module _ (disk : Disk) (fits : disk.capacity < 2 ^ 64) where
 -- ---- The laws
 
 pub answers-first : AnswersHaveTheFirst
-answers-first disk start = take-every disk.contents disk.capacity MAX_DESCRIPTORS start
+answers-first disk start = take-every disk.contents disk.capacity max_descriptors start
 
 pub walks-in_order : WalksInOrder
 walks-in_order disk start lengths fits below roomy =

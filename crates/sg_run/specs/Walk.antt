@@ -2,13 +2,20 @@
 -- other command changes the disk (SBC-3, 5.4).
 use Rattle.std.specs.Prelude.{◌≡◌, ℕ, ◌-◌, ◌^◌, ◌<◌, ◌≤◌, nat_lt, Bool, if◌then◌else◌, Option, Some, None}
 use Rattle.std.specs.Prelude.{List, [], ◌∷◌, ◌++◌, All, length, map, take, count_by, option_and_then}
+use Rattle.std.specs.Prelude.{Ok}
 use Rattle.std.specs.List.{flat_map, last_or}
 use Rattle.std.specs.Option.{option_map_or}
 use Rattle.sg_wire.specs.CutAnswer.{first_bytes}
+use Rattle.sg_wire.specs.Layout.{command_of}
+use Rattle.sg_wire.specs.declared.command.Command.TheVariants as command
+use Rattle.sg_wire.specs.declared.command.provisioning.GetLbaStatus.{GetLbaStatus}
 use Rattle.sg_store.specs.Disk.{Disk, lies_in}
-use Rattle.sg_store.specs.LbaStatus.{code_of, descriptors_from, lba_status, status_data}
+use Rattle.sg_store.specs.LbaStatus.{code_of, descriptors_from, lba_status, max_descriptors}
+use Rattle.sg_store.specs.LbaStatus.{status_data}
 use Rattle.sg_store.specs.declared.lba_status.StatusDescriptor.{StatusDescriptor}
-use Rattle.sg_store.specs.declared.lba_status.TheConstants.{MAX_DESCRIPTORS}
+use Rattle.sg_target.specs.State.{State}
+use Rattle.sg_target.specs.Step.{Step, step}
+use Rattle.sg_target.specs.declared.reply.Status.TheVariants.{Good}
 use Rattle.sg_decode.specs.LbaStatus.{Descriptor, next_start, whole_descriptors}
 
 -- ---- All descriptors
@@ -23,7 +30,7 @@ every_descriptor disk start =
 abbrev pub AnswersHaveTheFirst : Type 0
 AnswersHaveTheFirst =
     (disk : Disk) (start : ℕ)
-    → lba_status disk start ≡ take MAX_DESCRIPTORS (every_descriptor disk start)
+    → lba_status disk start ≡ take max_descriptors (every_descriptor disk start)
 
 -- As they are read.
 abbrev pub fields_of : StatusDescriptor → Descriptor
@@ -53,7 +60,21 @@ walk disk (n ∷ lengths) start =
 abbrev pub named_by : List (List ℕ) → List Descriptor
 named_by answers = flat_map whole_descriptors answers
 
--- ---- The law
+-- ---- The laws
+
+-- A walk's answers are the disk's: GET LBA STATUS that ends with GOOD returns the answer from its
+-- address on, cut at its allocation length, and leaves the disk as it was.
+pub record IsAnswerOfAWalk (state : State) (fields : GetLbaStatus) (done : Step) : Type 0 where
+  pub data_in : done.answer.data_in
+      ≡ status_answer state.disk fields.start fields.allocation_length
+  pub disk : done.state.disk ≡ state.disk
+
+abbrev pub AnswersAreOfAWalk : Type 0
+AnswersAreOfAWalk =
+    (state : State) (initiator : ℕ) (cdb data_out : List ℕ) (fields : GetLbaStatus)
+    → command_of cdb ≡ Ok (command.GetLbaStatus fields)
+    → (step state initiator cdb data_out).answer.status ≡ Good
+    → IsAnswerOfAWalk state fields (step state initiator cdb data_out)
 
 -- Whether a descriptor covers an address.
 abbrev pub names : (address : ℕ) → Descriptor → Bool

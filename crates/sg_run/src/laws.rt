@@ -1,10 +1,16 @@
 //! Laws of the definitions: each is the contract of a function that does nothing.
-ghost use Rattle.sg_run.specs.Walk.{AnswersHaveTheFirst, WalksInOrder};
+ghost use Rattle.sg_run.specs.Walk.{AnswersAreOfAWalk, AnswersHaveTheFirst, WalksInOrder};
 
 /// An answer to GET LBA STATUS has the first of the descriptors from its address on, as many as it
 /// may have.
 pub fn an_answer_has_the_first_descriptors()
     ensures { AnswersHaveTheFirst }
+{}
+
+/// GET LBA STATUS that ends with GOOD returns what a walk has as its answer from that address on, and
+/// leaves the disk as it was.
+pub fn the_answers_of_a_walk_are_the_disks()
+    ensures { AnswersAreOfAWalk }
 {}
 
 /// A walk over a disk by GET LBA STATUS, each of which begins where the last whole descriptor of the

@@ -1,0 +1,60 @@
+-- What GET LBA STATUS returns where it ends with GOOD.
+use Rattle.std.proofs.Common.{◌≡◌, ℕ, List, Option, Some, None, Result, Ok, refl, sym, subst}
+use Rattle.sg_wire.specs.Layout.{command_of}
+use Rattle.sg_wire.specs.declared.command.CdbFault.{CdbFault}
+use Rattle.sg_wire.specs.declared.command.Command.{Command}
+use Rattle.sg_wire.specs.declared.command.Command.TheVariants as command
+use Rattle.sg_wire.specs.declared.command.provisioning.GetLbaStatus.{GetLbaStatus}
+use Rattle.sg_target.specs.Checks.{cdb_checks, checked_cdb, checked_parse, medium_checks, no_space}
+use Rattle.sg_target.specs.Effect.{Effect}
+use Rattle.sg_target.specs.ProvisioningCommands.{reporting_status}
+use Rattle.sg_target.specs.Refusal.{checked_next, first_some, unless_refused}
+use Rattle.sg_target.specs.Semantics.{effect_of, medium_use}
+use Rattle.sg_target.specs.State.{State}
+use Rattle.sg_target.specs.Step.{Step, outcome, refused, unless_no_space}
+use Rattle.sg_target.specs.declared.operation.Operation.{Operation}
+use Rattle.sg_target.specs.declared.operation.Operation.TheVariants as operation
+use Rattle.sg_target.specs.declared.refusal.Refusal.{Refusal}
+use Rattle.sg_target.specs.declared.refusal.Refusal.TheVariants.{Conflict, CheckCondition}
+use Rattle.sg_target.specs.declared.reply.Status.TheVariants.{Good}
+use Rattle.sg_run.specs.Walk.{AnswersAreOfAWalk, IsAnswerOfAWalk}
+
+module _ (state : State) (i : ℕ) (c : GetLbaStatus) where
+  abbrev Answers : Step → Type 0
+  Answers done = done.answer.status ≡ Good → IsAnswerOfAWalk state c done
+
+  abbrev asked : Operation
+  asked = operation.ReturnLbaStatus c.start c.allocation_length
+
+  abbrev effect : Effect
+  effect = reporting_status state c.start c.allocation_length
+
+  -- a refused command does not end with GOOD
+  not-refused : (refusal : Refusal) → Answers (refused state i refusal)
+  not-refused Conflict e = cc
+  not-refused (CheckCondition reason) e = cc
+
+  by-space : (refusal : Option Refusal) → Answers (unless_no_space state i effect refusal)
+  by-space None e = record { data_in = refl; disk = refl }
+  by-space (Some refusal) e = not-refused refusal e
+
+  by-medium : (refusal : Option Refusal)
+      → Answers (outcome state i (checked_next (unless_refused refusal (Ok asked)) (effect_of state i)))
+  by-medium None e = by-space (no_space effect.after.disk) e
+  by-medium (Some refusal) e = not-refused refusal e
+
+  by-cdb : (data_out : List ℕ) (refusal : Option Refusal) (parsed : Result Command CdbFault)
+      → parsed ≡ Ok (command.GetLbaStatus c)
+      → Answers (outcome state i
+      (checked_next (unless_refused refusal (checked_parse state parsed data_out)) (effect_of state i)))
+  by-cdb data_out None parsed is =
+      subst
+      (λ parsed. Answers (outcome state i
+      (checked_next (checked_parse state parsed data_out) (effect_of state i))))
+      (sym is) (by-medium (first_some (medium_checks state (medium_use asked))))
+  by-cdb data_out (Some refusal) parsed is = not-refused refusal
+
+pub answers-of-walk : AnswersAreOfAWalk
+unfolding checked_cdb
+answers-of-walk state i cdb data_out c is =
+    by-cdb state i c data_out (first_some (cdb_checks state i cdb)) (command_of cdb) is
