@@ -1,29 +1,29 @@
--- Reservations of one holder
+-- Reservations of one holder.
 mod HolderLemmas
--- What PERSISTENT RESERVE OUT leaves of a reservation
+-- What PERSISTENT RESERVE OUT leaves of a reservation.
 mod ReserveOutLemmas
 mod OwnReserveOutLemmas
--- From a command to its operation
+-- From a command to its operation.
 mod LiftLemmas
 mod OperationLemmas
--- Commands of others
+-- Commands of others.
 mod AccessLemmas
 mod OthersLemmas
 mod StandingLemmas
 mod UnseenLemmas
--- A command in two states that look alike to its initiator
+-- A command in two states that look alike to its initiator.
 mod AlikeLemmas
--- Commands of the holder
+-- Commands of the holder.
 mod OwnLemmas
--- Initiators that are not registered
+-- Initiators that are not registered.
 mod RegistrationLemmas
 mod OutsiderLemmas
 mod NewcomerLemmas
 mod PreemptLemmas
--- Registrants and others
+-- Registrants and others.
 mod AgreeLemmas
 mod InsideLemmas
--- Lists of commands
+-- Lists of commands.
 mod OutsiderRunLemmas
 mod UnseenRunLemmas
 mod FencedRunLemmas

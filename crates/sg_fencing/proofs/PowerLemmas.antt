@@ -1,6 +1,6 @@
 -- Power cycles, alone and among commands.
 use Rattle.std.proofs.Common.{◌≡◌, ◌<◌, ℕ, Bool, true, false, ◌&&◌, List, [], ◌∷◌, Option, Some}
-use Rattle.std.proofs.Common.{refl, ap}
+use Rattle.std.proofs.Common.{refl, ap, ◌∙◌}
 use Rattle.std.specs.Prelude.{if◌then◌else◌}
 use Rattle.std.specs.List.{list_any}
 use Rattle.std.proofs.lemmas.Bool.{or_parts}
@@ -38,12 +38,16 @@ pub keeps : (state : State) → persists state ≡ true
 keeps state h = record {
   registrations = ap (λ b. (left b state.reservations).registrations) h;
   reservation = ap (λ b. (left b state.reservations).reservation) h;
+  persist = ap (λ b. (left b state.reservations).persists_through_power_loss) h ∙ h;
+  generation = ap (λ b. (left b state.reservations).generation) h;
 }
 
 pub drops : (state : State) → persists state ≡ false → HasNoReservations (after_power_cycle state)
 drops state h = record {
   registrations = ap (λ b. (left b state.reservations).registrations) h;
   reservation = ap (λ b. (left b state.reservations).reservation) h;
+  persist = ap (λ b. (left b state.reservations).persists_through_power_loss) h;
+  generation = ap (λ b. (left b state.reservations).generation) h;
 }
 
 pub power-on-pending : (state : State) (i : ℕ) → i < initiator_count

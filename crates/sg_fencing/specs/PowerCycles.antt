@@ -33,19 +33,24 @@ abbrev pub BlocksAndSavedPagesStay : Type 0
 BlocksAndSavedPagesStay =
     (state : State) → KeepsBlocksAndSavedPages state (after_power_cycle state)
 
--- Where they persist, the registrations are as they were, and the reservation is.
+-- Where they persist, the registrations are as they were, and the reservation is, and they persist
+-- through the next power loss too. PRGENERATION begins again (SPC-4, 6.15.2).
 pub record KeepsReservations (before after : State) : Type 0 where
   pub registrations : after.reservations.registrations ≡ before.reservations.registrations
   pub reservation : after.reservations.reservation ≡ before.reservations.reservation
+  pub persist : persists after ≡ true
+  pub generation : after.reservations.generation ≡ 0
 
 abbrev pub PersistentOnesStay : Type 0
 PersistentOnesStay =
     (state : State) → persists state ≡ true → KeepsReservations state (after_power_cycle state)
 
--- And else there are none.
+-- And else all is as on a new disk.
 pub record HasNoReservations (state : State) : Type 0 where
   pub registrations : state.reservations.registrations ≡ []
   pub reservation : state.reservations.reservation ≡ None
+  pub persist : persists state ≡ false
+  pub generation : state.reservations.generation ≡ 0
 
 abbrev pub OthersAreGone : Type 0
 OthersAreGone =

@@ -223,12 +223,12 @@ pub fn blocks_and_saved_pages_outlive_power()
 {}
 
 /// Where registrations and reservation persist through a power loss, they are as they were after a
-/// power cycle.
+/// power cycle, and persist through the next one too. PRGENERATION is 0 (SPC-4, 6.15.2).
 pub fn persistent_reservations_outlive_power()
     ensures { PersistentOnesStay }
 {}
 
-/// Where they do not, nobody is registered and no reservation is held after it.
+/// Where they do not, nobody is registered and no reservation is held after it, as on a new disk.
 pub fn other_reservations_end_with_power()
     ensures { OthersAreGone }
 {}
