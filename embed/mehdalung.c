@@ -63,6 +63,12 @@ IS_AT(mdl_command, data_out_length, 24);
 /* What no bytes are at. */
 static const uint8_t nothing[1] = { 0 };
 
+/* Whether there are bytes to be read, and no pointer to them. */
+static int are_missing(const uint8_t *bytes, size_t length)
+{
+    return !bytes && length;
+}
+
 mdl_error mdl_make(mdl_disk *disk, uint64_t blocks, uint32_t pool, const mdl_identity *identity)
 {
     if (!disk)
@@ -82,20 +88,12 @@ mdl_error mdl_execute(mdl_disk *disk, uint32_t initiator, const uint8_t *cdb, si
                       const uint8_t *data_out, size_t data_out_length, uint8_t *data_in,
                       size_t data_in_length, mdl_reply *reply)
 {
-    if (!disk || !data_in || !reply)
+    if (!disk || are_missing(cdb, cdb_length) || are_missing(data_out, data_out_length) || !data_in
+        || !reply)
         return MDL_NULL_POINTER;
-    if (!cdb) {
-        if (cdb_length)
-            return MDL_NULL_POINTER;
-        cdb = nothing;
-    }
-    if (!data_out) {
-        if (data_out_length)
-            return MDL_NULL_POINTER;
-        data_out = nothing;
-    }
-    return (mdl_error)mehdalung_execute(disk, initiator, cdb, cdb_length, data_out, data_out_length,
-                                        data_in, data_in_length, reply);
+    return (mdl_error)mehdalung_execute(disk, initiator, cdb ? cdb : nothing, cdb_length,
+                                        data_out ? data_out : nothing, data_out_length, data_in,
+                                        data_in_length, reply);
 }
 
 mdl_error mdl_power_cycle(mdl_disk *disk)
@@ -108,7 +106,7 @@ mdl_error mdl_read_sense(const uint8_t *sense, size_t length, mdl_sense *fields)
     mdl_sense read = { 0 };
     mdl_error error;
 
-    if ((!sense && length) || !fields)
+    if (are_missing(sense, length) || !fields)
         return MDL_NULL_POINTER;
     error = (mdl_error)mehdalung_sense(sense ? sense : nothing, length, &read);
     if (error == MDL_OK)
@@ -131,7 +129,7 @@ size_t mdl_decode(uint32_t kind, const uint8_t *data_in, size_t length, char *te
 {
     uint8_t none[1];
 
-    if ((!data_in && length) || (!text && text_length))
+    if (are_missing(data_in, length) || (!text && text_length))
         return MDL_NO_TEXT;
     return mehdalung_decode(kind, data_in ? data_in : nothing, length,
                             text ? (uint8_t *)text : none, text_length);

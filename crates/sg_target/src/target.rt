@@ -87,8 +87,6 @@ impl<S: Store> Target<S> {
 
     /// Executes a command. The buffer has [`BUFFER_LENGTH`] bytes at least; data-in is the first
     /// [`Reply::data_in`] of them, and those after it stay as they were.
-    // Inlined into its caller, it would make the reply in one place and copy it to another.
-    #[inline(never)]
     #[tactic(auto, using(crate::proofs::StepLemmas::decided))]
     pub fn execute(
         &mut self,
