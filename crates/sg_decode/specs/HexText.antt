@@ -13,10 +13,6 @@ upper_hex_byte byte = encode_upper (byte ∷ []) ++ codes "h"
 abbrev pub hex_byte : ℕ → List ℕ
 hex_byte byte = encode_lower (byte ∷ [])
 
--- A byte with a blank before it.
-abbrev pub blank_hex_byte : ℕ → List ℕ
-blank_hex_byte byte = 32 ∷ hex_byte byte
-
 -- A number as eight lower-case digits.
 abbrev pub hex_offset : ℕ → List ℕ
 hex_offset offset = encode_lower (to_be_bytes w32 offset)
@@ -44,3 +40,9 @@ hex_lines bytes = first_hex_lines ((length bytes + 15) / 16) bytes
 -- The length of the text of sixteen whole lines.
 abbrev pub gathered_text : ℕ
 gathered_text = 960
+
+-- ---- Cited by private contracts alone
+
+-- A byte with a blank before it.
+abbrev pub blank_hex_byte : ℕ → List ℕ
+blank_hex_byte byte = 32 ∷ hex_byte byte

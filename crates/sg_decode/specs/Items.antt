@@ -31,11 +31,6 @@ is_shown reported bytes end = not (passes end reported) && nat_le end (length by
 abbrev pub stop_text : (reported : Option ℕ) → (end : ℕ) → List ℕ
 stop_text reported end = if passes end reported then [] else codes "  truncated\n"
 
--- What is printed for the end of an item: nothing where the item is shown.
-abbrev pub end_text : (reported : Option ℕ) → (bytes : List ℕ) → (end : ℕ) → List ℕ
-end_text reported bytes end =
-    if is_shown reported bytes end then [] else stop_text reported end
-
 -- The items in their order, up to the first that is not shown.
 unfoldable pub shown : (reported : Option ℕ) → (bytes : List ℕ) → List Item → List ℕ
 shown reported bytes [] = []
@@ -112,3 +107,10 @@ unfoldable pub decoded : Decoder → List ℕ → List ℕ
 decoded d bytes =
     shown None bytes d.header
     ++ (if all_shown None bytes d.header then body_text d bytes else [])
+
+-- ---- Cited by private contracts alone
+
+-- What is printed for the end of an item: nothing where the item is shown.
+abbrev pub end_text : (reported : Option ℕ) → (bytes : List ℕ) → (end : ℕ) → List ℕ
+end_text reported bytes end =
+    if is_shown reported bytes end then [] else stop_text reported end

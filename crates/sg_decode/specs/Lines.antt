@@ -29,6 +29,8 @@ abbrev pub line_end : Line → ℕ
 line_end [] = 0
 line_end (p ∷ ps) = max (value_end p.value) (line_end ps)
 
+-- ---- Cited by private contracts alone
+
 abbrev pub lines_end : List Line → ℕ
 lines_end [] = 0
 lines_end (line ∷ more) = max (line_end line) (lines_end more)
@@ -39,7 +41,7 @@ is_sound_line line = list_all (λ (p : Part). is_sound p.value) line
 abbrev pub are_sound : List Line → Bool
 are_sound lines = list_all is_sound_line lines
 
--- ---- How a table of the code is seen
+-- How a table of the code is seen.
 
 abbrev pub part_of : Field → Part
 part_of f = part f.0.now f.1

@@ -10,7 +10,7 @@ use Rattle.sg_decode.specs.declared.entry.EntryKind.TheVariants.{FullStatusDescr
 use Rattle.sg_decode.specs.declared.value.Value.TheVariants.{Bits, Number, Address}
 use Rattle.sg_decode.specs.declared.value.Value.TheVariants.{ReservationTypes}
 
--- The header of READ KEYS and of READ RESERVATION.
+-- The header of READ KEYS, READ RESERVATION and READ FULL STATUS.
 abbrev pub generation_lines : List Line
 generation_lines =
     (part (codes "  generation: ") (Number 0 4) ∷ [])

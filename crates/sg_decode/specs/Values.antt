@@ -88,6 +88,8 @@ value_end (HexFrom first) = first
 value_end (ProvisioningStatus byte) = byte + 1
 value_end (ReservationTypes first) = first + 2
 
+-- ---- Cited by private contracts alone
+
 -- Bits are bits of a byte, a number has one to eight bytes, and each index is less than 256.
 abbrev is_index : ℕ → Bool
 is_index n = nat_lt n 256

@@ -1,16 +1,21 @@
-mod AddressRangeLemmas
-pub mod BlocksLemmas
-pub mod CapacityLemmas
-mod ChargingLemmas
-pub mod ExtentLemmas
-mod JoiningLemmas
-mod LimitLemmas
-pub mod ModeLemmas
-mod NeedLemmas
-pub mod RangeLemmas
-pub mod RunLemmas
-pub mod SenseLemmas
-pub mod Space
-pub mod StatusLemmas
+-- From a CDB to its step, and lists of events.
 pub mod StepLemmas
+pub mod SenseLemmas
+pub mod RunLemmas
+-- Parameter data.
+pub mod CapacityLemmas
+pub mod ModeLemmas
+pub mod StatusLemmas
+-- Extents: those on the disk, those that are unmapped, those that are joined and anchored.
+pub mod ExtentLemmas
 pub mod UnmapLemmas
+mod JoiningLemmas
+mod NeedLemmas
+pub mod Space
+-- What ranges cost.
+pub mod RangeLemmas
+mod AddressRangeLemmas
+mod ChargingLemmas
+-- The limits of a state.
+pub mod BlocksLemmas
+mod LimitLemmas

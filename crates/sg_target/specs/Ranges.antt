@@ -53,21 +53,6 @@ abbrev pub restarts_for : List Range → ℕ
 restarts_for [] = 0
 restarts_for (range ∷ rest) = 1
 
--- A store has counted no more than ranges may cost, since a restart.
-pub record IsWithinPrice (bounds : CostBounds) (pool : ℕ) (over : List Range)
-    (before after : Meter) : Type 0 where
-  pub visits : after.counts.visits ≤ sum_over bounds.price over
-  pub probes : after.counts.probes ≤ probe_bound * length over
-  pub links : after.counts.links ≤ pool * length over
-  pub visited : after.total ≡ before.total + after.counts.visits
-  pub restarts : after.restarts ≡ before.restarts
-
--- It has gone over them in turn: it has counted no less than they cost at least, too.
-pub record IsCounted (bounds : CostBounds) (pool : ℕ) (over : List Range)
-    (before after : Meter) : Type 0 where
-  pub charge : IsWithinPrice bounds pool over before after
-  pub least : least_over bounds.least over ≤ after.counts.visits
-
 -- A command over these ranges is charged from meter to meter, by the counts of its reply.
 pub record IsCharged (bounds : CostBounds) (pool : ℕ) (over : List Range)
     (before after : Meter) (reply : Reply) : Type 0 where
@@ -84,3 +69,20 @@ pub record IsCharged (bounds : CostBounds) (pool : ℕ) (over : List Range)
   pub restarts : after.restarts ≡ before.restarts + restarts_for over
   -- without a range the store counts nothing
   pub idle : over ≡ [] → after ≡ before
+
+-- ---- Cited by private contracts alone
+
+-- A store has counted no more than ranges may cost, since a restart.
+pub record IsWithinPrice (bounds : CostBounds) (pool : ℕ) (over : List Range)
+    (before after : Meter) : Type 0 where
+  pub visits : after.counts.visits ≤ sum_over bounds.price over
+  pub probes : after.counts.probes ≤ probe_bound * length over
+  pub links : after.counts.links ≤ pool * length over
+  pub visited : after.total ≡ before.total + after.counts.visits
+  pub restarts : after.restarts ≡ before.restarts
+
+-- It has gone over them in turn: it has counted no less than they cost at least, too.
+pub record IsCounted (bounds : CostBounds) (pool : ℕ) (over : List Range)
+    (before after : Meter) : Type 0 where
+  pub charge : IsWithinPrice bounds pool over before after
+  pub least : least_over bounds.least over ≤ after.counts.visits

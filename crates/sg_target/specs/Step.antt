@@ -87,6 +87,8 @@ outcome state initiator (Err refusal) = refused state initiator refusal
 abbrev pub step : State → (initiator : ℕ) → (cdb data_out : List ℕ) → Step
 step state initiator cdb data_out = outcome state initiator (checked_effect state initiator cdb data_out)
 
+-- ---- Cited by private contracts alone
+
 -- What an operation that has passed the checks of its command does.
 abbrev pub step_by : State → (initiator : ℕ) → Operation → Step
 step_by state initiator operation = outcome state initiator (effect_of state initiator operation)

@@ -1,8 +1,11 @@
-pub mod ActionLemmas
+-- Digits, numbers and lists of numbers.
 pub mod DigitLemmas
 pub mod NumberLemmas
 pub mod NumberListLemmas
+-- Options, and what they ask for.
 pub mod OptionLemmas
-pub mod ParameterLemmas
+pub mod ActionLemmas
 pub mod RequestLemmas
+-- Parameter lists.
 pub mod UnmapLemmas
+pub mod ParameterLemmas

@@ -1,6 +1,10 @@
+-- Unit attentions.
 pub mod AttentionLemmas
+-- PERSISTENT RESERVE IN.
 pub mod PartLemmas
+-- PERSISTENT RESERVE OUT.
 pub mod OutcomeLemmas
 pub mod ConsistencyLemmas
-pub mod LawLemmas
+-- Power cycles, and the laws.
 pub mod PowerLemmas
+pub mod LawLemmas

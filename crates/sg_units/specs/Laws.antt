@@ -17,7 +17,6 @@ use Rattle.sg_units.specs.Registrations.{is_registered, is_registered_under}
 use Rattle.sg_units.specs.ReservationType.{is_all_registrants, is_exclusive_access, is_shared}
 use Rattle.sg_units.specs.Reservations.{IsConsistent, is_holder}
 use Rattle.sg_units.specs.declared.reservation_change.ReservationChange.{ReservationChange}
-use Rattle.sg_wire.specs.declared.command.out_action.OutAction.{OutAction}
 use Rattle.sg_wire.specs.declared.out_list.OutList.{OutList}
 use Rattle.sg_units.specs.declared.registrations.Registration.{Registration}
 use Rattle.sg_units.specs.declared.reservation.Reservation.{Reservation}

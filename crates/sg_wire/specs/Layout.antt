@@ -342,13 +342,6 @@ abbrev pub unless_bad : {A : Type 0} → Option ℕ → A → Result A CdbFault
 unless_bad None value = Ok value
 unless_bad (Some byte) value = Err (BadField byte)
 
--- A CDB is as long as its masks and has no bit outside them.
-unfoldable pub fits_masks : List ℕ → List ℕ → Result Unit CdbFault
-fits_masks masks cdb =
-    if nat_lt (length cdb) (length masks)
-    then Err (Short (length cdb))
-    else unless_bad (first_bad 0 masks cdb) tt
-
 abbrev pub is_action : ServiceAction → ℕ → Bool
 is_action none action = true
 is_action (named only) action = action == only
@@ -435,3 +428,12 @@ unfoldable pub cdb_of : Command → List ℕ
 cdb_of command =
     let l = layout command in
     map (byte_of l) (range_with_len 0 (length_of l.opcode))
+
+-- ---- Cited by private contracts alone
+
+-- A CDB is as long as its masks and has no bit outside them.
+unfoldable pub fits_masks : List ℕ → List ℕ → Result Unit CdbFault
+fits_masks masks cdb =
+    if nat_lt (length cdb) (length masks)
+    then Err (Short (length cdb))
+    else unless_bad (first_bad 0 masks cdb) tt

@@ -56,10 +56,10 @@ fn an_identity_is_checked(rt: HostRuntime) {
     }
 }
 
-/// Page 00h, supported VPD pages (SPC-4, 7.8.13): these five are listed.
+/// Page 00h, supported VPD pages (SPC-4, 7.8): these five are listed.
 const SUPPORTED_PAGES: &[u8] = &[0x00, 0x00, 0x00, 0x05, 0x00, 0x80, 0x83, 0xB0, 0xB2];
 
-/// Page 80h, unit serial number (SPC-4, 7.8.14): that of the standard identity is 00000001.
+/// Page 80h, unit serial number (SPC-4, 7.8): that of the standard identity is 00000001.
 const SERIAL_NUMBER: &[u8] = b"\x00\x80\x00\x0800000001";
 
 /// Page codes, and the bytes of each page. The disk has no page 81h, and nothing is written.
