@@ -45,7 +45,7 @@ abbrev pub PersistentOnesStay : Type 0
 PersistentOnesStay =
     (state : State) → persists state ≡ true → KeepsReservations state (after_power_cycle state)
 
--- And else all is as on a new disk.
+-- And else there are none, as on a new disk.
 pub record HasNoReservations (state : State) : Type 0 where
   pub registrations : state.reservations.registrations ≡ []
   pub reservation : state.reservations.reservation ≡ None
