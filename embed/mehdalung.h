@@ -15,14 +15,14 @@
  * Stack. A call needs at most 64 KB of it; nothing checks that it is there.
  *
  * Pointers. A pointer is null, or is aligned as its type and points to as many bytes as the
- * function says, which nobody else writes until the function returns, nor reads where the function
- * may write. Memory that it may write does not overlap any other that it is passed. A null pointer
- * to 0 bytes serves, but for a buffer that has a least length. Another one is refused, by
- * MDL_NULL_POINTER or MDL_NO_TEXT, or serves where this says so.
+ * function says. Until the function returns nobody else writes these bytes, and nobody else reads
+ * those that the function may write. What it may write overlaps nothing else that it is passed. A
+ * null pointer to 0 bytes serves, but for a buffer that has a least length. Any other null pointer
+ * is refused, by MDL_NULL_POINTER or MDL_NO_TEXT, unless its function says that it serves.
  *
  * Threads. A disk is used by one thread at a time, which need not be the one that made it: a lock,
- * or the start or the end of a thread, orders its calls after those of the thread before. Many disks
- * may be used at once, by a thread each. The library has no state of its own.
+ * or the start or the end of a thread, orders its calls after those of the thread before. Many
+ * disks may be used at once, by a thread each. The library has no state of its own.
  */
 #ifndef MEHDALUNG_H
 #define MEHDALUNG_H
@@ -112,9 +112,9 @@ typedef struct mdl_reply {
     size_t data_in_length;           /* data-in is the first bytes of the buffer */
 } mdl_reply;
 
-/* Makes a disk of `blocks` blocks, of which `pool` can be mapped at once, as it is after power on:
- * no block is mapped, a unit attention, POWER ON, is pending for each initiator. It takes some 610
- * bytes of memory for each block of the pool, and some 7,000 more.
+/* Makes a disk of `blocks` blocks, of which `pool` can be mapped or anchored at once, as it is
+ * after power on: no block is mapped, and a unit attention, POWER ON, is pending for each
+ * initiator. It takes some 610 bytes of memory for each block of the pool, and some 7,000 more.
  *     disk      MDL_NONE, or freed. It is to be freed by mdl_free
  *     identity  read during the call; null for the standard identity
  * MDL_NULL_POINTER, MDL_IDENTITY_TEXT, MDL_IDENTITY_LOCAL, MDL_DISK_EXISTS, MDL_BLOCKS, MDL_POOL or

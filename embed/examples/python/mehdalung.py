@@ -181,8 +181,9 @@ class Reply(NamedTuple):
 
 
 class Disk:
-    """A disk of `blocks` blocks, of which `pool` can be mapped at once, with an identity or the
-    standard one. It is freed by `close`, by the end of a `with`, or with its last reference."""
+    """A disk of `blocks` blocks, of which `pool` can be mapped or anchored at once, with an
+    identity or the standard one. It is freed by `close`, by the end of a `with`, or with its last
+    reference."""
 
     def __init__(self, blocks=4096, pool=4, identity=None):
         self.slot = Slot()

@@ -87,8 +87,8 @@ pub struct Disk {
 unsafe impl Send for Disk {}
 
 impl Disk {
-    /// A disk of `blocks` blocks, of which `pool` can be mapped at once. None is the standard
-    /// identity.
+    /// A disk of `blocks` blocks, of which `pool` can be mapped or anchored at once. None is the
+    /// standard identity.
     pub fn new(blocks: u64, pool: u32, identity: Option<&Identity>) -> Result<Disk, Error> {
         let mut slot = sys::mdl_disk { target: ptr::null_mut() };
         let identity = identity.map_or(ptr::null(), |i| i as *const Identity);
