@@ -29,7 +29,7 @@ pub over-extents : (m : Contents) (extents : List Extent)
 over-extents m [] = refl
 over-extents m (e ∷ es) = over-extents (anchored m e.lba e.count) es
 
-either : {A : Type 0} (a b : Bool) (x y : A) → cond a x (cond b x y) ≡ cond (b || a) x y
+pub either : {A : Type 0} (a b : Bool) (x y : A) → cond a x (cond b x y) ≡ cond (b || a) x y
 either true true x y = refl
 either true false x y = refl
 either false true x y = refl

@@ -1,6 +1,14 @@
--- Laws of the definition of one step.
-use Rattle.std.specs.Prelude.{ℕ, List}
+-- Laws of the definitions: of one step, and of commands on a list of extents.
+use Rattle.std.specs.List.{list_any}
+use Rattle.std.specs.Prelude.{◌≡◌, ℕ, List, Bool, if◌then◌else◌}
+use Rattle.sg_wire.specs.declared.extent.Extent.{Extent}
+use Rattle.sg_store.specs.Disk.{block, lies_in, zero_block}
+use Rattle.sg_store.specs.LbaStatus.{status_at}
+use Rattle.sg_store.specs.declared.lba_status.ProvisioningStatus.{ProvisioningStatus}
+use Rattle.sg_store.specs.declared.lba_status.ProvisioningStatus.TheVariants.{Deallocated, Anchored}
+use Rattle.sg_target.specs.Effect.{Effect}
 use Rattle.sg_target.specs.PowerCycle.{after_power_cycle}
+use Rattle.sg_target.specs.ProvisioningCommands.{anchoring, unmapping}
 use Rattle.sg_target.specs.State.{IsWithinLimits, State}
 use Rattle.sg_target.specs.Step.{step}
 
@@ -9,3 +17,38 @@ pub record LimitsAreKept : Type 0 where
   pub command : (state : State) (initiator : ℕ) (cdb data_out : List ℕ) → IsWithinLimits state
       → IsWithinLimits (step state initiator cdb data_out).state
   pub power_cycle : (state : State) → IsWithinLimits state → IsWithinLimits (after_power_cycle state)
+
+-- ---- Lists of extents
+
+-- Whether an address lies in some extent of a list.
+abbrev pub lies_in_any : List Extent → (address : ℕ) → Bool
+lies_in_any extents address =
+    list_any (λ (extent : Extent). lies_in extent.lba extent.count address) extents
+
+-- Two lists name the same addresses, perhaps in another order, or with other overlaps.
+abbrev pub HaveTheSameAddresses : (extents others : List Extent) → Type 0
+HaveTheSameAddresses extents others =
+    (address : ℕ) → lies_in_any extents address ≡ lies_in_any others address
+
+-- After a command on a list of extents, each address that lies in some extent has one status and is
+-- read as zeros, and every other address is as it was. So the order of the extents does not matter,
+-- nor whether they overlap.
+pub record ZeroesEachExtent (command : State → List Extent → Effect)
+    (status : ProvisioningStatus) : Type 0 where
+  pub statuses : (state : State) (extents : List Extent) (address : ℕ)
+      → status_at (command state extents).after.disk.contents address
+      ≡ (if lies_in_any extents address then status else status_at state.disk.contents address)
+  pub blocks : (state : State) (extents : List Extent) (address : ℕ)
+      → block (command state extents).after.disk.contents address
+      ≡ (if lies_in_any extents address then zero_block else block state.disk.contents address)
+  pub any_order : (state : State) (extents others : List Extent)
+      → HaveTheSameAddresses extents others
+      → (command state extents).after ≡ (command state others).after
+
+-- UNMAP without ANCHOR leaves each address of its extents neither mapped nor anchored,
+abbrev pub UnmapsEachExtent : Type 0
+UnmapsEachExtent = ZeroesEachExtent unmapping Deallocated
+
+-- and a command that anchors extents leaves each of their addresses anchored.
+abbrev pub AnchorsEachExtent : Type 0
+AnchorsEachExtent = ZeroesEachExtent anchoring Anchored
