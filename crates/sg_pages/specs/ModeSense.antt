@@ -1,5 +1,5 @@
 -- The mode parameter list that MODE SENSE returns (SPC-4, 7.5).
-use Rattle.std.specs.Prelude.{ℕ, List, [], ◌∷◌, ◌++◌, length, Result, Ok, Err}
+use Rattle.std.specs.Prelude.{ℕ, ◌+◌, List, [], ◌∷◌, ◌++◌, length, Result, Ok, Err}
 use Rattle.std.specs.Prelude.{Bool, not, ◌&&◌, ◌||◌, ◌==◌, if◌then◌else◌}
 use Rattle.std.specs.List.{flat_map, list_any}
 use Rattle.byteorder.specs.Endian.{big_bytes}
@@ -72,9 +72,17 @@ is_long r = r.llbaa && not r.dbd
 abbrev pub descriptor_data : RequestFields → List ℕ
 descriptor_data r = if r.dbd then [] else block_descriptor (is_long r) r.blocks
 
--- DEVICE-SPECIFIC PARAMETER: DPOFUA, and WP where SWP is set (SBC-3, 6.4.1).
+-- Bits of DEVICE-SPECIFIC PARAMETER (SBC-3, 6.4.1): WP, the medium is write protected, is bit 7;
+-- DPOFUA, the disk supports DPO and FUA, is bit 4.
+abbrev pub wp : ℕ
+wp = 0x80
+
+abbrev pub dpofua : ℕ
+dpofua = 0x10
+
+-- DEVICE-SPECIFIC PARAMETER: DPOFUA, and WP where SWP is set.
 abbrev pub device_specific : ModeState → ℕ
-device_specific state = if write_protected state then 0x90 else 0x10
+device_specific state = if write_protected state then wp + dpofua else dpofua
 
 -- LONGLBA and a reserved byte are in the header of MODE SENSE(10) alone. Its two lengths have two
 -- bytes each, and those of MODE SENSE(6) one.

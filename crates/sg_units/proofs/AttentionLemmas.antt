@@ -225,7 +225,7 @@ by_pending : (queue : List UnitAttention) (c : UnitAttention) (b : Bool) → is_
     → IsQueue queue → IsQueue (if b then queue else queue ++ c ∷ [])
 by_pending queue c true e q = q
 by_pending queue c false e q = record {
-  at_most_five = omega (arith, room queue c q e, length-append queue (c ∷ []));
+  limit = omega (arith, room queue c q e, length-append queue (c ∷ []));
   distinct = distinct-push queue c e q.distinct;
 }
 
@@ -237,16 +237,16 @@ IsQueue-with_optional queue (Some c) q = by_pending queue c (is_pending queue c)
 pub IsQueue-drop : (queue : List UnitAttention) → IsQueue queue → IsQueue (drop 1 queue)
 IsQueue-drop [] q = q
 IsQueue-drop (first ∷ rest) q =
-    let m = q.at_most_five in
-    record { at_most_five = omega arith; distinct = q.distinct.1 }
+    let m = q.limit in
+    record { limit = omega arith; distinct = q.distinct.1 }
 
 -- ---- One queue of all
 
 one-queue : IsQueue (PowerOn ∷ [])
-one-queue = record { at_most_five = omega arith; distinct = (tt, tt) }
+one-queue = record { limit = omega arith; distinct = (tt, tt) }
 
 no-queue : IsQueue []
-no-queue = record { at_most_five = omega arith; distinct = tt }
+no-queue = record { limit = omega arith; distinct = tt }
 
 -- after power on
 pub ArePending-power_on : ArePending power_on_pending

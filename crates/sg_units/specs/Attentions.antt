@@ -55,6 +55,10 @@ with_optional queue (Some condition) = with_condition queue condition
 
 -- ---- Limits
 
+-- How many conditions there are.
+abbrev pub condition_count : ℕ
+condition_count = 5
+
 -- A condition is none of those in a queue.
 abbrev pub IsNotAmong : UnitAttention → List UnitAttention → Type 0
 IsNotAmong condition [] = Unit {0}
@@ -64,9 +68,9 @@ abbrev pub AreDistinct : List UnitAttention → Type 0
 AreDistinct [] = Unit {0}
 AreDistinct (first ∷ rest) = IsNotAmong first rest × AreDistinct rest
 
--- A queue has at most five conditions, as many as there are, and none twice.
+-- A queue has at most as many conditions as there are, as it has none twice.
 pub record IsQueue (queue : List UnitAttention) : Type 0 where
-  pub at_most_five : length queue ≤ 5
+  pub limit : length queue ≤ condition_count
   pub distinct : AreDistinct queue
 
 abbrev pub AreQueues : Pending → Type 0

@@ -1,13 +1,16 @@
 -- PERSISTENT RESERVE IN (SPC-4, 6.15).
-use Rattle.std.specs.Prelude.{ℕ, ◌*◌, List, [], ◌∷◌, ◌++◌, length, replicate}
+use Rattle.std.specs.Prelude.{ℕ, ◌+◌, ◌*◌, ◌/◌, ◌%◌, ◌^◌, ◌==◌, Bool, List, [], ◌∷◌, ◌++◌}
+use Rattle.std.specs.Prelude.{length, filter, map, sum}
 use Rattle.std.specs.Prelude.{Option, Some, None, unwrap_or, option_and_then, if◌then◌else◌}
 use Rattle.std.specs.List.{flat_map}
 use Rattle.byteorder.specs.Endian.{big_bytes}
+use Rattle.sg_wire.specs.Fields.{Field, field, fields_bytes}
 use Rattle.sg_units.specs.Registrations.{key_of}
-use Rattle.sg_units.specs.ReservationType.{code_of}
+use Rattle.sg_units.specs.ReservationType.{code_of, each_type}
 use Rattle.sg_units.specs.declared.registrations.Registration.{Registration}
 use Rattle.sg_units.specs.declared.reservation.Reservation.{Reservation}
 use Rattle.sg_units.specs.declared.reservation_state.ReservationState.{ReservationState}
+use Rattle.sg_units.specs.declared.types.ReservationType.{ReservationType}
 
 -- PRGENERATION and ADDITIONAL LENGTH.
 abbrev pub header : (generation additional_length : ℕ) → List ℕ
@@ -26,28 +29,78 @@ keys_data state =
 abbrev pub holder_key : List Registration → (holder : Option ℕ) → ℕ
 holder_key registrations holder = unwrap_or (option_and_then (key_of registrations) holder) 0
 
--- The descriptor of a reservation: RESERVATION KEY, five bytes obsolete or reserved, SCOPE and
--- TYPE, and two bytes obsolete.
-abbrev pub descriptor_bytes : (key scope_type : ℕ) → List ℕ
-descriptor_bytes key scope_type = big_bytes 8 key ++ (replicate 5 0 ++ (scope_type ∷ 0 ∷ 0 ∷ []))
+-- The descriptor of a reservation: RESERVATION KEY, four bytes obsolete, a reserved byte, SCOPE
+-- with TYPE, and two bytes obsolete.
+abbrev pub descriptor_fields : (key scope_type : ℕ) → List Field
+descriptor_fields key scope_type =
+    field 8 key ∷ field 4 0 ∷ field 1 0 ∷ field 1 scope_type ∷ field 2 0 ∷ []
 
 abbrev pub descriptor : ReservationState → Reservation → List ℕ
 descriptor state reservation =
-    descriptor_bytes (holder_key state.registrations reservation.holder) (code_of reservation.kind)
+    fields_bytes (
+    descriptor_fields
+    (holder_key state.registrations reservation.holder) (code_of reservation.kind)
+    )
 
--- READ RESERVATION (SPC-4, 6.15.3).
+-- READ RESERVATION (SPC-4, 6.15.3). ADDITIONAL LENGTH is the number of bytes that follow it.
 abbrev pub reservation_data_of : ReservationState → Option Reservation → List ℕ
 reservation_data_of state None = header state.generation 0
 reservation_data_of state (Some reservation) =
-    header state.generation 16 ++ descriptor state reservation
+    let following = descriptor state reservation in
+    header state.generation (length following) ++ following
 
 unfoldable pub reservation_data : ReservationState → List ℕ
 reservation_data state = reservation_data_of state state.reservation
 
--- REPORT CAPABILITIES (SPC-4, 6.15.4): LENGTH; PTPL_C, as registrations and reservation can persist
--- through a power loss; TMV, and PTPL_A where they do; and a PERSISTENT RESERVATION TYPE MASK of
--- all six types.
+-- ---- REPORT CAPABILITIES (SPC-4, 6.15.4)
+
+-- LENGTH, bytes 0 and 1: of the whole data, itself included.
+abbrev capabilities_length : (following : List ℕ) → Field
+capabilities_length following = field 2 (2 + length following)
+
+-- Byte 2. PTPL_C, bit 0: registrations and reservation can persist through a power loss. RLR_C,
+-- CRH, SIP_C and ATP_C 0: neither REPLACE LOST RESERVATION, nor exceptions for RESERVE and RELEASE,
+-- nor SPEC_I_PT, nor ALL_TG_PT is supported.
+abbrev ptpl_c : ℕ
+ptpl_c = 0x01
+
+abbrev capable_bits : Field
+capable_bits = field 1 ptpl_c
+
+-- Byte 3. TMV, bit 7: the type mask is valid. ALLOW COMMANDS 0h: no information on the commands
+-- that a reservation allows. PTPL_A, bit 0: registrations and reservation do persist.
+abbrev tmv : ℕ
+tmv = 0x80
+
+abbrev ptpl_a : ℕ
+ptpl_a = 0x01
+
+abbrev activated_bits : ReservationState → Field
+activated_bits state = field 1 (if state.persists_through_power_loss then tmv + ptpl_a else tmv)
+
+-- PERSISTENT RESERVATION TYPE MASK, bytes 4 and 5: WR_EX_AR, EX_AC_RO, WR_EX_RO, EX_AC, WR_EX and
+-- EX_AC_AR 1, as each type is supported. The bit of a type follows from its code: it is bit
+-- `code % 8` of the mask's byte `code / 8`.
+abbrev is_in_byte : (byte : ℕ) → ReservationType → Bool
+is_in_byte byte type = code_of type / 8 == byte
+
+abbrev type_bit : ReservationType → ℕ
+type_bit type = 2 ^ (code_of type % 8)
+
+abbrev type_mask : (byte : ℕ) → Field
+type_mask byte = field 1 (sum (map type_bit (filter (is_in_byte byte) each_type)))
+
+-- Bytes 6 and 7.
+abbrev reserved : Field
+reserved = field 2 0
+
+abbrev capabilities_after_length : ReservationState → List ℕ
+capabilities_after_length state =
+    fields_bytes (
+    capable_bits ∷ activated_bits state ∷ type_mask 0 ∷ type_mask 1 ∷ reserved ∷ []
+    )
+
 abbrev pub capabilities_data : ReservationState → List ℕ
 capabilities_data state =
-    0x00 ∷ 0x08 ∷ 0x01 ∷ (if state.persists_through_power_loss then 0x81 else 0x80)
-    ∷ 0xEA ∷ 0x01 ∷ 0x00 ∷ 0x00 ∷ []
+    let following = capabilities_after_length state in
+    fields_bytes (capabilities_length following ∷ []) ++ following

@@ -2,12 +2,12 @@ use Rattle.std.proofs.Common.{◌≡◌, ◌∙◌, ◌++◌, length, ap, sym, a
 use Rattle.sg_wire.specs.Cut.{answer_of}
 use Rattle.sg_wire.specs.CutAnswer.{put}
 use Rattle.sg_pages.specs.VitalProductData.{locally_assigned}
-use Rattle.sg_pages.proofs.PageLemmas.{put-two, designator-put, length-designators, length-locally_assigned}
+use Rattle.sg_pages.proofs.PageLemmas.{put-two, descriptor-put, length-descriptors, length-locally_assigned}
 use Rattle.sg_pages.proofs.vital_product_data.write_designators.Goals as goal
 
 pub returns-clause-length : goal.returns-clause-length
 returns-clause-length c =
-    length-designators c.args.identity.now c.write_names.ensures.vendor
+    length-descriptors c.args.identity.now c.write_names.ensures.vendor
     c.write_names.ensures.product c.write_names.ensures.serial
 
 pub returns-clause-data : goal.returns-clause-data
@@ -26,6 +26,6 @@ returns-clause-data c =
     let local = c.locally_assigned.ensures ∙ ap locally_assigned c.local.ensures.value in
     let law = c.parts_are_put_in_turn.ensures in
     put-two law _ _ _ _ _
-    (designator-put law _ _ _ _ _ _ _ names c.put.ensures n.names)
-    (designator-put law _ _ _ _ _ _ _ (sym (length-locally_assigned i.local)) c.put-2.ensures
+    (descriptor-put law _ _ _ _ _ _ _ names c.put.ensures n.names)
+    (descriptor-put law _ _ _ _ _ _ _ (sym (length-locally_assigned i.local)) c.put-2.ensures
     (c.put-3.ensures ∙ ap (put (answer_of c.put-2.new.self)) local))
