@@ -3,6 +3,7 @@ use Rattle.std.specs.Prelude.{◌≡◌, ◌⊎◌, ℕ, List, Option, None, Som
 use Rattle.std.specs.Prelude.{if◌then◌else◌, not, nat_le, nat_lt}
 use Rattle.sg_pages.specs.declared.identity.IdentityFault.{IdentityFault}
 use Rattle.sg_pages.specs.declared.identity.IdentityFault.TheVariants.{Text, Local}
+use Rattle.sg_units.specs.Attentions.{initiator_count}
 use Rattle.sg_target.specs.BlockCommands.{longest_data_in}
 use Rattle.sg_target.specs.Config.{ConfigFields, checked_config}
 use Rattle.sg_target.specs.declared.config.ConfigFault.{ConfigFault}
@@ -90,7 +91,7 @@ disk_outcome None = NoDisk
 -- anything is executed.
 abbrev pub execute_outcome : Option Kept → (initiator room : ℕ) → Outcome
 execute_outcome held initiator room =
-    if not (nat_lt initiator 8) then UnknownInitiator else
+    if not (nat_lt initiator initiator_count) then UnknownInitiator else
     (if not (nat_le longest_data_in room) then BufferTooShort else disk_outcome held)
 
 abbrev pub power_cycle_outcome : Option Kept → Outcome

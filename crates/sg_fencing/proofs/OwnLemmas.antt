@@ -106,7 +106,7 @@ module _ (state : State) (i : ℕ) (w : IsWithinLimits state) where
   becomes (Ok change) =
       let effect = changing_reservations state i change in
       let h = changed change in
-      let room : no_space state.disk ≡ None = grind (arith, nat_tests, w.mapped) in
+      let room : no_space state.disk ≡ None = grind (arith, nat_tests, w.used) in
       let is : (step_outcome state i (Ok effect)).state ≡ effect.after =
       ap (λ q. (unless_no_space state i effect q).state) room in
       record {

@@ -175,9 +175,9 @@ module _ (limits : LimitsAreKept) (refuses : OthersAreRefused) (classes : Comman
       → DifferInBlocks (step_of s call).state (step_of t call).state
   next-differs s t call w w' h =
       let fit : len t.disk.contents ≤ s.disk.pool =
-      subst (λ (n : ℕ). len t.disk.contents ≤ n) (sym (ap (λ (a : State). a.disk.pool) h)) w'.mapped in
+      subst (λ (n : ℕ). len t.disk.contents ≤ n) (sym (ap (λ (a : State). a.disk.pool) h)) w'.used in
       subst (λ (a : State). DifferInBlocks (step_of s call).state (step_of a call).state) h
-      (steps-differ s t.disk.contents call.initiator w.mapped fit call.cdb.now call.data_out.now)
+      (steps-differ s t.disk.contents call.initiator w.used fit call.cdb.now call.data_out.now)
 
   same-answer : (s t : State) (call : Call) → IsWithinLimits s → IsWithinLimits t → DifferInBlocks s t
       → is_registrant s call.initiator ≡ false
@@ -188,9 +188,9 @@ module _ (limits : LimitsAreKept) (refuses : OthersAreRefused) (classes : Comman
       let held = held-to-exclude s.reservations.reservation exclusive in
       let no = shut refuses s j (record { held = held; unknown = unknown }) in
       let fit : len t.disk.contents ≤ s.disk.pool =
-      subst (λ (n : ℕ). len t.disk.contents ≤ n) (sym (ap (λ (a : State). a.disk.pool) h)) w'.mapped in
+      subst (λ (n : ℕ). len t.disk.contents ≤ n) (sym (ap (λ (a : State). a.disk.pool) h)) w'.used in
       subst (λ (a : State). (step_of a call).answer ≡ (step_of s call).answer) h
-      (unseen classes s t.disk.contents j (no.reads exclusive) no.writes w.mapped fit call.cdb.now
+      (unseen classes s t.disk.contents j (no.reads exclusive) no.writes w.used fit call.cdb.now
       call.data_out.now)
 
   pub unseen-over : (calls : List Call) (s t : State) → IsWithinLimits s → IsWithinLimits t

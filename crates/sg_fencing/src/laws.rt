@@ -208,7 +208,7 @@ pub fn preemption_unregisters()
     one_key_each();
 }
 
-/// After it, over a list of commands, while a reservation of any type is held, no command that
+/// After a PREEMPT or a PREEMPT AND ABORT, over a list of commands, while a reservation of any type is held, no command that
 /// writes of such an initiator ends with GOOD until the initiator registers again.
 pub fn the_preempted_write_nothing()
     ensures { PreemptedWriteNothing }
@@ -228,7 +228,8 @@ pub fn persistent_reservations_outlive_power()
     ensures { PersistentOnesStay }
 {}
 
-/// Where they do not, nobody is registered and no reservation is held after it, as on a new disk.
+/// Where registrations and reservation do not persist through a power loss, nobody is registered and
+/// no reservation is held after a power cycle, as on a new disk.
 pub fn other_reservations_end_with_power()
     ensures { OthersAreGone }
 {}

@@ -52,7 +52,7 @@ module _ (reservations : ReservationsStayConsistent) (queues : QueuesKeepTheirLi
       → IsWithinLimits (record state { attentions = without_oldest state.attentions i })
   without-oldest-within state i h =
       record {
-        mapped = h.mapped;
+        used = h.used;
         pending = queues.cleared state.attentions i h.pending;
         registered = h.registered;
         blocks = h.blocks;
@@ -122,7 +122,7 @@ module _ (reservations : ReservationsStayConsistent) (queues : QueuesKeepTheirLi
       → no_space effect.after.disk ≡ refusal
       → IsWithinLimits (unless_no_space state i effect refusal).state
   by-space state i effect None h k blocks e =
-      record { mapped = space effect.after.disk e; pending = k.0; registered = k.1; blocks = blocks }
+      record { used = space effect.after.disk e; pending = k.0; registered = k.1; blocks = blocks }
   by-space state i effect (Some refusal) h k blocks e = refused-within state i refusal h
 
   outcome-within : (state : State) (i : ℕ) (effect : Result Effect Refusal) → IsWithinLimits state
@@ -140,7 +140,7 @@ module _ (reservations : ReservationsStayConsistent) (queues : QueuesKeepTheirLi
 
   pub cycle-within : (state : State) → IsWithinLimits state → IsWithinLimits (after_power_cycle state)
   cycle-within state h = record {
-    mapped = h.mapped;
+    used = h.used;
     pending = queues.power_cycle;
     registered = reservations.power_cycle state.reservations h.registered;
     blocks = h.blocks;

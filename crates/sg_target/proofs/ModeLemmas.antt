@@ -57,7 +57,7 @@ module _ (state : State) (i n : ℕ) (request request' : RequestFields) (modes :
   returned : (list : List ℕ) → IsWithinLimits state → mode_sense state.modes request ≡ Ok list
       → step_by state i (ReturnModes request n) ≡ executed (returning_up_to state n list)
   unfolding mode_parameters
-  returned list w e = rw (e, space-left state.disk w.mapped) refl
+  returned list w e = rw (e, space-left state.disk w.used) refl
 
   refused-by : (fault : ModeSenseFault) → mode_sense state.modes request ≡ Err fault
       → step_by state i (ReturnModes request n) ≡ refused state i (sense_refusal fault)

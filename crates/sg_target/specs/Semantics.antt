@@ -33,21 +33,32 @@ pub record MediumUse : Type 0 where
 abbrev pub only_reads : List Extent → MediumUse
 only_reads extents = record { extents = extents; writes = false }
 
+abbrev pub uses_no_block : MediumUse
+uses_no_block = only_reads []
+
 abbrev pub writes_to : List Extent → MediumUse
 writes_to extents = record { extents = extents; writes = true }
 
 -- SYNCHRONIZE CACHE has its extent checked, and GET LBA STATUS has to start at a block of the disk.
 abbrev pub medium_use : Operation → MediumUse
+medium_use Nothing = uses_no_block
+medium_use (ReturnSense format n) = uses_no_block
+medium_use (ReturnInquiry page n) = uses_no_block
+medium_use (ReturnModes request n) = uses_no_block
+medium_use (ChangeModes ten sp list) = uses_no_block
+medium_use ReturnCapacity10 = uses_no_block
+medium_use (ReturnCapacity16 n) = uses_no_block
 medium_use (Read extent) = only_reads (extent ∷ [])
-medium_use (Synchronize extent) = only_reads (extent ∷ [])
-medium_use (ReturnLbaStatus start n) = only_reads (extent start 1 ∷ [])
 medium_use (Write out) = writes_to (out.extent ∷ [])
+medium_use (Synchronize extent) = only_reads (extent ∷ [])
 medium_use (Fill extent block) = writes_to (extent ∷ [])
 medium_use (Unmap extents) = writes_to extents
 medium_use (UnmapExtent extent) = writes_to (extent ∷ [])
 medium_use (Anchor extents) = writes_to extents
 medium_use (AnchorExtent extent) = writes_to (extent ∷ [])
-medium_use _ = only_reads []
+medium_use (ReturnLbaStatus start n) = only_reads (extent start 1 ∷ [])
+medium_use (ReturnReservations action n) = uses_no_block
+medium_use (ChangeReservations action scope_type list) = uses_no_block
 
 -- ---- The effect
 

@@ -32,7 +32,7 @@ new_state config = record {
 -- most six initiators are registered, none twice and none under the key 0. A reservation has the
 -- holders of its type. Each used address is below the capacity, and data is blocks of 512 bytes.
 pub record IsWithinLimits (state : State) : Type 0 where
-  pub mapped : len state.disk.contents ≤ state.disk.pool
+  pub used : len state.disk.contents ≤ state.disk.pool
   pub pending : ArePending state.attentions
   pub registered : IsConsistent state.reservations
   pub blocks : IsWellFormed state.disk.capacity state.disk.contents

@@ -12,7 +12,7 @@ pub enum Event<'a> {
     Power,
 }
 
-/// What a list of calls has, as a list of events does.
+/// An item of a list that is run: a call is an event, too.
 pub(crate) trait ToEvent {
     ghost use Rattle.sg_target.specs.declared.event.Event.{Event};
 

@@ -1,6 +1,7 @@
 // Executes lists of commands, with power cycles among them.
 ghost use Rattle.std.specs.Prelude.{◌≡◌, ℕ, ◌+◌, ◌≤◌, List, [], ◌∷◌, ◌++◌, length, map, take};
 ghost use Rattle.std.specs.Prelude.{OnOk, OnErr};
+ghost use Rattle.sg_target.specs.BlockCommands.{longest_data_in};
 ghost use Rattle.sg_target.specs.Ranges.{cost_bounds};
 ghost use Rattle.sg_target.specs.Runs.{Exchange, Exchanged, Stopped, all_calls, exchange};
 ghost use Rattle.sg_target.specs.Runs.{state_after_all, state_after_events};
@@ -48,7 +49,7 @@ impl<S: Store> Target<S> {
         buf: &mut [u8],
         sink: &mut K,
     ) -> Result<(), K::Fault>
-        requires { BUFFER_LENGTH ≤ length buf.old }
+        requires { longest_data_in ≤ length buf.old }
 
         // The sink has taken the replies to all calls, each charged to the store, and the state is
         // the one after them.
@@ -81,7 +82,7 @@ impl<S: Store> Target<S> {
         buf: &mut [u8],
         sink: &mut K,
     ) -> Result<(), K::Fault>
-        requires { BUFFER_LENGTH ≤ length buf.old }
+        requires { longest_data_in ≤ length buf.old }
 
         // The sink has taken the replies to all commands, each charged to the store, and the state
         // is the one after the events.
@@ -104,14 +105,14 @@ impl<S: Store> Target<S> {
         self.run_list(events, buf, sink)
     }
 
-    /// What both do.
+    /// Lets the events of a list happen in turn, whether it has calls alone or events.
     fn run_list<E: ToEvent, K: Sink>(
         &mut self,
         list: &[E],
         buf: &mut [u8],
         sink: &mut K,
     ) -> Result<(), K::Fault>
-        requires { BUFFER_LENGTH ≤ length buf.old }
+        requires { longest_data_in ≤ length buf.old }
         ensures took { OnOk result (Exchanged (cost_bounds S.price S.least) self.old.state
             (map E.event list.now) (K.taken sink.old) (K.taken sink.new) self.old.meter self.new.meter) }
         ensures state { OnOk result

@@ -59,6 +59,7 @@ impl<S: Store> Model for Target<S> {
 
 ghost use Rattle.std.specs.Prelude.{◌≡◌, ◌≤◌, length, IfOk};
 ghost use Rattle.sg_store.specs.Meter.{new_meter};
+ghost use Rattle.sg_target.specs.BlockCommands.{longest_data_in};
 ghost use Rattle.sg_target.specs.Reply.{Carries, refused_reply};
 ghost use Rattle.sg_target.specs.PowerCycle.{after_power_cycle};
 ghost use Rattle.sg_target.specs.Ranges.{IsCharged, cost_bounds, ranges, visit_bound};
@@ -95,7 +96,7 @@ impl<S: Store> Target<S> {
         data_out: &[u8],
         buf: &mut [u8],
     ) -> Reply
-        requires { BUFFER_LENGTH ≤ length buf.old }
+        requires { longest_data_in ≤ length buf.old }
 
         // The answer and the state after it are the definition's.
         ensures reply { let done = step self.old.state initiator cdb.now data_out.now in

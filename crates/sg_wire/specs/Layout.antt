@@ -263,7 +263,7 @@ abbrev pub rows_of : ℕ → List Layout
 rows_of opcode = filter (λ l. l.opcode == opcode) table
 
 -- The length of a CDB follows from the group code, the top three bits of the operation code (SPC-4,
--- 4.2.5.1): here for the groups that the table has.
+-- 4.2.5.1): here for the groups 0, 1, 2, 4 and 5. The table has no row of another one.
 abbrev pub length_of : ℕ → ℕ
 length_of opcode =
     let group = opcode / 32 in
@@ -279,12 +279,14 @@ checked_extent lba count =
     if nat_lt lba (2 ^ 21) && (nat_le 1 count && nat_le count 256) then Some (lba, count) else None
 
 -- ---- Decoding
+-- A field of one byte, a shift by 0 and a single part are cases of their own here and below, as there
+-- is nothing to compute. The other case would give the same.
 
 -- Whether a bit of the mask is set in a byte.
 abbrev pub has_bit : ℕ → ℕ → Bool
 has_bit byte mask = not (bit_and byte mask == 0)
 
--- The number in some bytes. One byte is its own number.
+-- The number in some bytes.
 abbrev pub number_at : List ℕ → (first last : ℕ) → ℕ
 number_at cdb first last =
     if first == last then slice_index cdb first else big_number (last + 1 - first) (drop first cdb)

@@ -11,4 +11,4 @@ returns c state contents holder other cdb data_out w fit differ exclusive =
     let refused =
     refuses-others c.others_are_refused.ensures state.reservations holder other differ h in
     unseen c.commands_have_their_class.ensures state contents other
-    (refused.reads (is-exclusive state holder h exclusive)) refused.writes w.mapped fit cdb data_out
+    (refused.reads (is-exclusive state holder h exclusive)) refused.writes w.used fit cdb data_out

@@ -6,4 +6,4 @@ pub returns : goal.returns
 returns c state contents initiator cdb data_out w fit fenced exclusive =
     let no = shut c.others_are_refused.ensures state initiator (outside state initiator fenced) in
     unseen c.commands_have_their_class.ensures state contents initiator (no.reads exclusive) no.writes
-    w.mapped fit cdb data_out
+    w.used fit cdb data_out

@@ -57,7 +57,7 @@ returns-in_err-take-in-Call-clause-limits g c n =
     all-within c.limits_are_kept.ensures _ (map g.E.ToEvent.event c.args.list.now) n
     (subst (λ (t : TargetFields). IsWithinLimits t.state) c.self.view_is
     (record {
-      mapped = c.self.invariant.1;
+      used = c.self.invariant.1;
       pending = c.self.invariant.2;
       registered = c.self.invariant.3;
       blocks = c.used.ensures.well_formed;
@@ -113,7 +113,7 @@ returns-clause-limits g c n =
     all-within c.limits_are_kept.ensures _ (map g.E.ToEvent.event c.args.list.now) n
     (subst (λ (t : TargetFields). IsWithinLimits t.state) c.self.view_is
     (record {
-      mapped = c.self.invariant.1;
+      used = c.self.invariant.1;
       pending = c.self.invariant.2;
       registered = c.self.invariant.3;
       blocks = c.used.ensures.well_formed;
