@@ -5,13 +5,12 @@ use Rattle.std.proofs.Common.{length-append, Option, Some, None}
 use Rattle.std.specs.FinMap.{find}
 use Rattle.std.specs.Ordering.{nat_cmp}
 use Rattle.std.specs.Prelude.{option_to_list, IfSome}
-use Rattle.sg_store.specs.Disk.{unmapped}
+use Rattle.sg_store.specs.Disk.{unmapped, max_capacity}
 use Rattle.sg_pool.specs.MappedRecords.{Seen, entries_by, contents_by}
 use Rattle.sg_pool.specs.Slots.{Slots}
 use Rattle.sg_table.specs.Records.{slots_of}
 use Rattle.sg_table.specs.Occurrences.{occurrences}
 use Rattle.sg_table.specs.declared.run.Run.{Run}
-use Rattle.sg_store.specs.declared.store.TheConstants.{MAX_CAPACITY}
 use Rattle.sg_block_map.specs.Cutting.{AreDistinct, IsCut}
 use Rattle.sg_block_map.specs.Runs.{end_of, singles_of, expanded, AreChained, AreMaximal, any_from}
 use Rattle.sg_block_map.specs.Runs.{AreBetween, AreRuns}
@@ -208,9 +207,9 @@ module _ {old new : Slots} {kept kept' : List Run} {run : Run} {low high : ℕ}
 
     pub cut-runs : low < high → AreRuns is new room
     cut-runs lt =
-        let maximal : AreMaximal 0 (MAX_CAPACITY + 1) is =
+        let maximal : AreMaximal 0 (max_capacity + 1) is =
         rw shape (cut-maximal (xs ++ kept) tail run cut.front cut.back low high (any_from 0)
-        (any_from (MAX_CAPACITY + 1)) lt (narrow-any 0) (rw was_shape at before.maximal)
+        (any_from (max_capacity + 1)) lt (narrow-any 0) (rw was_shape at before.maximal)
         (part-front old.next run low cut.front (gs ++ bs) cut.chained cut.before)
         (part-back old.next run high cut.back
         (chained-right old.next gs bs (chained-right old.next fs (gs ++ bs) cut.chained))
@@ -219,9 +218,9 @@ module _ {old new : Slots} {kept kept' : List Run} {run : Run} {low high : ℕ}
           maximal = maximal;
           chained = (cut.stays is distinct).1 chained-is;
           consistent = record {
-            sorted = sorted-between (expanded new.next is) 0 MAX_CAPACITY
-                (between-expanded new.next is 0 MAX_CAPACITY
-                (apart-maximal is 0 MAX_CAPACITY (omega arith) maximal));
+            sorted = sorted-between (expanded new.next is) 0 max_capacity
+                (between-expanded new.next is 0 max_capacity
+                (apart-maximal is 0 max_capacity (omega arith) maximal));
             once = record {
               each = λ t.
                   let a = ap (occurrences t) (ap₂

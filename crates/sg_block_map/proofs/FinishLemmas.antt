@@ -8,13 +8,12 @@ use Rattle.std.specs.Prelude.{unwrap_or, option_to_list, IfSome}
 use Rattle.sg_store.specs.Disk.{Contents, Mapping, used_among, remapped}
 use Rattle.sg_table.specs.Records.{run_at, same_kind}
 use Rattle.sg_pool.specs.MappedRecords.{mapping_in, contents_of}
-use Rattle.sg_store.specs.Disk.{used_at}
+use Rattle.sg_store.specs.Disk.{used_at, max_capacity}
 use Rattle.sg_pool.specs.Slots.{Slots}
 use Rattle.sg_table.specs.Records.{slots_of}
 use Rattle.sg_pool.specs.MappedRecords.{IsConsistent}
 use Rattle.sg_table.specs.declared.run.Kind.{Kind}
 use Rattle.sg_table.specs.declared.run.Run.{Run}
-use Rattle.sg_store.specs.declared.store.TheConstants.{MAX_CAPACITY}
 use Rattle.sg_block_map.specs.Gathering.{AreNear}
 use Rattle.sg_block_map.specs.Joining.{begun, begun_by, joined, linked, no_run, IsWriting}
 use Rattle.sg_block_map.specs.Joining.{IsFinished, IsFinishedBy}
@@ -68,7 +67,7 @@ by_kind P kind front lba same other = elim (same_kind front.kind kind) as
 -- nothing is written yet
 module _ (before runs after more : List Run) (slots : Slots) (lba high room : ℕ)
     (h : AreRuns (before ++ (runs ++ after)) slots room)
-    (low : AreMaximal 0 lba before) (up : AreMaximal lba (MAX_CAPACITY + 1) after)
+    (low : AreMaximal 0 lba before) (up : AreMaximal lba (max_capacity + 1) after)
     (near : AreNear lba high runs) (kind : Kind) where
   abbrev kept : Option Run × Run → List Run
   kept parts = before ++ option_to_list parts.0
@@ -78,10 +77,10 @@ module _ (before runs after more : List Run) (slots : Slots) (lba high room : �
       (chained-right slots.next before (runs ++ after) h.chained)
 
   begin_after : (front : Option Run) → IsWalkFrom slots.next runs lba front more
-      → AreMaximal lba (MAX_CAPACITY + 1) (more ++ after)
+      → AreMaximal lba (max_capacity + 1) (more ++ after)
   begin_after front t = walk_from-maximal slots.next runs after lba high
-      (behind_all (any_from 0) before) (any_from (MAX_CAPACITY + 1)) front more
-      (maximal-right before (runs ++ after) (any_from 0) (any_from (MAX_CAPACITY + 1)) h.maximal)
+      (behind_all (any_from 0) before) (any_from (max_capacity + 1)) front more
+      (maximal-right before (runs ++ after) (any_from 0) (any_from (max_capacity + 1)) h.maximal)
       up near t
 
   begin_parts : (front : Option Run) → IsWalkFrom slots.next runs lba front more
@@ -158,7 +157,7 @@ module _ (before runs after more : List Run) (slots : Slots) (lba high room : �
     all_shape : before ++ (runs ++ after) ≡ before ++ parted_at.0 ∷ (parted_at.1 ++ after)
     all_shape = ap (λ xs. before ++ (xs ++ after)) parted_at.2
 
-    all_maximal : AreMaximal 0 (MAX_CAPACITY + 1) (before ++ parted_at.0 ∷ (parted_at.1 ++ after))
+    all_maximal : AreMaximal 0 (max_capacity + 1) (before ++ parted_at.0 ∷ (parted_at.1 ++ after))
     all_maximal = rw all_shape at h.maximal
 
     begun_same : IsBegun (None, front)
@@ -169,7 +168,7 @@ module _ (before runs after more : List Run) (slots : Slots) (lba high room : �
         = ap (λ xs. expanded slots.next (xs ++ front ∷ (more ++ after))) same
         ∙ begin_parts (Some front) t in
         let before_run = maximal-before before (parted_at.1 ++ after) parted_at.0 (any_from 0)
-        (any_from (MAX_CAPACITY + 1)) (narrow-any 0) all_maximal in (
+        (any_from (max_capacity + 1)) (narrow-any 0) all_maximal in (
           all,
           record {
             consistent = rw (all, h.links) h.consistent;
@@ -198,7 +197,7 @@ module _ (before runs after more : List Run) (slots : Slots) (lba high room : �
           record {
             consistent = rw (all, h.links) h.consistent;
             maximal_before = front-kept before (parted_at.1 ++ after) parted_at.0 front kind
-                (any_from 0) (any_from (MAX_CAPACITY + 1)) lba (narrow-any 0) all_maximal
+                (any_from 0) (any_from (max_capacity + 1)) lba (narrow-any 0) all_maximal
                 parted_at.3 parted_at.4 chain.not_empty (omega (arith, ends))
                 (same_kind-swap kind front.kind ∙ other);
             ends = omega arith;
@@ -219,10 +218,10 @@ module _ (before runs after more : List Run) (slots : Slots) (lba high room : �
 -- the range is written
 written-runs : (before after : List Run) (done : Run) (slots : Slots) (lba room : ℕ)
     → IsWriting before done after slots lba → 0 < done.count
-    → AreMaximalIn (behind done) (any_from (MAX_CAPACITY + 1)) after → length slots.next ≡ room
+    → AreMaximalIn (behind done) (any_from (max_capacity + 1)) after → length slots.next ≡ room
     → AreRuns (before ++ done ∷ after) slots room
 written-runs before after done slots lba room w some up len = record {
-  maximal = written-maximal before after done (any_from 0) (any_from (MAX_CAPACITY + 1)) some
+  maximal = written-maximal before after done (any_from 0) (any_from (max_capacity + 1)) some
       w.maximal_before up;
   chained = chained-append slots.next before (done ∷ after) w.chained_before
       (w.front some, w.chained_after);
@@ -241,11 +240,11 @@ none_ahead (run ∷ runs) after low bound high lt h near =
 
 -- at the end of the range at most one run is ahead
 last-ahead : (runs after : List Run) (run : Run) (at high : ℕ)
-    → AreMaximal high (MAX_CAPACITY + 1) (run ∷ drop at runs ++ after)
+    → AreMaximal high (max_capacity + 1) (run ∷ drop at runs ++ after)
     → AreNear 0 high (run ∷ drop at runs) → (run.start ≡ high) × (drop at runs ≡ [])
 last-ahead runs after run at high h near = (
   omega (arith, h.0, near.1),
-  none_ahead (drop at runs) after (behind run) (any_from (MAX_CAPACITY + 1)) high
+  none_ahead (drop at runs) after (behind run) (any_from (max_capacity + 1)) high
       (λ kind. omega (arith, h.0, h.1, behind-low run kind)) h.2 near.2,
 )
 
@@ -266,7 +265,7 @@ pub record IsWritten (before after : List Run) (done : Run) (rest : List Run) (r
 kept-written : (before after rest : List Run) (done result : Run) (back : Option Run)
     (high room : ℕ) (old new : Slots) → rest ≡ behind_it back after
     → IsWriting before done rest old high → 0 < done.count
-    → AreMaximalIn (behind done) (any_from (MAX_CAPACITY + 1)) (behind_it back after)
+    → AreMaximalIn (behind done) (any_from (max_capacity + 1)) (behind_it back after)
     → length old.next ≡ room → result ≡ done → new ≡ old
     → IsWritten before after done rest result back old new room
 kept-written before after rest done result back high room old new is w some up len same pool =
@@ -290,14 +289,14 @@ joined-written before after done found result high room old new w start alike_ki
     let next : List ℕ = linked old.next done found.first in
     let writing = join-writing before done found after old w.consistent w.front ends kind
     w.maximal_before
-    (maximal-from after (behind found) (any_from (MAX_CAPACITY + 1)) (any_from (end_of found))
+    (maximal-from after (behind found) (any_from (max_capacity + 1)) (any_from (end_of found))
     (λ k. behind-low found k) w.after.2)
     w.chained_before w.chained_after.0 w.chained_after.1 in
     let some : 0 < (joined done found).count = let c = w.chained_after.0.not_empty in omega arith in
     rw (same, pool) (record {
       runs = written-runs before after (joined done found) (record old { next = next })
           (end_of found) room writing some
-          (maximal-from after (behind found) (any_from (MAX_CAPACITY + 1))
+          (maximal-from after (behind found) (any_from (max_capacity + 1))
           (behind (joined done found))
           (behind-at-most (joined done found) found kind (omega (arith, ends))) w.after.2)
           (length-linked old.next done found.first ∙ len);
@@ -315,13 +314,13 @@ pub finished : (before after runs : List Run) (done result : Run) (run back : Op
     (at high room : ℕ) (old new : Slots) → IsWriting before done
     (ahead_of runs run at ++ after) old high → AreNear 0 high (ahead_of runs run at)
     → IsFinished old new done run result back
-    → 0 < done.count → AreMaximal (high + 1) (MAX_CAPACITY + 1) after → length old.next ≡ room
+    → 0 < done.count → AreMaximal (high + 1) (max_capacity + 1) after → length old.next ≡ room
     → IsWritten before after done (ahead_of runs run at ++ after) result back old new room
 finished before after runs done result None back at high room old new w near f some up len =
     let none = f.1 in
     kept-written before after after done result back high room old new
     (ap (λ o. behind_it o after) (sym none)) w some
-    (rw none (maximal-from after (any_from (high + 1)) (any_from (MAX_CAPACITY + 1)) (behind done)
+    (rw none (maximal-from after (any_from (high + 1)) (any_from (max_capacity + 1)) (behind done)
     (λ kind. omega (arith, behind-high done kind, w.ends)) up)) len f.0 f.2
 finished before after runs done result (Some found) back at high room old new w near f some up len =
     let last = last-ahead runs after found at high w.after near in
@@ -354,7 +353,7 @@ parts-shape before fs bs after run = ap (λ xs. before ++ xs) (append_assoc fs (
 pub free-there : (before after runs : List Run) (done : Run) (run : Option Run) (at lba i count : ℕ)
     (old now : Slots) (rs : List Run) (f : ℕ → Mapping)
     → IsWriting before done (ahead_of runs run at ++ after) now (lba + i)
-    → AreMaximal (lba + i + 1) (MAX_CAPACITY + 1) after
+    → AreMaximal (lba + i + 1) (max_capacity + 1) after
     → run_at run (lba + i) ≡ None → IsConsistent (expanded old.next rs) old.blocks old.free
     (length now.next) → chained_contents (before ++ done ∷ (ahead_of runs run at ++ after)) now ≡
     remapped (chained_contents rs old) lba i f
@@ -367,10 +366,10 @@ free-there before after runs done run at lba i count old now rs f w up none t sa
     let skip = skip-maximal runs after run at here w.after up none in
     let xs : List Run = expanded now.next (before ++ done ∷ []) in
     let ys : List Run = expanded now.next rest in
-    let nowhere = none-between xs ys 0 here (here + 1) (MAX_CAPACITY + 1) here
+    let nowhere = none-between xs ys 0 here (here + 1) (max_capacity + 1) here
     (before-between now.next before done here w.maximal_before w.ends)
-    (between-expanded now.next rest (here + 1) (MAX_CAPACITY + 1)
-    (apart-loose rest (here + 1) (here + 1) (MAX_CAPACITY + 1) (omega arith) skip)) (omega arith)
+    (between-expanded now.next rest (here + 1) (max_capacity + 1)
+    (apart-loose rest (here + 1) (here + 1) (max_capacity + 1) (omega arith) skip)) (omega arith)
     (omega arith) in
     let unmapped : used_at (chained_contents (before ++ done ∷ rest) now) here ≡ 0
     = ap (λ zs. used_at (contents_of zs now.blocks) here) (parted now.next before done rest)
@@ -427,15 +426,15 @@ pub gathered-ahead : (before runs after : List Run) (slots : Slots) (room : ℕ)
     → AreAhead slots.next (length slots.next) 0 runs
 gathered-ahead before runs after slots room h =
     let all : List Run = before ++ (runs ++ after) in
-    let right = apart-right before (runs ++ after) 0 MAX_CAPACITY
-    (apart-maximal all 0 MAX_CAPACITY (omega arith) h.maximal) in
-    let own = apart-left runs after (end_of_all 0 before) MAX_CAPACITY right in
-    let le = apart-le after (end_of_all (end_of_all 0 before) runs) MAX_CAPACITY
-    (apart-right runs after (end_of_all 0 before) MAX_CAPACITY right) in
+    let right = apart-right before (runs ++ after) 0 max_capacity
+    (apart-maximal all 0 max_capacity (omega arith) h.maximal) in
+    let own = apart-left runs after (end_of_all 0 before) max_capacity right in
+    let le = apart-le after (end_of_all (end_of_all 0 before) runs) max_capacity
+    (apart-right runs after (end_of_all 0 before) max_capacity right) in
     let same : length slots.next ≡ length slots.blocks = h.links ∙ sym h.consistent.pool in
     record {
       apart = apart-weaker runs (end_of_all 0 before) (end_of_all (end_of_all 0 before) runs) 0
-          MAX_CAPACITY (omega arith) le own;
+          max_capacity (omega arith) le own;
       chained = chained-left slots.next runs after
           (chained-right slots.next before (runs ++ after) h.chained);
       below = rw same (below-sub (length slots.blocks) (slots_of (expanded slots.next runs))

@@ -10,7 +10,7 @@ use Rattle.sg_table.specs.Records.{slots_of}
 use Rattle.sg_table.specs.Occurrences.{occurrences}
 use Rattle.sg_pool.specs.MappedRecords.{IsConsistent}
 use Rattle.sg_table.specs.declared.run.Run.{Run}
-use Rattle.sg_store.specs.declared.store.TheConstants.{MAX_CAPACITY}
+use Rattle.sg_store.specs.Disk.{max_capacity}
 use Rattle.sg_block_map.specs.Joining.{joined, linked, IsWriting}
 use Rattle.sg_block_map.specs.Runs.{end_of, singles, singles_of, expanded, AreChained, AreMaximal}
 use Rattle.sg_block_map.specs.Runs.{any_from, begins, AreMaximalIn}
@@ -239,7 +239,7 @@ module _ (before : List Run) (done other : Run) (rest : List Run) (slots : Slots
 
   pub join-writing : end_of done ≡ other.start → done.kind ≡ other.kind
       → AreMaximalIn (any_from 0) (begins done.kind done.start) before
-      → AreMaximal (end_of other) (MAX_CAPACITY + 1) rest → AreChained slots.next before
+      → AreMaximal (end_of other) (max_capacity + 1) rest → AreChained slots.next before
       → IsChain slots.next other.first other.last other.count → AreChained slots.next rest
       → IsWriting before (joined done other) rest
       (record slots { next = linked slots.next done other.first }) (end_of other)

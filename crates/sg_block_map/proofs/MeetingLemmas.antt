@@ -8,7 +8,7 @@ use Rattle.std.specs.Prelude.{nat_lt}
 use Rattle.sg_table.specs.Records.{start_of}
 use Rattle.sg_pool.specs.Slots.{Slots}
 use Rattle.sg_table.specs.declared.run.Run.{Run}
-use Rattle.sg_store.specs.declared.store.TheConstants.{MAX_CAPACITY}
+use Rattle.sg_store.specs.Disk.{max_capacity}
 use Rattle.sg_block_map.specs.Gathering.{end_at}
 use Rattle.sg_block_map.specs.MaximalRuns.{meets, meet}
 use Rattle.sg_block_map.specs.Runs.{AreRuns, chained_contents, extent_of}
@@ -69,4 +69,4 @@ pub meet-records : (rs : List Run) (slots : Slots) (room lba count : ℕ) → Ar
     → meet (chained_contents rs slots) lba count ≡ records_met rs lba count
 unfolding meet
 meet-records rs slots room lba count h =
-    rw (runs-extents slots.next rs slots.blocks 0 (MAX_CAPACITY + 1) h.maximal) refl
+    rw (runs-extents slots.next rs slots.blocks 0 (max_capacity + 1) h.maximal) refl

@@ -12,7 +12,7 @@ use Rattle.sg_pool.specs.Slots.{Slots}
 use Rattle.sg_pool.specs.MappedRecords.{IsConsistent}
 use Rattle.sg_table.specs.declared.run.Kind.TheVariants.{Data as DataRun}
 use Rattle.sg_table.specs.declared.run.Run.{Run}
-use Rattle.sg_store.specs.declared.store.TheConstants.{MAX_CAPACITY}
+use Rattle.sg_store.specs.Disk.{max_capacity}
 use Rattle.sg_block_map.specs.Gathering.{AreGathered, end_index}
 use Rattle.sg_block_map.specs.Walking.{AreAhead}
 use Rattle.sg_block_map.specs.Runs.{singles, singles_of, expanded, AreRuns}
@@ -74,7 +74,7 @@ module _ (next : List ℕ) (before : List Run) (run : Run) (after : List Run) (k
 -- the first of the gathered runs has slots of the pool
 pub first-below : (rs : List Run) (gathered : Drafted) (slots : Slots) (room low high : ℕ)
     (run : Run) (tail : List Run) → AreRuns rs slots room
-    → AreGathered rs gathered low high (MAX_CAPACITY + 1) → gathered.records ≡ run ∷ tail
+    → AreGathered rs gathered low high (max_capacity + 1) → gathered.records ≡ run ∷ tail
     → AreBelow (length slots.next) (chain slots.next run.first run.count)
 first-below rs gathered slots room low high run tail h g first =
     let ahead = gathered-ahead (take gathered.from rs) gathered.records

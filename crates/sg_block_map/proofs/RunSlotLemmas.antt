@@ -10,7 +10,7 @@ use Rattle.sg_pool.specs.Slots.{Slots}
 use Rattle.sg_table.specs.Records.{slots_of}
 use Rattle.sg_table.specs.Occurrences.{occurrences, IsEachOnce}
 use Rattle.sg_table.specs.declared.run.Run.{Run}
-use Rattle.sg_store.specs.declared.store.TheConstants.{MAX_CAPACITY}
+use Rattle.sg_store.specs.Disk.{max_capacity}
 use Rattle.sg_block_map.specs.Cutting.{AreDistinct}
 use Rattle.sg_block_map.specs.Gathering.{AreGathered, end_index}
 use Rattle.sg_block_map.specs.Runs.{end_of, singles_of, expanded, AreRuns, blocks_of}
@@ -90,12 +90,12 @@ module _ (xs kept tail : List Run) (run : Run) (slots : Slots) (room : ℕ)
       (chained-right slots.next xs (kept ++ run ∷ tail) h.chained)).1) in
       (omega (arith, h.consistent.count), omega (arith, h.consistent.count))
 
-  pub run-range : end_of run ≤ MAX_CAPACITY
+  pub run-range : end_of run ≤ max_capacity
   run-range =
-      let apart = apart-maximal all 0 MAX_CAPACITY (omega arith) h.maximal in
-      let all_right = apart-right xs (kept ++ run ∷ tail) 0 MAX_CAPACITY apart in
-      let right = apart-right kept (run ∷ tail) (end_of_all 0 xs) MAX_CAPACITY all_right in
-      apart-le tail (end_of run) MAX_CAPACITY right.2
+      let apart = apart-maximal all 0 max_capacity (omega arith) h.maximal in
+      let all_right = apart-right xs (kept ++ run ∷ tail) 0 max_capacity apart in
+      let right = apart-right kept (run ∷ tail) (end_of_all 0 xs) max_capacity all_right in
+      apart-le tail (end_of run) max_capacity right.2
 
 -- there are no more runs than the pool has slots
 pub runs-fit : (records : List Run) (slots : Slots) (room : ℕ) → AreRuns records slots room

@@ -8,7 +8,7 @@ use Rattle.std.proofs.lemmas.List.Sums.{sum_by-cons}
 use Rattle.std.specs.FinMap.{get}
 use Rattle.std.specs.Prelude.{slice_index_or, min}
 use Rattle.std.specs.Prelude.{nat_le}
-use Rattle.sg_store.specs.Disk.{IsWellFormed}
+use Rattle.sg_store.specs.Disk.{IsWellFormed, max_capacity, max_pool}
 use Rattle.sg_store.specs.LbaStatus.{descriptor_at, status_at, status_in}
 use Rattle.sg_table.specs.Records.{start_of, IsSorted, IsLowerBound, IsNext, ahead, end_of_gap}
 use Rattle.sg_pool.specs.MappedRecords.{mapping_in, contents_of, status_of_kind}
@@ -21,7 +21,6 @@ use Rattle.sg_store.specs.declared.lba_status.TheConstants.{MAX_ADDRESSES}
 use Rattle.sg_table.specs.declared.run.Kind.{Kind}
 use Rattle.sg_table.specs.declared.run.Kind.TheVariants.{Data as DataRun, Anchored as AnchoredRun}
 use Rattle.sg_table.specs.declared.run.Run.{Run}
-use Rattle.sg_store.specs.declared.store.TheConstants.{MAX_CAPACITY, MAX_POOL}
 use Rattle.sg_block_map.specs.Gathering.{end_at}
 use Rattle.sg_block_map.specs.Runs.{end_of, expanded, any_from, behind, Bound, AreApart, AreChained}
 use Rattle.sg_block_map.specs.Runs.{AreMaximalIn}
@@ -390,7 +389,7 @@ maximal-within (x ∷ rs) low bound capacity h le ends = (
 )
 
 pub run_table-of : (capacity : ℕ) (rs : List Run) (slots : Slots) (room : ℕ) → AreRuns rs slots room
-    → IsWellFormed capacity (chained_contents rs slots) → room ≤ MAX_POOL → capacity ≤ MAX_CAPACITY
+    → IsWellFormed capacity (chained_contents rs slots) → room ≤ max_pool → capacity ≤ max_capacity
     → IsRunTable capacity rs
 run_table-of capacity rs slots room h whole small fits =
     let m = chained_contents rs slots in
@@ -398,14 +397,14 @@ run_table-of capacity rs slots room h whole small fits =
     λ i lt. chained-filled slots.next rs i h.chained lt in
     let ends : (i : ℕ) → i < length rs → end_at rs i ≤ capacity = λ i lt.
     let some = filled i lt in
-    let mapped = contains-inside slots.next rs (mapping_in slots.blocks) 0 MAX_CAPACITY i
-    (end_at rs i - 1) (apart-maximal rs 0 MAX_CAPACITY (omega arith) h.maximal) lt (omega arith)
+    let mapped = contains-inside slots.next rs (mapping_in slots.blocks) 0 max_capacity i
+    (end_at rs i - 1) (apart-maximal rs 0 max_capacity (omega arith) h.maximal) lt (omega arith)
     (omega arith) in
     let below = below-some (get m (end_at rs i - 1)) (end_at rs i - 1) capacity
     (λ b e. (whole.each (end_at rs i - 1) b e).0) mapped in
     omega arith in
     record {
-      maximal = maximal-within rs (any_from 0) (any_from (MAX_CAPACITY + 1)) capacity h.maximal
+      maximal = maximal-within rs (any_from 0) (any_from (max_capacity + 1)) capacity h.maximal
           (λ kind. omega arith) ends;
       filled = filled;
       short = λ i lt. omega (arith, short-by rs i lt, blocks-fit rs slots room h);

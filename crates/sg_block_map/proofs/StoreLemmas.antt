@@ -8,6 +8,7 @@ use Rattle.std.proofs.lemmas.List.{length-map, nil_from_length}
 use Rattle.std.specs.FinMap as map
 use Rattle.std.specs.List.{count_by, range_with_len, sum_by}
 use Rattle.sg_store.specs.Disk.{Contents, Disk, Mapping, IsWellFormed, HasBlockLength, used_among, remapped}
+use Rattle.sg_store.specs.Disk.{max_capacity, max_pool}
 use Rattle.sg_table.specs.Draft.{Drafted, empty_draft}
 use Rattle.sg_store.specs.Meter.{Meter, Costs}
 use Rattle.sg_pool.specs.MappedRecords.{mapping_in, contents_of}
@@ -18,7 +19,6 @@ use Rattle.sg_table.specs.Table.{Table, visited, probed}
 use Rattle.sg_table.specs.declared.run.Kind.{Kind}
 use Rattle.sg_table.specs.declared.run.Kind.TheVariants.{Data, Anchored}
 use Rattle.sg_table.specs.declared.run.Run.{Run}
-use Rattle.sg_store.specs.declared.store.TheConstants.{MAX_POOL, MAX_CAPACITY}
 use Rattle.sg_block_map.specs.Metering.{SearchesAndVisits}
 use Rattle.sg_block_map.specs.Gathering.{starts_in, overlap, AreGathered, HaveRoom, end_index}
 use Rattle.sg_block_map.specs.Joining.{mapping_as}
@@ -41,11 +41,11 @@ use Rattle.sg_block_map.proofs.MaximalLemmas.{near-gathered, none-meet}
 use Rattle.sg_block_map.proofs.OverlapLemmas.{mapped-overlap, mapped-gathered}
 
 pub runs-sorted : (rs : List Run) (slots : Slots) (room : ℕ) → AreRuns rs slots room → IsSorted rs
-runs-sorted rs slots room h = maximal-sorted rs 0 (MAX_CAPACITY + 1) h.maximal
+runs-sorted rs slots room h = maximal-sorted rs 0 (max_capacity + 1) h.maximal
 
 -- the list of gathered runs has room for all records
 pub have-room : (table : Table) (slots : Slots) (gathered : Drafted)
-    → AreRuns table.records slots table.room → table.room ≤ MAX_POOL
+    → AreRuns table.records slots table.room → table.room ≤ max_pool
     → gathered ≡ empty_draft table.room → HaveRoom table gathered
 have-room table slots gathered h fits empty = record {
   fits = runs-fit table.records slots table.room h;
@@ -106,7 +106,7 @@ size-replaced rs slots room lba count f h = let all = size rs slots room h in
 
 -- the runs that were gathered
 module _ (rs : List Run) (slots : Slots) (room : ℕ) (gathered : Drafted) (lba count : ℕ)
-    (h : AreRuns rs slots room) (g : AreGathered rs gathered lba (lba + count) (MAX_CAPACITY + 1))
+    (h : AreRuns rs slots room) (g : AreGathered rs gathered lba (lba + count) (max_capacity + 1))
   where
     parted : AreRuns (take gathered.from rs ++ (gathered.records ++ drop (end_index gathered) rs))
         slots room
@@ -118,22 +118,22 @@ module _ (rs : List Run) (slots : Slots) (room : ℕ) (gathered : Drafted) (lba 
 
     pub gathered-length : length (expanded slots.next gathered.records) ≤ room
     gathered-length = let few = gathered-blocks rs gathered slots room lba (lba + count)
-        (MAX_CAPACITY + 1) h g in omega (arith, length-expanded slots.next gathered.records)
+        (max_capacity + 1) h g in omega (arith, length-expanded slots.next gathered.records)
 
     pub gathered-mapped : used_among (chained_contents rs slots) lba count ≡
         sum_by (overlap lba (lba + count)) gathered.records
-    gathered-mapped = mapped-gathered rs gathered slots lba count (MAX_CAPACITY + 1) g
+    gathered-mapped = mapped-gathered rs gathered slots lba count (max_capacity + 1) g
         ∙ mapped-overlap slots.next gathered.records (mapping_in slots.blocks) 0
-        MAX_CAPACITY lba count runs-ahead.apart
+        max_capacity lba count runs-ahead.apart
 
     -- the runs that meet the range were gathered
     pub gathered-meet : meet (chained_contents rs slots) lba count ≤ length gathered.records
     gathered-meet = meet-gathered slots.next rs slots.blocks gathered lba count
-        (MAX_CAPACITY + 1) h.maximal g
+        (max_capacity + 1) h.maximal g
 
     pub gathered-near : blocks_of gathered.records ≤ blocks_near (chained_contents rs slots) lba count
     gathered-near = near-gathered slots.next rs slots.blocks gathered lba count
-        (MAX_CAPACITY + 1) h.maximal g
+        (max_capacity + 1) h.maximal g
 
 -- a search of a count that has `digits` binary digits takes at most one probe more
 searched : (probes count digits : ℕ) → CostsSearch count probes → count < 2 ^ digits
@@ -153,7 +153,7 @@ module _ (rs : List Run) (slots after_slots : Slots) (room lba count : ℕ) (bef
     (after.total - before.total)) (rise : before.probes ≤ after.probes)
     (search : CostsSearch (length before.records) (after.probes - before.probes))
     (least : before.total ≤ after.total) where
-  pub gathered-costs : room ≤ MAX_POOL → slots.links ≤ after_slots.links
+  pub gathered-costs : room ≤ max_pool → slots.links ≤ after_slots.links
       → after_slots.links ≤ slots.links + room
       → Costs room (meter_at before slots) (meter_at after after_slots)
   gathered-costs small links_rise links =
@@ -178,7 +178,7 @@ module _ (rs : List Run) (slots after_slots : Slots) (room lba count : ℕ) (bef
       → after.total ≤ before.total + block_price (chained_contents rs slots) lba count
   gathered-price most =
       let meets = starts-meet slots.next rs slots.blocks 0
-      (MAX_CAPACITY + 1) lba count h.maximal in
+      (max_capacity + 1) lba count h.maximal in
       let begun = ap (λ xs. count_by (starts_in lba (lba + count)) xs) same in
       omega arith
 
@@ -187,7 +187,7 @@ module _ (rs : List Run) (slots after_slots : Slots) (room lba count : ℕ) (bef
       (meter_at before slots) (meter_at after after_slots)
   gathered-runs links =
       let len = ap length (runs-extents slots.next rs slots.blocks 0
-      (MAX_CAPACITY + 1) h.maximal) ∙ length-map rs extent_of
+      (max_capacity + 1) h.maximal) ∙ length-map rs extent_of
       ∙ ap length (sym same) in
       record {
         probes = λ digits lt. let p = searched (after.probes - before.probes)
@@ -212,8 +212,8 @@ nothing-meets contents lba count e = none-meet (runs contents) lba count e
 -- all that a call costs which gathers the runs near its range, and follows their links
 pub gathered-range : (before after : Table) (slots after_slots : Slots) (capacity lba count : ℕ)
     (gathered : Drafted) → AreRuns before.records slots before.room
-    → AreGathered before.records gathered lba (lba + count) (MAX_CAPACITY + 1)
-    → before.room ≤ MAX_POOL
+    → AreGathered before.records gathered lba (lba + count) (max_capacity + 1)
+    → before.room ≤ max_pool
     → SearchesAndVisits (length gathered.records)
     (count_by (starts_in lba (lba + count)) before.records + 2) before after
     → slots.links ≤ after_slots.links
@@ -232,7 +232,7 @@ gathered-range before after slots after_slots capacity lba count gathered h g sm
     let rs = before.records in
     let room = before.room in
     let total : before.total ≤ after.total = omega (arith, least) in
-    let blocks = gathered-blocks rs gathered slots room lba (lba + count) (MAX_CAPACITY + 1) h g in
+    let blocks = gathered-blocks rs gathered slots room lba (lba + count) (max_capacity + 1) h g in
     let near = gathered-near rs slots room gathered lba count h g in
     let met = gathered-meet rs slots room gathered lba count h g in
     record {

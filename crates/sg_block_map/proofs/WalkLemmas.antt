@@ -10,12 +10,11 @@ use Rattle.std.specs.FinMap.{find, get-from_entries}
 use Rattle.std.specs.Ordering.{nat_cmp}
 use Rattle.std.specs.Prelude.{slice_index, option_to_list, IfSome, unwrap_or, ◌==◌}
 use Rattle.sg_pool.specs.Chains.{chain, AreBelow}
-use Rattle.sg_store.specs.Disk.{data_in, block}
+use Rattle.sg_store.specs.Disk.{data_in, block, max_capacity}
 use Rattle.sg_pool.specs.MappedRecords.{Seen, entries_by, contents_by}
 use Rattle.sg_table.specs.Records.{run_at, single}
 use Rattle.sg_table.specs.Records.{slots_of}
 use Rattle.sg_table.specs.declared.run.Run.{Run}
-use Rattle.sg_store.specs.declared.store.TheConstants.{MAX_CAPACITY}
 use Rattle.sg_block_map.specs.Gathering.{AreNear}
 use Rattle.sg_block_map.specs.RunCostLaws.{either_way}
 use Rattle.sg_block_map.specs.Runs.{end_of, singles, singles_of, expanded, AreApart, AreChained}
@@ -100,8 +99,8 @@ passed-ahead next count lba run more h at =
     let some = h.chained.0.not_empty in
     let below = rw (ap slots_of (passed-expanded next run more some)) at h.below in
     record {
-      apart = passed-by (AreApart (lba + 1) MAX_CAPACITY) next run more some
-          (λ one. apart-weaker more (end_of run) MAX_CAPACITY (lba + 1) MAX_CAPACITY (omega arith)
+      apart = passed-by (AreApart (lba + 1) max_capacity) next run more some
+          (λ one. apart-weaker more (end_of run) max_capacity (lba + 1) max_capacity (omega arith)
           (omega arith) h.apart.2)
           (λ many. let same : run.start + 1 + (run.count - 1) ≡ end_of run = omega arith in
           (omega arith, omega arith, rw same h.apart.2));
@@ -129,7 +128,7 @@ there (Some run) lba found e = either_way (λ o. o ≡ Some found → (Some run 
 -- the run that is ahead first
 pub ahead-first : (next : List ℕ) (count lba : ℕ) (run : Run) (more : List Run)
     → AreAhead next count lba (run ∷ more)
-    → AreBelow count (chain next run.first run.count) × (end_of run ≤ MAX_CAPACITY)
+    → AreBelow count (chain next run.first run.count) × (end_of run ≤ max_capacity)
     × (run.count ≤ length (expanded next (run ∷ more))) × (run.first < count)
 ahead-first next count lba run more h =
     let some = h.chained.0.not_empty in
@@ -141,7 +140,7 @@ ahead-first next count lba run more h =
     (slots-singles next run.start run.first run.count run.kind) in
     let below = below-left count (chain next run.first run.count) (slots_of (expanded next more))
     (rw slots at h.below) in
-    let rest = apart-le more (end_of run) MAX_CAPACITY h.apart.2 in
+    let rest = apart-le more (end_of run) max_capacity h.apart.2 in
     let len = ap length (expanded-more next run more)
     ∙ length-append (singles_of next run) (expanded next more) in
     let own = length-singles next run.start run.first run.count run.kind in
@@ -151,7 +150,7 @@ ahead-first next count lba run more h =
 
 -- no run begins at the address
 pub ahead-skip : (next : List ℕ) (count lba at : ℕ) (runs : List Run) (run : Option Run)
-    → AreAhead next count lba (ahead_of runs run at) → lba < MAX_CAPACITY → run_at run lba ≡ None
+    → AreAhead next count lba (ahead_of runs run at) → lba < max_capacity → run_at run lba ≡ None
     → AreAhead next count (lba + 1) (ahead_of runs run at)
 ahead-skip next count lba at runs None h low none =
     record { apart = omega arith; chained = h.chained; below = h.below }
@@ -185,8 +184,8 @@ pub get-none : (next : List ℕ) (count lba q : ℕ) (runs : List Run) (f : Seen
     None
 get-none next count lba q runs f h lt = get-from_entries nat_cmp_total
     (entries_by f (expanded next runs)) q
-    ∙ find-below (expanded next runs) f lba MAX_CAPACITY q
-    (between-expanded next runs lba MAX_CAPACITY h.apart) lt
+    ∙ find-below (expanded next runs) f lba max_capacity q
+    (between-expanded next runs lba max_capacity h.apart) lt
 
 -- the runs from an address on
 pub walk_from-parts : (next : List ℕ) (runs : List Run) (lba : ℕ) (front : Option Run)
@@ -254,7 +253,7 @@ walk_from-apart next (run ∷ runs) lba high a b front more h le near t =
 -- what is ahead of the address is a part of all
 pub walk_from-ahead : (next : List ℕ) (count : ℕ) (runs : List Run) (lba high : ℕ)
     (front : Option Run) (more : List Run) → AreAhead next count 0 runs → AreNear lba high runs
-    → lba ≤ MAX_CAPACITY → IsWalkFrom next runs lba front more → AreAhead next count lba more
+    → lba ≤ max_capacity → IsWalkFrom next runs lba front more → AreAhead next count lba more
 walk_from-ahead next count runs lba high front more h near low t =
     let fs : List Run = option_to_list front in
     let parts : expanded next runs ≡ expanded next fs ++ expanded next more =
@@ -263,7 +262,7 @@ walk_from-ahead next count runs lba high front more h near low t =
     slots_of (expanded next fs) ++ slots_of (expanded next more) = ap slots_of parts
     ∙ slots-append (expanded next fs) (expanded next more) in
     record {
-      apart = walk_from-apart next runs lba high 0 MAX_CAPACITY front more h.apart low near t;
+      apart = walk_from-apart next runs lba high 0 max_capacity front more h.apart low near t;
       chained = chained-right next fs more (walk_from-chained next runs lba front more h.chained t);
       below = below-right count (slots_of (expanded next fs)) (slots_of (expanded next more))
           (rw (sym slots) h.below);
@@ -348,7 +347,7 @@ module _ (next : List ℕ) (count lba at : ℕ) (runs : List Run) (run : Option 
 
 -- no run is there
 pub skip-block : (next : List ℕ) (count lba at : ℕ) (runs : List Run) (run : Option Run)
-    (f : Seen) → AreAhead next count lba (ahead_of runs run at) → lba < MAX_CAPACITY
+    (f : Seen) → AreAhead next count lba (ahead_of runs run at) → lba < max_capacity
     → run_at run lba ≡ None
     → map.get (contents_by f (expanded next (ahead_of runs run at))) lba ≡ None
 skip-block next count lba at runs run f h low none =

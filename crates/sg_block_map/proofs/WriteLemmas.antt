@@ -9,7 +9,7 @@ use Rattle.std.specs.FinMap.{find, get-from_entries}
 use Rattle.std.specs.Ordering.{nat_cmp}
 use Rattle.std.specs.Prelude.{insert, ◌==◌}
 use Rattle.sg_pool.specs.Chains.{IsChain}
-use Rattle.sg_store.specs.Disk.{Mapping}
+use Rattle.sg_store.specs.Disk.{Mapping, max_capacity}
 use Rattle.sg_table.specs.Records.{start_of, single, run_at}
 use Rattle.sg_pool.specs.MappedRecords.{Seen, entries_by, contents_by, contents_of, mapping_in, number_in}
 use Rattle.sg_pool.specs.MappedRecords.{slot_numbers}
@@ -20,7 +20,6 @@ use Rattle.sg_pool.specs.MappedRecords.{IsConsistent}
 use Rattle.sg_table.specs.declared.run.Kind.{Kind}
 use Rattle.sg_table.specs.declared.run.Kind.TheVariants.{Data as DataRun, Anchored as AnchoredRun}
 use Rattle.sg_table.specs.declared.run.Run.{Run}
-use Rattle.sg_store.specs.declared.store.TheConstants.{MAX_CAPACITY}
 use Rattle.sg_block_map.specs.Joining.{joined, linked, mapping_as, put_block, IsWriting, KeepSlots}
 use Rattle.sg_block_map.specs.Runs.{end_of, singles_of, expanded, any_from, behind, begins}
 use Rattle.sg_block_map.specs.Runs.{AreChained, AreMaximal}
@@ -134,7 +133,7 @@ module _ (before : List Run) (done : Run) (rest : List Run) (slots : Slots) (lba
     (free : List ℕ) (bs : List (List ℕ)) (m : Mapping) (h : IsWriting before done rest slots lba)
     (taken : slots.free ≡ slot ∷ free) (len : length bs ≡ length slots.blocks)
     (same : AreSameBut slot (mapping_in slots.blocks) (mapping_in bs))
-    (seen : mapping_in bs slot done.kind ≡ m) (none : AreMaximal (lba + 1) (MAX_CAPACITY + 1) rest) where
+    (seen : mapping_in bs slot done.kind ≡ m) (none : AreMaximal (lba + 1) (max_capacity + 1) rest) where
   abbrev xs : List Run
   xs = expanded slots.next (before ++ done ∷ [])
 
@@ -147,9 +146,9 @@ module _ (before : List Run) (done : Run) (rest : List Run) (slots : Slots) (lba
   low : AreBetween 0 lba xs
   low = before-between slots.next before done lba h.maximal_before h.ends
 
-  high : AreBetween (lba + 1) (MAX_CAPACITY + 1) ys
-  high = between-expanded slots.next rest (lba + 1) (MAX_CAPACITY + 1)
-      (apart-loose rest (lba + 1) (lba + 1) (MAX_CAPACITY + 1) (omega arith) none)
+  high : AreBetween (lba + 1) (max_capacity + 1) ys
+  high = between-expanded slots.next rest (lba + 1) (max_capacity + 1)
+      (apart-loose rest (lba + 1) (lba + 1) (max_capacity + 1) (omega arith) none)
 
   was : expanded slots.next (before ++ done ∷ rest) ≡ xs ++ ys
   was = parted slots.next before done rest
@@ -162,7 +161,7 @@ module _ (before : List Run) (done : Run) (rest : List Run) (slots : Slots) (lba
   together_was = rw (was, taken) at h.consistent
 
   nowhere : (j : ℕ) → j < length (xs ++ ys) → start_of (xs ++ ys) j ≢ lba
-  nowhere = none-between xs ys 0 lba (lba + 1) (MAX_CAPACITY + 1) lba low high (omega arith)
+  nowhere = none-between xs ys 0 lba (lba + 1) (max_capacity + 1) lba low high (omega arith)
       (omega arith)
 
   taken_together : IsConsistent (expanded slots.next (before ++ done ∷ (new ∷ rest))) bs free
@@ -171,7 +170,7 @@ module _ (before : List Run) (done : Run) (rest : List Run) (slots : Slots) (lba
       (consistent-other (insert (xs ++ ys) (length xs) new) slots.blocks bs free (length slots.next)
       len (consistent-inserted (xs ++ ys) slots.blocks free (length slots.next) (length xs)
       new together_was
-      (index-between xs ys 0 lba (lba + 1) (MAX_CAPACITY + 1) low high (omega arith)) nowhere))
+      (index-between xs ys 0 lba (lba + 1) (max_capacity + 1) low high (omega arith)) nowhere))
 
   not_used : occurrences slot (slots_of (xs ++ ys)) ≡ 0
   not_used =
@@ -282,14 +281,14 @@ module _ (before : List Run) (done run : Run) (tail : List Run) (slots : Slots) 
       done.kind consistent_was.sorted within' (sym (get_or-append_seam xs' old' ys' old')) same once'
       ∙ ap (map.insert (contents_of (xs' ++ old' ∷ ys') slots.blocks) lba) seen)
 
-  passed_maximal : AreMaximal (lba + 1) (MAX_CAPACITY + 1) rest'
-  passed_maximal = passed-by (AreMaximal (lba + 1) (MAX_CAPACITY + 1)) slots.next run tail some'
-      (λ one. maximal-from tail (behind run) (any_from (MAX_CAPACITY + 1)) (any_from (lba + 1))
+  passed_maximal : AreMaximal (lba + 1) (max_capacity + 1) rest'
+  passed_maximal = passed-by (AreMaximal (lba + 1) (max_capacity + 1)) slots.next run tail some'
+      (λ one. maximal-from tail (behind run) (any_from (max_capacity + 1)) (any_from (lba + 1))
       (λ kind. omega (arith, behind-low run kind)) h.after.2)
       (λ many. (
         omega arith,
         omega arith,
-        maximal-from tail (behind run) (any_from (MAX_CAPACITY + 1))
+        maximal-from tail (behind run) (any_from (max_capacity + 1))
             (behind (rest_of slots.next run 1))
             (behind-at-most (rest_of slots.next run 1) run refl (omega arith)) h.after.2,
       ))
@@ -401,9 +400,9 @@ slot-there before done run tail slots lba h =
 
 -- no run begins at the address
 pub skip-maximal : (runs after : List Run) (run : Option Run) (at lba : ℕ)
-    → AreMaximal lba (MAX_CAPACITY + 1) (ahead_of runs run at ++ after)
-    → AreMaximal (lba + 1) (MAX_CAPACITY + 1) after → run_at run lba ≡ None
-    → AreMaximal (lba + 1) (MAX_CAPACITY + 1) (ahead_of runs run at ++ after)
+    → AreMaximal lba (max_capacity + 1) (ahead_of runs run at ++ after)
+    → AreMaximal (lba + 1) (max_capacity + 1) after → run_at run lba ≡ None
+    → AreMaximal (lba + 1) (max_capacity + 1) (ahead_of runs run at ++ after)
 skip-maximal runs after None at lba h k none = k
 skip-maximal runs after (Some run) at lba h k none = let off : run.start ≢ lba =
     λ same. not_there run lba none same in (omega (arith, h.0), h.1, h.2)

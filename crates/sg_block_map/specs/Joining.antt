@@ -2,8 +2,9 @@
 use Rattle.std.specs.Prelude.{◌≡◌, ℕ, ◌+◌, ◌<◌, ◌≤◌, List, ◌∷◌, ◌++◌, length, slice_set}
 use Rattle.std.specs.Prelude.{if◌then◌else◌, ◌==◌, Bool, true, false, Option, Some, None}
 use Rattle.std.specs.FinMap.{get, insert}
-use Rattle.sg_store.specs.Disk.{Mapping, remapped, used_among}
+use Rattle.sg_store.specs.Disk.{Mapping, max_capacity, max_pool, remapped, used_among}
 use Rattle.sg_store.specs.Disk.Mapping.{Data, Anchored}
+use Rattle.sg_store.specs.Meter.{max_count}
 use Rattle.sg_pool.specs.Chains.{IsChain}
 use Rattle.sg_pool.specs.MappedRecords.{slot_numbers}
 use Rattle.sg_pool.specs.Slots.{Slots}
@@ -17,7 +18,6 @@ use Rattle.sg_table.specs.Records.{same_kind}
 use Rattle.sg_table.specs.declared.run.Kind.{Kind}
 use Rattle.sg_table.specs.declared.run.Kind.TheVariants.{Data as DataRun, Anchored as AnchoredRun}
 use Rattle.sg_table.specs.declared.run.Run.{Run}
-use Rattle.sg_store.specs.declared.store.TheConstants.{MAX_CAPACITY, MAX_COUNT, MAX_POOL}
 use Rattle.sg_block_map.specs.Gathering.{AreGathered, AreNear}
 use Rattle.sg_block_map.specs.Metering.{FollowsLinks}
 use Rattle.sg_block_map.specs.Runs.{end_of, expanded, AreChained, AreMaximal, AreRuns}
@@ -46,7 +46,7 @@ pub record IsWriting (before : List Run) (done : Run) (rest : List Run) (slots :
       (length slots.next)
   pub maximal_before : AreMaximalIn (any_from 0) (begins done.kind done.start) before
   pub ends : end_of done ≡ lba
-  pub after : AreMaximal lba (MAX_CAPACITY + 1) rest
+  pub after : AreMaximal lba (max_capacity + 1) rest
   pub chained_before : AreChained slots.next before
   pub chained_after : AreChained slots.next rest
   pub front : 0 < done.count → IsChain slots.next done.first done.last done.count
@@ -80,7 +80,7 @@ abbrev pub PutsAddress : (done done' : Run) → (ahead ahead' : List Run) → (o
     → (lba : ℕ) → Mapping → Type 0
 PutsAddress done done' ahead ahead' old new lba mapping = (before after : List Run)
     → IsWriting before done (ahead ++ after) old lba
-    → AreMaximal (lba + 1) (MAX_CAPACITY + 1) after
+    → AreMaximal (lba + 1) (max_capacity + 1) after
     → IsPut before done done' (ahead ++ after) (ahead' ++ after) old new lba mapping
 
 -- The run that takes up the range has one address more of its kind, and the runs ahead are as near as before.
@@ -97,9 +97,9 @@ pub record GoesOn (done done' : Run) (ahead ahead' : List Run) (old new : Slots)
 pub record IsReadyFor (table : Table) (slots : Slots) (gathered : Drafted) (low high : ℕ) : Type 0
   where
     pub runs : AreRuns table.records slots table.room
-    pub gathered_runs : AreGathered table.records gathered low high (MAX_CAPACITY + 1)
-    pub table_size : table.room ≤ MAX_POOL
-    pub headroom : slots.links ≤ MAX_COUNT
+    pub gathered_runs : AreGathered table.records gathered low high (max_capacity + 1)
+    pub table_size : table.room ≤ max_pool
+    pub headroom : slots.links ≤ max_count
 
 -- The table has other runs over the pool, and no more than `most_moves` records were moved.
 pub record ChangesRuns (most_moves : ℕ) (before after : Table) (slots : Slots) : Type 0 where
@@ -112,7 +112,7 @@ pub record ChangesRuns (most_moves : ℕ) (before after : Table) (slots : Slots)
 pub record CanRemap (table : Table) (slots : Slots) (gathered : Drafted) (lba count : ℕ)
     (source : Source) : Type 0 where
   pub ready : IsReadyFor table slots gathered lba (lba + count)
-  pub range : (0 < count) × (lba + count ≤ MAX_CAPACITY)
+  pub range : (0 < count) × (lba + count ≤ max_capacity)
   pub blocks : HasBlocks source count
   pub free : count ≤ length slots.free
       + used_among (chained_contents table.records slots) lba count

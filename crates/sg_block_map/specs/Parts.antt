@@ -1,18 +1,17 @@
 -- What a `BlockMap` is made of.
 use Rattle.std.specs.Prelude.{◌≡◌, ℕ, ◌≤◌}
 use Rattle.std.proofs.Common.{refl}
-use Rattle.sg_store.specs.Disk.{IsWellFormed}
+use Rattle.sg_store.specs.Disk.{IsWellFormed, max_capacity, max_pool}
 use Rattle.sg_table.specs.Draft.{empty_draft}
 use Rattle.sg_pool.specs.Slots.{Slots}
 use Rattle.sg_table.specs.Table.{Table}
-use Rattle.sg_store.specs.declared.store.TheConstants.{MAX_CAPACITY, MAX_POOL}
 use Rattle.sg_block_map.specs.Runs.{AreRuns, chained_contents}
 use Rattle.sg_block_map.specs.declared.block_map.BlockMap.{BlockMap}
 
 -- A capacity, a table with its counts, and a pool with its links make up a disk.
 pub record FitTogether (capacity : ℕ) (table : Table) (pool : Slots) : Type 0 where
-  pub capacity_fits : capacity ≤ MAX_CAPACITY
-  pub pool_fits : table.room ≤ MAX_POOL
+  pub capacity_fits : capacity ≤ max_capacity
+  pub pool_fits : table.room ≤ max_pool
   pub well_formed : IsWellFormed capacity (chained_contents table.records pool)
   pub runs : AreRuns table.records pool table.room
 

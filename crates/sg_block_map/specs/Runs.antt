@@ -3,14 +3,13 @@ use Rattle.std.specs.Prelude.{◌≡◌, ℕ, ◌+◌, ◌<◌, ◌≤◌, zero,
 use Rattle.std.specs.Prelude.{length, if◌then◌else◌}
 use Rattle.std.specs.List.{sum_by}
 use Rattle.sg_pool.specs.Chains.{IsChain}
-use Rattle.sg_store.specs.Disk.{Contents, IsWellFormed}
+use Rattle.sg_store.specs.Disk.{Contents, IsWellFormed, max_capacity}
 use Rattle.sg_table.specs.Records.{single, same_kind}
 use Rattle.sg_pool.specs.MappedRecords.{contents_of}
 use Rattle.sg_pool.specs.Slots.{Slots}
 use Rattle.sg_pool.specs.MappedRecords.{IsConsistent}
 use Rattle.sg_table.specs.declared.run.Kind.{Kind}
 use Rattle.sg_table.specs.declared.run.Run.{Run}
-use Rattle.sg_store.specs.declared.store.TheConstants.{MAX_CAPACITY}
 use Rattle.sg_block_map.specs.MaximalRuns.{Extent}
 
 -- The address past a run.
@@ -41,12 +40,6 @@ abbrev pub AreChained : (next : List ℕ) → List Run → Type 0
 AreChained next [] = Unit
 AreChained next (run ∷ runs) = IsChain next run.first run.last run.count × AreChained next runs
 
--- The runs rise, from one address to another. None is empty, and no two have an address in common.
-abbrev pub AreApart : (low high : ℕ) → List Run → Type 0
-AreApart low high [] = low ≤ high
-AreApart low high (run ∷ runs) =
-    (low ≤ run.start) × (0 < run.count) × AreApart (end_of run) high runs
-
 -- From which address on a run of each kind may begin.
 abbrev pub Bound : Type 0
 Bound = Kind → ℕ
@@ -60,10 +53,6 @@ any_from lba kind = lba
 abbrev pub behind : Run → Bound
 behind run kind = if same_kind kind run.kind then end_of run + 1 else end_of run
 
--- Runs before one of a kind that begins at an address do not reach it if they are of its kind.
-abbrev pub begins : Kind → ℕ → Bound
-begins kind lba other = if same_kind other kind then lba else lba + 1
-
 -- The runs rise between two bounds. None is empty, and none could be joined to the next.
 abbrev pub AreMaximalIn : (low high : Bound) → List Run → Type 0
 AreMaximalIn low high [] = (kind : Kind) → low kind ≤ high kind
@@ -74,11 +63,6 @@ AreMaximalIn low high (run ∷ runs) =
 abbrev pub AreMaximal : (low high : ℕ) → List Run → Type 0
 AreMaximal low high runs = AreMaximalIn (any_from low) (any_from high) runs
 
--- Single addresses rise, from one address and below another.
-abbrev pub AreBetween : (low high : ℕ) → List Run → Type 0
-AreBetween low high [] = low ≤ high
-AreBetween low high (run ∷ runs) = (low ≤ run.start) × AreBetween (run.start + 1) high runs
-
 -- The contents of a disk with these runs and slots: those of the single addresses.
 abbrev pub chained_contents : List Run → Slots → Contents
 chained_contents records slots = contents_of (expanded slots.next records) slots.blocks
@@ -87,13 +71,30 @@ chained_contents records slots = contents_of (expanded slots.next records) slots
 abbrev pub AreOnDisk : (capacity : ℕ) → List Run → Slots → Type 0
 AreOnDisk capacity records slots = IsWellFormed capacity (chained_contents records slots)
 
--- How many addresses runs have.
-abbrev pub blocks_of : List Run → ℕ
-blocks_of runs = sum_by (λ (run : Run). run.count) runs
-
 -- Maximal runs over the slots of a pool: each slot has one address or is free.
 pub record AreRuns (records : List Run) (slots : Slots) (room : ℕ) : Type 0 where
-  pub maximal : AreMaximal 0 (MAX_CAPACITY + 1) records
+  pub maximal : AreMaximal 0 (max_capacity + 1) records
   pub chained : AreChained slots.next records
   pub consistent : IsConsistent (expanded slots.next records) slots.blocks slots.free room
   pub links : length slots.next ≡ room
+
+-- ---- Cited by private contracts alone
+
+-- The runs rise, from one address to another. None is empty, and no two have an address in common.
+abbrev pub AreApart : (low high : ℕ) → List Run → Type 0
+AreApart low high [] = low ≤ high
+AreApart low high (run ∷ runs) =
+    (low ≤ run.start) × (0 < run.count) × AreApart (end_of run) high runs
+
+-- Runs before one of a kind that begins at an address do not reach it if they are of its kind.
+abbrev pub begins : Kind → ℕ → Bound
+begins kind lba other = if same_kind other kind then lba else lba + 1
+
+-- Single addresses rise, from one address and below another.
+abbrev pub AreBetween : (low high : ℕ) → List Run → Type 0
+AreBetween low high [] = low ≤ high
+AreBetween low high (run ∷ runs) = (low ≤ run.start) × AreBetween (run.start + 1) high runs
+
+-- How many addresses runs have.
+abbrev pub blocks_of : List Run → ℕ
+blocks_of runs = sum_by (λ (run : Run). run.count) runs

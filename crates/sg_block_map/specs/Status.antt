@@ -5,7 +5,7 @@ use Rattle.std.specs.List.{count_by}
 use Rattle.sg_table.specs.Records.{start_of, IsNext}
 use Rattle.sg_table.specs.declared.cursor.Cursor.{Cursor}
 use Rattle.sg_table.specs.declared.run.Run.{Run}
-use Rattle.sg_store.specs.declared.store.TheConstants.{MAX_CAPACITY, MAX_POOL}
+use Rattle.sg_store.specs.Disk.{max_capacity, max_pool}
 use Rattle.sg_block_map.specs.Gathering.{end_at}
 use Rattle.sg_block_map.specs.MaximalRuns.{meets}
 use Rattle.sg_block_map.specs.Runs.{AreMaximal, extent_of}
@@ -15,9 +15,9 @@ use Rattle.sg_block_map.specs.Runs.{AreMaximal, extent_of}
 pub record IsRunTable (capacity : ℕ) (records : List Run) : Type 0 where
   pub maximal : AreMaximal 0 (capacity + 1) records
   pub filled : (i : ℕ) → i < length records → start_of records i < end_at records i
-  pub short : (i : ℕ) → i < length records → end_at records i ≤ start_of records i + MAX_POOL
-  pub table_size : length records ≤ MAX_POOL
-  pub capacity_fits : capacity ≤ MAX_CAPACITY
+  pub short : (i : ℕ) → i < length records → end_at records i ≤ start_of records i + max_pool
+  pub table_size : length records ≤ max_pool
+  pub capacity_fits : capacity ≤ max_capacity
 
 -- The cursor is at the first run that has the address or one past it, which was visited if there is
 -- one.

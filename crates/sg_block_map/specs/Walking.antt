@@ -6,7 +6,7 @@ use Rattle.sg_pool.specs.Chains.{AreBelow}
 use Rattle.sg_pool.specs.Slots.{Slots}
 use Rattle.sg_table.specs.Records.{slots_of}
 use Rattle.sg_table.specs.declared.run.Run.{Run}
-use Rattle.sg_store.specs.declared.store.TheConstants.{MAX_CAPACITY}
+use Rattle.sg_store.specs.Disk.{max_capacity}
 use Rattle.sg_block_map.specs.Runs.{expanded, chained_contents, AreApart, AreChained}
 use Rattle.sg_block_map.specs.Splitting.{rest_of, IsSplit}
 
@@ -21,7 +21,7 @@ passed next run more = if run.count == 1 then more else rest_of next run 1 ∷ m
 
 -- Runs from an address on, over chains of slots that are below a count.
 pub record AreAhead (next : List ℕ) (count lba : ℕ) (runs : List Run) : Type 0 where
-  pub apart : AreApart lba MAX_CAPACITY runs
+  pub apart : AreApart lba max_capacity runs
   pub chained : AreChained next runs
   pub below : AreBelow count (slots_of (expanded next runs))
 

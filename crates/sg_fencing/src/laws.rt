@@ -208,8 +208,9 @@ pub fn preemption_unregisters()
     one_key_each();
 }
 
-/// After a PREEMPT or a PREEMPT AND ABORT, over a list of commands, while a reservation of any type is held, no command that
-/// writes of such an initiator ends with GOOD until the initiator registers again.
+/// After a PREEMPT or a PREEMPT AND ABORT, over a list of commands, while a reservation of any type is
+/// held, no command that writes of such an initiator ends with GOOD until the initiator registers
+/// again.
 pub fn the_preempted_write_nothing()
     ensures { PreemptedWriteNothing }
 {

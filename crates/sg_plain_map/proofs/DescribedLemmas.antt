@@ -5,7 +5,7 @@ use Rattle.std.proofs.Common.{inl, inr, Option, Some, None}
 use Rattle.std.proofs.lemmas.Bool.{cases_lt}
 use Rattle.std.specs.Prelude.{min}
 use Rattle.std.specs.FinMap.{get}
-use Rattle.sg_store.specs.Disk.{IsWellFormed}
+use Rattle.sg_store.specs.Disk.{IsWellFormed, max_capacity, max_pool}
 use Rattle.sg_store.specs.LbaStatus.{descriptor_at, status_at}
 use Rattle.sg_table.specs.Records.{start_of, IsSorted, IsLowerBound, IsNext, ahead}
 use Rattle.sg_pool.specs.MappedRecords.{contents_of, status_of_kind}
@@ -20,7 +20,6 @@ use Rattle.sg_store.specs.declared.lba_status.TheConstants.{MAX_ADDRESSES}
 use Rattle.sg_table.specs.declared.run.Kind.{Kind}
 use Rattle.sg_table.specs.declared.run.Kind.TheVariants.{Data as DataKind, Anchored as AnchoredKind}
 use Rattle.sg_table.specs.declared.run.Run.{Run}
-use Rattle.sg_store.specs.declared.store.TheConstants.{MAX_CAPACITY, MAX_POOL}
 use Rattle.sg_table.specs.declared.cursor.Cursor.{Cursor}
 use Rattle.sg_pool.proofs.MappedLemmas.{status-mapped, status-unmapped}
 use Rattle.sg_table.proofs.RecordLemmas.{start_of-read, at_or_past, no_run, none_at}
@@ -31,8 +30,8 @@ use Rattle.sg_store.proofs.DescriptorLemmas.{described}
 use Rattle.sg_store.proofs.WellFormedLemmas.{below-some}
 
 pub table-of : (capacity : ℕ) (rs : List Run) (bs : List (List ℕ)) (free : List ℕ) (room : ℕ)
-    → IsWellFormed capacity (contents_of rs bs) → IsConsistent rs bs free room → room ≤ MAX_POOL
-    → capacity ≤ MAX_CAPACITY
+    → IsWellFormed capacity (contents_of rs bs) → IsConsistent rs bs free room → room ≤ max_pool
+    → capacity ≤ max_capacity
     → IsTableOf capacity rs
 table-of capacity rs bs free room whole consistent small fits = record {
   sorted = consistent.sorted;

@@ -2,7 +2,8 @@
 use Rattle.std.specs.Prelude.{◌≡◌, ℕ, ◌+◌, ◌-◌, ◌<◌, ◌≤◌, List, length}
 use Rattle.std.specs.Prelude.{Some}
 use Rattle.std.specs.List.{All, splice}
-use Rattle.sg_store.specs.Disk.{Contents, used_at}
+use Rattle.sg_store.specs.Disk.{Contents, max_capacity, max_pool, used_at}
+use Rattle.sg_store.specs.Meter.{max_count}
 use Rattle.sg_plain_map.specs.PlainCost.{plain_least, plain_price}
 use Rattle.sg_table.specs.Records.{HaveSlots, IsLowerBound, IsNext, IsSorted, run_at}
 use Rattle.sg_pool.specs.MappedRecords.{contents_of}
@@ -13,7 +14,6 @@ use Rattle.sg_table.specs.Draft.{Drafted}
 use Rattle.sg_table.specs.declared.run.Kind.{Kind}
 use Rattle.sg_table.specs.declared.run.Run.{Run}
 use Rattle.sg_table.specs.declared.cursor.Cursor.{Cursor}
-use Rattle.sg_store.specs.declared.store.TheConstants.{MAX_CAPACITY, MAX_COUNT, MAX_POOL}
 
 -- The contents of a disk with this table and these slots.
 abbrev pub stored : Table → Slots → Contents
@@ -26,6 +26,8 @@ IsSingle run = run.count ≡ 1
 abbrev pub AreSingle : List Run → Type 0
 AreSingle records = All IsSingle records
 
+-- ---- Cited by private contracts alone
+
 -- The cursor is at the first record that is not before the address, which was visited if there is
 -- one.
 pub record IsAt (records : List Run) (cursor : Cursor) (lba : ℕ) : Type 0 where
@@ -37,18 +39,18 @@ pub record IsAt (records : List Run) (cursor : Cursor) (lba : ℕ) : Type 0 wher
 -- the visits can be counted.
 pub record IsReady (table : Table) (slots : Slots) (from lba count : ℕ) : Type 0 where
   pub index : IsLowerBound table.records from lba
-  pub range : lba + count ≤ MAX_CAPACITY
+  pub range : lba + count ≤ max_capacity
   pub single : AreSingle table.records
   pub consistent : IsConsistent table.records slots.blocks slots.free table.room
-  pub table_size : table.room ≤ MAX_POOL
-  pub headroom : table.visits ≤ MAX_COUNT
+  pub table_size : table.room ≤ max_pool
+  pub headroom : table.visits ≤ max_count
 
 -- The blocks of a table can be read: it is sorted, each record has a slot, and there are no more
 -- records than allowed.
 pub record IsReadable (records : List Run) (slots : Slots) : Type 0 where
   pub sorted : IsSorted records
   pub have_slots : HaveSlots records (length slots.blocks)
-  pub table_size : length records ≤ MAX_POOL
+  pub table_size : length records ≤ max_pool
 
 -- The table has other records over the pool, each of one address, of which no more than `most_moves`
 -- were moved, and visits were counted.
@@ -90,7 +92,7 @@ pub record HasRoom (table : Table) (slots : Slots) (draft : Drafted) (cursor : C
     Type 0 where
   pub draft_room : length draft.records < draft.room
   pub free : 0 < length slots.free + used_at (edited_contents table slots draft cursor) lba
-  pub table_size : length table.records ≤ MAX_POOL
+  pub table_size : length table.records ≤ max_pool
 
 -- An address is passed, which has a slot or not, and its record drafted: the cursor goes past the
 -- record that it has, and else a slot is taken. It is drafted with a kind, and stays as it is if it had

@@ -4,14 +4,14 @@ use Rattle.std.specs.Prelude.{Option, Some, None, if◌then◌else◌}
 use Rattle.sg_table.specs.Records.{start_of, IsSorted, same_kind}
 use Rattle.sg_table.specs.declared.run.Kind.{Kind}
 use Rattle.sg_table.specs.declared.run.Run.{Run}
-use Rattle.sg_store.specs.declared.store.TheConstants.{MAX_CAPACITY, MAX_POOL}
+use Rattle.sg_store.specs.Disk.{max_capacity, max_pool}
 
 -- A sorted table of a disk, of which no record lies past the end. Both are no larger than allowed.
 pub record IsTableOf (capacity : ℕ) (records : List Run) : Type 0 where
   pub sorted : IsSorted records
   pub within : (i : ℕ) → i < length records → start_of records i < capacity
-  pub table_size : length records ≤ MAX_POOL
-  pub capacity_fits : capacity ≤ MAX_CAPACITY
+  pub table_size : length records ≤ max_pool
+  pub capacity_fits : capacity ≤ max_capacity
 
 -- The record, if it has a kind.
 abbrev pub of_kind : Kind → Option Run → Option Run

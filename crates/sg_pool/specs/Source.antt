@@ -1,9 +1,8 @@
 -- Where the blocks of a range come from.
 use Rattle.std.specs.Prelude.{◌≡◌, ℕ, ◌<◌, List, length}
-use Rattle.sg_store.specs.Disk.{block_at}
+use Rattle.sg_store.specs.Disk.{block_at, block_length}
 use Rattle.sg_pool.specs.declared.source.Source.{Source}
 use Rattle.sg_pool.specs.declared.source.Source.TheVariants.{Joined, Repeated}
-use Rattle.sg_store.specs.declared.store.TheConstants.{BLOCK_LENGTH}
 
 -- The block for an index of the range.
 abbrev pub block_of : Source → ℕ → List ℕ
@@ -12,4 +11,4 @@ block_of (Repeated block) index = block.now
 
 -- The block for each index below `count` has its length.
 abbrev pub HasBlocks : Source → (count : ℕ) → Type 0
-HasBlocks source count = (index : ℕ) → index < count → length (block_of source index) ≡ BLOCK_LENGTH
+HasBlocks source count = (index : ℕ) → index < count → length (block_of source index) ≡ block_length

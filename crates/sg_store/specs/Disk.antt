@@ -6,7 +6,10 @@ use Rattle.std.specs.Prelude.{List, [], ◌∷◌, Option, Some, None, length, t
 use Rattle.std.specs.List.{flat_map, range_with_len, count_by}
 use Rattle.std.specs.Ordering.{nat_cmp}
 use Rattle.std.specs.FinMap.{FinMap, get, insert, contains_key, retain_keys, empty, entries, len}
-use Rattle.sg_store.specs.declared.store.TheConstants.{BLOCK_LENGTH}
+
+-- The length of a block, in bytes.
+abbrev pub block_length : ℕ
+block_length = 512
 
 -- The most addresses that a disk can have, and the most of them that can be mapped or anchored at
 -- once.
@@ -39,7 +42,7 @@ empty_disk capacity pool = record { capacity = capacity; pool = pool; contents =
 
 -- Data is a whole block.
 abbrev pub HasBlockLength : Mapping → Type 0
-HasBlockLength (Data block) = length block ≡ BLOCK_LENGTH
+HasBlockLength (Data block) = length block ≡ block_length
 HasBlockLength Anchored = Unit
 
 -- Each address with a block of the pool is one of the disk's, and its data is a whole block.
@@ -48,7 +51,7 @@ pub record IsWellFormed (capacity : ℕ) (contents : Contents) : Type 0 where
       (lba < capacity) × HasBlockLength mapping
 
 unfoldable pub zero_block : List ℕ
-zero_block = replicate BLOCK_LENGTH 0
+zero_block = replicate block_length 0
 
 -- The block that is read; where there is no data, it is zeros (LBPRZ 1).
 abbrev pub data_in : Option Mapping → List ℕ
@@ -66,7 +69,7 @@ blocks contents lba count = flat_map (block contents) (range_with_len lba count)
 
 -- The block at an index of blocks that are joined.
 abbrev pub block_at : List ℕ → ℕ → List ℕ
-block_at bytes index = take BLOCK_LENGTH (drop (BLOCK_LENGTH * index) bytes)
+block_at bytes index = take block_length (drop (block_length * index) bytes)
 
 -- The addresses from one on, each with the mapping for its index.
 abbrev pub addressed : (lba count : ℕ) → (mapping : ℕ → Mapping) → List (ℕ × Mapping)

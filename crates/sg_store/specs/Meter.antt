@@ -1,7 +1,6 @@
 -- What the calls of a store cost.
-use Rattle.std.specs.Prelude.{◌≡◌, ℕ, ◌+◌, ◌≤◌, Result, OnOk}
+use Rattle.std.specs.Prelude.{◌≡◌, ℕ, ◌+◌, ◌^◌, ◌≤◌, Result, OnOk}
 use Rattle.sg_store.specs.declared.store.Counts.{Counts}
-use Rattle.sg_store.specs.declared.store.TheConstants.{MAX_COUNT}
 
 -- The counts since the last restart; the visits to map records since the store was made, which no
 -- restart lowers; and the number of restarts.
@@ -21,11 +20,15 @@ new_meter = record { counts = no_counts; total = 0; restarts = 0 }
 abbrev pub restarted : Meter → Meter
 restarted meter = record { counts = no_counts; total = meter.total; restarts = meter.restarts + 1 }
 
+-- The most that a count may have reached before a call.
+abbrev pub max_count : ℕ
+max_count = 2 ^ 62
+
 -- The counts of a call can be added without overflow.
 pub record HasHeadroom (counts : Counts) : Type 0 where
-  pub visits : counts.visits ≤ MAX_COUNT
-  pub probes : counts.probes ≤ MAX_COUNT
-  pub links : counts.links ≤ MAX_COUNT
+  pub visits : counts.visits ≤ max_count
+  pub probes : counts.probes ≤ max_count
+  pub links : counts.links ≤ max_count
 
 -- At most how many addresses a call over a range compares.
 abbrev pub probe_bound : ℕ

@@ -12,7 +12,7 @@ use Rattle.std.proofs.lemmas.List.Elements.{All-append, All-same}
 use Rattle.std.specs.Prelude.{insert, remove}
 use Rattle.std.specs.List.{All, splice}
 use Rattle.sg_table.specs.Leaves.{LeafTable, AreFilledBut, IsAppended, IsFilled, joined, leaf_at}
-use Rattle.sg_table.specs.declared.leaves.TheConstants.{MIN_LEAF}
+use Rattle.sg_table.specs.Leaves.{min_leaf}
 use Rattle.sg_table.specs.declared.run.Run.{Run}
 use Rattle.sg_table.proofs.BalanceLemmas.{filled-one}
 use Rattle.sg_table.proofs.LeavesLemmas.{joined-append}
@@ -50,14 +50,14 @@ removed-behind ls n m le =
     ∙ ap (λ i. take n ls ++ remove (drop m ls) i) none ∙ ap (λ x. take n ls ++ x) (drop-drop 1 m ls)
 
 pub filled-more : (ls : List (List Run)) (k : ℕ) → k < length ls → All IsFilled (take k ls)
-    → MIN_LEAF ≤ length (leaf_at ls k) → All IsFilled (take (k + 1) ls)
+    → min_leaf ≤ length (leaf_at ls k) → All IsFilled (take (k + 1) ls)
 filled-more ls k lt before le =
     All-same IsFilled (take (k + 1) ls) (take k ls ++ leaf_at ls k ∷ []) (take_more ls k [] lt)
     (All-append IsFilled (take k ls) (leaf_at ls k ∷ []) before (filled-one (leaf_at ls k) le))
 
 -- a new leaf comes behind one that is full
 pub opened-behind : (t u : LeafTable) (k : ℕ) → k < length t.leaves → AreFilledBut t.leaves k
-    → MIN_LEAF ≤ length (leaf_at t.leaves k) → u ≡ record t { leaves = insert t.leaves (k + 1) [] }
+    → min_leaf ≤ length (leaf_at t.leaves k) → u ≡ record t { leaves = insert t.leaves (k + 1) [] }
     → IsAppended t u k (k + 1) []
 opened-behind t u k lt but le e =
     let ls : List (List Run) = t.leaves in

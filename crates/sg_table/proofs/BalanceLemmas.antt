@@ -12,7 +12,7 @@ use Rattle.std.proofs.lemmas.List.Elements.{All-take}
 use Rattle.std.specs.Prelude.{remove}
 use Rattle.std.specs.List.{All}
 use Rattle.sg_table.specs.Leaves.{AreBalanced, AreFilledBut, IsFilled, joined, leaf_at, pair_at}
-use Rattle.sg_table.specs.declared.leaves.TheConstants.{MIN_LEAF}
+use Rattle.sg_table.specs.Leaves.{min_leaf}
 use Rattle.sg_table.specs.declared.run.Run.{Run}
 
 -- two neighbours become one leaf
@@ -91,7 +91,7 @@ pub filled-around : (before after middle : List (List Run)) → All IsFilled bef
 filled-around before after middle p q r =
     All-append IsFilled before (middle ++ after) p (All-append IsFilled middle after q r)
 
-pub filled-one : (leaf : List Run) → MIN_LEAF ≤ length leaf → All IsFilled (leaf ∷ [])
+pub filled-one : (leaf : List Run) → min_leaf ≤ length leaf → All IsFilled (leaf ∷ [])
 filled-one leaf le = All-cons IsFilled leaf [] le (All-nil IsFilled)
 
 pub list-split : (ls : List (List Run)) (k : ℕ) → k < length ls
@@ -101,17 +101,17 @@ list-split ls k lt =
 
 -- all leaves have enough records where the one in work has
 pub filled-all : (ls : List (List Run)) (k : ℕ) → k < length ls → AreFilledBut ls k
-    → MIN_LEAF ≤ length (leaf_at ls k) → All IsFilled ls
+    → min_leaf ≤ length (leaf_at ls k) → All IsFilled ls
 filled-all ls k lt but le =
     All-same IsFilled ls (take k ls ++ leaf_at ls k ∷ drop (k + 1) ls) (list-split ls k lt)
     (filled-around (take k ls) (drop (k + 1) ls) (leaf_at ls k ∷ []) but.before
     (filled-one (leaf_at ls k) le) but.after)
 
 -- and there are then not more leaves than the records fill
-pub filled-count : (ls : List (List Run)) → All IsFilled ls → MIN_LEAF * length ls ≤ length (joined ls)
+pub filled-count : (ls : List (List Run)) → All IsFilled ls → min_leaf * length ls ≤ length (joined ls)
 filled-count [] all = omega arith
 filled-count (leaf ∷ ls) all =
-    let first : MIN_LEAF ≤ length leaf = All-head IsFilled leaf ls all in
+    let first : min_leaf ≤ length leaf = All-head IsFilled leaf ls all in
     let rest = filled-count ls (All-tail IsFilled leaf ls all) in
     omega (arith, length-append leaf (joined ls))
 
@@ -132,7 +132,7 @@ filled-but ls k lt balanced =
 
 -- the leaf in work, which has too few records, and its neighbour
 pub record IsPair (ls : List (List Run)) (left : ℕ) : Type 0 where
-  pub size : MIN_LEAF ≤ length (leaf_at ls left) + length (leaf_at ls (left + 1))
+  pub size : min_leaf ≤ length (leaf_at ls left) + length (leaf_at ls (left + 1))
   pub before : All IsFilled (take left ls)
   pub behind : All IsFilled (drop (left + 2) ls)
 
@@ -140,7 +140,7 @@ pub pair-of : (ls : List (List Run)) (k left : ℕ) → left ≡ k - 1 → k < l
     → AreFilledBut ls k → IsPair ls left
 pair-of ls zero left e lt more but =
     let first : left ≡ 0 = omega arith in
-    let next : MIN_LEAF ≤ length (get_or (drop 1 ls) 0 []) =
+    let next : min_leaf ≤ length (get_or (drop 1 ls) 0 []) =
     but.after 0 [] (omega (arith, length-drop 1 ls)) in
     let at : get_or (drop 1 ls) 0 [] ≡ leaf_at ls 1 = get_or-drop 1 ls 0 [] in
     let rest : drop 1 (drop 1 ls) ≡ drop 2 ls = drop-drop 1 1 ls in
@@ -151,7 +151,7 @@ pair-of ls zero left e lt more but =
     })
 pair-of ls (suc k) left e lt more but =
     let first : left ≡ k = omega arith in
-    let own : MIN_LEAF ≤ length (get_or (take (suc k) ls) k []) =
+    let own : min_leaf ≤ length (get_or (take (suc k) ls) k []) =
     but.before k [] (omega (arith, length-take-le (suc k) ls (omega arith))) in
     let at : get_or (take (suc k) ls) k [] ≡ leaf_at ls k = get_or-take (suc k) ls k [] (omega arith) in
     let front : take k (take (suc k) ls) ≡ take k ls = take-take k (suc k) ls (omega arith) in

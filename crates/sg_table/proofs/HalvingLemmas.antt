@@ -4,10 +4,9 @@ use Rattle.std.proofs.Math.Nat.{mul-le-mul_left, pow-succ'}
 use Rattle.std.proofs.Math.Pow.{pow_mono}
 use Rattle.std.proofs.lemmas.Nat.{pow-add}
 use Rattle.std.proofs.lemmas.Bool.{cases_lt}
+use Rattle.sg_table.specs.Leaves.{max_leaf, min_leaf}
 use Rattle.sg_table.specs.Search.{CostsHalving, CostsSearch}
 use Rattle.sg_table.specs.Table.{search_bound}
-use Rattle.sg_table.specs.declared.leaf.TheConstants.{MAX_LEAF}
-use Rattle.sg_table.specs.declared.leaves.TheConstants.{MIN_LEAF}
 use Rattle.sg_table.specs.declared.table.TheConstants.{MAX_RECORDS}
 
 twice : (s : ℕ) → 2 ^ (s + 1) ≡ 2 * 2 ^ s
@@ -48,7 +47,7 @@ search-one p c is =
     record { most_probes = omega arith; fewest_probes = omega arith; one_leaf = λ _. is }
 
 -- a leaf takes seven or eight probes
-eight : (p c : ℕ) → CostsHalving c p → MIN_LEAF ≤ c → c ≤ MAX_LEAF → (7 ≤ p) × (p ≤ 8)
+eight : (p c : ℕ) → CostsHalving c p → min_leaf ≤ c → c ≤ max_leaf → (7 ≤ p) × (p ≤ 8)
 eight p c is enough fits =
     let most = is.most_probes in
     let least = is.fewest_probes in (
@@ -65,7 +64,7 @@ eight p c is enough fits =
 
 -- a leaf of several, after a search by their first records
 pub search-leaves : (q p leaves leaf c : ℕ) → CostsHalving leaves q → CostsHalving leaf p → 1 ≤ leaves
-    → MIN_LEAF ≤ leaf → leaf ≤ MAX_LEAF → MIN_LEAF * (leaves + 1) ≤ c → c ≤ MAX_LEAF * (leaves + 1)
+    → min_leaf ≤ leaf → leaf ≤ max_leaf → min_leaf * (leaves + 1) ≤ c → c ≤ max_leaf * (leaves + 1)
     → CostsSearch c (q + p)
 search-leaves q p leaves leaf c first is some enough fits filled full =
     let bounds = eight p leaf is enough fits in

@@ -10,11 +10,9 @@ use Rattle.std.proofs.lemmas.List.Elements.{All-cons, All-head, All-tail}
 use Rattle.std.specs.List.{All}
 use Rattle.std.specs.Prelude.{insert, remove}
 use Rattle.sg_table.specs.Leaves.{AreBalanced, FitsLeaf, addresses, count_before, first_addresses, joined}
-use Rattle.sg_table.specs.Leaves.{leaf_at}
+use Rattle.sg_table.specs.Leaves.{leaf_at, max_leaf, min_leaf}
 use Rattle.sg_table.specs.Records.{start_of, IsSorted, IsLowerBound}
 use Rattle.sg_table.specs.Search.{AreRising, IsFirstFrom, CostsHalving, CostsSearch, address_at}
-use Rattle.sg_table.specs.declared.leaf.TheConstants.{MAX_LEAF}
-use Rattle.sg_table.specs.declared.leaves.TheConstants.{MIN_LEAF}
 use Rattle.sg_table.specs.declared.run.Run.{Run}
 use Rattle.sg_table.proofs.BalanceLemmas.{filled-count}
 use Rattle.sg_table.proofs.HalvingLemmas.{search-leaves, search-one}
@@ -57,10 +55,10 @@ firsts-remove ls new k is =
     sym (map-remove (λ (l : List Run). start_of l 0) ls k) ∙ ap first_addresses (sym is)
 
 -- leaves have no more records than fit
-fits-count : (ls : List (List Run)) → All FitsLeaf ls → length (joined ls) ≤ MAX_LEAF * length ls
+fits-count : (ls : List (List Run)) → All FitsLeaf ls → length (joined ls) ≤ max_leaf * length ls
 fits-count [] all = omega arith
 fits-count (leaf ∷ ls) all =
-    let first : length leaf ≤ MAX_LEAF = All-head FitsLeaf leaf ls all in
+    let first : length leaf ≤ max_leaf = All-head FitsLeaf leaf ls all in
     let rest = fits-count ls (All-tail FitsLeaf leaf ls all) in
     omega (arith, length-append leaf (joined ls))
 
@@ -78,15 +76,15 @@ start_of-leaf ls k i j lt inside e =
 
 module _ (ls : List (List Run)) (sorted : IsSorted (joined ls)) (balanced : AreBalanced ls)
     (some_leaf : 1 ≤ length ls) where
-  filled : 1 < length ls → All (λ leaf. MIN_LEAF ≤ length leaf) ls
+  filled : 1 < length ls → All (λ leaf. min_leaf ≤ length leaf) ls
   filled many = ⊎_elim (λ (one : length ls ≡ 1). absurd (omega arith)) (λ all. all) balanced
 
   -- the first records of two leaves
   firsts-rise : (i j : ℕ) → i < j → j < length ls → (count_before ls i < count_before ls j)
       × (count_before ls j < length (joined ls))
   firsts-rise i j lt end =
-      let some : MIN_LEAF ≤ length (leaf_at ls i) = filled (omega arith) i [] (omega arith) in
-      let last : MIN_LEAF ≤ length (leaf_at ls j) = filled (omega arith) j [] end in (
+      let some : min_leaf ≤ length (leaf_at ls i) = filled (omega arith) i [] (omega arith) in
+      let last : min_leaf ≤ length (leaf_at ls j) = filled (omega arith) j [] end in (
         omega (
           arith,
           count_before-more ls i (omega arith),
@@ -104,7 +102,7 @@ module _ (ls : List (List Run)) (sorted : IsSorted (joined ls)) (balanced : AreB
   first-at : (i k : ℕ) → k ≡ 1 + i → k < length ls
       → address_at (drop 1 (first_addresses ls)) i ≡ start_of (joined ls) (count_before ls k)
   first-at i k e lt =
-      let some : MIN_LEAF ≤ length (leaf_at ls k) = filled (omega arith) k [] lt in
+      let some : min_leaf ≤ length (leaf_at ls k) = filled (omega arith) k [] lt in
       get_or_after_one (first_addresses ls) i 0 ∙ ap (address_at (first_addresses ls)) (sym e)
       ∙ get_or-map (λ (leaf : List Run). start_of leaf 0) ls k [] 0 lt
       ∙ start_of-leaf ls k 0 (count_before ls k) lt (omega arith) (omega arith)
@@ -225,8 +223,8 @@ module _ (ls : List (List Run)) (sorted : IsSorted (joined ls)) (balanced : AreB
       let leaves_is : CostsHalving (length ls - 1) q = rw other-firsts at first in
       elim (cases_lt 1 (length ls)) [
         | inl many ↦
-            let some : MIN_LEAF ≤ length leaf = filled many k [] within in
-            let room : length leaf ≤ MAX_LEAF = fits k [] within in
+            let some : min_leaf ≤ length leaf = filled many k [] within in
+            let room : length leaf ≤ max_leaf = fits k [] within in
             let back : length ls ≡ length ls - 1 + 1 = omega arith in
             let fewest = filled-count ls (filled many) in
             let most = fits-count ls fits in

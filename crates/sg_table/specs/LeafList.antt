@@ -18,6 +18,8 @@ pub record AreSlots (slots : List (List Run)) (order free : List ℕ) : Type 0 w
   pub once : IsEachOnce (length slots) (order ++ free)
   pub count : length order + length free ≡ length slots
 
+-- ---- Cited by private contracts alone
+
 -- A slot is no longer free, or is new. Its leaf has no records, and the others are as they were.
 pub record IsTaken (old new : List (List Run)) (free free' : List ℕ) (slot : ℕ) : Type 0 where
   pub empty : leaf_at new slot ≡ []

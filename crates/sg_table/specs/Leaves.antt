@@ -3,11 +3,16 @@ use Rattle.std.specs.Prelude.{◌≡◌, ℕ, ◌+◌, ◌-◌, ◌*◌, ◌<◌
 use Rattle.std.specs.Prelude.{map, slice_index_or, ◌⊎◌}
 use Rattle.std.specs.List.{All}
 use Rattle.sg_table.specs.Records.{start_of}
-use Rattle.sg_table.specs.declared.leaf.TheConstants.{MAX_LEAF}
-use Rattle.sg_table.specs.declared.leaves.TheConstants.{MIN_LEAF}
 use Rattle.sg_table.specs.declared.leaves.Place.{Place}
 use Rattle.sg_table.specs.declared.leaves.Span.{Span}
 use Rattle.sg_table.specs.declared.run.Run.{Run}
+
+-- The most records of a leaf, and the fewest of one that is not the only one.
+abbrev pub max_leaf : ℕ
+max_leaf = 255
+
+abbrev pub min_leaf : ℕ
+min_leaf = 128
 
 -- The records of each leaf, in order; for how many leaves there is room; and how many records were
 -- moved.
@@ -25,25 +30,54 @@ joined (leaf ∷ leaves) = leaf ++ joined leaves
 abbrev pub leaf_at : List (List Run) → ℕ → List Run
 leaf_at leaves index = slice_index_or leaves index []
 
--- The records of two neighbours.
-abbrev pub pair_at : List (List Run) → ℕ → List Run
-pair_at leaves index = leaf_at leaves index ++ leaf_at leaves (index + 1)
-
 -- How many records are before a leaf.
 abbrev pub count_before : List (List Run) → (leaf : ℕ) → ℕ
 count_before leaves leaf = length (joined (take leaf leaves))
 
 -- The leaf has enough records.
 abbrev pub IsFilled : List Run → Type 0
-IsFilled leaf = MIN_LEAF ≤ length leaf
+IsFilled leaf = min_leaf ≤ length leaf
 
 -- The leaf has not too many records.
 abbrev pub FitsLeaf : List Run → Type 0
-FitsLeaf leaf = length leaf ≤ MAX_LEAF
+FitsLeaf leaf = length leaf ≤ max_leaf
 
 -- Each leaf has enough records, unless it is the only one.
 abbrev pub AreBalanced : List (List Run) → Type 0
 AreBalanced leaves = (length leaves ≡ 1) ⊎ All IsFilled leaves
+
+-- The leaf is one of the table, and its records have the indexes from `start` to `end`.
+pub record IsSpan (leaves : List (List Run)) (span : Span) : Type 0 where
+  pub within : span.leaf < length leaves
+  pub start : span.start ≡ count_before leaves span.leaf
+  pub end : span.end ≡ count_before leaves (span.leaf + 1)
+
+-- The address of the first record of each leaf, and 0 for a leaf without records.
+abbrev pub first_addresses : List (List Run) → List ℕ
+first_addresses leaves = map (λ leaf. start_of leaf 0) leaves
+
+-- The index of the first record of each leaf, and the number of records, where `count` records are
+-- before the leaves.
+abbrev pub starts_of : (count : ℕ) → List (List Run) → List ℕ
+starts_of count [] = count ∷ []
+starts_of count (leaf ∷ leaves) = count ∷ starts_of (count + length leaf) leaves
+
+-- The directory has the index of the first record of each leaf, of which there is at least one, and
+-- the number of records.
+pub record IsDirectory (leaves : List (List Run)) (starts : List ℕ) : Type 0 where
+  pub not_empty : 1 ≤ length leaves
+  pub count : length starts ≡ length leaves + 1
+  pub each : starts ≡ starts_of 0 leaves
+
+-- At most how many records are moved when others replace some of them, beside those others.
+abbrev pub move_bound : ℕ
+move_bound = 9 * max_leaf
+
+-- ---- Cited by private contracts alone
+
+-- The records of two neighbours.
+abbrev pub pair_at : List (List Run) → ℕ → List Run
+pair_at leaves index = leaf_at leaves index ++ leaf_at leaves (index + 1)
 
 -- Each leaf but one has enough records.
 pub record AreFilledBut (leaves : List (List Run)) (leaf : ℕ) : Type 0 where
@@ -57,19 +91,9 @@ pub record IsLeafOf (leaves : List (List Run)) (index leaf : ℕ) : Type 0 where
   pub end : index ≤ count_before leaves (leaf + 1)
   pub record_end : index < length (joined leaves) → index < count_before leaves (leaf + 1)
 
--- The leaf is one of the table, and its records have the indexes from `start` to `end`.
-pub record IsSpan (leaves : List (List Run)) (span : Span) : Type 0 where
-  pub within : span.leaf < length leaves
-  pub start : span.start ≡ count_before leaves span.leaf
-  pub end : span.end ≡ count_before leaves (span.leaf + 1)
-
 -- The addresses of records.
 abbrev pub addresses : List Run → List ℕ
 addresses records = map (λ run. run.start) records
-
--- The address of the first record of each leaf, and 0 for a leaf without records.
-abbrev pub first_addresses : List (List Run) → List ℕ
-first_addresses leaves = map (λ leaf. start_of leaf 0) leaves
 
 -- The place of an index among the records of all leaves: a leaf, and an offset in it.
 pub record IsPlace (leaves : List (List Run)) (index : ℕ) (place : Place) : Type 0 where
@@ -103,7 +127,7 @@ pub record IsCut (before after : LeafTable) (from to : Place) : Type 0 where
   pub front : joined (take (from.leaf + 1) after.leaves)
       ≡ joined (take from.leaf before.leaves) ++ take from.offset (leaf_at before.leaves from.leaf)
   pub behind : drop (from.leaf + 1) after.leaves ≡ drop (to.leaf + 1) before.leaves
-  pub moves : MovesAtMost before after (2 * MAX_LEAF)
+  pub moves : MovesAtMost before after (2 * max_leaf)
 
 -- Records were appended to a leaf, and to new leaves behind it, of which `last` is the last one.
 pub record IsAppended (before after : LeafTable) (leaf last : ℕ) (runs : List Run) : Type 0 where
@@ -116,29 +140,12 @@ pub record IsAppended (before after : LeafTable) (leaf last : ℕ) (runs : List 
 
 -- At most how many records are moved between two neighbours.
 abbrev pub level_bound : ℕ
-level_bound = 6 * MAX_LEAF
-
--- At most how many records are moved when others replace some of them, beside those others.
-abbrev pub move_bound : ℕ
-move_bound = 9 * MAX_LEAF
+level_bound = 6 * max_leaf
 
 -- `count` records were put in place of others.
 pub record IsSpliced (before after : LeafTable) (count : ℕ) : Type 0 where
   pub balanced : AreBalanced after.leaves
   pub moves : MovesAtMost before after (move_bound + count)
-
--- The index of the first record of each leaf, and the number of records, where `count` records are
--- before the leaves.
-abbrev pub starts_of : (count : ℕ) → List (List Run) → List ℕ
-starts_of count [] = count ∷ []
-starts_of count (leaf ∷ leaves) = count ∷ starts_of (count + length leaf) leaves
-
--- The directory has the index of the first record of each leaf, of which there is at least one, and
--- the number of records.
-pub record IsDirectory (leaves : List (List Run)) (starts : List ℕ) : Type 0 where
-  pub not_empty : 1 ≤ length leaves
-  pub count : length starts ≡ length leaves + 1
-  pub each : starts ≡ starts_of 0 leaves
 
 -- The first `count` of the records from an index on are moved to the end.
 abbrev pub rotated_left : List Run → (from count : ℕ) → List Run

@@ -1,6 +1,21 @@
 -- Binary search of addresses that rise.
 use Rattle.std.specs.Prelude.{ℕ, ◌+◌, ◌*◌, ◌^◌, ◌<◌, ◌≤◌, List, length, slice_index_or}
-use Rattle.sg_table.specs.declared.leaf.TheConstants.{MAX_LEAF}
+use Rattle.sg_table.specs.Leaves.{max_leaf}
+
+-- How many of `count` addresses a search compares that halves what is left: at most as many as
+-- `count` has binary digits.
+pub record CostsHalving (count probes : ℕ) : Type 0 where
+  pub most_probes : 2 ^ probes ≤ 2 * count + 1
+  pub fewest_probes : count + 2 ≤ 2 ^ (probes + 1)
+
+-- How many addresses of `count` records a search of leaves compares: at most one more than `count`
+-- has binary digits, and none more where there is one leaf.
+pub record CostsSearch (count probes : ℕ) : Type 0 where
+  pub most_probes : 2 ^ probes ≤ 4 * count + 1
+  pub fewest_probes : count + 2 ≤ 2 ^ (probes + 2)
+  pub one_leaf : count ≤ max_leaf → CostsHalving count probes
+
+-- ---- Cited by private contracts alone
 
 -- The addresses that a search compares, and how many it compared so far.
 pub record ProbedStarts : Type 0 where
@@ -20,16 +35,3 @@ pub record IsFirstFrom (starts : List ℕ) (index address : ℕ) : Type 0 where
   pub within : index ≤ length starts
   pub before : (i : ℕ) → i < index → address_at starts i < address
   pub after : (i : ℕ) → index ≤ i → i < length starts → address ≤ address_at starts i
-
--- How many of `count` addresses a search compares that halves what is left: at most as many as
--- `count` has binary digits.
-pub record CostsHalving (count probes : ℕ) : Type 0 where
-  pub most_probes : 2 ^ probes ≤ 2 * count + 1
-  pub fewest_probes : count + 2 ≤ 2 ^ (probes + 1)
-
--- How many addresses of `count` records a search of leaves compares: at most one more than `count`
--- has binary digits, and none more where there is one leaf.
-pub record CostsSearch (count probes : ℕ) : Type 0 where
-  pub most_probes : 2 ^ probes ≤ 4 * count + 1
-  pub fewest_probes : count + 2 ≤ 2 ^ (probes + 2)
-  pub one_leaf : count ≤ MAX_LEAF → CostsHalving count probes

@@ -2,10 +2,9 @@
 use Rattle.std.specs.Prelude.{ℕ, ◌*◌, ◌^◌, ◌≤◌, List, map, true, Result, OnOk}
 use Rattle.sg_wire.specs.UnmapList.{maximum_unmap_descriptors}
 use Rattle.sg_wire.specs.declared.extent.Extent.{Extent}
-use Rattle.sg_store.specs.Disk.{Contents, Disk, need}
+use Rattle.sg_store.specs.Disk.{Contents, Disk, max_capacity, max_pool, need}
 use Rattle.sg_store.specs.Meter.{Meter, probe_bound}
 use Rattle.sg_store.specs.declared.store.Counts.{Counts}
-use Rattle.sg_store.specs.declared.store.TheConstants.{MAX_CAPACITY, MAX_POOL}
 use Rattle.sg_target.specs.Effect.{Range}
 use Rattle.sg_target.specs.Joining.{cost_of}
 use Rattle.sg_target.specs.ProvisioningCommands.{anchored_in_turn}
@@ -30,11 +29,11 @@ counted_ranges contents ranges = map (counted contents) ranges
 
 -- The disk is no larger than a store's may be.
 pub record HasAllowedSize (disk : Disk) : Type 0 where
-  pub capacity : disk.capacity ≤ MAX_CAPACITY
-  pub pool : disk.pool ≤ MAX_POOL
+  pub capacity : disk.capacity ≤ max_capacity
+  pub pool : disk.pool ≤ max_pool
 
 -- At most how many records are visited over the ranges of a parameter list, each of which has at most
--- `MAX_CAPACITY` addresses.
+-- `max_capacity` addresses.
 abbrev pub visits_of_list : ℕ
 visits_of_list = maximum_unmap_descriptors * 2 ^ 41
 
@@ -42,7 +41,7 @@ visits_of_list = maximum_unmap_descriptors * 2 ^ 41
 pub record AreOfOneList (counts : Counts) : Type 0 where
   pub visits : counts.visits ≤ visits_of_list
   pub probes : counts.probes ≤ probe_bound * maximum_unmap_descriptors
-  pub links : counts.links ≤ MAX_POOL * maximum_unmap_descriptors
+  pub links : counts.links ≤ max_pool * maximum_unmap_descriptors
 
 -- A call that can fail has counted no more than ranges may cost, since a restart, and no less than they
 -- cost at least if it succeeds.

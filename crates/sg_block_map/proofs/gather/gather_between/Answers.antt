@@ -1,13 +1,13 @@
 use Rattle.std.proofs.Common.{◌≡◌, ◌+◌, ap, ◌∙◌, arith}
 use Rattle.sg_table.specs.Table.{Table}
-use Rattle.sg_store.specs.declared.store.TheConstants.{MAX_CAPACITY}
+use Rattle.sg_store.specs.Disk.{max_capacity}
 use Rattle.sg_block_map.proofs.OrderLemmas.{maximal-sorted}
 use Rattle.sg_block_map.proofs.GatheringLemmas.{all-gathered, count-starts, searched-visits}
 use Rattle.sg_block_map.proofs.gather.gather_between.Goals as goal
 
 pub lower_bound-index-requires-clause-sorted : goal.lower_bound-index-requires-clause-sorted
 lower_bound-index-requires-clause-sorted c = maximal-sorted c.args.table.now.records 0
-    (MAX_CAPACITY + 1) c.requires.runs
+    (max_capacity + 1) c.requires.runs
 
 pub gather_from-requires-clause-runs : goal.gather_from-requires-clause-runs
 gather_from-requires-clause-runs c =
@@ -37,7 +37,7 @@ returns-clause-gathered c =
     let begun = rw one at c.gather_before.ensures.gathered in
     let on = rw two at c.gather_from.ensures.gathered in
     all-gathered rs c.gather_before.new.gathered c.gather_from.new.gathered
-    c.lower_bound-index.result c.args.low c.args.high (MAX_CAPACITY + 1) begun index
+    c.lower_bound-index.result c.args.low c.args.high (max_capacity + 1) begun index
     c.requires.range.0 on.from on.order on.within on.same on.near on.after c.requires.runs
     (omega (arith, c.requires.range.1))
 

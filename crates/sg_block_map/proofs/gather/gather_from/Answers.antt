@@ -5,7 +5,7 @@ use Rattle.sg_table.specs.Draft.{Drafted, pushed}
 use Rattle.sg_table.specs.Records.{start_of}
 use Rattle.sg_table.specs.Table.{Table, visited}
 use Rattle.sg_table.specs.declared.run.Run.{Run}
-use Rattle.sg_store.specs.declared.store.TheConstants.{MAX_CAPACITY}
+use Rattle.sg_store.specs.Disk.{max_capacity}
 use Rattle.sg_block_map.specs.Gathering.{end_at, end_index}
 use Rattle.sg_block_map.specs.Runs.{end_of}
 use Rattle.sg_table.proofs.RecordLemmas.{start_of-read}
@@ -70,8 +70,8 @@ overflow_add-run c =
     record {
       fits = omega (
         arith,
-        ends-within rs 0 MAX_CAPACITY at
-            (apart-maximal rs 0 MAX_CAPACITY (omega arith) c.requires.runs) low,
+        ends-within rs 0 max_capacity at
+            (apart-maximal rs 0 max_capacity (omega arith) c.requires.runs) low,
         end,
         c.from.ensures,
       );
@@ -102,8 +102,8 @@ returns-then-run-from-clause-gathered c =
       c.if-run-from.true,
       c.from.ensures,
       end,
-      apart-order rs 0 MAX_CAPACITY at (at + 1)
-          (apart-maximal rs 0 MAX_CAPACITY (omega arith) c.requires.runs) (omega arith) next,
+      apart-order rs 0 max_capacity at (at + 1)
+          (apart-maximal rs 0 max_capacity (omega arith) c.requires.runs) (omega arith) next,
     ))
 
 pub returns-then-run-from-clause-visits : goal.returns-then-run-from-clause-visits
@@ -131,8 +131,8 @@ loop-at-preserved c =
     ∙ ap (λ xs. slice_index_or xs at run) same in
     let start = start_here rs c.loop-at.table.records at run same low c.visit-run.ensures.value in
     let end = end_here rs c.loop-at.table.records at run same low c.visit-run.ensures.value in
-    let filled = apart-filled rs 0 MAX_CAPACITY at
-    (apart-maximal rs 0 MAX_CAPACITY (omega arith) c.requires.runs) low in
+    let filled = apart-filled rs 0 max_capacity at
+    (apart-maximal rs 0 max_capacity (omega arith) c.requires.runs) low in
     let on : at - c.args.index + 1 ≡ at + 1 - c.args.index = omega arith in
     record {
       from = rw c.push.ensures inv.from;

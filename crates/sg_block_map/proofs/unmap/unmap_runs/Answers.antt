@@ -7,14 +7,13 @@ use Rattle.std.specs.FinMap.{find}
 use Rattle.std.specs.List.{splice}
 use Rattle.std.specs.Ordering.{nat_cmp}
 use Rattle.std.specs.Prelude.{slice_index_or}
-use Rattle.sg_store.specs.Disk.{unmapped}
+use Rattle.sg_store.specs.Disk.{unmapped, max_capacity}
 use Rattle.sg_table.specs.Draft.{Drafted}
 use Rattle.sg_pool.specs.MappedRecords.{entries_by, contents_by}
 use Rattle.sg_pool.specs.Slots.{Slots}
 use Rattle.sg_table.specs.Table.{Table}
 use Rattle.sg_table.specs.declared.run.Kind.TheVariants.{Data}
 use Rattle.sg_table.specs.declared.run.Run.{Run}
-use Rattle.sg_store.specs.declared.store.TheConstants.{MAX_CAPACITY}
 use Rattle.sg_block_map.specs.Gathering.{end_index, AreGathered}
 use Rattle.sg_block_map.specs.Runs.{expanded, AreRuns}
 use Rattle.sg_block_map.proofs.CutRunsLemmas.{cut-runs, cut-contents, cut-outside}
@@ -56,9 +55,9 @@ returns-then-is_empty-clause-contents c =
     let parts : rs ≡ before ++ after = sym g.same ∙ ap (λ zs. before ++ (zs ++ after)) none in
     λ see. subst (λ zs. contents_by see (expanded next zs) ≡ unmapped
     (contents_by see (expanded next zs)) c.args.low (c.args.high - c.args.low)) (sym parts)
-    (nothing-left next before [] after see c.args.low c.args.high (MAX_CAPACITY + 1)
+    (nothing-left next before [] after see c.args.low c.args.high (max_capacity + 1)
     (omega (arith, c.requires.order)) (apart-loose before 0 0 c.args.low (omega arith) g.before)
-    (apart-loose after (c.args.high + 1) c.args.high (MAX_CAPACITY + 1) (omega arith) g.after)
+    (apart-loose after (c.args.high + 1) c.args.high (max_capacity + 1) (omega arith) g.after)
     (λ q low high. ap (λ zs. find nat_cmp q (entries_by see zs)) (expanded-none next)))
 
 pub loop-i-init : goal.loop-i-init
@@ -90,11 +89,11 @@ unmap_run-requires c =
     let tail : List Run = drop (gathered.from + (c.loop-i.i + 1)) rs in
     let room = c.args.table.now.room in
     let now = here rs kept c.records-runs.result.now gathered c.loop-i.pool room c.args.low
-    c.args.high (MAX_CAPACITY + 1) c.from-from.result c.loop-i.i c.requires.ready.gathered_runs
+    c.args.high (max_capacity + 1) c.from-from.result c.loop-i.i c.requires.ready.gathered_runs
     c.records-runs.ensures c.from-from.ensures c.loop-i-test.true inv.runs in
     let l = run-lengths xs kept tail run c.loop-i.pool room now in
     let few = gathered-blocks rs gathered c.args.pool.now room c.args.low c.args.high
-    (MAX_CAPACITY + 1) c.requires.ready.runs c.requires.ready.gathered_runs in
+    (max_capacity + 1) c.requires.ready.runs c.requires.ready.gathered_runs in
     let part = sum_by-take-le (λ (r : Run). r.count) gathered.records c.loop-i.i in
     record {
       slots = record {
@@ -125,7 +124,7 @@ loop-i-preserved c =
     let xs : List Run = take gathered.from rs in
     let tail : List Run = drop (gathered.from + (c.loop-i.i + 1)) rs in
     let now = here rs kept c.records-runs.result.now gathered c.loop-i.pool c.args.table.now.room
-    c.args.low c.args.high (MAX_CAPACITY + 1) c.from-from.result c.loop-i.i c.requires.ready.gathered_runs
+    c.args.low c.args.high (max_capacity + 1) c.from-from.result c.loop-i.i c.requires.ready.gathered_runs
     c.records-runs.ensures c.from-from.ensures c.loop-i-test.true inv.runs in
     let e = c.unmap_run.ensures in
     let order : c.args.low ≤ c.args.high = omega (arith, c.requires.order) in
@@ -133,7 +132,7 @@ loop-i-preserved c =
     xs ++ (kept ++ run ∷ tail)
     = rw (c.from-from.ensures, c.records-runs.ensures)
     (gathered-here rs kept gathered c.args.low c.args.high
-    (MAX_CAPACITY + 1) c.loop-i.i no_run c.requires.ready.gathered_runs
+    (max_capacity + 1) c.loop-i.i no_run c.requires.ready.gathered_runs
     (rw c.records-runs.ensures at c.loop-i-test.true)) in
     let is : splice rs c.from-from.result (c.from-from.result + (c.loop-i.i + 1))
     c.unmap_run.new.remaining.records ≡ xs ++ (c.unmap_run.new.remaining.records ++ tail) =
@@ -199,9 +198,9 @@ returns-clause-contents c =
     λ see. ap (λ zs. contents_by see (expanded c.loop-i.pool.next zs)) is
     ∙ nothing-left c.loop-i.pool.next (take gathered.from rs) kept
     (drop (gathered.from + length gathered.records) rs) see c.args.low c.args.high
-    (MAX_CAPACITY + 1) (omega (arith, c.requires.order))
+    (max_capacity + 1) (omega (arith, c.requires.order))
     (apart-loose (take gathered.from rs) 0 0 c.args.low (omega arith) g.before)
-    (apart-loose (drop (end_index gathered) rs) (c.args.high + 1) c.args.high (MAX_CAPACITY + 1)
+    (apart-loose (drop (end_index gathered) rs) (c.args.high + 1) c.args.high (max_capacity + 1)
     (omega arith) g.after) (inv.none see)
     ∙ ap (λ zs. unmapped (contents_by see (expanded c.loop-i.pool.next zs)) c.args.low
     (c.args.high - c.args.low)) (sym now) ∙ inv.same see

@@ -9,7 +9,7 @@ use Rattle.sg_pool.specs.Slots.{Slots}
 use Rattle.sg_pool.specs.Source.{block_of}
 use Rattle.sg_table.specs.Table.{Table}
 use Rattle.sg_table.specs.declared.run.Run.{Run}
-use Rattle.sg_store.specs.declared.store.TheConstants.{MAX_CAPACITY}
+use Rattle.sg_store.specs.Disk.{max_capacity}
 use Rattle.sg_block_map.specs.Gathering.{end_index}
 use Rattle.sg_block_map.specs.Joining.{IsWriting, mapping_as}
 use Rattle.sg_block_map.specs.Runs.{expanded, any_from, AreRuns, chained_contents}
@@ -39,7 +39,7 @@ begin-front-requires-clause-headroom c =
     let p = c.args.pool.now in
     let few = gathered-blocks c.args.table.now.records c.args.gathered.now p c.args.table.now.room
     c.args.lba (c.args.lba + c.args.count)
-    (MAX_CAPACITY + 1) c.requires.ready.runs c.requires.ready.gathered_runs in
+    (max_capacity + 1) c.requires.ready.runs c.requires.ready.gathered_runs in
     rw c.records-runs.ensures (omega (
       arith,
       few,
@@ -65,7 +65,7 @@ loop-i-init c =
     let front = t.0 in
     let more : List Run = ahead_of gathered.records progress.walk.run progress.walk.at in
     let all = subst (λ zs. AreRuns zs p room) (sym g.same) c.requires.ready.runs in
-    let up = maximal-from after (any_from (high + 1)) (any_from (MAX_CAPACITY + 1)) (any_from lba)
+    let up = maximal-from after (any_from (high + 1)) (any_from (max_capacity + 1)) (any_from lba)
     (λ kind. omega arith) g.after in
     let now = c.begin-front.new.pool in
     let pool = c.begin-front.ensures.pool in
@@ -111,7 +111,7 @@ put_address-progress-requires-clause-free c =
     let w = c.loop-i.progress.walk in
     let here : c.args.lba + c.from.result ≡ c.args.lba + i =
     ap (λ x. c.args.lba + x) c.from.ensures in
-    let up = maximal-from after (any_from (high + 1)) (any_from (MAX_CAPACITY + 1))
+    let up = maximal-from after (any_from (high + 1)) (any_from (max_capacity + 1))
     (any_from (c.args.lba + i + 1)) (λ kind. omega arith) g.after in
     let len : c.args.table.now.room ≡ length c.loop-i.pool.next =
     sym (inv.length ∙ c.requires.ready.runs.links) in
@@ -129,7 +129,7 @@ put_address-progress-requires-clause-headroom c =
     let fits = done-fits _ _ _ _ _ inv.writing in
     let few = gathered-blocks c.args.table.now.records c.args.gathered.now c.args.pool.now
     c.args.table.now.room c.args.lba (c.args.lba + c.args.count)
-    (MAX_CAPACITY + 1) c.requires.ready.runs c.requires.ready.gathered_runs in (
+    (max_capacity + 1) c.requires.ready.runs c.requires.ready.gathered_runs in (
       omega (arith, fits, inv.length, c.requires.ready.runs.links, c.requires.ready.table_size),
       omega (arith, few, inv.links, c.requires.ready.headroom, c.requires.ready.table_size),
     )
@@ -149,7 +149,7 @@ loop-i-preserved c =
     let e = c.put_address-progress.ensures in
     let here : lba + c.from.result ≡ lba + i = ap (λ x. lba + x) c.from.ensures in
     let on : lba + i + 1 ≡ lba + (i + 1) = omega arith in
-    let up = maximal-from after (any_from (high + 1)) (any_from (MAX_CAPACITY + 1))
+    let up = maximal-from after (any_from (high + 1)) (any_from (max_capacity + 1))
     (any_from (lba + i + 1)) (λ kind. omega arith) g.after in
     let puts = rw (c.records-runs.ensures, here) at e.puts in
     let put = puts before after inv.writing up in

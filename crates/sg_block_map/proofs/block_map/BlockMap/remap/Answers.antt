@@ -1,11 +1,10 @@
 use Rattle.std.proofs.Common.{◌≡◌, ℕ, ◌+◌, ap, sym, subst, ◌∙◌, arith}
 use Rattle.std.specs.FinMap as map'
-use Rattle.sg_store.specs.Disk.{Contents, IsWellFormed, remapped, used_among}
+use Rattle.sg_store.specs.Disk.{Contents, IsWellFormed, remapped, used_among, max_capacity}
 use Rattle.sg_store.specs.Meter.{Meter}
 use Rattle.sg_pool.specs.MappedRecords.{slot_numbers}
 use Rattle.sg_pool.specs.Source.{block_of}
 use Rattle.sg_table.specs.Table.{Table}
-use Rattle.sg_store.specs.declared.store.TheConstants.{MAX_CAPACITY}
 use Rattle.sg_block_map.specs.Joining.{mapping_as}
 use Rattle.sg_block_map.specs.RunCost.{CostsRange}
 use Rattle.sg_block_map.specs.Runs.{expanded, chained_contents}
@@ -53,7 +52,7 @@ used_between-used-requires-clause-fits c =
     let lba = c.args.lba in
     let blocks = gathered-blocks s.table.records c.gather.new.gathered s.pool s.table.room lba
     (lba + c.args.count)
-    (MAX_CAPACITY + 1) s.runs c.gather.ensures.gathered in
+    (max_capacity + 1) s.runs c.gather.ensures.gathered in
     rw c.records.ensures (omega (arith, blocks, s.pool_fits))
 
 pub used_between-used-requires-clause-runs : goal.used_between-used-requires-clause-runs

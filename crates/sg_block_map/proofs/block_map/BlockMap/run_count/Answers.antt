@@ -1,6 +1,6 @@
 use Rattle.std.proofs.Common.{◌+◌, length, ap, sym, ◌∙◌}
 use Rattle.std.proofs.lemmas.List.{length-map}
-use Rattle.sg_store.specs.declared.store.TheConstants.{MAX_CAPACITY}
+use Rattle.sg_store.specs.Disk.{max_capacity}
 use Rattle.sg_block_map.specs.Runs.{extent_of}
 use Rattle.sg_block_map.proofs.MaximalLemmas.{runs-extents}
 use Rattle.sg_block_map.proofs.block_map.BlockMap.run_count.Goals as goal
@@ -9,11 +9,11 @@ pub returns-clause-records : goal.returns-clause-records
 returns-clause-records c =
     let s = c.args.self.now in
     sym (runs-extents s.pool.next s.table.records s.pool.blocks 0
-    (MAX_CAPACITY + 1) s.runs.maximal)
+    (max_capacity + 1) s.runs.maximal)
 
 pub returns-clause-count : goal.returns-clause-count
 returns-clause-count c =
     let s = c.args.self.now in
     c.count.ensures.value
     ∙ sym (ap length (runs-extents s.pool.next s.table.records s.pool.blocks 0
-    (MAX_CAPACITY + 1) s.runs.maximal) ∙ length-map s.table.records extent_of)
+    (max_capacity + 1) s.runs.maximal) ∙ length-map s.table.records extent_of)

@@ -1,5 +1,5 @@
 use Rattle.std.proofs.Common.{◌+◌, sym, ◌∙◌, arith}
-use Rattle.sg_store.specs.declared.store.TheConstants.{MAX_CAPACITY}
+use Rattle.sg_store.specs.Disk.{max_capacity}
 use Rattle.sg_block_map.proofs.RunSlotLemmas.{blocks-fit}
 use Rattle.sg_block_map.proofs.DataLemmas.{data-le, data-of-runs}
 use Rattle.sg_block_map.proofs.MaximalLemmas.{runs-extents}
@@ -20,10 +20,10 @@ pub returns-clause-value : goal.returns-clause-value
 returns-clause-value c =
     let s = c.args.self.now in
     c.data_count.ensures ∙ sym (data-of-runs s.pool.next s.table.records s.pool.blocks 0
-    (MAX_CAPACITY + 1) s.runs.maximal)
+    (max_capacity + 1) s.runs.maximal)
 
 pub returns-clause-records : goal.returns-clause-records
 returns-clause-records c =
     let s = c.args.self.now in
     sym (runs-extents s.pool.next s.table.records s.pool.blocks 0
-    (MAX_CAPACITY + 1) s.runs.maximal)
+    (max_capacity + 1) s.runs.maximal)

@@ -1,5 +1,5 @@
 use Rattle.std.proofs.Common.{◌+◌, arith}
-use Rattle.sg_store.specs.declared.store.TheConstants.{MAX_CAPACITY}
+use Rattle.sg_store.specs.Disk.{max_capacity}
 use Rattle.sg_store.proofs.NeedLemmas.{need-used}
 use Rattle.sg_block_map.specs.Runs.{chained_contents}
 use Rattle.sg_block_map.proofs.RunSlotLemmas.{gathered-blocks}
@@ -16,7 +16,7 @@ used_between-used-requires-clause-fits c =
     let s = c.args.self.now in
     let lba = c.args.lba in
     let blocks = gathered-blocks s.table.records c.gather_between.new.gathered s.pool s.table.room
-    lba (lba + c.args.count) (MAX_CAPACITY + 1) s.runs c.gather_between.ensures.gathered in
+    lba (lba + c.args.count) (max_capacity + 1) s.runs c.gather_between.ensures.gathered in
     rw c.records.ensures (omega (arith, blocks, s.pool_fits))
 
 pub used_between-used-requires-clause-runs : goal.used_between-used-requires-clause-runs

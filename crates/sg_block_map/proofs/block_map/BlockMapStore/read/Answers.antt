@@ -1,6 +1,5 @@
 use Rattle.std.proofs.Common.{◌+◌, length, ap, ap₂, sym, ◌∙◌, arith}
-use Rattle.sg_store.specs.Disk.{blocks}
-use Rattle.sg_store.specs.declared.store.TheConstants.{MAX_CAPACITY}
+use Rattle.sg_store.specs.Disk.{blocks, max_capacity}
 use Rattle.sg_block_map.specs.Runs.{expanded, chained_contents}
 use Rattle.sg_block_map.specs.State.{slot_map}
 use Rattle.sg_block_map.proofs.RunSlotLemmas.{length-expanded}
@@ -38,7 +37,7 @@ returns-clause-bytes c =
     c.read_runs.ensures.bytes
     ∙ ap (λ zs. blocks (chained_contents zs s.pool) c.args.lba c.args.count) c.records.ensures
     ∙ sym (blocks-gathered s.table.records c.gather.new.gathered s.pool c.args.lba c.args.count
-    (MAX_CAPACITY + 1)
+    (max_capacity + 1)
     c.gather.ensures.gathered)
 
 pub returns-clause-keeps : goal.returns-clause-keeps

@@ -1,5 +1,5 @@
 use Rattle.std.proofs.Common.{◌+◌, sym, arith}
-use Rattle.sg_store.specs.declared.store.TheConstants.{MAX_CAPACITY}
+use Rattle.sg_store.specs.Disk.{max_capacity}
 use Rattle.sg_block_map.proofs.MaximalLemmas.{runs-extents}
 use Rattle.sg_block_map.proofs.StoreLemmas.{size}
 use Rattle.sg_block_map.proofs.block_map.BlockMapStore.used.Goals as goal
@@ -14,4 +14,4 @@ pub returns-clause-records : goal.returns-clause-records
 returns-clause-records c =
     let s = c.args.self.now in
     sym (runs-extents s.pool.next s.table.records s.pool.blocks 0
-    (MAX_CAPACITY + 1) s.runs.maximal)
+    (max_capacity + 1) s.runs.maximal)
