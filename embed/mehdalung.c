@@ -41,10 +41,10 @@ HAS_SIZE(mdl_reply, 56);
 IS_AT(mdl_reply, status, 0);
 IS_AT(mdl_reply, sense_length, 1);
 IS_AT(mdl_reply, sense, 2);
-IS_AT(mdl_reply, visits, 24);
-IS_AT(mdl_reply, probes, 32);
-IS_AT(mdl_reply, links, 40);
-IS_AT(mdl_reply, data_in_length, 48);
+IS_AT(mdl_reply, data_in_length, 24);
+IS_AT(mdl_reply, visits, 32);
+IS_AT(mdl_reply, probes, 40);
+IS_AT(mdl_reply, links, 48);
 HAS_SIZE(mdl_sense, 16);
 IS_AT(mdl_sense, key, 0);
 IS_AT(mdl_sense, asc, 1);
@@ -91,8 +91,9 @@ mdl_error mdl_execute(mdl_disk *disk, uint32_t initiator, const uint8_t *cdb, si
     if (!disk || are_missing(cdb, cdb_length) || are_missing(data_out, data_out_length) || !data_in
         || !reply)
         return MDL_NULL_POINTER;
-    return (mdl_error)mehdalung_execute(disk, initiator, cdb ? cdb : nothing, cdb_length,
-                                        data_out ? data_out : nothing, data_out_length, data_in,
+    /* Where there are no bytes any pointer serves, and this one is at hand. */
+    return (mdl_error)mehdalung_execute(disk, initiator, cdb ? cdb : data_in, cdb_length,
+                                        data_out ? data_out : data_in, data_out_length, data_in,
                                         data_in_length, reply);
 }
 

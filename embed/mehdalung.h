@@ -106,10 +106,10 @@ typedef struct mdl_reply {
     uint8_t status;                  /* MDL_GOOD, MDL_CHECK_CONDITION, MDL_RESERVATION_CONFLICT */
     uint8_t sense_length;            /* 0 but under MDL_CHECK_CONDITION */
     uint8_t sense[MDL_SENSE_LENGTH]; /* sense data, and zeros behind it */
+    size_t data_in_length;           /* data-in is the first bytes of the buffer */
     uint64_t visits;                 /* whole records of the map that were read */
     uint64_t probes;                 /* first addresses of records that were compared */
     uint64_t links;                  /* links that were followed to reach a block */
-    size_t data_in_length;           /* data-in is the first bytes of the buffer */
 } mdl_reply;
 
 /* Makes a disk of `blocks` blocks, of which `pool` can be mapped or anchored at once, as it is

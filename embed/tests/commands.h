@@ -94,86 +94,95 @@ static void random_bytes(struct command *c, uint64_t *seed)
     fill_data_out(c, seed, below(seed, 64));
 }
 
-static void next_command(struct command *c, uint64_t *seed)
+static void write_10(struct command *c, uint64_t *seed)
+{
+    cdb_of(c, 0x2A, 10);
+    c->cdb[5] = (uint8_t)below(seed, 40);
+    c->cdb[8] = (uint8_t)below(seed, 4);
+    fill_data_out(c, seed, MDL_BLOCK_LENGTH * c->cdb[8]);
+}
+
+static void read_10(struct command *c, uint64_t *seed)
+{
+    cdb_of(c, 0x28, 10);
+    c->cdb[4] = (uint8_t)(below(seed, 16) ? 0 : 0x0F);
+    c->cdb[5] = (uint8_t)(below(seed, 40) + (c->cdb[4] ? 0xE0 : 0));
+    c->cdb[8] = (uint8_t)below(seed, 5);
+}
+
+static void read_capacity_16_or_lba_status(struct command *c, uint64_t *seed)
+{
+    cdb_of(c, 0x9E, 16);
+    c->cdb[1] = (uint8_t)(0x10 + 2 * below(seed, 2));
+    c->cdb[9] = (uint8_t)below(seed, 40);
+    c->cdb[13] = (uint8_t)below(seed, 120);
+}
+
+static void reserve_in(struct command *c, uint64_t *seed)
+{
+    cdb_of(c, 0x5E, 10);
+    c->cdb[1] = (uint8_t)below(seed, 5);
+    c->cdb[8] = (uint8_t)below(seed, 200);
+}
+
+static void inquiry(struct command *c, uint64_t *seed)
 {
     static const uint8_t pages[] = { 0x00, 0x80, 0x83, 0xB0, 0xB2, 0x81 };
+
+    cdb_of(c, 0x12, 6);
+    c->cdb[1] = (uint8_t)below(seed, 2);
+    c->cdb[2] = c->cdb[1] ? pages[below(seed, sizeof pages)] : 0;
+    c->cdb[4] = (uint8_t)below(seed, 100);
+}
+
+static void request_sense(struct command *c, uint64_t *seed)
+{
+    cdb_of(c, 0x03, 6);
+    c->cdb[1] = (uint8_t)below(seed, 2);
+    c->cdb[4] = (uint8_t)below(seed, 40);
+}
+
+static void sense_mode(struct command *c, uint64_t *seed)
+{
+    cdb_of(c, 0x1A, 6);
+    c->cdb[2] = (uint8_t)(below(seed, 4) << 6 | (below(seed, 2) ? 0x3F : 0x0A));
+    c->cdb[4] = (uint8_t)below(seed, 200);
+}
+
+static void write_same(struct command *c, uint64_t *seed)
+{
+    cdb_of(c, 0x93, 16);
+    c->cdb[1] = (uint8_t)(below(seed, 2) << 3);
+    c->cdb[9] = (uint8_t)below(seed, 40);
+    c->cdb[13] = (uint8_t)below(seed, 6);
+    fill_data_out(c, seed, MDL_BLOCK_LENGTH);
+}
+
+static void test_ready_or_synchronize(struct command *c, uint64_t *seed)
+{
+    cdb_of(c, below(seed, 2) ? 0x00 : 0x35, 10);
+    c->cdb_length = c->cdb[0] ? 10 : 6;
+}
+
+static void read_capacity_or_power_cycle(struct command *c, uint64_t *seed)
+{
+    c->is_power_cycle = below(seed, 8) == 0;
+    cdb_of(c, 0x25, 10);
+}
+
+static void next_command(struct command *c, uint64_t *seed)
+{
+    static void (*const kinds[])(struct command *, uint64_t *) = {
+        write_10, write_10, write_10, read_10, read_10, unmap, read_capacity_16_or_lba_status,
+        reserve_in, reserve_out, reserve_out, reserve_out, inquiry, request_sense, request_sense,
+        sense_mode, select_mode, write_same, test_ready_or_synchronize, random_bytes,
+        read_capacity_or_power_cycle,
+    };
 
     c->initiator = below(seed, MDL_INITIATORS);
     c->is_power_cycle = 0;
     c->data_out_length = 0;
-    switch (below(seed, 20)) {
-    case 0:
-    case 1:
-    case 2:
-        cdb_of(c, 0x2A, 10);
-        c->cdb[5] = (uint8_t)below(seed, 40);
-        c->cdb[8] = (uint8_t)below(seed, 4);
-        fill_data_out(c, seed, MDL_BLOCK_LENGTH * c->cdb[8]);
-        break;
-    case 3:
-    case 4:
-        cdb_of(c, 0x28, 10);
-        c->cdb[4] = (uint8_t)(below(seed, 16) ? 0 : 0x0F);
-        c->cdb[5] = (uint8_t)(below(seed, 40) + (c->cdb[4] ? 0xE0 : 0));
-        c->cdb[8] = (uint8_t)below(seed, 5);
-        break;
-    case 5:
-        unmap(c, seed);
-        break;
-    case 6:
-        cdb_of(c, 0x9E, 16);
-        c->cdb[1] = (uint8_t)(0x10 + 2 * below(seed, 2));
-        c->cdb[9] = (uint8_t)below(seed, 40);
-        c->cdb[13] = (uint8_t)below(seed, 120);
-        break;
-    case 7:
-        cdb_of(c, 0x5E, 10);
-        c->cdb[1] = (uint8_t)below(seed, 5);
-        c->cdb[8] = (uint8_t)below(seed, 200);
-        break;
-    case 8:
-    case 9:
-    case 10:
-        reserve_out(c, seed);
-        break;
-    case 11:
-        cdb_of(c, 0x12, 6);
-        c->cdb[1] = (uint8_t)below(seed, 2);
-        c->cdb[2] = c->cdb[1] ? pages[below(seed, sizeof pages)] : 0;
-        c->cdb[4] = (uint8_t)below(seed, 100);
-        break;
-    case 12:
-    case 13:
-        cdb_of(c, 0x03, 6);
-        c->cdb[1] = (uint8_t)below(seed, 2);
-        c->cdb[4] = (uint8_t)below(seed, 40);
-        break;
-    case 14:
-        cdb_of(c, 0x1A, 6);
-        c->cdb[2] = (uint8_t)(below(seed, 4) << 6 | (below(seed, 2) ? 0x3F : 0x0A));
-        c->cdb[4] = (uint8_t)below(seed, 200);
-        break;
-    case 15:
-        select_mode(c, seed);
-        break;
-    case 16:
-        cdb_of(c, 0x93, 16);
-        c->cdb[1] = (uint8_t)(below(seed, 2) << 3);
-        c->cdb[9] = (uint8_t)below(seed, 40);
-        c->cdb[13] = (uint8_t)below(seed, 6);
-        fill_data_out(c, seed, MDL_BLOCK_LENGTH);
-        break;
-    case 17:
-        cdb_of(c, below(seed, 2) ? 0x00 : 0x35, 10);
-        c->cdb_length = c->cdb[0] ? 10 : 6;
-        break;
-    case 18:
-        random_bytes(c, seed);
-        break;
-    default:
-        c->is_power_cycle = below(seed, 8) == 0;
-        cdb_of(c, 0x25, 10);
-    }
+    kinds[below(seed, sizeof kinds / sizeof *kinds)](c, seed);
 }
 
 #endif

@@ -135,19 +135,10 @@ static const char *many_words(const char *name, size_t count)
     return words;
 }
 
-static void plan_words(void)
+static void refuse_words(void)
 {
-    static const uint8_t page[MDL_CDB_LENGTH] = { 0x12, 1, 0xB2, 0, 252 };
-    static const uint8_t unmap[MDL_CDB_LENGTH] = { 0x42, [8] = 24 };
-    static const uint8_t extent[24] = { 0, 22, 0, 16, [15] = 1, [19] = 2 };
-    static char most[2048] = "sg_unmap -l 1";
-    const long held_before = held;
     size_t at;
 
-    memset(data_out, 0xEE, sizeof data_out);
-    memset(before_out, 0xEE, sizeof before_out);
-    memset(&command, 0xDD, sizeof command);
-    memcpy(&before_command, &command, sizeof command);
     WANT(mdl_tool(NULL, data_out, sizeof data_out, &command) == MDL_NULL_POINTER);
     WANT(mdl_tool("sg_inq", NULL, sizeof data_out, &command) == MDL_NULL_POINTER);
     WANT(mdl_tool("sg_inq", data_out, sizeof data_out, NULL) == MDL_NULL_POINTER);
@@ -158,7 +149,12 @@ static void plan_words(void)
     WANT(is_refused(many_words("sg_inq", 64), sizeof data_out, MDL_USAGE));
     WANT(is_refused(many_words("sg_foo", 65), sizeof data_out, MDL_TOO_MANY_WORDS));
     WANT(is_refused(many_words("sg_foo\x01", 65), sizeof data_out, MDL_BAD_BYTE));
-    WANT(held == held_before);
+}
+
+/* Plans a command, and then again with each request for memory refused in turn. */
+static void plan_page(long held_before)
+{
+    static const uint8_t page[MDL_CDB_LENGTH] = { 0x12, 1, 0xB2, 0, 252 };
 
     requests = 0;
     WANT(mdl_tool("sg_vpd -p lbpv", data_out, sizeof data_out, &command) == MDL_OK);
@@ -170,6 +166,14 @@ static void plan_words(void)
         WANT(is_refused("sg_vpd -p lbpv", sizeof data_out, MDL_OUT_OF_MEMORY));
         WANT(requests >= refused && held == held_before);
     }
+}
+
+static void plan_unmap(void)
+{
+    static const uint8_t unmap[MDL_CDB_LENGTH] = { 0x42, [8] = 24 };
+    static const uint8_t extent[24] = { 0, 22, 0, 16, [15] = 1, [19] = 2 };
+    static char most[2048] = "sg_unmap -l 1";
+    size_t at;
 
     WANT(mdl_tool("sg_unmap -l 1 -n 2", data_out, sizeof data_out, &command) == MDL_OK);
     WANT(!memcmp(command.cdb, unmap, sizeof unmap) && command.cdb_length == 10);
@@ -183,6 +187,20 @@ static void plan_words(void)
         strcat(most, ",2");
     WANT(mdl_tool(most, data_out, sizeof data_out, &command) == MDL_OK);
     WANT(command.data_out_length == sizeof data_out && data_out[sizeof data_out - 5] == 2);
+}
+
+static void plan_words(void)
+{
+    const long held_before = held;
+
+    memset(data_out, 0xEE, sizeof data_out);
+    memset(before_out, 0xEE, sizeof before_out);
+    memset(&command, 0xDD, sizeof command);
+    memcpy(&before_command, &command, sizeof command);
+    refuse_words();
+    WANT(held == held_before);
+    plan_page(held_before);
+    plan_unmap();
     WANT(held == held_before);
 }
 

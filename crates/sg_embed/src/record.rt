@@ -18,14 +18,14 @@ pub struct ReplyRecord {
     pub sense_length: u8,
     /// The sense data, and zeros behind it.
     pub sense: [u8; SENSE_LENGTH],
+    /// The length of data-in, in bytes from the beginning of the buffer.
+    pub data_in_length: usize,
     /// Whole records of the map that were read.
     pub visits: u64,
     /// First addresses of records that were compared.
     pub probes: u64,
     /// Links that were followed to reach a mapped block.
     pub links: u64,
-    /// The length of data-in, in bytes from the beginning of the buffer.
-    pub data_in_length: usize,
 }
 
 const _: () = prove!(size_of::<ReplyRecord>() == 56);
@@ -39,10 +39,10 @@ impl ReplyRecord {
         self.status = reply.status.code();
         self.sense_length = count as u8;
         self.sense = [0; SENSE_LENGTH];
+        self.data_in_length = reply.data_in;
         self.visits = reply.counts.visits;
         self.probes = reply.counts.probes;
         self.links = reply.counts.links;
-        self.data_in_length = reply.data_in;
         // Most replies have none, and then nothing is moved or called to copy it.
         if count > 0 {
             let sense = reply.sense;

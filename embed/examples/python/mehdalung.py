@@ -76,8 +76,8 @@ class IdentityRecord(ctypes.Structure):
 class ReplyRecord(ctypes.Structure):
     """mdl_reply."""
     _fields_ = [("status", c_uint8), ("sense_length", c_uint8), ("sense", c_uint8 * 20),
-                ("visits", c_uint64), ("probes", c_uint64), ("links", c_uint64),
-                ("data_in_length", c_size_t)]
+                ("data_in_length", c_size_t), ("visits", c_uint64), ("probes", c_uint64),
+                ("links", c_uint64)]
 
 
 class Command(ctypes.Structure):

@@ -70,10 +70,10 @@ pub struct mdl_reply {
     pub status: u8,
     pub sense_length: u8,
     pub sense: [u8; 20],
+    pub data_in_length: usize,
     pub visits: u64,
     pub probes: u64,
     pub links: u64,
-    pub data_in_length: usize,
 }
 
 #[repr(C)]
