@@ -6,7 +6,7 @@ use Rattle.sg_wire.specs.SenseData.{read_sense}
 use Rattle.sg_decode.specs.SenseText.{sense_line}
 use Rattle.sg_wire.specs.Commands.{write_16}
 use Rattle.sg_tools.specs.ExitStatus.{exit_status}
-use Rattle.sg_target.specs.CapacityData.{block_length}
+use Rattle.sg_pages.specs.BlockDescriptor.{logical_block_length}
 use Rattle.sg_target.specs.PowerCycle.{after_power_cycle}
 use Rattle.sg_target.specs.State.{State}
 use Rattle.sg_target.specs.Status.{status_code}
@@ -90,7 +90,7 @@ power_outcome number state = record {
 -- `fill` is WRITE(16) (SBC-3, 5.35) of blocks of one byte.
 abbrev pub fill_step : State → (initiator lba count byte : ℕ) → Step
 fill_step state initiator lba count byte =
-    step state initiator (cdb_of (write_16 lba count)) (replicate (block_length * count) byte)
+    step state initiator (cdb_of (write_16 lba count)) (replicate (logical_block_length * count) byte)
 
 abbrev pub tool_step : State → (initiator : ℕ) → Tool → Step
 tool_step state initiator tool =

@@ -18,7 +18,7 @@ use Rattle.sg_store.specs.Disk.{Contents, IsWellFormed, anchored, block_at, unma
 use Rattle.sg_store.specs.Disk.Mapping.{Data, Anchored}
 use Rattle.sg_store.specs.Laws.{DisksStayWellFormed}
 use Rattle.sg_target.specs.BlockCommands.{blocks_out, bytes_of}
-use Rattle.sg_target.specs.CapacityData.{block_length}
+use Rattle.sg_pages.specs.BlockDescriptor.{logical_block_length}
 use Rattle.sg_target.specs.Checks.{cdb_checks, checked_cdb, checked_operation}
 use Rattle.sg_target.specs.Checks.{checked_parse, out_of_range, past_capacity}
 use Rattle.sg_target.specs.Checks.{requested, short_data_out, unsupported_value, write_protection}
@@ -41,7 +41,7 @@ use Rattle.sg_target.specs.declared.refusal.Refusal.{Refusal}
 -- the bytes of its blocks, or one block
 abbrev IsSound : Operation → Type 0
 IsSound (operation.Write out) = length out.bytes ≡ bytes_of out.extent
-IsSound (operation.Fill extent block) = length block ≡ block_length
+IsSound (operation.Fill extent block) = length block ≡ logical_block_length
 IsSound _ = Unit {0}
 
 abbrev Sound : Result Operation Refusal → Type 0
@@ -90,19 +90,19 @@ write-sound extent unsupported data_out =
     (whole (bytes_of extent) data_out)
 
 fill-or-unmap : (anchor is_unmap : Bool) (extent : Extent) (block : List ℕ)
-    → length block ≡ block_length
+    → length block ≡ logical_block_length
     → IsSound (cond is_unmap (unmap_extent anchor extent) (operation.Fill extent block))
 fill-or-unmap true true extent block h = tt
 fill-or-unmap false true extent block h = tt
 fill-or-unmap anchor false extent block h = h
 
 write_same-sound : (anchor unmap : Bool) (extent : Extent) (unsupported : Option ℕ)
-    (data_out : List ℕ) → Sound (requested (takes block_length unsupported
+    (data_out : List ℕ) → Sound (requested (takes logical_block_length unsupported
     (Ok (unmap_or_fill anchor unmap extent (block_out data_out)))) data_out)
 write_same-sound anchor unmap extent unsupported data_out =
     let block = block_out data_out in
-    takes-sound block_length unsupported (Ok (unmap_or_fill anchor unmap extent block)) data_out
-    (λ h. fill-or-unmap anchor (unmaps unmap block) extent block (whole block_length data_out h))
+    takes-sound logical_block_length unsupported (Ok (unmap_or_fill anchor unmap extent block)) data_out
+    (λ h. fill-or-unmap anchor (unmaps unmap block) extent block (whole logical_block_length data_out h))
 
 extents-sound : (anchor : Bool) (extents : List Extent) → IsSound (unmap_extents anchor extents)
 extents-sound true extents = tt

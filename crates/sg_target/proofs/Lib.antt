@@ -9,6 +9,7 @@ pub mod StatusLemmas
 -- Extents: those on the disk, those that are unmapped, those that are joined and anchored.
 pub mod ExtentLemmas
 pub mod UnmapLemmas
+mod InTurnLemmas
 mod EachExtentLemmas
 mod JoiningLemmas
 mod NeedLemmas

@@ -2,9 +2,7 @@
 use Rattle.std.proofs.Common.{◌≡◌, ℕ, ◌+◌, ◌≤◌, ◌<◌, zero, suc, List, [], ◌∷◌, ◌++◌, sym, refl, ap}
 use Rattle.std.proofs.Common.{ap₂, ◌∙◌, arith, cond, Bool, true, false, Some, is_some}
 use Rattle.std.proofs.lemmas.Bool.Decides.{nat_tests}
-use Rattle.std.specs.Cmp.{nat_cmp_total}
 use Rattle.std.specs.FinMap as map
-use Rattle.std.specs.FinMap.{same_map, nat_cmp-IsAntisymmetric}
 use Rattle.std.specs.Prelude.{not, ◌||◌, map}
 use Rattle.sg_store.specs.Disk.{lies_in}
 use Rattle.sg_target.specs.Anchoring.{need_of}
@@ -18,6 +16,7 @@ use Rattle.sg_wire.specs.declared.extent.Extent.{Extent}
 use Rattle.sg_store.specs.Laws.{RemappingTakesWhatIsNeeded}
 use Rattle.sg_store.proofs.NeedLemmas.{need-more, need-none}
 use Rattle.sg_target.proofs.AddressRangeLemmas.{or_left, not_true, true_false}
+use Rattle.sg_target.proofs.InTurnLemmas.{same}
 
 -- ranges that are anchored in turn
 abbrev pub anchored_over : Contents → List AddressRange → Contents
@@ -29,26 +28,12 @@ pub over-extents : (m : Contents) (extents : List Extent)
 over-extents m [] = refl
 over-extents m (e ∷ es) = over-extents (anchored m e.lba e.count) es
 
-pub either : {A : Type 0} (a b : Bool) (x y : A) → cond a x (cond b x y) ≡ cond (b || a) x y
-either true true x y = refl
-either true false x y = refl
-either false true x y = refl
-either false false x y = refl
-
-pub get-over : RemappingTakesWhatIsNeeded → (m : Contents) (rs : List AddressRange) (q : ℕ)
-    → map.get (anchored_over m rs) q ≡ cond (lies_in_some rs q) (Some Anchored) (map.get m q)
-get-over law m [] q = refl
-get-over law m (r ∷ rs) q = get-over law (anchored m r.lba r.count) rs q
-    ∙ ap (cond (lies_in_some rs q) (Some Anchored))
-    (law.found m r.lba r.count (λ index. Anchored) q)
-    ∙ either (lies_in_some rs q) (covers q r) (Some Anchored) (map.get m q)
-
 -- only the addresses matter
 pub over-same : RemappingTakesWhatIsNeeded → (m : Contents) (xs ys : List AddressRange)
     → ((q : ℕ) → lies_in_some xs q ≡ lies_in_some ys q) → anchored_over m xs ≡ anchored_over m ys
-over-same law m xs ys h = same_map nat_cmp_total nat_cmp-IsAntisymmetric _ _ (λ q.
-    get-over law m xs q ∙ ap (λ b. cond b (Some Anchored) (map.get m q)) (h q)
-    ∙ sym (get-over law m ys q))
+over-same law =
+    same covers (λ m r. anchored m r.lba r.count) anchored_over (λ m. refl) (λ m r rs. refl)
+    (Some Anchored) (λ m r. law.found m r.lba r.count (λ index. Anchored))
 
 -- a range needs as much where the same of its addresses have a slot
 need-alike : (m n : Contents) (a k : ℕ)

@@ -3,8 +3,9 @@ use Rattle.std.specs.Prelude.{ℕ, ◌*◌, List, [], ◌∷◌}
 use Rattle.sg_wire.specs.CutAnswer.{first_bytes}
 use Rattle.sg_wire.specs.declared.extent.Extent.{Extent}
 use Rattle.sg_store.specs.Disk.{blocks, written}
+use Rattle.sg_pages.specs.BlockDescriptor.{logical_block_length}
 use Rattle.sg_pages.specs.ProvisioningPages.{maximum_transfer_length}
-use Rattle.sg_target.specs.CapacityData.{block_length, capacity_10, capacity_16}
+use Rattle.sg_target.specs.CapacityData.{capacity_10, capacity_16}
 use Rattle.sg_target.specs.Effect.{Effect, no_effect, range, returning, returning_up_to, with_contents}
 use Rattle.sg_target.specs.State.{State}
 
@@ -16,11 +17,11 @@ reading state extent =
 
 -- How many bytes the blocks of an extent have.
 abbrev pub bytes_of : Extent → ℕ
-bytes_of extent = block_length * extent.count
+bytes_of extent = logical_block_length * extent.count
 
 -- The longest data-in, in bytes: that of a READ of the most blocks.
 abbrev pub longest_data_in : ℕ
-longest_data_in = block_length * maximum_transfer_length
+longest_data_in = logical_block_length * maximum_transfer_length
 
 -- Blocks, and as many bytes as they have.
 pub record BlocksOutFields : Type 0 where

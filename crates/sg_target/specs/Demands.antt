@@ -17,7 +17,7 @@ use Rattle.sg_wire.specs.CutAnswer.{first_bytes}
 use Rattle.sg_wire.specs.declared.extent.Extent.{Extent}
 use Rattle.sg_pages.specs.ProvisioningPages.{maximum_transfer_length, maximum_write_same_length}
 use Rattle.sg_target.specs.BlockCommands.{blocks_out, bytes_of}
-use Rattle.sg_target.specs.CapacityData.{block_length}
+use Rattle.sg_pages.specs.BlockDescriptor.{logical_block_length}
 use Rattle.sg_target.specs.ModeCommands.{page_control_of, unless_page_format}
 use Rattle.sg_target.specs.PrimaryCommands.{format_of, inquiry_page}
 use Rattle.sg_target.specs.ProvisioningCommands.{block_out, listed_extents, unmaps}
@@ -137,7 +137,7 @@ unmap_or_fill anchor unmap extent block =
 
 abbrev pub write_same : (anchor unmap : Bool) → Extent → (byte : ℕ) → (data_out : List ℕ) → Demands
 write_same anchor unmap extent byte data_out =
-    takes block_length (unless_anchor_alone anchor unmap (bad_count extent.count byte))
+    takes logical_block_length (unless_anchor_alone anchor unmap (bad_count extent.count byte))
     (Ok (unmap_or_fill anchor unmap extent (block_out data_out)))
 
 abbrev pub write_same_10 : WriteSame10 → (data_out : List ℕ) → Demands

@@ -1,6 +1,7 @@
 -- Ranges of addresses that are joined.
 use Rattle.std.specs.Prelude.{◌≡◌, ℕ, ◌+◌, ◌-◌, ◌≤◌, min, max, Bool, true, false, ◌||◌, nat_lt}
 use Rattle.std.specs.Prelude.{if◌then◌else◌, List, [], ◌∷◌, length, Option, Some, None}
+use Rattle.std.specs.List.{list_any}
 use Rattle.sg_store.specs.Disk.{lies_in}
 use Rattle.sg_target.specs.declared.joining.AddressRange.{AddressRange}
 use Rattle.sg_wire.specs.declared.extent.Extent.{Extent}
@@ -16,8 +17,7 @@ abbrev pub covers : (address : ℕ) → AddressRange → Bool
 covers address range = lies_in range.lba range.count address
 
 abbrev pub lies_in_some : List AddressRange → (address : ℕ) → Bool
-lies_in_some [] address = false
-lies_in_some (range ∷ ranges) address = covers address range || lies_in_some ranges address
+lies_in_some ranges address = list_any (covers address) ranges
 
 abbrev pub AreWithin : (capacity : ℕ) → List AddressRange → Type 0
 AreWithin capacity [] = Unit {0}

@@ -8,7 +8,7 @@ use Rattle.sg_wire.specs.declared.unmap_list.UnmapListFault.TheVariants.{Short, 
 use Rattle.sg_wire.specs.declared.extent.Extent.{Extent}
 use Rattle.sg_store.specs.Disk.{Contents, anchored, filled, unmapped}
 use Rattle.sg_store.specs.LbaStatus.{covered, lba_status, status_data}
-use Rattle.sg_target.specs.CapacityData.{block_length}
+use Rattle.sg_pages.specs.BlockDescriptor.{logical_block_length}
 use Rattle.sg_target.specs.Effect.{Effect, Range, no_effect, range, counted_range}
 use Rattle.sg_target.specs.Effect.{returning_up_to, with_contents}
 use Rattle.sg_target.specs.Refusal.{or_refused}
@@ -87,7 +87,7 @@ filling state extent block = let contents = state.disk.contents in record (no_ef
 
 -- The block is the first of data-out.
 abbrev pub block_out : (data_out : List ℕ) → List ℕ
-block_out data_out = first_bytes block_length data_out
+block_out data_out = first_bytes logical_block_length data_out
 
 -- With UNMAP 1, blocks are unmapped in place of being written with zeros, as which they are read
 -- then.

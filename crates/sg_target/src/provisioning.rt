@@ -199,13 +199,13 @@ pub struct BlockOut<'a> {
 
 impl<'a> Model for BlockOut<'a> {
     ghost use Rattle.std.specs.Prelude.{◌≡◌, List, ℕ, length};
-    ghost use Rattle.sg_target.specs.CapacityData.{block_length};
+    ghost use Rattle.sg_pages.specs.BlockDescriptor.{logical_block_length};
 
     ghost Value = { List ℕ };
 
     ghost view = { λ b. b.bytes.now };
 
-    ghost invariant = { λ b. length b.bytes.now ≡ block_length };
+    ghost invariant = { λ b. length b.bytes.now ≡ logical_block_length };
 }
 
 /// WRITE SAME(10).

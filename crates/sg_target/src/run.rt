@@ -11,7 +11,7 @@ use crate::call::Call;
 use crate::event::{Event, ToEvent};
 use crate::laws::limits_are_kept;
 use crate::reply::Reply;
-use crate::target::{BUFFER_LENGTH, Target};
+use crate::target::Target;
 use sg_store::Store;
 
 /// Takes replies, one after another.
@@ -38,8 +38,8 @@ pub trait Sink {
 
 impl<S: Store> Target<S> {
     /// Executes commands in turn, and delivers their replies to a sink. The buffer has
-    /// [`BUFFER_LENGTH`] bytes at least; data-in is at its beginning while the sink takes the
-    /// reply.
+    /// [`BUFFER_LENGTH`](crate::BUFFER_LENGTH) bytes at least; data-in is at its beginning while the
+    /// sink takes the reply.
     ///
     /// # Errors
     /// The sink refused a reply. The commands up to that one were executed, and none after it.

@@ -29,7 +29,7 @@ impl<S: Store> Model for Target<S> {
     ghost use Rattle.sg_units.specs.Attentions.{ArePending};
     ghost use Rattle.sg_units.specs.Reservations.{IsConsistent};
     ghost use Rattle.std.specs.FinMap.{len};
-    ghost use Rattle.sg_store.specs.declared.store.TheConstants.{MAX_POOL};
+    ghost use Rattle.sg_store.specs.Disk.{max_pool};
     ghost use Rattle.std.specs.Coded.{codes};
     ghost use Rattle.sg_store.specs.ContentsCode.{contents_code};
     ghost use Rattle.sg_target.specs.Target.{TargetFields};
@@ -53,7 +53,7 @@ impl<S: Store> Model for Target<S> {
         × (len (S.disk t.store).contents ≤ (S.disk t.store).pool)
         × ArePending t.attentions
         × IsConsistent t.reservations
-        × ((S.disk t.store).pool ≤ MAX_POOL)
+        × ((S.disk t.store).pool ≤ max_pool)
         × (t.config.pool ≡ (S.disk t.store).pool) };
 }
 

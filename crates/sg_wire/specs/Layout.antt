@@ -280,7 +280,7 @@ checked_extent lba count =
 
 -- ---- Decoding
 -- A field of one byte, a shift by 0 and a single part are cases of their own here and below, as there
--- is nothing to compute. The other case would give the same.
+-- is nothing to compute. The other case would give the same for each value that fits.
 
 -- Whether a bit of the mask is set in a byte.
 abbrev pub has_bit : ℕ → ℕ → Bool
