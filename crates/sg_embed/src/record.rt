@@ -37,7 +37,7 @@ impl ReplyRecord {
     {
         let count = reply.sense.as_slice().len();
         self.status = reply.status.code();
-        self.sense_length = count as u8;
+        self.sense_length = 0;
         self.sense = [0; SENSE_LENGTH];
         self.data_in_length = reply.data_in;
         self.visits = reply.counts.visits;
@@ -46,6 +46,7 @@ impl ReplyRecord {
         // Most replies have none, and then nothing is moved or called to copy it.
         if count > 0 {
             let sense = reply.sense;
+            self.sense_length = count as u8;
             self.sense[..count].copy_from_slice(sense.as_slice());
         }
     }
