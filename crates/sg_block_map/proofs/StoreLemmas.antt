@@ -24,7 +24,7 @@ use Rattle.sg_block_map.specs.Gathering.{starts_in, overlap, AreGathered, HaveRo
 use Rattle.sg_block_map.specs.Joining.{mapping_as}
 use Rattle.sg_block_map.specs.MaximalRuns.{runs, meet, blocks_near}
 use Rattle.sg_block_map.specs.RunCost.{block_price, CostsRuns, CostsRange}
-use Rattle.sg_block_map.specs.Runs.{extent_of, expanded, AreRuns, chained_contents, blocks_of}
+use Rattle.sg_block_map.specs.Runs.{address_run, expanded, AreRuns, chained_contents, blocks_of}
 use Rattle.sg_block_map.specs.State.{disk_at, meter_at}
 use Rattle.sg_block_map.specs.Walking.{AreAhead}
 use Rattle.sg_store.proofs.DiskLemmas.{len-remapped}
@@ -36,7 +36,7 @@ use Rattle.sg_block_map.proofs.OrderLemmas.{maximal-sorted}
 use Rattle.sg_block_map.proofs.RunSlotLemmas.{runs-fit, gathered-blocks, length-expanded}
 use Rattle.sg_block_map.proofs.ExpandedLemmas.{expanded-none}
 use Rattle.sg_block_map.proofs.FinishLemmas.{gathered-ahead}
-use Rattle.sg_block_map.proofs.MaximalLemmas.{starts-meet, runs-extents, meet-gathered}
+use Rattle.sg_block_map.proofs.MaximalLemmas.{starts-meet, runs-addresses, meet-gathered}
 use Rattle.sg_block_map.proofs.MaximalLemmas.{near-gathered, none-meet}
 use Rattle.sg_block_map.proofs.OverlapLemmas.{mapped-overlap, mapped-gathered}
 
@@ -186,8 +186,8 @@ module _ (rs : List Run) (slots after_slots : Slots) (room lba count : ℕ) (bef
       (chained_contents rs slots) lba count → CostsRuns (chained_contents rs slots) lba count
       (meter_at before slots) (meter_at after after_slots)
   gathered-runs links =
-      let len = ap length (runs-extents slots.next rs slots.blocks 0
-      (max_capacity + 1) h.maximal) ∙ length-map rs extent_of
+      let len = ap length (runs-addresses slots.next rs slots.blocks 0
+      (max_capacity + 1) h.maximal) ∙ length-map rs address_run
       ∙ ap length (sym same) in
       record {
         probes = λ digits lt. let p = searched (after.probes - before.probes)

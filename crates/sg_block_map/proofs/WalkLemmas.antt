@@ -1,9 +1,8 @@
 -- Going over the addresses of runs.
 use Rattle.std.proofs.Common.{◌≡◌, ◌≢◌, ℕ, ◌+◌, ◌-◌, ◌<◌, ◌≤◌, List, [], ◌∷◌, ◌++◌, length, drop}
 use Rattle.std.proofs.Common.{arith, refl, sym, ap, ◌∙◌, append_assoc, Option, Some, None, cond}
-use Rattle.std.proofs.Common.{false, eq-eqb, length-append}
-use Rattle.std.proofs.lemmas.Bool.{eqb-true}
-use Rattle.std.proofs.lemmas.Bool.Decides.{nat_tests}
+use Rattle.std.proofs.Common.{eq-eqb, length-append}
+use Rattle.std.proofs.lemmas.Bool.{cond_both, cond-false, eqb-true, eqb-false, ne_eqb}
 use Rattle.std.specs.Cmp.{nat_cmp_total}
 use Rattle.std.specs.FinMap as map
 use Rattle.std.specs.FinMap.{find, get-from_entries}
@@ -16,7 +15,6 @@ use Rattle.sg_table.specs.Records.{run_at, single}
 use Rattle.sg_table.specs.Records.{slots_of}
 use Rattle.sg_table.specs.declared.run.Run.{Run}
 use Rattle.sg_block_map.specs.Gathering.{AreNear}
-use Rattle.sg_block_map.specs.RunCostLaws.{either_way}
 use Rattle.sg_block_map.specs.Runs.{end_of, singles, singles_of, expanded, AreApart, AreChained}
 use Rattle.sg_block_map.specs.Runs.{Bound, any_from, behind, AreMaximalIn}
 use Rattle.sg_block_map.specs.Runs.{AreBetween}
@@ -35,15 +33,12 @@ use Rattle.sg_block_map.proofs.ExpandedLemmas.{chained-right, slots-singles, len
 use Rattle.sg_block_map.proofs.SplitLemmas.{slot-below, below-left, below-right, split-parts}
 use Rattle.sg_block_map.proofs.SplitLemmas.{rest-chain, expanded-one}
 
-not_number : (m n : ℕ) → (m == n) ≡ false → m ≢ n
-not_number m n e = grind (arith, nat_tests)
-
 pub passed-by : (P : List Run → Type 0) (next : List ℕ) (run : Run) (more : List Run)
     → 0 < run.count → (run.count ≡ 1 → P more) → (1 < run.count → P (rest_of next run 1 ∷ more))
     → P (passed next run more)
-passed-by P next run more some f g = either_way P (run.count == 1) more (rest_of next run 1 ∷ more)
-    (λ e. f (eqb-true run.count 1 e)) (λ e. let other = not_number run.count 1 e in
-    g (omega arith))
+passed-by P next run more some f g = cond_both (run.count == 1) more (rest_of next run 1 ∷ more) P
+    (λ e. f (eqb-true run.count 1 e))
+    (λ e. let other = eqb-false run.count 1 e in g (omega arith))
 
 -- what `pass` leaves where the run has more addresses
 pub passed-rest : (next : List ℕ) (run : Run) (more : List Run) (first : ℕ) → run.count ≢ 1
@@ -55,23 +50,15 @@ pub passed-rest : (next : List ℕ) (run : Run) (more : List Run) (first : ℕ) 
       last = run.last;
       kind = run.kind;
     } ∷ more ≡ passed next run more
-passed-rest next run more first other e = either_way
-    (λ xs. record {
-      start = run.start + 1;
-      count = run.count - 1;
-      first = first;
-      last = run.last;
-      kind = run.kind;
-    } ∷ more ≡ xs) (run.count == 1) more (rest_of next run 1 ∷ more)
-    (λ wrong. absurd (other (eqb-true run.count 1 wrong)))
-    (λ _. ap (λ s. record {
+passed-rest next run more first other e =
+    ap (λ s. record {
       start = run.start + 1;
       count = run.count - 1;
       first = s;
-      last =
-          run.last;
+      last = run.last;
       kind = run.kind;
-    } ∷ more) (e ∙ sym (slot_after-one next run.first)))
+    } ∷ more) (e ∙ sym (slot_after-one next run.first))
+    ∙ sym (cond-false (run.count == 1) more (rest_of next run 1 ∷ more) (ne_eqb run.count 1 other))
 
 singles-first : (next : List ℕ) (run : Run) → 1 < run.count
     → singles_of next run ≡ single run.start run.first run.kind ∷ singles_of next (rest_of next run 1)
@@ -117,8 +104,8 @@ not_there run lba none same = let is : run_at (Some run) lba ≡ Some run =
 pub there : (run : Option Run) (lba : ℕ) (found : Run) → run_at run lba ≡ Some found
     → (run ≡ Some found) × (found.start ≡ lba)
 there None lba found e = let wrong = e in cc
-there (Some run) lba found e = either_way (λ o. o ≡ Some found → (Some run ≡ Some found)
-    × (found.start ≡ lba)) (run.start == lba) (Some run) None
+there (Some run) lba found e = cond_both (run.start == lba) (Some run) None
+    (λ o. o ≡ Some found → (Some run ≡ Some found) × (found.start ≡ lba))
     (λ at same. (
       same,
       ap (λ (r : Run). r.start) (sym (ap (λ o. unwrap_or o run) same))

@@ -6,8 +6,8 @@ use Rattle.sg_store.specs.Meter.{Meter}
 use Rattle.sg_pool.specs.MappedRecords.{slot_numbers}
 use Rattle.sg_pool.specs.Slots.{Slots}
 use Rattle.sg_table.specs.Table.{Table}
-use Rattle.sg_block_map.specs.Runs.{expanded, chained_contents, extent_of}
-use Rattle.sg_block_map.specs.MaximalRuns.{Extent}
+use Rattle.sg_block_map.specs.Runs.{address_run, expanded, chained_contents}
+use Rattle.sg_block_map.specs.MaximalRuns.{AddressRun}
 use Rattle.sg_block_map.specs.declared.block_map.BlockMap.{BlockMap}
 
 -- The disk that it keeps.
@@ -32,9 +32,9 @@ meter_at table slots = record {
 abbrev pub meter_of : BlockMap → Meter
 meter_of map = meter_at map.table map.pool
 
--- Its records, in their order: the first address of each, its count and its kind.
-abbrev pub records_of : BlockMap → List Extent
-records_of block_map = map extent_of block_map.table.records
+-- The addresses of its records, in their order.
+abbrev pub records_of : BlockMap → List AddressRun
+records_of block_map = map address_run block_map.table.records
 
 -- The addresses that have a slot, each with the number of its slot in place of a block.
 abbrev pub slot_map : Table → Slots → Contents
