@@ -74,51 +74,51 @@ past_at : (rs : List AddressRun) (k : Kind) (m n : ℕ) → m ≡ n
     → IsPast (λ j. cond (same_kind j k) (n + 1) n) rs
 past_at rs k m n e h = rw e at h
 
-module _ (f : Seen) (shows : (slot : ℕ) (kind : Kind) → kind_of (f slot kind) ≡ kind) (next : List ℕ)
-  where
-    one-run : (start first n : ℕ) (kind : Kind) (more : List (ℕ × Mapping))
-        → IsPast (λ j. cond (same_kind j kind) (start + suc n + 1) (start + suc n)) (runs_of more)
-        → runs_of (entries_by f (singles next start first (suc n) kind) ++ more)
-        ≡ run_from start (suc n) kind ∷ runs_of more
-    unfolding singles
-    one-run start first zero kind more h =
-        ap (λ k. with_address start k (runs_of more)) (shows first kind)
-        ∙ alone start kind (runs_of more) (past_at (runs_of more) kind (start + suc 0) (start + 1)
-        (omega arith) h)
-    one-run start first (suc n) kind more h =
-        let g : suc n + 1 ≡ suc (suc n) = omega arith in
-        let rest = one-run (start + 1) (slice_index next first) n kind more
-        (past_at (runs_of more) kind (start + suc (suc n)) (start + 1 + suc n) (omega arith) h) in
-        ap₂ (λ k rs. with_address start k rs) (shows first kind) rest
-        ∙ rw (on (start + 1) kind) (ap (λ k. run_from start k kind ∷ runs_of more) g)
+module _ (f : Seen Mapping) (shows : (slot : ℕ) (kind : Kind) → kind_of (f slot kind) ≡ kind)
+    (next : List ℕ) where
+  one-run : (start first n : ℕ) (kind : Kind) (more : List (ℕ × Mapping))
+      → IsPast (λ j. cond (same_kind j kind) (start + suc n + 1) (start + suc n)) (runs_of more)
+      → runs_of (entries_by f (singles next start first (suc n) kind) ++ more)
+      ≡ run_from start (suc n) kind ∷ runs_of more
+  unfolding singles
+  one-run start first zero kind more h =
+      ap (λ k. with_address start k (runs_of more)) (shows first kind)
+      ∙ alone start kind (runs_of more) (past_at (runs_of more) kind (start + suc 0) (start + 1)
+      (omega arith) h)
+  one-run start first (suc n) kind more h =
+      let g : suc n + 1 ≡ suc (suc n) = omega arith in
+      let rest = one-run (start + 1) (slice_index next first) n kind more
+      (past_at (runs_of more) kind (start + suc (suc n)) (start + 1 + suc n) (omega arith) h) in
+      ap₂ (λ k rs. with_address start k rs) (shows first kind) rest
+      ∙ rw (on (start + 1) kind) (ap (λ k. run_from start k kind ∷ runs_of more) g)
 
-    past-addresses : (rs : List Run) (low high : Bound) → AreMaximalIn low high rs
-        → IsPast low (map address_run rs)
-    past-addresses [] low high h = tt
-    past-addresses (run ∷ rs) low high h = h.0
+  past-addresses : (rs : List Run) (low high : Bound) → AreMaximalIn low high rs
+      → IsPast low (map address_run rs)
+  past-addresses [] low high h = tt
+  past-addresses (run ∷ rs) low high h = h.0
 
-    a_run : (run : Run) (n : ℕ) (more : List (ℕ × Mapping)) → run.count ≡ suc n
-        → IsPast (behind run) (runs_of more)
-        → runs_of (entries_by f (singles_of next run) ++ more) ≡ address_run run ∷ runs_of more
-    a_run run n more e h =
-        let g : end_of run ≡ run.start + suc n = omega (arith, e) in
-        ap (λ k. runs_of (entries_by f (singles next run.start run.first k run.kind) ++ more)) e
-        ∙ one-run run.start run.first n run.kind more
-        (past_at (runs_of more) run.kind (end_of run) (run.start + suc n) g h)
-        ∙ ap (λ k. run_from run.start k run.kind ∷ runs_of more) (sym e)
+  a_run : (run : Run) (n : ℕ) (more : List (ℕ × Mapping)) → run.count ≡ suc n
+      → IsPast (behind run) (runs_of more)
+      → runs_of (entries_by f (singles_of next run) ++ more) ≡ address_run run ∷ runs_of more
+  a_run run n more e h =
+      let g : end_of run ≡ run.start + suc n = omega (arith, e) in
+      ap (λ k. runs_of (entries_by f (singles next run.start run.first k run.kind) ++ more)) e
+      ∙ one-run run.start run.first n run.kind more
+      (past_at (runs_of more) run.kind (end_of run) (run.start + suc n) g h)
+      ∙ ap (λ k. run_from run.start k run.kind ∷ runs_of more) (sym e)
 
-    runs-expanded : (rs : List Run) (low high : Bound) → AreMaximalIn low high rs
-        → runs_of (entries_by f (expanded next rs)) ≡ map address_run rs
-    runs-expanded [] low high h = ap (λ xs. runs_of (entries_by f xs)) (expanded-none next)
-    runs-expanded (run ∷ rs) low high h =
-        let rest = runs-expanded rs (behind run) high h.2 in
-        let e : run.count ≡ suc (run.count - 1) = omega (arith, h.1) in
-        let later : IsPast (behind run) (runs_of (entries_by f (expanded next rs))) =
-        rw rest (past-addresses rs (behind run) high h.2) in
-        ap (λ xs. runs_of (entries_by f xs)) (expanded-more next run rs)
-        ∙ ap runs_of (entries-append f (singles_of next run) (expanded next rs))
-        ∙ a_run run (run.count - 1) (entries_by f (expanded next rs)) e later
-        ∙ ap (λ xs. address_run run ∷ xs) rest
+  runs-expanded : (rs : List Run) (low high : Bound) → AreMaximalIn low high rs
+      → runs_of (entries_by f (expanded next rs)) ≡ map address_run rs
+  runs-expanded [] low high h = ap (λ xs. runs_of (entries_by f xs)) (expanded-none next)
+  runs-expanded (run ∷ rs) low high h =
+      let rest = runs-expanded rs (behind run) high h.2 in
+      let e : run.count ≡ suc (run.count - 1) = omega (arith, h.1) in
+      let later : IsPast (behind run) (runs_of (entries_by f (expanded next rs))) =
+      rw rest (past-addresses rs (behind run) high h.2) in
+      ap (λ xs. runs_of (entries_by f xs)) (expanded-more next run rs)
+      ∙ ap runs_of (entries-append f (singles_of next run) (expanded next rs))
+      ∙ a_run run (run.count - 1) (entries_by f (expanded next rs)) e later
+      ∙ ap (λ xs. address_run run ∷ xs) rest
 
 -- the single addresses of maximal runs rise
 pub maximal-expanded : (next : List ℕ) (rs : List Run) (a b : ℕ) → AreMaximal a b rs

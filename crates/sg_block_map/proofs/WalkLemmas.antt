@@ -9,7 +9,7 @@ use Rattle.std.specs.FinMap.{find, get-from_entries}
 use Rattle.std.specs.Ordering.{nat_cmp}
 use Rattle.std.specs.Prelude.{slice_index, option_to_list, IfSome, unwrap_or, ◌==◌}
 use Rattle.sg_pool.specs.Chains.{chain, AreBelow}
-use Rattle.sg_store.specs.Disk.{data_in, block, max_capacity}
+use Rattle.sg_store.specs.Disk.{Mapping, data_in, block, max_capacity}
 use Rattle.sg_pool.specs.MappedRecords.{Seen, entries_by, contents_by}
 use Rattle.sg_table.specs.Records.{run_at, single}
 use Rattle.sg_table.specs.Records.{slots_of}
@@ -151,14 +151,14 @@ ahead-skip next count lba at runs (Some run) h low none =
     }
 
 -- the first address ahead
-pub block-first : (f : Seen) (r : Run) (more : List Run)
+pub block-first : (f : Seen Mapping) (r : Run) (more : List Run)
     → block (contents_by f (r ∷ more)) r.start ≡ data_in (Some (f r.first r.kind))
 block-first f r more = ap data_in
     (get-from_entries nat_cmp_total (entries_by f (r ∷ more)) r.start
     ∙ ap (λ b. cond b (Some (f r.first r.kind))
     (find nat_cmp r.start (entries_by f more))) (eq_same r.start r.start refl))
 
-pub get-later : (f : Seen) (r : Run) (more : List Run) (q : ℕ) → q ≢ r.start
+pub get-later : (f : Seen Mapping) (r : Run) (more : List Run) (q : ℕ) → q ≢ r.start
     → map.get (contents_by f (r ∷ more)) q ≡ map.get (contents_by f more) q
 get-later f r more q other = get-from_entries nat_cmp_total (entries_by f (r ∷ more)) q
     ∙ ap (λ b. cond b (Some (f r.first r.kind))
@@ -166,7 +166,7 @@ get-later f r more q other = get-from_entries nat_cmp_total (entries_by f (r ∷
     ∙ sym (get-from_entries nat_cmp_total (entries_by f more) q)
 
 -- an address before those that are ahead
-pub get-none : (next : List ℕ) (count lba q : ℕ) (runs : List Run) (f : Seen)
+pub get-none : (next : List ℕ) (count lba q : ℕ) (runs : List Run) (f : Seen Mapping)
     → AreAhead next count lba runs → q < lba → map.get (contents_by f (expanded next runs)) q ≡
     None
 get-none next count lba q runs f h lt = get-from_entries nat_cmp_total
@@ -273,7 +273,7 @@ walk_from-between next (run ∷ runs) lba high (Some front) more t =
 
 -- from the address on the contents are those of what is ahead
 pub get-walk_from : (next : List ℕ) (runs : List Run) (lba high q : ℕ) (front : Option Run)
-    (more : List Run) (f : Seen) → IsWalkFrom next runs lba front more → lba ≤ q
+    (more : List Run) (f : Seen Mapping) → IsWalkFrom next runs lba front more → lba ≤ q
     → map.get (contents_by f (expanded next runs)) q ≡
     map.get (contents_by f (expanded next more)) q
 get-walk_from next runs lba high q front more f t le =
@@ -296,7 +296,7 @@ module _ (next : List ℕ) (count lba at : ℕ) (runs : List Run) (run : Option 
   pub first-slot : found.first < count
   first-slot = (ahead-first next count lba found (drop at runs) first-there).3
 
-  pub first-block : (f : Seen) → block
+  pub first-block : (f : Seen Mapping) → block
       (contents_by f (expanded next (ahead_of runs run at))) lba ≡
       data_in (Some (f found.first found.kind))
   first-block f =
@@ -313,7 +313,7 @@ module _ (next : List ℕ) (count lba at : ℕ) (runs : List Run) (run : Option 
   first-ahead = passed-ahead next count lba found (drop at runs) first-there
       (there run lba found is).1
 
-  pub first-later : (f : Seen) (q : ℕ) → lba + 1 ≤ q
+  pub first-later : (f : Seen Mapping) (q : ℕ) → lba + 1 ≤ q
       → map.get (contents_by f (expanded next (passed next found (drop at runs)))) q ≡
       map.get (contents_by f (expanded next (ahead_of runs run at))) q
   first-later f q le =
@@ -334,7 +334,7 @@ module _ (next : List ℕ) (count lba at : ℕ) (runs : List Run) (run : Option 
 
 -- no run is there
 pub skip-block : (next : List ℕ) (count lba at : ℕ) (runs : List Run) (run : Option Run)
-    (f : Seen) → AreAhead next count lba (ahead_of runs run at) → lba < max_capacity
+    (f : Seen Mapping) → AreAhead next count lba (ahead_of runs run at) → lba < max_capacity
     → run_at run lba ≡ None
     → map.get (contents_by f (expanded next (ahead_of runs run at))) lba ≡ None
 skip-block next count lba at runs run f h low none =

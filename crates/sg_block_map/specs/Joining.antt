@@ -1,7 +1,7 @@
 -- A run to which others of its kind are joined.
 use Rattle.std.specs.Prelude.{◌≡◌, ℕ, ◌+◌, ◌<◌, ◌≤◌, List, ◌∷◌, ◌++◌, length, slice_set}
 use Rattle.std.specs.Prelude.{if◌then◌else◌, ◌==◌, Bool, true, false, Option, Some, None}
-use Rattle.std.specs.FinMap.{get, insert}
+use Rattle.std.specs.FinMap.{insert}
 use Rattle.sg_store.specs.Disk.{Mapping, max_capacity, max_pool, remapped, used_among}
 use Rattle.sg_store.specs.Disk.Mapping.{Data, Anchored}
 use Rattle.sg_store.specs.Meter.{max_count}
@@ -20,6 +20,7 @@ use Rattle.sg_table.specs.declared.run.Kind.TheVariants.{Data as DataRun, Anchor
 use Rattle.sg_table.specs.declared.run.Run.{Run}
 use Rattle.sg_block_map.specs.Gathering.{AreGathered, AreNear}
 use Rattle.sg_block_map.specs.Metering.{FollowsLinks}
+use Rattle.sg_block_map.specs.State.{Keeps}
 use Rattle.sg_block_map.specs.Runs.{end_of, expanded, AreChained, AreMaximal, AreRuns}
 use Rattle.sg_block_map.specs.Runs.{chained_contents, any_from, begins, blocks_of, AreMaximalIn}
 
@@ -53,9 +54,8 @@ pub record IsWriting (before : List Run) (done : Run) (rest : List Run) (slots :
 
 -- Each address that has a slot keeps it.
 abbrev pub KeepSlots : (next : List ℕ) → List Run → (next' : List ℕ) → List Run → Type 0
-KeepSlots next runs next' runs' = (lba : ℕ) (slot : Mapping)
-    → get (slot_numbers (expanded next runs)) lba ≡ Some slot
-    → get (slot_numbers (expanded next' runs')) lba ≡ Some slot
+KeepSlots next runs next' runs' =
+    Keeps (slot_numbers (expanded next runs)) (slot_numbers (expanded next' runs'))
 
 -- What an address gets in a run of a kind: a block of data, or none.
 abbrev pub mapping_as : Kind → (block : List ℕ) → Mapping

@@ -1,9 +1,9 @@
 -- What a `BlockMap` keeps, as its callers see it: a disk, records, slots and a meter.
 use Rattle.std.specs.Prelude.{◌≡◌, ℕ, List, Some, map}
 use Rattle.std.specs.FinMap.{get}
-use Rattle.sg_store.specs.Disk.{Contents, Disk, Mapping}
+use Rattle.sg_store.specs.Disk.{Disk}
 use Rattle.sg_store.specs.Meter.{Meter}
-use Rattle.sg_pool.specs.MappedRecords.{slot_numbers}
+use Rattle.sg_pool.specs.MappedRecords.{SlotNumbers, slot_numbers}
 use Rattle.sg_pool.specs.Slots.{Slots}
 use Rattle.sg_table.specs.Table.{Table}
 use Rattle.sg_block_map.specs.Runs.{address_run, expanded, chained_contents}
@@ -36,14 +36,13 @@ meter_of map = meter_at map.table map.pool
 abbrev pub records_of : BlockMap → List AddressRun
 records_of block_map = map address_run block_map.table.records
 
--- The addresses that have a slot, each with the number of its slot in place of a block.
-abbrev pub slot_map : Table → Slots → Contents
+-- The addresses that have a slot, each with its number.
+abbrev pub slot_map : Table → Slots → SlotNumbers
 slot_map table slots = slot_numbers (expanded slots.next table.records)
 
-abbrev pub slots_by_address : BlockMap → Contents
+abbrev pub slots_by_address : BlockMap → SlotNumbers
 slots_by_address map = slot_map map.table map.pool
 
--- What each address has, it keeps.
-abbrev pub Keeps : (before after : Contents) → Type 0
-Keeps before after = (lba : ℕ) (slot : Mapping) → get before lba ≡ Some slot
-    → get after lba ≡ Some slot
+-- Each address that has a slot keeps it.
+abbrev pub Keeps : (before after : SlotNumbers) → Type 0
+Keeps before after = (lba slot : ℕ) → get before lba ≡ Some slot → get after lba ≡ Some slot
