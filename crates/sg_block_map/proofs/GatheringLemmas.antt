@@ -297,8 +297,10 @@ visits-of t u n at_least at_most is low high =
     let count : n ≡ u.total - t.total = omega (arith, total) in
     record {
       table = is ∙ ap (visited t) count;
-      fewest_visits = omega (arith, total, low);
-      most_visits = omega (arith, total, high);
+      between = record {
+        fewest_visits = omega (arith, total, low);
+        most_visits = omega (arith, total, high);
+      };
     }
 
 -- visits after a search
@@ -311,14 +313,18 @@ searched-visits s t u v a b a' b' is rise search first more =
     ∙ ap (λ (x : Table). x.probes) first.table in
     let n = u.total - t.total in
     let m = v.total - u.total in
+    let here = first.between in
+    let there = more.between in
     let all : n + m ≡ v.total - s.total =
-    omega (arith, start, first.fewest_visits, more.fewest_visits) in
+    omega (arith, start, here.fewest_visits, there.fewest_visits) in
     record {
       table = more.table ∙ ap (λ x. visited x m) first.table ∙ visited-more t n m
           ∙ ap (visited t) all ∙ ap (λ x. visited x (v.total - s.total)) is
           ∙ ap (λ k. visited (probed s (k - s.probes)) (v.total - s.total)) (sym probes);
       probes_rise = omega (arith, rise, probes);
       search = rw probes search;
-      fewest_visits = omega (arith, start, first.fewest_visits, more.fewest_visits);
-      most_visits = omega (arith, start, first.most_visits, more.most_visits);
+      between = record {
+        fewest_visits = omega (arith, start, here.fewest_visits, there.fewest_visits);
+        most_visits = omega (arith, start, here.most_visits, there.most_visits);
+      };
     }
