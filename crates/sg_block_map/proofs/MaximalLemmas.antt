@@ -13,7 +13,8 @@ use Rattle.sg_table.specs.declared.run.Kind.{Kind}
 use Rattle.sg_table.specs.declared.run.Kind.TheVariants.{Data as DataRun, Anchored as AnchoredRun}
 use Rattle.sg_table.specs.declared.run.Run.{Run}
 use Rattle.sg_block_map.specs.Gathering.{starts_in, AreNear, AreGathered, end_index}
-use Rattle.sg_block_map.specs.MaximalRuns.{AddressRun, kind_of, run_from, with_address}
+use Rattle.sg_pool.specs.MappedRecords.{kind_of}
+use Rattle.sg_block_map.specs.MaximalRuns.{AddressRun, run_from, with_address}
 use Rattle.sg_block_map.specs.MaximalRuns.{runs_of, runs, meets, meet, blocks_if_near, blocks_near}
 use Rattle.sg_block_map.specs.Runs.{end_of, singles, singles_of, expanded, AreApart, AreMaximal}
 use Rattle.sg_block_map.specs.Runs.{Bound, any_from, behind, AreMaximalIn, address_run, blocks_of}

@@ -13,7 +13,8 @@ use Rattle.sg_store.specs.Disk.{Contents, Mapping, lies_in}
 use Rattle.sg_table.specs.Records.{same_kind}
 use Rattle.sg_table.specs.declared.run.Kind.{Kind}
 use Rattle.sg_table.specs.declared.run.Kind.TheVariants.{Data as DataRun, Anchored as AnchoredRun}
-use Rattle.sg_block_map.specs.MaximalRuns.{AddressRun, kind_of, run_end, run_from}
+use Rattle.sg_pool.specs.MappedRecords.{kind_of}
+use Rattle.sg_block_map.specs.MaximalRuns.{AddressRun, run_end, run_from}
 use Rattle.sg_block_map.specs.MaximalRuns.{with_address, runs_of, runs}
 use Rattle.sg_block_map.specs.RunLaws.{is_kind, has_kind, HasExactlyTheMaximalRuns, RunsRise}
 use Rattle.sg_block_map.specs.RunCostLaws.{AreRising, by_joining, rising}

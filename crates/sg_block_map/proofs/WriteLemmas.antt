@@ -12,7 +12,7 @@ use Rattle.sg_pool.specs.Chains.{IsChain}
 use Rattle.sg_store.specs.Disk.{Mapping, max_capacity}
 use Rattle.sg_table.specs.Records.{start_of, single, run_at}
 use Rattle.sg_pool.specs.MappedRecords.{Seen, entries_by, contents_by, contents_of, mapping_in}
-use Rattle.sg_pool.specs.MappedRecords.{slot_number, slot_numbers}
+use Rattle.sg_pool.specs.MappedRecords.{filled_slot, slot_number, slot_numbers}
 use Rattle.sg_pool.specs.Slots.{Slots, followed}
 use Rattle.sg_table.specs.Records.{slots_of}
 use Rattle.sg_table.specs.Occurrences.{occurrences, IsEachOnce}
@@ -20,7 +20,7 @@ use Rattle.sg_pool.specs.MappedRecords.{IsConsistent}
 use Rattle.sg_table.specs.declared.run.Kind.{Kind}
 use Rattle.sg_table.specs.declared.run.Kind.TheVariants.{Data as DataRun, Anchored as AnchoredRun}
 use Rattle.sg_table.specs.declared.run.Run.{Run}
-use Rattle.sg_block_map.specs.Joining.{joined, linked, mapping_as, put_block, IsWriting, KeepSlots}
+use Rattle.sg_block_map.specs.Joining.{joined, linked, mapping_as, IsWriting, KeepSlots}
 use Rattle.sg_block_map.specs.Runs.{end_of, singles_of, expanded, any_from, behind, begins}
 use Rattle.sg_block_map.specs.Runs.{AreChained, AreMaximal}
 use Rattle.sg_block_map.specs.Runs.{AreMaximalIn}
@@ -104,17 +104,17 @@ numbers-kind (x ∷ xs) ys lba slot j k =
 
 -- what is seen of the slot of an address that was put
 pub put-length : (kind : Kind) (slot : ℕ) (b : List ℕ) (bs : List (List ℕ))
-    → length (put_block kind slot b bs) ≡ length bs
+    → length (filled_slot bs slot (mapping_as kind b)) ≡ length bs
 put-length DataRun slot b bs = length-set bs slot b
 put-length AnchoredRun slot b bs = refl
 
 pub put-others : (kind : Kind) (slot : ℕ) (b : List ℕ) (bs : List (List ℕ))
-    → AreSameBut slot (mapping_in bs) (mapping_in (put_block kind slot b bs))
+    → AreSameBut slot (mapping_in bs) (mapping_in (filled_slot bs slot (mapping_as kind b)))
 put-others DataRun slot b bs = seen-set bs slot b
 put-others AnchoredRun slot b bs = λ t kind other. refl
 
 pub put-seen : (kind : Kind) (slot : ℕ) (b : List ℕ) (bs : List (List ℕ)) → slot < length bs
-    → mapping_in (put_block kind slot b bs) slot kind ≡ mapping_as kind b
+    → mapping_in (filled_slot bs slot (mapping_as kind b)) slot kind ≡ mapping_as kind b
 put-seen DataRun slot b bs low = data-set bs slot b low
 put-seen AnchoredRun slot b bs low = refl
 

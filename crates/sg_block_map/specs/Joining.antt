@@ -62,11 +62,6 @@ abbrev pub mapping_as : Kind → (block : List ℕ) → Mapping
 mapping_as DataRun block = Data block
 mapping_as AnchoredRun block = Anchored
 
--- The blocks of the slots, where it gets it. No block is touched where it is anchored.
-abbrev pub put_block : Kind → (slot : ℕ) → (block : List ℕ) → List (List ℕ) → List (List ℕ)
-put_block DataRun slot block blocks = slice_set blocks slot block
-put_block AnchoredRun slot block blocks = blocks
-
 -- An address was put, whatever runs are before and after: the run has come to the next address, the
 -- contents have the mapping, and each address that had a slot has it.
 pub record IsPut (before : List Run) (done done' : Run) (rest rest' : List Run) (old new : Slots)

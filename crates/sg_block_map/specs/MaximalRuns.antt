@@ -4,14 +4,9 @@ use Rattle.std.specs.Prelude.{if◌then◌else◌, min, max}
 use Rattle.std.specs.List.{count_by, sum_by}
 use Rattle.std.specs.FinMap.{entries}
 use Rattle.sg_store.specs.Disk.{Contents, Mapping}
-use Rattle.sg_store.specs.Disk.Mapping.{Data, Anchored}
+use Rattle.sg_pool.specs.MappedRecords.{kind_of}
 use Rattle.sg_table.specs.Records.{same_kind}
 use Rattle.sg_table.specs.declared.run.Kind.{Kind}
-use Rattle.sg_table.specs.declared.run.Kind.TheVariants.{Data as DataRun, Anchored as AnchoredRun}
-
-abbrev pub kind_of : Mapping → Kind
-kind_of (Data block) = DataRun
-kind_of Anchored = AnchoredRun
 
 -- Addresses in a row that are of one kind: the first one, how many they are, and their kind.
 pub record AddressRun : Type 0 where

@@ -16,7 +16,8 @@ use Rattle.sg_store.specs.Disk.{Contents, Mapping, lies_in, used_among}
 use Rattle.sg_table.specs.Records.{same_kind}
 use Rattle.sg_table.specs.declared.run.Kind.{Kind}
 use Rattle.sg_store.proofs.DiskLemmas.{used_among-none, used_among-more, count-more, inside, below, above}
-use Rattle.sg_block_map.specs.MaximalRuns.{AddressRun, kind_of, run_from, with_address}
+use Rattle.sg_pool.specs.MappedRecords.{kind_of}
+use Rattle.sg_block_map.specs.MaximalRuns.{AddressRun, run_from, with_address}
 use Rattle.sg_block_map.specs.MaximalRuns.{runs_of, runs, meets, meet}
 use Rattle.sg_block_map.specs.RunCost.{block_price, block_least}
 

@@ -5,7 +5,8 @@ use Rattle.std.specs.FinMap.{get}
 use Rattle.sg_store.specs.Disk.{Contents, Mapping}
 use Rattle.sg_table.specs.Records.{same_kind}
 use Rattle.sg_table.specs.declared.run.Kind.{Kind}
-use Rattle.sg_block_map.specs.MaximalRuns.{AddressRun, kind_of, run_end, runs}
+use Rattle.sg_pool.specs.MappedRecords.{kind_of}
+use Rattle.sg_block_map.specs.MaximalRuns.{AddressRun, run_end, runs}
 
 -- Whether an address has a block of the pool and is of a kind.
 abbrev pub is_kind : Kind → Option Mapping → Bool

@@ -1,5 +1,6 @@
 -- What the records of a table map, with the blocks of their slots.
 use Rattle.std.specs.Prelude.{◌≡◌, ℕ, ◌+◌, List, [], ◌∷◌, ◌++◌, length, not, slice_index_or}
+use Rattle.std.specs.Prelude.{slice_set}
 use Rattle.std.specs.List.{filter}
 use Rattle.std.specs.FinMap.{FinMap, from_entries}
 use Rattle.std.specs.Ordering.{nat_cmp}
@@ -30,6 +31,16 @@ contents_by seen records = from_entries (entries_by seen records)
 abbrev pub mapping_in : (blocks : List (List ℕ)) → Seen Mapping
 mapping_in blocks slot DataKind = Data (slice_index_or blocks slot zero_block)
 mapping_in blocks slot AnchoredKind = Anchored
+
+-- The kind of the record of an address, by what the address has.
+abbrev pub kind_of : Mapping → Kind
+kind_of (Data block) = DataKind
+kind_of Anchored = AnchoredKind
+
+-- The blocks of the slots, with that of an address in its slot. An anchored address has none.
+abbrev pub filled_slot : (blocks : List (List ℕ)) → (slot : ℕ) → Mapping → List (List ℕ)
+filled_slot blocks slot (Data block) = slice_set blocks slot block
+filled_slot blocks slot Anchored = blocks
 
 -- The contents of a disk with these records, and these blocks in the slots.
 abbrev pub contents_of : List Run → (blocks : List (List ℕ)) → Contents
