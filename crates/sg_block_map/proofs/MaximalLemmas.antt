@@ -1,6 +1,7 @@
 -- The records are the maximal runs of their contents.
 use Rattle.std.proofs.Common.{◌≡◌, ℕ, ◌+◌, ◌-◌, ◌<◌, ◌≤◌, zero, suc, List, [], ◌∷◌, ◌++◌, length}
-use Rattle.std.proofs.Common.{take, drop, arith, refl, sym, ap, ap₂, ◌∙◌, cond, Bool, true, false}
+use Rattle.std.proofs.Common.{take, drop, arith, refl, sym, ap, ap₂, ◌∙◌, cond, true, false}
+use Rattle.std.proofs.Math.Bool.{and-false}
 use Rattle.std.proofs.lemmas.Bool.Decides.{nat_tests}
 use Rattle.std.proofs.lemmas.List.{map-append, length-map}
 use Rattle.std.proofs.lemmas.List.Sums.{sum_by-append, sum_by-cons, count_by-le-length}
@@ -40,16 +41,8 @@ IsPast low (run ∷ rs) = low run.kind ≤ run.start
 off : (a start : ℕ) (j k : Kind) → cond (same_kind k j) (a + 1) a ≤ start → a ≤ start
     → (start == a && same_kind j k) ≡ false
 off a start DataRun DataRun h l = grind (arith, nat_tests)
-off a start DataRun AnchoredRun h l = no (start == a)
-  where
-    no : (b : Bool) → (b && false) ≡ false
-    no true = refl
-    no false = refl
-off a start AnchoredRun DataRun h l = no (start == a)
-  where
-    no : (b : Bool) → (b && false) ≡ false
-    no true = refl
-    no false = refl
+off a start DataRun AnchoredRun h l = and-false (start == a)
+off a start AnchoredRun DataRun h l = and-false (start == a)
 off a start AnchoredRun AnchoredRun h l = grind (arith, nat_tests)
 
 low_end : (a start : ℕ) (j k : Kind) → cond (same_kind k j) (a + 1) a ≤ start → a ≤ start

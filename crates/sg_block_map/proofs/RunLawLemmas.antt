@@ -2,7 +2,9 @@
 use Rattle.std.proofs.Common.{◌≡◌, ℕ, ◌+◌, ◌-◌, ◌<◌, ◌≤◌, zero, suc, List, [], ◌∷◌, length, Option}
 use Rattle.std.proofs.Common.{arith, refl, sym, ap, ap₂, ◌∙◌, inl, inr, Bool, true, false, cond}
 use Rattle.std.proofs.Common.{Some}
-use Rattle.std.proofs.lemmas.Bool.{cases_lt, eqb-true}
+use Rattle.std.proofs.Math.Bool.{and-or_distrib_right, or-false, or_assoc}
+use Rattle.std.proofs.lemmas.Bool.{and_from, and_left, and_right, cases_lt, eqb-true, or_parts}
+use Rattle.std.proofs.lemmas.Bool.{or_right}
 use Rattle.std.proofs.lemmas.Bool.Decides.{nat_tests}
 use Rattle.std.specs.Prelude.{◌==◌, ◌&&◌, ◌||◌, slice_index_or}
 use Rattle.std.specs.List.{list_any, Contains}
@@ -20,6 +22,7 @@ use Rattle.sg_block_map.specs.RunLaws.{is_kind, has_kind, HasExactlyTheMaximalRu
 use Rattle.sg_block_map.specs.RunCostLaws.{AreRising, by_joining, rising}
 use Rattle.sg_block_map.specs.Runs.{Bound, any_from}
 use Rattle.sg_store.proofs.DiskLemmas.{inside, below, above}
+use Rattle.sg_block_map.proofs.OrderLemmas.{IsNarrow, narrow-any, one_more-low, one_more-high}
 use Rattle.sg_table.proofs.RecordLemmas.{alike, own_kind}
 
 -- ---- The runs rise, and none could be joined to the next
@@ -30,10 +33,6 @@ behind_it run kind = cond (same_kind kind run.kind) (run_end run + 1) (run_end r
 abbrev Rise : Bound → List AddressRun → Type 0
 Rise low [] = Unit
 Rise low (run ∷ rs) = (low run.kind ≤ run.start) × (0 < run.count) × Rise (behind_it run) rs
-
-both_true : (a b : Bool) → (a && b) ≡ true → (a ≡ true) × (b ≡ true)
-both_true true b e = (refl, e)
-both_true false b e = let wrong = e in cc
 
 -- a run that an address is not joined to begins behind it
 past : (x start : ℕ) (j k : Kind) → x + 1 ≤ start → (start == x + 1 && same_kind j k) ≡ false
@@ -79,22 +78,11 @@ all-rise : (m : Contents) → Rise (any_from 0) (runs m)
 unfolding runs
 all-rise m = rise-runs 0 (entries m) (all-rising m)
 
-abbrev IsNarrow : Bound → Type 0
-IsNarrow low = (j k : Kind) → low j ≤ low k + 1
-
 behind_low : (run : AddressRun) (kind : Kind) → run_end run ≤ behind_it run kind
-behind_low run kind = either (same_kind kind run.kind) (run_end run)
-  where
-    either : (b : Bool) (n : ℕ) → n ≤ cond b (n + 1) n
-    either true n = omega arith
-    either false n = omega arith
+behind_low run kind = one_more-low (same_kind kind run.kind) (run_end run)
 
 behind_high : (run : AddressRun) (kind : Kind) → behind_it run kind ≤ run_end run + 1
-behind_high run kind = either (same_kind kind run.kind) (run_end run)
-  where
-    either : (b : Bool) (n : ℕ) → cond b (n + 1) n ≤ n + 1
-    either true n = omega arith
-    either false n = omega arith
+behind_high run kind = one_more-high (same_kind kind run.kind) (run_end run)
 
 narrow_behind : (run : AddressRun) → IsNarrow (behind_it run)
 narrow_behind run j k = omega (arith, behind_high run j, behind_low run k)
@@ -131,29 +119,8 @@ has k a run = lies_in run.start run.count a && same_kind k run.kind
 abbrev covers : Kind → List AddressRun → ℕ → Bool
 covers k rs a = list_any (has k a) rs
 
-or_right : (b c : Bool) → b ≡ false → (b || c) ≡ c
-or_right true c e = let wrong = e in cc
-or_right false c e = refl
-
-or_true : (b c : Bool) → c ≡ true → (b || c) ≡ true
-or_true true c e = refl
-or_true false c e = e
-
-or_none : (b c : Bool) → (b || c) ≡ false → (b ≡ false) × (c ≡ false)
-or_none true c e = let wrong = e in cc
-or_none false c e = (refl, e)
-
-and_none : (b c : Bool) → b ≡ false → (b && c) ≡ false
-and_none true c e = let wrong = e in cc
-and_none false c e = refl
-
-and_other : (b c : Bool) → c ≡ false → (b && c) ≡ false
-and_other true c e = e
-and_other false c e = refl
-
-and_both : (b c : Bool) → b ≡ true → c ≡ true → (b && c) ≡ true
-and_both true c e f = f
-and_both false c e f = let wrong = e in cc
+or_past : (b c : Bool) → b ≡ false → (b || c) ≡ c
+or_past b c e = ap (λ x. x || c) e
 
 -- an address before the runs of a kind
 has_none : (k : Kind) (low : Bound) (r : AddressRun) (a : ℕ) → low r.kind ≤ r.start → a < low k
@@ -161,15 +128,15 @@ has_none : (k : Kind) (low : Bound) (r : AddressRun) (a : ℕ) → low r.kind �
 has_none k low r a le lt = by_kind (same_kind k r.kind) refl
   where
     by_kind : (b : Bool) → same_kind k r.kind ≡ b → has k a r ≡ false
-    by_kind false e = and_other (lies_in r.start r.count a) (same_kind k r.kind) e
-    by_kind true e = and_none (lies_in r.start r.count a) (same_kind k r.kind)
+    by_kind false e = and_right (lies_in r.start r.count a) (same_kind k r.kind) e
+    by_kind true e = and_left (lies_in r.start r.count a) (same_kind k r.kind)
         (below r.start r.count a (omega (arith, le, lt, ap low (alike k r.kind e))))
 
 covers-below : (k : Kind) (low : Bound) (rs : List AddressRun) (a : ℕ) → IsNarrow low → Rise low rs
     → a < low k → covers k rs a ≡ false
 covers-below k low [] a narrow h lt = refl
 covers-below k low (r ∷ rs) a narrow h lt =
-    or_right (has k a r) (covers k rs a) (has_none k low r a h.0 lt)
+    or_past (has k a r) (covers k rs a) (has_none k low r a h.0 lt)
     ∙ covers-below k (behind_it r) rs a (narrow_behind r) h.2
     (omega (arith, h.0, h.1, narrow k r.kind, behind_low r k))
 
@@ -179,16 +146,6 @@ one_lies x a = grind (arith, nat_tests)
 more_lies : (x n a : ℕ) → lies_in x (n + 1) a ≡ ((a == x) || lies_in (x + 1) n a)
 more_lies x n a = grind (arith, nat_tests)
 
-or_and : (b c d e : Bool) → b ≡ (c || d) → ((b && e)) ≡ ((c && e) || (d && e))
-or_and b true d true is = rw is refl
-or_and b true true false is = rw is refl
-or_and b true false false is = rw is refl
-or_and b false d e is = rw is refl
-
-or_assoc : (b c d : Bool) → ((b || c) || d) ≡ (b || (c || d))
-or_assoc true c d = refl
-or_assoc false c d = refl
-
 covers-address : (k : Kind) (x a : ℕ) (kx : Kind) (rs : List AddressRun)
     → covers k (with_address x kx rs) a ≡ (((a == x) && same_kind k kx) || covers k rs a)
 covers-address k x a kx [] = ap (λ b. (b && same_kind k kx) || false) (one_lies x a)
@@ -197,8 +154,8 @@ covers-address k x a kx (run ∷ rs) = by_joining
     x kx run rs
     (λ start same.
     ap (λ b. b || covers k rs a)
-    (or_and (lies_in x (run.count + 1) a) (a == x) (lies_in (x + 1) run.count a) (same_kind k kx)
-    (more_lies x run.count a))
+    (ap (λ b. b && same_kind k kx) (more_lies x run.count a)
+    ∙ and-or_distrib_right (a == x) (lies_in (x + 1) run.count a) (same_kind k kx))
     ∙ or_assoc ((a == x) && same_kind k kx) (lies_in (x + 1) run.count a && same_kind k kx)
     (covers k rs a)
     ∙ ap₂ (λ s j. ((a == x) && same_kind k kx) || ((lies_in s run.count a && same_kind k j)
@@ -208,11 +165,8 @@ covers-address k x a kx (run ∷ rs) = by_joining
 seen_by : (b s c : Bool) (o : Option Mapping) (k : Kind) (m : Mapping) → s ≡ same_kind k (kind_of m)
     → (b ≡ true → c ≡ false) → is_kind k o ≡ c
     → is_kind k (cond b (Some m) o) ≡ ((b && s) || c)
-seen_by true s c o k m is none rest = sym is ∙ or_false s c (none refl)
-  where
-    or_false : (s c : Bool) → c ≡ false → s ≡ (s || c)
-    or_false true c e = refl
-    or_false false c e = sym e
+seen_by true s c o k m is none rest =
+    sym is ∙ sym (ap (λ b. s || b) (none refl) ∙ or-false s)
 seen_by false s c o k m is none rest = rest
 
 covers-entries : (k : Kind) (low a : ℕ) (es : List (ℕ × Mapping)) → AreRising low es
@@ -249,11 +203,11 @@ module _ (s n : ℕ) (k : Kind) where
       let start = ap (λ (x : AddressRun). x.start) is in
       let count = ap (λ (x : AddressRun). x.count) is in
       let kind = ap (λ (x : AddressRun). x.kind) is in
-      ap (λ b. b || covers k rs a) (and_both (lies_in r.start r.count a) (same_kind k r.kind)
+      ap (λ b. b || covers k rs a) (and_from (lies_in r.start r.count a) (same_kind k r.kind)
       (inside r.start r.count a (omega (arith, start)) (omega (arith, start, count)))
       (ap (same_kind k) kind ∙ own_kind k))
   covers-inside (r ∷ rs) (suc i) lt is a ge high =
-      or_true (has k a r) (covers k rs a) (covers-inside rs i (omega arith) is a ge high)
+      or_right (has k a r) (covers k rs a) (covers-inside rs i (omega arith) is a ge high)
 
   found-low : (low : Bound) (rs : List AddressRun) (i : ℕ) → IsNarrow low → Rise low rs
       → i < length rs → slice_index_or rs i run ≡ run → (low k ≤ s) × (0 < n)
@@ -273,15 +227,15 @@ module _ (s n : ℕ) (k : Kind) where
       let start = ap (λ (x : AddressRun). x.start) is in
       let count = ap (λ (x : AddressRun). x.count) is in
       let own = own_behind r k (ap (λ (x : AddressRun). x.kind) is) in
-      or_right (has k (s + n) r) (covers k rs (s + n))
-      (and_none (lies_in r.start r.count (s + n)) (same_kind k r.kind)
+      or_past (has k (s + n) r) (covers k rs (s + n))
+      (and_left (lies_in r.start r.count (s + n)) (same_kind k r.kind)
       (above r.start r.count (s + n) (omega (arith, start, count))))
       ∙ covers-below k (behind_it r) rs (s + n) (narrow_behind r) h.2
       (omega (arith, start, count, own))
   covers-behind low (r ∷ rs) (suc i) narrow h lt is =
       let more = found-low (behind_it r) rs i (narrow_behind r) h.2 (omega arith) is in
-      or_right (has k (s + n) r) (covers k rs (s + n))
-      (and_none (lies_in r.start r.count (s + n)) (same_kind k r.kind)
+      or_past (has k (s + n) r) (covers k rs (s + n))
+      (and_left (lies_in r.start r.count (s + n)) (same_kind k r.kind)
       (above r.start r.count (s + n) (omega (arith, more.0, behind_low r k))))
       ∙ covers-behind (behind_it r) rs i (narrow_behind r) h.2 (omega arith) is
 
@@ -292,19 +246,19 @@ module _ (s n : ℕ) (k : Kind) where
   covers-before low (r ∷ rs) zero narrow h lt is pos =
       let start = ap (λ (x : AddressRun). x.start) is in
       let count = ap (λ (x : AddressRun). x.count) is in
-      or_right (has k (s - 1) r) (covers k rs (s - 1))
-      (and_none (lies_in r.start r.count (s - 1)) (same_kind k r.kind)
+      or_past (has k (s - 1) r) (covers k rs (s - 1))
+      (and_left (lies_in r.start r.count (s - 1)) (same_kind k r.kind)
       (below r.start r.count (s - 1) (omega (arith, start, pos))))
       ∙ covers-below k (behind_it r) rs (s - 1) (narrow_behind r) h.2
       (omega (arith, start, pos, behind_low r k))
   covers-before low (r ∷ rs) (suc i) narrow h lt is pos =
       let more = found-low (behind_it r) rs i (narrow_behind r) h.2 (omega arith) is in
-      or_right (has k (s - 1) r) (covers k rs (s - 1)) (at_end (same_kind k r.kind) refl more.0)
+      or_past (has k (s - 1) r) (covers k rs (s - 1)) (at_end (same_kind k r.kind) refl more.0)
       ∙ covers-before (behind_it r) rs i (narrow_behind r) h.2 (omega arith) is pos
     where
       at_end : (b : Bool) → same_kind k r.kind ≡ b → behind_it r k ≤ s → has k (s - 1) r ≡ false
-      at_end false e le = and_other (lies_in r.start r.count (s - 1)) (same_kind k r.kind) e
-      at_end true e le = and_none (lies_in r.start r.count (s - 1)) (same_kind k r.kind)
+      at_end false e le = and_right (lies_in r.start r.count (s - 1)) (same_kind k r.kind) e
+      at_end true e le = and_left (lies_in r.start r.count (s - 1)) (same_kind k r.kind)
           (above r.start r.count (s - 1)
           (omega (arith, le, own_behind r k (sym (alike k r.kind e)))))
 
@@ -323,12 +277,12 @@ module _ (s n : ℕ) (k : Kind) where
         in_run (same_kind k r.kind) refl high later
     | inr past ↦
         let none : (a : ℕ) → s ≤ a → has k a r ≡ false = λ a ge.
-        and_none (lies_in r.start r.count a) (same_kind k r.kind)
+        and_left (lies_in r.start r.count a) (same_kind k r.kind)
         (above r.start r.count a (omega arith)) in
         let rest : Contains rs run = found (behind_it r) rs (narrow_behind r) h.2 some
-        (λ a ge lt. sym (or_right (has k a r) (covers k rs a) (none a ge)) ∙ all a ge lt)
-        (λ pos. (or_none (has k (s - 1) r) (covers k rs (s - 1)) (first pos)).1)
-        (or_none (has k (s + n) r) (covers k rs (s + n)) last).1 in
+        (λ a ge lt. sym (or_past (has k a r) (covers k rs a) (none a ge)) ∙ all a ge lt)
+        (λ pos. (or_parts (has k (s - 1) r) (covers k rs (s - 1)) (first pos)).1)
+        (or_parts (has k (s + n) r) (covers k rs (s + n)) last).1 in
         (suc rest.0, omega (arith, rest.1), rest.2)
   ]
     where
@@ -338,33 +292,33 @@ module _ (s n : ℕ) (k : Kind) where
       in_run : (b : Bool) → same_kind k r.kind ≡ b → s < run_end r → covers k rs s ≡ false
           → Contains (r ∷ rs) run
       in_run false e high later =
-          let none = or_right (has k s r) (covers k rs s)
-          (and_other (lies_in r.start r.count s) (same_kind k r.kind) e) ∙ later in
+          let none = or_past (has k s r) (covers k rs s)
+          (and_right (lies_in r.start r.count s) (same_kind k r.kind) e) ∙ later in
           let wrong : true ≡ false = sym (all s (omega arith) (omega arith)) ∙ none in cc
       in_run true e high later = elim (cases_lt s r.start) [
         | inl low' ↦
-            let none = or_right (has k s r) (covers k rs s)
-            (and_none (lies_in r.start r.count s) (same_kind k r.kind)
+            let none = or_past (has k s r) (covers k rs s)
+            (and_left (lies_in r.start r.count s) (same_kind k r.kind)
             (below r.start r.count s low')) ∙ later in
             let wrong : true ≡ false = sym (all s (omega arith) (omega arith)) ∙ none in cc
         | inr ge ↦ elim (cases_lt r.start s) [
           | inl past ↦
               let mapped : covers k (r ∷ rs) (s - 1) ≡ true = ap (λ b. b || covers k rs (s - 1))
-              (and_both (lies_in r.start r.count (s - 1)) (same_kind k r.kind)
+              (and_from (lies_in r.start r.count (s - 1)) (same_kind k r.kind)
               (inside r.start r.count (s - 1) (omega arith) (omega arith)) e) in
               let wrong : true ≡ false = sym mapped ∙ first (omega arith) in cc
           | inr le ↦ elim (cases_lt n r.count) [
             | inl less ↦
                 let mapped : covers k (r ∷ rs) (s + n) ≡ true = ap (λ b. b || covers k rs (s + n))
-                (and_both (lies_in r.start r.count (s + n)) (same_kind k r.kind)
+                (and_from (lies_in r.start r.count (s + n)) (same_kind k r.kind)
                 (inside r.start r.count (s + n) (omega arith) (omega arith)) e) in
                 let wrong : true ≡ false = sym mapped ∙ last in cc
             | inr enough ↦ elim (cases_lt r.count n) [
               | inl more ↦
                   let end = run_end r in
                   let own = own_behind r k (sym (alike k r.kind e)) in
-                  let none = or_right (has k end r) (covers k rs end)
-                  (and_none (lies_in r.start r.count end) (same_kind k r.kind)
+                  let none = or_past (has k end r) (covers k rs end)
+                  (and_left (lies_in r.start r.count end) (same_kind k r.kind)
                   (above r.start r.count end (omega arith)))
                   ∙ covers-below k (behind_it r) rs end (narrow_behind r) h.2 (omega (arith, own)) in
                   let wrong : true ≡ false = sym (all end (omega arith) (omega arith)) ∙ none in cc
@@ -377,13 +331,10 @@ module _ (s n : ℕ) (k : Kind) where
         ]
       ]
 
-narrow : IsNarrow (any_from 0)
-narrow i j = omega arith
-
 pub maximal-runs : HasExactlyTheMaximalRuns
 maximal-runs m run =
     let s = run.start in let n = run.count in let k = run.kind in let rs = runs m in
-    let low = any_from 0 in let rise = all-rise m in (
+    let low = any_from 0 in let narrow = narrow-any 0 in let rise = all-rise m in (
       λ there. record {
         not_empty = (found-low s n k low rs there.0 narrow rise there.1 there.2).1;
         alike = λ a ge lt. covers-runs m k a
