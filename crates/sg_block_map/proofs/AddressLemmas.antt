@@ -77,13 +77,13 @@ left-some : (b : Bool) (u v : Mapping) (o p : Option Mapping) → (o ≡ Some v 
 left-some true u v o p f e = e
 left-some false u v o p f e = f e
 
-found-left : (xs ys : List Run) (f : Seen) (q : ℕ) (v : Mapping)
+found-left : (xs ys : List Run) (f : Seen Mapping) (q : ℕ) (v : Mapping)
     → find nat_cmp q (entries_by f xs) ≡ Some v → find nat_cmp q (entries_by f (xs ++ ys)) ≡ Some v
 found-left [] ys f q v e = cc
 found-left (x ∷ xs) ys f q v e = left-some (eq_by_cmp nat_cmp q x.start) _ _ _ _
     (found-left xs ys f q v) e
 
-found-single : (next : List ℕ) (f : Seen) (start first n : ℕ) (kind : Kind) (q : ℕ)
+found-single : (next : List ℕ) (f : Seen Mapping) (start first n : ℕ) (kind : Kind) (q : ℕ)
     → start ≤ q → q < start + n
     → (slot : ℕ) × (find nat_cmp q (entries_by f (singles next start first n kind))
     ≡ Some (f slot kind))
@@ -100,7 +100,7 @@ found-single next f start first (suc n) kind q le lt = elim (cases_lt start q) [
       (first, rw same refl)
 ]
 
-found-inside : (next : List ℕ) (rs : List Run) (f : Seen) (a b i q : ℕ)
+found-inside : (next : List ℕ) (rs : List Run) (f : Seen Mapping) (a b i q : ℕ)
     → AreApart a b rs → i < length rs → start_of rs i ≤ q → q < end_at rs i
     → (slot : ℕ) × (find nat_cmp q (entries_by f (expanded next rs)) ≡ Some (f slot (kind_at rs i)))
 found-inside next [] f a b i q h low le lt = absurd (omega arith)
@@ -119,7 +119,7 @@ found-inside next (x ∷ rs) f a b (suc i) q h low le lt =
           ∙ rest.1),
     )
 
-pub get-inside : (next : List ℕ) (rs : List Run) (f : Seen) (a b i q : ℕ)
+pub get-inside : (next : List ℕ) (rs : List Run) (f : Seen Mapping) (a b i q : ℕ)
     → AreApart a b rs → i < length rs → start_of rs i ≤ q → q < end_at rs i
     → (slot : ℕ) × (get (contents_by f (expanded next rs)) q ≡ Some (f slot (kind_at rs i)))
 get-inside next rs f a b i q h low le lt =
@@ -128,14 +128,14 @@ get-inside next rs f a b i q h low le lt =
       get-from_entries nat_cmp_total (entries_by f (expanded next rs)) q ∙ found.1,
     )
 
-pub contains-inside : (next : List ℕ) (rs : List Run) (f : Seen) (a b i q : ℕ)
+pub contains-inside : (next : List ℕ) (rs : List Run) (f : Seen Mapping) (a b i q : ℕ)
     → AreApart a b rs → i < length rs → start_of rs i ≤ q → q < end_at rs i
     → contains_key (contents_by f (expanded next rs)) q ≡ true
 contains-inside next rs f a b i q h low le lt =
     ap is_some (get-inside next rs f a b i q h low le lt).1
 
 -- no run has the address
-none-outside : (next : List ℕ) (rs : List Run) (f : Seen) (q : ℕ)
+none-outside : (next : List ℕ) (rs : List Run) (f : Seen Mapping) (q : ℕ)
     → ((i : ℕ) → i < length rs → (q < start_of rs i) ⊎ (end_at rs i ≤ q))
     → find nat_cmp q (entries_by f (expanded next rs)) ≡ None
 none-outside next [] f q h = rw (expanded-none next) refl
@@ -149,7 +149,7 @@ none-outside next (x ∷ rs) f q h =
     rw (expanded-more next x rs) (find-right (singles_of next x) (expanded next rs) f q none
     ∙ none-outside next rs f q (λ i lt. h (suc i) (omega arith)))
 
-pub get-outside : (next : List ℕ) (rs : List Run) (f : Seen) (q : ℕ)
+pub get-outside : (next : List ℕ) (rs : List Run) (f : Seen Mapping) (q : ℕ)
     → ((i : ℕ) → i < length rs → (q < start_of rs i) ⊎ (end_at rs i ≤ q))
     → get (contents_by f (expanded next rs)) q ≡ None
 get-outside next rs f q h =

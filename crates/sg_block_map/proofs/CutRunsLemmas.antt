@@ -2,11 +2,9 @@
 use Rattle.std.proofs.Common.{◌≡◌, ℕ, ◌+◌, ◌-◌, ◌<◌, ◌≤◌, suc, List, [], ◌∷◌, ◌++◌, length}
 use Rattle.std.proofs.Common.{arith, refl, sym, ap, ap₂, ◌∙◌, append_assoc}
 use Rattle.std.proofs.Common.{length-append, Option, Some, None}
-use Rattle.std.specs.FinMap.{find}
-use Rattle.std.specs.Ordering.{nat_cmp}
 use Rattle.std.specs.Prelude.{option_to_list, IfSome}
-use Rattle.sg_store.specs.Disk.{unmapped, max_capacity}
-use Rattle.sg_pool.specs.MappedRecords.{Seen, entries_by, contents_by}
+use Rattle.sg_store.specs.Disk.{max_capacity}
+use Rattle.sg_pool.specs.MappedRecords.{outside_records}
 use Rattle.sg_pool.specs.Slots.{Slots}
 use Rattle.sg_table.specs.Records.{slots_of}
 use Rattle.sg_table.specs.Occurrences.{occurrences}
@@ -19,12 +17,12 @@ use Rattle.sg_table.proofs.OccurrenceLemmas.{occurrences-append, once-le}
 use Rattle.sg_block_map.proofs.BetweenLemmas.{between-expanded, between-singles}
 use Rattle.sg_block_map.proofs.OrderLemmas.{IsPart, cut-maximal, narrow-any, apart-maximal}
 use Rattle.sg_block_map.proofs.BetweenLemmas.{between-weaker, sorted-between}
-use Rattle.sg_block_map.proofs.ContentsLemmas.{find-below, find-above}
 use Rattle.sg_block_map.proofs.ExpandedLemmas.{expanded-append, expanded-more, expanded-none}
 use Rattle.sg_block_map.proofs.ExpandedLemmas.{chained-append, chained-left, chained-right}
 use Rattle.sg_block_map.proofs.ExpandedLemmas.{slots-append, slots-both}
 use Rattle.sg_block_map.proofs.SplitLemmas.{expanded-one}
-use Rattle.sg_block_map.proofs.RemainingLemmas.{unmapped-less, outside-append}
+use Rattle.sg_block_map.proofs.RemainingLemmas.{outside-before, outside-behind, outside-both}
+use Rattle.sg_block_map.proofs.RemainingLemmas.{outside-less}
 
 pub slots-two : (s : ℕ) (xs ys : List Run) → occurrences s (slots_of (xs ++ ys)) ≡
     occurrences s (slots_of xs) + occurrences s (slots_of ys)
@@ -43,26 +41,25 @@ gone-between next low high (Some part) le h =
     rw (expanded-one next part) (between-weaker (singles_of next part) part.start
     (end_of part) low high h.0 h.1 (between-singles next part.start part.first part.count part.kind))
 
-front-outside : (next : List ℕ) (run : Run) (low q : ℕ) (front : Option Run)
-    (f : Seen) → IfSome front (IsFront run low) → low ≤ q
-    → find nat_cmp q (entries_by f (expanded next (option_to_list front))) ≡ None
-front-outside next run low q None f h le =
-    ap (λ zs. find nat_cmp q (entries_by f zs)) (expanded-none next)
-front-outside next run low q (Some front) f h le =
-    ap (λ zs. find nat_cmp q (entries_by f zs)) (expanded-one next front)
-    ∙ find-above (singles_of next front) f front.start (end_of front) q
-    (between-singles next front.start front.first front.count front.kind) (omega (arith, h.1))
+front-outside : (next : List ℕ) (run : Run) (low count : ℕ) (front : Option Run)
+    → IfSome front (IsFront run low)
+    → outside_records (expanded next (option_to_list front)) low count
+    ≡ expanded next (option_to_list front)
+front-outside next run low count None h = rw (expanded-none next) refl
+front-outside next run low count (Some front) h = rw (expanded-one next front)
+    (outside-before (singles_of next front) front.start (end_of front) low count
+    (omega (arith, h.1))
+    (between-singles next front.start front.first front.count front.kind))
 
-back-outside : (next : List ℕ) (run : Run) (high q : ℕ) (back : Option Run) (f : Seen)
+back-outside : (next : List ℕ) (run : Run) (low count high : ℕ) (back : Option Run)
     → IfSome back (λ (part : Run). (high ≤ part.start) × (run.start ≤ part.start)
-    × (end_of part ≡ end_of run) × (part.kind ≡ run.kind)) → q < high → find nat_cmp q
-    (entries_by f (expanded next (option_to_list back))) ≡ None
-back-outside next run high q None f h lt =
-    ap (λ zs. find nat_cmp q (entries_by f zs)) (expanded-none next)
-back-outside next run high q (Some back) f h lt =
-    ap (λ zs. find nat_cmp q (entries_by f zs)) (expanded-one next back)
-    ∙ find-below (singles_of next back) f back.start (end_of back) q
-    (between-singles next back.start back.first back.count back.kind) (omega (arith, h.0))
+    × (end_of part ≡ end_of run) × (part.kind ≡ run.kind)) → low + count ≤ high
+    → outside_records (expanded next (option_to_list back)) low count
+    ≡ expanded next (option_to_list back)
+back-outside next run low count high None h le = rw (expanded-none next) refl
+back-outside next run low count high (Some back) h le = rw (expanded-one next back)
+    (outside-behind (singles_of next back) back.start (end_of back) low count (omega (arith, h.0))
+    (between-singles next back.start back.first back.count back.kind))
 
 -- the parts lie where the run lay
 part-front : (next : List ℕ) (run : Run) (low : ℕ) (front : Option Run) (more : List Run)
@@ -245,27 +242,28 @@ module _ {old new : Slots} {kept kept' : List Run} {run : Run} {low high : ℕ}
           links = cut.links ∙ before.links;
         }
 
-    -- what is unmapped in the end
-    pub cut-contents : low ≤ high → (f : Seen)
-        → unmapped (contents_by f (expanded new.next is)) low (high - low) ≡
-        unmapped (contents_by f (expanded old.next was)) low (high - low)
-    cut-contents le see =
+    -- what lies outside the range
+    pub cut-outside : low ≤ high → outside_records (expanded new.next is) low (high - low)
+        ≡ outside_records (expanded old.next was) low (high - low)
+    cut-outside le =
         let p : List Run = expanded old.next (xs ++ kept) in
         let t : List Run = expanded old.next tail in let f : List Run = expanded old.next fs in
         let g : List Run = expanded old.next gs in let b : List Run = expanded old.next bs in
-        ap (λ zs. unmapped (contents_by see zs) low (high - low)) (same-expanded ∙ now_apart)
-        ∙ unmapped-less (p ++ f) g (b ++ t) see low high le
+        ap (λ zs. outside_records zs low (high - low)) (same-expanded ∙ now_apart)
+        ∙ outside-less (p ++ f) g (b ++ t) low high le
         (gone-between old.next low high cut.gone le cut.inside)
-        ∙ ap (λ zs. unmapped (contents_by see zs) low (high - low)) (sym was_apart)
+        ∙ ap (λ zs. outside_records zs low (high - low)) (sym was_apart)
 
-    -- the parts that are kept lie outside the range
-    pub cut-outside : (f : Seen) (q : ℕ) → low ≤ q → q < high
-        → find nat_cmp q (entries_by f (expanded old.next kept)) ≡ None
-        → find nat_cmp q (entries_by f (expanded new.next kept')) ≡ None
-    cut-outside f q le lt none =
-        ap (λ zs. find nat_cmp q (entries_by f zs)) (kept-same
-        ∙ ap (expanded old.next) cut.keeps)
-        ∙ outside-append old.next kept (fs ++ bs) f q none
-        (outside-append old.next fs bs f q
-        (front-outside old.next run low q cut.front f cut.before le)
-        (back-outside old.next run high q cut.back f cut.behind lt))
+    -- the parts that are kept lie there
+    pub kept-outside : low ≤ high
+        → outside_records (expanded old.next kept) low (high - low) ≡ expanded old.next kept
+        → outside_records (expanded new.next kept') low (high - low) ≡ expanded new.next kept'
+    kept-outside le none =
+        let f : List Run = expanded old.next fs in let b : List Run = expanded old.next bs in
+        let parts : expanded new.next kept' ≡ expanded old.next kept ++ (f ++ b) =
+        kept-same ∙ ap (expanded old.next) cut.keeps ∙ expanded-append old.next kept (fs ++ bs)
+        ∙ ap (λ zs. expanded old.next kept ++ zs) (expanded-append old.next fs bs) in
+        rw parts (outside-both (expanded old.next kept) (f ++ b) low (high - low) none
+        (outside-both f b low (high - low)
+        (front-outside old.next run low (high - low) cut.front cut.before)
+        (back-outside old.next run low (high - low) high cut.back cut.behind (omega arith))))

@@ -1,13 +1,12 @@
 -- Gathering the runs near a range.
 use Rattle.std.proofs.Common.{◌≡◌, ℕ, ◌+◌, ◌-◌, ◌<◌, ◌≤◌, zero, suc, List, [], ◌∷◌, ◌++◌, length}
 use Rattle.std.proofs.Common.{length-drop, take, drop, get_or, arith, refl, sym, ap, ◌∙◌, inl}
-use Rattle.std.proofs.Common.{inr, cond, Bool, true, false}
-use Rattle.std.proofs.lemmas.Bool.{cases_lt}
-use Rattle.std.proofs.lemmas.Bool.Decides.{nat_tests}
+use Rattle.std.proofs.Common.{inr, cond, Bool}
+use Rattle.std.proofs.lemmas.Bool.{cases_lt, cond-true, le-leb, lt-ltb}
 use Rattle.std.proofs.lemmas.List.{take-append-drop}
 use Rattle.std.proofs.lemmas.List.Sums.{sum_by-append}
 use Rattle.std.specs.List.{count_by, splice}
-use Rattle.std.specs.Prelude.{nat_lt, nat_le, ◌&&◌}
+use Rattle.std.specs.Prelude.{nat_lt, ◌&&◌}
 use Rattle.sg_table.specs.Draft.{Drafted}
 use Rattle.sg_table.specs.Records.{start_of, IsLowerBound}
 use Rattle.sg_table.specs.Search.{CostsSearch}
@@ -28,13 +27,6 @@ pub count-append : {X : Type 0} (p : X → Bool) (xs ys : List X)
     → count_by p (xs ++ ys) ≡ count_by p xs + count_by p ys
 count-append p xs ys = sum_by-append (λ x. cond (p x) 1 0) xs ys
 
-one_if : (b : Bool) → b ≡ true → cond {A = ℕ} b 1 0 ≡ 1
-one_if true e = refl
-one_if false e = let wrong = e in cc
-
-lt_true : (a b : ℕ) → a < b → nat_lt a b ≡ true
-lt_true a b h = grind (arith, nat_tests)
-
 pub start_of-drop : (rs : List Run) (n i : ℕ) → start_of (drop n rs) i ≡ start_of rs (n + i)
 start_of-drop rs zero i = let e : 0 + i ≡ i = omega arith in rw e refl
 start_of-drop [] (suc n) i = refl
@@ -48,7 +40,8 @@ count-front [] (suc n) high h within = absurd (omega arith)
 count-front (x ∷ rs) (suc n) high h within =
     let rest = count-front rs n high (λ i lt. h (suc i) (omega arith)) (omega arith) in
     let more = count-more (λ (run : Run). nat_lt run.start high) x rs in
-    let one = one_if (nat_lt x.start high) (lt_true x.start high (h 0 (omega arith))) in
+    let one = cond-true {A = ℕ} (nat_lt x.start high) 1 0
+    (lt-ltb x.start high (h 0 (omega arith))) in
     omega arith
 
 -- the runs from one index to another begin before the address
@@ -241,9 +234,6 @@ all-gathered rs begun gathered index low high bound b p order from grows within 
     }
 
 -- how many runs begin in the range
-true_le : (a b : ℕ) → a ≤ b → nat_le a b ≡ true
-true_le a b h = grind (arith, nat_tests)
-
 pub count-starts : (rs : List Run) (index low high : ℕ)
     → ((i : ℕ) → index ≤ i → i < length rs → low ≤ start_of rs i)
     → count_by (λ (run : Run). nat_lt run.start high) (drop index rs) ≤ count_by
@@ -256,7 +246,7 @@ count-starts (x ∷ rs) zero low high after =
     let l = count-more (λ (run : Run). nat_lt run.start high) x rs in
     let r = count-more (starts_in low high) x rs in
     let first : starts_in low high x ≡ nat_lt x.start high =
-    ap (λ b. b && nat_lt x.start high) (true_le low x.start
+    ap (λ b. b && nat_lt x.start high) (le-leb low x.start
     (after 0 (omega arith) (omega arith))) in
     let same : cond {A = ℕ} (starts_in low high x) 1 0 ≡ cond (nat_lt x.start high) 1 0 =
     ap (λ b. cond b 1 0) first in
@@ -297,8 +287,10 @@ visits-of t u n at_least at_most is low high =
     let count : n ≡ u.total - t.total = omega (arith, total) in
     record {
       table = is ∙ ap (visited t) count;
-      fewest_visits = omega (arith, total, low);
-      most_visits = omega (arith, total, high);
+      between = record {
+        fewest_visits = omega (arith, total, low);
+        most_visits = omega (arith, total, high);
+      };
     }
 
 -- visits after a search
@@ -311,14 +303,18 @@ searched-visits s t u v a b a' b' is rise search first more =
     ∙ ap (λ (x : Table). x.probes) first.table in
     let n = u.total - t.total in
     let m = v.total - u.total in
+    let here = first.between in
+    let there = more.between in
     let all : n + m ≡ v.total - s.total =
-    omega (arith, start, first.fewest_visits, more.fewest_visits) in
+    omega (arith, start, here.fewest_visits, there.fewest_visits) in
     record {
       table = more.table ∙ ap (λ x. visited x m) first.table ∙ visited-more t n m
           ∙ ap (visited t) all ∙ ap (λ x. visited x (v.total - s.total)) is
           ∙ ap (λ k. visited (probed s (k - s.probes)) (v.total - s.total)) (sym probes);
       probes_rise = omega (arith, rise, probes);
       search = rw probes search;
-      fewest_visits = omega (arith, start, first.fewest_visits, more.fewest_visits);
-      most_visits = omega (arith, start, first.most_visits, more.most_visits);
+      between = record {
+        fewest_visits = omega (arith, start, here.fewest_visits, there.fewest_visits);
+        most_visits = omega (arith, start, here.most_visits, there.most_visits);
+      };
     }

@@ -1,6 +1,7 @@
 -- The records are the maximal runs of their contents.
 use Rattle.std.proofs.Common.{◌≡◌, ℕ, ◌+◌, ◌-◌, ◌<◌, ◌≤◌, zero, suc, List, [], ◌∷◌, ◌++◌, length}
-use Rattle.std.proofs.Common.{take, drop, arith, refl, sym, ap, ap₂, ◌∙◌, cond, Bool, true, false}
+use Rattle.std.proofs.Common.{take, drop, arith, refl, sym, ap, ap₂, ◌∙◌, cond, true, false}
+use Rattle.std.proofs.Math.Bool.{and-false}
 use Rattle.std.proofs.lemmas.Bool.Decides.{nat_tests}
 use Rattle.std.proofs.lemmas.List.{map-append, length-map}
 use Rattle.std.proofs.lemmas.List.Sums.{sum_by-append, sum_by-cons, count_by-le-length}
@@ -13,10 +14,11 @@ use Rattle.sg_table.specs.declared.run.Kind.{Kind}
 use Rattle.sg_table.specs.declared.run.Kind.TheVariants.{Data as DataRun, Anchored as AnchoredRun}
 use Rattle.sg_table.specs.declared.run.Run.{Run}
 use Rattle.sg_block_map.specs.Gathering.{starts_in, AreNear, AreGathered, end_index}
-use Rattle.sg_block_map.specs.MaximalRuns.{Extent, kind_of, with_address, runs_of, runs}
-use Rattle.sg_block_map.specs.MaximalRuns.{meets, meet, blocks_near}
+use Rattle.sg_pool.specs.MappedRecords.{kind_of}
+use Rattle.sg_block_map.specs.MaximalRuns.{AddressRun, run_from, with_address}
+use Rattle.sg_block_map.specs.MaximalRuns.{runs_of, runs, meets, meet, blocks_if_near, blocks_near}
 use Rattle.sg_block_map.specs.Runs.{end_of, singles, singles_of, expanded, AreApart, AreMaximal}
-use Rattle.sg_block_map.specs.Runs.{Bound, any_from, behind, AreMaximalIn, extent_of, blocks_of}
+use Rattle.sg_block_map.specs.Runs.{Bound, any_from, behind, AreMaximalIn, address_run, blocks_of}
 use Rattle.sg_pool.proofs.EntryLemmas.{entries-append, entries-sorted}
 use Rattle.sg_table.specs.Records.{IsSorted, same_kind}
 use Rattle.sg_block_map.proofs.BetweenLemmas.{between-expanded, apart-le, sorted-between}
@@ -31,24 +33,16 @@ blocks-show bs slot DataRun = refl
 blocks-show bs slot AnchoredRun = refl
 
 -- the first of some runs begins at a bound or past it
-abbrev IsPast : Bound → List Extent → Type 0
+abbrev IsPast : Bound → List AddressRun → Type 0
 IsPast low [] = Unit
-IsPast low (run ∷ rs) = low run.2 ≤ run.0
+IsPast low (run ∷ rs) = low run.kind ≤ run.start
 
 -- it could be joined to none that ends at an address and has a kind
 off : (a start : ℕ) (j k : Kind) → cond (same_kind k j) (a + 1) a ≤ start → a ≤ start
     → (start == a && same_kind j k) ≡ false
 off a start DataRun DataRun h l = grind (arith, nat_tests)
-off a start DataRun AnchoredRun h l = no (start == a)
-  where
-    no : (b : Bool) → (b && false) ≡ false
-    no true = refl
-    no false = refl
-off a start AnchoredRun DataRun h l = no (start == a)
-  where
-    no : (b : Bool) → (b && false) ≡ false
-    no true = refl
-    no false = refl
+off a start DataRun AnchoredRun h l = and-false (start == a)
+off a start AnchoredRun DataRun h l = and-false (start == a)
 off a start AnchoredRun AnchoredRun h l = grind (arith, nat_tests)
 
 low_end : (a start : ℕ) (j k : Kind) → cond (same_kind k j) (a + 1) a ≤ start → a ≤ start
@@ -61,62 +55,64 @@ on : (m : ℕ) (k : Kind) → (m == m && same_kind k k) ≡ true
 on m DataRun = grind (arith, nat_tests)
 on m AnchoredRun = grind (arith, nat_tests)
 
-alone : (a : ℕ) (k : Kind) (rs : List Extent)
+alone : (a : ℕ) (k : Kind) (rs : List AddressRun)
     → IsPast (λ j. cond (same_kind j k) (a + 1 + 1) (a + 1)) rs
-    → with_address a k rs ≡ (a, 1, k) ∷ rs
+    → with_address a k rs ≡ run_from a 1 k ∷ rs
 alone a k [] h = refl
-alone a k (run ∷ rs) h = rw (off (a + 1) run.0 k run.2 h (low_end (a + 1) run.0 k run.2 h)) refl
+alone a k (run ∷ rs) h =
+    let low = low_end (a + 1) run.start k run.kind h in
+    rw (off (a + 1) run.start k run.kind h low) refl
 
-past_at : (rs : List Extent) (k : Kind) (m n : ℕ) → m ≡ n
+past_at : (rs : List AddressRun) (k : Kind) (m n : ℕ) → m ≡ n
     → IsPast (λ j. cond (same_kind j k) (m + 1) m) rs
     → IsPast (λ j. cond (same_kind j k) (n + 1) n) rs
 past_at rs k m n e h = rw e at h
 
-module _ (f : Seen) (shows : (slot : ℕ) (kind : Kind) → kind_of (f slot kind) ≡ kind) (next : List ℕ)
-  where
-    one-run : (start first n : ℕ) (kind : Kind) (more : List (ℕ × Mapping))
-        → IsPast (λ j. cond (same_kind j kind) (start + suc n + 1) (start + suc n)) (runs_of more)
-        → runs_of (entries_by f (singles next start first (suc n) kind) ++ more)
-        ≡ (start, suc n, kind) ∷ runs_of more
-    unfolding singles
-    one-run start first zero kind more h =
-        ap (λ k. with_address start k (runs_of more)) (shows first kind)
-        ∙ alone start kind (runs_of more) (past_at (runs_of more) kind (start + suc 0) (start + 1)
-        (omega arith) h)
-    one-run start first (suc n) kind more h =
-        let g : suc n + 1 ≡ suc (suc n) = omega arith in
-        let rest = one-run (start + 1) (slice_index next first) n kind more
-        (past_at (runs_of more) kind (start + suc (suc n)) (start + 1 + suc n) (omega arith) h) in
-        ap₂ (λ k rs. with_address start k rs) (shows first kind) rest
-        ∙ rw (on (start + 1) kind) (ap (λ k. (start, k, kind) ∷ runs_of more) g)
+module _ (f : Seen Mapping) (shows : (slot : ℕ) (kind : Kind) → kind_of (f slot kind) ≡ kind)
+    (next : List ℕ) where
+  one-run : (start first n : ℕ) (kind : Kind) (more : List (ℕ × Mapping))
+      → IsPast (λ j. cond (same_kind j kind) (start + suc n + 1) (start + suc n)) (runs_of more)
+      → runs_of (entries_by f (singles next start first (suc n) kind) ++ more)
+      ≡ run_from start (suc n) kind ∷ runs_of more
+  unfolding singles
+  one-run start first zero kind more h =
+      ap (λ k. with_address start k (runs_of more)) (shows first kind)
+      ∙ alone start kind (runs_of more) (past_at (runs_of more) kind (start + suc 0) (start + 1)
+      (omega arith) h)
+  one-run start first (suc n) kind more h =
+      let g : suc n + 1 ≡ suc (suc n) = omega arith in
+      let rest = one-run (start + 1) (slice_index next first) n kind more
+      (past_at (runs_of more) kind (start + suc (suc n)) (start + 1 + suc n) (omega arith) h) in
+      ap₂ (λ k rs. with_address start k rs) (shows first kind) rest
+      ∙ rw (on (start + 1) kind) (ap (λ k. run_from start k kind ∷ runs_of more) g)
 
-    past-extents : (rs : List Run) (low high : Bound) → AreMaximalIn low high rs
-        → IsPast low (map extent_of rs)
-    past-extents [] low high h = tt
-    past-extents (run ∷ rs) low high h = h.0
+  past-addresses : (rs : List Run) (low high : Bound) → AreMaximalIn low high rs
+      → IsPast low (map address_run rs)
+  past-addresses [] low high h = tt
+  past-addresses (run ∷ rs) low high h = h.0
 
-    a_run : (run : Run) (n : ℕ) (more : List (ℕ × Mapping)) → run.count ≡ suc n
-        → IsPast (behind run) (runs_of more)
-        → runs_of (entries_by f (singles_of next run) ++ more) ≡ extent_of run ∷ runs_of more
-    a_run run n more e h =
-        let g : end_of run ≡ run.start + suc n = omega (arith, e) in
-        ap (λ k. runs_of (entries_by f (singles next run.start run.first k run.kind) ++ more)) e
-        ∙ one-run run.start run.first n run.kind more
-        (past_at (runs_of more) run.kind (end_of run) (run.start + suc n) g h)
-        ∙ ap (λ k. (run.start, k, run.kind) ∷ runs_of more) (sym e)
+  a_run : (run : Run) (n : ℕ) (more : List (ℕ × Mapping)) → run.count ≡ suc n
+      → IsPast (behind run) (runs_of more)
+      → runs_of (entries_by f (singles_of next run) ++ more) ≡ address_run run ∷ runs_of more
+  a_run run n more e h =
+      let g : end_of run ≡ run.start + suc n = omega (arith, e) in
+      ap (λ k. runs_of (entries_by f (singles next run.start run.first k run.kind) ++ more)) e
+      ∙ one-run run.start run.first n run.kind more
+      (past_at (runs_of more) run.kind (end_of run) (run.start + suc n) g h)
+      ∙ ap (λ k. run_from run.start k run.kind ∷ runs_of more) (sym e)
 
-    runs-expanded : (rs : List Run) (low high : Bound) → AreMaximalIn low high rs
-        → runs_of (entries_by f (expanded next rs)) ≡ map extent_of rs
-    runs-expanded [] low high h = ap (λ xs. runs_of (entries_by f xs)) (expanded-none next)
-    runs-expanded (run ∷ rs) low high h =
-        let rest = runs-expanded rs (behind run) high h.2 in
-        let e : run.count ≡ suc (run.count - 1) = omega (arith, h.1) in
-        let later : IsPast (behind run) (runs_of (entries_by f (expanded next rs))) =
-        rw rest (past-extents rs (behind run) high h.2) in
-        ap (λ xs. runs_of (entries_by f xs)) (expanded-more next run rs)
-        ∙ ap runs_of (entries-append f (singles_of next run) (expanded next rs))
-        ∙ a_run run (run.count - 1) (entries_by f (expanded next rs)) e later
-        ∙ ap (λ xs. extent_of run ∷ xs) rest
+  runs-expanded : (rs : List Run) (low high : Bound) → AreMaximalIn low high rs
+      → runs_of (entries_by f (expanded next rs)) ≡ map address_run rs
+  runs-expanded [] low high h = ap (λ xs. runs_of (entries_by f xs)) (expanded-none next)
+  runs-expanded (run ∷ rs) low high h =
+      let rest = runs-expanded rs (behind run) high h.2 in
+      let e : run.count ≡ suc (run.count - 1) = omega (arith, h.1) in
+      let later : IsPast (behind run) (runs_of (entries_by f (expanded next rs))) =
+      rw rest (past-addresses rs (behind run) high h.2) in
+      ap (λ xs. runs_of (entries_by f xs)) (expanded-more next run rs)
+      ∙ ap runs_of (entries-append f (singles_of next run) (expanded next rs))
+      ∙ a_run run (run.count - 1) (entries_by f (expanded next rs)) e later
+      ∙ ap (λ xs. address_run run ∷ xs) rest
 
 -- the single addresses of maximal runs rise
 pub maximal-expanded : (next : List ℕ) (rs : List Run) (a b : ℕ) → AreMaximal a b rs
@@ -125,10 +121,10 @@ maximal-expanded next rs a b h = sorted-between (expanded next rs) a b
     (between-expanded next rs a b (apart-loose rs a a b (omega arith) h))
 
 -- the records are the maximal runs
-pub runs-extents : (next : List ℕ) (rs : List Run) (bs : List (List ℕ)) (a b : ℕ)
-    → AreMaximal a b rs → runs (contents_of (expanded next rs) bs) ≡ map extent_of rs
+pub runs-addresses : (next : List ℕ) (rs : List Run) (bs : List (List ℕ)) (a b : ℕ)
+    → AreMaximal a b rs → runs (contents_of (expanded next rs) bs) ≡ map address_run rs
 unfolding runs
-runs-extents next rs bs a b h =
+runs-addresses next rs bs a b h =
     ap runs_of (entries-sorted (mapping_in bs) (expanded next rs) (maximal-expanded next rs a b h))
     ∙ runs-expanded (mapping_in bs) (blocks-show bs) next rs (any_from a) (any_from b) h
 
@@ -139,7 +135,7 @@ starts_meets : (lba count start n : ℕ) → 0 < n
 starts_meets lba count start n some = grind (arith, nat_tests)
 
 starts-le : (rs : List Run) (low high : Bound) (lba count : ℕ) → AreMaximalIn low high rs
-    → count_by (starts_in lba (lba + count)) rs ≤ count_by (meets lba count) (map extent_of rs)
+    → count_by (starts_in lba (lba + count)) rs ≤ count_by (meets lba count) (map address_run rs)
 starts-le [] low high lba count k = omega arith
 starts-le (run ∷ rs) low high lba count k =
     omega (
@@ -147,14 +143,14 @@ starts-le (run ∷ rs) low high lba count k =
       starts_meets lba count run.start run.count k.1,
       starts-le rs (behind run) high lba count k.2,
       count-more (starts_in lba (lba + count)) run rs,
-      count-more (meets lba count) (extent_of run) (map extent_of rs),
+      count-more (meets lba count) (address_run run) (map address_run rs),
     )
 
 pub starts-meet : (next : List ℕ) (rs : List Run) (bs : List (List ℕ)) (a b lba count : ℕ)
     → AreMaximal a b rs → count_by (starts_in lba (lba + count)) rs ≤ meet
     (contents_of (expanded next rs) bs) lba count
 unfolding meet
-starts-meet next rs bs a b lba count h = rw (runs-extents next rs bs a b h)
+starts-meet next rs bs a b lba count h = rw (runs-addresses next rs bs a b h)
     (starts-le rs (any_from a) (any_from b) lba count h)
 
 -- the runs that were gathered are near
@@ -162,16 +158,13 @@ near_block : (lba high start n : ℕ) → lba ≤ start + n → start ≤ high
     → cond {A = ℕ} (nat_le lba (start + n) && nat_le start high) n 0 ≡ n
 near_block lba high start n h k = grind (arith, nat_tests)
 
-abbrev near_blocks : (lba count : ℕ) → Extent → ℕ
-near_blocks lba count run = cond (nat_le lba (run.0 + run.1) && nat_le run.0 (lba + count)) run.1 0
-
-near-extents : (ms : List Run) (lba count : ℕ) → AreNear lba (lba + count) ms
-    → sum_by (near_blocks lba count) (map extent_of ms) ≡ blocks_of ms
-near-extents [] lba count h = refl
-near-extents (run ∷ ms) lba count h =
+near-addresses : (ms : List Run) (lba count : ℕ) → AreNear lba (lba + count) ms
+    → sum_by (blocks_if_near lba count) (map address_run ms) ≡ blocks_of ms
+near-addresses [] lba count h = refl
+near-addresses (run ∷ ms) lba count h =
     let one = near_block lba (lba + count) run.start run.count h.0 h.1 in
-    let rest = near-extents ms lba count h.2 in
-    let a = sum_by-cons (near_blocks lba count) (extent_of run) (map extent_of ms) in
+    let rest = near-addresses ms lba count h.2 in
+    let a = sum_by-cons (blocks_if_near lba count) (address_run run) (map address_run ms) in
     let b = sum_by-cons (λ (r : Run). r.count) run ms in
     omega arith
 
@@ -181,19 +174,19 @@ pub near-gathered : (next : List ℕ) (rs : List Run) (bs : List (List ℕ)) (ga
     → blocks_of gathered.records ≤ blocks_near (contents_of (expanded next rs) bs) lba count
 unfolding blocks_near
 near-gathered next rs bs gathered lba count bound h g =
-    let f = near_blocks lba count in
-    let told_runs = runs-extents next rs bs 0 bound h in
-    let parts : map extent_of rs ≡ map extent_of (take gathered.from rs) ++
-    (map extent_of gathered.records ++ map extent_of (drop (end_index gathered) rs))
-    = ap (map extent_of) (sym g.same) ∙ map-append extent_of (take gathered.from rs)
+    let f = blocks_if_near lba count in
+    let told_runs = runs-addresses next rs bs 0 bound h in
+    let parts : map address_run rs ≡ map address_run (take gathered.from rs) ++
+    (map address_run gathered.records ++ map address_run (drop (end_index gathered) rs))
+    = ap (map address_run) (sym g.same) ∙ map-append address_run (take gathered.from rs)
     (gathered.records ++ drop (end_index gathered) rs)
-    ∙ ap (λ xs. map extent_of (take gathered.from rs) ++ xs)
-    (map-append extent_of gathered.records (drop (end_index gathered) rs)) in
-    let a = sum_by-append f (map extent_of (take gathered.from rs))
-    (map extent_of gathered.records ++ map extent_of (drop (end_index gathered) rs)) in
-    let b = sum_by-append f (map extent_of gathered.records)
-    (map extent_of (drop (end_index gathered) rs)) in
-    let own = near-extents gathered.records lba count g.near in
+    ∙ ap (λ xs. map address_run (take gathered.from rs) ++ xs)
+    (map-append address_run gathered.records (drop (end_index gathered) rs)) in
+    let a = sum_by-append f (map address_run (take gathered.from rs))
+    (map address_run gathered.records ++ map address_run (drop (end_index gathered) rs)) in
+    let b = sum_by-append f (map address_run gathered.records)
+    (map address_run (drop (end_index gathered) rs)) in
+    let own = near-addresses gathered.records lba count g.near in
     rw (told_runs, parts) (omega arith)
 
 -- runs that end before a range, and runs that begin past it, do not meet it
@@ -206,7 +199,7 @@ pub begins_past : (lba count start n : ℕ) → lba + count ≤ start
 begins_past lba count start n le = grind (arith, nat_tests)
 
 none-before : (rs : List Run) (a lba count : ℕ) → AreApart a lba rs
-    → count_by (meets lba count) (map extent_of rs) ≡ 0
+    → count_by (meets lba count) (map address_run rs) ≡ 0
 none-before [] a lba count h = omega arith
 none-before (run ∷ rs) a lba count h =
     let le = apart-le rs (end_of run) lba h.2 in
@@ -214,18 +207,18 @@ none-before (run ∷ rs) a lba count h =
       arith,
       ends_before lba count run.start run.count (omega (arith, le)),
       none-before rs (end_of run) lba count h.2,
-      count-more (meets lba count) (extent_of run) (map extent_of rs),
+      count-more (meets lba count) (address_run run) (map address_run rs),
     )
 
 none-after : (rs : List Run) (a b lba count : ℕ) → AreApart a b rs → lba + count ≤ a
-    → count_by (meets lba count) (map extent_of rs) ≡ 0
+    → count_by (meets lba count) (map address_run rs) ≡ 0
 none-after [] a b lba count h le = omega arith
 none-after (run ∷ rs) a b lba count h le =
     omega (
       arith,
       begins_past lba count run.start run.count (omega (arith, h.0)),
       none-after rs (end_of run) b lba count h.2 (omega (arith, h.0)),
-      count-more (meets lba count) (extent_of run) (map extent_of rs),
+      count-more (meets lba count) (address_run run) (map address_run rs),
     )
 
 -- the runs that meet a range are among those that were gathered
@@ -235,34 +228,34 @@ pub meet-gathered : (next : List ℕ) (rs : List Run) (bs : List (List ℕ)) (ga
     → meet (contents_of (expanded next rs) bs) lba count ≤ length gathered.records
 unfolding meet
 meet-gathered next rs bs gathered lba count bound h g =
-    let extents = runs-extents next rs bs 0 bound h in
-    let front = map extent_of (take gathered.from rs) in
-    let back = map extent_of (drop (end_index gathered) rs) in
-    let parts : map extent_of rs ≡ front ++ (map extent_of gathered.records ++ back)
-    = ap (map extent_of) (sym g.same) ∙ map-append extent_of (take gathered.from rs)
+    let addresses = runs-addresses next rs bs 0 bound h in
+    let front = map address_run (take gathered.from rs) in
+    let back = map address_run (drop (end_index gathered) rs) in
+    let parts : map address_run rs ≡ front ++ (map address_run gathered.records ++ back)
+    = ap (map address_run) (sym g.same) ∙ map-append address_run (take gathered.from rs)
     (gathered.records ++ drop (end_index gathered) rs)
-    ∙ ap (λ xs. front ++ xs) (map-append extent_of gathered.records
+    ∙ ap (λ xs. front ++ xs) (map-append address_run gathered.records
     (drop (end_index gathered) rs)) in
-    let a = count-append (meets lba count) front (map extent_of gathered.records ++ back) in
-    let b = count-append (meets lba count) (map extent_of gathered.records) back in
+    let a = count-append (meets lba count) front (map address_run gathered.records ++ back) in
+    let b = count-append (meets lba count) (map address_run gathered.records) back in
     let x = none-before (take gathered.from rs) 0 lba count
     (apart-loose (take gathered.from rs) 0 0 lba (omega arith) g.before) in
     let y = none-after (drop (end_index gathered) rs) (lba + count) bound lba count
     (apart-loose (drop (end_index gathered) rs) (lba + count + 1) (lba + count) bound (omega arith)
     g.after) (omega arith) in
-    let z = count_by-le-length (meets lba count) (map extent_of gathered.records) in
-    rw (extents, parts) (omega (arith, length-map gathered.records extent_of))
+    let z = count_by-le-length (meets lba count) (map address_run gathered.records) in
+    rw (addresses, parts) (omega (arith, length-map gathered.records address_run))
 
 meets_none : (lba count start n : ℕ) → count ≡ 0
     → cond {A = ℕ} (nat_lt (max start lba) (min (start + n) (lba + count))) 1 0 ≡ 0
 meets_none lba count start n e = grind (arith, nat_tests)
 
 -- no run meets a range of no address
-pub none-meet : (rs : List Extent) (lba count : ℕ) → count ≡ 0 → count_by (meets lba count) rs ≡ 0
+pub none-meet : (rs : List AddressRun) (lba count : ℕ) → count ≡ 0 → count_by (meets lba count) rs ≡ 0
 none-meet [] lba count e = omega arith
 none-meet (run ∷ rs) lba count e = omega (
   arith,
-  meets_none lba count run.0 run.1 e,
+  meets_none lba count run.start run.count e,
   none-meet rs lba count e,
   count-more (meets lba count) run rs,
 )

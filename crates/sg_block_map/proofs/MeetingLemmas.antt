@@ -11,10 +11,10 @@ use Rattle.sg_table.specs.declared.run.Run.{Run}
 use Rattle.sg_store.specs.Disk.{max_capacity}
 use Rattle.sg_block_map.specs.Gathering.{end_at}
 use Rattle.sg_block_map.specs.MaximalRuns.{meets, meet}
-use Rattle.sg_block_map.specs.Runs.{AreRuns, chained_contents, extent_of}
+use Rattle.sg_block_map.specs.Runs.{AreRuns, chained_contents, address_run}
 use Rattle.sg_block_map.specs.Status.{IsRunTable, AreMet, AreFrom, records_met}
 use Rattle.sg_store.proofs.DiskLemmas.{count-more}
-use Rattle.sg_block_map.proofs.MaximalLemmas.{ends_before, begins_past, none-meet, runs-extents}
+use Rattle.sg_block_map.proofs.MaximalLemmas.{ends_before, begins_past, none-meet, runs-addresses}
 
 -- how many runs a range meets
 meets_one : (lba count start n : ℕ) → lba < start + n → start < lba + count → 0 < count → 0 < n
@@ -34,7 +34,7 @@ met-more (x ∷ rs) (suc from) (suc to) low count filled le within before met so
     (omega arith) (λ i lt. before (suc i) (omega arith))
     (λ i ge lt. met (suc i) (omega arith) (omega arith)) some
     (λ i ge lt. rest (suc i) (omega arith) (omega arith)) in
-    omega (arith, count-more (meets low count) (extent_of x) (map extent_of rs))
+    omega (arith, count-more (meets low count) (address_run x) (map address_run rs))
 met-more (x ∷ rs) zero (suc to) low count filled le within before met some rest =
     let m = met 0 (omega arith) (omega arith) in
     let here = meets_one low count x.start x.count m.0 m.1 some
@@ -43,16 +43,16 @@ met-more (x ∷ rs) zero (suc to) low count filled le within before met some res
     (omega arith) (λ i lt. absurd (omega arith))
     (λ i ge lt. met (suc i) (omega arith) (omega arith)) some
     (λ i ge lt. rest (suc i) (omega arith) (omega arith)) in
-    omega (arith, count-more (meets low count) (extent_of x) (map extent_of rs))
+    omega (arith, count-more (meets low count) (address_run x) (map address_run rs))
 met-more (x ∷ rs) zero zero low count filled le within before met some rest =
     let here = begins_past low count x.start x.count (rest 0 (omega arith) (omega arith)) in
     let more = met-more rs zero zero low count (λ i lt. filled (suc i) (omega arith)) (omega arith)
     (omega arith) (λ i lt. absurd (omega arith))
     (λ i ge lt. absurd (omega arith)) some (λ i ge lt. rest (suc i) (omega arith) (omega arith)) in
-    omega (arith, count-more (meets low count) (extent_of x) (map extent_of rs))
+    omega (arith, count-more (meets low count) (address_run x) (map address_run rs))
 
 pub met-none : (rs : List Run) (low count : ℕ) → count ≡ 0 → records_met rs low count ≡ 0
-met-none rs low count e = none-meet (map extent_of rs) low count e
+met-none rs low count e = none-meet (map address_run rs) low count e
 
 pub met-count : (rs : List Run) (capacity from to low count : ℕ) → IsRunTable capacity rs
     → from ≤ to → to ≤ length rs
@@ -69,4 +69,4 @@ pub meet-records : (rs : List Run) (slots : Slots) (room lba count : ℕ) → Ar
     → meet (chained_contents rs slots) lba count ≡ records_met rs lba count
 unfolding meet
 meet-records rs slots room lba count h =
-    rw (runs-extents slots.next rs slots.blocks 0 (max_capacity + 1) h.maximal) refl
+    rw (runs-addresses slots.next rs slots.blocks 0 (max_capacity + 1) h.maximal) refl

@@ -12,19 +12,19 @@ use Rattle.sg_block_map.proofs.BetweenLemmas.{apart-sorted}
 
 -- ---- Bounds
 
+pub one_more-low : (b : Bool) (n : ℕ) → n ≤ cond b (n + 1) n
+one_more-low true n = omega arith
+one_more-low false n = omega arith
+
+pub one_more-high : (b : Bool) (n : ℕ) → cond b (n + 1) n ≤ n + 1
+one_more-high true n = omega arith
+one_more-high false n = omega arith
+
 pub behind-low : (run : Run) (kind : Kind) → end_of run ≤ behind run kind
-behind-low run kind = either (same_kind kind run.kind) (end_of run)
-  where
-    either : (b : Bool) (n : ℕ) → n ≤ cond b (n + 1) n
-    either true n = omega arith
-    either false n = omega arith
+behind-low run kind = one_more-low (same_kind kind run.kind) (end_of run)
 
 pub behind-high : (run : Run) (kind : Kind) → behind run kind ≤ end_of run + 1
-behind-high run kind = either (same_kind kind run.kind) (end_of run)
-  where
-    either : (b : Bool) (n : ℕ) → cond b (n + 1) n ≤ n + 1
-    either true n = omega arith
-    either false n = omega arith
+behind-high run kind = one_more-high (same_kind kind run.kind) (end_of run)
 
 -- A bound is narrow if it is for no kind more than one past that for another.
 abbrev pub IsNarrow : Bound → Type 0

@@ -35,10 +35,10 @@ either_some : (b : Bool) (v : Mapping) (o : Option Mapping)
 either_some true v o = refl
 either_some false v o = refl
 
-empty_at : (f : Seen) (q : ℕ) → used_at (contents_by f []) q ≡ 0
+empty_at : (f : Seen Mapping) (q : ℕ) → used_at (contents_by f []) q ≡ 0
 empty_at f q = none_used f [] q (λ j lt. absurd (omega arith))
 
-empty_among : (f : Seen) (a k : ℕ) → used_among (contents_by f []) a k ≡ 0
+empty_among : (f : Seen Mapping) (a k : ℕ) → used_among (contents_by f []) a k ≡ 0
 empty_among f a zero = used_among-none (contents_by f []) a
 empty_among f a (suc k) =
     let e : suc k ≡ k + 1 = omega arith in
@@ -95,7 +95,7 @@ among_insert m x v a (suc k) none =
     ])
 
 -- addresses that rise, one by one
-among_count : (xs : List Run) (f : Seen) (low high a k : ℕ) → AreBetween low high xs
+among_count : (xs : List Run) (f : Seen Mapping) (low high a k : ℕ) → AreBetween low high xs
     → used_among (contents_by f xs) a k ≡ count_by (λ (x : Run). lies_in a k x.start) xs
 among_count [] f low high a k h = empty_among f a k
 among_count (x ∷ xs) f low high a k h =
@@ -143,7 +143,7 @@ count_apart next a k (run ∷ runs) =
     let sum = sum_by-cons (overlap a (a + k)) run runs in
     omega arith
 
-pub mapped-overlap : (next : List ℕ) (runs : List Run) (f : Seen) (low high a k : ℕ)
+pub mapped-overlap : (next : List ℕ) (runs : List Run) (f : Seen Mapping) (low high a k : ℕ)
     → AreApart low high runs → used_among (contents_by f (expanded next runs)) a k ≡
     sum_by (overlap a (a + k)) runs
 mapped-overlap next runs f low high a k h = among_count (expanded next runs) f low high a k

@@ -1,96 +1,71 @@
--- What contents have without some of the records.
-use Rattle.std.proofs.Common.{◌≡◌, ℕ, ◌-◌, ◌<◌, ◌≤◌, List, [], ◌∷◌, ◌++◌, arith, refl, sym, ap, ◌∙◌}
-use Rattle.std.proofs.Common.{Some, None, cond, inl, inr}
-use Rattle.std.proofs.lemmas.Bool.{cases_lt}
-use Rattle.std.specs.Cmp.{nat_cmp_total}
-use Rattle.std.specs.FinMap as map
-use Rattle.std.specs.FinMap.{find, get-from_entries, same_map, nat_cmp-IsAntisymmetric}
-use Rattle.std.specs.Ordering.{nat_cmp, eq_by_cmp}
-use Rattle.sg_store.specs.Disk.{lies_in, unmapped}
-use Rattle.sg_pool.specs.MappedRecords.{Seen, entries_by, contents_by}
+-- Single addresses without those of a range.
+use Rattle.std.proofs.Common.{◌≡◌, ℕ, ◌+◌, ◌-◌, ◌≤◌, List, [], ◌∷◌, ◌++◌, arith, refl, sym, ap}
+use Rattle.std.proofs.Common.{ap₂, ◌∙◌}
+use Rattle.std.proofs.lemmas.List.Elements.{filter-append}
+use Rattle.std.specs.Prelude.{not}
+use Rattle.sg_store.specs.Disk.{lies_in}
+use Rattle.sg_pool.specs.MappedRecords.{outside_records}
 use Rattle.sg_table.specs.declared.run.Run.{Run}
 use Rattle.sg_block_map.specs.Runs.{expanded, AreApart, AreBetween}
 use Rattle.sg_store.proofs.DiskLemmas.{inside, below, above}
-use Rattle.sg_block_map.proofs.BetweenLemmas.{between-expanded}
-use Rattle.sg_block_map.proofs.ContentsLemmas.{get-unmapped, find-below}
-use Rattle.sg_block_map.proofs.ContentsLemmas.{find-above, find-right}
+use Rattle.sg_block_map.proofs.BetweenLemmas.{between-expanded, between-le}
 use Rattle.sg_block_map.proofs.ExpandedLemmas.{expanded-append}
 
--- records that do not have the address
-pub find-skip : (xs ys zs : List Run) (f : Seen) (q : ℕ)
-    → find nat_cmp q (entries_by f ys) ≡ None
-    → find nat_cmp q (entries_by f (xs ++ (ys ++ zs))) ≡
-    find nat_cmp q (entries_by f (xs ++ zs))
-find-skip [] ys zs f q none = find-right ys zs f q none
-find-skip (x ∷ xs) ys zs f q none =
-    ap (cond (eq_by_cmp nat_cmp q x.start) (Some (f x.first x.kind)))
-    (find-skip xs ys zs f q none)
+outside-append : (xs ys : List Run) (a k : ℕ)
+    → outside_records (xs ++ ys) a k ≡ outside_records xs a k ++ outside_records ys a k
+outside-append xs ys a k = filter-append (λ (run : Run). not (lies_in a k run.start)) xs ys
 
-get-skip : (xs ys zs : List Run) (f : Seen) (q : ℕ)
-    → find nat_cmp q (entries_by f ys) ≡ None
-    → map.get (contents_by f (xs ++ zs)) q ≡ map.get (contents_by f (xs ++ (ys ++ zs))) q
-get-skip xs ys zs f q none = get-from_entries nat_cmp_total (entries_by f (xs ++ zs)) q
-    ∙ sym (find-skip xs ys zs f q none) ∙ sym
-    (get-from_entries nat_cmp_total (entries_by f (xs ++ (ys ++ zs))) q)
+pub outside-both : (xs ys : List Run) (a k : ℕ) → outside_records xs a k ≡ xs
+    → outside_records ys a k ≡ ys → outside_records (xs ++ ys) a k ≡ xs ++ ys
+outside-both xs ys a k one other = outside-append xs ys a k ∙ ap₂ (λ vs ws. vs ++ ws) one other
 
-get-less : (xs ys zs : List Run) (f : Seen) (low high q : ℕ) → AreBetween low high ys
-    → low ≤ high
-    → cond (lies_in low (high - low) q) None (map.get (contents_by f (xs ++ zs)) q) ≡
-    cond (lies_in low (high - low) q) None (map.get (contents_by f (xs ++ (ys ++ zs))) q)
-get-less xs ys zs f low high q h le = elim (cases_lt q low) [
-  | inl lt ↦ ap (cond (lies_in low (high - low) q) None)
-      (get-skip xs ys zs f q (find-below ys f low high q h lt))
-  | inr ge ↦ elim (cases_lt q high) [
-    | inl lt ↦ rw (inside low (high - low) q ge (omega arith)) refl
-    | inr beyond ↦ ap (cond (lies_in low (high - low) q) None)
-        (get-skip xs ys zs f q (find-above ys f low high q h beyond))
-  ]
-]
+-- addresses before a range and behind it, and those of it
+pub outside-before : (xs : List Run) (low high a k : ℕ) → high ≤ a → AreBetween low high xs
+    → outside_records xs a k ≡ xs
+outside-before [] low high a k le h = refl
+outside-before (x ∷ xs) low high a k le h =
+    let first = between-le xs (x.start + 1) high h.1 in
+    rw (below a k x.start (omega arith))
+    (ap (λ zs. x ∷ zs) (outside-before xs (x.start + 1) high a k le h.1))
 
--- what is unmapped anyway
-pub unmapped-less : (xs ys zs : List Run) (f : Seen) (low high : ℕ) → low ≤ high
-    → AreBetween low high ys
-    → unmapped (contents_by f (xs ++ zs)) low (high - low) ≡
-    unmapped (contents_by f (xs ++ (ys ++ zs))) low (high - low)
-unmapped-less xs ys zs f low high le h =
-    same_map nat_cmp_total nat_cmp-IsAntisymmetric _ _ (λ q.
-    get-unmapped (contents_by f (xs ++ zs)) low (high - low) q
-    ∙ get-less xs ys zs f low high q h le
-    ∙ sym (get-unmapped (contents_by f (xs ++ (ys ++ zs))) low (high - low) q))
+pub outside-behind : (xs : List Run) (low high a k : ℕ) → a + k ≤ low → AreBetween low high xs
+    → outside_records xs a k ≡ xs
+outside-behind [] low high a k le h = refl
+outside-behind (x ∷ xs) low high a k le h = rw (above a k x.start (omega (arith, h.0)))
+    (ap (λ zs. x ∷ zs) (outside-behind xs (x.start + 1) high a k (omega (arith, h.0)) h.1))
 
-pub outside-append : (next : List ℕ) (xs ys : List Run) (f : Seen) (q : ℕ)
-    → find nat_cmp q (entries_by f (expanded next xs)) ≡ None
-    → find nat_cmp q (entries_by f (expanded next ys)) ≡ None
-    → find nat_cmp q (entries_by f (expanded next (xs ++ ys))) ≡ None
-outside-append next xs ys f q none other =
-    ap (λ zs. find nat_cmp q (entries_by f zs)) (expanded-append next xs ys)
-    ∙ find-right (expanded next xs) (expanded next ys) f q none ∙ other
+outside-inside : (xs : List Run) (low high a k : ℕ) → a ≤ low → high ≤ a + k
+    → AreBetween low high xs → outside_records xs a k ≡ []
+outside-inside [] low high a k le within h = refl
+outside-inside (x ∷ xs) low high a k le within h =
+    let first = between-le xs (x.start + 1) high h.1 in
+    rw (inside a k x.start (omega (arith, h.0)) (omega arith))
+    (outside-inside xs (x.start + 1) high a k (omega (arith, h.0)) within h.1)
+
+-- addresses of the range can as well be left out before
+pub outside-less : (xs ys zs : List Run) (low high : ℕ) → low ≤ high → AreBetween low high ys
+    → outside_records (xs ++ zs) low (high - low)
+    ≡ outside_records (xs ++ (ys ++ zs)) low (high - low)
+outside-less xs ys zs low high le h =
+    outside-append xs zs low (high - low)
+    ∙ sym (outside-append xs (ys ++ zs) low (high - low)
+    ∙ ap (λ ws. outside_records xs low (high - low) ++ ws) (outside-append ys zs low (high - low)
+    ∙ ap (λ ws. ws ++ outside_records zs low (high - low))
+    (outside-inside ys low high low (high - low) (omega arith) (omega arith) h)))
 
 -- nothing is left in the range
-pub nothing-left : (next : List ℕ) (xs kept ys : List Run) (f : Seen)
-    (low high bound : ℕ) → low ≤ high → AreApart 0 low xs → AreApart high bound ys
-    → ((q : ℕ) → low ≤ q → q < high → find nat_cmp q (entries_by f (expanded next kept)) ≡
-    None)
-    → contents_by f (expanded next (xs ++ (kept ++ ys))) ≡
-    unmapped (contents_by f (expanded next (xs ++ (kept ++ ys)))) low (high - low)
-nothing-left next xs kept ys f low high bound le h k none =
-    same_map nat_cmp_total nat_cmp-IsAntisymmetric _ _ (λ q.
-    sym (get-unmapped (contents_by f (expanded next (xs ++ (kept ++ ys)))) low (high - low) q
-    ∙ (elim (cases_lt q low) [
-      | inl lt ↦ ap (λ b. cond b None (map.get
-          (contents_by f (expanded next (xs ++ (kept ++ ys)))) q))
-          (below low (high - low) q lt)
-      | inr ge ↦ elim (cases_lt q high) [
-        | inl lt ↦ rw (inside low (high - low) q ge (omega arith)) (sym (
-            get-from_entries nat_cmp_total (entries_by f
-            (expanded next (xs ++ (kept ++ ys)))) q
-            ∙ outside-append next xs (kept ++ ys) f q
-            (find-above (expanded next xs) f 0 low q (between-expanded next xs 0 low h) ge)
-            (outside-append next kept ys f q (none q ge lt)
-            (find-below (expanded next ys) f high bound q
-            (between-expanded next ys high bound k) (omega arith)))))
-        | inr beyond ↦ ap (λ b. cond b None (map.get
-            (contents_by f (expanded next (xs ++ (kept ++ ys)))) q))
-            (above low (high - low) q (omega arith))
-      ]
-    ])))
+pub nothing-left : (next : List ℕ) (xs kept ys : List Run) (low high bound : ℕ) → low ≤ high
+    → AreApart 0 low xs → AreApart high bound ys
+    → outside_records (expanded next kept) low (high - low) ≡ expanded next kept
+    → expanded next (xs ++ (kept ++ ys))
+    ≡ outside_records (expanded next (xs ++ (kept ++ ys))) low (high - low)
+nothing-left next xs kept ys low high bound le h k none =
+    let parts = expanded-append next xs (kept ++ ys)
+    ∙ ap (λ zs. expanded next xs ++ zs) (expanded-append next kept ys) in
+    parts ∙ sym (ap (λ zs. outside_records zs low (high - low)) parts
+    ∙ outside-both (expanded next xs) (expanded next kept ++ expanded next ys) low (high - low)
+    (outside-before (expanded next xs) 0 low low (high - low) (omega arith)
+    (between-expanded next xs 0 low h))
+    (outside-both (expanded next kept) (expanded next ys) low (high - low) none
+    (outside-behind (expanded next ys) high bound low (high - low) (omega arith)
+    (between-expanded next ys high bound k))))

@@ -1,9 +1,8 @@
 -- The descriptors of runs, and the visits that they take.
 use Rattle.std.proofs.Common.{◌≡◌, ◌≢◌, ℕ, ◌+◌, ◌-◌, ◌<◌, ◌≤◌, zero, suc, List, [], ◌∷◌, length}
 use Rattle.std.proofs.Common.{arith, refl, sym, ap, ◌∙◌, ◌⊎◌, inl}
-use Rattle.std.proofs.Common.{inr, true, false, Option, Some, None}
-use Rattle.std.proofs.lemmas.Bool.{cases_lt}
-use Rattle.std.proofs.lemmas.Bool.Decides.{nat_tests}
+use Rattle.std.proofs.Common.{inr, Option, Some, None}
+use Rattle.std.proofs.lemmas.Bool.{cases_lt, leb-true, leb-false}
 use Rattle.std.proofs.lemmas.List.Sums.{sum_by-cons}
 use Rattle.std.specs.FinMap.{get}
 use Rattle.std.specs.Prelude.{slice_index_or, min}
@@ -61,12 +60,6 @@ kind_at-read (x ∷ rs) zero r lt e = ap (λ (y : Run). y.kind) e
 kind_at-read (x ∷ rs) (suc i) r lt e = kind_at-read rs i r (omega arith) e
 
 -- the run of an address, from the cursor
-le_true : (x y : ℕ) → nat_le x y ≡ true → x ≤ y
-le_true x y e = grind (arith, nat_tests)
-
-le_false : (x y : ℕ) → nat_le x y ≡ false → y < x
-le_false x y e = grind (arith, nat_tests)
-
 over : (rs : List Run) (next : Option Run) (p lba : ℕ) (run : Run) → IsNext rs p next
     → run_over next lba ≡ Some run → (p < length rs) × (slice_index_or rs p run ≡ run)
     × (run.start ≤ lba)
@@ -76,7 +69,7 @@ over rs (Some r) p lba run n e =
       n.0,
       ap (λ y. slice_index_or rs p y) (sym both.1) ∙ n.1
           ∙ both.1,
-      omega (arith, le_true r.start lba both.0, ap (λ (y : Run). y.start) both.1),
+      omega (arith, leb-true r.start lba both.0, ap (λ (y : Run). y.start) both.1),
     )
 
 -- a run of the address
@@ -211,7 +204,7 @@ gap-start : (rs : List Run) (index lba capacity : ℕ) (next : Option Run) → I
     → run_over next lba ≡ None → lba < capacity → lba < end_of_gap next capacity
 gap-start rs index lba capacity None n e lt = lt
 gap-start rs index lba capacity (Some r) n e lt =
-    le_false r.start lba (dropped (nat_le r.start lba) r e)
+    leb-false r.start lba (dropped (nat_le r.start lba) r e)
 
 gap-after : (rs : List Run) (capacity index : ℕ) (next : Option Run) → IsRunTable capacity rs
     → IsNext rs index next → AreFrom rs index (end_of_gap next capacity)

@@ -24,7 +24,7 @@ use Rattle.sg_block_map.specs.Gathering.{starts_in, overlap, AreGathered, HaveRo
 use Rattle.sg_block_map.specs.Joining.{mapping_as}
 use Rattle.sg_block_map.specs.MaximalRuns.{runs, meet, blocks_near}
 use Rattle.sg_block_map.specs.RunCost.{block_price, CostsRuns, CostsRange}
-use Rattle.sg_block_map.specs.Runs.{extent_of, expanded, AreRuns, chained_contents, blocks_of}
+use Rattle.sg_block_map.specs.Runs.{address_run, expanded, AreRuns, chained_contents, blocks_of}
 use Rattle.sg_block_map.specs.State.{disk_at, meter_at}
 use Rattle.sg_block_map.specs.Walking.{AreAhead}
 use Rattle.sg_store.proofs.DiskLemmas.{len-remapped}
@@ -36,7 +36,7 @@ use Rattle.sg_block_map.proofs.OrderLemmas.{maximal-sorted}
 use Rattle.sg_block_map.proofs.RunSlotLemmas.{runs-fit, gathered-blocks, length-expanded}
 use Rattle.sg_block_map.proofs.ExpandedLemmas.{expanded-none}
 use Rattle.sg_block_map.proofs.FinishLemmas.{gathered-ahead}
-use Rattle.sg_block_map.proofs.MaximalLemmas.{starts-meet, runs-extents, meet-gathered}
+use Rattle.sg_block_map.proofs.MaximalLemmas.{starts-meet, runs-addresses, meet-gathered}
 use Rattle.sg_block_map.proofs.MaximalLemmas.{near-gathered, none-meet}
 use Rattle.sg_block_map.proofs.OverlapLemmas.{mapped-overlap, mapped-gathered}
 
@@ -186,8 +186,8 @@ module _ (rs : List Run) (slots after_slots : Slots) (room lba count : ℕ) (bef
       (chained_contents rs slots) lba count → CostsRuns (chained_contents rs slots) lba count
       (meter_at before slots) (meter_at after after_slots)
   gathered-runs links =
-      let len = ap length (runs-extents slots.next rs slots.blocks 0
-      (max_capacity + 1) h.maximal) ∙ length-map rs extent_of
+      let len = ap length (runs-addresses slots.next rs slots.blocks 0
+      (max_capacity + 1) h.maximal) ∙ length-map rs address_run
       ∙ ap length (sym same) in
       record {
         probes = λ digits lt. let p = searched (after.probes - before.probes)
@@ -225,10 +225,10 @@ gathered-range before after slots after_slots capacity lba count gathered h g sm
     let is = counted.table in
     let rise = counted.probes_rise in
     let search = counted.search in
-    let least = counted.fewest_visits in
+    let least = counted.between.fewest_visits in
     let most : after.total
     ≤ before.total + count_by (starts_in lba (lba + count)) before.records + 2 =
-    omega (arith, counted.most_visits) in
+    omega (arith, counted.between.most_visits) in
     let rs = before.records in
     let room = before.room in
     let total : before.total ≤ after.total = omega (arith, least) in
@@ -236,11 +236,13 @@ gathered-range before after slots after_slots capacity lba count gathered h g sm
     let near = gathered-near rs slots room gathered lba count h g in
     let met = gathered-meet rs slots room gathered lba count h g in
     record {
-      cost = gathered-costs rs slots after_slots room lba count before after h refl is rise search
-          total small links_rise (omega (arith, blocks, links));
-      price = gathered-price rs slots after_slots room lba count before after h refl is rise search
-          total most;
-      least = omega (arith, least, met);
+      charge = record {
+        cost = gathered-costs rs slots after_slots room lba count before after h refl is rise search
+            total small links_rise (omega (arith, blocks, links));
+        price = gathered-price rs slots after_slots room lba count before after h refl is rise
+            search total most;
+        least = omega (arith, least, met);
+      };
       runs = gathered-runs rs slots after_slots room lba count before after h refl is rise search
           total (omega (arith, near, links));
     }
@@ -249,16 +251,18 @@ gathered-range before after slots after_slots capacity lba count gathered h g sm
 pub nothing-costs : (disk : Disk) (lba count : ℕ) (meter : Meter) → count ≡ 0
     → CostsRange disk lba count meter meter
 nothing-costs disk lba count meter e = record {
-  cost = record {
-    visits = refl;
-    visits_rise = omega arith;
-    probes_rise = omega arith;
-    probes = omega arith;
-    links_rise = omega arith;
-    links = omega arith;
-    restarts = refl;
+  charge = record {
+    cost = record {
+      visits = refl;
+      visits_rise = omega arith;
+      probes_rise = omega arith;
+      probes = omega arith;
+      links_rise = omega arith;
+      links = omega arith;
+      restarts = refl;
+    };
+    price = omega arith;
+    least = omega (arith, nothing-meets disk.contents lba count e);
   };
-  price = omega arith;
-  least = omega (arith, nothing-meets disk.contents lba count e);
   runs = nothing-runs disk.contents lba count meter;
 }

@@ -1,22 +1,20 @@
 -- Going over the addresses of runs.
 use Rattle.std.proofs.Common.{◌≡◌, ◌≢◌, ℕ, ◌+◌, ◌-◌, ◌<◌, ◌≤◌, List, [], ◌∷◌, ◌++◌, length, drop}
 use Rattle.std.proofs.Common.{arith, refl, sym, ap, ◌∙◌, append_assoc, Option, Some, None, cond}
-use Rattle.std.proofs.Common.{false, eq-eqb, length-append}
-use Rattle.std.proofs.lemmas.Bool.{eqb-true}
-use Rattle.std.proofs.lemmas.Bool.Decides.{nat_tests}
+use Rattle.std.proofs.Common.{eq-eqb, length-append}
+use Rattle.std.proofs.lemmas.Bool.{cond_both, cond-false, eqb-true, eqb-false, ne_eqb}
 use Rattle.std.specs.Cmp.{nat_cmp_total}
 use Rattle.std.specs.FinMap as map
 use Rattle.std.specs.FinMap.{find, get-from_entries}
 use Rattle.std.specs.Ordering.{nat_cmp}
 use Rattle.std.specs.Prelude.{slice_index, option_to_list, IfSome, unwrap_or, ◌==◌}
 use Rattle.sg_pool.specs.Chains.{chain, AreBelow}
-use Rattle.sg_store.specs.Disk.{data_in, block, max_capacity}
+use Rattle.sg_store.specs.Disk.{Mapping, data_in, block, max_capacity}
 use Rattle.sg_pool.specs.MappedRecords.{Seen, entries_by, contents_by}
 use Rattle.sg_table.specs.Records.{run_at, single}
 use Rattle.sg_table.specs.Records.{slots_of}
 use Rattle.sg_table.specs.declared.run.Run.{Run}
 use Rattle.sg_block_map.specs.Gathering.{AreNear}
-use Rattle.sg_block_map.specs.RunCostLaws.{either_way}
 use Rattle.sg_block_map.specs.Runs.{end_of, singles, singles_of, expanded, AreApart, AreChained}
 use Rattle.sg_block_map.specs.Runs.{Bound, any_from, behind, AreMaximalIn}
 use Rattle.sg_block_map.specs.Runs.{AreBetween}
@@ -35,15 +33,12 @@ use Rattle.sg_block_map.proofs.ExpandedLemmas.{chained-right, slots-singles, len
 use Rattle.sg_block_map.proofs.SplitLemmas.{slot-below, below-left, below-right, split-parts}
 use Rattle.sg_block_map.proofs.SplitLemmas.{rest-chain, expanded-one}
 
-not_number : (m n : ℕ) → (m == n) ≡ false → m ≢ n
-not_number m n e = grind (arith, nat_tests)
-
 pub passed-by : (P : List Run → Type 0) (next : List ℕ) (run : Run) (more : List Run)
     → 0 < run.count → (run.count ≡ 1 → P more) → (1 < run.count → P (rest_of next run 1 ∷ more))
     → P (passed next run more)
-passed-by P next run more some f g = either_way P (run.count == 1) more (rest_of next run 1 ∷ more)
-    (λ e. f (eqb-true run.count 1 e)) (λ e. let other = not_number run.count 1 e in
-    g (omega arith))
+passed-by P next run more some f g = cond_both (run.count == 1) more (rest_of next run 1 ∷ more) P
+    (λ e. f (eqb-true run.count 1 e))
+    (λ e. let other = eqb-false run.count 1 e in g (omega arith))
 
 -- what `pass` leaves where the run has more addresses
 pub passed-rest : (next : List ℕ) (run : Run) (more : List Run) (first : ℕ) → run.count ≢ 1
@@ -55,23 +50,15 @@ pub passed-rest : (next : List ℕ) (run : Run) (more : List Run) (first : ℕ) 
       last = run.last;
       kind = run.kind;
     } ∷ more ≡ passed next run more
-passed-rest next run more first other e = either_way
-    (λ xs. record {
-      start = run.start + 1;
-      count = run.count - 1;
-      first = first;
-      last = run.last;
-      kind = run.kind;
-    } ∷ more ≡ xs) (run.count == 1) more (rest_of next run 1 ∷ more)
-    (λ wrong. absurd (other (eqb-true run.count 1 wrong)))
-    (λ _. ap (λ s. record {
+passed-rest next run more first other e =
+    ap (λ s. record {
       start = run.start + 1;
       count = run.count - 1;
       first = s;
-      last =
-          run.last;
+      last = run.last;
       kind = run.kind;
-    } ∷ more) (e ∙ sym (slot_after-one next run.first)))
+    } ∷ more) (e ∙ sym (slot_after-one next run.first))
+    ∙ sym (cond-false (run.count == 1) more (rest_of next run 1 ∷ more) (ne_eqb run.count 1 other))
 
 singles-first : (next : List ℕ) (run : Run) → 1 < run.count
     → singles_of next run ≡ single run.start run.first run.kind ∷ singles_of next (rest_of next run 1)
@@ -117,8 +104,8 @@ not_there run lba none same = let is : run_at (Some run) lba ≡ Some run =
 pub there : (run : Option Run) (lba : ℕ) (found : Run) → run_at run lba ≡ Some found
     → (run ≡ Some found) × (found.start ≡ lba)
 there None lba found e = let wrong = e in cc
-there (Some run) lba found e = either_way (λ o. o ≡ Some found → (Some run ≡ Some found)
-    × (found.start ≡ lba)) (run.start == lba) (Some run) None
+there (Some run) lba found e = cond_both (run.start == lba) (Some run) None
+    (λ o. o ≡ Some found → (Some run ≡ Some found) × (found.start ≡ lba))
     (λ at same. (
       same,
       ap (λ (r : Run). r.start) (sym (ap (λ o. unwrap_or o run) same))
@@ -164,14 +151,14 @@ ahead-skip next count lba at runs (Some run) h low none =
     }
 
 -- the first address ahead
-pub block-first : (f : Seen) (r : Run) (more : List Run)
+pub block-first : (f : Seen Mapping) (r : Run) (more : List Run)
     → block (contents_by f (r ∷ more)) r.start ≡ data_in (Some (f r.first r.kind))
 block-first f r more = ap data_in
     (get-from_entries nat_cmp_total (entries_by f (r ∷ more)) r.start
     ∙ ap (λ b. cond b (Some (f r.first r.kind))
     (find nat_cmp r.start (entries_by f more))) (eq_same r.start r.start refl))
 
-pub get-later : (f : Seen) (r : Run) (more : List Run) (q : ℕ) → q ≢ r.start
+pub get-later : (f : Seen Mapping) (r : Run) (more : List Run) (q : ℕ) → q ≢ r.start
     → map.get (contents_by f (r ∷ more)) q ≡ map.get (contents_by f more) q
 get-later f r more q other = get-from_entries nat_cmp_total (entries_by f (r ∷ more)) q
     ∙ ap (λ b. cond b (Some (f r.first r.kind))
@@ -179,7 +166,7 @@ get-later f r more q other = get-from_entries nat_cmp_total (entries_by f (r ∷
     ∙ sym (get-from_entries nat_cmp_total (entries_by f more) q)
 
 -- an address before those that are ahead
-pub get-none : (next : List ℕ) (count lba q : ℕ) (runs : List Run) (f : Seen)
+pub get-none : (next : List ℕ) (count lba q : ℕ) (runs : List Run) (f : Seen Mapping)
     → AreAhead next count lba runs → q < lba → map.get (contents_by f (expanded next runs)) q ≡
     None
 get-none next count lba q runs f h lt = get-from_entries nat_cmp_total
@@ -286,7 +273,7 @@ walk_from-between next (run ∷ runs) lba high (Some front) more t =
 
 -- from the address on the contents are those of what is ahead
 pub get-walk_from : (next : List ℕ) (runs : List Run) (lba high q : ℕ) (front : Option Run)
-    (more : List Run) (f : Seen) → IsWalkFrom next runs lba front more → lba ≤ q
+    (more : List Run) (f : Seen Mapping) → IsWalkFrom next runs lba front more → lba ≤ q
     → map.get (contents_by f (expanded next runs)) q ≡
     map.get (contents_by f (expanded next more)) q
 get-walk_from next runs lba high q front more f t le =
@@ -309,7 +296,7 @@ module _ (next : List ℕ) (count lba at : ℕ) (runs : List Run) (run : Option 
   pub first-slot : found.first < count
   first-slot = (ahead-first next count lba found (drop at runs) first-there).3
 
-  pub first-block : (f : Seen) → block
+  pub first-block : (f : Seen Mapping) → block
       (contents_by f (expanded next (ahead_of runs run at))) lba ≡
       data_in (Some (f found.first found.kind))
   first-block f =
@@ -326,7 +313,7 @@ module _ (next : List ℕ) (count lba at : ℕ) (runs : List Run) (run : Option 
   first-ahead = passed-ahead next count lba found (drop at runs) first-there
       (there run lba found is).1
 
-  pub first-later : (f : Seen) (q : ℕ) → lba + 1 ≤ q
+  pub first-later : (f : Seen Mapping) (q : ℕ) → lba + 1 ≤ q
       → map.get (contents_by f (expanded next (passed next found (drop at runs)))) q ≡
       map.get (contents_by f (expanded next (ahead_of runs run at))) q
   first-later f q le =
@@ -347,7 +334,7 @@ module _ (next : List ℕ) (count lba at : ℕ) (runs : List Run) (run : Option 
 
 -- no run is there
 pub skip-block : (next : List ℕ) (count lba at : ℕ) (runs : List Run) (run : Option Run)
-    (f : Seen) → AreAhead next count lba (ahead_of runs run at) → lba < max_capacity
+    (f : Seen Mapping) → AreAhead next count lba (ahead_of runs run at) → lba < max_capacity
     → run_at run lba ≡ None
     → map.get (contents_by f (expanded next (ahead_of runs run at))) lba ≡ None
 skip-block next count lba at runs run f h low none =

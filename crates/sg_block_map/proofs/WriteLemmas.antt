@@ -11,8 +11,8 @@ use Rattle.std.specs.Prelude.{insert, ◌==◌}
 use Rattle.sg_pool.specs.Chains.{IsChain}
 use Rattle.sg_store.specs.Disk.{Mapping, max_capacity}
 use Rattle.sg_table.specs.Records.{start_of, single, run_at}
-use Rattle.sg_pool.specs.MappedRecords.{Seen, entries_by, contents_by, contents_of, mapping_in, number_in}
-use Rattle.sg_pool.specs.MappedRecords.{slot_numbers}
+use Rattle.sg_pool.specs.MappedRecords.{Seen, entries_by, contents_by, contents_of, mapping_in}
+use Rattle.sg_pool.specs.MappedRecords.{filled_slot, slot_number, slot_numbers}
 use Rattle.sg_pool.specs.Slots.{Slots, followed}
 use Rattle.sg_table.specs.Records.{slots_of}
 use Rattle.sg_table.specs.Occurrences.{occurrences, IsEachOnce}
@@ -20,7 +20,7 @@ use Rattle.sg_pool.specs.MappedRecords.{IsConsistent}
 use Rattle.sg_table.specs.declared.run.Kind.{Kind}
 use Rattle.sg_table.specs.declared.run.Kind.TheVariants.{Data as DataRun, Anchored as AnchoredRun}
 use Rattle.sg_table.specs.declared.run.Run.{Run}
-use Rattle.sg_block_map.specs.Joining.{joined, linked, mapping_as, put_block, IsWriting, KeepSlots}
+use Rattle.sg_block_map.specs.Joining.{joined, linked, mapping_as, IsWriting, KeepSlots}
 use Rattle.sg_block_map.specs.Runs.{end_of, singles_of, expanded, any_from, behind, begins}
 use Rattle.sg_block_map.specs.Runs.{AreChained, AreMaximal}
 use Rattle.sg_block_map.specs.Runs.{AreMaximalIn}
@@ -73,10 +73,10 @@ before-between next before done lba h e =
     (between-expanded next before 0 done.start apart)
     (between-singles next done.start done.first done.count done.kind))
 
-none_there : {o : Option Mapping} {slot : Mapping} → o ≡ None → o ≡ Some slot → ⊥
+none_there : {o : Option ℕ} {slot : ℕ} → o ≡ None → o ≡ Some slot → ⊥
 none_there e f = cc
 
-keep-insert : (xs ys : List Run) (r : Run) (f : Seen) (q : ℕ) (slot : Mapping)
+keep-insert : (xs ys : List Run) (r : Run) (f : Seen ℕ) (q slot : ℕ)
     → ((j : ℕ) → j < length (xs ++ ys) → start_of (xs ++ ys) j ≢ r.start)
     → map.get (contents_by f (xs ++ ys)) q ≡ Some slot
     → map.get (contents_by f (xs ++ r ∷ ys)) q ≡ Some slot
@@ -96,25 +96,25 @@ set-seam [] ys r s = refl
 set-seam (x ∷ xs) ys r s = ap (λ zs. x ∷ zs) (set-seam xs ys r s)
 
 numbers-kind : (xs ys : List Run) (lba slot : ℕ) (j k : Kind)
-    → entries_by number_in (xs ++ single lba slot j ∷ ys)
-    ≡ entries_by number_in (xs ++ single lba slot k ∷ ys)
+    → entries_by slot_number (xs ++ single lba slot j ∷ ys)
+    ≡ entries_by slot_number (xs ++ single lba slot k ∷ ys)
 numbers-kind [] ys lba slot j k = refl
 numbers-kind (x ∷ xs) ys lba slot j k =
-    ap (λ es. (x.start, number_in x.first x.kind) ∷ es) (numbers-kind xs ys lba slot j k)
+    ap (λ es. (x.start, slot_number x.first x.kind) ∷ es) (numbers-kind xs ys lba slot j k)
 
 -- what is seen of the slot of an address that was put
 pub put-length : (kind : Kind) (slot : ℕ) (b : List ℕ) (bs : List (List ℕ))
-    → length (put_block kind slot b bs) ≡ length bs
+    → length (filled_slot bs slot (mapping_as kind b)) ≡ length bs
 put-length DataRun slot b bs = length-set bs slot b
 put-length AnchoredRun slot b bs = refl
 
 pub put-others : (kind : Kind) (slot : ℕ) (b : List ℕ) (bs : List (List ℕ))
-    → AreSameBut slot (mapping_in bs) (mapping_in (put_block kind slot b bs))
+    → AreSameBut slot (mapping_in bs) (mapping_in (filled_slot bs slot (mapping_as kind b)))
 put-others DataRun slot b bs = seen-set bs slot b
 put-others AnchoredRun slot b bs = λ t kind other. refl
 
 pub put-seen : (kind : Kind) (slot : ℕ) (b : List ℕ) (bs : List (List ℕ)) → slot < length bs
-    → mapping_in (put_block kind slot b bs) slot kind ≡ mapping_as kind b
+    → mapping_in (filled_slot bs slot (mapping_as kind b)) slot kind ≡ mapping_as kind b
 put-seen DataRun slot b bs low = data-set bs slot b low
 put-seen AnchoredRun slot b bs low = refl
 
@@ -210,7 +210,7 @@ module _ (before : List Run) (done : Run) (rest : List Run) (slots : Slots) (lba
   new-keeps q seen e =
       ap (λ zs. map.get (slot_numbers zs) q)
       (join-expanded before done new rest after_taken taken_together h.front h.ends refl ∙ is)
-      ∙ keep-insert xs ys new number_in q seen nowhere
+      ∙ keep-insert xs ys new slot_number q seen nowhere
       (ap (λ zs. map.get (slot_numbers zs) q) (sym was) ∙ e)
 
   pub new-slot : 0 < done.count → done.last < length slots.next
@@ -327,7 +327,7 @@ module _ (before : List Run) (done run : Run) (tail : List Run) (slots : Slots) 
   pub over-keeps : KeepSlots slots.next (before ++ done ∷ (run ∷ tail))
       (linked slots.next done run.first) (before ++ joined done new' ∷ rest')
   over-keeps q seen e = ap (λ zs. map.get (slot_numbers zs) q) over_apart
-      ∙ ap (λ (es : List (ℕ × Mapping)). map.get {R = nat_cmp} (map.from_entries {R = nat_cmp} es) q)
+      ∙ ap (λ (es : List (ℕ × ℕ)). map.get {R = nat_cmp} (map.from_entries {R = nat_cmp} es) q)
       (numbers-kind xs' ys' lba run.first done.kind run.kind)
       ∙ ap (λ zs. map.get (slot_numbers zs) q) (sym was') ∙ e
 

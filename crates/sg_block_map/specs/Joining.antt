@@ -1,7 +1,7 @@
 -- A run to which others of its kind are joined.
 use Rattle.std.specs.Prelude.{◌≡◌, ℕ, ◌+◌, ◌<◌, ◌≤◌, List, ◌∷◌, ◌++◌, length, slice_set}
 use Rattle.std.specs.Prelude.{if◌then◌else◌, ◌==◌, Bool, true, false, Option, Some, None}
-use Rattle.std.specs.FinMap.{get, insert}
+use Rattle.std.specs.FinMap.{insert}
 use Rattle.sg_store.specs.Disk.{Mapping, max_capacity, max_pool, remapped, used_among}
 use Rattle.sg_store.specs.Disk.Mapping.{Data, Anchored}
 use Rattle.sg_store.specs.Meter.{max_count}
@@ -20,6 +20,7 @@ use Rattle.sg_table.specs.declared.run.Kind.TheVariants.{Data as DataRun, Anchor
 use Rattle.sg_table.specs.declared.run.Run.{Run}
 use Rattle.sg_block_map.specs.Gathering.{AreGathered, AreNear}
 use Rattle.sg_block_map.specs.Metering.{FollowsLinks}
+use Rattle.sg_block_map.specs.State.{Keeps}
 use Rattle.sg_block_map.specs.Runs.{end_of, expanded, AreChained, AreMaximal, AreRuns}
 use Rattle.sg_block_map.specs.Runs.{chained_contents, any_from, begins, blocks_of, AreMaximalIn}
 
@@ -53,19 +54,13 @@ pub record IsWriting (before : List Run) (done : Run) (rest : List Run) (slots :
 
 -- Each address that has a slot keeps it.
 abbrev pub KeepSlots : (next : List ℕ) → List Run → (next' : List ℕ) → List Run → Type 0
-KeepSlots next runs next' runs' = (lba : ℕ) (slot : Mapping)
-    → get (slot_numbers (expanded next runs)) lba ≡ Some slot
-    → get (slot_numbers (expanded next' runs')) lba ≡ Some slot
+KeepSlots next runs next' runs' =
+    Keeps (slot_numbers (expanded next runs)) (slot_numbers (expanded next' runs'))
 
 -- What an address gets in a run of a kind: a block of data, or none.
 abbrev pub mapping_as : Kind → (block : List ℕ) → Mapping
 mapping_as DataRun block = Data block
 mapping_as AnchoredRun block = Anchored
-
--- The blocks of the slots, where it gets it. No block is touched where it is anchored.
-abbrev pub put_block : Kind → (slot : ℕ) → (block : List ℕ) → List (List ℕ) → List (List ℕ)
-put_block DataRun slot block blocks = slice_set blocks slot block
-put_block AnchoredRun slot block blocks = blocks
 
 -- An address was put, whatever runs are before and after: the run has come to the next address, the
 -- contents have the mapping, and each address that had a slot has it.

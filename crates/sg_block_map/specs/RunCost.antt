@@ -1,7 +1,7 @@
 -- What a call over a range costs in a store that has a record for each maximal run.
 use Rattle.std.specs.Prelude.{ℕ, ◌+◌, ◌^◌, ◌<◌, ◌≤◌, length}
 use Rattle.sg_store.specs.Disk.{Contents, Disk}
-use Rattle.sg_store.specs.Meter.{Meter, Costs}
+use Rattle.sg_store.specs.Meter.{Charged, Meter}
 use Rattle.sg_block_map.specs.MaximalRuns.{runs, meet, blocks_near}
 
 -- At least the record of each maximal run that the range meets is visited,
@@ -22,7 +22,6 @@ pub record CostsRuns (contents : Contents) (lba count : ℕ) (before after : Met
 
 -- All that a call over a range costs, by the disk before it.
 pub record CostsRange (disk : Disk) (lba count : ℕ) (before after : Meter) : Type 0 where
-  pub cost : Costs disk.pool before after
-  pub price : after.total ≤ before.total + block_price disk.contents lba count
-  pub least : before.total + block_least disk.contents lba count ≤ after.total
+  pub charge : Charged disk.pool (block_price disk.contents lba count)
+      (block_least disk.contents lba count) before after
   pub runs : CostsRuns disk.contents lba count before after

@@ -10,59 +10,63 @@ use Rattle.std.specs.FinMap.{entries, entries_sorted, is_sorted, find, get-entri
 use Rattle.std.specs.FinMap.{contains_key}
 use Rattle.std.specs.FinMap.{nat_cmp-IsAntisymmetric}
 use Rattle.std.proofs.Common.{arith, refl, sym, ap, ◌∙◌, ◌⊎◌, inl, inr}
-use Rattle.std.proofs.lemmas.Bool.{cases_lt, eqb-true}
+use Rattle.std.proofs.lemmas.Bool.{cases_lt, eqb-true, and_parts, cond_both}
 use Rattle.std.proofs.lemmas.Bool.Decides.{nat_tests}
 use Rattle.sg_store.specs.Disk.{Contents, Mapping, lies_in, used_among}
 use Rattle.sg_table.specs.Records.{same_kind}
 use Rattle.sg_table.specs.declared.run.Kind.{Kind}
 use Rattle.sg_store.proofs.DiskLemmas.{used_among-none, used_among-more, count-more, inside, below, above}
-use Rattle.sg_block_map.specs.MaximalRuns.{Extent, kind_of, with_address, runs_of, runs}
-use Rattle.sg_block_map.specs.MaximalRuns.{meets, meet}
+use Rattle.sg_pool.specs.MappedRecords.{kind_of}
+use Rattle.sg_block_map.specs.MaximalRuns.{AddressRun, run_from, with_address}
+use Rattle.sg_block_map.specs.MaximalRuns.{runs_of, runs, meets, meet}
 use Rattle.sg_block_map.specs.RunCost.{block_price, block_least}
 
 -- at most two more than the range has addresses
 
 joined_one : (lba count a start n : ℕ) (j k : Kind) → start ≡ a + 1
-    → cond {A = ℕ} (meets lba count (a, n + 1, j)) 1 0
-    ≤ cond (lies_in lba count a) 1 0 + cond (meets lba count (start, n, k)) 1 0
+    → cond {A = ℕ} (meets lba count (run_from a (n + 1) j)) 1 0
+    ≤ cond (lies_in lba count a) 1 0 + cond (meets lba count (run_from start n k)) 1 0
 joined_one lba count a start n j k e = grind (arith, nat_tests)
 
-alone_meets : (lba count a : ℕ) (k : Kind) → cond {A = ℕ} (meets lba count (a, 1, k)) 1 0
+alone_meets : (lba count a : ℕ) (k : Kind) → cond {A = ℕ} (meets lba count (run_from a 1 k)) 1 0
     ≤ cond (lies_in lba count a) 1 0
 alone_meets lba count a k = grind (arith, nat_tests)
 
-left_true : (a b : Bool) → (a && b) ≡ true → a ≡ true
-left_true true b e = refl
-left_true false b e = e
+-- What holds of runs with an address before them: by whether the first of them is joined to it.
+pub by_joining : (P : List AddressRun → Type 0) (a : ℕ) (k : Kind) (run : AddressRun)
+    (rs : List AddressRun)
+    → (run.start ≡ a + 1 → same_kind k run.kind ≡ true → P (run_from a (run.count + 1) k ∷ rs))
+    → ((run.start == a + 1 && same_kind k run.kind) ≡ false → P (run_from a 1 k ∷ run ∷ rs))
+    → P (with_address a k (run ∷ rs))
+by_joining P a k run rs joins apart =
+    let joined = run.start == a + 1 && same_kind k run.kind in
+    cond_both joined (run_from a (run.count + 1) k ∷ rs) (run_from a 1 k ∷ run ∷ rs) P
+    (λ e. let both = and_parts (run.start == a + 1) (same_kind k run.kind) e in
+    joins (eqb-true run.start (a + 1) both.0) both.1)
+    apart
 
-pub either_way : {A : Type 0} (P : A → Type 0) (b : Bool) (x y : A) → (b ≡ true → P x)
-    → (b ≡ false → P y) → P (cond b x y)
-either_way P true x y f g = f refl
-either_way P false x y f g = g refl
-
-with_meets : (lba count a : ℕ) (k : Kind) (rs : List Extent)
+with_meets : (lba count a : ℕ) (k : Kind) (rs : List AddressRun)
     → count_by (meets lba count) (with_address a k rs)
     ≤ cond (lies_in lba count a) 1 0 + count_by (meets lba count) rs
 with_meets lba count a k [] = omega (
   arith,
   alone_meets lba count a k,
-  count-more (meets lba count) (a, 1, k) [],
+  count-more (meets lba count) (run_from a 1 k) [],
 )
-with_meets lba count a k (run ∷ rs) = either_way
+with_meets lba count a k (run ∷ rs) = by_joining
     (λ xs. count_by (meets lba count) xs
     ≤ cond (lies_in lba count a) 1 0 + count_by (meets lba count) (run ∷ rs))
-    (run.0 == a + 1 && same_kind k run.2) ((a, run.1 + 1, k) ∷ rs) ((a, 1, k) ∷ run ∷ rs)
-    (λ e. omega (
+    a k run rs
+    (λ start _. omega (
       arith,
-      joined_one lba count a run.0 run.1 k run.2
-          (eqb-true run.0 (a + 1) (left_true (run.0 == a + 1) (same_kind k run.2) e)),
-      count-more (meets lba count) (a, run.1 + 1, k) rs,
+      joined_one lba count a run.start run.count k run.kind start,
+      count-more (meets lba count) (run_from a (run.count + 1) k) rs,
       count-more (meets lba count) run rs,
     ))
     (λ _. omega (
       arith,
       alone_meets lba count a k,
-      count-more (meets lba count) (a, 1, k) (run ∷ rs),
+      count-more (meets lba count) (run_from a 1 k) (run ∷ rs),
       count-more (meets lba count) run rs,
     ))
 
@@ -142,52 +146,51 @@ block_price-within contents lba count =
 -- at least one where an address of the range has a slot
 
 first_meets : (lba count a n : ℕ) (k : Kind) → lies_in lba count a ≡ true
-    → cond {A = ℕ} (meets lba count (a, n + 1, k)) 1 0 ≡ 1
+    → cond {A = ℕ} (meets lba count (run_from a (n + 1) k)) 1 0 ≡ 1
 first_meets lba count a n k e = grind (arith, nat_tests)
 
 lone_meets : (lba count a : ℕ) (k : Kind) → lies_in lba count a ≡ true
-    → cond {A = ℕ} (meets lba count (a, 1, k)) 1 0 ≡ 1
+    → cond {A = ℕ} (meets lba count (run_from a 1 k)) 1 0 ≡ 1
 lone_meets lba count a k e = grind (arith, nat_tests)
 
 wider_meets : (lba count a start n : ℕ) (j k : Kind) → start ≡ a + 1
-    → cond {A = ℕ} (meets lba count (start, n, k)) 1 0
-    ≤ cond (meets lba count (a, n + 1, j)) 1 0
+    → cond {A = ℕ} (meets lba count (run_from start n k)) 1 0
+    ≤ cond (meets lba count (run_from a (n + 1) j)) 1 0
 wider_meets lba count a start n j k e = grind (arith, nat_tests)
 
-here-meets : (lba count a : ℕ) (k : Kind) (rs : List Extent) → lies_in lba count a ≡ true
+here-meets : (lba count a : ℕ) (k : Kind) (rs : List AddressRun) → lies_in lba count a ≡ true
     → 0 < count_by (meets lba count) (with_address a k rs)
 here-meets lba count a k [] e = omega (
   arith,
   lone_meets lba count a k e,
-  count-more (meets lba count) (a, 1, k) [],
+  count-more (meets lba count) (run_from a 1 k) [],
 )
-here-meets lba count a k (run ∷ rs) e = either_way (λ xs. 0 < count_by (meets lba count) xs)
-    (run.0 == a + 1 && same_kind k run.2) ((a, run.1 + 1, k) ∷ rs) ((a, 1, k) ∷ run ∷ rs)
-    (λ _. omega (
+here-meets lba count a k (run ∷ rs) e = by_joining (λ xs. 0 < count_by (meets lba count) xs)
+    a k run rs
+    (λ _ _. omega (
       arith,
-      first_meets lba count a run.1 k e,
-      count-more (meets lba count) (a, run.1 + 1, k) rs,
+      first_meets lba count a run.count k e,
+      count-more (meets lba count) (run_from a (run.count + 1) k) rs,
     ))
     (λ _. omega (
       arith,
       lone_meets lba count a k e,
-      count-more (meets lba count) (a, 1, k) (run ∷ rs),
+      count-more (meets lba count) (run_from a 1 k) (run ∷ rs),
     ))
 
-more-meet : (lba count a : ℕ) (k : Kind) (rs : List Extent)
+more-meet : (lba count a : ℕ) (k : Kind) (rs : List AddressRun)
     → count_by (meets lba count) rs ≤ count_by (meets lba count) (with_address a k rs)
-more-meet lba count a k [] = omega (arith, count-more (meets lba count) (a, 1, k) [])
-more-meet lba count a k (run ∷ rs) = either_way
+more-meet lba count a k [] = omega (arith, count-more (meets lba count) (run_from a 1 k) [])
+more-meet lba count a k (run ∷ rs) = by_joining
     (λ xs. count_by (meets lba count) (run ∷ rs) ≤ count_by (meets lba count) xs)
-    (run.0 == a + 1 && same_kind k run.2) ((a, run.1 + 1, k) ∷ rs) ((a, 1, k) ∷ run ∷ rs)
-    (λ e. omega (
+    a k run rs
+    (λ start _. omega (
       arith,
-      wider_meets lba count a run.0 run.1 k run.2
-          (eqb-true run.0 (a + 1) (left_true (run.0 == a + 1) (same_kind k run.2) e)),
-      count-more (meets lba count) (a, run.1 + 1, k) rs,
+      wider_meets lba count a run.start run.count k run.kind start,
+      count-more (meets lba count) (run_from a (run.count + 1) k) rs,
       count-more (meets lba count) run rs,
     ))
-    (λ _. omega (arith, count-more (meets lba count) (a, 1, k) (run ∷ rs)))
+    (λ _. omega (arith, count-more (meets lba count) (run_from a 1 k) (run ∷ rs)))
 
 is_none : (o : Option Mapping) → o ≡ None → is_some o ≡ true → ⊥
 is_none o e s = let wrong = ap is_some (sym e) ∙ s in cc
@@ -245,7 +248,7 @@ count-two p q r (x ∷ xs) h = omega (
   count-more r x xs,
 )
 
-joined_range : (a n offset more : ℕ) → offset ≤ n → (run : Extent)
+joined_range : (a n offset more : ℕ) → offset ≤ n → (run : AddressRun)
     → cond {A = ℕ} (meets a (max n (offset + more)) run) 1 0
     ≤ cond (meets a n run) 1 0 + cond (meets (a + offset) more run) 1 0
 joined_range a n offset more le run = grind (arith, nat_tests)

@@ -10,15 +10,15 @@ use Rattle.sg_pool.specs.Slots.{Slots}
 use Rattle.sg_pool.specs.MappedRecords.{IsConsistent}
 use Rattle.sg_table.specs.declared.run.Kind.{Kind}
 use Rattle.sg_table.specs.declared.run.Run.{Run}
-use Rattle.sg_block_map.specs.MaximalRuns.{Extent}
+use Rattle.sg_block_map.specs.MaximalRuns.{AddressRun, run_from}
 
 -- The address past a run.
 abbrev pub end_of : Run → ℕ
 end_of run = run.start + run.count
 
--- The first address of a run, its count and its kind.
-abbrev pub extent_of : Run → Extent
-extent_of run = (run.start, run.count, run.kind)
+-- The addresses of a run, without its slots.
+abbrev pub address_run : Run → AddressRun
+address_run run = run_from run.start run.count run.kind
 
 -- `count` addresses of a kind from one on, each with its slot, in the chain from a slot on.
 unfoldable pub singles : (next : List ℕ) → (start first count : ℕ) → Kind → List Run

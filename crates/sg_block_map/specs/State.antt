@@ -1,13 +1,13 @@
 -- What a `BlockMap` keeps, as its callers see it: a disk, records, slots and a meter.
 use Rattle.std.specs.Prelude.{◌≡◌, ℕ, List, Some, map}
 use Rattle.std.specs.FinMap.{get}
-use Rattle.sg_store.specs.Disk.{Contents, Disk, Mapping}
+use Rattle.sg_store.specs.Disk.{Disk}
 use Rattle.sg_store.specs.Meter.{Meter}
-use Rattle.sg_pool.specs.MappedRecords.{slot_numbers}
+use Rattle.sg_pool.specs.MappedRecords.{SlotNumbers, slot_numbers}
 use Rattle.sg_pool.specs.Slots.{Slots}
 use Rattle.sg_table.specs.Table.{Table}
-use Rattle.sg_block_map.specs.Runs.{expanded, chained_contents, extent_of}
-use Rattle.sg_block_map.specs.MaximalRuns.{Extent}
+use Rattle.sg_block_map.specs.Runs.{address_run, expanded, chained_contents}
+use Rattle.sg_block_map.specs.MaximalRuns.{AddressRun}
 use Rattle.sg_block_map.specs.declared.block_map.BlockMap.{BlockMap}
 
 -- The disk that it keeps.
@@ -32,18 +32,17 @@ meter_at table slots = record {
 abbrev pub meter_of : BlockMap → Meter
 meter_of map = meter_at map.table map.pool
 
--- Its records, in their order: the first address of each, its count and its kind.
-abbrev pub records_of : BlockMap → List Extent
-records_of block_map = map extent_of block_map.table.records
+-- The addresses of its records, in their order.
+abbrev pub records_of : BlockMap → List AddressRun
+records_of block_map = map address_run block_map.table.records
 
--- The addresses that have a slot, each with the number of its slot in place of a block.
-abbrev pub slot_map : Table → Slots → Contents
+-- The addresses that have a slot, each with its number.
+abbrev pub slot_map : Table → Slots → SlotNumbers
 slot_map table slots = slot_numbers (expanded slots.next table.records)
 
-abbrev pub slots_by_address : BlockMap → Contents
+abbrev pub slots_by_address : BlockMap → SlotNumbers
 slots_by_address map = slot_map map.table map.pool
 
--- What each address has, it keeps.
-abbrev pub Keeps : (before after : Contents) → Type 0
-Keeps before after = (lba : ℕ) (slot : Mapping) → get before lba ≡ Some slot
-    → get after lba ≡ Some slot
+-- Each address that has a slot keeps it.
+abbrev pub Keeps : (before after : SlotNumbers) → Type 0
+Keeps before after = (lba slot : ℕ) → get before lba ≡ Some slot → get after lba ≡ Some slot

@@ -8,7 +8,7 @@ use Rattle.sg_table.specs.declared.run.Run.{Run}
 use Rattle.sg_store.specs.Disk.{max_capacity, max_pool}
 use Rattle.sg_block_map.specs.Gathering.{end_at}
 use Rattle.sg_block_map.specs.MaximalRuns.{meets}
-use Rattle.sg_block_map.specs.Runs.{AreMaximal, extent_of}
+use Rattle.sg_block_map.specs.Runs.{AreMaximal, address_run}
 
 -- The table of a disk: its runs are maximal, each has an address, and none has more than the largest
 -- pool has blocks. None lies past the end of the disk.
@@ -51,4 +51,4 @@ pub record MeetsRange (records : List Run) (from to lba count : ℕ) : Type 0 wh
 
 -- How many runs have an address in common with a range.
 abbrev pub records_met : List Run → (lba count : ℕ) → ℕ
-records_met records lba count = count_by (meets lba count) (map extent_of records)
+records_met records lba count = count_by (meets lba count) (map address_run records)

@@ -5,7 +5,7 @@ ghost use Rattle.std.specs.Prelude.{IsErr, OnOk, OnErr};
 ghost use Rattle.std.specs.FinMap.{len};
 ghost use Rattle.sg_store.specs.Disk.{IsWellFormed, IsOverfull, blocks};
 ghost use Rattle.sg_store.specs.Disk.{disk_written, disk_filled, disk_unmapped, disk_anchored};
-ghost use Rattle.sg_store.specs.Disk.{data_count, disk_remapped, need, unmapped};
+ghost use Rattle.sg_store.specs.Disk.{data_count, disk_remapped, need, outside_range};
 ghost use Rattle.sg_store.specs.LbaStatus.{lba_status, covered, status_data};
 ghost use Rattle.sg_store.specs.Meter.{HasHeadroom, restarted};
 ghost use Rattle.sg_wire.specs.Cut.{Puts};
@@ -208,7 +208,8 @@ impl Store for BlockMap {
 
         // The addresses have no slot any more, and all others keep theirs.
         ensures disk { disk_of self.new ≡ disk_unmapped (disk_of self.old) lba count }
-        ensures keeps { slots_by_address self.new ≡ unmapped (slots_by_address self.old) lba count }
+        ensures keeps { slots_by_address self.new
+            ≡ outside_range (slots_by_address self.old) lba count }
 
         // What the call costs.
         ensures costs { CostsRange (disk_of self.old) lba count

@@ -8,9 +8,9 @@ pub fn a_block_map_is_made_of_its_parts()
     ensures { IsMadeOfParts }
 {}
 
-/// The maximal runs, which the records of a [`BlockMap`](crate::BlockMap) are, have a first address
-/// with a count and a kind exactly where as many addresses from it on are of the kind, one at least,
-/// while neither the address before them nor the one behind them is.
+/// A run of addresses is one of the maximal runs, which the records of a
+/// [`BlockMap`](crate::BlockMap) are, exactly where it has one address at least, all of its kind,
+/// while neither the address before it nor the one behind it is.
 pub fn the_runs_are_those_that_no_address_of_their_kind_touches()
     ensures { HasExactlyTheMaximalRuns }
 {}

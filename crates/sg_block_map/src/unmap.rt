@@ -3,9 +3,8 @@
 ghost use Rattle.std.specs.Prelude.{◌≡◌, ◌+◌, ◌-◌, ◌<◌, ◌≤◌, ◌++◌, length};
 ghost use Rattle.std.specs.Prelude.{option_to_list, IfSome};
 ghost use Rattle.sg_pool.specs.Chains.{AreBelow, IsChain};
-ghost use Rattle.sg_store.specs.Disk.{unmapped};
 ghost use Rattle.sg_table.specs.Leaves.{move_bound};
-ghost use Rattle.sg_pool.specs.MappedRecords.{Seen, contents_by};
+ghost use Rattle.sg_pool.specs.MappedRecords.{outside_records};
 ghost use Rattle.sg_table.specs.Records.{slots_of};
 ghost use Rattle.sg_block_map.specs.Cutting.{AreDistinct, HasOwnSlots, StaysBut, IsCut};
 ghost use Rattle.sg_block_map.specs.Joining.{ChangesRuns, IsReadyFor};
@@ -91,11 +90,9 @@ pub(crate) fn unmap_runs(
     requires room { remaining.old.room ≡ table.old.room }
     requires order { low < high }
 
-    // The addresses are unmapped. This holds whatever is seen of slots, so the others keep theirs.
-    ensures contents { (seen : Seen) →
-        contents_by seen (expanded pool.new.next table.new.records)
-        ≡ unmapped (contents_by seen (expanded pool.old.next table.old.records))
-        low (high - low) }
+    // The addresses of the range are gone, and all others have their slots.
+    ensures records { expanded pool.new.next table.new.records
+        ≡ outside_records (expanded pool.old.next table.old.records) low (high - low) }
     ensures table { ChangesRuns (move_bound + length remaining.new.records)
         table.old table.new pool.new }
     ensures blocks { pool.new.blocks ≡ pool.old.blocks }

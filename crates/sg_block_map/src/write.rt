@@ -4,9 +4,10 @@ ghost use Rattle.std.specs.Prelude.{◌≡◌, ◌+◌, ◌-◌, ◌^◌, ◌<�
 ghost use Rattle.std.specs.Prelude.{None, Option, option_to_list, IfSome};
 ghost use Rattle.sg_table.specs.Records.{run_at};
 ghost use Rattle.sg_table.specs.Occurrences.{occurrences};
+ghost use Rattle.sg_pool.specs.MappedRecords.{filled_slot};
 ghost use Rattle.sg_pool.specs.Slots.{followed};
 ghost use Rattle.sg_pool.specs.Source.{block_of};
-ghost use Rattle.sg_block_map.specs.Joining.{begun, joined, linked, mapping_as, put_block, IsWriting};
+ghost use Rattle.sg_block_map.specs.Joining.{begun, joined, linked, mapping_as, IsWriting};
 ghost use Rattle.sg_block_map.specs.Joining.{CanRemap, GoesOn, IsFinished, PutsAddress};
 ghost use Rattle.sg_block_map.specs.Joining.{RemapsRange};
 ghost use Rattle.sg_block_map.specs.Metering.{FollowsPassed};
@@ -61,7 +62,9 @@ fn set_block(pool: &mut Pool, slot: u32, kind: Kind, bytes: &[u8])
     requires slot { slot < length pool.old.blocks }
     requires byte_count { length bytes.now ≡ BLOCK_LENGTH }
     ensures { pool.new
-        ≡ record pool.old { blocks = put_block kind slot bytes.now pool.old.blocks } }
+        ≡ record pool.old {
+          blocks = filled_slot pool.old.blocks slot (mapping_as kind bytes.now);
+        } }
 {
     match kind {
         Kind::Data => pool.set(slot, bytes),

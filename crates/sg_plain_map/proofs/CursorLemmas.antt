@@ -1,8 +1,8 @@
 -- The record at an address, from the cursor.
 use Rattle.std.proofs.Common.{◌≡◌, ◌≢◌, ℕ, ◌+◌, ◌<◌, List, length, arith, refl, sym, ap, ◌∙◌}
 use Rattle.std.proofs.Common.{Option, Some, None, cond, Bool, true, false, eq-eqb, true≢false}
-use Rattle.std.proofs.lemmas.Bool.Decides.{nat_tests}
-use Rattle.std.specs.Prelude.{slice_index_or, is_some, ◌==◌}
+use Rattle.std.proofs.lemmas.Bool.{eqb-true}
+use Rattle.std.specs.Prelude.{slice_index_or, is_some}
 use Rattle.sg_table.specs.Records.{start_of, IsSorted, IsNext, ahead, same_kind}
 use Rattle.sg_plain_map.specs.Editing.{IsAt}
 use Rattle.sg_table.specs.Records.{run_at}
@@ -13,9 +13,6 @@ use Rattle.sg_table.specs.declared.cursor.Cursor.{Cursor}
 use Rattle.sg_table.proofs.RecordLemmas.{start_of-read, none_at, index-unmapped}
 use Rattle.sg_table.proofs.RecordLemmas.{alike, own_kind, picked, dropped}
 
-same_number : (x y : ℕ) → (x == y) ≡ true → x ≡ y
-same_number x y e = grind (arith, nat_tests)
-
 -- the record that was looked for is at the index
 pub found : (rs : List Run) (next : Option Run) (p lba : ℕ) (run : Run) → IsNext rs p next
     → run_at next lba ≡ Some run → (p < length rs) × (slice_index_or rs p run ≡ run)
@@ -24,7 +21,7 @@ found rs None p lba run n e = let wrong = e in cc
 found rs (Some r) p lba run n e =
     let both = picked _ r run e in
     let at = rw both.1 at n in
-    (at.0, at.1, ap (λ (x : Run). x.start) (sym both.1) ∙ same_number r.start lba both.0)
+    (at.0, at.1, ap (λ (x : Run). x.start) (sym both.1) ∙ eqb-true r.start lba both.0)
 
 -- there is no record, or that of another address
 pub missed : (rs : List Run) (next : Option Run) (p lba : ℕ) → IsNext rs p next → run_at next lba ≡

@@ -11,19 +11,18 @@ use Rattle.sg_store.specs.Disk.{Mapping}
 use Rattle.sg_store.specs.Disk.Mapping.{Data, Anchored}
 use Rattle.std.proofs.lemmas.List.Elements.{All-append, All-cons, All-drop, All-get_or, All-set}
 use Rattle.std.proofs.lemmas.List.Elements.{All-take}
-use Rattle.sg_pool.specs.MappedRecords.{contents_of, mapping_in}
+use Rattle.sg_pool.specs.MappedRecords.{contents_of, filled_slot, kind_of, mapping_in}
 use Rattle.sg_table.specs.Records.{start_of, IsLowerBound, IsNext, with_kind}
 use Rattle.sg_store.specs.Disk.{used_at}
 use Rattle.sg_pool.specs.Slots.{Slots}
 use Rattle.sg_pool.specs.MappedRecords.{IsConsistent}
 use Rattle.sg_table.specs.Draft.{Drafted, pushed}
 use Rattle.sg_plain_map.specs.Editing.{edited, IsEditing, IsSingle}
-use Rattle.sg_plain_map.specs.Content.{filled_slot, kind_for, mapping_for}
+use Rattle.sg_plain_map.specs.Content.{kind_for, mapping_for}
 use Rattle.sg_plain_map.specs.declared.content.Content.{Content}
 use Rattle.sg_plain_map.specs.declared.content.Content.TheVariants.{Blocks, Anchor}
 use Rattle.sg_table.specs.Records.{run_at}
 use Rattle.sg_table.specs.declared.run.Kind.{Kind}
-use Rattle.sg_table.specs.declared.run.Kind.TheVariants.{Data as DataKind, Anchored as AnchoredKind}
 use Rattle.sg_table.specs.declared.run.Run.{Run}
 use Rattle.sg_table.specs.declared.cursor.Cursor.{Cursor}
 use Rattle.sg_table.proofs.RecordLemmas.{none_at, index-mapped}
@@ -52,11 +51,7 @@ set-splice rs done from i r h lt =
 -- ---- What an address is to have
 
 -- the kind of its record
-abbrev pub kind_in : Mapping → Kind
-kind_in (Data block) = DataKind
-kind_in Anchored = AnchoredKind
-
-pub kind-of : (content : Content) (index : ℕ) → kind_for content ≡ kind_in (mapping_for content index)
+pub kind-of : (content : Content) (index : ℕ) → kind_for content ≡ kind_of (mapping_for content index)
 kind-of (Blocks source) index = refl
 kind-of Anchor index = refl
 
@@ -68,7 +63,7 @@ consistent-filled rs bs free room s Anchored consistent = consistent
 
 filled-inserted : (rs : List Run) (bs : List (List ℕ)) (free : List ℕ) (room i : ℕ) (r : Run)
     (x : Mapping) → IsConsistent rs bs (r.first ∷ free) room
-    → ((j : ℕ) → j < length rs → start_of rs j ≢ r.start) → r.kind ≡ kind_in x
+    → ((j : ℕ) → j < length rs → start_of rs j ≢ r.start) → r.kind ≡ kind_of x
     → contents_of (insert rs i r) (filled_slot bs r.first x) ≡ map.insert (contents_of rs bs) r.start x
 filled-inserted rs bs free room i r (Data b) consistent none kind =
     contents-added rs bs free room i r b consistent none kind
@@ -78,7 +73,7 @@ filled-inserted rs bs free room i r Anchored consistent none kind =
 
 filled-changed : (rs : List Run) (bs : List (List ℕ)) (free : List ℕ) (room i : ℕ) (r : Run)
     (x : Mapping) → IsConsistent rs bs free room → i < length rs → r ≡ get_or rs i r
-    → contents_of (set rs i (with_kind (kind_in x) r)) (filled_slot bs r.first x)
+    → contents_of (set rs i (with_kind (kind_of x) r)) (filled_slot bs r.first x)
     ≡ map.insert (contents_of rs bs) r.start x
 filled-changed rs bs free room i r (Data b) consistent h e =
     contents-changed rs bs free room i r b consistent h e
@@ -132,7 +127,7 @@ module _ {rs : List Run} {room : ℕ} {slots : Slots} {draft : Drafted} {cursor 
     module _ (slots' : Slots) (draft' : Drafted) (run : Run) (x : Mapping)
         (taken : slots.free ≡ run.first ∷ slots'.free)
         (put : slots'.blocks ≡ filled_slot slots.blocks run.first x) (start : run.start ≡ lba)
-        (kind : run.kind ≡ kind_in x) (one : run.count ≡ 1)
+        (kind : run.kind ≡ kind_of x) (one : run.count ≡ 1)
         (drafted : draft' ≡ pushed draft run) where
       consistent : IsConsistent now slots.blocks (run.first ∷ slots'.free) room
       consistent = rw taken at h.consistent
@@ -188,7 +183,7 @@ module _ {rs : List Run} {room : ℕ} {slots : Slots} {draft : Drafted} {cursor 
 
     module _ (slots' : Slots) (draft' : Drafted) (x : Mapping) (kind : Kind) (cursor' : Cursor)
         (free : slots'.free ≡ slots.free)
-        (put : slots'.blocks ≡ filled_slot slots.blocks run.first x) (kinds : kind ≡ kind_in x)
+        (put : slots'.blocks ≡ filled_slot slots.blocks run.first x) (kinds : kind ≡ kind_of x)
         (drafted : draft' ≡ pushed draft (with_kind kind run))
         (moved : cursor'.index ≡ cursor.index + 1) where
       abbrev new : Run

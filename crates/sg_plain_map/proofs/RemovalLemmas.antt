@@ -10,7 +10,7 @@ use Rattle.std.specs.Prelude.{take, drop, insert, not}
 use Rattle.std.specs.Ordering.{nat_cmp}
 use Rattle.std.specs.Cmp.{nat_cmp_total}
 use Rattle.std.specs.FinMap.{find, get-from_entries, same_map, nat_cmp-IsAntisymmetric}
-use Rattle.sg_store.specs.Disk.{lies_in, unmapped}
+use Rattle.sg_store.specs.Disk.{Mapping, lies_in, unmapped}
 use Rattle.sg_table.specs.Records.{start_of, IsSorted, IsLowerBound}
 use Rattle.sg_pool.specs.MappedRecords.{Seen, entries_by, contents_by}
 use Rattle.sg_table.specs.Records.{slots_of}
@@ -103,7 +103,7 @@ module _ (rs : List Run) (from i : ℕ) (r : Run) (le : from ≤ i) (lt : i < le
     unmapped-consistent = consistent-removed less bs free room from r within (rw one_less at h)
 
 -- the address of a record that stays
-find-drop : (see : Seen) (rs : List Run) (n q : ℕ)
+find-drop : (see : Seen Mapping) (rs : List Run) (n q : ℕ)
     → ((i : ℕ) → i < n → i < length rs → start_of rs i ≢ q)
     → find nat_cmp q (entries_by see (drop n rs)) ≡ find nat_cmp q (entries_by see rs)
 find-drop see rs zero q other = refl
@@ -112,7 +112,7 @@ find-drop see (x ∷ rs) (suc n) q other =
     rw (eq_other q x.start (λ e. other 0 (omega arith) (omega arith) (sym e)))
     (find-drop see rs n q (λ i lt h. other (suc i) (omega arith) (omega arith)))
 
-find-splice : (see : Seen) (rs : List Run) (from to q : ℕ) → from ≤ to
+find-splice : (see : Seen Mapping) (rs : List Run) (from to q : ℕ) → from ≤ to
     → ((i : ℕ) → from ≤ i → i < to → i < length rs → start_of rs i ≢ q)
     → find nat_cmp q (entries_by see (splice rs from to [])) ≡ find nat_cmp q (entries_by see rs)
 find-splice see rs zero to q le other = find-drop see rs to q (λ i lt h. other i (omega arith) lt h)
@@ -124,7 +124,7 @@ find-splice see (x ∷ rs) (suc from) (suc to) q le other =
     (λ i ge lt h. other (suc i) (omega arith) (omega arith) (omega arith)))
 
 -- and of one that is removed
-drop-none : (see : Seen) (rs : List Run) (n q : ℕ)
+drop-none : (see : Seen Mapping) (rs : List Run) (n q : ℕ)
     → ((i : ℕ) → n ≤ i → i < length rs → start_of rs i ≢ q)
     → find nat_cmp q (entries_by see (drop n rs)) ≡ None
 drop-none see rs zero q other = find-unmapped see rs q (λ i h. other i (omega arith) h)
@@ -132,7 +132,7 @@ drop-none see [] (suc n) q other = refl
 drop-none see (x ∷ rs) (suc n) q other =
     drop-none see rs n q (λ i ge h. other (suc i) (omega arith) (omega arith))
 
-splice-none : (see : Seen) (rs : List Run) (from to q : ℕ) → from ≤ to
+splice-none : (see : Seen Mapping) (rs : List Run) (from to q : ℕ) → from ≤ to
     → ((i : ℕ) → i < from → i < length rs → start_of rs i ≢ q)
     → ((i : ℕ) → to ≤ i → i < length rs → start_of rs i ≢ q)
     → find nat_cmp q (entries_by see (splice rs from to [])) ≡ None
@@ -146,7 +146,7 @@ splice-none see (x ∷ rs) (suc from) (suc to) q le before after =
     (λ i ge h. after (suc i) (omega arith) (omega arith)))
 
 -- the contents without the records of a range
-module _ (see : Seen) (rs : List Run) (from to a k : ℕ) (rises : IsSorted rs)
+module _ (see : Seen Mapping) (rs : List Run) (from to a k : ℕ) (rises : IsSorted rs)
     (p : IsLowerBound rs from a) (t : IsLowerBound rs to (a + k)) (le : from ≤ to) where
   outside : (q : ℕ) → (q < a) ⊎ (a + k ≤ q)
       → find nat_cmp q (entries_by see (splice rs from to [])) ≡

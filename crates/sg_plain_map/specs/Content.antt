@@ -1,5 +1,5 @@
 -- What the addresses of a range are to have.
-use Rattle.std.specs.Prelude.{ℕ, ◌<◌, List, slice_set}
+use Rattle.std.specs.Prelude.{ℕ, ◌<◌}
 use Rattle.sg_store.specs.Disk.{HasBlockLength, Mapping}
 use Rattle.sg_store.specs.Disk.Mapping.{Data, Anchored}
 use Rattle.sg_pool.specs.Source.{block_of}
@@ -21,8 +21,3 @@ HasMappings content count = (index : ℕ) → index < count → HasBlockLength (
 abbrev pub kind_for : Content → Kind
 kind_for (Blocks source) = DataKind
 kind_for Anchor = AnchoredKind
-
--- The blocks of the slots, with that of an address in its slot. An anchored address has none.
-abbrev pub filled_slot : (blocks : List (List ℕ)) → (slot : ℕ) → Mapping → List (List ℕ)
-filled_slot blocks slot (Data block) = slice_set blocks slot block
-filled_slot blocks slot Anchored = blocks

@@ -1,7 +1,8 @@
 // What the addresses of a range are to have. It knows no address and no record.
 ghost use Rattle.std.specs.Prelude.{◌≡◌, ◌<◌, length};
 ghost use Rattle.sg_store.specs.Disk.{HasBlockLength};
-ghost use Rattle.sg_plain_map.specs.Content.{filled_slot, kind_for, mapping_for};
+ghost use Rattle.sg_pool.specs.MappedRecords.{filled_slot};
+ghost use Rattle.sg_plain_map.specs.Content.{kind_for, mapping_for};
 
 use sg_pool::{Pool, Source};
 use sg_table::Kind;

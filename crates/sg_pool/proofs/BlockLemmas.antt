@@ -54,11 +54,11 @@ both_at : (q x a : ℕ) → x ≢ a → eq_by_cmp nat_cmp q x ≡ true → eq_by
 both_at q x a ne p r = ne (sym (same_at q x p) ∙ same_at q a r)
 
 -- What is seen of other slots is the same.
-abbrev pub AreSameBut : (s : ℕ) → Seen → Seen → Type 0
+abbrev pub AreSameBut : (s : ℕ) → Seen Mapping → Seen Mapping → Type 0
 AreSameBut s f g = (t : ℕ) (kind : Kind) → t ≢ s → g t kind ≡ f t kind
 
 -- a slot that no record has
-pub entries-same : (f g : Seen) (rs : List Run) (s : ℕ) → occurrences s (slots_of rs) ≡ 0
+pub entries-same : (f g : Seen Mapping) (rs : List Run) (s : ℕ) → occurrences s (slots_of rs) ≡ 0
     → AreSameBut s f g → entries_by g rs ≡ entries_by f rs
 unfolding occurrences
 entries-same f g [] s none same = refl
@@ -68,7 +68,7 @@ entries-same f g (r ∷ rs) s none same =
     (entries-same f g rs s (omega arith) same)
 
 -- record i has another kind, and something else is seen of its slot
-pub find-changed : (f g : Seen) (rs : List Run) (i : ℕ) (r : Run) (kind : Kind) (q : ℕ)
+pub find-changed : (f g : Seen Mapping) (rs : List Run) (i : ℕ) (r : Run) (kind : Kind) (q : ℕ)
     → IsSorted rs → i < length rs → r ≡ get_or rs i r → AreSameBut r.first f g
     → occurrences r.first (slots_of rs) ≤ 1
     → find nat_cmp q (entries_by g (set rs i (with_kind kind r)))
@@ -98,7 +98,7 @@ find-changed f g (x ∷ rs) (suc i) r kind q rises h e same once =
     ∙ either _ _ _ _ _ (both_at q x.start r.start apart)
 
 -- a record more, at an address that none had
-pub find-added : (see : Seen) (rs : List Run) (i : ℕ) (r : Run) (q : ℕ)
+pub find-added : {X : Type 0} (see : Seen X) (rs : List Run) (i : ℕ) (r : Run) (q : ℕ)
     → ((j : ℕ) → j < length rs → start_of rs j ≢ r.start)
     → find nat_cmp q (entries_by see (insert rs i r)) ≡
     cond (eq_by_cmp nat_cmp q r.start) (Some (see r.first r.kind)) (find nat_cmp q (entries_by see rs))
@@ -109,7 +109,7 @@ find-added see (x ∷ rs) (suc i) r q none =
     (find-added see rs i r q (λ j h. none (suc j) (omega arith)))
     ∙ either _ _ _ _ _ (both_at q x.start r.start (none 0 (omega arith)))
 
-pub changed : (f g : Seen) (rs : List Run) (i : ℕ) (r : Run) (kind : Kind) → IsSorted rs
+pub changed : (f g : Seen Mapping) (rs : List Run) (i : ℕ) (r : Run) (kind : Kind) → IsSorted rs
     → i < length rs → r ≡ get_or rs i r → AreSameBut r.first f g
     → occurrences r.first (slots_of rs) ≤ 1
     → contents_by g (set rs i (with_kind kind r)) ≡ map.insert (contents_by f rs) r.start (g r.first kind)
@@ -117,7 +117,7 @@ changed f g rs i r kind rises h e same once =
     one_put (entries_by f rs) (entries_by g (set rs i (with_kind kind r))) r.start (g r.first kind)
     (λ q. find-changed f g rs i r kind q rises h e same once)
 
-pub added : (f g : Seen) (rs : List Run) (i : ℕ) (r : Run)
+pub added : (f g : Seen Mapping) (rs : List Run) (i : ℕ) (r : Run)
     → ((j : ℕ) → j < length rs → start_of rs j ≢ r.start) → AreSameBut r.first f g
     → occurrences r.first (slots_of rs) ≡ 0
     → contents_by g (insert rs i r) ≡ map.insert (contents_by f rs) r.start (g r.first r.kind)

@@ -12,7 +12,7 @@ use Rattle.sg_table.specs.declared.run.Run.{Run}
 use Rattle.sg_table.proofs.RecordLemmas.{sorted_tail}
 use Rattle.sg_pool.specs.MappedRecords.{Seen, entries_by, contents_by}
 
-put-first : (see : Seen) (x : Run) (xs : List Run) (v : Mapping) → IsSorted (x ∷ xs)
+put-first : (see : Seen Mapping) (x : Run) (xs : List Run) (v : Mapping) → IsSorted (x ∷ xs)
     → put nat_cmp x.start v (entries_by see xs) ≡ (x.start, v) ∷ entries_by see xs
 put-first see x [] v rises = refl
 put-first see x (y ∷ xs) v rises =
@@ -25,7 +25,7 @@ nothing = nil_from_length (entries {X = Mapping} {R = nat_cmp} map.empty)
     (sym (len-entries map.empty) ∙ len-empty nat_cmp Mapping)
 
 -- sorted records have their entries in order
-pub entries-sorted : (see : Seen) (rs : List Run) → IsSorted rs
+pub entries-sorted : (see : Seen Mapping) (rs : List Run) → IsSorted rs
     → entries (contents_by see rs) ≡ entries_by see rs
 entries-sorted see [] rises = nothing
 entries-sorted see (x ∷ xs) rises =
@@ -33,7 +33,7 @@ entries-sorted see (x ∷ xs) rises =
     ∙ ap (put nat_cmp x.start (see x.first x.kind)) (entries-sorted see xs (sorted_tail x xs rises))
     ∙ put-first see x xs (see x.first x.kind) rises
 
-pub entries-append : (see : Seen) (xs ys : List Run)
+pub entries-append : (see : Seen Mapping) (xs ys : List Run)
     → entries_by see (xs ++ ys) ≡ entries_by see xs ++ entries_by see ys
 entries-append see [] ys = refl
 entries-append see (x ∷ xs) ys =

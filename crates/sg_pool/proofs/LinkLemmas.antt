@@ -2,8 +2,7 @@
 use Rattle.std.proofs.Common.{◌≡◌, ◌≢◌, ℕ, ◌+◌, ◌-◌, ◌<◌, ◌≤◌, zero, suc, List, [], ◌∷◌, ◌++◌}
 use Rattle.std.proofs.Common.{length, get_or, set, arith, refl, sym, ap, ap₂, ◌∙◌}
 use Rattle.std.proofs.Common.{zero-add, cond, Bool, true, false, inl, inr}
-use Rattle.std.proofs.lemmas.Bool.{cases_lt}
-use Rattle.std.proofs.lemmas.Bool.Decides.{nat_tests}
+use Rattle.std.proofs.lemmas.Bool.{cases_lt, eqb-true}
 use Rattle.std.proofs.lemmas.List.{get_or-set_same, get_or-set_other}
 use Rattle.std.specs.Prelude.{slice_index, ◌==◌}
 use Rattle.sg_pool.specs.Chains.{chain, slot_after, AreBelow, IsChain}
@@ -166,11 +165,8 @@ one_test : (b : Bool) → 0 < cond b 1 0 → b ≡ true
 one_test true h = refl
 one_test false h = absurd (omega arith)
 
-test_equal : (t x : ℕ) → (x == t) ≡ true → x ≡ t
-test_equal t x e = grind (arith, nat_tests)
-
 equal_one : (t x : ℕ) → 0 < one_if_equal t x → x ≡ t
-equal_one t x h = test_equal t x (one_test (x == t) h)
+equal_one t x h = eqb-true x t (one_test (x == t) h)
 
 -- a slot that is in a list
 pub below-in : (count t : ℕ) (xs : List ℕ) → AreBelow count xs → 1 ≤ occurrences t xs → t < count

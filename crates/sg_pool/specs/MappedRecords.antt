@@ -1,7 +1,10 @@
 -- What the records of a table map, with the blocks of their slots.
-use Rattle.std.specs.Prelude.{◌≡◌, ℕ, ◌+◌, List, [], ◌∷◌, ◌++◌, length, slice_index_or}
-use Rattle.std.specs.FinMap.{from_entries}
-use Rattle.sg_store.specs.Disk.{Contents, Mapping, zero_block}
+use Rattle.std.specs.Prelude.{◌≡◌, ℕ, ◌+◌, List, [], ◌∷◌, ◌++◌, length, not, slice_index_or}
+use Rattle.std.specs.Prelude.{slice_set}
+use Rattle.std.specs.List.{filter}
+use Rattle.std.specs.FinMap.{FinMap, from_entries}
+use Rattle.std.specs.Ordering.{nat_cmp}
+use Rattle.sg_store.specs.Disk.{Contents, Mapping, lies_in, zero_block}
 use Rattle.sg_store.specs.Disk.Mapping.{Data, Anchored}
 use Rattle.sg_store.specs.declared.lba_status.ProvisioningStatus.{ProvisioningStatus}
 use Rattle.sg_store.specs.declared.lba_status.ProvisioningStatus.TheVariants.{Mapped}
@@ -13,21 +16,31 @@ use Rattle.sg_table.specs.declared.run.Kind.TheVariants.{Data as DataKind, Ancho
 use Rattle.sg_table.specs.declared.run.Run.{Run}
 
 -- What is seen of an address, by the slot and the kind of its record.
-abbrev pub Seen : Type 0
-Seen = (slot : ℕ) → Kind → Mapping
+abbrev pub Seen : Type 0 → Type 0
+Seen X = (slot : ℕ) → Kind → X
 
 -- The address of each record, with what is seen of it.
-abbrev pub entries_by : Seen → List Run → List (ℕ × Mapping)
+abbrev pub entries_by : {X : Type 0} → Seen X → List Run → List (ℕ × X)
 entries_by seen [] = []
 entries_by seen (run ∷ records) = (run.start, seen run.first run.kind) ∷ entries_by seen records
 
-abbrev pub contents_by : Seen → List Run → Contents
+abbrev pub contents_by : {X : Type 0} → Seen X → List Run → FinMap nat_cmp X
 contents_by seen records = from_entries (entries_by seen records)
 
 -- Data is the block of the slot. That of an anchored address is not seen.
-abbrev pub mapping_in : (blocks : List (List ℕ)) → Seen
+abbrev pub mapping_in : (blocks : List (List ℕ)) → Seen Mapping
 mapping_in blocks slot DataKind = Data (slice_index_or blocks slot zero_block)
 mapping_in blocks slot AnchoredKind = Anchored
+
+-- The kind of the record of an address, by what the address has.
+abbrev pub kind_of : Mapping → Kind
+kind_of (Data block) = DataKind
+kind_of Anchored = AnchoredKind
+
+-- The blocks of the slots, with that of an address in its slot. An anchored address has none.
+abbrev pub filled_slot : (blocks : List (List ℕ)) → (slot : ℕ) → Mapping → List (List ℕ)
+filled_slot blocks slot (Data block) = slice_set blocks slot block
+filled_slot blocks slot Anchored = blocks
 
 -- The contents of a disk with these records, and these blocks in the slots.
 abbrev pub contents_of : List Run → (blocks : List (List ℕ)) → Contents
@@ -38,13 +51,21 @@ abbrev pub status_of_kind : Kind → ProvisioningStatus
 status_of_kind DataKind = Mapped
 status_of_kind AnchoredKind = AnchoredStatus
 
--- The number of the slot, in place of what it holds.
-abbrev pub number_in : Seen
-number_in slot kind = Data (slot ∷ [])
+-- The addresses that have a block of the pool, each with the number of its slot.
+abbrev pub SlotNumbers : Type 0
+SlotNumbers = FinMap nat_cmp ℕ
 
--- The addresses of the records, each with the number of its slot.
-abbrev pub slot_numbers : List Run → Contents
-slot_numbers records = contents_by number_in records
+abbrev pub slot_number : Seen ℕ
+slot_number slot kind = slot
+
+-- Those of the records.
+abbrev pub slot_numbers : List Run → SlotNumbers
+slot_numbers records = contents_by slot_number records
+
+-- The records of the addresses outside a range.
+abbrev pub outside_records : List Run → (lba count : ℕ) → List Run
+outside_records records lba count =
+    filter (λ (run : Run). not (lies_in lba count run.start)) records
 
 -- A sorted table and a pool of `room` slots: each slot has one record or is free.
 pub record IsConsistent (records : List Run) (blocks : List (List ℕ)) (free : List ℕ) (room : ℕ) :

@@ -2,6 +2,7 @@
 use Rattle.std.proofs.Common.{◌≡◌, ◌≢◌, ℕ, ◌+◌, ◌-◌, ◌<◌, ◌≤◌, zero, suc, List, [], ◌∷◌, ◌++◌}
 use Rattle.std.proofs.Common.{arith, refl, sym, ap, ap₂, ◌∙◌, eq-eqb}
 use Rattle.std.proofs.Common.{cond, Bool, true, false}
+use Rattle.std.proofs.lemmas.Bool.{false_from_ne_true}
 use Rattle.std.proofs.lemmas.Bool.Decides.{nat_tests}
 use Rattle.std.proofs.lemmas.List.FromFn.{length-range_with_len}
 use Rattle.std.proofs.lemmas.List.Sums.{prefix_len-le-length, sum_by-append, sum_by-cons}
@@ -13,10 +14,6 @@ use Rattle.sg_store.specs.LbaStatus.{max_addresses, status_at}
 use Rattle.sg_store.specs.declared.lba_status.ProvisioningStatus.{ProvisioningStatus}
 use Rattle.sg_store.specs.declared.lba_status.ProvisioningStatus.TheVariants.{Mapped, Deallocated, Anchored}
 use Rattle.sg_store.specs.declared.lba_status.StatusDescriptor.{StatusDescriptor}
-
-not_true : (b : Bool) → b ≢ true → b ≡ false
-not_true true wrong = absurd (wrong refl)
-not_true false wrong = refl
 
 -- the numbers of a range that pass a test, before the first that does not
 prefix-is : (p : ℕ → Bool) (a n k : ℕ) → k ≤ n → ((i : ℕ) → i < k → p (a + i) ≡ true)
@@ -47,7 +44,7 @@ same_status Anchored Deallocated e = let wrong = e in cc
 same_status Anchored Anchored e = refl
 
 other_code : (s t : ProvisioningStatus) → s ≢ t → (code_of s == code_of t) ≡ false
-other_code s t other = not_true (code_of s == code_of t) (λ e. other (same_status s t e))
+other_code s t other = false_from_ne_true (code_of s == code_of t) (λ e. other (same_status s t e))
 
 -- a descriptor, by the status of its addresses
 module _ (m : Contents) (capacity a k : ℕ) (s : ProvisioningStatus) (here : status_at m a ≡ s)

@@ -115,9 +115,13 @@ disk_filled disk lba count block = disk_replaced disk lba count (λ index. block
 abbrev pub lies_in : (lba count address : ℕ) → Bool
 lies_in lba count address = nat_le lba address && nat_lt address (lba + count)
 
+-- What each address outside a range has.
+abbrev pub outside_range : {X : Type 0} → FinMap nat_cmp X → (lba count : ℕ) → FinMap nat_cmp X
+outside_range found lba count = retain_keys found (λ address. not (lies_in lba count address))
+
 -- The addresses of a range have no block of the pool any more.
 unfoldable pub unmapped : Contents → (lba count : ℕ) → Contents
-unmapped contents lba count = retain_keys contents (λ address. not (lies_in lba count address))
+unmapped contents lba count = outside_range contents lba count
 
 -- The disk with a range unmapped.
 abbrev pub disk_unmapped : Disk → (lba count : ℕ) → Disk

@@ -53,7 +53,7 @@ returns-clause-visits c =
     let all = searched-visits c.args.table.now c.lower_bound-index.new.self
     c.gather_before.new.table c.gather_from.new.table _ _ _ _ e.table e.probes_rise e.search
     c.gather_before.ensures.visits c.gather_from.ensures.visits in
-    let most = rw two at all.most_visits in
+    let most = rw two at all.between.most_visits in
     let on = c.gather_from.ensures.gathered in
     let begun = c.gather_before.ensures.gathered in
     let from = on.from in
@@ -62,6 +62,8 @@ returns-clause-visits c =
       table = all.table;
       probes_rise = all.probes_rise;
       search = all.search;
-      fewest_visits = omega (arith, all.fewest_visits, begun.reached, from, order);
-      most_visits = omega (arith, starts, most);
+      between = record {
+        fewest_visits = omega (arith, all.between.fewest_visits, begun.reached, from, order);
+        most_visits = omega (arith, starts, most);
+      };
     }

@@ -62,6 +62,8 @@ returns-clause-links c =
     let same = ap (λ xs. length (expanded p.next xs)) c.pass.ensures.ahead in
     record {
       pool = c.pass.ensures.links.pool;
-      links_rise = c.pass.ensures.links.links_rise;
-      most_links = omega (arith, len, same, c.pass.ensures.links.most_links);
+      follows = record {
+        links_rise = c.pass.ensures.links.follows.links_rise;
+        most_links = omega (arith, len, same, c.pass.ensures.links.follows.most_links);
+      };
     }

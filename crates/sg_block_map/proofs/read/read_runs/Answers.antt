@@ -34,8 +34,8 @@ loop-i-init c =
           (c.args.lba + c.args.count) q c.walk_from-before.result.0 more (mapping_in p.blocks) t
           (omega arith));
       pool = c.walk_from-before.ensures.links.pool;
-      rise = c.walk_from-before.ensures.links.links_rise;
-      links = omega (arith, len, c.walk_from-before.ensures.links.most_links);
+      rise = c.walk_from-before.ensures.links.follows.links_rise;
+      links = omega (arith, len, c.walk_from-before.ensures.links.follows.most_links);
     }
 
 pub loop-i-preserved : goal.loop-i-preserved
@@ -61,7 +61,7 @@ loop-i-preserved c =
     ∙ ap data_in found in
     let ahead = rw (next, here, on) at e.goes_past.still_ahead in
     let later = rw (next, bs, here, on) at e.goes_past.later in
-    let links = rw next at e.links.most_links in
+    let links = rw next at e.links.follows.most_links in
     record {
       ahead = ahead;
       bytes = take-put_mid (512 * i) _ c.loop-i.bytes read (512 * (i + 1)) (omega arith)
@@ -70,7 +70,7 @@ loop-i-preserved c =
           ∙ sym (blocks-more (chained_contents runs p) c.args.lba i);
       later = λ q le. later q le ∙ inv.later q (omega arith);
       pool = followed-on p c.loop-i.pool c.read_address-walk.new.pool inv.pool inv.rise
-          e.links.pool e.links.links_rise;
-      rise = omega (arith, inv.rise, e.links.links_rise);
+          e.links.pool e.links.follows.links_rise;
+      rise = omega (arith, inv.rise, e.links.follows.links_rise);
       links = omega (arith, links, inv.links);
     }

@@ -38,6 +38,8 @@ returns-clause-links c =
     (sym c.split.ensures.pool)
     (rw c.split.ensures.front (record {
       pool = ap (followed p) (omega arith);
-      links_rise = omega arith;
-      most_links = omega (arith, length-one next (front_of next c.args.run before));
+      follows = record {
+        links_rise = omega arith;
+        most_links = omega (arith, length-one next (front_of next c.args.run before));
+      };
     }))

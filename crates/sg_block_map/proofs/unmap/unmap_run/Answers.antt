@@ -24,7 +24,7 @@ returns-in_default-clause-links c =
     let one = rw c.in_default.is at c.split_at-front.ensures.split in
     let len = part-length p.next c.args.run (option_to_list c.split_at-front.result.0) [] []
     one.parts in
-    omega (arith, len, c.split_at-front.ensures.links.most_links)
+    omega (arith, len, c.split_at-front.ensures.links.follows.most_links)
 
 pub split_at-gone-requires-clause-chain : goal.split_at-gone-requires-clause-chain
 split_at-gone-requires-clause-chain c =
@@ -54,7 +54,7 @@ split_at-gone-requires-clause-headroom c =
     let len = part-length p.next c.args.run (option_to_list c.split_at-front.result.0)
     (rest ∷ []) [] parts in
     let own = length-part p.next rest in
-    omega (arith, len, own, c.split_at-front.ensures.links.most_links, c.requires.headroom)
+    omega (arith, len, own, c.split_at-front.ensures.links.follows.most_links, c.requires.headroom)
 
 pub give-requires-clause-below : goal.give-requires-clause-below
 give-requires-clause-below c =
@@ -135,6 +135,6 @@ returns-clause-links c =
     let len = part-length p.next c.args.run (option_to_list front) (option_to_list gone)
     (option_to_list back) (parts-twice p.next c.args.run c.in-Some.rest c.args.low c.args.high
     front gone back one two) in
-    let links = rw first at c.split_at-gone.ensures.links.most_links in
+    let links = rw first at c.split_at-gone.ensures.links.follows.most_links in
     let same = ap (λ (s : Slots). s.links) c.give.ensures.pool in
-    omega (arith, len, links, same, c.split_at-front.ensures.links.most_links)
+    omega (arith, len, links, same, c.split_at-front.ensures.links.follows.most_links)

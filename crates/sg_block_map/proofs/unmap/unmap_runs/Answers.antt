@@ -3,20 +3,18 @@ use Rattle.std.proofs.Common.{[], subst, sym, ◌∙◌, arith, refl, length-app
 use Rattle.std.proofs.lemmas.Bool.Decides.{nat_tests}
 use Rattle.std.proofs.lemmas.List.{nil_from_length, take-append-drop, length-take-le}
 use Rattle.std.proofs.lemmas.List.Sums.{sum_by_more, sum_by-take-le}
-use Rattle.std.specs.FinMap.{find}
 use Rattle.std.specs.List.{splice}
-use Rattle.std.specs.Ordering.{nat_cmp}
 use Rattle.std.specs.Prelude.{slice_index_or}
-use Rattle.sg_store.specs.Disk.{unmapped, max_capacity}
+use Rattle.sg_store.specs.Disk.{max_capacity}
 use Rattle.sg_table.specs.Draft.{Drafted}
-use Rattle.sg_pool.specs.MappedRecords.{entries_by, contents_by}
+use Rattle.sg_pool.specs.MappedRecords.{outside_records}
 use Rattle.sg_pool.specs.Slots.{Slots}
 use Rattle.sg_table.specs.Table.{Table}
 use Rattle.sg_table.specs.declared.run.Kind.TheVariants.{Data}
 use Rattle.sg_table.specs.declared.run.Run.{Run}
 use Rattle.sg_block_map.specs.Gathering.{end_index, AreGathered}
 use Rattle.sg_block_map.specs.Runs.{expanded, AreRuns}
-use Rattle.sg_block_map.proofs.CutRunsLemmas.{cut-runs, cut-contents, cut-outside}
+use Rattle.sg_block_map.proofs.CutRunsLemmas.{cut-runs, cut-outside, kept-outside}
 use Rattle.sg_block_map.proofs.RunSlotLemmas.{run-chain}
 use Rattle.sg_block_map.proofs.RunSlotLemmas.{run-distinct, run-below, run-lengths, run-range}
 use Rattle.sg_block_map.proofs.RemainingLemmas.{nothing-left}
@@ -41,8 +39,8 @@ here rs kept runs gathered slots room low high bound from i g same starts_in lt 
     rw same (rw (starts_in, gathered-here rs kept gathered low high bound i no_run g lt') at h)
 
 -- no run is near the range
-pub returns-then-is_empty-clause-contents : goal.returns-then-is_empty-clause-contents
-returns-then-is_empty-clause-contents c =
+pub returns-then-is_empty-clause-records : goal.returns-then-is_empty-clause-records
+returns-then-is_empty-clause-records c =
     let rs = c.args.table.now.records in
     let next = c.args.pool.now.next in
     let gathered = c.args.gathered.now in
@@ -53,12 +51,12 @@ returns-then-is_empty-clause-contents c =
     (let empty = sym c.if-is_empty.true ∙ c.is_empty.ensures in
     let same = ap length c.records-runs.ensures in grind (arith, nat_tests)) in
     let parts : rs ≡ before ++ after = sym g.same ∙ ap (λ zs. before ++ (zs ++ after)) none in
-    λ see. subst (λ zs. contents_by see (expanded next zs) ≡ unmapped
-    (contents_by see (expanded next zs)) c.args.low (c.args.high - c.args.low)) (sym parts)
-    (nothing-left next before [] after see c.args.low c.args.high (max_capacity + 1)
+    subst (λ zs. expanded next zs
+    ≡ outside_records (expanded next zs) c.args.low (c.args.high - c.args.low)) (sym parts)
+    (nothing-left next before [] after c.args.low c.args.high (max_capacity + 1)
     (omega (arith, c.requires.order)) (apart-loose before 0 0 c.args.low (omega arith) g.before)
     (apart-loose after (c.args.high + 1) c.args.high (max_capacity + 1) (omega arith) g.after)
-    (λ q low high. ap (λ zs. find nat_cmp q (entries_by see zs)) (expanded-none next)))
+    (rw (expanded-none next) refl))
 
 pub loop-i-init : goal.loop-i-init
 loop-i-init c =
@@ -70,8 +68,8 @@ loop-i-init c =
     ∙ take-append-drop c.from-from.result rs in
     record {
       runs = rw whole c.requires.ready.runs;
-      same = λ see. rw whole refl;
-      none = λ see q le lt. rw (none, expanded-none c.args.pool.now.next) refl;
+      same = rw whole refl;
+      outside = rw (none, expanded-none c.args.pool.now.next) refl;
       remaining = rw c.begin.ensures (refl, c.requires.room);
       blocks = refl;
       rise = omega arith;
@@ -142,13 +140,12 @@ loop-i-preserved c =
     let count = ap (λ rs. (slice_index_or rs c.loop-i.i no_run).count) c.records-runs.ensures in
     record {
       runs = rw is (cut-runs e.cut xs tail now c.requires.order);
-      same = λ see. ap (λ zs. unmapped (contents_by see (expanded c.unmap_run.new.pool.next zs))
-          c.args.low (c.args.high - c.args.low)) is
-          ∙ cut-contents e.cut xs tail now order see
-          ∙ ap (λ zs. unmapped (contents_by see (expanded c.loop-i.pool.next zs)) c.args.low
-          (c.args.high - c.args.low)) (sym was) ∙ inv.same see;
-      none = λ see q le lt. cut-outside e.cut xs tail now see q le lt
-          (inv.none see q le lt);
+      same = ap (λ zs. outside_records (expanded c.unmap_run.new.pool.next zs) c.args.low
+          (c.args.high - c.args.low)) is
+          ∙ cut-outside e.cut xs tail now order
+          ∙ ap (λ zs. outside_records (expanded c.loop-i.pool.next zs) c.args.low
+          (c.args.high - c.args.low)) (sym was) ∙ inv.same;
+      outside = kept-outside e.cut xs tail now order inv.outside;
       remaining = rw e.draft inv.remaining;
       blocks = e.cut.blocks ∙ inv.blocks;
       rise = omega (arith, inv.rise, e.links.links_rise);
@@ -179,8 +176,8 @@ put_runs-requires-clause-room c =
     let e = length-take-le from rs (omega arith) in
     omega (arith, c.loop-i-test.false, c.loop-i.auto.i-end)
 
-pub returns-clause-contents : goal.returns-clause-contents
-returns-clause-contents c =
+pub returns-clause-records : goal.returns-clause-records
+returns-clause-records c =
     let rs = c.args.table.now.records in
     let inv = c.loop-i.invariant in
     let gathered = c.args.gathered.now in
@@ -195,12 +192,12 @@ returns-clause-contents c =
     let now : splice rs c.from-from.result (c.from-from.result + c.loop-i.i) kept ≡
     take gathered.from rs ++ (kept ++ drop (gathered.from + length gathered.records) rs) =
     rw (c.from-from.ensures, all) refl in
-    λ see. ap (λ zs. contents_by see (expanded c.loop-i.pool.next zs)) is
+    ap (λ zs. expanded c.loop-i.pool.next zs) is
     ∙ nothing-left c.loop-i.pool.next (take gathered.from rs) kept
-    (drop (gathered.from + length gathered.records) rs) see c.args.low c.args.high
+    (drop (gathered.from + length gathered.records) rs) c.args.low c.args.high
     (max_capacity + 1) (omega (arith, c.requires.order))
     (apart-loose (take gathered.from rs) 0 0 c.args.low (omega arith) g.before)
     (apart-loose (drop (end_index gathered) rs) (c.args.high + 1) c.args.high (max_capacity + 1)
-    (omega arith) g.after) (inv.none see)
-    ∙ ap (λ zs. unmapped (contents_by see (expanded c.loop-i.pool.next zs)) c.args.low
-    (c.args.high - c.args.low)) (sym now) ∙ inv.same see
+    (omega arith) g.after) inv.outside
+    ∙ ap (λ zs. outside_records (expanded c.loop-i.pool.next zs) c.args.low
+    (c.args.high - c.args.low)) (sym now) ∙ inv.same

@@ -1,10 +1,11 @@
 use Rattle.std.proofs.Common.{◌≡◌, ℕ, ◌-◌, List, ◌∷◌, ◌++◌, drop, ap, ap₂, sym, subst, ◌∙◌}
 use Rattle.std.proofs.Common.{arith, Some, Option}
 use Rattle.sg_table.specs.Records.{single}
+use Rattle.sg_pool.specs.MappedRecords.{filled_slot}
 use Rattle.sg_pool.specs.Slots.{Slots}
 use Rattle.sg_table.specs.Occurrences.{occurrences}
 use Rattle.sg_table.specs.declared.run.Run.{Run}
-use Rattle.sg_block_map.specs.Joining.{joined, linked, mapping_as, put_block, KeepSlots}
+use Rattle.sg_block_map.specs.Joining.{joined, linked, mapping_as, KeepSlots}
 use Rattle.sg_block_map.specs.Runs.{chained_contents}
 use Rattle.sg_block_map.specs.Walking.{ahead_of}
 use Rattle.sg_table.proofs.OccurrenceLemmas.{occurrences-more}
@@ -59,14 +60,16 @@ returns-in_default-clause-puts c =
     let run_is : c.join-done.result ≡ joined done (single lba slot done.kind) = c.join-done.ensures.run
     ∙ ap (joined done) c.single.ensures in
     let set_is : c.set_block.new.pool ≡ record p {
-      blocks = put_block done.kind slot c.args.bytes.now p.blocks;
+      blocks = filled_slot p.blocks slot (mapping_as done.kind c.args.bytes.now);
       free =
           c.take-slot.new.self.free;
     } = c.set_block.ensures
-    ∙ ap (λ (s : Slots). record s { blocks = put_block done.kind slot c.args.bytes.now s.blocks })
+    ∙ ap (λ (s : Slots). record s {
+      blocks = filled_slot s.blocks slot (mapping_as done.kind c.args.bytes.now);
+    })
     c.take-slot.ensures.pool in
     let pool_is : c.join-done.new.pool ≡ record p {
-      blocks = put_block done.kind slot c.args.bytes.now p.blocks;
+      blocks = filled_slot p.blocks slot (mapping_as done.kind c.args.bytes.now);
       free = c.take-slot.new.self.free;
       next = linked p.next done slot;
     }
@@ -78,7 +81,7 @@ returns-in_default-clause-puts c =
     let skipped = skip-maximal c.args.runs.now after w.run w.at lba h.after k
     (sym c.run_at.ensures ∙ c.in_default.is) in
     let block = c.args.bytes.now in
-    let bs = put_block done.kind slot block p.blocks in
+    let bs = filled_slot p.blocks slot (mapping_as done.kind block) in
     let len = put-length done.kind slot block p.blocks in
     let same = put-others done.kind slot block p.blocks in
     let seen = put-seen done.kind slot block p.blocks (slot-taken before done rest p lba slot
@@ -163,7 +166,7 @@ returns-clause-puts c =
     c.join-done-2.ensures.run ∙ ap (joined done) c.single-2.ensures in
     let pool_is : c.join-done-2.new.pool ≡ record now {
       blocks =
-          put_block done.kind found.first c.args.bytes.now now.blocks;
+          filled_slot now.blocks found.first (mapping_as done.kind c.args.bytes.now);
       next = linked now.next done found.first;
     }
     = c.join-done-2.ensures.pool
@@ -172,7 +175,7 @@ returns-clause-puts c =
     λ before after h k.
     let rest : List Run = ahead_of runs w.run w.at ++ after in
     let block = c.args.bytes.now in
-    let bs = put_block done.kind found.first block now.blocks in
+    let bs = filled_slot now.blocks found.first (mapping_as done.kind block) in
     let len = put-length done.kind found.first block now.blocks in
     let same = put-others done.kind found.first block now.blocks in
     let t = there w.run lba found is in

@@ -2,7 +2,7 @@ use Rattle.std.proofs.Common.{◌+◌, sym, ◌∙◌, arith}
 use Rattle.sg_store.specs.Disk.{max_capacity}
 use Rattle.sg_block_map.proofs.RunSlotLemmas.{blocks-fit}
 use Rattle.sg_block_map.proofs.DataLemmas.{data-le, data-of-runs}
-use Rattle.sg_block_map.proofs.MaximalLemmas.{runs-extents}
+use Rattle.sg_block_map.proofs.MaximalLemmas.{runs-addresses}
 use Rattle.sg_block_map.proofs.block_map.BlockMapStore.mapped.Goals as goal
 
 pub overflow_cast-result : goal.overflow_cast-result
@@ -25,5 +25,5 @@ returns-clause-value c =
 pub returns-clause-records : goal.returns-clause-records
 returns-clause-records c =
     let s = c.args.self.now in
-    sym (runs-extents s.pool.next s.table.records s.pool.blocks 0
+    sym (runs-addresses s.pool.next s.table.records s.pool.blocks 0
     (max_capacity + 1) s.runs.maximal)

@@ -52,5 +52,5 @@ returns-clause-costs c =
     ∙ length-expanded s.pool.next gathered.records in
     gathered-range s.table c.gather.new.table s.pool c.read_runs.new.pool s.capacity c.args.lba
     c.args.count gathered s.runs e.gathered s.pool_fits e.visits
-    c.read_runs.ensures.links.links_rise
-    (omega (arith, c.read_runs.ensures.links.most_links, links))
+    c.read_runs.ensures.links.follows.links_rise
+    (omega (arith, c.read_runs.ensures.links.follows.most_links, links))

@@ -58,17 +58,19 @@ returns-clause-costs c =
     let fewest = rw same at (f.visits s.pool).fewest_visits in
     let most = rw same at (f.visits s.pool).most_visits in
     let probes = ap (λ (x : Table). x.probes) f.table in
-    let total : s.table.total ≤ u.total = omega (arith, e.fewest_visits, fewest) in
+    let total : s.table.total ≤ u.total = omega (arith, e.between.fewest_visits, fewest) in
     let rise : s.table.probes ≤ u.probes = omega (arith, probes, e.probes_rise) in
-    let joined = visits-joined s.table t u e.table f.table (omega (arith, e.fewest_visits))
+    let joined = visits-joined s.table t u e.table f.table (omega (arith, e.between.fewest_visits))
     (omega (arith, fewest)) in
     let met = meet-records s.table.records s.pool s.table.room lba count s.runs in
     let one = ahead-le c.cursor_over-cursor.result.next in
     record {
-      cost = gathered-costs s.table.records s.pool s.pool s.table.room lba count s.table u s.runs
-          refl joined rise (rw probes e.search) total s.pool_fits (omega arith) (omega arith);
-      price = omega (arith, most, e.most_visits, met, one);
-      least = omega (arith, fewest, e.fewest_visits, met, one);
+      charge = record {
+        cost = gathered-costs s.table.records s.pool s.pool s.table.room lba count s.table u s.runs
+            refl joined rise (rw probes e.search) total s.pool_fits (omega arith) (omega arith);
+        price = omega (arith, most, e.between.most_visits, met, one);
+        least = omega (arith, fewest, e.between.fewest_visits, met, one);
+      };
       runs = gathered-runs s.table.records s.pool s.pool s.table.room lba count s.table u s.runs
           refl joined rise (rw probes e.search) total (omega arith);
     }

@@ -1,13 +1,14 @@
 use Rattle.std.proofs.Common.{◌≡◌, ◌+◌, ◌-◌, ap, ap₂, sym, subst, ◌∙◌, arith}
-use Rattle.sg_store.specs.Disk.{Contents, IsWellFormed, unmapped}
+use Rattle.sg_store.specs.Disk.{Contents, IsWellFormed, outside_range, unmapped}
 use Rattle.sg_store.specs.Meter.{Meter}
-use Rattle.sg_pool.specs.MappedRecords.{mapping_in, contents_of, number_in, slot_numbers}
+use Rattle.sg_pool.specs.MappedRecords.{SlotNumbers, contents_of, slot_number, slot_numbers}
 use Rattle.sg_pool.specs.Slots.{Slots}
 use Rattle.sg_table.specs.Table.{Table}
 use Rattle.sg_block_map.specs.RunCost.{CostsRange}
 use Rattle.sg_block_map.specs.Runs.{expanded, chained_contents}
 use Rattle.sg_block_map.specs.State.{disk_of, meter_at, slot_map}
-use Rattle.sg_block_map.proofs.ContentsLemmas.{unmapped-none}
+use Rattle.sg_block_map.proofs.ContentsLemmas.{outside-none, unmapped-none}
+use Rattle.sg_pool.proofs.MappedLemmas.{contents-outside, contents-unmapped}
 use Rattle.sg_block_map.proofs.StoreLemmas.{have-room, gathered-range, nothing-costs}
 use Rattle.sg_block_map.proofs.block_map.BlockMapStore.unmap.Goals as goal
 
@@ -22,8 +23,8 @@ returns-then-count-eq0-clause-disk c =
 pub returns-then-count-eq0-clause-keeps : goal.returns-then-count-eq0-clause-keeps
 returns-then-count-eq0-clause-keeps c =
     let s = c.args.self.now in
-    let was : Contents = slot_map s.table s.pool in
-    sym (ap (unmapped was c.args.lba) c.if-count-eq0.true ∙ unmapped-none was c.args.lba)
+    let was : SlotNumbers = slot_map s.table s.pool in
+    sym (ap (outside_range was c.args.lba) c.if-count-eq0.true ∙ outside-none was c.args.lba)
 
 pub returns-then-count-eq0-clause-costs : goal.returns-then-count-eq0-clause-costs
 returns-then-count-eq0-clause-costs c =
@@ -58,7 +59,9 @@ invariant_of-self-clause-well_formed c =
     unmapped (chained_contents rs s.pool) lba count =
     ap (chained_contents after.table.records) c.renew_slots.ensures.pool
     ∙ ap (contents_of (expanded after.pool.next after.table.records)) c.unmap_runs.ensures.blocks
-    ∙ c.unmap_runs.ensures.contents (mapping_in s.pool.blocks)
+    ∙ ap (λ zs. contents_of zs s.pool.blocks) c.unmap_runs.ensures.records
+    ∙ contents-unmapped (expanded s.pool.next c.gather.new.table.records) s.pool.blocks lba
+    (lba + c.from.result - lba)
     ∙ ap (λ (t : Table). unmapped (chained_contents t.records s.pool) lba
     (lba + c.from.result - lba)) c.gather.ensures.visits.table
     ∙ ap (unmapped (chained_contents rs s.pool) lba) (omega (arith, c.from.ensures)) in
@@ -76,7 +79,9 @@ returns-clause-disk c =
     unmapped (chained_contents rs s.pool) lba count =
     ap (chained_contents after.table.records) c.renew_slots.ensures.pool
     ∙ ap (contents_of (expanded after.pool.next after.table.records)) c.unmap_runs.ensures.blocks
-    ∙ c.unmap_runs.ensures.contents (mapping_in s.pool.blocks)
+    ∙ ap (λ zs. contents_of zs s.pool.blocks) c.unmap_runs.ensures.records
+    ∙ contents-unmapped (expanded s.pool.next c.gather.new.table.records) s.pool.blocks lba
+    (lba + c.from.result - lba)
     ∙ ap (λ (t : Table). unmapped (chained_contents t.records s.pool) lba
     (lba + c.from.result - lba)) c.gather.ensures.visits.table
     ∙ ap (unmapped (chained_contents rs s.pool) lba) (omega (arith, c.from.ensures)) in
@@ -90,10 +95,12 @@ returns-clause-keeps c =
     let lba = c.args.lba in
     let after = c.unmap_runs.new in
     ap (λ (p : Slots). slot_numbers (expanded p.next after.table.records)) c.renew_slots.ensures.pool
-    ∙ c.unmap_runs.ensures.contents number_in
-    ∙ ap (λ (t : Table). unmapped (slot_numbers (expanded s.pool.next t.records)) lba
+    ∙ ap slot_numbers c.unmap_runs.ensures.records
+    ∙ contents-outside slot_number (expanded s.pool.next c.gather.new.table.records) lba
+    (lba + c.from.result - lba)
+    ∙ ap (λ (t : Table). outside_range (slot_numbers (expanded s.pool.next t.records)) lba
     (lba + c.from.result - lba)) c.gather.ensures.visits.table
-    ∙ ap (unmapped (slot_numbers (expanded s.pool.next s.table.records)) lba)
+    ∙ ap (outside_range (slot_numbers (expanded s.pool.next s.table.records)) lba)
     (omega (arith, c.from.ensures))
 
 pub returns-clause-costs : goal.returns-clause-costs

@@ -1,6 +1,6 @@
 use Rattle.std.proofs.Common.{◌+◌, sym, arith}
 use Rattle.sg_store.specs.Disk.{max_capacity}
-use Rattle.sg_block_map.proofs.MaximalLemmas.{runs-extents}
+use Rattle.sg_block_map.proofs.MaximalLemmas.{runs-addresses}
 use Rattle.sg_block_map.proofs.StoreLemmas.{size}
 use Rattle.sg_block_map.proofs.block_map.BlockMapStore.used.Goals as goal
 
@@ -13,5 +13,5 @@ returns-clause-value c =
 pub returns-clause-records : goal.returns-clause-records
 returns-clause-records c =
     let s = c.args.self.now in
-    sym (runs-extents s.pool.next s.table.records s.pool.blocks 0
+    sym (runs-addresses s.pool.next s.table.records s.pool.blocks 0
     (max_capacity + 1) s.runs.maximal)
