@@ -5,6 +5,7 @@ use Rattle.std.specs.Prelude.{Bool, ◌&&◌, ◌==◌, nat_le, nat_lt, if◌the
 use Rattle.std.specs.List.{flat_map}
 use Rattle.byteorder.specs.Endian.{big_number}
 use Rattle.hex.specs.Hex.{encode_lower}
+use Rattle.sg_wire.specs.Ascii.{is_printable}
 use Rattle.sg_wire.specs.Layout.{has_bit}
 use Rattle.sg_decode.specs.HexText.{upper_hex_byte}
 use Rattle.sg_decode.specs.declared.value.Value.{Value}
@@ -18,7 +19,7 @@ bits byte high low = (byte / 2 ^ low) % 2 ^ (high + 1 - low)
 
 -- A byte of a text. One that is no printable ASCII is shown as a dot.
 abbrev pub printable : ℕ → ℕ
-printable byte = if nat_le 0x20 byte && nat_le byte 0x7E then byte else 0x2E
+printable byte = if is_printable byte then byte else 0x2E
 
 abbrev pub bracketed : List ℕ → List ℕ
 bracketed bytes = codes "[" ++ (map printable bytes ++ codes "]")
