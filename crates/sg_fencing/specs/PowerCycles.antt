@@ -4,7 +4,8 @@ use Rattle.std.specs.Prelude.{filter, map, slice_get, take}
 use Rattle.std.specs.List.{list_any, zip}
 use Rattle.sg_wire.specs.Layout.{class_of, command_of}
 use Rattle.sg_wire.specs.declared.command.Class.TheVariants.{Writes}
-use Rattle.sg_units.specs.Attentions.{initiator_count, pending_for}
+use Rattle.sg_wire.specs.Initiator.{initiator_count}
+use Rattle.sg_units.specs.Attentions.{pending_for}
 use Rattle.sg_units.specs.declared.unit_attention.UnitAttention.TheVariants.{PowerOn}
 use Rattle.sg_target.specs.PowerCycle.{after_power_cycle}
 use Rattle.sg_target.specs.Runs.{answers_to_events, state_after_events, step_of}
