@@ -16,7 +16,7 @@ use Rattle.sg_units.specs.Attentions.{pending_for}
 use Rattle.sg_units.specs.Laws.{OthersAreRefused}
 use Rattle.sg_units.specs.ReserveOut.{Outcome, outcome}
 use Rattle.sg_units.specs.declared.reservation_state.ReservationState.{ReservationState}
-use Rattle.sg_units.proofs.OutcomeLemmas.{EffectIs}
+use Rattle.sg_units.proofs.OutcomeLemmas.{EffectIs, and_false}
 use Rattle.sg_target.specs.Laws.{LimitsAreKept}
 use Rattle.sg_target.specs.Refusal.{when_sound}
 use Rattle.sg_target.specs.ReservationCommands.{changing_reservations, out_refusal}
@@ -36,7 +36,7 @@ use Rattle.sg_fencing.proofs.FencedRunLemmas.{answers_in}
 use Rattle.sg_fencing.proofs.OperationLemmas.{is_of_kind}
 use Rattle.sg_fencing.proofs.OthersLemmas.{Keeps}
 use Rattle.sg_fencing.proofs.OutsiderLemmas.{IsOutside, outsider-keeps}
-use Rattle.sg_fencing.proofs.OutsiderRunLemmas.{second, unknown-after-call}
+use Rattle.sg_fencing.proofs.OutsiderRunLemmas.{unknown-after-call}
 use Rattle.sg_fencing.proofs.RegistrationLemmas.{Never, outcome-refused}
 use Rattle.sg_fencing.proofs.StandingLemmas.{EffectStands, step-stands}
 
@@ -195,7 +195,8 @@ module _ (limits : LimitsAreKept) (refuses : OthersAreRefused) (classes : Comman
       let from_it = eq-eqb j j refl in
       let own_call = or_parts (is_from j call && registers (command_of call.cdb.now))
       (has_registering j calls) (h.silent j e) in
-      let silent = second (is_from j call) (registers (command_of call.cdb.now)) own_call.0 from_it in
+      let silent = and_false (is_from j call) (registers (command_of call.cdb.now)) from_it
+      own_call.0 in
       let is_out : IsOutside s j = record { held = h.reserved 0 call refl e; unknown = h.unknown j e } in
       let after = idle refuses classes s j is_out h.within call.cdb.now call.data_out.now silent in
       let same = one-next s t (step_of s call).state j h.same e after in
