@@ -5,6 +5,7 @@ use Rattle.std.proofs.Common.{arith, refl, ap, sym, ◌∙◌, append_assoc, app
 use Rattle.std.proofs.Common.{slice_range, nat_le, nat_lt, not, min, codes}
 use Rattle.std.specs.List.{flat_map}
 use Rattle.std.proofs.lemmas.Grind.{common_steps}
+use Rattle.std.proofs.lemmas.Bool.{and_parts}
 use Rattle.std.proofs.lemmas.Bool.Decides.{nat_tests}
 use Rattle.std.proofs.lemmas.List.{take_more, take_all, take-append-drop}
 use Rattle.std.specs.Borrow.{Bor}
@@ -15,7 +16,6 @@ use Rattle.sg_decode.specs.declared.entry.EntryKind.TheVariants.{ModePages, LbaS
 use Rattle.sg_decode.specs.declared.entry.EntryKind.TheVariants.{ReservationKeys, FullStatusDescriptors}
 use Rattle.sg_decode.specs.Lines.{Line, line_of, lines_of, line_text, line_end, lines_end}
 use Rattle.sg_decode.specs.Entries.{entry_of}
-use Rattle.sg_decode.proofs.LineLemmas.{and_first, and_second}
 use Rattle.std.proofs.lemmas.List.Folds.{list_all_more, list_all_at}
 use Rattle.sg_wire.specs.Printing.{Printing, Prints}
 use Rattle.sg_wire.proofs.PrintingLemmas.{Prints-on, Prints-nil}
@@ -35,12 +35,8 @@ shown-append : (reported : Option ℕ) (bytes : List ℕ) (xs ys : List Item)
 unfolding shown all_shown
 shown-append reported bytes [] ys all = refl
 shown-append reported bytes (x ∷ xs) ys all =
-    let here : is_shown reported bytes x.end ≡ true =
-    and_first (is_shown reported bytes x.end) (all_shown reported bytes xs) all in
-    let rest =
-    shown-append reported bytes xs ys (and_second (is_shown reported bytes x.end)
-    (all_shown reported bytes xs) all) in
-    rw (here, rest, append_assoc) refl
+    let both = and_parts (is_shown reported bytes x.end) (all_shown reported bytes xs) all in
+    rw (both.0, shown-append reported bytes xs ys both.1, append_assoc) refl
 
 shown-one : (reported : Option ℕ) (bytes : List ℕ) (x : Item) → is_shown reported bytes x.end ≡ true
     → shown reported bytes (x ∷ []) ≡ own_text bytes x
@@ -254,14 +250,14 @@ pub shown_given : (reported : Option ℕ) (bytes : List ℕ) (end : ℕ)
     → is_shown reported bytes end ≡ true → end ≤ length bytes
 shown_given reported bytes end showing =
     let within : nat_le end (length bytes) ≡ true =
-    and_second (not (passes end reported)) (nat_le end (length bytes)) showing in
+    (and_parts (not (passes end reported)) (nat_le end (length bytes)) showing).1 in
     grind (arith, nat_tests)
 
 pub shown_in_time : (reported : ℕ) (bytes : List ℕ) (end : ℕ)
     → is_shown (Some reported) bytes end ≡ true → end ≤ reported
 shown_in_time reported bytes end showing =
     let within : not (nat_lt reported end) ≡ true =
-    and_first (not (nat_lt reported end)) (nat_le end (length bytes)) showing in
+    (and_parts (not (nat_lt reported end)) (nat_le end (length bytes)) showing).0 in
     grind (arith, nat_tests)
 
 header_in_size : (entry : Entry) (bytes : List ℕ) → entry.header bytes ≤ size entry bytes
@@ -319,12 +315,10 @@ pub all_given : (reported : Option ℕ) (bytes : List ℕ) (lines : List Line)
 unfolding all_shown
 all_given reported bytes [] all = omega arith
 all_given reported bytes (x ∷ xs) all =
-    let here =
-    shown_given reported bytes (line_end x) (and_first (is_shown reported bytes (line_end x))
-    (all_shown reported bytes (line_items xs)) all) in
-    let rest =
-    all_given reported bytes xs (and_second (is_shown reported bytes (line_end x))
-    (all_shown reported bytes (line_items xs)) all) in
+    let both = and_parts (is_shown reported bytes (line_end x))
+    (all_shown reported bytes (line_items xs)) all in
+    let here = shown_given reported bytes (line_end x) both.0 in
+    let rest = all_given reported bytes xs both.1 in
     omega arith
 
 pub lines_all : (a b : Printing) (reported : Option ℕ) (bytes : List ℕ)

@@ -1,7 +1,8 @@
 -- The parts of a line.
 use Rattle.std.proofs.Common.{◌≡◌, ◌≤◌, ◌<◌, ℕ, zero, suc, List, [], ◌∷◌, length, take, get_or}
-use Rattle.std.proofs.Common.{true, false, Bool, ◌&&◌, arith, refl, sym}
+use Rattle.std.proofs.Common.{true, arith, sym}
 use Rattle.std.specs.List.{flat_map}
+use Rattle.std.proofs.lemmas.Bool.{and_parts}
 use Rattle.std.proofs.lemmas.List.Folds.{flat_map-map}
 use Rattle.std.proofs.lemmas.List.{take_all}
 use Rattle.sg_wire.specs.Printing.{Printing, Prints}
@@ -11,21 +12,14 @@ use Rattle.sg_decode.specs.Lines.{are_sound}
 use Rattle.std.specs.Borrow.{Bor}
 use Rattle.sg_decode.specs.declared.value.Field.{Field}
 
-pub and_first : (a b : Bool) → (a && b) ≡ true → a ≡ true
-and_first true b e = refl
-and_first false b e = e
-
-pub and_second : (a b : Bool) → (a && b) ≡ true → b ≡ true
-and_second true b e = e
-and_second false b e = absurd cc
-
 -- each value of a sound line is sound
 pub sound_at : (fields : List Field) (i : ℕ) (d : Field) → i < length fields
     → is_sound_line (line_of fields) ≡ true → is_sound (get_or fields i d).1 ≡ true
 sound_at [] i d within sound = absurd (omega arith)
-sound_at (x ∷ xs) zero d within sound = and_first (is_sound x.1) (is_sound_line (line_of xs)) sound
+sound_at (x ∷ xs) zero d within sound =
+    (and_parts (is_sound x.1) (is_sound_line (line_of xs)) sound).0
 sound_at (x ∷ xs) (suc i) d within sound =
-    sound_at xs i d (omega arith) (and_second (is_sound x.1) (is_sound_line (line_of xs)) sound)
+    sound_at xs i d (omega arith) (and_parts (is_sound x.1) (is_sound_line (line_of xs)) sound).1
 
 -- and ends within the line
 pub end_at : (fields : List Field) (i : ℕ) (d : Field) (n : ℕ) → i < length fields
@@ -52,7 +46,7 @@ pub line_sound_at : (lines : List (Bor (List Field))) (i : ℕ) (d : Bor (List F
     → is_sound_line (line_of (get_or lines i d).now) ≡ true
 line_sound_at [] i d within sound = absurd (omega arith)
 line_sound_at (x ∷ xs) zero d within sound =
-    and_first (is_sound_line (line_of x.now)) (are_sound (lines_of xs)) sound
+    (and_parts (is_sound_line (line_of x.now)) (are_sound (lines_of xs)) sound).0
 line_sound_at (x ∷ xs) (suc i) d within sound =
-    line_sound_at xs i d (omega arith) (and_second (is_sound_line (line_of x.now))
-    (are_sound (lines_of xs)) sound)
+    line_sound_at xs i d (omega arith)
+    (and_parts (is_sound_line (line_of x.now)) (are_sound (lines_of xs)) sound).1

@@ -2,8 +2,7 @@
 use Rattle.std.specs.Prelude.{ℕ, List, [], ◌∷◌, length, drop, filter, codes, slice_index}
 use Rattle.std.specs.Prelude.{Bool, nat_le, ◌==◌, if◌then◌else◌}
 use Rattle.byteorder.specs.Endian.{big_number}
-use Rattle.sg_wire.specs.Layout.{has_bit}
-use Rattle.sg_decode.specs.Values.{bits}
+use Rattle.sg_wire.specs.Layout.{bits_of, has_bit}
 use Rattle.sg_decode.specs.Lines.{Line, part, line_end}
 use Rattle.sg_decode.specs.Items.{Entry}
 use Rattle.sg_decode.specs.declared.value.Value.TheVariants.{Bits, Code, Number, Address}
@@ -26,7 +25,7 @@ fixed_entry size line = record {
 
 -- CODE SET 2h is ASCII.
 abbrev pub is_ascii : (own : List ℕ) → Bool
-is_ascii own = bits (slice_index own 0) 3 0 == 2
+is_ascii own = bits_of (slice_index own 0) 3 0 == 2
 
 abbrev pub designator_line : (own : List ℕ) → Line
 designator_line own =
@@ -96,7 +95,7 @@ abbrev pub shown_parameters : (page : List ℕ) → List Line
 shown_parameters page =
     if has_subpage page
     then []
-    else filter (fits_in page) (parameter_lines (bits (slice_index page 0) 5 0))
+    else filter (fits_in page) (parameter_lines (bits_of (slice_index page 0) 5 0))
 
 -- ---- The other kinds
 

@@ -1,24 +1,21 @@
 -- How the value of a field is shown.
-use Rattle.std.specs.Prelude.{ℕ, ◌+◌, ◌-◌, ◌/◌, ◌%◌, ◌^◌, List, [], ◌∷◌, ◌++◌, map, drop, codes}
+use Rattle.std.specs.Prelude.{ℕ, ◌+◌, List, [], ◌∷◌, ◌++◌, map, drop, codes}
 use Rattle.std.specs.Prelude.{decimal, slice_index, slice_range, Option, Some, None, unwrap_or}
 use Rattle.std.specs.Prelude.{Bool, ◌&&◌, ◌==◌, nat_le, nat_lt, if◌then◌else◌}
 use Rattle.std.specs.List.{flat_map}
 use Rattle.byteorder.specs.Endian.{big_number}
 use Rattle.hex.specs.Hex.{encode_lower}
-use Rattle.sg_wire.specs.Layout.{has_bit}
+use Rattle.sg_wire.specs.Ascii.{is_printable}
+use Rattle.sg_wire.specs.Layout.{bits_of, has_bit}
 use Rattle.sg_decode.specs.HexText.{upper_hex_byte}
 use Rattle.sg_decode.specs.declared.value.Value.{Value}
 use Rattle.sg_decode.specs.declared.value.Value.TheVariants.{Bits, Code, Number, Address}
 use Rattle.sg_decode.specs.declared.value.Value.TheVariants.{Text, TextFrom, HexFrom}
 use Rattle.sg_decode.specs.declared.value.Value.TheVariants.{ProvisioningStatus, ReservationTypes}
 
--- The bits of a byte from a high one down to a low one, as a number.
-abbrev pub bits : (byte high low : ℕ) → ℕ
-bits byte high low = (byte / 2 ^ low) % 2 ^ (high + 1 - low)
-
 -- A byte of a text. One that is no printable ASCII is shown as a dot.
 abbrev pub printable : ℕ → ℕ
-printable byte = if nat_le 0x20 byte && nat_le byte 0x7E then byte else 0x2E
+printable byte = if is_printable byte then byte else 0x2E
 
 abbrev pub bracketed : List ℕ → List ℕ
 bracketed bytes = codes "[" ++ (map printable bytes ++ codes "]")
@@ -65,15 +62,16 @@ type_names types = flat_map (type_name types) reservation_types
 
 -- The text of a value of some bytes.
 unfoldable pub value_text : Value → List ℕ → List ℕ
-value_text (Bits byte high low) bytes = decimal (bits (slice_index bytes byte) high low)
-value_text (Code byte high low) bytes = upper_hex_byte (bits (slice_index bytes byte) high low)
+value_text (Bits byte high low) bytes = decimal (bits_of (slice_index bytes byte) high low)
+value_text (Code byte high low) bytes = upper_hex_byte (bits_of (slice_index bytes byte) high low)
 value_text (Number first count) bytes = decimal (big_number count (drop first bytes))
 value_text (Address first) bytes =
     codes "0x" ++ encode_lower (slice_range bytes first (first + 8))
 value_text (Text first count) bytes = bracketed (slice_range bytes first (first + count))
 value_text (TextFrom first) bytes = bracketed (drop first bytes)
 value_text (HexFrom first) bytes = encode_lower (drop first bytes)
-value_text (ProvisioningStatus byte) bytes = provisioning_text (bits (slice_index bytes byte) 3 0)
+value_text (ProvisioningStatus byte) bytes =
+    provisioning_text (bits_of (slice_index bytes byte) 3 0)
 value_text (ReservationTypes first) bytes = type_names (drop first bytes)
 
 -- The index after the last byte that a value needs.

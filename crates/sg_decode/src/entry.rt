@@ -9,7 +9,7 @@ ghost use Rattle.sg_decode.specs.Entries.{parameter_lines, shown_parameters};
 ghost use Rattle.sg_decode.specs.Lines.{is_sound_line, line_end, line_of, line_text};
 
 use crate::line::{line_end, put_line};
-use crate::value::{Field, Value, bits, number_of_four, number_of_two};
+use crate::value::{Field, Value, bits_of, number_of_four, number_of_two};
 use sg_wire::Printer;
 use std::io::Write;
 
@@ -168,7 +168,7 @@ fn designator_line(own: &[u8]) -> &'static [Field]
     ensures sound { is_sound_line (line_of result.now) ≡ true }
     ensures end { line_end (line_of result.now) ≡ 4 }
 {
-    if bits(own[0], 3, 0) == 2 {
+    if bits_of(own[0], 3, 0) == 2 {
         TEXT_DESIGNATOR
     } else {
         HEX_DESIGNATOR
@@ -231,7 +231,7 @@ fn put_parameters<W: Write>(page: &[u8], out: &mut Printer<'_, W>)
     if has_subpage(page) {
         return;
     }
-    let Some(line) = parameter_line(bits(page[0], 5, 0)) else {
+    let Some(line) = parameter_line(bits_of(page[0], 5, 0)) else {
         return;
     };
     if line_end(line) <= page.len() {

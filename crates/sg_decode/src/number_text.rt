@@ -6,7 +6,7 @@ ghost use Rattle.sg_decode.specs.HexText.{hex_byte};
 ghost use Rattle.sg_decode.specs.Values.{printable, bracketed};
 
 use itoa::Buffer;
-use sg_wire::Printer;
+use sg_wire::{Printer, is_printable};
 use std::io::Write;
 
 /// Prints a number in decimal.
@@ -38,11 +38,7 @@ fn put_printable<W: Write>(bytes: &[u8], out: &mut Printer<'_, W>)
 fn printable(byte: u8) -> u8
     ensures { result ≡ printable byte }
 {
-    if matches!(byte, 0x20..=0x7e) {
-        byte
-    } else {
-        b'.'
-    }
+    if is_printable(byte) { byte } else { b'.' }
 }
 
 /// Prints bytes as two lower-case digits each.

@@ -4,8 +4,8 @@ ghost use Rattle.std.specs.Prelude.{option_map, true, if◌then◌else◌};
 ghost use Rattle.byteorder.specs.Endian.{big_number};
 ghost use Rattle.hex.specs.Hex.{encode_lower};
 ghost use Rattle.sg_wire.specs.Printer.{PrintsText};
-ghost use Rattle.sg_wire.specs.Layout.{has_bit};
-ghost use Rattle.sg_decode.specs.Values.{bits, value_text, value_end, is_sound};
+ghost use Rattle.sg_wire.specs.Layout.{bits_of, has_bit};
+ghost use Rattle.sg_decode.specs.Values.{value_text, value_end, is_sound};
 ghost use Rattle.sg_decode.specs.Values.{provisioning_name, provisioning_text, type_names};
 
 use crate::hex_lines::put_hex_byte;
@@ -64,10 +64,10 @@ impl Value {
     {
         match self {
             Value::Bits(byte, high, low) => put_number(
-                u64::from(bits(bytes[*byte], *high, *low)),
+                u64::from(bits_of(bytes[*byte], *high, *low)),
                 out,
             ),
-            Value::Code(byte, high, low) => put_hex_byte(bits(bytes[*byte], *high, *low), out),
+            Value::Code(byte, high, low) => put_hex_byte(bits_of(bytes[*byte], *high, *low), out),
             Value::Number(first, count) => put_number(
                 BigEndian::read_uint(&bytes[*first..], *count),
                 out,
@@ -77,7 +77,7 @@ impl Value {
             Value::TextFrom(first) => put_bracketed(&bytes[*first..], out),
             Value::HexFrom(first) => put_joined_hex(&bytes[*first..], out),
             Value::ProvisioningStatus(byte) => put_provisioning_status(
-                bits(bytes[*byte], 3, 0),
+                bits_of(bytes[*byte], 3, 0),
                 out,
             ),
             Value::ReservationTypes(first) => put_reservation_types(&bytes[*first..], out),
@@ -104,12 +104,13 @@ pub(crate) fn number_of_four(first: usize, bytes: &[u8]) -> usize
 }
 
 /// The bits of a byte from a high one down to a low one.
-pub(crate) fn bits(byte: u8, high: u8, low: u8) -> u8
+pub(crate) fn bits_of(byte: u8, high: u8, low: u8) -> u8
     requires order { low ≤ high }
     requires high { high < 8 }
-    ensures { result ≡ bits byte high low }
+    ensures { result ≡ bits_of byte high low }
 {
-    (u16::from(byte >> low) % (1u16 << (high + 1 - low))) as u8
+    let mask = (1u16 << (high + 1 - low)) - 1;
+    (u16::from(byte >> low) & mask) as u8
 }
 
 #[tactic(auto, using(crate::proofs::TextLemmas::prints))]

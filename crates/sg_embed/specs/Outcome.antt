@@ -3,7 +3,7 @@ use Rattle.std.specs.Prelude.{◌≡◌, ◌⊎◌, ℕ, List, Option, None, Som
 use Rattle.std.specs.Prelude.{if◌then◌else◌, not, nat_le, nat_lt}
 use Rattle.sg_pages.specs.declared.identity.IdentityFault.{IdentityFault}
 use Rattle.sg_pages.specs.declared.identity.IdentityFault.TheVariants.{Text, Local}
-use Rattle.sg_units.specs.Attentions.{initiator_count}
+use Rattle.sg_wire.specs.Initiator.{initiator_count}
 use Rattle.sg_target.specs.BlockCommands.{longest_data_in}
 use Rattle.sg_target.specs.Config.{ConfigFields, checked_config}
 use Rattle.sg_target.specs.declared.config.ConfigFault.{ConfigFault}

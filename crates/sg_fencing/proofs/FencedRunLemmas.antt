@@ -13,7 +13,8 @@ use Rattle.sg_target.specs.Step.{Answer, step}
 use Rattle.sg_target.specs.declared.call.Call.{Call}
 use Rattle.sg_fencing.proofs.OwnLemmas.{StepsAlike, own-alike}
 
-abbrev answers_in : List (Call × Answer) → List Answer
+-- the answers of exchanges
+abbrev pub answers_in : List (Call × Answer) → List Answer
 answers_in exchanges = map (λ (exchange : Call × Answer). exchange.1) exchanges
 
 -- one more exchange on both sides, compared or not

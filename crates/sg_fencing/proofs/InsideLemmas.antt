@@ -1,7 +1,7 @@
 -- Lists of commands of registrants and others while a reservation is held: those of initiators that are
 -- not registered may be left out.
 use Rattle.std.proofs.Common.{◌≡◌, ℕ, suc, Bool, true, false, cond, not, ◌&&◌, List, [], ◌∷◌}
-use Rattle.std.proofs.Common.{filter, map, Result, Ok, Err, refl, sym, ap, ◌∙◌, subst, arith}
+use Rattle.std.proofs.Common.{filter, Result, Ok, Err, refl, sym, ap, ◌∙◌, subst, arith}
 use Rattle.std.specs.List.{zip}
 use Rattle.std.specs.Result.{result_map_both}
 use Rattle.std.proofs.lemmas.Bool.{eq-eqb, false≢true, or_parts}
@@ -16,25 +16,27 @@ use Rattle.sg_units.specs.Attentions.{pending_for}
 use Rattle.sg_units.specs.Laws.{OthersAreRefused}
 use Rattle.sg_units.specs.ReserveOut.{Outcome, outcome}
 use Rattle.sg_units.specs.declared.reservation_state.ReservationState.{ReservationState}
-use Rattle.sg_units.proofs.OutcomeLemmas.{EffectIs}
+use Rattle.sg_units.proofs.OutcomeLemmas.{EffectIs, and_false}
 use Rattle.sg_target.specs.Laws.{LimitsAreKept}
 use Rattle.sg_target.specs.Refusal.{when_sound}
 use Rattle.sg_target.specs.ReservationCommands.{changing_reservations, out_refusal}
 use Rattle.sg_target.specs.ReservationCommands.{reservation_change}
-use Rattle.sg_target.specs.Runs.{answers, state_after_all, step_of}
+use Rattle.sg_target.specs.Runs.{all_calls, answers, state_after_all, step_of}
 use Rattle.sg_target.specs.State.{IsWithinLimits, State}
 use Rattle.sg_target.specs.Step.{Answer, step}
 use Rattle.sg_target.specs.declared.call.Call.{Call}
+use Rattle.sg_fencing.specs.ChosenAnswers.{calls_among}
 use Rattle.sg_fencing.specs.Fencing.{View, is_from, view_of}
 use Rattle.sg_fencing.specs.Group.{IsAsIfInsideAlone, IsReservedFrom, answers_inside, calls_inside}
 use Rattle.sg_fencing.specs.Group.{group_view, is_from_inside}
 use Rattle.sg_fencing.specs.Registrants.{has_registering, is_registering, is_registrant, registers}
 use Rattle.sg_fencing.proofs.AgreeLemmas.{AreSame, steps-agree, with_attentions}
 use Rattle.sg_fencing.proofs.AlikeLemmas.{StepsAgree, with_others}
+use Rattle.sg_fencing.proofs.FencedRunLemmas.{answers_in}
 use Rattle.sg_fencing.proofs.OperationLemmas.{is_of_kind}
 use Rattle.sg_fencing.proofs.OthersLemmas.{Keeps}
 use Rattle.sg_fencing.proofs.OutsiderLemmas.{IsOutside, outsider-keeps}
-use Rattle.sg_fencing.proofs.OutsiderRunLemmas.{second, unknown-after-call}
+use Rattle.sg_fencing.proofs.OutsiderRunLemmas.{unknown-after-call}
 use Rattle.sg_fencing.proofs.RegistrationLemmas.{Never, outcome-refused}
 use Rattle.sg_fencing.proofs.StandingLemmas.{EffectStands, step-stands}
 
@@ -165,10 +167,7 @@ module _ (limits : LimitsAreKept) (refuses : OthersAreRefused) (classes : Comman
   abbrev exchanges : State → List Call → List (Call × Answer)
   exchanges s calls =
       filter (λ (exchange : Call × Answer). is_from_inside outside exchange.0)
-      (zip calls (answers s calls))
-
-  abbrev answers_in : List (Call × Answer) → List Answer
-  answers_in list = map (λ (exchange : Call × Answer). exchange.1) list
+      (zip (calls_among (all_calls calls)) (answers s calls))
 
   -- the calls go on by one of an initiator inside or outside
   by-caller : (call : Call) (calls own : List Call) (is_outside : Bool)
@@ -196,7 +195,8 @@ module _ (limits : LimitsAreKept) (refuses : OthersAreRefused) (classes : Comman
       let from_it = eq-eqb j j refl in
       let own_call = or_parts (is_from j call && registers (command_of call.cdb.now))
       (has_registering j calls) (h.silent j e) in
-      let silent = second (is_from j call) (registers (command_of call.cdb.now)) own_call.0 from_it in
+      let silent = and_false (is_from j call) (registers (command_of call.cdb.now)) from_it
+      own_call.0 in
       let is_out : IsOutside s j = record { held = h.reserved 0 call refl e; unknown = h.unknown j e } in
       let after = idle refuses classes s j is_out h.within call.cdb.now call.data_out.now silent in
       let same = one-next s t (step_of s call).state j h.same e after in

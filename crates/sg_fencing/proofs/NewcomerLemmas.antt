@@ -1,9 +1,10 @@
 -- Where an initiator becomes registered, the group sees its registration and no other change.
-use Rattle.std.proofs.Common.{◌≡◌, ◌==◌, ℕ, Bool, true, false, cond, List, length, Option, Some}
+use Rattle.std.proofs.Common.{◌≡◌, ◌==◌, ℕ, true, false, List, length, Option, Some}
 use Rattle.std.proofs.Common.{None, Result, Ok, Err, refl, sym, ap, ◌∙◌, subst}
 use Rattle.std.specs.Prelude.{unwrap_or}
 use Rattle.std.specs.Result.{result_map_both}
 use Rattle.std.proofs.lemmas.Bool.{false≢true, ne_eqb}
+use Rattle.std.proofs.lemmas.Option.{cond_some}
 use Rattle.sg_wire.specs.CutAnswer.{first_bytes}
 use Rattle.sg_wire.specs.Layout.{command_of}
 use Rattle.sg_wire.specs.OutList.{list_length, out_list}
@@ -142,20 +143,13 @@ module _ (state : State) (j : ℕ) (w : IsWithinLimits state) (unknown : is_regi
       (outcome-adds state.reservations j unknown list action scope_type h)
       (λ i other. outcome-leaves state.reservations i j (ne_eqb j i other) unknown action scope_type list)
 
-  registering : (b : Bool) (own : OutList) → cond b (Some own) None ≡ Some list
-      → (b ≡ true) × (own ≡ list)
-  registering true own h =
-      let same : own ≡ list = cc in
-      (refl, same)
-  registering false own h = cc
-
   command-seen : (command : Command) (data_out : List ℕ) (operation : Operation)
       → (demands state.disk.capacity command data_out).operation ≡ Ok operation
       → registering_list (Ok command) data_out ≡ Some list
       → SeenIn (step_by state j operation).state
   command-seen (PersistentReserveOut c) data_out operation e h =
       let bytes = first_bytes c.list_length data_out in
-      let parts = registering (is_registering c.action) (out_list bytes) h in
+      let parts = cond_some (is_registering c.action) (out_list bytes) list h in
       let asked = listed c.action c.scope_type (length bytes == list_length) (out_list bytes)
       (CheckCondition ParameterListLengthError) operation e in
       subst (λ (o : Operation). SeenIn (step_by state j o).state)

@@ -3,13 +3,14 @@ use Rattle.std.proofs.Common.{◌≡◌, ℕ, zero, suc, Bool, true, false, not,
 use Rattle.std.proofs.Common.{[], ◌∷◌, take, Option, Some, None, refl, sym, ap, ◌∙◌}
 use Rattle.std.specs.Prelude.{is_some}
 use Rattle.std.specs.List.{list_all, list_any}
-use Rattle.std.proofs.lemmas.Bool.{and_parts, eq-eqb, eqb-false, false≢true, not-true, or_parts}
+use Rattle.std.proofs.lemmas.Bool.{and_parts, eq-eqb, eqb-false, not-true, or_parts}
 use Rattle.sg_wire.specs.Laws.{CommandsHaveTheirClass}
 use Rattle.sg_wire.specs.Layout.{class_of, command_of}
 use Rattle.sg_wire.specs.declared.command.Class.{Class}
 use Rattle.sg_wire.specs.declared.command.Class.TheVariants.{Reads, Writes}
 use Rattle.sg_units.specs.Access.{allows}
 use Rattle.sg_units.specs.Laws.{OthersAreRefused}
+use Rattle.sg_units.proofs.OutcomeLemmas.{and_false}
 use Rattle.sg_units.specs.declared.reservation.Reservation.{Reservation}
 use Rattle.sg_target.specs.Runs.{state_after_all, step_of}
 use Rattle.sg_target.specs.State.{IsWithinLimits, State}
@@ -23,18 +24,14 @@ use Rattle.sg_fencing.specs.Registrants.{is_registrant, is_reserved, registers}
 use Rattle.sg_fencing.proofs.AccessLemmas.{shut-out}
 use Rattle.sg_fencing.proofs.OutsiderLemmas.{outsider-keeps, shut, stays-unknown}
 
-pub second : (a b : Bool) → (a && b) ≡ false → a ≡ true → b ≡ false
-second true b h e = h
-second false b h e = absurd (false≢true e)
-
 -- who is not registered is not after a call that does not register it
 pub unknown-after-call : (state : State) (i : ℕ) (call : Call) → is_registrant state i ≡ false
     → (is_from i call && registers (command_of call.cdb.now)) ≡ false
     → is_registrant (step_of state call).state i ≡ false
 unknown-after-call state i call unknown silent =
     stays-unknown state i call.initiator unknown call.cdb.now call.data_out.now
-    (λ own. second (is_from i call) (registers (command_of call.cdb.now)) silent
-    (eq-eqb call.initiator i own))
+    (λ own. and_false (is_from i call) (registers (command_of call.cdb.now))
+    (eq-eqb call.initiator i own) silent)
 
 -- ---- Nothing is written, nor read
 

@@ -7,7 +7,8 @@ use Rattle.std.proofs.lemmas.Bool.{or_parts}
 use Rattle.std.proofs.lemmas.List.{get_or-replicate}
 use Rattle.sg_wire.specs.Layout.{class_of, command_of}
 use Rattle.sg_wire.specs.declared.command.Class.TheVariants.{Writes}
-use Rattle.sg_units.specs.Attentions.{initiator_count, pending_for}
+use Rattle.sg_wire.specs.Initiator.{initiator_count}
+use Rattle.sg_units.specs.Attentions.{pending_for}
 use Rattle.sg_units.specs.Laws.{OthersAreRefused}
 use Rattle.sg_units.specs.PowerOn.{after_power_on}
 use Rattle.sg_units.specs.Registrations.{is_registered}

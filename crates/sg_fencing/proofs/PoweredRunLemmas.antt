@@ -1,7 +1,7 @@
 -- Over a list of commands and power cycles the holder's view and its answers are those of its commands
 -- and the power cycles alone.
 use Rattle.std.proofs.Common.{◌≡◌, ℕ, suc, Bool, true, false, cond, ◌&&◌, List, [], ◌∷◌, Some}
-use Rattle.std.proofs.Common.{filter, map, take, refl, sym, ap, ◌∙◌, zero}
+use Rattle.std.proofs.Common.{filter, take, refl, sym, ap, ◌∙◌, zero}
 use Rattle.std.specs.List.{zip}
 use Rattle.std.proofs.lemmas.Bool.{eqb-false, eqb-true}
 use Rattle.std.proofs.lemmas.List.{take-map}
@@ -16,12 +16,13 @@ use Rattle.sg_units.specs.Reservations.{empty_state, has_type, is_holder}
 use Rattle.sg_units.specs.declared.reservation_state.ReservationState.{ReservationState}
 use Rattle.sg_units.specs.declared.types.ReservationType.TheVariants.{ExclusiveAccess}
 use Rattle.sg_units.specs.declared.types.ReservationType.TheVariants.{WriteExclusive}
-use Rattle.sg_fencing.specs.Fencing.{IsAsIfAlone, View, answers_to, calls_of, holds_alone}
+use Rattle.sg_fencing.specs.Fencing.{IsAsIfAlone, View, calls_of, holds_alone}
 use Rattle.sg_fencing.specs.Fencing.{is_compared, is_from, shows_others, view_of}
-use Rattle.sg_fencing.specs.PowerCycles.{answers_among, calls_among, events_of, persists}
+use Rattle.sg_fencing.specs.ChosenAnswers.{answers_among, calls_among}
+use Rattle.sg_fencing.specs.PowerCycles.{events_of, persists}
 use Rattle.sg_fencing.specs.PowerCycles.{PersistAtPowerCycles}
 use Rattle.sg_target.specs.PowerCycle.{after_power_cycle}
-use Rattle.sg_target.specs.Runs.{all_calls, answers, answers_to_events, state_after_all}
+use Rattle.sg_target.specs.Runs.{all_calls, answers_to_events, state_after_all}
 use Rattle.sg_target.specs.Runs.{state_after_events, step_of}
 use Rattle.sg_target.specs.State.{IsWithinLimits, State}
 use Rattle.sg_target.specs.Step.{Answer}
@@ -37,7 +38,8 @@ use Rattle.sg_fencing.proofs.PowerLemmas.{keeps}
 -- events from one state, and those that happen to i from another one
 pub record EventsAlike (first second : State) (i : ℕ) (events own : List Event) : Type 0 where
   pub view : view_of (state_after_events first events) i ≡ view_of (state_after_events second own) i
-  pub answers : answers_among i first events ≡ answers_among i second own
+  pub answers : answers_among (is_compared i) first events
+      ≡ answers_among (is_compared i) second own
 
 -- two states that look alike to i
 pub record LookAlike (first second : State) (i : ℕ) : Type 0 where
@@ -95,7 +97,8 @@ module _ (limits : LimitsAreKept) (refuses : OthersAreRefused) (one : OneKeyEach
 
   abbrev exchanges : State → List Event → List (Call × Answer)
   exchanges state events =
-      filter (is_compared i) (zip (calls_among events) (answers_to_events state events))
+      filter (λ (exchange : Call × Answer). is_compared i exchange.0)
+      (zip (calls_among events) (answers_to_events state events))
 
   own-more : (first second : State) (call : Call) (events own : List Event)
       → StepsAlike (shows_others (command_of call.cdb.now)) i (step_of first call) (step_of second call)
@@ -172,10 +175,6 @@ module _ (limits : LimitsAreKept) (refuses : OthersAreRefused) (one : OneKeyEach
 
   -- ---- commands alone are events
 
-  calls-among-all : (calls : List Call) → calls_among (all_calls calls) ≡ calls
-  calls-among-all [] = refl
-  calls-among-all (call ∷ calls) = ap (λ rest. call ∷ rest) (calls-among-all calls)
-
   one-of : (call : Call) (is_own : Bool) (events : List Event) (calls : List Call)
       → events ≡ all_calls calls
       → cond is_own (event.Call call ∷ events) events ≡ all_calls (cond is_own (call ∷ calls) calls)
@@ -192,12 +191,6 @@ module _ (limits : LimitsAreKept) (refuses : OthersAreRefused) (one : OneKeyEach
   no-power [] n e = cc
   no-power (call ∷ calls) zero e = cc
   no-power (call ∷ calls) (suc n) e = no-power calls n e
-
-  among-all : (state : State) (calls : List Call)
-      → answers_among i state (all_calls calls) ≡ answers_to i state calls
-  among-all state calls =
-      ap (λ among. map (λ (exchange : Call × Answer). exchange.1)
-      (filter (is_compared i) (zip among (answers state calls)))) (calls-among-all calls)
 
   pub calls-alike : (state : State) (calls : List Call) → IsWithinLimits state
       → ((n : ℕ) → holds_alone (state_after_all state (take n calls)) i ≡ true)
@@ -217,8 +210,5 @@ module _ (limits : LimitsAreKept) (refuses : OthersAreRefused) (one : OneKeyEach
       let h = events-alike (all_calls calls) state state same throughout persist in
       record {
         view = h.view ∙ ap (λ events. view_of (state_after_events state events) i) own;
-        answers =
-            sym (among-all state calls)
-            ∙ (h.answers ∙ ap (answers_among i state) own)
-            ∙ among-all state (calls_of i calls);
+        answers = h.answers ∙ ap (answers_among (is_compared i) state) own;
       }

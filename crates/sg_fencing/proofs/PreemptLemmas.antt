@@ -3,8 +3,9 @@ use Rattle.std.proofs.Common.{◌≡◌, ◌==◌, ℕ, Bool, true, false, cond,
 use Rattle.std.proofs.Common.{[], ◌∷◌, filter, length, Option, Some, None, Result, Ok, Err}
 use Rattle.std.proofs.Common.{refl, sym, ap, ◌∙◌, subst, arith}
 use Rattle.std.specs.Result.{result_map_both}
-use Rattle.std.proofs.lemmas.Bool.{false≢true, ne_eqb, or_right}
+use Rattle.std.proofs.lemmas.Bool.{false≢true, ne_eqb, not_from_true, or_from, or_right}
 use Rattle.std.proofs.lemmas.Bool.Decides.{nat_tests}
+use Rattle.std.proofs.lemmas.Option.{cond_some}
 use Rattle.sg_wire.specs.CutAnswer.{first_bytes}
 use Rattle.sg_wire.specs.Layout.{command_of}
 use Rattle.sg_wire.specs.declared.command.CdbFault.{CdbFault}
@@ -81,10 +82,6 @@ module _ (keep : Registration → Bool) (i key : ℕ)
 not-of : (r : Registration) (i j : ℕ) → (j == i) ≡ false → is_of i r ≡ true → is_of j r ≡ false
 not-of r i j other is = grind (arith, nat_tests)
 
-neither : (a b : Bool) → a ≡ false → b ≡ true → (a || not b) ≡ false
-neither true b h e = h
-neither false b h e = ap not e
-
 module _ (state : ReservationState) (i j : ℕ) (other : (j == i) ≡ false) (list : OutList)
     (only : (key : ℕ) → is_registered_under state.registrations i key ≡ true
     → list.service_action_key ≡ key) where
@@ -105,7 +102,8 @@ module _ (state : ReservationState) (i j : ℕ) (other : (j == i) ≡ false) (li
   preempt-removes type =
       let unless_own =
       gone (λ r. is_of j r || not (is_under key r))
-      (λ r is under. neither (is_of j r) (is_under key r) (not-of r i j other is) under) in
+      (λ r is under. or_from (is_of j r) (not (is_under key r)) (not-of r i j other is)
+      (not_from_true (is_under key r) under)) in
       let own = gone (is_of j) (λ r is under. not-of r i j other is) in
       let under_key = gone (λ r. not (is_under key r)) (λ r is under. ap not under) in
       case_or (EffectIs IsRemoved) _ _ (λ _. refused IsRemoved _)
@@ -169,12 +167,6 @@ module _ (one : OneKeyEach) (state : State) (i j : ℕ) where
         (only-key_of one state.reservations i list.service_action_key w.registered here) action scope_type
         h)
 
-    preempting : (b : Bool) (own key : ℕ) → cond b (Some own) None ≡ Some key → (b ≡ true) × (own ≡ key)
-    preempting true own key h =
-        let same : own ≡ key = cc in
-        (refl, same)
-    preempting false own key h = cc
-
     command-removes : (command : Command) (data_out : List ℕ) (operation : Operation) (key : ℕ)
         → (demands state.disk.capacity command data_out).operation ≡ Ok operation
         → preempted_key (Ok command) data_out ≡ Some key
@@ -182,7 +174,7 @@ module _ (one : OneKeyEach) (state : State) (i j : ℕ) where
         → EffectRemoves (effect_of state j operation)
     command-removes (PersistentReserveOut c) data_out operation key e h here =
         let list = first_bytes c.list_length data_out in
-        let parts = preempting (is_preempting c.action) (out_list list).service_action_key key h in
+        let parts = cond_some (is_preempting c.action) (out_list list).service_action_key key h in
         subst (λ (o : Operation). EffectRemoves (effect_of state j o))
         (listed c.action c.scope_type (length list == list_length) (out_list list)
         (CheckCondition ParameterListLengthError) operation e)

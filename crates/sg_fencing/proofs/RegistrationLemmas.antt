@@ -3,7 +3,7 @@
 use Rattle.std.proofs.Common.{◌≡◌, ◌==◌, ℕ, Bool, true, false, cond, not, ◌&&◌, ◌||◌, List}
 use Rattle.std.proofs.Common.{[], ◌∷◌, filter, Option, None, Ok, refl, sym, ap, ◌∙◌}
 use Rattle.std.specs.Prelude.{if◌then◌else◌, is_some}
-use Rattle.std.proofs.lemmas.Bool.{false≢true}
+use Rattle.std.proofs.lemmas.Bool.{false≢true, or_from, or_parts}
 use Rattle.sg_wire.specs.declared.command.out_action.OutAction.{OutAction}
 use Rattle.sg_wire.specs.declared.command.out_action.OutAction.TheVariants.{Register, Reserve}
 use Rattle.sg_wire.specs.declared.command.out_action.OutAction.TheVariants.{Release, Clear, Preempt}
@@ -42,16 +42,10 @@ not-under (r ∷ rs) j key h =
 pub none-kept : (keep : Bool) (r : Registration) (rs : List Registration) (i : ℕ) (b : Bool)
     → (is_of i r || b) ≡ false → (b ≡ false → is_registered rs i ≡ false)
     → is_registered (cond keep (r ∷ rs) rs) i ≡ false
-none-kept true r rs i b h f = either (is_of i r) h
-  where
-    either : (a : Bool) → (a || b) ≡ false → (a || is_registered rs i) ≡ false
-    either true h = absurd (false≢true (sym h))
-    either false h = f h
-none-kept false r rs i b h f = f (later (is_of i r) h)
-  where
-    later : (a : Bool) → (a || b) ≡ false → b ≡ false
-    later true h = absurd (false≢true (sym h))
-    later false h = h
+none-kept true r rs i b h f =
+    let parts = or_parts (is_of i r) b h in
+    or_from (is_of i r) (is_registered rs i) parts.0 (f parts.1)
+none-kept false r rs i b h f = f (or_parts (is_of i r) b h).1
 
 pub not-in-filter : (p : Registration → Bool) (rs : List Registration) (i : ℕ)
     → is_registered rs i ≡ false → is_registered (filter p rs) i ≡ false

@@ -4,7 +4,7 @@ use Rattle.std.proofs.Common.{◌≡◌, ◌==◌, ℕ, Bool, true, false, cond,
 use Rattle.std.proofs.Common.{[], ◌∷◌, filter, Option, Some, None, Ok, refl, sym, ap, ◌∙◌, arith}
 use Rattle.std.specs.Prelude.{find, if◌then◌else◌, is_some, option_map}
 use Rattle.std.specs.Option.{option_map_or}
-use Rattle.std.proofs.lemmas.Bool.{false≢true}
+use Rattle.std.proofs.lemmas.Bool.{false≢true, or_parts}
 use Rattle.std.proofs.lemmas.Bool.Decides.{nat_tests}
 use Rattle.sg_wire.specs.declared.command.out_action.OutAction.{OutAction}
 use Rattle.sg_wire.specs.declared.command.out_action.OutAction.TheVariants.{Register, Reserve}
@@ -85,10 +85,6 @@ not_under true true c h e = sym h
 not_under true false c h e = refl
 not_under false b c h e = absurd (false≢true e)
 
-not_later : (a c : Bool) → (a || c) ≡ false → c ≡ false
-not_later true c h = absurd (false≢true (sym h))
-not_later false c h = h
-
 pub key_of-without_key : (rs : List Registration) (i key : ℕ) → is_registered_under rs i key ≡ false
     → key_of (without_key rs key) i ≡ key_of rs i
 key_of-without_key [] i key h = refl
@@ -96,7 +92,7 @@ key_of-without_key (r ∷ rs) i key h =
     filter_key r i (not (is_under key r)) (without_key rs key) (key_of rs i)
     (not_under (is_of i r) (is_under key r) (is_registered_under rs i key) h)
     (key_of-without_key rs i key
-    (not_later (is_of i r && is_under key r) (is_registered_under rs i key) h))
+    (or_parts (is_of i r && is_under key r) (is_registered_under rs i key) h).1)
     ∙ sym (key_of-cons r rs i)
 
 replaced_head : (r : Registration) (i j key : ℕ) (b : Bool) → (r.initiator == j) ≡ b

@@ -1,7 +1,7 @@
 -- Over lists of commands what the blocks are shows in nothing else, nor in the answers to an initiator
 -- that may neither read nor write.
 use Rattle.std.proofs.Common.{◌≡◌, ◌≤◌, ℕ, suc, Bool, true, false, cond, ◌&&◌, List, [], ◌∷◌}
-use Rattle.std.proofs.Common.{filter, map, Option, Some, None, Result, Ok, Err, refl, sym, ap, ◌∙◌}
+use Rattle.std.proofs.Common.{filter, Option, Some, None, Result, Ok, Err, refl, sym, ap, ◌∙◌}
 use Rattle.std.proofs.Common.{subst}
 use Rattle.std.specs.Prelude.{nat_lt}
 use Rattle.std.specs.FinMap.{len}
@@ -20,7 +20,7 @@ use Rattle.sg_target.specs.PrimaryCommands.{returning_page, returning_sense}
 use Rattle.sg_target.specs.ProvisioningCommands.{anchoring, filling, reporting_status, unmapping}
 use Rattle.sg_target.specs.Refusal.{when_sound}
 use Rattle.sg_target.specs.ReservationCommands.{changing_reservations, reporting, reservation_change}
-use Rattle.sg_target.specs.Runs.{answers, step_of}
+use Rattle.sg_target.specs.Runs.{all_calls, answers, step_of}
 use Rattle.sg_target.specs.State.{IsWithinLimits, State}
 use Rattle.sg_target.specs.Step.{Answer, Step, outcome, refused, step, step_by, unless_no_space}
 use Rattle.sg_target.specs.declared.call.Call.{Call}
@@ -39,8 +39,10 @@ use Rattle.sg_target.specs.declared.refusal.Reason.TheVariants.{UnitAttention as
 use Rattle.sg_target.specs.declared.refusal.Refusal.{Refusal}
 use Rattle.sg_target.specs.declared.refusal.Refusal.TheVariants.{CheckCondition}
 use Rattle.sg_fencing.specs.Fencing.{is_from}
-use Rattle.sg_fencing.specs.Registrants.{ExcludesReadingFrom, answers_where, excludes_reading}
+use Rattle.sg_fencing.specs.ChosenAnswers.{answers_where, calls_among}
+use Rattle.sg_fencing.specs.Registrants.{ExcludesReadingFrom, excludes_reading}
 use Rattle.sg_fencing.specs.Registrants.{has_registering, is_registrant, registers}
+use Rattle.sg_fencing.proofs.FencedRunLemmas.{answers_in}
 use Rattle.sg_fencing.proofs.LiftLemmas.{lifted-both}
 use Rattle.sg_fencing.proofs.OutsiderLemmas.{shut}
 use Rattle.sg_fencing.proofs.OutsiderRunLemmas.{held-to-exclude, unknown-after-call}
@@ -158,12 +160,10 @@ module _ (s : State) (x : Contents) (i : ℕ) (fit : len s.disk.contents ≤ s.d
 
 module _ (limits : LimitsAreKept) (refuses : OthersAreRefused) (classes : CommandsHaveTheirClass)
     (i : ℕ) where
-  abbrev answers_in : List (Call × Answer) → List Answer
-  answers_in exchanges = map (λ (exchange : Call × Answer). exchange.1) exchanges
-
   abbrev exchanges : State → List Call → List (Call × Answer)
   exchanges state calls =
-      filter (λ (exchange : Call × Answer). is_from i exchange.0) (zip calls (answers state calls))
+      filter (λ (exchange : Call × Answer). is_from i exchange.0)
+      (zip (calls_among (all_calls calls)) (answers state calls))
 
   more : (call : Call) (from : Bool) (a b : Answer) (xs ys : List (Call × Answer))
       → (from ≡ true → a ≡ b) → answers_in xs ≡ answers_in ys

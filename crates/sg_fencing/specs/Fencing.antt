@@ -1,9 +1,8 @@
 -- Fencing: what others can do to the initiator that holds a reservation of a type that nobody
 -- shares.
 use Rattle.std.specs.Prelude.{◌≡◌, ◌≤◌, ℕ, ◌==◌, Bool, true, false, ◌&&◌, ◌||◌, not, List, filter}
-use Rattle.std.specs.Prelude.{map, slice_get, take, Option, Some, Result, Ok}
+use Rattle.std.specs.Prelude.{slice_get, take, Option, Some, Result, Ok}
 use Rattle.std.specs.FinMap.{len}
-use Rattle.std.specs.List.{zip}
 use Rattle.sg_wire.specs.Layout.{class_of, command_of}
 use Rattle.sg_wire.specs.declared.command.CdbFault.{CdbFault}
 use Rattle.sg_wire.specs.declared.command.Class.TheVariants.{Reads, Writes}
@@ -27,6 +26,7 @@ use Rattle.sg_target.specs.State.{IsWithinLimits, State}
 use Rattle.sg_target.specs.Step.{Answer, Step, step}
 use Rattle.sg_target.specs.declared.call.Call.{Call}
 use Rattle.sg_target.specs.declared.reply.Status.TheVariants.{Good}
+use Rattle.sg_fencing.specs.ChosenAnswers.{answers_where}
 
 -- ---- Words
 
@@ -134,22 +134,19 @@ is_from initiator call = call.initiator == initiator
 abbrev pub calls_of : (initiator : ℕ) → List Call → List Call
 calls_of initiator calls = filter (is_from initiator) calls
 
--- The answers to them, in order, but to PERSISTENT RESERVE IN and PERSISTENT RESERVE OUT.
-abbrev pub is_compared : (initiator : ℕ) → Call × Answer → Bool
-is_compared initiator exchange =
-    is_from initiator exchange.0 && not (shows_others (command_of exchange.0.cdb.now))
+-- Those of them whose answers are compared: all but PERSISTENT RESERVE IN and PERSISTENT RESERVE
+-- OUT.
+abbrev pub is_compared : (initiator : ℕ) → Call → Bool
+is_compared initiator call =
+    is_from initiator call && not (shows_others (command_of call.cdb.now))
 
-abbrev pub answers_to : (initiator : ℕ) → State → List Call → List Answer
-answers_to initiator state calls =
-    map (λ (exchange : Call × Answer). exchange.1)
-    (filter (is_compared initiator) (zip calls (answers state calls)))
-
--- The view of an initiator in the end, and the answers to it, are those after its calls alone.
+-- The view of an initiator in the end, and the answers that are compared, are those after its calls
+-- alone.
 pub record IsAsIfAlone (state : State) (initiator : ℕ) (calls : List Call) : Type 0 where
   pub view : view_of (state_after_all state calls) initiator
       ≡ view_of (state_after_all state (calls_of initiator calls)) initiator
-  pub answers : answers_to initiator state calls
-      ≡ answers_to initiator state (calls_of initiator calls)
+  pub answers : answers_where (is_compared initiator) state calls
+      ≡ answers_where (is_compared initiator) state (calls_of initiator calls)
 
 -- So it is where the initiator holds such a reservation before and after each call.
 abbrev pub HolderIsAsIfAlone : Type 0

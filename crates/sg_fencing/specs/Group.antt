@@ -18,8 +18,9 @@ use Rattle.sg_target.specs.Runs.{answers, state_after_all}
 use Rattle.sg_target.specs.State.{IsWithinLimits, State}
 use Rattle.sg_target.specs.Step.{Answer, step}
 use Rattle.sg_target.specs.declared.call.Call.{Call}
+use Rattle.sg_fencing.specs.ChosenAnswers.{answers_where}
 use Rattle.sg_fencing.specs.Fencing.{view_of}
-use Rattle.sg_fencing.specs.Registrants.{answers_where, has_registering, is_registering}
+use Rattle.sg_fencing.specs.Registrants.{has_registering, is_registering}
 use Rattle.sg_fencing.specs.Registrants.{is_registrant, is_reserved}
 
 -- ---- What a group sees

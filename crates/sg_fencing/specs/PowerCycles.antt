@@ -1,19 +1,20 @@
 -- Power cycles, in a user's words: what is left, what is reported, and that fencing outlives them.
 use Rattle.std.specs.Prelude.{◌≡◌, ◌<◌, ℕ, Bool, true, false, ◌&&◌, List, [], ◌∷◌, Some, None}
-use Rattle.std.specs.Prelude.{filter, map, slice_get, take}
-use Rattle.std.specs.List.{list_any, zip}
+use Rattle.std.specs.Prelude.{filter, slice_get, take}
+use Rattle.std.specs.List.{list_any}
 use Rattle.sg_wire.specs.Layout.{class_of, command_of}
 use Rattle.sg_wire.specs.declared.command.Class.TheVariants.{Writes}
-use Rattle.sg_units.specs.Attentions.{initiator_count, pending_for}
+use Rattle.sg_wire.specs.Initiator.{initiator_count}
+use Rattle.sg_units.specs.Attentions.{pending_for}
 use Rattle.sg_units.specs.declared.unit_attention.UnitAttention.TheVariants.{PowerOn}
 use Rattle.sg_target.specs.PowerCycle.{after_power_cycle}
-use Rattle.sg_target.specs.Runs.{answers_to_events, state_after_events, step_of}
+use Rattle.sg_target.specs.Runs.{state_after_events, step_of}
 use Rattle.sg_target.specs.State.{IsWithinLimits, State}
-use Rattle.sg_target.specs.Step.{Answer}
 use Rattle.sg_target.specs.declared.call.Call.{Call}
 use Rattle.sg_target.specs.declared.event.Event.{Event}
 use Rattle.sg_target.specs.declared.event.Event.TheVariants as event
 use Rattle.sg_target.specs.declared.reply.Status.TheVariants.{Good}
+use Rattle.sg_fencing.specs.ChosenAnswers.{answers_among}
 use Rattle.sg_fencing.specs.Fencing.{holds_alone, is_compared, is_from, view_of}
 use Rattle.sg_fencing.specs.Registrants.{is_registrant, is_reserved, registers}
 
@@ -95,31 +96,19 @@ happens_to initiator event.Power = true
 abbrev pub events_of : (initiator : ℕ) → List Event → List Event
 events_of initiator events = filter (happens_to initiator) events
 
--- The commands among events, in order.
-abbrev pub calls_among : List Event → List Call
-calls_among [] = []
-calls_among (event.Call call ∷ events) = call ∷ calls_among events
-calls_among (event.Power ∷ events) = calls_among events
-
--- The answers to an initiator, in order, but to PERSISTENT RESERVE IN and PERSISTENT RESERVE OUT.
-abbrev pub answers_among : (initiator : ℕ) → State → List Event → List Answer
-answers_among initiator state events =
-    map (λ (exchange : Call × Answer). exchange.1)
-    (filter (is_compared initiator) (zip (calls_among events) (answers_to_events state events)))
-
 -- Registrations and reservation persist at each power cycle among the events.
 abbrev pub PersistAtPowerCycles : State → List Event → Type 0
 PersistAtPowerCycles state events =
     (n : ℕ) → slice_get events n ≡ Some event.Power
     → persists (state_after_events state (take n events)) ≡ true
 
--- The view of an initiator in the end, and the answers to it, are those after its commands and the
--- power cycles alone.
+-- The view of an initiator in the end, and the answers that are compared, are those after its
+-- commands and the power cycles alone.
 pub record IsAsIfAloneAmong (state : State) (initiator : ℕ) (events : List Event) : Type 0 where
   pub view : view_of (state_after_events state events) initiator
       ≡ view_of (state_after_events state (events_of initiator events)) initiator
-  pub answers : answers_among initiator state events
-      ≡ answers_among initiator state (events_of initiator events)
+  pub answers : answers_among (is_compared initiator) state events
+      ≡ answers_among (is_compared initiator) state (events_of initiator events)
 
 -- So it is where the initiator holds a reservation of a type that nobody shares before and after each
 -- event, and where its own commands alone would have left it one that persists at each power cycle. The

@@ -3,8 +3,8 @@
 -- registrants all may write: another node removes its registration by PREEMPT.
 use Rattle.std.specs.Prelude.{◌≡◌, ◌≤◌, ℕ, Bool, true, false, ◌&&◌, not, List, Option, Some}
 use Rattle.std.specs.Prelude.{Result, Ok, None, if◌then◌else◌}
-use Rattle.std.specs.Prelude.{filter, is_some, map, slice_get, take}
-use Rattle.std.specs.List.{list_all, list_any, zip}
+use Rattle.std.specs.Prelude.{is_some, slice_get, take}
+use Rattle.std.specs.List.{list_all, list_any}
 use Rattle.std.specs.FinMap.{len}
 use Rattle.std.specs.Option.{option_map_or}
 use Rattle.sg_wire.specs.CutAnswer.{first_bytes}
@@ -29,6 +29,7 @@ use Rattle.sg_target.specs.State.{IsWithinLimits, State}
 use Rattle.sg_target.specs.Step.{Answer, step}
 use Rattle.sg_target.specs.declared.call.Call.{Call}
 use Rattle.sg_target.specs.declared.reply.Status.TheVariants.{Good}
+use Rattle.sg_fencing.specs.ChosenAnswers.{answers_where}
 use Rattle.sg_fencing.specs.Fencing.{is_from, view_of}
 
 -- ---- Words
@@ -150,12 +151,6 @@ FencedOffWriteNothing = NoneIsServed Writes is_reserved
 abbrev pub FencedOffReadNothing : Type 0
 FencedOffReadNothing =
     NoneIsServed Reads (λ (state : State). excludes_reading state.reservations.reservation)
-
--- The answers to some calls of a list, in order.
-abbrev pub answers_where : (Call → Bool) → State → List Call → List Answer
-answers_where chosen state calls =
-    map (λ (exchange : Call × Answer). exchange.1)
-    (filter (λ (exchange : Call × Answer). chosen exchange.0) (zip calls (answers state calls)))
 
 -- Whenever an initiator sends a command the reservation is of an exclusive access type.
 abbrev pub ExcludesReadingFrom : (initiator : ℕ) → State → List Call → Type 0

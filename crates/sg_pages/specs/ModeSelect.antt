@@ -1,5 +1,5 @@
 -- What MODE SELECT does with a mode parameter list (SPC-4, 7.5).
-use Rattle.std.specs.Prelude.{ℕ, zero, suc, ◌+◌, ◌<◌, ⊤, min, nat_lt, bit_and, bit_or}
+use Rattle.std.specs.Prelude.{ℕ, zero, suc, ◌+◌, ◌<◌, ⊤, min, nat_lt, bit_or}
 use Rattle.std.specs.Prelude.{List, [], ◌∷◌, ◌++◌, length, take, drop, slice_index}
 use Rattle.std.specs.Prelude.{map, find, reverse, Bool, not, ◌&&◌, ◌||◌, ◌==◌, if◌then◌else◌}
 use Rattle.std.specs.Prelude.{Option, Some, None, unwrap_or, Result, Ok, Err}
@@ -8,7 +8,7 @@ use Rattle.std.specs.Option.{option_map, option_map_or}
 use Rattle.std.specs.Result.{result_map_both}
 use Rattle.std.specs.Str.{bytes_eq}
 use Rattle.byteorder.specs.Endian.{big_number}
-use Rattle.sg_wire.specs.Layout.{has_bit}
+use Rattle.sg_wire.specs.Layout.{bits_of, has_bit}
 use Rattle.sg_pages.specs.declared.mode_pages.mode_page.ModePage.{ModePage}
 use Rattle.sg_pages.specs.declared.mode_pages.mode_page.PageValues.{PageValues}
 use Rattle.sg_pages.specs.declared.mode_pages.mode_select.Changed.{Changed}
@@ -136,7 +136,7 @@ descriptor_faults ten blocks list =
 
 -- PAGE CODE of a page that was sent.
 abbrev pub sent_code : Part → ℕ
-sent_code sent = bit_and (slice_index sent.bytes 0) 0x3F
+sent_code sent = bits_of (slice_index sent.bytes 0) 5 0
 
 -- A page has to be as it is now, but for PS and the bits that can be changed. So SPF has to be
 -- zero.

@@ -6,6 +6,8 @@ use Rattle.std.specs.Prelude.{All}
 use Rattle.std.specs.List.{flat_map}
 use Rattle.std.proofs.lemmas.List.{drop_more, drop-drop, drop-take, get_or-map, length-map}
 use Rattle.std.proofs.lemmas.List.FromFn.{fill_by_all}
+use Rattle.std.proofs.lemmas.Nat.{and_mask}
+use Rattle.std.proofs.Math.Nat.{mod-eq_of_lt}
 use Rattle.std.proofs.Math.Seq.{take-append-add}
 use Rattle.byteorder.specs.Endian.{big_bytes}
 use Rattle.byteorder.specs.Numbers.{big_from-take, big_number-reads_back}
@@ -16,7 +18,7 @@ use Rattle.sg_store.specs.declared.lba_status.ProvisioningStatus.TheVariants.{Ma
 use Rattle.sg_store.specs.declared.lba_status.StatusDescriptor.{StatusDescriptor}
 use Rattle.sg_decode.specs.LbaStatus.{descriptor, descriptor_of, reported_end, whole_count}
 use Rattle.sg_decode.specs.LbaStatus.{whole_descriptors}
-use Rattle.sg_decode.specs.Values.{bits}
+use Rattle.sg_wire.specs.Layout.{bits_of}
 use Rattle.sg_run.specs.Walk.{fields_of}
 
 -- ---- The whole answer
@@ -59,8 +61,8 @@ code-small Mapped = omega arith
 code-small Deallocated = omega arith
 code-small Anchored = omega arith
 
-low-bits : (x : ℕ) → x < 16 → bits x 3 0 ≡ x
-low-bits x small = omega arith
+low-bits : (x : ℕ) → x < 16 → bits_of x 3 0 ≡ x
+low-bits x small = and_mask x 4 ∙ mod-eq_of_lt small
 
 -- its fields have room
 pub record HasRoom (d : StatusDescriptor) : Type 0 where

@@ -5,32 +5,27 @@ use Rattle.std.specs.Prelude.{◌&&◌, nat_le, nat_lt, slice_index, if◌then�
 use Rattle.std.specs.Char.{digit_value, is_digit}
 use Rattle.std.specs.List.{list_all}
 use Rattle.std.specs.Str.Parse.{AllDigits, IsNumeral, digits_value, digits_value_after}
+use Rattle.std.proofs.lemmas.Bool.{and_from, and_parts, cond-false, false_from_ne_true}
 use Rattle.std.proofs.lemmas.Bool.{lt-ltb, ltb-true}
 use Rattle.std.proofs.lemmas.Bool.Decides.{nat_tests}
 use Rattle.std.proofs.lemmas.List.{drop_all, drop_more}
+use Rattle.std.proofs.lemmas.Option.{cond_some}
 use Rattle.std.proofs.Math.Nat.{mul-le-mul_left}
 use Rattle.sg_tools.specs.HexDigits.{digit_or_none}
 use Rattle.sg_tools.specs.Number.{has_0x, is_numeral, number_in}
 use Rattle.sg_tools.specs.OptionTexts.{hex_digits_up_to}
 
-both : (a b : Bool) → (a && b) ≡ true → (a ≡ true) × (b ≡ true)
-both true b h = (refl, h)
-both false b h = cc
-
-and-true : (a b : Bool) → a ≡ true → b ≡ true → (a && b) ≡ true
-and-true a b h k = rw (h, k) refl
-
 all-digits : (radix : ℕ) (digits : List ℕ) → list_all (λ digit. is_digit digit radix) digits ≡ true
     → AllDigits radix digits
 all-digits radix [] h = tt
 all-digits radix (c ∷ cs) h =
-    let b = both (is_digit c radix) (list_all (λ digit. is_digit digit radix) cs) h in
+    let b = and_parts (is_digit c radix) (list_all (λ digit. is_digit digit radix) cs) h in
     (ltb-true (digit_value c) radix b.0, all-digits radix cs b.1)
 
 all-true : (radix : ℕ) (digits : List ℕ) → AllDigits radix digits
     → list_all (λ digit. is_digit digit radix) digits ≡ true
 all-true radix [] h = refl
-all-true radix (c ∷ cs) h = and-true (is_digit c radix) _ (lt-ltb (digit_value c) radix h.0)
+all-true radix (c ∷ cs) h = and_from (is_digit c radix) _ (lt-ltb (digit_value c) radix h.0)
     (all-true radix cs h.1)
 
 -- the test is the standard library's notion of a number in digits that fits
@@ -41,16 +36,18 @@ fits-true : (radix : ℕ) (digits : List ℕ) → IsNumeral radix digits
     × (digits_value radix digits < 2 ^ 64) → fits radix digits ≡ true
 unfolding fits
 fits-true radix digits h =
-    and-true (is_numeral radix digits) _
-    (and-true (nat_lt 0 (length digits)) _ (lt-ltb 0 (length digits) h.0.0) (all-true radix digits h.0.1))
+    and_from (is_numeral radix digits) _
+    (and_from (nat_lt 0 (length digits)) _ (lt-ltb 0 (length digits) h.0.0)
+    (all-true radix digits h.0.1))
     (lt-ltb (digits_value radix digits) (2 ^ 64) h.1)
 
 true-fits : (radix : ℕ) (digits : List ℕ) → fits radix digits ≡ true → IsNumeral radix digits
     × (digits_value radix digits < 2 ^ 64)
 unfolding fits
 true-fits radix digits h =
-    let a = both (is_numeral radix digits) (nat_lt (digits_value radix digits) (2 ^ 64)) h in
-    let b = both (nat_lt 0 (length digits)) (list_all (λ digit. is_digit digit radix) digits) a.0 in (
+    let a = and_parts (is_numeral radix digits) (nat_lt (digits_value radix digits) (2 ^ 64)) h in
+    let b = and_parts (nat_lt 0 (length digits)) (list_all (λ digit. is_digit digit radix) digits)
+    a.0 in (
       (ltb-true 0 (length digits) b.0, all-digits radix digits b.1),
       ltb-true
           (digits_value radix digits) (2 ^ 64) a.1,
@@ -63,16 +60,12 @@ unfolding number_in fits
 number-fits radix digits h = ap (λ b. cond {A = Option ℕ} b (Some (digits_value radix digits)) None)
     (fits-true radix digits h)
 
-none-by : (b : Bool) (n : ℕ) → (b ≡ true → ⊥) → cond {A = Option ℕ} b (Some n) None ≡ None
-none-by true n h = absurd (h refl)
-none-by false n h = refl
-
 number-none : (radix : ℕ) (digits : List ℕ)
     → (IsNumeral radix digits × (digits_value radix digits < 2 ^ 64) → ⊥) → number_in radix digits ≡
     None
 unfolding number_in fits
-number-none radix digits h = none-by (fits radix digits) (digits_value radix digits)
-    (λ e. h (true-fits radix digits e))
+number-none radix digits h = cond-false (fits radix digits) (Some (digits_value radix digits)) None
+    (false_from_ne_true (fits radix digits) (λ e. h (true-fits radix digits e)))
 
 -- ---- digits, one after the other
 
@@ -164,15 +157,11 @@ no_number radix digits none = number-none radix digits (λ h. absurd (omega (ari
 
 -- ---- one hexadecimal digit
 
-if_fits : (b : Bool) (m n : ℕ) → cond {A = Option ℕ} b (Some m) None ≡ Some n → (b ≡ true) × (m ≡ n)
-if_fits true m n e = (refl, cc)
-if_fits false m n e = absurd cc
-
 one_digit_of : (digits : List ℕ) (n : ℕ) → length digits ≤ 1 → number_in 16 digits ≡ Some n → n < 16
 unfolding number_in fits
 one_digit_of [] n few e = absurd cc
 one_digit_of (c ∷ []) n few e =
-    let is = if_fits (fits 16 (c ∷ [])) (digits_value 16 (c ∷ [])) n e in
+    let is = cond_some (fits 16 (c ∷ [])) (digits_value 16 (c ∷ [])) n e in
     let digit = (true-fits 16 (c ∷ []) is.0).0.1.0 in
     omega (arith, digit, is.1)
 one_digit_of (c ∷ d ∷ cs) n few e = absurd (omega arith)

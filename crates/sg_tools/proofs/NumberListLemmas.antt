@@ -7,6 +7,7 @@ use Rattle.std.specs.List.{slice_split, onto_first, position, position_or_len}
 use Rattle.std.proofs.lemmas.Grind.{common_steps}
 use Rattle.std.proofs.lemmas.Bool.Decides.{nat_tests}
 use Rattle.std.proofs.lemmas.List.{take_all, take-append-le, length-take}
+use Rattle.std.proofs.lemmas.Option.{cond_some}
 use Rattle.std.proofs.lemmas.List.Splits.{slice_split_first, length-slice_split}
 use Rattle.sg_tools.specs.Number.{number_up_to}
 use Rattle.sg_tools.specs.OptionTexts.{all_values, prepend, entries, numbers_up_to, both, mode_page}
@@ -31,10 +32,6 @@ split_none p [] past = refl
 split_none p (x ∷ xs) past = split_none_by p (p x) x xs (position_or_len p xs) past
     (split_none p xs)
 
-position_by : (b : Bool) (n i : ℕ) → cond b (Some n) None ≡ Some i → (b ≡ true) × (n ≡ i)
-position_by true n i e = (refl, cc)
-position_by false n i e = absurd cc
-
 none_by : (b : Bool) (n : ℕ) → cond {A = Option ℕ} b (Some n) None ≡ None → b ≡ false
 none_by true n e = absurd cc
 none_by false n e = refl
@@ -51,7 +48,7 @@ entries_one text none =
 entries_first : (text : List ℕ) (i : ℕ) → position (λ byte. byte == 0x2C) text ≡ Some i
     → entries text ≡ take i text ∷ entries (drop (i + 1) text)
 entries_first text i found =
-    let at = position_by (nat_lt (position_or_len (λ byte. byte == 0x2C) text) (length text))
+    let at = cond_some (nat_lt (position_or_len (λ byte. byte == 0x2C) text) (length text))
     (position_or_len (λ byte. byte == 0x2C) text) i found in
     let tested : nat_lt (position_or_len (λ byte. byte == 0x2C) text) (length text) ≡ true = at.0 in
     let within : position_or_len (λ byte. byte == 0x2C) text < length text =

@@ -1,9 +1,9 @@
 -- The queues of unit attention conditions.
-use Rattle.std.proofs.Common.{◌≡◌, ◌<◌, ◌≤◌, ◌+◌, ◌⊎◌, inl, inr, ◌==◌, ◌||◌, ℕ, zero, suc, Bool}
+use Rattle.std.proofs.Common.{◌≡◌, ◌<◌, ◌≤◌, ◌+◌, ◌⊎◌, inl, inr, ◌==◌, ℕ, zero, suc, Bool}
 use Rattle.std.proofs.Common.{true, false, cond, List, [], ◌∷◌, ◌++◌, length, map, drop, get_or}
 use Rattle.std.proofs.Common.{set, Option, Some, None, refl, sym, ap, ◌∙◌, subst, arith}
 use Rattle.std.specs.Prelude.{if◌then◌else◌, count_by}
-use Rattle.std.proofs.lemmas.Bool.{cases_lt, false≢true}
+use Rattle.std.proofs.lemmas.Bool.{cases_lt, false≢true, or_parts}
 use Rattle.std.proofs.lemmas.List.{get_or-set_other, get_or-set_same, length-append, length-set, map-set}
 use Rattle.std.proofs.lemmas.List.FromFn.{fill_by_all}
 use Rattle.std.proofs.lemmas.List.Sums.{sum_by-cons}
@@ -194,14 +194,6 @@ room queue condition q e =
 
 -- ---- A queue that changes
 
-or_false-left : (a b : Bool) → (a || b) ≡ false → a ≡ false
-or_false-left true b h = h
-or_false-left false b h = refl
-
-or_false-right : (a b : Bool) → (a || b) ≡ false → b ≡ false
-or_false-right true b h = absurd (false≢true (sym h))
-or_false-right false b h = h
-
 differ : (c d : UnitAttention) → (number_of c == number_of d) ≡ false → c ≡ d → ⊥
 differ c d h e =
     let same : number_of c ≡ number_of d = ap number_of e in
@@ -217,9 +209,8 @@ distinct-push : (queue : List UnitAttention) (c : UnitAttention) → is_pending 
     → AreDistinct queue → AreDistinct (queue ++ c ∷ [])
 distinct-push [] c e h = (tt, tt)
 distinct-push (d ∷ ds) c e h =
-    let other = differ d c (or_false-left (number_of d == number_of c) (is_pending ds c) e) in
-    let absent = or_false-right (number_of d == number_of c) (is_pending ds c) e in
-    (not_among-push d ds c h.0 other, distinct-push ds c absent h.1)
+    let parts = or_parts (number_of d == number_of c) (is_pending ds c) e in
+    (not_among-push d ds c h.0 (differ d c parts.0), distinct-push ds c parts.1 h.1)
 
 by_pending : (queue : List UnitAttention) (c : UnitAttention) (b : Bool) → is_pending queue c ≡ b
     → IsQueue queue → IsQueue (if b then queue else queue ++ c ∷ [])

@@ -4,7 +4,7 @@ use Rattle.std.proofs.Common.{List, [], ◌∷◌, length, filter, Option, Some,
 use Rattle.std.proofs.Common.{ap, ◌∙◌, arith}
 use Rattle.std.specs.Prelude.{if◌then◌else◌}
 use Rattle.std.specs.List.{list_any}
-use Rattle.std.proofs.lemmas.Bool.{false≢true, not-true}
+use Rattle.std.proofs.lemmas.Bool.{false≢true, not-true, or_left, or_parts}
 use Rattle.std.proofs.lemmas.Bool.Decides.{nat_tests}
 use Rattle.std.proofs.lemmas.List.{length-append}
 use Rattle.std.proofs.lemmas.List.Folds.{list_any-append}
@@ -110,10 +110,6 @@ has_holder-replaced reservation (r ∷ rs) i key =
     (same_initiator r i key (is_of i r) refl)
     ∙ ap (λ b. holds reservation r.initiator || b) (has_holder-replaced reservation rs i key)
 
-or_left : (a b : Bool) → a ≡ true → (a || b) ≡ true
-or_left true b h = refl
-or_left false b h = absurd (false≢true h)
-
 held-replaced : (held : Option Reservation) (rs : List Registration) (i key : ℕ)
     → is_held_if_any held rs ≡ true → is_held_if_any held (with_key_replaced rs i key) ≡ true
 held-replaced None rs i key h = refl
@@ -204,10 +200,6 @@ is_registered-filter p i f (r ∷ rs) h =
 
 -- ---- No key is 0
 
-or_false : (a b : Bool) → (a || b) ≡ false → (a ≡ false) × (b ≡ false)
-or_false true b h = cc
-or_false false b h = (refl, h)
-
 key-filtered : (key : ℕ) (r : Registration) (keep : Bool) (rest : List Registration)
     → is_under key r ≡ false → has_key rest key ≡ false
     → has_key (cond keep (r ∷ rest) rest) key ≡ false
@@ -218,7 +210,7 @@ has_key-filter : (p : Registration → Bool) (rs : List Registration) (key : ℕ
     → has_key rs key ≡ false → has_key (filter p rs) key ≡ false
 has_key-filter p [] key h = refl
 has_key-filter p (r ∷ rs) key h =
-    let parts = or_false (is_under key r) (has_key rs key) h in
+    let parts = or_parts (is_under key r) (has_key rs key) h in
     key-filtered key r (p r) (filter p rs) parts.0 (has_key-filter p rs key parts.1)
 
 key-replaced : (r : Registration) (i key : ℕ) (is_own : Bool) → (key == 0) ≡ false
@@ -230,14 +222,14 @@ has_key-replaced : (rs : List Registration) (i key : ℕ) → (key == 0) ≡ fal
     → has_key rs 0 ≡ false → has_key (with_key_replaced rs i key) 0 ≡ false
 has_key-replaced [] i key e h = refl
 has_key-replaced (r ∷ rs) i key e h =
-    let parts = or_false (is_under 0 r) (has_key rs 0) h in
+    let parts = or_parts (is_under 0 r) (has_key rs 0) h in
     rw (key-replaced r i key (is_of i r) e parts.0, has_key-replaced rs i key e parts.1) refl
 
 has_key-push : (rs : List Registration) (i key : ℕ) → (key == 0) ≡ false → has_key rs 0 ≡ false
     → has_key (with_registration rs i key) 0 ≡ false
 has_key-push [] i key e h = rw e refl
 has_key-push (r ∷ rs) i key e h =
-    let parts = or_false (is_under 0 r) (has_key rs 0) h in
+    let parts = or_parts (is_under 0 r) (has_key rs 0) h in
     rw (parts.0, has_key-push rs i key e parts.1) refl
 
 -- ---- What is consistent

@@ -6,6 +6,7 @@ use Rattle.std.specs.Prelude.{if◌then◌else◌, is_none}
 use Rattle.std.specs.List.{list_any}
 use Rattle.std.proofs.lemmas.Bool.{eqb-true, false_from_ne_true, false≢true}
 use Rattle.std.proofs.lemmas.Bool.Decides.{nat_tests}
+use Rattle.std.proofs.Math.Bool.{and-true}
 use Rattle.sg_wire.specs.declared.command.Class.{Class}
 use Rattle.sg_wire.specs.declared.command.Class.TheVariants.{Always, Reads, Writes}
 use Rattle.sg_units.specs.Access.{access_of, allowed, allows, highest_class, is_within, standing_of}
@@ -104,10 +105,6 @@ and_implied true b h = refl
 and_implied false true h = absurd (false≢true (h refl))
 and_implied false false h = refl
 
-and_true : (a : Bool) → (a && true) ≡ a
-and_true true = refl
-and_true false = refl
-
 abbrev with_holder : ReservationType → Option ℕ → Reservation
 with_holder type holder = record { kind = type; holder = holder }
 
@@ -175,7 +172,7 @@ held_by_all state reservation h e all =
           λ i.
           ap (λ o. is_held_by o rs i) e
           ∙ (ap (λ o. is_held_by (Some (with_holder reservation.kind o)) rs i) none
-          ∙ and_true (is_registered rs i));
+          ∙ and-true (is_registered rs i));
       at_least_one = not_empty _ rs (held_now state reservation h e);
     }
 

@@ -3,14 +3,12 @@ use Rattle.std.specs.Prelude.{◌≡◌, ℕ, ◌≤◌, ◌==◌, Bool, if◌th
 use Rattle.std.specs.Prelude.{length, drop, slice_get, slice_index_or, slice_set, replicate}
 use Rattle.std.specs.Prelude.{Option, Some, None}
 use Rattle.std.specs.List.{list_any}
+use Rattle.sg_wire.specs.Initiator.{initiator_count}
 use Rattle.sg_units.specs.UnitAttention.{number_of}
 use Rattle.sg_units.specs.declared.unit_attention.UnitAttention.{UnitAttention}
 use Rattle.sg_units.specs.declared.unit_attention.UnitAttention.TheVariants.{PowerOn}
 
 -- ---- Queues of conditions
-
-abbrev pub initiator_count : ℕ
-initiator_count = 8
 
 -- For each initiator the queue of its pending conditions, the oldest first.
 abbrev pub Pending : Type 0

@@ -2,7 +2,8 @@
 use Rattle.std.specs.Prelude.{ℕ, List, map, replicate, slice_index_or, slice_set}
 use Rattle.std.specs.Prelude.{Option, Some, None}
 use Rattle.std.specs.List.{range_with_len}
-use Rattle.sg_units.specs.Attentions.{Pending, initiator_count, pending_for, with_optional}
+use Rattle.sg_wire.specs.Initiator.{initiator_count}
+use Rattle.sg_units.specs.Attentions.{Pending, pending_for, with_optional}
 use Rattle.sg_units.specs.declared.unit_attention.UnitAttention.{UnitAttention}
 
 -- For each initiator the condition that is established for it, if any.

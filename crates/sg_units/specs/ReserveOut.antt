@@ -4,7 +4,7 @@ use Rattle.std.specs.Prelude.{if◌then◌else◌, List, [], ◌∷◌, length, 
 use Rattle.std.specs.Prelude.{Option, Some, None, is_some, is_none, unwrap_or}
 use Rattle.std.specs.List.{range_with_len}
 use Rattle.std.specs.Option.{option_map_or}
-use Rattle.sg_units.specs.Attentions.{initiator_count}
+use Rattle.sg_wire.specs.Initiator.{initiator_count}
 use Rattle.sg_units.specs.UnsupportedFlags.{has_unsupported_flag}
 use Rattle.sg_wire.specs.OutList.{flags_at, service_action_key_at}
 use Rattle.sg_units.specs.Raised.{Conditions}

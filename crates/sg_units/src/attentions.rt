@@ -28,8 +28,8 @@ impl Model for Attentions {
 }
 
 ghost use Rattle.std.specs.Prelude.{◌≡◌, ◌<◌, [], ◌∷◌, drop, slice_set};
-ghost use Rattle.sg_units.specs.Attentions.{ArePending, IsQueue, initiator_count, is_pending};
-ghost use Rattle.sg_units.specs.Attentions.{oldest, pending_for};
+ghost use Rattle.sg_wire.specs.Initiator.{initiator_count};
+ghost use Rattle.sg_units.specs.Attentions.{ArePending, IsQueue, is_pending, oldest, pending_for};
 ghost use Rattle.sg_units.specs.Attentions.{power_on_pending, raised, with_optional, without_oldest};
 ghost use Rattle.sg_units.specs.Raised.{raised_for_each};
 

@@ -1,7 +1,7 @@
 // What a command establishes, as a value: what makes it knows no queue.
 ghost use Rattle.std.specs.Prelude.{◌≡◌, ◌<◌, slice_index_or, None};
+ghost use Rattle.sg_wire.specs.Initiator.{initiator_count};
 ghost use Rattle.sg_units.specs.ReserveOut.{raised_by, raised_for};
-ghost use Rattle.sg_units.specs.Attentions.{initiator_count};
 ghost use Rattle.sg_units.specs.Raised.{raised_for_others};
 
 use crate::UnitAttention;

@@ -101,27 +101,13 @@ impl ReservationState {
     fn unchanged(&self) -> ReservationChange
         ensures { Ok result ≡ same_generation self.now.registrations self.now.reservation None }
     {
-        ReservationChange {
-            registrations: self.registrations.copied(),
-            reservation: self.reservation,
-            for_removed: None,
-            for_remaining: None,
-            increments_generation: false,
-            aptpl: None,
-        }
+        ReservationChange::same_generation(self.registrations.copied(), self.reservation, None)
     }
 
     /// An initiator registers: the reservation stays, and nothing is raised.
     fn with_registrations(&self, registrations: Registrations, aptpl: bool) -> ReservationChange
         ensures { Ok result ≡ registered registrations self.now.reservation None aptpl }
     {
-        ReservationChange {
-            registrations,
-            reservation: self.reservation,
-            for_removed: None,
-            for_remaining: None,
-            increments_generation: true,
-            aptpl: Some(aptpl),
-        }
+        ReservationChange::registered(registrations, self.reservation, None, aptpl)
     }
 }

@@ -19,7 +19,8 @@ use Rattle.sg_wire.specs.declared.command.Command.{Command}
 use Rattle.sg_wire.specs.declared.command.Command.TheVariants as command
 use Rattle.sg_wire.specs.Commands.{reserve_in, reserve_out}
 use Rattle.sg_wire.specs.Layout.{Field, Place, Value, Layout, Maker, layout, cdb_of}
-use Rattle.sg_wire.specs.Layout.{command_of, command_with, has_bit, shifted_right}
+use Rattle.sg_wire.specs.Layout.{action_place, bits_of, command_of, command_with, has_bit}
+use Rattle.sg_wire.specs.Layout.{shifted_right}
 use Rattle.sg_wire.specs.Layout.{blocks_of, joined, part_in, mask_in, mask_of, masks, first_bad}
 use Rattle.sg_wire.specs.Layout.{length_of, unless_bad}
 use Rattle.sg_wire.specs.Layout.Place.{bit, bits, bytes, short_extent}
@@ -42,28 +43,28 @@ bit_of x y z i h = sym (bit_at_and x y i) ∙ ap (λ n. bit_at n i) h
 
 -- two numbers within masks that have no bit in common
 module _ (a b m n : ℕ) (am : IsWithin a m) (bn : IsWithin b n) (apart : bit_and m n ≡ 0) where
-  bits_of : (i : ℕ) → (min (bit_at a i) (bit_at m i) ≡ bit_at a i)
+  bit_by_bit : (i : ℕ) → (min (bit_at a i) (bit_at m i) ≡ bit_at a i)
       × (min (bit_at b i) (bit_at n i) ≡ bit_at b i) × (min (bit_at m i) (bit_at n i) ≡ 0)
       × (bit_at (bit_or a b) i ≡ max (bit_at a i) (bit_at b i))
       × (bit_at (bit_or m n) i ≡ max (bit_at m i) (bit_at n i))
-  bits_of i =
+  bit_by_bit i =
       let none = bit_of m n 0 i apart ∙ bit_at-zero i in
       (bit_of a m a i am, bit_of b n b i bn, none, bit_at_or a b i, bit_at_or m n i)
 
   sum_is_or : a + b ≡ bit_or a b
   sum_is_or = sym (or_disjoint a b (same_from_bits (bit_and a b) 0
-      (λ i. omega (arith, bits_of i, bit_at_and a b i, bit_at-zero i))))
+      (λ i. omega (arith, bit_by_bit i, bit_at_and a b i, bit_at-zero i))))
 
   sum_is_within : IsWithin (a + b) (bit_or m n)
   sum_is_within = rw sum_is_or (same_from_bits _ _
-      (λ i. omega (arith, bits_of i, bit_at_and (bit_or a b) (bit_or m n) i)))
+      (λ i. omega (arith, bit_by_bit i, bit_at_and (bit_or a b) (bit_or m n) i)))
 
   -- what has their sum there has each of them
   parted : (x : ℕ) → bit_and x (bit_or m n) ≡ a + b → (bit_and x m ≡ a) × (bit_and x n ≡ b)
   parted x h =
       let both = λ (i : ℕ). bit_of x (bit_or m n) (bit_or a b) i (h ∙ sum_is_or) in (
-        same_from_bits _ _ (λ i. omega (arith, bits_of i, both i, bit_at_and x m i)),
-        same_from_bits _ _ (λ i. omega (arith, bits_of i, both i, bit_at_and x n i)),
+        same_from_bits _ _ (λ i. omega (arith, bit_by_bit i, both i, bit_at_and x m i)),
+        same_from_bits _ _ (λ i. omega (arith, bit_by_bit i, both i, bit_at_and x n i)),
       )
 
 -- the bits of a number from low on, below high
@@ -191,7 +192,7 @@ bits_again high low value x e =
     ∙ ap (λ y. y / 2 ^ low) (sym (and_between x high low) ∙ e) ∙ shl-shr value low)
 
 address_again : (lba : ℕ) → lba < 2 ^ 21
-    → bit_and (lba / 65536) 0x1F * 65536 + big_number 2 (big_bytes 2 (lba % 65536) ++ []) ≡ lba
+    → bits_of (lba / 65536) 4 0 * 65536 + big_number 2 (big_bytes 2 (lba % 65536) ++ []) ≡ lba
 address_again lba h =
     omega (arith, small (lba / 65536) 5 (omega arith), number_again 2 (lba % 65536) [] (omega arith))
 
@@ -204,11 +205,11 @@ module _ (all : List Field) where
   -- what is read at a place, in the bytes of all fields
   abbrev read : (place : Place) → Value place → Value place
   read (bit k index) value = has_bit (byte k all) (2 ^ index)
-  read (bits k high low) value = bit_and (shifted_right (byte k all) low) (2 ^ (high + 1 - low) - 1)
+  read (bits k high low) value = bits_of (byte k all) high low
   read (bytes first last) value = if first == last then value
       else big_number (last + 1 - first) (big_bytes (last + 1 - first) value ++ [])
   read short_extent value = (
-    bit_and (value.0 / 65536) 0x1F * 65536 + big_number 2 (big_bytes 2 (value.0 % 65536) ++ []),
+    bits_of (value.0 / 65536) 4 0 * 65536 + big_number 2 (big_bytes 2 (value.0 % 65536) ++ []),
     blocks_of (value.1 % 256),
   )
 
@@ -266,7 +267,7 @@ module _ (l : Layout) where
   abbrev others : List Field
   others = record { place = bytes 0 0; value = l.opcode } ∷ (elim l.action as (λ a. List Field) [
     | none ↦ []
-    | named action ↦ record { place = bits 1 4 0; value = action } ∷ []
+    | named action ↦ record { place = action_place; value = action } ∷ []
   ])
 
   abbrev all : List Field

@@ -2,7 +2,7 @@
 use Rattle.std.proofs.Common.{◌≡◌, ◌≤◌, ℕ, ◌==◌, List, [], ◌∷◌, length, drop, get_or, map}
 use Rattle.std.proofs.Common.{Bool, true, false, Option, Some, None, Result, Ok, Err, cond}
 use Rattle.std.proofs.Common.{refl, ◌∙◌, arith}
-use Rattle.std.specs.Prelude.{bit_and, find, option_map, nat_lt, if◌then◌else◌}
+use Rattle.std.specs.Prelude.{find, option_map, nat_lt, if◌then◌else◌}
 use Rattle.std.proofs.lemmas.Bool.Decides.{nat_tests}
 use Rattle.byteorder.specs.Endian.{big_number}
 use Rattle.sg_wire.specs.declared.command.out_action.OutAction.{OutAction}
@@ -10,7 +10,8 @@ use Rattle.sg_wire.specs.Commands.{reserve_out}
 use Rattle.sg_wire.specs.declared.command.CdbFault.{CdbFault}
 use Rattle.sg_wire.specs.declared.command.CdbFault.TheVariants.{Short}
 use Rattle.sg_wire.specs.Layout.{Layout, layout, has_action_of, command_by_row}
-use Rattle.sg_wire.specs.Layout.{command_with, masks, first_bad, fits_masks, unless_bad}
+use Rattle.sg_wire.specs.Layout.{command_with, masks, first_bad, fits_masks, service_action}
+use Rattle.sg_wire.specs.Layout.{unless_bad}
 use Rattle.sg_wire.specs.ReservationAction.{out_code, each_out_action, out_action_with}
 
 abbrev out_row : OutAction → Layout
@@ -24,16 +25,16 @@ mapped-cond action other false = refl
 
 -- a row is found by its service action
 find-row : (cdb : List ℕ) (actions : List OutAction) → find (has_action_of cdb) (map out_row actions)
-    ≡ option_map out_row (find (λ action. bit_and (get_or cdb 1 0) 0x1F == out_code action) actions)
+    ≡ option_map out_row (find (λ action. service_action cdb == out_code action) actions)
 find-row cdb [] = refl
 find-row cdb (action ∷ actions) =
-    rw (find-row cdb actions) (mapped-cond action _ (bit_and (get_or cdb 1 0) 0x1F == out_code action))
+    rw (find-row cdb actions) (mapped-cond action _ (service_action cdb == out_code action))
 
 long_enough : (count : ℕ) → 10 ≤ count → nat_lt count 10 ≡ false
 long_enough count h = grind (arith, nat_tests)
 
 pub reserve_out-known : (cdb : List ℕ) (action : OutAction) → 10 ≤ length cdb
-    → out_action_with (bit_and (get_or cdb 1 0) 0x1F) ≡ Some action
+    → out_action_with (service_action cdb) ≡ Some action
     → command_with 0x5F cdb ≡ command_by_row cdb (Some (out_row action))
 unfolding command_with
 reserve_out-known cdb action whole known =
@@ -57,7 +58,7 @@ unless_bad-refused value false count None fault e h = cc
 unless_bad-refused value false count (Some byte) fault e h = cc
 
 pub reserve_out-refused : (cdb : List ℕ) (action : OutAction) (fault : CdbFault) → 10 ≤ length cdb
-    → out_action_with (bit_and (get_or cdb 1 0) 0x1F) ≡ Some action
+    → out_action_with (service_action cdb) ≡ Some action
     → fits_masks (masks (out_row action)) cdb ≡ Err fault → command_with 0x5F cdb ≡ Err fault
 unfolding fits_masks
 reserve_out-refused cdb action fault whole known refused =
@@ -67,7 +68,7 @@ reserve_out-refused cdb action fault whole known refused =
     (long_enough (length cdb) whole) refused
 
 pub reserve_out-fits : (cdb : List ℕ) (action : OutAction) → 10 ≤ length cdb
-    → out_action_with (bit_and (get_or cdb 1 0) 0x1F) ≡ Some action
+    → out_action_with (service_action cdb) ≡ Some action
     → fits_masks (masks (out_row action)) cdb ≡ Ok tt → command_with 0x5F cdb
     ≡ Ok (reserve_out action (get_or cdb 2 0) (big_number 4 (drop 5 cdb)))
 unfolding fits_masks

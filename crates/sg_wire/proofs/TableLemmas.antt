@@ -5,9 +5,9 @@ use Rattle.std.proofs.Common.{ap, ◌∙◌, ◌⊎◌, inl, inr, arith}
 use Rattle.std.proofs.lemmas.Bool.Decides.{nat_tests}
 use Rattle.std.specs.List.{list_all}
 use Rattle.std.specs.Option.{option_map_or}
-use Rattle.std.specs.Prelude.{bit_and, find, nat_lt, if◌then◌else◌, IfErr, OnOk}
-use Rattle.sg_wire.specs.Layout.{Layout, class_by_rows, class_of, command_by_rows, command_of}
-use Rattle.sg_wire.specs.Layout.{command_with, first_bad, fits_masks, has_action_of}
+use Rattle.std.specs.Prelude.{find, nat_lt, if◌then◌else◌, IfErr, OnOk}
+use Rattle.sg_wire.specs.Layout.{Layout, bits_of, class_by_rows, class_of, command_by_rows}
+use Rattle.sg_wire.specs.Layout.{command_of, command_with, first_bad, fits_masks, has_action_of}
 use Rattle.sg_wire.specs.Layout.{is_blocked_by_attention, layout, make_from}
 use Rattle.sg_wire.specs.Layout.{masks, unless_bad}
 use Rattle.sg_wire.specs.Commands.{reserve_in, reserve_out}
@@ -140,7 +140,7 @@ agrees-named named (opcode ∷ rest) h =
 -- SERVICE ACTION IN(16) with a service action that no command has
 module _ (rest : List ℕ) where
   abbrev action : ℕ
-  action = bit_and (get_or rest 0 0) 0x1F
+  action = bits_of (get_or rest 0 0) 4 0
 
   other : (code : ℕ) → action ≢ code → (action == code) ≡ false
   other code h = grind (arith, nat_tests)

@@ -61,8 +61,11 @@ abbrev pub Maker : List Field → Type 0
 Maker [] = Command
 Maker (field ∷ fields) = Value field.place → Maker fields
 
--- The SERVICE ACTION field, byte 1, bits 4 to 0 (SPC-4, 4.2.5.2): the command has none, or this
--- one.
+-- Where the SERVICE ACTION field lies (SPC-4, 4.2.5.2).
+abbrev pub action_place : Place
+action_place = bits 1 4 0
+
+-- The service action of a command: it has none, or this one.
 pub data ServiceAction : Type 0 where
   none : ServiceAction
   named : (action : ℕ) → ServiceAction
@@ -295,14 +298,21 @@ number_at cdb first last =
 abbrev pub shifted_right : (byte count : ℕ) → ℕ
 shifted_right byte count = if count == 0 then byte else byte / 2 ^ count
 
+-- The bits of a byte from a high one down to a low one, as a number.
+abbrev pub bits_of : (byte high low : ℕ) → ℕ
+bits_of byte high low = bit_and (shifted_right byte low) (2 ^ (high + 1 - low) - 1)
+
 -- The value at a place.
 abbrev pub value_at : List ℕ → (place : Place) → Value place
 value_at cdb (bit byte index) = has_bit (slice_index cdb byte) (2 ^ index)
-value_at cdb (bits byte high low) =
-    bit_and (shifted_right (slice_index cdb byte) low) (2 ^ (high + 1 - low) - 1)
+value_at cdb (bits byte high low) = bits_of (slice_index cdb byte) high low
 value_at cdb (bytes first last) = number_at cdb first last
 value_at cdb short_extent =
-    (bit_and (slice_index cdb 1) 0x1F * 65536 + number_at cdb 2 3, blocks_of (slice_index cdb 4))
+    (bits_of (slice_index cdb 1) 4 0 * 65536 + number_at cdb 2 3, blocks_of (slice_index cdb 4))
+
+-- The SERVICE ACTION field of a CDB, zero where the CDB ends before it.
+abbrev pub service_action : List ℕ → ℕ
+service_action cdb = value_at cdb action_place
 
 -- The command whose fields have the values at their places.
 abbrev pub make_from : List ℕ → (fields : List Field) → Maker fields → Command
@@ -318,7 +328,7 @@ mask_in k short_extent = slice_index (0 ∷ 0x1F ∷ 0xFF ∷ 0xFF ∷ 0xFF ∷ 
 
 abbrev pub action_mask : ℕ → ServiceAction → ℕ
 action_mask k none = 0
-action_mask k (named action) = mask_in k (bits 1 4 0)
+action_mask k (named action) = mask_in k action_place
 
 -- The bits of byte k that may be set. All of byte 0, the operation code.
 abbrev pub mask_of : Layout → ℕ → ℕ
@@ -350,7 +360,7 @@ is_action (named only) action = action == only
 
 -- The CDB has the service action of the row.
 abbrev pub has_action_of : List ℕ → Layout → Bool
-has_action_of cdb l = is_action l.action (bit_and (slice_index cdb 1) 0x1F)
+has_action_of cdb l = is_action l.action (service_action cdb)
 
 -- The command by its row. A service action that no row has is a fault of byte 1.
 abbrev pub command_by_row : List ℕ → Option Layout → Result Command CdbFault
@@ -411,7 +421,7 @@ part_in k short_extent value =
 
 abbrev pub action_part : ℕ → ServiceAction → List ℕ
 action_part k none = []
-action_part k (named action) = part_in k (bits 1 4 0) action
+action_part k (named action) = part_in k action_place action
 
 -- The parts of a byte together; a byte without one is zero.
 abbrev pub joined : List ℕ → ℕ

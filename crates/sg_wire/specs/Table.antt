@@ -1,9 +1,10 @@
 -- The code's table of commands: each row is that of the command's layout, and each CDB gets the row of
 -- its command.
 use Rattle.std.specs.Prelude.{ℕ, ◌≡◌, ◌≢◌, ◌≤◌, List, [], length, slice_index, Bool, true, false}
-use Rattle.std.specs.Prelude.{Option, Some, None, Ok, Err, bit_and}
+use Rattle.std.specs.Prelude.{Option, Some, None, Ok, Err}
 use Rattle.sg_wire.specs.Commands as make
 use Rattle.sg_wire.specs.Layout.{Layout, layout, masks, command_with, make_from, rows_of}
+use Rattle.sg_wire.specs.Layout.{service_action}
 use Rattle.sg_wire.specs.declared.command.Command.{Command}
 use Rattle.sg_wire.specs.declared.command.Command.TheVariants as command
 use Rattle.sg_wire.specs.declared.command.in_action.InAction.TheVariants.{ReadKeys}
@@ -55,8 +56,8 @@ IsRow row =
 
 -- The CDB has the service action of a command that shares its operation code with others.
 abbrev pub HasAction : List ℕ → Name → Type 0
-HasAction cdb name.ReadCapacity16 = bit_and (slice_index cdb 1) 0x1F ≡ 0x10
-HasAction cdb name.GetLbaStatus = bit_and (slice_index cdb 1) 0x1F ≡ 0x12
+HasAction cdb name.ReadCapacity16 = service_action cdb ≡ 0x10
+HasAction cdb name.GetLbaStatus = service_action cdb ≡ 0x12
 HasAction cdb named = Unit {0}
 
 -- The CDB has the operation code and the service action of a command.
@@ -82,7 +83,7 @@ IsRefused cdb named fault = command_with (layout_of named).opcode cdb ≡ Err fa
 abbrev pub IsFound : List ℕ → Found → Type 0
 IsFound cdb (FoundRow row) = IsNamed cdb row.now.name × IsRow row.now
 IsFound cdb NoServiceAction = (slice_index cdb 0 ≡ 0x9E)
-    × (bit_and (slice_index cdb 1) 0x1F ≢ 0x10) × (bit_and (slice_index cdb 1) 0x1F ≢ 0x12)
+    × (service_action cdb ≢ 0x10) × (service_action cdb ≢ 0x12)
 IsFound cdb NoOpcode = 1 ≤ length cdb → rows_of (slice_index cdb 0) ≡ []
 
 -- The reservation class, and whether a pending unit attention blocks the CDB, as the table has them.

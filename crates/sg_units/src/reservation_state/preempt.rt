@@ -58,14 +58,9 @@ impl ReservationState {
         } else {
             Some(UnitAttention::ReservationsReleased)
         };
-        Ok(ReservationChange {
-            registrations,
-            reservation: Some(Reservation::taken(kind, caller)),
-            for_removed: Some(UnitAttention::RegistrationsPreempted),
-            for_remaining,
-            increments_generation: true,
-            aptpl: None,
-        })
+        let reservation = Some(Reservation::taken(kind, caller));
+        let preempted = Some(UnitAttention::RegistrationsPreempted);
+        Ok(ReservationChange::next_generation(registrations, reservation, preempted, for_remaining))
     }
 
     /// These registrations remain, and the reservation, where one of them holds it.
@@ -75,14 +70,8 @@ impl ReservationState {
             (Some RegistrationsPreempted) None }
     {
         let reservation = self.while_held(&registrations);
-        ReservationChange {
-            registrations,
-            reservation,
-            for_removed: Some(UnitAttention::RegistrationsPreempted),
-            for_remaining: None,
-            increments_generation: true,
-            aptpl: None,
-        }
+        let preempted = Some(UnitAttention::RegistrationsPreempted);
+        ReservationChange::next_generation(registrations, reservation, preempted, None)
     }
 
     fn has_one_holder(&self) -> bool

@@ -54,14 +54,7 @@ impl ReservationState {
         registrations.remove(caller);
         let reservation = self.while_held(&registrations);
         let for_remaining = self.released_unless_held(&registrations);
-        ReservationChange {
-            registrations,
-            reservation,
-            for_removed: None,
-            for_remaining,
-            increments_generation: true,
-            aptpl: Some(aptpl),
-        }
+        ReservationChange::registered(registrations, reservation, for_remaining, aptpl)
     }
 
     /// What is raised for the registrants that remain, where none of them holds the reservation.

@@ -57,13 +57,7 @@ impl ReservationState {
     pub(super) fn clear(&self) -> ReservationChange
         ensures { Ok result ≡ cleared }
     {
-        ReservationChange {
-            registrations: Registrations::new(),
-            reservation: None,
-            for_removed: Some(UnitAttention::ReservationsPreempted),
-            for_remaining: None,
-            increments_generation: true,
-            aptpl: None,
-        }
+        let preempted = Some(UnitAttention::ReservationsPreempted);
+        ReservationChange::next_generation(Registrations::new(), None, preempted, None)
     }
 }

@@ -1,9 +1,9 @@
 // Block commands (SBC-3, 5; READ(6) and WRITE(6) of SBC-2).
 ghost use Rattle.std.specs.Prelude.{◌≡◌, ◌/◌, ◌%◌, ◌≤◌, [], ◌∷◌, ◌++◌, length, slice_index};
-ghost use Rattle.std.specs.Prelude.{bit_and, IfErr, IfOk, OnOk, true};
+ghost use Rattle.std.specs.Prelude.{IfErr, IfOk, OnOk, true};
 ghost use Rattle.byteorder.specs.Endian.{big_bytes};
 ghost use Rattle.sg_wire.specs.Layout.{cdb_of, command_with, extent_6, extent_10, extent_16};
-ghost use Rattle.sg_wire.specs.Layout.{number_at, value_at};
+ghost use Rattle.sg_wire.specs.Layout.{number_at, service_action, value_at};
 ghost use Rattle.sg_wire.specs.Layout.Place.{short_extent};
 ghost use Rattle.sg_wire.specs.FieldRoom.{fits_cdb, have_room};
 ghost use Rattle.sg_wire.specs.Table.{HasAction, IsDecoded, IsRefused, IsRow};
@@ -96,7 +96,7 @@ pub(super) fn decode_read_capacity_10(cdb: &[u8]) -> Result<Command, CdbFault>
 }
 
 pub(super) fn decode_read_capacity_16(cdb: &[u8]) -> Result<Command, CdbFault>
-    requires { bit_and (slice_index cdb.now 1) 0x1F ≡ 0x10 }
+    requires { service_action cdb.now ≡ 0x10 }
     ensures { result ≡ command_with 0x9E cdb.now }
 {
     check_row(&READ_CAPACITY_16, cdb)?;

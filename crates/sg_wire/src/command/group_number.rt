@@ -19,8 +19,9 @@ impl Model for GroupNumber {
     ghost inverse = { λ n. record { number = n } };
 }
 
-ghost use Rattle.std.specs.Prelude.{◌≡◌, ◌<◌, bit_and};
+ghost use Rattle.std.specs.Prelude.{◌≡◌, ◌<◌};
 ghost use Rattle.std.specs.Option.{SomeIff};
+ghost use Rattle.sg_wire.specs.Layout.{bits_of};
 
 impl GroupNumber {
     /// The group with a number. None where the number is not 0 to 31.
@@ -44,7 +45,7 @@ impl GroupNumber {
 
     /// The group in the low five bits of a byte.
     pub(super) fn of_byte(byte: u8) -> GroupNumber
-        ensures { result ≡ bit_and byte 0x1F }
+        ensures { result ≡ bits_of byte 4 0 }
     {
         GroupNumber {
             number: byte & 0x1F,

@@ -19,8 +19,9 @@ impl Model for PageCode {
     ghost inverse = { λ n. record { number = n } };
 }
 
-ghost use Rattle.std.specs.Prelude.{◌≡◌, ◌<◌, bit_and};
+ghost use Rattle.std.specs.Prelude.{◌≡◌, ◌<◌};
 ghost use Rattle.std.specs.Option.{SomeIff};
+ghost use Rattle.sg_wire.specs.Layout.{bits_of};
 
 impl PageCode {
     /// The code with a number. None where the number is not 0 to 3Fh.
@@ -44,7 +45,7 @@ impl PageCode {
 
     /// The code in the low six bits of a byte.
     pub(super) fn of_byte(byte: u8) -> PageCode
-        ensures { result ≡ bit_and byte 0x3F }
+        ensures { result ≡ bits_of byte 5 0 }
     {
         PageCode {
             number: byte & 0x3F,

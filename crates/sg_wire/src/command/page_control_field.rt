@@ -19,8 +19,9 @@ impl Model for PageControlField {
     ghost inverse = { λ n. record { number = n } };
 }
 
-ghost use Rattle.std.specs.Prelude.{◌≡◌, ◌<◌, ◌/◌, bit_and};
+ghost use Rattle.std.specs.Prelude.{◌≡◌, ◌<◌};
 ghost use Rattle.std.specs.Option.{SomeIff};
+ghost use Rattle.sg_wire.specs.Layout.{bits_of};
 
 impl PageControlField {
     /// The field with a number. None where the number is not 0 to 3.
@@ -44,7 +45,7 @@ impl PageControlField {
 
     /// The field in the high two bits of a byte.
     pub(super) fn of_byte(byte: u8) -> PageControlField
-        ensures { result ≡ bit_and (byte / 64) 0x03 }
+        ensures { result ≡ bits_of byte 7 6 }
     {
         PageControlField {
             number: (byte >> 6) & 0x03,

@@ -1,6 +1,6 @@
 // Commands of logical block provisioning (SBC-3, 4.7 and 5).
-ghost use Rattle.std.specs.Prelude.{◌≡◌, slice_index, bit_and, true};
-ghost use Rattle.sg_wire.specs.Layout.{cdb_of, command_with};
+ghost use Rattle.std.specs.Prelude.{◌≡◌, true};
+ghost use Rattle.sg_wire.specs.Layout.{cdb_of, command_with, service_action};
 ghost use Rattle.sg_wire.specs.FieldRoom.{fits_cdb};
 
 use super::block::{decode_extent_10, decode_extent_16};
@@ -100,7 +100,7 @@ pub(super) fn decode_unmap(cdb: &[u8]) -> Result<Command, CdbFault>
 }
 
 pub(super) fn decode_get_lba_status(cdb: &[u8]) -> Result<Command, CdbFault>
-    requires { bit_and (slice_index cdb.now 1) 0x1F ≡ 0x12 }
+    requires { service_action cdb.now ≡ 0x12 }
     ensures { result ≡ command_with 0x9E cdb.now }
 {
     // The numbers lie where those of an extent do.

@@ -1,7 +1,8 @@
 // One row a command: operation code, service action, class, unit attention and masks are here and
 // nowhere else in code. What the fields mean is in the families. `specs/Layout.antt` has the
 // definition's rows, and contracts name the codes again.
-ghost use Rattle.std.specs.Prelude.{◌≡◌, ◌≤◌, bit_and, length, slice_index, IfErr, OnOk};
+ghost use Rattle.std.specs.Prelude.{◌≡◌, ◌≤◌, length, slice_index, IfErr, OnOk};
+ghost use Rattle.sg_wire.specs.Layout.{service_action};
 ghost use Rattle.sg_wire.specs.Table.{HasAction, IsDecoded, IsFound, IsRefused, IsRow};
 
 use super::masks::check_masks;
@@ -229,7 +230,7 @@ fn with_service_action(cdb: &[u8]) -> Found
 
 /// The SERVICE ACTION field (SPC-4, 4.2.5.2), zero where the CDB ends before it.
 pub(super) fn service_action(cdb: &[u8]) -> u8
-    ensures { result ≡ bit_and (slice_index cdb.now 1) 0x1F }
+    ensures { result ≡ service_action cdb.now }
 {
     cdb.get(1).copied().unwrap_or(0) & 0x1F
 }

@@ -1,7 +1,8 @@
 use Prim.{search}
 use Rattle.std.proofs.Common.{rules, ◌≡◌, ◌<◌, ℕ, zero, suc, List, [], ◌∷◌, length, get_or, map, replicate}
 use Rattle.std.proofs.Common.{refl, sym, subst, arith}
-use Rattle.sg_units.specs.Attentions.{ArePending, initiator_count}
+use Rattle.sg_wire.specs.Initiator.{initiator_count}
+use Rattle.sg_units.specs.Attentions.{ArePending}
 use Rattle.sg_units.specs.declared.unit_attention.UnitAttention.TheVariants.{PowerOn}
 use Rattle.sg_units.proofs.AttentionLemmas.{ArePending-power_on}
 use Rattle.sg_units.proofs.attentions.Attentions.new.Goals as goal
