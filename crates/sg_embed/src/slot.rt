@@ -199,12 +199,13 @@ impl Slot {
 
 ghost use Rattle.std.specs.Prelude.{◌<◌};
 ghost use Rattle.std.specs.Option.{SomeIff};
+ghost use Rattle.sg_wire.specs.Initiator.{initiator_count};
 
 /// The initiator with a number, if it has one.
 fn known_initiator(number: u32) -> Option<Initiator>
-    ensures { SomeIff result (number < 8) number }
+    ensures { SomeIff result (number < initiator_count) number }
 {
-    if number < 8 {
+    if (number as usize) < Initiator::COUNT {
         Initiator::new(number as u8)
     } else {
         None
