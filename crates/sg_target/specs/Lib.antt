@@ -21,6 +21,7 @@ pub mod Runs
 pub mod Laws
 pub mod Target
 -- What private contracts cite alone.
+pub mod Execution
 pub mod DataIn
 pub mod Extents
 pub mod Joining
