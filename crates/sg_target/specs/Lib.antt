@@ -16,12 +16,12 @@ pub mod Status
 pub mod Step
 pub mod Reply
 pub mod Ranges
+pub mod Target
+pub mod Execution
 pub mod PowerCycle
 pub mod Runs
 pub mod Laws
-pub mod Target
 -- What private contracts cite alone.
-pub mod Execution
 pub mod DataIn
 pub mod Extents
 pub mod Joining

@@ -26,13 +26,13 @@ returns-in_err-take-in-Call-clause-stopped g c =
     ∙ events-more g.E.ToEvent.event list i c.item-item.result (event.Call call) here c.item-item.is
     (sym c.to_event.ensures ∙ c.in-Call.is) in
     let so_far = c.loop-item.invariant.state in
-    let answered = answer-carried _ c.execute-reply.result _ _ c.execute-reply.ensures.reply
+    let answered = answer-carried _ c.execute-reply.result _ _ c.execute-reply.ensures.done.answer
     ∙ ap (λ s. (step_of s call).answer) so_far in
-    let size = size-carried _ c.execute-reply.result _ _ c.execute-reply.ensures.reply in
+    let size = size-carried _ c.execute-reply.result _ _ c.execute-reply.ensures.done.answer in
     let charged =
     subst (λ (s : State). IsCharged (cost_bounds g.S.Store.price g.S.Store.least) s.disk.pool
     (ranges_of_call s call) c.loop-item.self.meter c.execute-reply.new.self.meter
-    c.execute-reply.result) so_far c.execute-reply.ensures.charge in
+    c.execute-reply.result) so_far c.execute-reply.ensures.done.charge in
     let stopped : Stopped (cost_bounds g.S.Store.price g.S.Store.least) state
     (map g.E.ToEvent.event list)
     (g.K.Sink.taken c.args.sink.now) (g.K.Sink.taken c.take.new.self) c.args.self.now.meter
@@ -46,7 +46,7 @@ returns-in_err-take-in-Call-clause-stopped g c =
           (exchanged-more (cost_bounds g.S.Store.price g.S.Store.least) state
           before _ _ _ _ _ call _ c.loop-item.invariant.took answered size charged);
       state_is =
-          rw next (c.execute-reply.ensures.state
+          rw next (c.execute-reply.ensures.done.state
           ∙ ap (λ s. (step_of s call).state) so_far
           ∙ sym (state-more state before (event.Call call)));
     } in
@@ -77,19 +77,19 @@ loop-item-preserved g c =
       | in-Call+in_ok-take-in-Call w ↦
           let call = w.in-Call.call in
           let next = more (event.Call call) (sym c.to_event.ensures ∙ w.in-Call.is) in
-          let answered = answer-carried _ w.execute-reply.result _ _ w.execute-reply.ensures.reply
+          let answered = answer-carried _ w.execute-reply.result _ _ w.execute-reply.ensures.done.answer
           ∙ ap (λ s. (step_of s call).answer) so_far in
-          let size = size-carried _ w.execute-reply.result _ _ w.execute-reply.ensures.reply in
+          let size = size-carried _ w.execute-reply.result _ _ w.execute-reply.ensures.done.answer in
           let charged =
           subst (λ (s : State). IsCharged (cost_bounds g.S.Store.price g.S.Store.least) s.disk.pool
           (ranges_of_call s call) c.loop-item.self.meter w.execute-reply.new.self.meter
-          w.execute-reply.result) so_far w.execute-reply.ensures.charge in
+          w.execute-reply.result) so_far w.execute-reply.ensures.done.charge in
           record {
             took = rw (next, w.self-is, w.sink-is, w.in_ok-take-in-Call.ensures.taken)
                 (exchanged-more (cost_bounds g.S.Store.price g.S.Store.least) state
                 before _ _ _ _ _ call _ c.loop-item.invariant.took answered size charged);
             state =
-                rw (next, w.self-is) (w.execute-reply.ensures.state
+                rw (next, w.self-is) (w.execute-reply.ensures.done.state
                 ∙ ap (λ s. (step_of s call).state) so_far
                 ∙ sym (state-more state before (event.Call call)));
             sound = rw w.sink-is (w.in_ok-take-in-Call.ensures.sound ∙ c.loop-item.invariant.sound);
