@@ -1,6 +1,6 @@
-use Rattle.std.proofs.Common.{◌≡◌, ◌+◌, ◌<◌, length, List, ◌++◌, ◌∷◌, [], map, take, arith, ap}
-use Rattle.std.proofs.Common.{sym, subst, ◌∙◌}
-use Rattle.std.proofs.lemmas.List.{length-map, take-map}
+use Rattle.std.proofs.Common.{◌≡◌, ◌+◌, ◌<◌, ◌≤◌, length, List, ◌++◌, ◌∷◌, [], map, take, arith, ap}
+use Rattle.std.proofs.Common.{sym, subst, rules, ◌∙◌}
+use Rattle.std.proofs.lemmas.List.{length-map, take_all, take-map}
 use Rattle.sg_target.specs.Ranges.{IsCharged, cost_bounds}
 use Rattle.sg_target.specs.Runs.{step_of, ranges_of_call, exchange, state_after_event, Stopped}
 use Rattle.sg_target.specs.State.{State, IsWithinLimits}
@@ -12,8 +12,8 @@ use Rattle.sg_target.proofs.RunLemmas.{all-within, answer-carried, on-err, size-
 use Rattle.sg_target.proofs.target.Target.run_list.Goals as goal
 use Rattle.sg_target.proofs.target.Target.run_list.Goals.{in-Call+in_ok-take-in-Call, in-Power}
 
-pub returns-in_err-take-in-Call-clause-stopped : goal.returns-in_err-take-in-Call-clause-stopped
-returns-in_err-take-in-Call-clause-stopped g c =
+pub returns-in_err-take-in-Call : goal.returns-in_err-take-in-Call
+returns-in_err-take-in-Call g c =
     let state = c.args.self.now.state in
     let list = c.args.list.now in
     let i = c.loop-item.item-index in
@@ -50,18 +50,22 @@ returns-in_err-take-in-Call-clause-stopped g c =
           ∙ ap (λ s. (step_of s call).state) so_far
           ∙ sym (state-more state before (event.Call call)));
     } in
-    on-err c.from_residual.result _ stopped
-
-pub returns-in_err-take-in-Call-clause-limits : goal.returns-in_err-take-in-Call-clause-limits
-returns-in_err-take-in-Call-clause-limits g c n =
-    all-within c.limits_are_kept.ensures _ (map g.E.ToEvent.event c.args.list.now) n
-    (subst (λ (t : TargetFields). IsWithinLimits t.state) c.self.view_is
-    (record {
-      used = c.self.invariant.1;
-      pending = c.self.invariant.2;
-      registered = c.self.invariant.3;
-      blocks = c.used.ensures.well_formed;
-    }))
+    record {
+      took = search rules;
+      state = search rules;
+      sound = search rules;
+      stopped = on-err c.from_residual.result _ stopped;
+      fault = search rules;
+      limits = λ n.
+          all-within c.limits_are_kept.ensures _ (map g.E.ToEvent.event list) n
+          (subst (λ (t : TargetFields). IsWithinLimits t.state) c.self.view_is
+          (record {
+            used = c.self.invariant.1;
+            pending = c.self.invariant.2;
+            registered = c.self.invariant.3;
+            blocks = c.used.ensures.well_formed;
+          }));
+    }
 
 pub loop-item-preserved : goal.loop-item-preserved
 loop-item-preserved g c =
@@ -108,13 +112,24 @@ loop-item-preserved g c =
           }
     ]
 
-pub returns-clause-limits : goal.returns-clause-limits
-returns-clause-limits g c n =
-    all-within c.limits_are_kept.ensures _ (map g.E.ToEvent.event c.args.list.now) n
-    (subst (λ (t : TargetFields). IsWithinLimits t.state) c.self.view_is
-    (record {
-      used = c.self.invariant.1;
-      pending = c.self.invariant.2;
-      registered = c.self.invariant.3;
-      blocks = c.used.ensures.well_formed;
-    }))
+pub returns : goal.returns
+returns g c =
+    let list = c.args.list.now in
+    let ended : length list ≤ c.loop-item.item-index = omega arith in
+    let whole = take_all c.loop-item.item-index list ended in
+    record {
+      took = rw whole at c.loop-item.invariant.took;
+      state = rw whole at c.loop-item.invariant.state;
+      sound = search rules;
+      stopped = search rules;
+      fault = search rules;
+      limits = λ n.
+          all-within c.limits_are_kept.ensures _ (map g.E.ToEvent.event list) n
+          (subst (λ (t : TargetFields). IsWithinLimits t.state) c.self.view_is
+          (record {
+            used = c.self.invariant.1;
+            pending = c.self.invariant.2;
+            registered = c.self.invariant.3;
+            blocks = c.used.ensures.well_formed;
+          }));
+    }
