@@ -61,10 +61,10 @@ ghost use Rattle.std.specs.Prelude.{◌≡◌, ◌≤◌, length, IfOk};
 ghost use Rattle.sg_store.specs.Meter.{new_meter};
 ghost use Rattle.sg_target.specs.BlockCommands.{longest_data_in};
 ghost use Rattle.sg_target.specs.Execution.{IsExecuted};
-ghost use Rattle.sg_target.specs.PowerCycle.{after_power_cycle};
+ghost use Rattle.sg_target.specs.PowerCycle.{CyclesPower};
 ghost use Rattle.sg_target.specs.Ranges.{cost_bounds};
 ghost use Rattle.sg_target.specs.Reply.{refused_reply};
-ghost use Rattle.sg_target.specs.State.{IsWithinLimits, new_state};
+ghost use Rattle.sg_target.specs.State.{new_state};
 ghost use Rattle.sg_target.specs.Step.{after_refusal, sense_format};
 
 impl<S: Store> Target<S> {
@@ -115,9 +115,7 @@ impl<S: Store> Target<S> {
     /// Registrations and reservation are as they were where they persist through a power loss, and
     /// gone where not; PRGENERATION is 0. POWER ON alone is pending for each initiator.
     pub fn power_cycle(&mut self)
-        ensures state { self.new.state ≡ after_power_cycle self.old.state }
-        ensures meter { self.new.meter ≡ self.old.meter }
-        ensures limits { IsWithinLimits self.new.state }
+        ensures { CyclesPower self.old self.new }
     {
         // Its contract says that the blocks are well formed.
         let _ = self.store.used();

@@ -3,11 +3,13 @@ use Rattle.sg_embed.proofs.slot.Slot.execute.Goals as goal
 
 pub returns-clause-executed : goal.returns-clause-executed
 returns-clause-executed c done = record {
-  disk = c.in-Some-kept.kept.now;
-  left = record { target = c.execute-done.new.self };
-  was = search rules;
-  is = search rules;
   reply = c.execute-done.result;
-  executed = search rules;
+  executed = record {
+    disk = c.in-Some-kept.kept.now;
+    left = record { target = c.execute-done.new.self };
+    was = search rules;
+    is = search rules;
+    happened = search rules;
+  };
   shows = search rules;
 }
