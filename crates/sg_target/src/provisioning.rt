@@ -3,6 +3,7 @@ ghost use Rattle.std.specs.Prelude.{◌≡◌, ◌+◌, ◌≤◌, length};
 ghost use Rattle.std.specs.Prelude.{Some, None, IfOk, IfErr, IfNone};
 ghost use Rattle.std.specs.FinMap.{len};
 ghost use Rattle.sg_wire.specs.UnmapList.{maximum_unmap_descriptors};
+ghost use Rattle.sg_store.specs.Disk.{unmapped};
 ghost use Rattle.sg_store.specs.Meter.{no_counts};
 ghost use Rattle.sg_target.specs.Anchoring.{HasAllowedSize};
 ghost use Rattle.sg_target.specs.Checks.{out_of_range, requested, unsupported_value};
@@ -10,9 +11,9 @@ ghost use Rattle.sg_target.specs.Demands.{bad_count, unmap as demands_of_unmap, 
 ghost use Rattle.sg_target.specs.Demands.{write_same_10, write_same_16};
 ghost use Rattle.sg_target.specs.Execution.{TakesStep};
 ghost use Rattle.sg_target.specs.Extents.{AreOnDisk};
-ghost use Rattle.sg_target.specs.ProvisioningCommands.{anchoring, filling};
+ghost use Rattle.sg_target.specs.ProvisioningCommands.{anchoring, changed_in_turn, filling};
 ghost use Rattle.sg_target.specs.ProvisioningCommands.{ranges_in_turn, reporting_status};
-ghost use Rattle.sg_target.specs.ProvisioningCommands.{unmap_list_refusal, unmapped_in_turn};
+ghost use Rattle.sg_target.specs.ProvisioningCommands.{unmap_list_refusal};
 ghost use Rattle.sg_target.specs.ProvisioningCommands.{unmapping, unmaps};
 ghost use Rattle.sg_target.specs.Ranges.{IsCounted, cost_bounds};
 ghost use Rattle.sg_target.specs.State.{IsWithinLimits};
@@ -122,9 +123,9 @@ fn unmap_in_turn<S: Store>(store: &mut S, extents: &[Extent])
     requires size { HasAllowedSize (S.disk store.old) }
     requires nothing_counted { (S.meter store.old).counts ≡ no_counts }
     ensures disk { S.disk store.new ≡ record (S.disk store.old)
-        { contents = unmapped_in_turn (S.disk store.old).contents extents.now } }
+        { contents = changed_in_turn unmapped (S.disk store.old).contents extents.now } }
     ensures counted { IsCounted (cost_bounds S.price S.least) (S.disk store.old).pool
-        (ranges_in_turn (S.disk store.old).contents extents.now)
+        (ranges_in_turn unmapped (S.disk store.old).contents extents.now)
         (S.meter store.old) (S.meter store.new) }
 {
     for extent in extents {

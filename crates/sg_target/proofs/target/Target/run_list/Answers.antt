@@ -3,12 +3,11 @@ use Rattle.std.proofs.Common.{sym, subst, rules, ◌∙◌}
 use Rattle.std.proofs.lemmas.List.{length-map, take_all, take-map}
 use Rattle.sg_target.specs.Ranges.{IsCharged, cost_bounds}
 use Rattle.sg_target.specs.Runs.{step_of, ranges_of_call, exchange, state_after_event, Stopped}
-use Rattle.sg_target.specs.State.{State, IsWithinLimits}
-use Rattle.sg_target.specs.Target.{TargetFields}
+use Rattle.sg_target.specs.State.{State}
 use Rattle.sg_target.specs.declared.event.Event.{Event}
 use Rattle.sg_target.specs.declared.event.Event.TheVariants as event
 use Rattle.sg_target.proofs.RunLemmas.{events-more, exchanged-more, exchanged-power, state-more}
-use Rattle.sg_target.proofs.RunLemmas.{all-within, answer-carried, on-err, size-carried}
+use Rattle.sg_target.proofs.RunLemmas.{all-within, answer-carried, on-err, size-carried, within-seen}
 use Rattle.sg_target.proofs.target.Target.run_list.Goals as goal
 use Rattle.sg_target.proofs.target.Target.run_list.Goals.{in-Call+in_ok-take-in-Call, in-Power}
 
@@ -58,13 +57,8 @@ returns-in_err-take-in-Call g c =
       fault = search rules;
       limits = λ n.
           all-within c.limits_are_kept.ensures _ (map g.E.ToEvent.event list) n
-          (subst (λ (t : TargetFields). IsWithinLimits t.state) c.self.view_is
-          (record {
-            used = c.self.invariant.1;
-            pending = c.self.invariant.2;
-            registered = c.self.invariant.3;
-            blocks = c.used.ensures.well_formed;
-          }));
+          (within-seen _ _ c.self.view_is c.self.invariant.1 c.self.invariant.2 c.self.invariant.3
+          c.used.ensures.well_formed);
     }
 
 pub loop-item-preserved : goal.loop-item-preserved
@@ -125,11 +119,6 @@ returns g c =
       fault = search rules;
       limits = λ n.
           all-within c.limits_are_kept.ensures _ (map g.E.ToEvent.event list) n
-          (subst (λ (t : TargetFields). IsWithinLimits t.state) c.self.view_is
-          (record {
-            used = c.self.invariant.1;
-            pending = c.self.invariant.2;
-            registered = c.self.invariant.3;
-            blocks = c.used.ensures.well_formed;
-          }));
+          (within-seen _ _ c.self.view_is c.self.invariant.1 c.self.invariant.2 c.self.invariant.3
+          c.used.ensures.well_formed);
     }
