@@ -27,8 +27,8 @@ use Rattle.sg_target.specs.Demands.{too_long, unless_anchor_alone, unmap_extent,
 use Rattle.sg_target.specs.Demands.{unmap_or_fill}
 use Rattle.sg_target.specs.Effect.{Effect}
 use Rattle.sg_target.specs.Extents.{AreOnDisk}
-use Rattle.sg_target.specs.ProvisioningCommands.{anchored_in_turn, block_out, listed_extents}
-use Rattle.sg_target.specs.ProvisioningCommands.{unmapped_in_turn, unmaps}
+use Rattle.sg_target.specs.ProvisioningCommands.{block_out, changed_in_turn, listed_extents}
+use Rattle.sg_target.specs.ProvisioningCommands.{unmaps}
 use Rattle.sg_target.specs.Refusal.{checked_next, first_some, if_supported, unless_refused, when_sound}
 use Rattle.sg_target.specs.Semantics.{effect_of, medium_use}
 use Rattle.sg_target.specs.State.{State}
@@ -224,7 +224,7 @@ block-length bytes count i h below =
     omega (arith, length-take 512 (drop (512 * i) bytes), length-drop (512 * i) bytes)
 
 unmapped-keeps : DisksStayWellFormed → (capacity : ℕ) (extents : List Extent) (contents : Contents)
-    → IsWellFormed capacity contents → IsWellFormed capacity (unmapped_in_turn contents extents)
+    → IsWellFormed capacity contents → IsWellFormed capacity (changed_in_turn unmapped contents extents)
 unmapped-keeps disks capacity [] contents h = h
 unmapped-keeps disks capacity (one ∷ rest) contents h =
     unmapped-keeps disks capacity rest (unmapped contents one.lba one.count)
@@ -232,7 +232,7 @@ unmapped-keeps disks capacity (one ∷ rest) contents h =
 
 anchored-keeps : DisksStayWellFormed → (capacity : ℕ) (extents : List Extent) (contents : Contents)
     → IsWellFormed capacity contents → AreOnDisk capacity extents
-    → IsWellFormed capacity (anchored_in_turn contents extents)
+    → IsWellFormed capacity (changed_in_turn anchored contents extents)
 anchored-keeps disks capacity [] contents h on_disk = h
 anchored-keeps disks capacity (one ∷ rest) contents h on_disk =
     anchored-keeps disks capacity rest (anchored contents one.lba one.count)

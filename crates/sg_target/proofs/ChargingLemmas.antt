@@ -8,16 +8,16 @@ use Rattle.std.proofs.lemmas.List.{length-map, map-append}
 use Rattle.std.specs.Prelude.{map}
 use Rattle.sg_store.specs.Meter.{Costs, Meter, restarted}
 use Rattle.sg_store.specs.declared.store.Counts.{Counts}
-use Rattle.sg_target.specs.Anchoring.{counted, counted_ranges, disk_anchored_in_turn}
+use Rattle.sg_target.specs.Anchoring.{counted, counted_ranges}
 use Rattle.sg_target.specs.Effect.{Range, range, counted_range}
-use Rattle.sg_target.specs.ProvisioningCommands.{anchored_in_turn, anchoring_in_turn}
-use Rattle.sg_target.specs.ProvisioningCommands.{anchoring_ranges}
+use Rattle.sg_target.specs.ProvisioningCommands.{Change, anchoring_ranges, changed_in_turn}
+use Rattle.sg_target.specs.ProvisioningCommands.{ranges_in_turn}
 use Rattle.sg_target.specs.Ranges.{Cost, CostBounds, IsCharged, IsCounted, IsWithinPrice}
 use Rattle.sg_target.specs.Ranges.{sum_over, least_over}
 use Rattle.sg_target.specs.declared.reply.Reply.{Reply}
 use Rattle.sg_target.specs.declared.reply.Status.TheVariants.{Good}
-use Rattle.sg_store.specs.Disk.{Contents, Disk, anchored, disk_anchored}
-use Rattle.sg_target.proofs.NeedLemmas.{in_turn-more}
+use Rattle.sg_store.specs.Disk.{Contents, Disk, anchored}
+use Rattle.sg_target.proofs.InTurnLemmas.{changed-append, ranges-more}
 use Rattle.sg_target.specs.Joining.{AreJoined, IsSubadditive, cost_of, range_of}
 use Rattle.sg_target.specs.declared.joining.AddressRange.{AddressRange}
 use Rattle.sg_wire.specs.declared.extent.Extent.{Extent}
@@ -60,13 +60,6 @@ counted-more bounds pool over last before between after so_far costs price least
       least = omega (arith, so_far.least, c.visited, costs.visits);
     }
 
-pub turn-more : (m : Contents) (extents : List Extent) (last : Extent)
-    → anchoring_in_turn m (extents ++ last ∷ [])
-    ≡ anchoring_in_turn m extents ++ range (anchored_in_turn m extents) last ∷ []
-turn-more m [] last = refl
-turn-more m (e ∷ es) last = ap (λ (over : List Range). range m e ∷ over)
-    (turn-more (anchored m e.lba e.count) es last)
-
 pub counted-ranges-more : (m : Contents) (ranges : List AddressRange) (last : AddressRange)
     → counted_ranges m (ranges ++ last ∷ []) ≡ counted_ranges m ranges ++ counted m last ∷ []
 counted-ranges-more m ranges last = map-append (counted m) ranges (last ∷ [])
@@ -92,32 +85,34 @@ counted-next bounds disk now ranges i d here before mid after same so_far costs 
     (subst (λ (x : Disk). mid.total + bounds.least x.contents next.lba next.count ≤ after.total) same
     least))
 
--- the next extent, which is anchored
-module _ (extents : List Extent) (i : ℕ) (d : Extent) (here : i < length extents) (before now : Disk)
-    (so_far : now ≡ disk_anchored_in_turn before (take i extents)) where
+-- the next extent, which is changed
+module _ (change : Change) (extents : List Extent) (i : ℕ) (d : Extent) (here : i < length extents)
+    (before now : Disk) (so_far : now ≡
+    record before { contents = changed_in_turn change before.contents (take i extents) }) where
   abbrev next : Extent
   next = get_or extents i d
 
-  pub disk-next : (after : Disk) → after ≡ disk_anchored now next.lba next.count
-      → after ≡ disk_anchored_in_turn before (take (i + 1) extents)
+  pub disk-next : (after : Disk)
+      → after ≡ record now { contents = change now.contents next.lba next.count }
+      → after ≡ record before { contents = changed_in_turn change before.contents (take (i + 1) extents) }
   disk-next after e =
-      e ∙ ap (λ (x : Disk). disk_anchored x next.lba next.count) so_far
+      e ∙ ap (λ (x : Disk). record x { contents = change x.contents next.lba next.count }) so_far
       ∙ ap (λ (m : Contents). record before { contents = m })
-      (sym (in_turn-more before.contents (take i extents) next)
-      ∙ ap (anchored_in_turn before.contents) (sym (take_more extents i d here)))
+      (sym (changed-append change before.contents (take i extents) (next ∷ []))
+      ∙ ap (changed_in_turn change before.contents) (sym (take_more extents i d here)))
 
   pub turn-next : (bounds : CostBounds) (over : List Range) (first mid after : Meter)
-      → IsCounted bounds before.pool (over ++ anchoring_in_turn before.contents (take i extents)) first
-      mid
+      → IsCounted bounds before.pool (over ++ ranges_in_turn change before.contents (take i extents))
+      first mid
       → Costs now.pool mid after
       → after.total ≤ mid.total + bounds.price now.contents next.lba next.count
       → mid.total + bounds.least now.contents next.lba next.count ≤ after.total
       → IsCounted bounds before.pool
-      (over ++ anchoring_in_turn before.contents (take (i + 1) extents)) first after
+      (over ++ ranges_in_turn change before.contents (take (i + 1) extents)) first after
   turn-next bounds over first mid after counted costs price least =
-      let turn : List Range = anchoring_in_turn before.contents (take i extents) in
-      let last = range (anchored_in_turn before.contents (take i extents)) next in
-      rw (take_more extents i d here, turn-more before.contents (take i extents) next)
+      let turn : List Range = ranges_in_turn change before.contents (take i extents) in
+      let last = range (changed_in_turn change before.contents (take i extents)) next in
+      rw (take_more extents i d here, ranges-more change before.contents (take i extents) next)
       (subst (λ (xs : List Range). IsCounted bounds before.pool xs first after)
       (append_assoc over turn (last ∷ []))
       (counted-more bounds before.pool (over ++ turn) last first mid after counted
@@ -152,7 +147,7 @@ module _ (bounds : CostBounds) (pool : ℕ) (m : Contents) (extents : List Exten
   sent = map (counted_range m) extents
 
   abbrev turn : List Range
-  turn = anchoring_in_turn m extents
+  turn = ranges_in_turn anchored m extents
 
   cheaper : sum_over bounds.price (counted_ranges m joined) ≤ sum_over bounds.price sent
   cheaper = omega (

@@ -11,8 +11,7 @@ use Rattle.sg_store.specs.LbaStatus.{status_at, status_in}
 use Rattle.sg_target.specs.Effect.{Effect, with_contents}
 use Rattle.sg_target.specs.Laws.{lies_in_any, AnchorsEachExtent}
 use Rattle.sg_target.specs.Laws.{UnmapsEachExtent, ZeroesEachExtent}
-use Rattle.sg_target.specs.ProvisioningCommands.{anchored_in_turn, anchoring, unmapped_in_turn}
-use Rattle.sg_target.specs.ProvisioningCommands.{unmapping}
+use Rattle.sg_target.specs.ProvisioningCommands.{anchoring, changed_in_turn, unmapping}
 use Rattle.sg_target.specs.State.{State}
 use Rattle.sg_target.proofs.InTurnLemmas.{same, seen}
 
@@ -72,12 +71,12 @@ module _ (one : Contents → Extent → Contents) (all : Contents → List Exten
 
 pub unmaps-each : UnmapsEachAddress → UnmapsEachBlock → UnmapsEachExtent
 unmaps-each addresses zeros =
-    zeroes-each (λ m e. unmapped m e.lba e.count) unmapped_in_turn (λ m. refl) (λ m e es. refl)
+    zeroes-each (λ m e. unmapped m e.lba e.count) (changed_in_turn unmapped) (λ m. refl) (λ m e es. refl)
     None (λ m e. addresses m e.lba e.count) (λ m e. zeros m e.lba e.count)
     unmapping (λ state es. refl) refl
 
 pub anchors-each : AnchorsEachAddress → AnchorZeroesEachBlock → AnchorsEachExtent
 anchors-each addresses zeros =
-    zeroes-each (λ m e. anchored m e.lba e.count) anchored_in_turn (λ m. refl) (λ m e es. refl)
+    zeroes-each (λ m e. anchored m e.lba e.count) (changed_in_turn anchored) (λ m. refl) (λ m e es. refl)
     (Some Anchored) (λ m e. addresses m e.lba e.count) (λ m e. zeros m e.lba e.count)
     anchoring (λ state es. refl) refl

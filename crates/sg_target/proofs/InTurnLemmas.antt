@@ -1,11 +1,41 @@
--- Items taken in turn, each of which gives the same to each address that it covers.
-use Rattle.std.proofs.Common.{◌≡◌, ℕ, List, [], ◌∷◌, Option, Bool, true, false, refl, sym, ap, ◌∙◌}
-use Rattle.std.proofs.Common.{cond}
+-- Items taken in turn.
+use Rattle.std.proofs.Common.{◌≡◌, ℕ, List, [], ◌∷◌, ◌++◌, length, Option, Bool, true, false, cond, refl}
+use Rattle.std.proofs.Common.{sym, ap, ◌∙◌, arith}
 use Rattle.std.specs.Cmp.{nat_cmp_total}
 use Rattle.std.specs.FinMap.{get, same_map, nat_cmp-IsAntisymmetric}
 use Rattle.std.specs.List.{list_any}
 use Rattle.std.specs.Prelude.{◌||◌}
 use Rattle.sg_store.specs.Disk.{Contents, Mapping}
+use Rattle.sg_target.specs.Effect.{Range, range}
+use Rattle.sg_target.specs.ProvisioningCommands.{Change, changed_in_turn, ranges_in_turn}
+use Rattle.sg_wire.specs.declared.extent.Extent.{Extent}
+
+-- ---- one more extent
+
+module _ (change : Change) where
+  pub changed-append : (contents : Contents) (extents more : List Extent)
+      → changed_in_turn change contents (extents ++ more)
+      ≡ changed_in_turn change (changed_in_turn change contents extents) more
+  changed-append contents [] more = refl
+  changed-append contents (first ∷ rest) more =
+      changed-append (change contents first.lba first.count) rest more
+
+  pub ranges-more : (contents : Contents) (extents : List Extent) (last : Extent)
+      → ranges_in_turn change contents (extents ++ last ∷ [])
+      ≡ ranges_in_turn change contents extents ++ range (changed_in_turn change contents extents) last
+      ∷ []
+  ranges-more contents [] last = refl
+  ranges-more contents (first ∷ rest) last =
+      ap (λ (over : List Range). range contents first ∷ over)
+      (ranges-more (change contents first.lba first.count) rest last)
+
+  pub length-ranges : (contents : Contents) (extents : List Extent)
+      → length (ranges_in_turn change contents extents) ≡ length extents
+  length-ranges contents [] = refl
+  length-ranges contents (first ∷ rest) =
+      let more = length-ranges (change contents first.lba first.count) rest in omega arith
+
+-- ---- items that give the same to each address that they cover
 
 either : {A : Type 0} (a b : Bool) (x y : A) → cond a x (cond b x y) ≡ cond (b || a) x y
 either true true x y = refl

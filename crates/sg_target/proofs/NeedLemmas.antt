@@ -7,7 +7,7 @@ use Rattle.std.specs.Prelude.{not, ◌||◌, map}
 use Rattle.sg_store.specs.Disk.{lies_in}
 use Rattle.sg_target.specs.Anchoring.{need_of}
 use Rattle.sg_target.specs.Extents.{AreOnDisk}
-use Rattle.sg_target.specs.ProvisioningCommands.{anchored_in_turn}
+use Rattle.sg_target.specs.ProvisioningCommands.{changed_in_turn}
 use Rattle.sg_store.specs.Disk.{Contents, anchored, need}
 use Rattle.sg_store.specs.Disk.Mapping.{Anchored}
 use Rattle.sg_target.specs.Joining.{covers, lies_in_some, AreDisjoint, AreJoined, AreWithin, range_of}
@@ -16,7 +16,7 @@ use Rattle.sg_wire.specs.declared.extent.Extent.{Extent}
 use Rattle.sg_store.specs.Laws.{RemappingTakesWhatIsNeeded}
 use Rattle.sg_store.proofs.NeedLemmas.{need-more, need-none}
 use Rattle.sg_target.proofs.AddressRangeLemmas.{or_left, not_true, true_false}
-use Rattle.sg_target.proofs.InTurnLemmas.{same}
+use Rattle.sg_target.proofs.InTurnLemmas.{changed-append, same}
 
 -- ranges that are anchored in turn
 abbrev pub anchored_over : Contents → List AddressRange → Contents
@@ -24,7 +24,7 @@ anchored_over m [] = m
 anchored_over m (r ∷ rs) = anchored_over (anchored m r.lba r.count) rs
 
 pub over-extents : (m : Contents) (extents : List Extent)
-    → anchored_over m (map range_of extents) ≡ anchored_in_turn m extents
+    → anchored_over m (map range_of extents) ≡ changed_in_turn anchored m extents
 over-extents m [] = refl
 over-extents m (e ∷ es) = over-extents (anchored m e.lba e.count) es
 
@@ -82,9 +82,9 @@ pub used-after : RemappingTakesWhatIsNeeded
     → (m : Contents) (extents : List Extent) (joined : List AddressRange)
     → AreJoined (map range_of extents) joined
     → (used needed : ℕ) → used ≡ map.len m → needed ≡ need_of m joined
-    → map.len (anchored_in_turn m extents) ≡ used + needed
+    → map.len (changed_in_turn anchored m extents) ≡ used + needed
 used-after law m extents joined h used needed u n =
-    let all : map.len (anchored_in_turn m extents) ≡ map.len m + need_of m joined =
+    let all : map.len (changed_in_turn anchored m extents) ≡ map.len m + need_of m joined =
     ap map.len (sym (over-extents m extents) ∙ over-same law m (map range_of extents) joined
     (λ q. sym (h.same q)))
     ∙ len-over law m joined h.disjoint in
@@ -92,30 +92,19 @@ used-after law m extents joined h used needed u n =
 
 -- ---- the extents in turn
 
-pub in_turn-more : (m : Contents) (extents : List Extent) (last : Extent)
-    → anchored_in_turn m (extents ++ last ∷ [])
-    ≡ anchored (anchored_in_turn m extents) last.lba last.count
-in_turn-more m [] last = refl
-in_turn-more m (e ∷ es) last = in_turn-more (anchored m e.lba e.count) es last
-
 len-grows : RemappingTakesWhatIsNeeded → (m : Contents) (extents : List Extent)
-    → map.len m ≤ map.len (anchored_in_turn m extents)
+    → map.len m ≤ map.len (changed_in_turn anchored m extents)
 len-grows law m [] = omega arith
 len-grows law m (e ∷ es) =
     let rest = len-grows law (anchored m e.lba e.count) es in
     let one = law.taken m e.lba e.count (λ index. Anchored) in
     omega arith
 
-in_turn-append : (m : Contents) (xs ys : List Extent)
-    → anchored_in_turn m (xs ++ ys) ≡ anchored_in_turn (anchored_in_turn m xs) ys
-in_turn-append m [] ys = refl
-in_turn-append m (x ∷ xs) ys = in_turn-append (anchored m x.lba x.count) xs ys
-
 -- as far as an extent there is room where there is room for all
 pub room-first : RemappingTakesWhatIsNeeded → (m : Contents) (xs ys : List Extent)
-    → map.len (anchored_in_turn m xs) ≤ map.len (anchored_in_turn m (xs ++ ys))
-room-first law m xs ys = let more = len-grows law (anchored_in_turn m xs) ys in
-    let e = ap map.len (in_turn-append m xs ys) in omega arith
+    → map.len (changed_in_turn anchored m xs) ≤ map.len (changed_in_turn anchored m (xs ++ ys))
+room-first law m xs ys = let more = len-grows law (changed_in_turn anchored m xs) ys in
+    let e = ap map.len (changed-append anchored m xs ys) in omega arith
 
 pub ranges-within : (capacity : ℕ) (extents : List Extent) → AreOnDisk capacity extents
     → AreWithin capacity (map range_of extents)

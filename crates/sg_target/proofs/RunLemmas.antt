@@ -2,10 +2,14 @@
 use Rattle.std.proofs.Common.{◌≡◌, ◌<◌, ◌+◌, ℕ, zero, suc, List, [], ◌∷◌, ◌++◌, length, map, take}
 use Rattle.std.proofs.Common.{drop, get_or, refl, sym}
 use Rattle.std.proofs.Common.{ap, subst, ◌∙◌, append_assoc, Result, Ok, Err}
-use Rattle.std.specs.Prelude.{OnErr}
+use Rattle.std.specs.FinMap.{len}
+use Rattle.std.specs.Prelude.{◌≤◌, OnErr}
 use Rattle.std.proofs.Math.Seq.{take-append_seam}
 use Rattle.std.proofs.lemmas.List.{map-append, map_more}
+use Rattle.sg_store.specs.Disk.{IsWellFormed}
 use Rattle.sg_store.specs.Meter.{Meter}
+use Rattle.sg_units.specs.Attentions.{ArePending}
+use Rattle.sg_units.specs.Reservations.{IsConsistent}
 use Rattle.sg_target.specs.PowerCycle.{after_power_cycle}
 use Rattle.sg_target.specs.Ranges.{CostBounds, IsCharged}
 use Rattle.sg_target.specs.Reply.{Carries}
@@ -14,6 +18,7 @@ use Rattle.sg_target.specs.Runs.{answers_to_events, Exchange}
 use Rattle.sg_target.specs.Runs.{exchange, answer_in, AreCharged, HaveSizes, Exchanged}
 use Rattle.sg_target.specs.State.{State, IsWithinLimits}
 use Rattle.sg_target.specs.Step.{Answer}
+use Rattle.sg_target.specs.Target.{TargetFields}
 use Rattle.sg_target.specs.declared.call.Call.{Call}
 use Rattle.sg_target.specs.declared.event.Event.{Event}
 use Rattle.sg_target.specs.declared.event.Event.TheVariants as event
@@ -129,6 +134,19 @@ module _ (bounds : CostBounds) where
 pub on-err : {T E : Type 0} (r : Result T E) (P : Type 0) → P → OnErr r P
 on-err (Ok x) P p = tt
 on-err (Err e) P p = p
+
+-- a target is within the limits by its type's invariant and the store's contract
+pub within-seen : (inside seen : TargetFields) → inside ≡ seen
+    → len inside.state.disk.contents ≤ inside.state.disk.pool → ArePending inside.state.attentions
+    → IsConsistent inside.state.reservations
+    → IsWellFormed inside.state.disk.capacity inside.state.disk.contents → IsWithinLimits seen.state
+within-seen inside seen is used pending registered blocks =
+    subst (λ (t : TargetFields). IsWithinLimits t.state) is (record {
+      used = used;
+      pending = pending;
+      registered = registered;
+      blocks = blocks;
+    })
 
 -- no table passes its limit on the way
 pub all-within : LimitsAreKept → (state : State) (events : List Event) (n : ℕ) → IsWithinLimits state

@@ -1,12 +1,12 @@
 -- A command is refused or executed.
 use Rattle.std.proofs.Common.{◌≡◌, ℕ, List, [], ◌∷◌, Option, Some, None, Result}
-use Rattle.std.proofs.Common.{refl, ap}
+use Rattle.std.proofs.Common.{refl, ap, sym, subst, ◌∙◌}
 use Rattle.sg_target.specs.Checks.{checked_cdb}
 use Rattle.sg_target.specs.Ranges.{ranges, ranges_in}
 use Rattle.sg_target.specs.Refusal.{checked_next, first_some}
 use Rattle.sg_target.specs.Semantics.{effect_of}
-use Rattle.sg_target.specs.State.{State}
-use Rattle.sg_target.specs.Step.{outcome, step}
+use Rattle.sg_target.specs.State.{IsWithinLimits, State}
+use Rattle.sg_target.specs.Step.{Step, outcome, step}
 use Rattle.sg_target.specs.declared.operation.Operation.{Operation}
 use Rattle.sg_target.specs.declared.refusal.Refusal.{Refusal}
 
@@ -29,5 +29,13 @@ module _ (state : State) (i : ℕ) (cdb data_out : List ℕ) where
       → ranges state i cdb data_out ≡ ranges_in (checked_next checked (effect_of state i))
   ranges-checked checked e =
       ap (λ (r : Result Operation Refusal). ranges_in (checked_next r (effect_of state i))) e
+
+  -- so what holds of it holds of the outcome
+  pub within-checked : (checked : Result Operation Refusal) (after : State)
+      → checked_cdb state i cdb data_out ≡ checked
+      → after ≡ (outcome state i (checked_next checked (effect_of state i))).state
+      → IsWithinLimits (step state i cdb data_out).state → IsWithinLimits after
+  within-checked checked after e is within =
+      subst IsWithinLimits (ap (λ (s : Step). s.state) (step-checked checked e) ∙ sym is) within
 
 pub ruleset decided = (step-checked, ranges-checked)

@@ -16,10 +16,11 @@ pub mod Status
 pub mod Step
 pub mod Reply
 pub mod Ranges
+pub mod Target
+pub mod Execution
 pub mod PowerCycle
 pub mod Runs
 pub mod Laws
-pub mod Target
 -- What private contracts cite alone.
 pub mod DataIn
 pub mod Extents

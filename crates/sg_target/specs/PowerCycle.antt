@@ -1,8 +1,10 @@
 -- What a power cycle leaves of a disk.
+use Rattle.std.specs.Prelude.{◌≡◌}
 use Rattle.sg_pages.specs.ModePage.{after_power_on as pages_after_power_on}
 use Rattle.sg_units.specs.Attentions.{power_on_pending}
 use Rattle.sg_units.specs.PowerOn.{after_power_on as reservations_after_power_on}
-use Rattle.sg_target.specs.State.{State}
+use Rattle.sg_target.specs.State.{IsWithinLimits, State}
+use Rattle.sg_target.specs.Target.{TargetFields}
 
 -- The blocks are as they were. The saved mode pages are the current ones (SPC-4, 7.5). Registrations
 -- and reservation are as they were where they persist, and gone where not (SPC-4, 5.13). Each
@@ -14,3 +16,10 @@ after_power_cycle state =
       attentions = power_on_pending;
       reservations = reservations_after_power_on state.reservations;
     }
+
+-- A target loses power and has it again. What its store has counted stays.
+pub record CyclesPower (old new : TargetFields) : Type 0 where
+  pub state : new.state ≡ after_power_cycle old.state
+  pub meter : new.meter ≡ old.meter
+  -- no table passes its limit
+  pub limits : IsWithinLimits new.state

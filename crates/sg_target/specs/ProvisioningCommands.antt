@@ -18,49 +18,44 @@ use Rattle.sg_target.specs.declared.refusal.Reason.TheVariants.{InvalidFieldInPa
 use Rattle.sg_target.specs.declared.refusal.Refusal.{Refusal}
 use Rattle.sg_target.specs.declared.refusal.Refusal.TheVariants.{CheckCondition}
 
--- ---- Unmapping
+-- ---- Lists of extents
 
--- The contents after extents were unmapped in turn.
-abbrev pub unmapped_in_turn : Contents → List Extent → Contents
-unmapped_in_turn contents [] = contents
-unmapped_in_turn contents (extent ∷ rest) =
-    unmapped_in_turn (unmapped contents extent.lba extent.count) rest
+-- What becomes of the contents as a range of addresses is changed.
+abbrev pub Change : Type 0
+Change = Contents → (lba count : ℕ) → Contents
+
+-- The contents after extents were changed in turn.
+abbrev pub changed_in_turn : Change → Contents → List Extent → Contents
+changed_in_turn change contents [] = contents
+changed_in_turn change contents (extent ∷ rest) =
+    changed_in_turn change (change contents extent.lba extent.count) rest
 
 -- The ranges of that: each meets the mapped blocks that those before it have left.
-abbrev pub ranges_in_turn : Contents → List Extent → List Range
-ranges_in_turn contents [] = []
-ranges_in_turn contents (extent ∷ rest) =
-    range contents extent ∷ ranges_in_turn (unmapped contents extent.lba extent.count) rest
+abbrev pub ranges_in_turn : Change → Contents → List Extent → List Range
+ranges_in_turn change contents [] = []
+ranges_in_turn change contents (extent ∷ rest) =
+    range contents extent ∷ ranges_in_turn change (change contents extent.lba extent.count) rest
+
+-- ---- Unmapping
 
 abbrev pub unmapping : State → List Extent → Effect
 unmapping state extents = let contents = state.disk.contents in record (no_effect state) {
-  ranges = ranges_in_turn contents extents;
-  after = with_contents state (unmapped_in_turn contents extents);
+  ranges = ranges_in_turn unmapped contents extents;
+  after = with_contents state (changed_in_turn unmapped contents extents);
 }
 
 -- ---- Anchoring
-
--- The contents after extents were anchored in turn.
-abbrev pub anchored_in_turn : Contents → List Extent → Contents
-anchored_in_turn contents [] = contents
-anchored_in_turn contents (extent ∷ rest) =
-    anchored_in_turn (anchored contents extent.lba extent.count) rest
-
-abbrev pub anchoring_in_turn : Contents → List Extent → List Range
-anchoring_in_turn contents [] = []
-anchoring_in_turn contents (extent ∷ rest) =
-    range contents extent ∷ anchoring_in_turn (anchored contents extent.lba extent.count) rest
 
 -- Each extent is gone over twice: all of them once, as the blocks that they need are counted before
 -- anything changes, and then all again.
 abbrev pub anchoring_ranges : Contents → List Extent → List Range
 anchoring_ranges contents extents =
-    map (counted_range contents) extents ++ anchoring_in_turn contents extents
+    map (counted_range contents) extents ++ ranges_in_turn anchored contents extents
 
 abbrev pub anchoring : State → List Extent → Effect
 anchoring state extents = let contents = state.disk.contents in record (no_effect state) {
   ranges = anchoring_ranges contents extents;
-  after = with_contents state (anchored_in_turn contents extents);
+  after = with_contents state (changed_in_turn anchored contents extents);
 }
 
 -- ---- The parameter list of UNMAP

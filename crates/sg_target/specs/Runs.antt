@@ -1,11 +1,13 @@
 -- What a list of events does: one after another.
 use Rattle.std.specs.Prelude.{◌≡◌, ◌<◌, ℕ, ◌+◌, List, [], ◌∷◌, ◌++◌, length, map, take}
+use Rattle.std.specs.Prelude.{Result, OnOk, OnErr}
 use Rattle.sg_store.specs.Meter.{Meter}
 use Rattle.sg_target.specs.Effect.{Range}
 use Rattle.sg_target.specs.PowerCycle.{after_power_cycle}
 use Rattle.sg_target.specs.Ranges.{CostBounds, IsCharged, ranges}
-use Rattle.sg_target.specs.State.{State}
+use Rattle.sg_target.specs.State.{IsWithinLimits, State}
 use Rattle.sg_target.specs.Step.{Answer, Step, step}
+use Rattle.sg_target.specs.Target.{TargetFields}
 use Rattle.sg_target.specs.declared.call.Call.{Call}
 use Rattle.sg_target.specs.declared.event.Event.{Event}
 use Rattle.sg_target.specs.declared.event.Event.TheVariants as event
@@ -104,3 +106,24 @@ pub record Stopped (bounds : CostBounds) (state : State) (events : List Event)
   pub with_refused : Exchanged bounds state (take (index + 1) events)
       before (after ++ refused ∷ []) meter meter'
   pub state_is : state' ≡ state_after_events state (take (index + 1) events)
+
+-- ---- Runs
+
+-- A target lets events happen in turn, and delivers the replies to a sink, which has taken and
+-- refused some before and afterwards.
+pub record RunsEvents {T E : Type 0} (bounds : CostBounds) (events : List Event)
+    (old new : TargetFields) (taken taken' : List Exchange) (refused refused' : ℕ)
+    (result : Result T E) : Type 0 where
+  -- Where none is refused, the sink has taken the replies to all commands, each charged to the store,
+  pub took : OnOk result (Exchanged bounds old.state events taken taken' old.meter new.meter)
+  -- the state is the one after the events,
+  pub state : OnOk result (new.state ≡ state_after_events old.state events)
+  -- and no refusal is counted.
+  pub sound : OnOk result (refused' ≡ refused)
+  -- Where one is refused, the events up to that one have happened, and none after it,
+  pub stopped : OnErr result
+      (Stopped bounds old.state events taken taken' old.meter new.meter new.state)
+  -- and one refusal is counted.
+  pub fault : OnErr result (refused' ≡ refused + 1)
+  -- No table passes its limit on the way.
+  pub limits : (n : ℕ) → IsWithinLimits (state_after_events old.state (take n events))

@@ -11,7 +11,7 @@ ghost use Rattle.sg_target.specs.Anchoring.{disk_anchored_in_turn, need_of, visi
 ghost use Rattle.sg_target.specs.Effect.{Range};
 ghost use Rattle.sg_target.specs.Extents.{AreOnDisk};
 ghost use Rattle.sg_target.specs.Joining.{AreWithin};
-ghost use Rattle.sg_target.specs.ProvisioningCommands.{anchored_in_turn, anchoring_in_turn};
+ghost use Rattle.sg_target.specs.ProvisioningCommands.{changed_in_turn, ranges_in_turn};
 ghost use Rattle.sg_target.specs.ProvisioningCommands.{anchoring_ranges};
 ghost use Rattle.sg_target.specs.Ranges.{IsCounted, cost_bounds};
 
@@ -67,7 +67,7 @@ fn anchor_in_turn<S: Store>(store: &mut S, extents: &[Extent])
     requires at_most { length extents.now ≤ maximum_unmap_descriptors }
     requires on_disk { AreOnDisk (S.disk store.old).capacity extents.now }
     requires size { HasAllowedSize (S.disk store.old) }
-    requires room { len (anchored_in_turn (S.disk store.old).contents extents.now)
+    requires room { len (changed_in_turn anchored (S.disk store.old).contents extents.now)
         ≤ (S.disk store.old).pool }
     requires counts { AreOfOneList (S.meter store.old).counts }
 
@@ -79,7 +79,7 @@ fn anchor_in_turn<S: Store>(store: &mut S, extents: &[Extent])
         → IsCounted (cost_bounds S.price S.least) (S.disk store.old).pool over before
         (S.meter store.old)
         → IsCounted (cost_bounds S.price S.least) (S.disk store.old).pool
-        (over ++ anchoring_in_turn (S.disk store.old).contents extents.now) before
+        (over ++ ranges_in_turn anchored (S.disk store.old).contents extents.now) before
         (S.meter store.new) }
 {
     remapping_takes_what_is_needed();

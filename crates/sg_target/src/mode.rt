@@ -3,10 +3,10 @@ ghost use Rattle.std.specs.Prelude.{◌≡◌, ◌≤◌, ◌<◌, ◌^◌, leng
 ghost use Rattle.sg_target.specs.Checks.{requested};
 ghost use Rattle.sg_target.specs.Demands.{mode_select, mode_select_6, mode_select_10};
 ghost use Rattle.sg_target.specs.Demands.{mode_sense_6, mode_sense_10};
+ghost use Rattle.sg_target.specs.Execution.{TakesStep};
 ghost use Rattle.sg_target.specs.ModeCommands.{attentions_after, page_control_of};
 ghost use Rattle.sg_target.specs.ModeCommands.{select_refusal, sense_refusal};
-ghost use Rattle.sg_target.specs.Ranges.{IsCharged, cost_bounds, ranges_in};
-ghost use Rattle.sg_target.specs.Reply.{Carries};
+ghost use Rattle.sg_target.specs.Ranges.{cost_bounds, ranges_in};
 ghost use Rattle.sg_target.specs.Semantics.{effect_of};
 ghost use Rattle.sg_target.specs.State.{IsWithinLimits};
 ghost use Rattle.sg_target.specs.Step.{step_by};
@@ -123,15 +123,10 @@ impl<S: Store> Target<S> {
     ) -> Reply
         requires limits { IsWithinLimits self.old.state }
         requires room { BUFFER_LENGTH ≤ length buf.old }
-        ensures reply { let done = step_by self.old.state initiator
-            (Operation.ReturnModes requested.now allocation_length) in
-            Carries done.answer result buf.old buf.new }
-        ensures state { self.new.state ≡ (step_by self.old.state initiator
-            (Operation.ReturnModes requested.now allocation_length)).state }
-        ensures charge { IsCharged (cost_bounds S.price S.least) self.old.state.disk.pool
-            (ranges_in (effect_of self.old.state initiator
-            (Operation.ReturnModes requested.now allocation_length)))
-            self.old.meter self.new.meter result }
+        ensures { let operation = Operation.ReturnModes requested.now allocation_length in
+            TakesStep (cost_bounds S.price S.least) (step_by self.old.state initiator operation)
+            (ranges_in (effect_of self.old.state initiator operation))
+            self.old self.new result buf.old buf.new }
     {
         answers_are_in_their_buffers();
         parts_are_put_in_turn();
@@ -219,14 +214,10 @@ impl<S: Store> Target<S> {
         buf: &[u8],
     ) -> Reply
         requires limits { IsWithinLimits self.old.state }
-        ensures reply { let done = step_by self.old.state initiator
-            (Operation.ChangeModes ten sp list.now) in
-            Carries done.answer result buf.now buf.now }
-        ensures state { self.new.state ≡ (step_by self.old.state initiator
-            (Operation.ChangeModes ten sp list.now)).state }
-        ensures charge { IsCharged (cost_bounds S.price S.least) self.old.state.disk.pool
-            (ranges_in (effect_of self.old.state initiator (Operation.ChangeModes ten sp list.now)))
-            self.old.meter self.new.meter result }
+        ensures { let operation = Operation.ChangeModes ten sp list.now in
+            TakesStep (cost_bounds S.price S.least) (step_by self.old.state initiator operation)
+            (ranges_in (effect_of self.old.state initiator operation))
+            self.old self.new result buf.now buf.now }
     {
         let reason = match self.modes.select(list.bytes, ten, sp, self.config.blocks()) {
             Ok(Changed(changed)) => {

@@ -2,9 +2,9 @@
 ghost use Rattle.std.specs.Prelude.{◌≡◌, ◌≤◌, ◌∷◌, [], length, IfNone};
 ghost use Rattle.sg_target.specs.Checks.{out_of_range, requested};
 ghost use Rattle.sg_target.specs.Demands.{demands};
+ghost use Rattle.sg_target.specs.Execution.{TakesStep};
 ghost use Rattle.sg_target.specs.Extents.{AreOnDisk};
-ghost use Rattle.sg_target.specs.Ranges.{IsCharged, cost_bounds, ranges_in};
-ghost use Rattle.sg_target.specs.Reply.{Carries};
+ghost use Rattle.sg_target.specs.Ranges.{cost_bounds, ranges_in};
 ghost use Rattle.sg_target.specs.Semantics.{effect_of, medium_use};
 ghost use Rattle.sg_target.specs.State.{IsWithinLimits};
 ghost use Rattle.sg_target.specs.Step.{step_by};
@@ -213,12 +213,10 @@ impl<S: Store> Target<S> {
         requires on_disk { AreOnDisk self.old.state.disk.capacity (medium_use operation).extents }
         requires limits { IsWithinLimits self.old.state }
         requires room { BUFFER_LENGTH ≤ length buf.old }
-        ensures reply { let done = step_by self.old.state initiator operation.entry in
-            Carries done.answer result buf.old buf.new }
-        ensures state { self.new.state ≡ (step_by self.old.state initiator operation.entry).state }
-        ensures charge { IsCharged (cost_bounds S.price S.least) self.old.state.disk.pool
+        ensures { TakesStep (cost_bounds S.price S.least)
+            (step_by self.old.state initiator operation.entry)
             (ranges_in (effect_of self.old.state initiator operation.entry))
-            self.old.meter self.new.meter result }
+            self.old self.new result buf.old buf.new }
     {
         match operation {
             Operation::Nothing | Operation::Synchronize(_) => Reply::without_blocks(0),

@@ -1,23 +1,23 @@
 // UNMAP, WRITE SAME and GET LBA STATUS: logical block provisioning (SBC-3, 4.7 and 5).
-ghost use Rattle.std.specs.Prelude.{◌≡◌, ◌+◌, ◌≤◌, ◌∷◌, [], length};
+ghost use Rattle.std.specs.Prelude.{◌≡◌, ◌+◌, ◌≤◌, length};
 ghost use Rattle.std.specs.Prelude.{Some, None, IfOk, IfErr, IfNone};
 ghost use Rattle.std.specs.FinMap.{len};
 ghost use Rattle.sg_wire.specs.UnmapList.{maximum_unmap_descriptors};
+ghost use Rattle.sg_store.specs.Disk.{unmapped};
 ghost use Rattle.sg_store.specs.Meter.{no_counts};
 ghost use Rattle.sg_target.specs.Anchoring.{HasAllowedSize};
 ghost use Rattle.sg_target.specs.Checks.{out_of_range, requested, unsupported_value};
 ghost use Rattle.sg_target.specs.Demands.{bad_count, unmap as demands_of_unmap, write_same};
 ghost use Rattle.sg_target.specs.Demands.{write_same_10, write_same_16};
-ghost use Rattle.sg_target.specs.Effect.{range};
+ghost use Rattle.sg_target.specs.Execution.{TakesStep};
 ghost use Rattle.sg_target.specs.Extents.{AreOnDisk};
-ghost use Rattle.sg_target.specs.ProvisioningCommands.{anchoring, filling};
+ghost use Rattle.sg_target.specs.ProvisioningCommands.{anchoring, changed_in_turn, filling};
 ghost use Rattle.sg_target.specs.ProvisioningCommands.{ranges_in_turn, reporting_status};
-ghost use Rattle.sg_target.specs.ProvisioningCommands.{unmap_list_refusal, unmapped_in_turn};
+ghost use Rattle.sg_target.specs.ProvisioningCommands.{unmap_list_refusal};
 ghost use Rattle.sg_target.specs.ProvisioningCommands.{unmapping, unmaps};
-ghost use Rattle.sg_target.specs.Ranges.{IsCharged, IsCounted, cost_bounds};
-ghost use Rattle.sg_target.specs.Reply.{Carries};
+ghost use Rattle.sg_target.specs.Ranges.{IsCounted, cost_bounds};
 ghost use Rattle.sg_target.specs.State.{IsWithinLimits};
-ghost use Rattle.sg_target.specs.Step.{executed, executed_or_refused, good};
+ghost use Rattle.sg_target.specs.Step.{executed, executed_or_refused};
 
 use crate::anchoring::anchor_extents;
 use crate::data_out::needed_data_out;
@@ -86,11 +86,10 @@ impl<S: Store> Target<S> {
     pub(crate) fn unmap_listed(&mut self, listed: &ListedExtents<'_>, buf: &[u8]) -> Reply
         requires on_disk { AreOnDisk self.old.state.disk.capacity listed.now }
         requires limits { IsWithinLimits self.old.state }
-        ensures reply { Carries (good []) result buf.now buf.now }
-        ensures state { self.new.state ≡ (unmapping self.old.state listed.now).after }
+        ensures done { let effect = unmapping self.old.state listed.now in
+            TakesStep (cost_bounds S.price S.least) (executed effect) effect.ranges
+            self.old self.new result buf.now buf.now }
         ensures mapped { len self.new.state.disk.contents ≤ self.new.state.disk.pool }
-        ensures charge { IsCharged (cost_bounds S.price S.least) self.old.state.disk.pool
-            (unmapping self.old.state listed.now).ranges self.old.meter self.new.meter result }
     {
         let extents = listed.to_list();
         self.unmap(extents.as_slice(), buf)
@@ -101,11 +100,10 @@ impl<S: Store> Target<S> {
         requires on_disk { AreOnDisk self.old.state.disk.capacity extents.now }
         requires at_most { length extents.now ≤ maximum_unmap_descriptors }
         requires limits { IsWithinLimits self.old.state }
-        ensures reply { Carries (good []) result buf.now buf.now }
-        ensures state { self.new.state ≡ (unmapping self.old.state extents.now).after }
+        ensures done { let effect = unmapping self.old.state extents.now in
+            TakesStep (cost_bounds S.price S.least) (executed effect) effect.ranges
+            self.old self.new result buf.now buf.now }
         ensures mapped { len self.new.state.disk.contents ≤ self.new.state.disk.pool }
-        ensures charge { IsCharged (cost_bounds S.price S.least) self.old.state.disk.pool
-            (unmapping self.old.state extents.now).ranges self.old.meter self.new.meter result }
     {
         if extents.is_empty() {
             return Reply::without_blocks(0);
@@ -125,9 +123,9 @@ fn unmap_in_turn<S: Store>(store: &mut S, extents: &[Extent])
     requires size { HasAllowedSize (S.disk store.old) }
     requires nothing_counted { (S.meter store.old).counts ≡ no_counts }
     ensures disk { S.disk store.new ≡ record (S.disk store.old)
-        { contents = unmapped_in_turn (S.disk store.old).contents extents.now } }
+        { contents = changed_in_turn unmapped (S.disk store.old).contents extents.now } }
     ensures counted { IsCounted (cost_bounds S.price S.least) (S.disk store.old).pool
-        (ranges_in_turn (S.disk store.old).contents extents.now)
+        (ranges_in_turn unmapped (S.disk store.old).contents extents.now)
         (S.meter store.old) (S.meter store.new) }
 {
     for extent in extents {
@@ -149,13 +147,10 @@ impl<S: Store> Target<S> {
     ) -> Reply
         requires on_disk { AreOnDisk self.old.state.disk.capacity listed.now }
         requires limits { IsWithinLimits self.old.state }
-        ensures reply { let done = executed_or_refused self.old.state initiator
-            (anchoring self.old.state listed.now) in
-            Carries done.answer result buf.now buf.now }
-        ensures state { self.new.state ≡ (executed_or_refused self.old.state initiator
-            (anchoring self.old.state listed.now)).state }
-        ensures charge { IsCharged (cost_bounds S.price S.least) self.old.state.disk.pool
-            (anchoring self.old.state listed.now).ranges self.old.meter self.new.meter result }
+        ensures { let effect = anchoring self.old.state listed.now in
+            TakesStep (cost_bounds S.price S.least)
+            (executed_or_refused self.old.state initiator effect) effect.ranges
+            self.old self.new result buf.now buf.now }
     {
         let extents = listed.to_list();
         self.anchor(initiator, extents.as_slice(), buf)
@@ -167,13 +162,10 @@ impl<S: Store> Target<S> {
         requires on_disk { AreOnDisk self.old.state.disk.capacity extents.now }
         requires at_most { length extents.now ≤ maximum_unmap_descriptors }
         requires limits { IsWithinLimits self.old.state }
-        ensures reply { let done = executed_or_refused self.old.state initiator
-            (anchoring self.old.state extents.now) in
-            Carries done.answer result buf.now buf.now }
-        ensures state { self.new.state ≡ (executed_or_refused self.old.state initiator
-            (anchoring self.old.state extents.now)).state }
-        ensures charge { IsCharged (cost_bounds S.price S.least) self.old.state.disk.pool
-            (anchoring self.old.state extents.now).ranges self.old.meter self.new.meter result }
+        ensures { let effect = anchoring self.old.state extents.now in
+            TakesStep (cost_bounds S.price S.least)
+            (executed_or_refused self.old.state initiator effect) effect.ranges
+            self.old self.new result buf.now buf.now }
     {
         if extents.is_empty() {
             return Reply::without_blocks(0);
@@ -304,13 +296,10 @@ impl<S: Store> Target<S> {
         buf: &[u8],
     ) -> Reply
         requires on_disk { extent.lba + extent.count ≤ self.old.state.disk.capacity }
-        ensures reply { let done = executed_or_refused self.old.state initiator
-            (filling self.old.state extent block.now) in
-            Carries done.answer result buf.now buf.now }
-        ensures state { self.new.state ≡ (executed_or_refused self.old.state initiator
-            (filling self.old.state extent block.now)).state }
-        ensures charge { IsCharged (cost_bounds S.price S.least) self.old.state.disk.pool
-            (range self.old.state.disk.contents extent ∷ []) self.old.meter self.new.meter result }
+        ensures { let effect = filling self.old.state extent block.now in
+            TakesStep (cost_bounds S.price S.least)
+            (executed_or_refused self.old.state initiator effect) effect.ranges
+            self.old self.new result buf.now buf.now }
     {
         let mut bytes = [0; BLOCK_LENGTH];
         bytes.copy_from_slice(block.bytes);
@@ -332,12 +321,9 @@ impl<S: Store> Target<S> {
     ) -> Reply
         requires on_disk { start + 1 ≤ self.old.state.disk.capacity }
         requires room { BUFFER_LENGTH ≤ length buf.old }
-        ensures reply { let done = executed (reporting_status self.old.state start allocation_length) in
-            Carries done.answer result buf.old buf.new }
-        ensures state { self.new.state ≡ self.old.state }
-        ensures charge { IsCharged (cost_bounds S.price S.least) self.old.state.disk.pool
-            (reporting_status self.old.state start allocation_length).ranges
-            self.old.meter self.new.meter result }
+        ensures { let effect = reporting_status self.old.state start allocation_length in
+            TakesStep (cost_bounds S.price S.least) (executed effect) effect.ranges
+            self.old self.new result buf.old buf.new }
     {
         let limit = BUFFER_LENGTH.min(allocation_length as usize);
         self.store.restart_counts();

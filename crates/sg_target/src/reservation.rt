@@ -4,8 +4,9 @@ ghost use Rattle.sg_wire.specs.Cut.{Puts};
 ghost use Rattle.sg_wire.specs.CutAnswer.{first_bytes};
 ghost use Rattle.sg_target.specs.Checks.{requested};
 ghost use Rattle.sg_target.specs.Demands.{reserve_out};
-ghost use Rattle.sg_target.specs.Ranges.{IsCharged, cost_bounds, ranges_in};
-ghost use Rattle.sg_target.specs.Reply.{Carries, ReturnsData};
+ghost use Rattle.sg_target.specs.Execution.{TakesStep};
+ghost use Rattle.sg_target.specs.Ranges.{cost_bounds, ranges_in};
+ghost use Rattle.sg_target.specs.Reply.{ReturnsData};
 ghost use Rattle.sg_target.specs.ReservationCommands.{always_needs_type, out_refusal};
 ghost use Rattle.sg_target.specs.ReservationCommands.{reserve_in_data};
 ghost use Rattle.sg_target.specs.Semantics.{effect_of};
@@ -139,15 +140,10 @@ impl<S: Store> Target<S> {
         buf: &[u8],
     ) -> Reply
         requires limits { IsWithinLimits self.old.state }
-        ensures reply { let done = step_by self.old.state initiator
-            (Operation.ChangeReservations action scope_type list.now) in
-            Carries done.answer result buf.now buf.now }
-        ensures state { self.new.state ≡ (step_by self.old.state initiator
-            (Operation.ChangeReservations action scope_type list.now)).state }
-        ensures charge { IsCharged (cost_bounds S.price S.least) self.old.state.disk.pool
-            (ranges_in (effect_of self.old.state initiator
-            (Operation.ChangeReservations action scope_type list.now)))
-            self.old.meter self.new.meter result }
+        ensures { let operation = Operation.ChangeReservations action scope_type list.now in
+            TakesStep (cost_bounds S.price S.least) (step_by self.old.state initiator operation)
+            (ranges_in (effect_of self.old.state initiator operation))
+            self.old self.new result buf.now buf.now }
     {
         match self.reservations.out(initiator, action, scope_type, list) {
             Ok(raised) => {

@@ -1,11 +1,9 @@
 // Executes lists of commands, with power cycles among them.
-ghost use Rattle.std.specs.Prelude.{◌≡◌, ℕ, ◌+◌, ◌≤◌, List, [], ◌∷◌, ◌++◌, length, map, take};
+ghost use Rattle.std.specs.Prelude.{◌≡◌, ℕ, ◌+◌, ◌≤◌, List, [], ◌∷◌, ◌++◌, length, map};
 ghost use Rattle.std.specs.Prelude.{OnOk, OnErr};
 ghost use Rattle.sg_target.specs.BlockCommands.{longest_data_in};
 ghost use Rattle.sg_target.specs.Ranges.{cost_bounds};
-ghost use Rattle.sg_target.specs.Runs.{Exchange, Exchanged, Stopped, all_calls, exchange};
-ghost use Rattle.sg_target.specs.Runs.{state_after_all, state_after_events};
-ghost use Rattle.sg_target.specs.State.{IsWithinLimits};
+ghost use Rattle.sg_target.specs.Runs.{Exchange, RunsEvents, all_calls, exchange};
 
 use crate::call::Call;
 use crate::event::{Event, ToEvent};
@@ -52,21 +50,10 @@ impl<S: Store> Target<S> {
         requires { longest_data_in ≤ length buf.old }
 
         // The sink has taken the replies to all calls, each charged to the store, and the state is
-        // the one after them.
-        ensures took { OnOk result (Exchanged (cost_bounds S.price S.least) self.old.state
-            (all_calls calls.now) (K.taken sink.old) (K.taken sink.new) self.old.meter self.new.meter) }
-        ensures state { OnOk result (self.new.state ≡ state_after_all self.old.state calls.now) }
-        ensures sound { OnOk result (K.faults sink.new ≡ K.faults sink.old) }
-
-        // Or it has refused one.
-        ensures stopped { OnErr result (Stopped (cost_bounds S.price S.least) self.old.state
-            (all_calls calls.now) (K.taken sink.old) (K.taken sink.new) self.old.meter self.new.meter
-            self.new.state) }
-        ensures fault { OnErr result (K.faults sink.new ≡ K.faults sink.old + 1) }
-
-        // No table passes its limit on the way.
-        ensures limits { (n : ℕ) →
-            IsWithinLimits (state_after_events self.old.state (take n (all_calls calls.now))) }
+        // the one after them. Or it has refused one. No table passes its limit on the way.
+        ensures { RunsEvents (cost_bounds S.price S.least) (all_calls calls.now)
+            self.old self.new (K.taken sink.old) (K.taken sink.new)
+            (K.faults sink.old) (K.faults sink.new) result }
     {
         self.run_list(calls, buf, sink)
     }
@@ -83,24 +70,9 @@ impl<S: Store> Target<S> {
         sink: &mut K,
     ) -> Result<(), K::Fault>
         requires { longest_data_in ≤ length buf.old }
-
-        // The sink has taken the replies to all commands, each charged to the store, and the state
-        // is the one after the events.
-        ensures took { OnOk result (Exchanged (cost_bounds S.price S.least) self.old.state
-            events.now (K.taken sink.old) (K.taken sink.new) self.old.meter self.new.meter) }
-        ensures state { OnOk result
-            (self.new.state ≡ state_after_events self.old.state events.now) }
-        ensures sound { OnOk result (K.faults sink.new ≡ K.faults sink.old) }
-
-        // Or it has refused one.
-        ensures stopped { OnErr result (Stopped (cost_bounds S.price S.least) self.old.state
-            events.now (K.taken sink.old) (K.taken sink.new) self.old.meter self.new.meter
-            self.new.state) }
-        ensures fault { OnErr result (K.faults sink.new ≡ K.faults sink.old + 1) }
-
-        // No table passes its limit on the way.
-        ensures limits { (n : ℕ) →
-            IsWithinLimits (state_after_events self.old.state (take n events.now)) }
+        ensures { RunsEvents (cost_bounds S.price S.least) events.now
+            self.old self.new (K.taken sink.old) (K.taken sink.new)
+            (K.faults sink.old) (K.faults sink.new) result }
     {
         self.run_list(events, buf, sink)
     }
@@ -113,17 +85,9 @@ impl<S: Store> Target<S> {
         sink: &mut K,
     ) -> Result<(), K::Fault>
         requires { longest_data_in ≤ length buf.old }
-        ensures took { OnOk result (Exchanged (cost_bounds S.price S.least) self.old.state
-            (map E.event list.now) (K.taken sink.old) (K.taken sink.new) self.old.meter self.new.meter) }
-        ensures state { OnOk result
-            (self.new.state ≡ state_after_events self.old.state (map E.event list.now)) }
-        ensures sound { OnOk result (K.faults sink.new ≡ K.faults sink.old) }
-        ensures stopped { OnErr result (Stopped (cost_bounds S.price S.least) self.old.state
-            (map E.event list.now) (K.taken sink.old) (K.taken sink.new) self.old.meter self.new.meter
-            self.new.state) }
-        ensures fault { OnErr result (K.faults sink.new ≡ K.faults sink.old + 1) }
-        ensures limits { (n : ℕ) →
-            IsWithinLimits (state_after_events self.old.state (take n (map E.event list.now))) }
+        ensures { RunsEvents (cost_bounds S.price S.least) (map E.event list.now)
+            self.old self.new (K.taken sink.old) (K.taken sink.new)
+            (K.faults sink.old) (K.faults sink.new) result }
     {
         // The store's contract says that its blocks are well formed, and the type's invariant, which is
         // known where a field is used, that the tables are within their limits.

@@ -60,11 +60,12 @@ impl<S: Store> Model for Target<S> {
 ghost use Rattle.std.specs.Prelude.{◌≡◌, ◌≤◌, length, IfOk};
 ghost use Rattle.sg_store.specs.Meter.{new_meter};
 ghost use Rattle.sg_target.specs.BlockCommands.{longest_data_in};
-ghost use Rattle.sg_target.specs.Reply.{Carries, refused_reply};
-ghost use Rattle.sg_target.specs.PowerCycle.{after_power_cycle};
-ghost use Rattle.sg_target.specs.Ranges.{IsCharged, cost_bounds, ranges, visit_bound};
-ghost use Rattle.sg_target.specs.State.{IsWithinLimits, new_state};
-ghost use Rattle.sg_target.specs.Step.{after_refusal, sense_format, step};
+ghost use Rattle.sg_target.specs.Execution.{IsExecuted};
+ghost use Rattle.sg_target.specs.PowerCycle.{CyclesPower};
+ghost use Rattle.sg_target.specs.Ranges.{cost_bounds};
+ghost use Rattle.sg_target.specs.Reply.{refused_reply};
+ghost use Rattle.sg_target.specs.State.{new_state};
+ghost use Rattle.sg_target.specs.Step.{after_refusal, sense_format};
 
 impl<S: Store> Target<S> {
     /// A target as it is after power on: no block is mapped, the mode pages have their default
@@ -98,19 +99,10 @@ impl<S: Store> Target<S> {
     ) -> Reply
         requires { longest_data_in ≤ length buf.old }
 
-        // The answer and the state after it are the definition's.
-        ensures reply { let done = step self.old.state initiator cdb.now data_out.now in
-            Carries done.answer result buf.old buf.new }
-        ensures state { self.new.state ≡ (step self.old.state initiator cdb.now data_out.now).state }
-
-        // No table passes its limit.
-        ensures limits { IsWithinLimits self.new.state }
-
-        // What the store did for it.
-        ensures visits { result.counts.visits
-            ≤ visit_bound (ranges self.old.state initiator cdb.now data_out.now) }
-        ensures charge { IsCharged (cost_bounds S.price S.least) self.old.state.disk.pool
-            (ranges self.old.state initiator cdb.now data_out.now) self.old.meter self.new.meter result }
+        // The answer and the state after it are those of the definition's step. No table passes its
+        // limit, and what the store did is charged for the command's ranges.
+        ensures { IsExecuted (cost_bounds S.price S.least) initiator cdb.now data_out.now
+            self.old self.new result buf.old buf.new }
     {
         limits_are_kept();
         match self.check_command(initiator, cdb, data_out) {
@@ -123,9 +115,7 @@ impl<S: Store> Target<S> {
     /// Registrations and reservation are as they were where they persist through a power loss, and
     /// gone where not; PRGENERATION is 0. POWER ON alone is pending for each initiator.
     pub fn power_cycle(&mut self)
-        ensures state { self.new.state ≡ after_power_cycle self.old.state }
-        ensures meter { self.new.meter ≡ self.old.meter }
-        ensures limits { IsWithinLimits self.new.state }
+        ensures { CyclesPower self.old self.new }
     {
         // Its contract says that the blocks are well formed.
         let _ = self.store.used();

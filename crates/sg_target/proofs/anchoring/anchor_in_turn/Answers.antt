@@ -1,13 +1,14 @@
-use Rattle.std.proofs.Common.{◌≡◌, ◌+◌, ◌++◌, take, drop, get_or, ap, sym, ◌∙◌, arith, subst}
+use Rattle.std.proofs.Common.{◌≡◌, ◌+◌, [], ◌∷◌, ◌++◌, take, drop, get_or, ap, sym, ◌∙◌, arith, subst}
 use Rattle.std.proofs.lemmas.List.{take_more, take_all, take-append-drop}
 use Rattle.std.specs.FinMap as map
-use Rattle.sg_target.specs.ProvisioningCommands.{anchored_in_turn, anchoring_in_turn}
+use Rattle.sg_target.specs.ProvisioningCommands.{changed_in_turn, ranges_in_turn}
 use Rattle.sg_target.specs.Ranges.{IsCounted, cost_bounds}
 use Rattle.sg_store.specs.Disk.{Contents, Disk, anchored}
 use Rattle.sg_wire.specs.declared.extent.Extent.{Extent}
 use Rattle.sg_target.proofs.ChargingLemmas.{disk-next, turn-next}
 use Rattle.sg_target.proofs.ExtentLemmas.{on_disk-at}
-use Rattle.sg_target.proofs.NeedLemmas.{in_turn-more, room-first}
+use Rattle.sg_target.proofs.InTurnLemmas.{changed-append}
+use Rattle.sg_target.proofs.NeedLemmas.{room-first}
 use Rattle.sg_target.proofs.anchoring.anchor_in_turn.Goals as goal
 
 pub anchor_with_room-requires-clause-range : goal.anchor_with_room-requires-clause-range
@@ -31,13 +32,13 @@ anchor_with_room-requires-clause-room g c =
     let next = get_or extents i none in
     let left = ap (λ (d : Disk). d.contents) c.loop-extent.invariant.disk in
     let pool = ap (λ (d : Disk). d.pool) c.loop-extent.invariant.disk in
-    let more : anchored (anchored_in_turn before.contents (take i extents)) next.lba next.count
-    ≡ anchored_in_turn before.contents (take (i + 1) extents) =
-    sym (in_turn-more before.contents (take i extents) next)
-    ∙ ap (anchored_in_turn before.contents) (sym (take_more extents i none here)) in
+    let more : anchored (changed_in_turn anchored before.contents (take i extents)) next.lba next.count
+    ≡ changed_in_turn anchored before.contents (take (i + 1) extents) =
+    sym (changed-append anchored before.contents (take i extents) (next ∷ []))
+    ∙ ap (changed_in_turn anchored before.contents) (sym (take_more extents i none here)) in
     let law = c.remapping_takes_what_is_needed.ensures in
     let first = room-first law before.contents (take (i + 1) extents) (drop (i + 1) extents) in
-    let all = ap (λ xs. map.len (anchored_in_turn before.contents xs))
+    let all = ap (λ xs. map.len (changed_in_turn anchored before.contents xs))
     (take-append-drop (i + 1) extents) in
     let size = ap map.len (ap (λ (m : Contents). anchored m next.lba next.count) left ∙ more) in
     omega (arith, first, all, size, pool, c.requires.room)
@@ -57,8 +58,8 @@ loop-extent-preserved g c =
     let price = g.met.S.Store.price_within now.contents next.lba next.count in
     let pool = ap (λ (d : Disk). d.pool) inv.disk in
     record {
-      disk = disk-next extents i none here before now inv.disk _ e.disk;
-      counted = λ first over h. turn-next extents i none here before now inv.disk
+      disk = disk-next anchored extents i none here before now inv.disk _ e.disk;
+      counted = λ first over h. turn-next anchored extents i none here before now inv.disk
           (cost_bounds g.S.Store.price g.S.Store.least) over first _ _
           (inv.counted first over h) e.costs.cost e.costs.price e.costs.least;
       visits = omega (
@@ -82,5 +83,5 @@ returns-clause-counted g c =
     let before = g.S.Store.disk c.args.store.now in
     λ first over h.
     subst (λ xs. IsCounted (cost_bounds g.S.Store.price g.S.Store.least)
-    before.pool (over ++ anchoring_in_turn before.contents xs) first
+    before.pool (over ++ ranges_in_turn anchored before.contents xs) first
     (g.S.Store.meter c.loop-extent.store)) all (c.loop-extent.invariant.counted first over h)

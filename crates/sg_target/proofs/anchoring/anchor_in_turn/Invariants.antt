@@ -1,8 +1,9 @@
 use Rattle.std.proofs.Common.{◌≡◌, ◌≤◌, ◌+◌, ◌*◌, ◌^◌, ◌++◌, take, List}
+use Rattle.sg_store.specs.Disk.{anchored}
 use Rattle.sg_store.specs.Meter.{Meter}
 use Rattle.sg_target.specs.Anchoring.{disk_anchored_in_turn}
 use Rattle.sg_target.specs.Effect.{Range}
-use Rattle.sg_target.specs.ProvisioningCommands.{anchoring_in_turn}
+use Rattle.sg_target.specs.ProvisioningCommands.{ranges_in_turn}
 use Rattle.sg_target.specs.Ranges.{IsCounted, cost_bounds}
 use Rattle.sg_target.proofs.anchoring.anchor_in_turn.Given as goal
 
@@ -19,7 +20,7 @@ invariant-loop-extent g l =
           → IsCounted (cost_bounds g.S.Store.price g.S.Store.least) before.pool
           over first meter
           → IsCounted (cost_bounds g.S.Store.price g.S.Store.least) before.pool
-          (over ++ anchoring_in_turn before.contents done) first now;
+          (over ++ ranges_in_turn anchored before.contents done) first now;
       visits : now.counts.visits ≤ meter.counts.visits + l.extent-index * 2 ^ 41;
       probes : now.counts.probes ≤ meter.counts.probes + 64 * l.extent-index;
       links : now.counts.links ≤ meter.counts.links + 65536 * l.extent-index;

@@ -1,8 +1,10 @@
-use Rattle.std.proofs.Common.{get_or, ap, arith, length-take}
+use Rattle.std.proofs.Common.{[], get_or, ap, arith, length-take}
 use Rattle.sg_wire.specs.declared.extent.Extent.{Extent}
-use Rattle.sg_store.specs.Disk.{Disk}
+use Rattle.sg_store.specs.Disk.{Disk, unmapped}
+use Rattle.sg_target.specs.Ranges.{cost_bounds}
 use Rattle.sg_target.proofs.ExtentLemmas.{on_disk-at}
-use Rattle.sg_target.proofs.UnmapLemmas.{counted-next, disk-next, has_headroom}
+use Rattle.sg_target.proofs.ChargingLemmas.{disk-next, turn-next}
+use Rattle.sg_target.proofs.UnmapLemmas.{has_headroom}
 use Rattle.sg_target.proofs.provisioning.unmap_in_turn.Goals as goal
 
 pub unmap-requires-clause-range : goal.unmap-requires-clause-range
@@ -31,8 +33,9 @@ loop-extent-preserved g c =
     let within = g.met.S.Store.price_within (g.S.Store.disk c.loop-extent.store).contents
     (get_or extents i first).lba (get_or extents i first).count in
     record {
-      disk = disk-next extents i first here _ _ _ inv.disk e.disk;
-      counted = counted-next extents i first here _ _ _ _ _ _ inv.disk inv.counted e.costs.cost
-          e.costs.price e.costs.least;
+      disk = disk-next unmapped extents i first here _ _ inv.disk _ e.disk;
+      counted = turn-next unmapped extents i first here _ _ inv.disk
+          (cost_bounds g.S.Store.price g.S.Store.least) [] _ _ _
+          inv.counted e.costs.cost e.costs.price e.costs.least;
       few = omega (arith, e.costs.cost.visits, e.costs.price, within, on_disk);
     }

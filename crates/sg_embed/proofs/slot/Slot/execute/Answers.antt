@@ -4,16 +4,12 @@ use Rattle.sg_embed.proofs.slot.Slot.execute.Goals as goal
 pub returns-clause-executed : goal.returns-clause-executed
 returns-clause-executed c done = record {
   reply = c.execute-done.result;
-  shows = search rules;
   executed = record {
     disk = c.in-Some-kept.kept.now;
     left = record { target = c.execute-done.new.self };
     was = search rules;
     is = search rules;
-    answer = search rules;
-    state = search rules;
-    limits = search rules;
-    visits = search rules;
-    charge = search rules;
+    happened = search rules;
   };
+  shows = search rules;
 }

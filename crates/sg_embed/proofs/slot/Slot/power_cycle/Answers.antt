@@ -7,7 +7,5 @@ returns-clause-cycled c _ = record {
   left = record { target = c.power_cycle.new.self };
   was = search rules;
   is = search rules;
-  state = search rules;
-  meter = search rules;
-  limits = search rules;
+  happened = search rules;
 }

@@ -1,29 +1,44 @@
-use Rattle.std.proofs.Common.{[], rules, ap, sym, ◌∙◌}
+use Rattle.std.proofs.Common.{[], arith, rules, ap, sym, ◌∙◌}
+use Rattle.sg_target.specs.ModeCommands.{mode_parameters}
 use Rattle.sg_target.specs.Reply.{refused_reply}
 use Rattle.sg_target.specs.Step.{sense_format}
 use Rattle.sg_target.specs.Target.{TargetFields}
 use Rattle.sg_target.specs.declared.refusal.Refusal.{Refusal}
 use Rattle.sg_target.proofs.ModeLemmas.{fault-carried, if-fault, list-carried, nothing-put}
 use Rattle.sg_target.proofs.ModeLemmas.{sensed-fault, sensed-list}
+use Rattle.sg_target.proofs.Space.{space-left}
 use Rattle.sg_target.proofs.target.Target.return_modes.Goals as goal
 
-pub returns-in-Ok-clause-reply : goal.returns-in-Ok-clause-reply
-returns-in-Ok-clause-reply g c =
+pub returns-in-Ok : goal.returns-in-Ok
+unfolding mode_parameters
+returns-in-Ok g c =
     let s = sensed-list _ _ _ (sym c.sense.ensures.fault ∙ c.in-Ok.is) c.sense.ensures.list in
-    list-carried _ _ _ _ _ _ _ _ _ (ap (λ (t : TargetFields). t.state.modes) c.self.view_is)
-    c.requested.view_is s.list _ _ c.from.ensures c.requires.limits s.is
-    (c.written.ensures ∙ c.answers_are_in_their_buffers.ensures.written _ _ _ _ _ _ c.new-cut.ensures s.has)
-    (c.answers_are_in_their_buffers.ensures.left _ _ _ _ _ _ _ c.new-cut.ensures s.has (λ e. search rules))
-    c.without_blocks.ensures
+    let cut = c.new-cut.ensures in
+    let laws = c.answers_are_in_their_buffers.ensures in
+    record {
+      answer =
+          list-carried _ _ _ _ _ _ _ _ _ (ap (λ (t : TargetFields). t.state.modes) c.self.view_is)
+          c.requested.view_is s.list _ _ c.from.ensures c.requires.limits s.is
+          (c.written.ensures ∙ laws.written _ _ _ _ _ _ cut s.has)
+          (laws.left _ _ _ _ _ _ _ cut s.has (λ e. search rules)) c.without_blocks.ensures;
+      state = grind (arith, space-left);
+      charge = grind (arith, space-left);
+    }
 
-pub returns-in-Err-clause-reply : goal.returns-in-Err-clause-reply
-returns-in-Err-clause-reply g c =
+pub returns-in-Err : goal.returns-in-Err
+unfolding mode_parameters
+returns-in-Err g c =
     let e = sensed-fault _ _ (sym c.sense.ensures.fault ∙ c.in-Err.is) in
     let none = if-fault _ _ _ e c.sense.ensures.nothing in
-    fault-carried _ _ _ _ _ _ _ _ _ (ap (λ (t : TargetFields). t.state.modes) c.self.view_is)
-    c.requested.view_is _ _ e
-    (c.answers_are_in_their_buffers.ensures.left _ _ _ [] _ _ _ c.new-cut.ensures (none
-    ∙ sym (c.parts_are_put_in_turn.ensures.nothing _)) (λ e. search rules) ∙ nothing-put _ _)
-    (c.refuse.ensures.reply
-    ∙ ap (λ (r : Refusal). refused_reply (sense_format c.args.self.now.state) r c.default.result)
-    c.from-in-Err.ensures)
+    record {
+      answer =
+          fault-carried _ _ _ _ _ _ _ _ _ (ap (λ (t : TargetFields). t.state.modes) c.self.view_is)
+          c.requested.view_is _ _ e
+          (c.answers_are_in_their_buffers.ensures.left _ _ _ [] _ _ _ c.new-cut.ensures (none
+          ∙ sym (c.parts_are_put_in_turn.ensures.nothing _)) (λ e. search rules) ∙ nothing-put _ _)
+          (c.refuse.ensures.reply
+          ∙ ap (λ (r : Refusal). refused_reply (sense_format c.args.self.now.state) r c.default.result)
+          c.from-in-Err.ensures);
+      state = search rules;
+      charge = search rules;
+    }

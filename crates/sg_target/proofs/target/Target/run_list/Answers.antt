@@ -1,19 +1,18 @@
-use Rattle.std.proofs.Common.{◌≡◌, ◌+◌, ◌<◌, length, List, ◌++◌, ◌∷◌, [], map, take, arith, ap}
-use Rattle.std.proofs.Common.{sym, subst, ◌∙◌}
-use Rattle.std.proofs.lemmas.List.{length-map, take-map}
+use Rattle.std.proofs.Common.{◌≡◌, ◌+◌, ◌<◌, ◌≤◌, length, List, ◌++◌, ◌∷◌, [], map, take, arith, ap}
+use Rattle.std.proofs.Common.{sym, subst, rules, ◌∙◌}
+use Rattle.std.proofs.lemmas.List.{length-map, take_all, take-map}
 use Rattle.sg_target.specs.Ranges.{IsCharged, cost_bounds}
 use Rattle.sg_target.specs.Runs.{step_of, ranges_of_call, exchange, state_after_event, Stopped}
-use Rattle.sg_target.specs.State.{State, IsWithinLimits}
-use Rattle.sg_target.specs.Target.{TargetFields}
+use Rattle.sg_target.specs.State.{State}
 use Rattle.sg_target.specs.declared.event.Event.{Event}
 use Rattle.sg_target.specs.declared.event.Event.TheVariants as event
 use Rattle.sg_target.proofs.RunLemmas.{events-more, exchanged-more, exchanged-power, state-more}
-use Rattle.sg_target.proofs.RunLemmas.{all-within, answer-carried, on-err, size-carried}
+use Rattle.sg_target.proofs.RunLemmas.{all-within, answer-carried, on-err, size-carried, within-seen}
 use Rattle.sg_target.proofs.target.Target.run_list.Goals as goal
 use Rattle.sg_target.proofs.target.Target.run_list.Goals.{in-Call+in_ok-take-in-Call, in-Power}
 
-pub returns-in_err-take-in-Call-clause-stopped : goal.returns-in_err-take-in-Call-clause-stopped
-returns-in_err-take-in-Call-clause-stopped g c =
+pub returns-in_err-take-in-Call : goal.returns-in_err-take-in-Call
+returns-in_err-take-in-Call g c =
     let state = c.args.self.now.state in
     let list = c.args.list.now in
     let i = c.loop-item.item-index in
@@ -26,13 +25,13 @@ returns-in_err-take-in-Call-clause-stopped g c =
     ∙ events-more g.E.ToEvent.event list i c.item-item.result (event.Call call) here c.item-item.is
     (sym c.to_event.ensures ∙ c.in-Call.is) in
     let so_far = c.loop-item.invariant.state in
-    let answered = answer-carried _ c.execute-reply.result _ _ c.execute-reply.ensures.reply
+    let answered = answer-carried _ c.execute-reply.result _ _ c.execute-reply.ensures.done.answer
     ∙ ap (λ s. (step_of s call).answer) so_far in
-    let size = size-carried _ c.execute-reply.result _ _ c.execute-reply.ensures.reply in
+    let size = size-carried _ c.execute-reply.result _ _ c.execute-reply.ensures.done.answer in
     let charged =
     subst (λ (s : State). IsCharged (cost_bounds g.S.Store.price g.S.Store.least) s.disk.pool
     (ranges_of_call s call) c.loop-item.self.meter c.execute-reply.new.self.meter
-    c.execute-reply.result) so_far c.execute-reply.ensures.charge in
+    c.execute-reply.result) so_far c.execute-reply.ensures.done.charge in
     let stopped : Stopped (cost_bounds g.S.Store.price g.S.Store.least) state
     (map g.E.ToEvent.event list)
     (g.K.Sink.taken c.args.sink.now) (g.K.Sink.taken c.take.new.self) c.args.self.now.meter
@@ -46,22 +45,21 @@ returns-in_err-take-in-Call-clause-stopped g c =
           (exchanged-more (cost_bounds g.S.Store.price g.S.Store.least) state
           before _ _ _ _ _ call _ c.loop-item.invariant.took answered size charged);
       state_is =
-          rw next (c.execute-reply.ensures.state
+          rw next (c.execute-reply.ensures.done.state
           ∙ ap (λ s. (step_of s call).state) so_far
           ∙ sym (state-more state before (event.Call call)));
     } in
-    on-err c.from_residual.result _ stopped
-
-pub returns-in_err-take-in-Call-clause-limits : goal.returns-in_err-take-in-Call-clause-limits
-returns-in_err-take-in-Call-clause-limits g c n =
-    all-within c.limits_are_kept.ensures _ (map g.E.ToEvent.event c.args.list.now) n
-    (subst (λ (t : TargetFields). IsWithinLimits t.state) c.self.view_is
-    (record {
-      used = c.self.invariant.1;
-      pending = c.self.invariant.2;
-      registered = c.self.invariant.3;
-      blocks = c.used.ensures.well_formed;
-    }))
+    record {
+      took = search rules;
+      state = search rules;
+      sound = search rules;
+      stopped = on-err c.from_residual.result _ stopped;
+      fault = search rules;
+      limits = λ n.
+          all-within c.limits_are_kept.ensures _ (map g.E.ToEvent.event list) n
+          (within-seen _ _ c.self.view_is c.self.invariant.1 c.self.invariant.2 c.self.invariant.3
+          c.used.ensures.well_formed);
+    }
 
 pub loop-item-preserved : goal.loop-item-preserved
 loop-item-preserved g c =
@@ -77,19 +75,19 @@ loop-item-preserved g c =
       | in-Call+in_ok-take-in-Call w ↦
           let call = w.in-Call.call in
           let next = more (event.Call call) (sym c.to_event.ensures ∙ w.in-Call.is) in
-          let answered = answer-carried _ w.execute-reply.result _ _ w.execute-reply.ensures.reply
+          let answered = answer-carried _ w.execute-reply.result _ _ w.execute-reply.ensures.done.answer
           ∙ ap (λ s. (step_of s call).answer) so_far in
-          let size = size-carried _ w.execute-reply.result _ _ w.execute-reply.ensures.reply in
+          let size = size-carried _ w.execute-reply.result _ _ w.execute-reply.ensures.done.answer in
           let charged =
           subst (λ (s : State). IsCharged (cost_bounds g.S.Store.price g.S.Store.least) s.disk.pool
           (ranges_of_call s call) c.loop-item.self.meter w.execute-reply.new.self.meter
-          w.execute-reply.result) so_far w.execute-reply.ensures.charge in
+          w.execute-reply.result) so_far w.execute-reply.ensures.done.charge in
           record {
             took = rw (next, w.self-is, w.sink-is, w.in_ok-take-in-Call.ensures.taken)
                 (exchanged-more (cost_bounds g.S.Store.price g.S.Store.least) state
                 before _ _ _ _ _ call _ c.loop-item.invariant.took answered size charged);
             state =
-                rw (next, w.self-is) (w.execute-reply.ensures.state
+                rw (next, w.self-is) (w.execute-reply.ensures.done.state
                 ∙ ap (λ s. (step_of s call).state) so_far
                 ∙ sym (state-more state before (event.Call call)));
             sound = rw w.sink-is (w.in_ok-take-in-Call.ensures.sound ∙ c.loop-item.invariant.sound);
@@ -108,13 +106,19 @@ loop-item-preserved g c =
           }
     ]
 
-pub returns-clause-limits : goal.returns-clause-limits
-returns-clause-limits g c n =
-    all-within c.limits_are_kept.ensures _ (map g.E.ToEvent.event c.args.list.now) n
-    (subst (λ (t : TargetFields). IsWithinLimits t.state) c.self.view_is
-    (record {
-      used = c.self.invariant.1;
-      pending = c.self.invariant.2;
-      registered = c.self.invariant.3;
-      blocks = c.used.ensures.well_formed;
-    }))
+pub returns : goal.returns
+returns g c =
+    let list = c.args.list.now in
+    let ended : length list ≤ c.loop-item.item-index = omega arith in
+    let whole = take_all c.loop-item.item-index list ended in
+    record {
+      took = rw whole at c.loop-item.invariant.took;
+      state = rw whole at c.loop-item.invariant.state;
+      sound = search rules;
+      stopped = search rules;
+      fault = search rules;
+      limits = λ n.
+          all-within c.limits_are_kept.ensures _ (map g.E.ToEvent.event list) n
+          (within-seen _ _ c.self.view_is c.self.invariant.1 c.self.invariant.2 c.self.invariant.3
+          c.used.ensures.well_formed);
+    }
