@@ -11,7 +11,7 @@ use Rattle.sg_store.specs.Disk.{Contents, Disk, Mapping, IsWellFormed, HasBlockL
 use Rattle.sg_store.specs.Disk.{max_capacity, max_pool}
 use Rattle.sg_table.specs.Draft.{Drafted, empty_draft}
 use Rattle.sg_store.specs.Meter.{Meter, Costs}
-use Rattle.sg_pool.specs.MappedRecords.{mapping_in, contents_of}
+use Rattle.sg_pool.specs.MappedRecords.{mapping_in, contents_of, mapping_as}
 use Rattle.sg_table.specs.Records.{IsSorted}
 use Rattle.sg_table.specs.Search.{CostsSearch}
 use Rattle.sg_pool.specs.Slots.{Slots}
@@ -21,7 +21,6 @@ use Rattle.sg_table.specs.declared.run.Kind.TheVariants.{Data, Anchored}
 use Rattle.sg_table.specs.declared.run.Run.{Run}
 use Rattle.sg_block_map.specs.Metering.{SearchesAndVisits}
 use Rattle.sg_block_map.specs.Gathering.{starts_in, overlap, AreGathered, HaveRoom, end_index}
-use Rattle.sg_block_map.specs.Joining.{mapping_as}
 use Rattle.sg_block_map.specs.MaximalRuns.{runs, meet, blocks_near}
 use Rattle.sg_block_map.specs.RunCost.{block_price, CostsRuns, CostsRange}
 use Rattle.sg_block_map.specs.Runs.{address_run, expanded, AreRuns, chained_contents, blocks_of}

@@ -3,7 +3,6 @@ use Rattle.std.specs.Prelude.{◌≡◌, ℕ, ◌+◌, ◌<◌, ◌≤◌, List,
 use Rattle.std.specs.Prelude.{if◌then◌else◌, ◌==◌, Bool, true, false, Option, Some, None}
 use Rattle.std.specs.FinMap.{insert}
 use Rattle.sg_store.specs.Disk.{Mapping, max_capacity, max_pool, remapped, used_among}
-use Rattle.sg_store.specs.Disk.Mapping.{Data, Anchored}
 use Rattle.sg_store.specs.Meter.{max_count}
 use Rattle.sg_pool.specs.Chains.{IsChain}
 use Rattle.sg_pool.specs.MappedRecords.{slot_numbers}
@@ -16,7 +15,6 @@ use Rattle.sg_table.specs.Leaves.{move_bound}
 use Rattle.sg_table.specs.Table.{Table}
 use Rattle.sg_table.specs.Records.{same_kind}
 use Rattle.sg_table.specs.declared.run.Kind.{Kind}
-use Rattle.sg_table.specs.declared.run.Kind.TheVariants.{Data as DataRun, Anchored as AnchoredRun}
 use Rattle.sg_table.specs.declared.run.Run.{Run}
 use Rattle.sg_block_map.specs.Gathering.{AreGathered, AreNear}
 use Rattle.sg_block_map.specs.Metering.{FollowsLinks}
@@ -56,11 +54,6 @@ pub record IsWriting (before : List Run) (done : Run) (rest : List Run) (slots :
 abbrev pub KeepSlots : (next : List ℕ) → List Run → (next' : List ℕ) → List Run → Type 0
 KeepSlots next runs next' runs' =
     Keeps (slot_numbers (expanded next runs)) (slot_numbers (expanded next' runs'))
-
--- What an address gets in a run of a kind: a block of data, or none.
-abbrev pub mapping_as : Kind → (block : List ℕ) → Mapping
-mapping_as DataRun block = Data block
-mapping_as AnchoredRun block = Anchored
 
 -- An address was put, whatever runs are before and after: the run has come to the next address, the
 -- contents have the mapping, and each address that had a slot has it.

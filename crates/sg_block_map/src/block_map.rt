@@ -55,7 +55,7 @@ pub struct BlockMap {
 
 impl BlockMap {
     ghost use Rattle.sg_pool.specs.Source.{HasBlocks, block_of};
-    ghost use Rattle.sg_block_map.specs.Joining.{mapping_as};
+    ghost use Rattle.sg_pool.specs.MappedRecords.{mapping_as};
     ghost use Rattle.sg_block_map.specs.State.{disk_of, meter_of, records_of};
     ghost use Rattle.sg_block_map.specs.State.{slots_by_address, Keeps};
 

@@ -4,10 +4,10 @@ ghost use Rattle.std.specs.Prelude.{◌≡◌, ◌+◌, ◌-◌, ◌^◌, ◌<�
 ghost use Rattle.std.specs.Prelude.{None, Option, option_to_list, IfSome};
 ghost use Rattle.sg_table.specs.Records.{run_at};
 ghost use Rattle.sg_table.specs.Occurrences.{occurrences};
-ghost use Rattle.sg_pool.specs.MappedRecords.{filled_slot};
+ghost use Rattle.sg_pool.specs.MappedRecords.{filled_slot, mapping_as};
 ghost use Rattle.sg_pool.specs.Slots.{followed};
 ghost use Rattle.sg_pool.specs.Source.{block_of};
-ghost use Rattle.sg_block_map.specs.Joining.{begun, joined, linked, mapping_as, IsWriting};
+ghost use Rattle.sg_block_map.specs.Joining.{begun, joined, linked, IsWriting};
 ghost use Rattle.sg_block_map.specs.Joining.{CanRemap, GoesOn, IsFinished, PutsAddress};
 ghost use Rattle.sg_block_map.specs.Joining.{RemapsRange};
 ghost use Rattle.sg_block_map.specs.Metering.{FollowsPassed};

@@ -27,10 +27,14 @@ entries_by seen (run ∷ records) = (run.start, seen run.first run.kind) ∷ ent
 abbrev pub contents_by : {X : Type 0} → Seen X → List Run → FinMap nat_cmp X
 contents_by seen records = from_entries (entries_by seen records)
 
+-- What an address gets in a record of a kind: a block of data, or none.
+abbrev pub mapping_as : Kind → (block : List ℕ) → Mapping
+mapping_as DataKind block = Data block
+mapping_as AnchoredKind block = Anchored
+
 -- Data is the block of the slot. That of an anchored address is not seen.
 abbrev pub mapping_in : (blocks : List (List ℕ)) → Seen Mapping
-mapping_in blocks slot DataKind = Data (slice_index_or blocks slot zero_block)
-mapping_in blocks slot AnchoredKind = Anchored
+mapping_in blocks slot kind = mapping_as kind (slice_index_or blocks slot zero_block)
 
 -- The kind of the record of an address, by what the address has.
 abbrev pub kind_of : Mapping → Kind

@@ -1,5 +1,5 @@
 -- A list of extents, address by address.
-use Rattle.std.proofs.Common.{◌≡◌, ℕ, List, [], ◌∷◌, Option, Some, None, Bool, true, false}
+use Rattle.std.proofs.Common.{◌≡◌, ℕ, List, Option, Some, None, Bool, true, false}
 use Rattle.std.proofs.Common.{refl, sym, ap, ◌∙◌, cond}
 use Rattle.sg_wire.specs.declared.extent.Extent.{Extent}
 use Rattle.sg_store.specs.Disk.{Contents, Mapping, anchored, block, data_in, lies_in, unmapped}
@@ -11,7 +11,7 @@ use Rattle.sg_store.specs.LbaStatus.{status_at, status_in}
 use Rattle.sg_target.specs.Effect.{Effect, with_contents}
 use Rattle.sg_target.specs.Laws.{lies_in_any, AnchorsEachExtent}
 use Rattle.sg_target.specs.Laws.{UnmapsEachExtent, ZeroesEachExtent}
-use Rattle.sg_target.specs.ProvisioningCommands.{anchoring, changed_in_turn, unmapping}
+use Rattle.sg_target.specs.ProvisioningCommands.{Change, anchoring, changed_in_turn, unmapping}
 use Rattle.sg_target.specs.State.{State}
 use Rattle.sg_target.proofs.InTurnLemmas.{same, seen}
 
@@ -37,32 +37,35 @@ given-mapping false given before after s b = same-mapping after before s b
 
 -- ---- one extent after the other
 
-abbrev covers : (address : ℕ) → Extent → Bool
-covers address extent = lies_in extent.lba extent.count address
-
-module _ (one : Contents → Extent → Contents) (all : Contents → List Extent → Contents)
-    (none : (m : Contents) → all m [] ≡ m)
-    (more : (m : Contents) (e : Extent) (es : List Extent) → all m (e ∷ es) ≡ all (one m e) es)
-    (given : Option Mapping)
-    (statuses : (m : Contents) (e : Extent) (q : ℕ)
-    → status_at (one m e) q ≡ cond (covers q e) (status_in given) (status_at m q))
-    (blocks : (m : Contents) (e : Extent) (q : ℕ)
-    → block (one m e) q ≡ cond (covers q e) (data_in given) (block m q))
+module _ (change : Change) (given : Option Mapping)
+    (statuses : (m : Contents) (lba count q : ℕ)
+    → status_at (change m lba count) q ≡ cond (lies_in lba count q) (status_in given) (status_at m q))
+    (blocks : (m : Contents) (lba count q : ℕ)
+    → block (change m lba count) q ≡ cond (lies_in lba count q) (data_in given) (block m q))
   where
+    abbrev covers : (address : ℕ) → Extent → Bool
+    covers address extent = lies_in extent.lba extent.count address
+
+    abbrev one : Contents → Extent → Contents
+    one m e = change m e.lba e.count
+
     zeroes-each : (command : State → List Extent → Effect)
         → ((state : State) (es : List Extent)
-        → (command state es).after ≡ with_contents state (all state.disk.contents es))
+        → (command state es).after ≡ with_contents state (changed_in_turn change state.disk.contents es))
         → (blank : data_in given ≡ zero_block) → ZeroesEachExtent command (status_in given)
     zeroes-each command after blank = record {
       statuses = λ state es q. ap (λ (s : State). status_at s.disk.contents q) (after state es)
-          ∙ seen covers one all none more status_at (status_in given) statuses
-          state.disk.contents es q;
+          ∙ seen covers one (changed_in_turn change) (λ m. refl) (λ m e es. refl)
+          status_at (status_in given) (λ m e. statuses m e.lba e.count) state.disk.contents es q;
       blocks = λ state es q. ap (λ (s : State). block s.disk.contents q) (after state es)
-          ∙ seen covers one all none more block (data_in given) blocks state.disk.contents es q
+          ∙ seen covers one (changed_in_turn change) (λ m. refl) (λ m e es. refl)
+          block (data_in given) (λ m e. blocks m e.lba e.count) state.disk.contents es q
           ∙ ap (λ b. cond (lies_in_any es q) b (block state.disk.contents q)) blank;
       any_order = λ state es fs h. after state es
-          ∙ ap (with_contents state) (same covers one all none more given
-          (λ m e q. given-mapping (covers q e) given _ _ (statuses m e q) (blocks m e q))
+          ∙ ap (with_contents state)
+          (same covers one (changed_in_turn change) (λ m. refl) (λ m e es. refl) given
+          (λ m e q. given-mapping (covers q e) given _ _
+          (statuses m e.lba e.count q) (blocks m e.lba e.count q))
           state.disk.contents es fs h)
           ∙ sym (after state fs);
     }
@@ -71,12 +74,8 @@ module _ (one : Contents → Extent → Contents) (all : Contents → List Exten
 
 pub unmaps-each : UnmapsEachAddress → UnmapsEachBlock → UnmapsEachExtent
 unmaps-each addresses zeros =
-    zeroes-each (λ m e. unmapped m e.lba e.count) (changed_in_turn unmapped) (λ m. refl) (λ m e es. refl)
-    None (λ m e. addresses m e.lba e.count) (λ m e. zeros m e.lba e.count)
-    unmapping (λ state es. refl) refl
+    zeroes-each unmapped None addresses zeros unmapping (λ state es. refl) refl
 
 pub anchors-each : AnchorsEachAddress → AnchorZeroesEachBlock → AnchorsEachExtent
 anchors-each addresses zeros =
-    zeroes-each (λ m e. anchored m e.lba e.count) (changed_in_turn anchored) (λ m. refl) (λ m e es. refl)
-    (Some Anchored) (λ m e. addresses m e.lba e.count) (λ m e. zeros m e.lba e.count)
-    anchoring (λ state es. refl) refl
+    zeroes-each anchored (Some Anchored) addresses zeros anchoring (λ state es. refl) refl

@@ -1,19 +1,13 @@
 -- What anchoring extents takes, as the store counts it.
 use Rattle.std.specs.Prelude.{ℕ, ◌*◌, ◌^◌, ◌≤◌, List, map, true, Result, OnOk}
 use Rattle.sg_wire.specs.UnmapList.{maximum_unmap_descriptors}
-use Rattle.sg_wire.specs.declared.extent.Extent.{Extent}
-use Rattle.sg_store.specs.Disk.{Contents, Disk, anchored, max_capacity, max_pool, need}
+use Rattle.sg_store.specs.Disk.{Contents, Disk, max_capacity, max_pool, need}
 use Rattle.sg_store.specs.Meter.{Meter, probe_bound}
 use Rattle.sg_store.specs.declared.store.Counts.{Counts}
 use Rattle.sg_target.specs.Effect.{Range}
 use Rattle.sg_target.specs.Joining.{cost_of}
-use Rattle.sg_target.specs.ProvisioningCommands.{changed_in_turn}
 use Rattle.sg_target.specs.Ranges.{CostBounds, IsWithinPrice, least_over}
 use Rattle.sg_target.specs.declared.joining.AddressRange.{AddressRange}
-
-abbrev pub disk_anchored_in_turn : Disk → List Extent → Disk
-disk_anchored_in_turn disk extents =
-    record disk { contents = changed_in_turn anchored disk.contents extents }
 
 -- How many blocks of the pool ranges need, if they have no address in common.
 abbrev pub need_of : Contents → List AddressRange → ℕ

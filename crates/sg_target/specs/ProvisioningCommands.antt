@@ -6,7 +6,7 @@ use Rattle.sg_wire.specs.UnmapList.{descriptor_data_length_at, unmap_list}
 use Rattle.sg_wire.specs.declared.unmap_list.UnmapListFault.{UnmapListFault}
 use Rattle.sg_wire.specs.declared.unmap_list.UnmapListFault.TheVariants.{Short, TooManyDescriptors}
 use Rattle.sg_wire.specs.declared.extent.Extent.{Extent}
-use Rattle.sg_store.specs.Disk.{Contents, anchored, filled, unmapped}
+use Rattle.sg_store.specs.Disk.{Contents, Disk, anchored, filled, unmapped}
 use Rattle.sg_store.specs.LbaStatus.{covered, lba_status, status_data}
 use Rattle.sg_pages.specs.BlockDescriptor.{logical_block_length}
 use Rattle.sg_target.specs.Effect.{Effect, Range, no_effect, range, counted_range}
@@ -105,3 +105,9 @@ reporting_status state start n = let found = lba_status state.disk start in
           }
           ∷ [];
     }
+
+-- ---- Cited by private contracts alone
+
+abbrev pub disk_changed_in_turn : Change → Disk → List Extent → Disk
+disk_changed_in_turn change disk extents =
+    record disk { contents = changed_in_turn change disk.contents extents }

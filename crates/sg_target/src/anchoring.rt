@@ -7,12 +7,12 @@ ghost use Rattle.sg_wire.specs.UnmapList.{maximum_unmap_descriptors};
 ghost use Rattle.sg_store.specs.Disk.{IsOverfull, anchored, disk_anchored};
 ghost use Rattle.sg_store.specs.Meter.{Charged, HasHeadroom, Meter, no_counts};
 ghost use Rattle.sg_target.specs.Anchoring.{AreOfOneList, CostsOnOk, HasAllowedSize, counted_ranges};
-ghost use Rattle.sg_target.specs.Anchoring.{disk_anchored_in_turn, need_of, visits_of_list};
+ghost use Rattle.sg_target.specs.Anchoring.{need_of, visits_of_list};
 ghost use Rattle.sg_target.specs.Effect.{Range};
 ghost use Rattle.sg_target.specs.Extents.{AreOnDisk};
 ghost use Rattle.sg_target.specs.Joining.{AreWithin};
-ghost use Rattle.sg_target.specs.ProvisioningCommands.{changed_in_turn, ranges_in_turn};
-ghost use Rattle.sg_target.specs.ProvisioningCommands.{anchoring_ranges};
+ghost use Rattle.sg_target.specs.ProvisioningCommands.{anchoring_ranges, changed_in_turn};
+ghost use Rattle.sg_target.specs.ProvisioningCommands.{disk_changed_in_turn, ranges_in_turn};
 ghost use Rattle.sg_target.specs.Ranges.{IsCounted, cost_bounds};
 
 use crate::joining::{AddressRange, joined};
@@ -72,7 +72,8 @@ fn anchor_in_turn<S: Store>(store: &mut S, extents: &[Extent])
     requires counts { AreOfOneList (S.meter store.old).counts }
 
     // All of them are anchored.
-    ensures disk { S.disk store.new ≡ disk_anchored_in_turn (S.disk store.old) extents.now }
+    ensures disk { S.disk store.new
+        ≡ disk_changed_in_turn anchored (S.disk store.old) extents.now }
 
     // Whatever was counted before.
     ensures counted { (before : Meter) (over : List Range)
@@ -104,9 +105,10 @@ pub(crate) fn anchor_extents<S: Store>(
     requires nothing_counted { (S.meter store.old).counts ≡ no_counts }
 
     // An address that is in two extents needs one block.
-    ensures space { IsErr result ↔ IsOverfull (disk_anchored_in_turn (S.disk store.old) extents.now) }
+    ensures space { IsErr result
+        ↔ IsOverfull (disk_changed_in_turn anchored (S.disk store.old) extents.now) }
     ensures ok { OnOk result (S.disk store.new
-        ≡ disk_anchored_in_turn (S.disk store.old) extents.now) }
+        ≡ disk_changed_in_turn anchored (S.disk store.old) extents.now) }
     ensures err { OnErr result (S.disk store.new ≡ S.disk store.old) }
 
     // What it costs.

@@ -11,7 +11,7 @@ ghost use Rattle.sg_target.specs.Demands.{bad_count, unmap as demands_of_unmap, 
 ghost use Rattle.sg_target.specs.Demands.{write_same_10, write_same_16};
 ghost use Rattle.sg_target.specs.Execution.{TakesStep};
 ghost use Rattle.sg_target.specs.Extents.{AreOnDisk};
-ghost use Rattle.sg_target.specs.ProvisioningCommands.{anchoring, changed_in_turn, filling};
+ghost use Rattle.sg_target.specs.ProvisioningCommands.{anchoring, disk_changed_in_turn, filling};
 ghost use Rattle.sg_target.specs.ProvisioningCommands.{ranges_in_turn, reporting_status};
 ghost use Rattle.sg_target.specs.ProvisioningCommands.{unmap_list_refusal};
 ghost use Rattle.sg_target.specs.ProvisioningCommands.{unmapping, unmaps};
@@ -122,8 +122,8 @@ fn unmap_in_turn<S: Store>(store: &mut S, extents: &[Extent])
     requires at_most { length extents.now ≤ maximum_unmap_descriptors }
     requires size { HasAllowedSize (S.disk store.old) }
     requires nothing_counted { (S.meter store.old).counts ≡ no_counts }
-    ensures disk { S.disk store.new ≡ record (S.disk store.old)
-        { contents = changed_in_turn unmapped (S.disk store.old).contents extents.now } }
+    ensures disk { S.disk store.new
+        ≡ disk_changed_in_turn unmapped (S.disk store.old) extents.now }
     ensures counted { IsCounted (cost_bounds S.price S.least) (S.disk store.old).pool
         (ranges_in_turn unmapped (S.disk store.old).contents extents.now)
         (S.meter store.old) (S.meter store.new) }

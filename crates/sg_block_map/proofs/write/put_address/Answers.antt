@@ -1,11 +1,11 @@
 use Rattle.std.proofs.Common.{◌≡◌, ℕ, ◌-◌, List, ◌∷◌, ◌++◌, drop, ap, ap₂, sym, subst, ◌∙◌}
 use Rattle.std.proofs.Common.{arith, Some, Option}
 use Rattle.sg_table.specs.Records.{single}
-use Rattle.sg_pool.specs.MappedRecords.{filled_slot}
+use Rattle.sg_pool.specs.MappedRecords.{filled_slot, mapping_as}
 use Rattle.sg_pool.specs.Slots.{Slots}
 use Rattle.sg_table.specs.Occurrences.{occurrences}
 use Rattle.sg_table.specs.declared.run.Run.{Run}
-use Rattle.sg_block_map.specs.Joining.{joined, linked, mapping_as, KeepSlots}
+use Rattle.sg_block_map.specs.Joining.{joined, linked, KeepSlots}
 use Rattle.sg_block_map.specs.Runs.{chained_contents}
 use Rattle.sg_block_map.specs.Walking.{ahead_of}
 use Rattle.sg_table.proofs.OccurrenceLemmas.{occurrences-more}

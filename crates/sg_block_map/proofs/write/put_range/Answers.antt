@@ -4,14 +4,14 @@ use Rattle.std.proofs.Common.{add-zero, Option}
 use Rattle.std.proofs.lemmas.List.{length-take-le}
 use Rattle.std.specs.FinMap as map
 use Rattle.std.specs.Prelude.{option_to_list}
-use Rattle.sg_pool.specs.MappedRecords.{contents_of, slot_numbers}
+use Rattle.sg_pool.specs.MappedRecords.{contents_of, slot_numbers, mapping_as}
 use Rattle.sg_pool.specs.Slots.{Slots}
 use Rattle.sg_pool.specs.Source.{block_of}
 use Rattle.sg_table.specs.Table.{Table}
 use Rattle.sg_table.specs.declared.run.Run.{Run}
 use Rattle.sg_store.specs.Disk.{max_capacity}
 use Rattle.sg_block_map.specs.Gathering.{end_index}
-use Rattle.sg_block_map.specs.Joining.{IsWriting, mapping_as}
+use Rattle.sg_block_map.specs.Joining.{IsWriting}
 use Rattle.sg_block_map.specs.Runs.{expanded, any_from, AreRuns, chained_contents}
 use Rattle.sg_block_map.specs.Walking.{ahead_of}
 use Rattle.sg_store.proofs.DiskLemmas.{remapped-none, remapped-more}

@@ -2,8 +2,9 @@ use Rattle.std.proofs.Common.{◌≡◌, ◌+◌, ◌≤◌, ◌++◌, ◌∷◌
 use Rattle.std.specs.Prelude.{option_to_list}
 use Rattle.sg_store.specs.Disk.{remapped}
 use Rattle.sg_pool.specs.Source.{block_of}
+use Rattle.sg_pool.specs.MappedRecords.{mapping_as}
 use Rattle.sg_block_map.specs.Gathering.{AreNear, end_index}
-use Rattle.sg_block_map.specs.Joining.{mapping_as, IsWriting, KeepSlots}
+use Rattle.sg_block_map.specs.Joining.{IsWriting, KeepSlots}
 use Rattle.sg_block_map.specs.Runs.{chained_contents, blocks_of}
 use Rattle.sg_block_map.specs.Walking.{ahead_of}
 use Rattle.sg_block_map.proofs.write.put_range.Given as goal

@@ -1,9 +1,8 @@
 use Rattle.std.proofs.Common.{◌≡◌, ◌≤◌, ◌+◌, ◌*◌, ◌^◌, ◌++◌, take, List}
 use Rattle.sg_store.specs.Disk.{anchored}
 use Rattle.sg_store.specs.Meter.{Meter}
-use Rattle.sg_target.specs.Anchoring.{disk_anchored_in_turn}
 use Rattle.sg_target.specs.Effect.{Range}
-use Rattle.sg_target.specs.ProvisioningCommands.{ranges_in_turn}
+use Rattle.sg_target.specs.ProvisioningCommands.{disk_changed_in_turn, ranges_in_turn}
 use Rattle.sg_target.specs.Ranges.{IsCounted, cost_bounds}
 use Rattle.sg_target.proofs.anchoring.anchor_in_turn.Given as goal
 
@@ -15,7 +14,7 @@ invariant-loop-extent g l =
     let now = g.S.Store.meter l.store in
     let done = take l.extent-index l.extents in
     record {
-      disk : g.S.Store.disk l.store ≡ disk_anchored_in_turn before done;
+      disk : g.S.Store.disk l.store ≡ disk_changed_in_turn anchored before done;
       counted : (first : Meter) (over : List Range)
           → IsCounted (cost_bounds g.S.Store.price g.S.Store.least) before.pool
           over first meter
