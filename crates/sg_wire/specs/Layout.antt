@@ -1,4 +1,4 @@
--- The layout of command descriptor blocks, CDBs (SPC-4, 4.2), with the choices of docs/PROFILE.md.
+-- The layout of command descriptor blocks, CDBs (SPC-4, 4.2; docs/PROFILE.md, "Commands").
 use Rattle.std.specs.Prelude.{ℕ, ◌+◌, ◌-◌, ◌*◌, ◌/◌, ◌%◌, ◌^◌, List, [], ◌∷◌, ◌++◌, length, drop}
 use Rattle.std.specs.Prelude.{slice_index, map, filter, find, fold, Option, Some, None, Result, Ok}
 use Rattle.std.specs.Prelude.{Err, Bool, true, false, ◌&&◌, nat_lt, nat_le, ◌==◌, not}
