@@ -115,7 +115,8 @@ lba_status_descriptor =
 abbrev reservation_key : Line
 reservation_key = part (codes "  key: ") (Address 0) ∷ []
 
--- A full status descriptor of READ FULL STATUS, with its TransportID (SPC-4, 6.15.5).
+-- A full status descriptor of READ FULL STATUS, with its TransportID (SPC-4, 6.15.5). ALL_TG_PT is
+-- not shown.
 abbrev full_status_descriptor : Line
 full_status_descriptor =
     part (codes "  key: ") (Address 0)

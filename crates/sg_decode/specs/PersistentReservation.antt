@@ -61,6 +61,7 @@ reservation = record {
 abbrev pub capabilities_length : List Line
 capabilities_length = (part (codes "  length: ") (Number 0 2) ∷ []) ∷ []
 
+-- RLR_C, CRH, SIP_C, ATP_C and ALLOW COMMANDS are not shown.
 abbrev pub capabilities_lines : List Line
 capabilities_lines =
     (part (codes "  PTPL_C: ") (Bits 2 0 0) ∷ [])

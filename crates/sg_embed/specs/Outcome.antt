@@ -26,7 +26,8 @@ use Rattle.sg_embed.specs.declared.outcome.Outcome.TheVariants.{UnknownInitiator
 use Rattle.sg_embed.specs.declared.outcome.Outcome.TheVariants.{BadByte, TooManyWords, UnknownTool}
 use Rattle.sg_embed.specs.declared.outcome.Outcome.TheVariants.{Usage, Exclusive, Number}
 
--- The numbers of the header.
+-- The numbers of the header. 10 is MDL_NULL_POINTER there: the functions that test C's pointers
+-- return it before any call that is defined here.
 abbrev pub outcome_code : Outcome → ℕ
 outcome_code Done = 0
 outcome_code NoDisk = 1

@@ -44,6 +44,7 @@ error_recovery_row =
     row 0x01 0x0A ((2, 0xC0) ∷ (3, 0x08) ∷ (8, 0x08) ∷ []) ((2, 0xC0) ∷ (3, 0xFF) ∷ (8, 0xFF) ∷ [])
 
 -- Byte 2: WCE is bit 2.
+-- Choice (SBC-3, 6.4): WCE may be 0.
 abbrev caching_row : PageRow
 caching_row = row 0x08 0x12 ((2, 0x04) ∷ []) ((2, 0x04) ∷ [])
 
@@ -119,6 +120,7 @@ page_data values page = page_bytes (code_of page) (values_of values page)
 -- ---- What a disk keeps of them
 
 -- The current values and the saved ones. The default ones and the changeable bits never change.
+-- Choice (SPC-4, 7.5): each initiator may have values of its own.
 pub record ModeState : Type 0 where
   pub current : PageValues
   pub saved : PageValues

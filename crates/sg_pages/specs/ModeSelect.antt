@@ -76,6 +76,7 @@ pages_in ten list = pages_from (header_length ten + block_descriptor_length ten 
 
 -- The offsets of the bytes that differ from the expected ones in a bit that is not ignored. The
 -- first byte is at `offset`.
+-- Departure (SPC-4, 4.5.2.4.2): the pointer is to the first byte of a field there.
 abbrev pub differences : (offset : ℕ) → (expected ignored bytes : List ℕ) → List ℕ
 differences offset [] ignored bytes = []
 differences offset (e ∷ expected) [] bytes = []
@@ -128,6 +129,7 @@ abbrev pub accepted_descriptor : (long : Bool) (blocks : ℕ) → (sent : List �
 accepted_descriptor long blocks sent =
     block_descriptor long (accepted_blocks blocks (take (number_length long) sent))
 
+-- Departure (SBC-3, 6.4.2): NUMBER OF LOGICAL BLOCKS is ignored there.
 abbrev pub descriptor_faults : (ten : Bool) (blocks : ℕ) → List ℕ → List ℕ
 descriptor_faults ten blocks list =
     let sent = descriptor_in ten list in
@@ -140,6 +142,7 @@ sent_code sent = bits_of (slice_index sent.bytes 0) 5 0
 
 -- A page has to be as it is now, but for PS and the bits that can be changed. So SPF has to be
 -- zero.
+-- Choice (SPC-4, 6.11): a change of a reserved bit may be overlooked.
 abbrev pub faults_against : (current : PageValues) → Part → ModePage → List ℕ
 faults_against current sent page =
     let changeable = parameters_saveable ∷ 0x00 ∷ (row_of page).changeable in
@@ -182,6 +185,7 @@ unless_fault (Some fault) value = Err fault
 -- ---- What a list changes
 
 -- The bytes from byte 2 on of the last page sent with a code.
+-- Choice (SPC-4, 6.11): a page that is sent twice may be refused.
 abbrev pub last_sent : (code : ℕ) → List Part → Option (List ℕ)
 last_sent code sent =
     option_map (λ (p : Part). drop 2 p.bytes) (find (λ p. sent_code p == code) (reverse sent))

@@ -77,6 +77,7 @@ descriptor_data r = if r.dbd then [] else block_descriptor (is_long r) r.blocks
 abbrev pub wp : ℕ
 wp = 0x80
 
+-- Choice (SBC-3, 6.4.1): DPOFUA may be 0.
 abbrev pub dpofua : ℕ
 dpofua = 0x10
 

@@ -16,6 +16,7 @@ use Rattle.sg_store.specs.declared.lba_status.StatusDescriptor.{StatusDescriptor
 
 -- The most descriptors that an answer has, and the most addresses that one covers: NUMBER OF LOGICAL
 -- BLOCKS has four bytes.
+-- Choice (SBC-3, 5.4.2): an answer may have fewer descriptors.
 abbrev pub max_descriptors : ℕ
 max_descriptors = 512
 
@@ -33,6 +34,7 @@ status_in None = Deallocated
 abbrev pub status_at : Contents → (lba : ℕ) → ProvisioningStatus
 status_at contents lba = status_in (get contents lba)
 
+-- Choice (SBC-3, 5.4.2): status 0 may mean unknown, too.
 abbrev pub code_of : ProvisioningStatus → ℕ
 code_of Mapped = 0
 code_of Deallocated = 1

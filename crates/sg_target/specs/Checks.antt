@@ -32,6 +32,7 @@ use Rattle.sg_target.specs.declared.refusal.Refusal.TheVariants.{Conflict, Check
 -- ---- Checks of a CDB
 
 -- It has no byte.
+-- Choice (SAM-5, 5.2): a CDB of no byte has no answer there.
 abbrev pub empty_cdb : Result Command CdbFault → Option Refusal
 empty_cdb (Err Empty) = Some (refusal_for Empty)
 empty_cdb _ = None
@@ -57,6 +58,7 @@ reservation_conflict state initiator cdb =
     (class_of cdb)
 
 -- It ends early.
+-- Choice (SAM-5, 5.2): a CDB that ends early has no answer there.
 abbrev pub short_cdb : Result Command CdbFault → Option Refusal
 short_cdb (Err (Short length)) = Some (refusal_for (Short length))
 short_cdb _ = None
@@ -66,6 +68,8 @@ abbrev pub bad_field : Result Command CdbFault → Option Refusal
 bad_field (Err (Field byte)) = Some (refusal_for (Field byte))
 bad_field _ = None
 
+-- Departure (SAM-5, 5.3.3): a conflict comes before attentions other than 29h there.
+-- Choice (SAM-5, 5.3.3): a fault of the CDB may come before a conflict.
 abbrev pub cdb_checks : State → (initiator : ℕ) → List ℕ → List (Option Refusal)
 cdb_checks state initiator cdb = let command = command_of cdb in
     empty_cdb command
@@ -83,6 +87,7 @@ unsupported_value unsupported =
     option_map (λ byte. CheckCondition (InvalidFieldInCdb byte)) unsupported
 
 -- There is less data-out than the command needs. More is ignored.
+-- Choice (SAM-5, data-out): data-out of another length has no answer there.
 abbrev pub short_data_out : (data_out_length : Option ℕ) → List ℕ → Option Refusal
 short_data_out None data_out = None
 short_data_out (Some n) data_out =
@@ -99,17 +104,21 @@ requested d data_out =
 -- ---- Checks of an operation
 
 -- An address is past the last one; the first such address is reported.
+-- Choice (SBC-3, 5.11): a range of no block at the capacity may be refused.
+-- Departure (SBC-3, 5.28.2): a descriptor of no block is no error there.
 abbrev pub past_capacity : (capacity : ℕ) → Extent → Option Refusal
 past_capacity capacity extent =
     if nat_lt capacity (extent.lba + extent.count)
     then Some (CheckCondition (LbaOutOfRange (max extent.lba capacity)))
     else None
 
+-- Choice (SBC-3, 5.28): the extents before the bad one may be unmapped.
 unfoldable pub out_of_range : (capacity : ℕ) → List Extent → Option Refusal
 out_of_range capacity extents = first_some (map (past_capacity capacity) extents)
 
--- SWP of the Control mode page is set (SPC-4, 7.5), and the command writes to the medium: also where
--- it names no block. The additional sense code is our choice.
+-- SWP of the Control mode page is set (SPC-4, 7.5), and the command writes to the medium, even if
+-- it names no block.
+-- Departure (SPC-4, 7.5): a command that names no block ends with GOOD there.
 unfoldable pub write_protection : ModeState → (writes_medium : Bool) → Option Refusal
 write_protection modes writes_medium =
     if write_protected modes && writes_medium
@@ -127,6 +136,7 @@ checked_operation state operation =
 -- ---- All of them, but that for space
 
 -- The operation that a command asks for, or the first refusal.
+-- Choice (SAM-5, 5.3.3): these checks may come in another order.
 abbrev pub checked_command : State → Command → (data_out : List ℕ) → Result Operation Refusal
 checked_command state command data_out =
     checked_next (requested (demands state.disk.capacity command data_out) data_out)

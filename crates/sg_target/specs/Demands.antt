@@ -1,5 +1,5 @@
--- What each command demands of its fields and its data-out, and which operation it asks for. Nothing
--- here looks at the state.
+-- What each command demands of its fields and its data-out, and which operation it asks for. Of the
+-- disk they look only at its number of blocks, which never changes.
 use Rattle.std.specs.Prelude.{ℕ, List, Bool, true, false, ◌&&◌, not, Option, Some, None, Result, Ok}
 use Rattle.std.specs.Prelude.{nat_le, nat_lt, if◌then◌else◌}
 use Rattle.sg_wire.specs.declared.command.Command.{Command}

@@ -72,5 +72,7 @@ changing_modes state initiator modes = let changed = (changed_by state.modes mod
 
 -- A parameter list in another format than the standard's is not supported: PF, in byte 1, has to be
 -- set.
+-- Departure (SPC-4, 6.11): with PF 0 a list of no byte is no error there.
+-- Choice (SPC-4, 6.11): with PF 0 pages of the vendor may be sent.
 abbrev pub unless_page_format : (pf : Bool) → Option ℕ
 unless_page_format pf = if pf then None else Some 1

@@ -8,7 +8,7 @@ use Rattle.sg_target.specs.Target.{TargetFields}
 
 -- The blocks are as they were. The saved mode pages are the current ones (SPC-4, 7.5). Registrations
 -- and reservation are as they were where they persist, and gone where not (SPC-4, 5.13). Each
--- initiator has one unit attention, POWER ON, and none of those that were pending (SAM-5, 6.2).
+-- initiator has one unit attention, POWER ON, and none of those that were pending (SAM-5, 5.14).
 abbrev pub after_power_cycle : State → State
 after_power_cycle state =
     record state {

@@ -19,6 +19,7 @@ use Rattle.sg_target.specs.declared.primary.InquiryPage.TheVariants.{Standard, V
 abbrev pub format_of : (desc : Bool) → Format
 format_of desc = if desc then Descriptor else Fixed
 
+-- Choice (SPC-4, 6.39): an allocation length of 0 may clear nothing.
 abbrev pub returning_sense : State → (initiator : ℕ) → Format → (allocation_length : ℕ) → Effect
 returning_sense state initiator format n =
     let sense = sense_data format (pending_sense (oldest state.attentions initiator)) in

@@ -38,6 +38,7 @@ ranges_in_turn change contents (extent ∷ rest) =
 
 -- ---- Unmapping
 
+-- Choice (SBC-3, 5.28): UNMAP may leave blocks mapped, or anchor them.
 abbrev pub unmapping : State → List Extent → Effect
 unmapping state extents = let contents = state.disk.contents in record (no_effect state) {
   ranges = ranges_in_turn unmapped contents extents;
@@ -86,6 +87,7 @@ block_out data_out = first_bytes logical_block_length data_out
 
 -- With UNMAP 1, blocks are unmapped in place of being written with zeros, as which they are read
 -- then.
+-- Choice (SBC-3, 5.43): WRITE SAME with UNMAP 1 may write the zeros.
 unfoldable pub unmaps : (unmap : Bool) (block : List ℕ) → Bool
 unmaps unmap block = unmap && list_all (λ byte. byte == 0) block
 

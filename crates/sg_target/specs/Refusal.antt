@@ -31,6 +31,8 @@ plain_sense key asc ascq =
 
 -- An invalid field has a pointer to its byte in the CDB or in the parameter list (SPC-4, 4.5.2.4.2),
 -- and a logical block address out of range is INFORMATION (SPC-4, 4.5.2.2).
+-- Departure (SPC-4, 7.5): 27h/00h, WRITE PROTECTED, there.
+-- Choice (SPC-4, 4.5.2.2): INFORMATION may be left out.
 abbrev pub sense_of : Reason → SenseFields
 sense_of (Attention condition) = plain_sense unit_attention (code_of condition).0 (code_of condition).1
 sense_of InvalidCommandOperationCode = plain_sense illegal_request 0x20 0x00

@@ -50,6 +50,8 @@ always_needs_type Reserve = true
 always_needs_type Release = true
 always_needs_type _ = false
 
+-- Departure (SPC-4, 5.13, releasing): GOOD for a registrant that holds nothing there.
+-- Choice (SPC-4, 5.13, reserving): a conflict may come before a bad SCOPE or TYPE.
 unfoldable pub unless_type : OutAction → (scope_type : ℕ) → Option ℕ
 unless_type action scope_type =
     if always_needs_type action && is_none (type_of scope_type) then Some 2 else None
@@ -63,6 +65,7 @@ out_refusal (out_fault.Field byte) = CheckCondition (InvalidFieldInParameterList
 out_refusal out_fault.BadType = CheckCondition (InvalidFieldInCdb 2)
 
 -- The fields of a parameter list. A list of another length than theirs is an error.
+-- Departure (SPC-4, 6.16.3): 26h/00h for SPEC_I_PT in a longer list there.
 abbrev pub fields_out : (list : List ℕ) → Result OutList Refusal
 fields_out list =
     if length list == list_length

@@ -40,6 +40,7 @@ abbrev pub writes_to : List Extent → MediumUse
 writes_to extents = record { extents = extents; writes = true }
 
 -- SYNCHRONIZE CACHE has its extent checked, and GET LBA STATUS has to start at a block of the disk.
+-- Departure (SBC-3, 5.26): a count of 0 in SYNCHRONIZE CACHE reaches to the last block there.
 abbrev pub medium_use : Operation → MediumUse
 medium_use Nothing = uses_no_block
 medium_use (ReturnSense format n) = uses_no_block

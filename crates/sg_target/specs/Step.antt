@@ -73,7 +73,9 @@ abbrev pub unless_no_space : State → (initiator : ℕ) → Effect → Option R
 unless_no_space state initiator effect (Some refusal) = refused state initiator refusal
 unless_no_space state initiator effect None = executed effect
 
--- An effect, unless there is no space for the blocks that would be mapped after it.
+-- An effect, unless there is no space for the blocks that would be mapped or anchored after it.
+-- Every effect is tested. In a state within its limits (`IsWithinLimits`) only an effect that maps
+-- or anchors more blocks can be refused.
 abbrev pub executed_or_refused : State → (initiator : ℕ) → Effect → Step
 executed_or_refused state initiator effect =
     unless_no_space state initiator effect (no_space effect.after.disk)

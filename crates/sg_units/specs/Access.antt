@@ -1,5 +1,5 @@
 -- Which commands a persistent reservation allows (SPC-4, 5.13, and SBC-3, the tables of allowed
--- commands), with the choices of docs/PROFILE.md.
+-- commands).
 use Rattle.std.specs.Prelude.{ℕ, Bool, true, nat_le, Option, Some, None, if◌then◌else◌}
 use Rattle.sg_wire.specs.declared.command.Class.{Class}
 use Rattle.sg_wire.specs.declared.command.Class.TheVariants.{Always, Reads, Writes}

@@ -15,6 +15,7 @@ abbrev pub Pending : Type 0
 Pending = List (List UnitAttention)
 
 -- After power on.
+-- Choice (SAM-5, 5.14): 29h/01h, POWER ON OCCURRED, may be reported.
 abbrev pub power_on_pending : Pending
 power_on_pending = replicate initiator_count (PowerOn ∷ [])
 
@@ -22,6 +23,7 @@ abbrev pub pending_for : Pending → (initiator : ℕ) → List UnitAttention
 pending_for pending initiator = slice_index_or pending initiator []
 
 -- The oldest condition of an initiator.
+-- Choice (SAM-5, 5.14): conditions may be reported in another order.
 abbrev pub oldest : Pending → (initiator : ℕ) → Option UnitAttention
 oldest pending initiator = slice_get (pending_for pending initiator) 0
 

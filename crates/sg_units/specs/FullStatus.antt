@@ -18,6 +18,7 @@ sas_address initiator = 0x3000000000000100 + initiator
 
 -- FORMAT CODE 0h and PROTOCOL IDENTIFIER 6h, three reserved bytes, SAS ADDRESS, and twelve
 -- reserved bytes.
+-- Departure (SPC-4, 7.6.4): the TransportID of the initiator's own protocol there.
 abbrev pub transport_id : (initiator : ℕ) → List Field
 transport_id initiator =
     field 1 0x06 ∷ field 3 0 ∷ field 8 (sas_address initiator) ∷ field 12 0 ∷ []
@@ -38,6 +39,7 @@ holder_flag None registrant = 0
 holder_flag (Some reservation) registrant = if holds reservation registrant then 1 else 0
 
 -- SCOPE and TYPE of the reservation that a registrant holds, and zeros where it holds none.
+-- Choice (SPC-4, 6.15.5): the byte is not defined for a registrant that holds nothing.
 abbrev pub held_type : Option Reservation → (registrant : ℕ) → ℕ
 held_type None registrant = 0
 held_type (Some reservation) registrant =

@@ -20,6 +20,7 @@ abbrev pub key_bytes : Registration → List ℕ
 key_bytes r = big_bytes 8 r.key
 
 -- READ KEYS (SPC-4, 6.15.2): the keys of all registrations, in their order.
+-- Choice (SPC-4, 6.15.2): keys may be returned in another order.
 unfoldable pub keys_data : ReservationState → List ℕ
 keys_data state =
     header state.generation (8 * length state.registrations)
@@ -75,6 +76,7 @@ tmv = 0x80
 abbrev ptpl_a : ℕ
 ptpl_a = 0x01
 
+-- Choice (SPC-4, 6.15.4): ALLOW COMMANDS may say which commands are allowed.
 abbrev activated_bits : ReservationState → Field
 activated_bits state = field 1 (if state.persists_through_power_loss then tmv + ptpl_a else tmv)
 

@@ -92,6 +92,7 @@ when condition outcome = record { condition = condition; outcome = outcome }
 abbrev otherwise : Outcome → Case
 otherwise outcome = record { condition = true; outcome = outcome }
 
+-- Each list of cases here ends with `otherwise`, so the conflict for no case never decides.
 abbrev pub first_case : List Case → Outcome
 first_case [] = Err Conflict
 first_case (case ∷ cases) = if case.condition then case.outcome else first_case cases
@@ -115,6 +116,8 @@ released_unless_type held type = if has_type held type then None else Some Reser
 -- ---- The service actions. SARK is the SERVICE ACTION RESERVATION KEY
 
 -- REGISTER and REGISTER AND IGNORE EXISTING KEY (SPC-4, 5.13, registering and unregistering).
+-- Departure (SPC-4, 6.15.2): PRGENERATION is incremented in the first case there.
+-- Departure (SPC-4, 5.13, power loss): APTPL is taken in the first case there.
 unfoldable pub register_cases : ReservationState → (caller sark : ℕ) → (aptpl : Bool) → List Case
 register_cases state caller sark aptpl =
     let all = state.registrations in
@@ -176,6 +179,7 @@ is_key_of_holder state key =
     state.reservation false
 
 -- PREEMPT and PREEMPT AND ABORT (SPC-4, 5.13, preempting).
+-- Departure (SPC-4, 5.13, preempting): 26h/00h for a SARK of 0 there, if none is held.
 unfoldable pub preempt_cases : ReservationState → (caller : ℕ) → Option ReservationType
     → (sark : ℕ) → List Case
 preempt_cases state caller type sark =
@@ -219,6 +223,7 @@ accepts_key all caller Register key =
     is_registered_under all caller key || (not (is_registered all caller) && key == 0)
 accepts_key all caller action key = is_registered_under all caller key
 
+-- Choice (SAM-5, 5.3.3): a conflict may come before a fault of the list.
 unfoldable pub outcome : ReservationState → (caller : ℕ) → OutAction → (scope_type : ℕ) → OutList
     → Outcome
 outcome state caller action scope_type list =

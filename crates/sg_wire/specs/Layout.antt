@@ -1,4 +1,4 @@
--- The layout of command descriptor blocks, CDBs (SPC-4, 4.2), with the choices of docs/PROFILE.md.
+-- The layout of command descriptor blocks, CDBs (SPC-4, 4.2; docs/PROFILE.md, "Commands").
 use Rattle.std.specs.Prelude.{ℕ, ◌+◌, ◌-◌, ◌*◌, ◌/◌, ◌%◌, ◌^◌, List, [], ◌∷◌, ◌++◌, length, drop}
 use Rattle.std.specs.Prelude.{slice_index, map, filter, find, fold, Option, Some, None, Result, Ok}
 use Rattle.std.specs.Prelude.{Err, Bool, true, false, ◌&&◌, nat_lt, nat_le, ◌==◌, not}
@@ -161,6 +161,7 @@ write_same_10 c =
     write_same_bits c.anchor c.unmap
     ++ field (bytes 2 5) c.lba ∷ field (bytes 7 8) c.count ∷ []
 
+-- Departure (SBC-3, 5.44): with NDOB 1 zeros are written without data-out there.
 abbrev write_same_16 : WriteSame16 → List Field
 write_same_16 c =
     write_same_bits c.anchor c.unmap
@@ -186,12 +187,16 @@ reserve_out c = field (bytes 2 2) c.scope_type ∷ field (bytes 5 8) c.list_leng
 -- The disk has no cache and groups no blocks. So of READ and WRITE it ignores DPO, FUA, the
 -- obsolete bit 1 and the GROUP NUMBER, and of SYNCHRONIZE CACHE the obsolete bit 2, IMMED and the
 -- GROUP NUMBER. Of WRITE SAME it ignores the GROUP NUMBER.
+-- Choice (SBC-3, 5.11): the obsolete bit 1 may be refused.
+-- Choice (SBC-3, RARC): RARC may be ignored.
 abbrev cache_bits : (group_byte : ℕ) → List Place
 cache_bits group_byte = bit 1 4 ∷ bit 1 3 ∷ bit 1 1 ∷ bits group_byte 4 0 ∷ []
 
+-- Choice (SBC-3, 5.26): the obsolete bit 2 may be refused.
 abbrev immed_bits : List Place
 immed_bits = bit 1 2 ∷ bit 1 1 ∷ bits 6 4 0 ∷ []
 
+-- Choice (SBC-3, grouping function): a GROUP NUMBER may be refused.
 abbrev group_number : (byte : ℕ) → List Place
 group_number byte = bits byte 4 0 ∷ []
 
@@ -233,6 +238,9 @@ layout (command.PersistentReserveOut c) =
 
 -- Each command once, and where its service action is a value of it, once with each. Only the places
 -- of its fields matter here, not their values.
+-- Departure (SPC-4, 6.33): REPORT LUNS is mandatory there.
+-- Departure (SBC-3, 5.3): FORMAT UNIT is mandatory there.
+-- Departure (SPC-4, 6.42): SEND DIAGNOSTIC is mandatory for a disk there.
 abbrev pub each_command : List Command
 each_command =
     command.TestUnitReady
@@ -331,6 +339,8 @@ action_mask k none = 0
 action_mask k (named action) = mask_in k action_place
 
 -- The bits of byte k that may be set. All of byte 0, the operation code.
+-- Choice (SPC-4, 3.3, reserved): a reserved or obsolete bit may be ignored.
+-- Choice (SAM-5, 5.2): bits 7 and 6 of CONTROL may have a meaning.
 abbrev pub mask_of : Layout → ℕ → ℕ
 mask_of l k =
     if k == 0 then 0xFF
@@ -385,6 +395,7 @@ command_of (opcode ∷ rest) = command_with opcode (opcode ∷ rest)
 -- ---- What the operation code and the service action decide
 
 -- With a service action that no row has, Always.
+-- Choice (SPC-4, 5.13): an unknown service action may be a conflict.
 abbrev pub class_by_rows : List ℕ → List Layout → Option Class
 class_by_rows cdb [] = None
 class_by_rows cdb (l ∷ ls) =

@@ -17,6 +17,7 @@ abbrev pub flags_at : ℕ
 flags_at = 20
 
 -- The list that bytes contain.
+-- Choice (SPC-4, 3.3, reserved): a reserved bit that is set may be refused.
 abbrev pub out_list : List ℕ → OutList
 out_list bytes = record {
   reservation_key = big_number 8 bytes;

@@ -58,6 +58,7 @@ first_descriptors bytes count = map (descriptor_at bytes) (range_with_len 0 coun
 
 -- How many whole descriptors there are in the bytes that the header counts, or in those that are
 -- behind it, where these are fewer.
+-- Choice (SBC-3, 5.28.2): lengths that disagree may be refused.
 unfoldable pub descriptor_count : (bytes : List ℕ) → ℕ
 descriptor_count bytes =
     let counted = big_number 2 (drop descriptor_data_length_at bytes) in
@@ -65,6 +66,7 @@ descriptor_count bytes =
 
 -- No byte is a list without an extent. Any other list has its header, and no more descriptors than
 -- there may be.
+-- Choice (SPC-4, 3.3, reserved): a reserved byte that is not 0 may be refused.
 unfoldable pub unmap_list : (bytes : List ℕ) → Result (List Extent) UnmapListFault
 unmap_list bytes =
     if length bytes == 0 then Ok []
