@@ -19,7 +19,7 @@ uint32_t mehdalung_sense(const uint8_t *sense, size_t length, mdl_sense *fields)
 uint8_t mehdalung_exit_status(uint8_t status, const uint8_t *sense, size_t sense_length);
 size_t mehdalung_decode(uint32_t kind, const uint8_t *data_in, size_t length, uint8_t *text,
                         size_t text_length);
-uint32_t mehdalung_tool(const uint8_t *words, size_t length, uint8_t *data_out,
+uint32_t mehdalung_tool(const uint8_t *text, size_t length, uint8_t *data_out,
                         size_t data_out_length, mdl_command *command);
 size_t mehdalung_version(uint8_t *text, size_t text_length);
 

@@ -3,6 +3,8 @@ pub mod Holds
 pub mod Outcome
 pub mod Executed
 pub mod Records
+pub mod InMemory
+pub mod Structs
 pub mod Kinds
 pub mod Planned
 pub mod Text

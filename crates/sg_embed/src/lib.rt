@@ -5,6 +5,7 @@ mod answer;
 mod command;
 mod kept;
 mod kinds;
+pub mod laws;
 mod outcome;
 mod parts;
 mod record;

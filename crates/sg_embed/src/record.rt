@@ -1,4 +1,4 @@
-// The records of C. The compiler checks their sizes, as no contract speaks of a layout.
+// The records of C. `laws` says how each lies in memory.
 ghost use Rattle.std.specs.Prelude.{◌≡◌, option_map};
 ghost use Rattle.sg_embed.specs.Records.{Shows, asked_identity, sense_record};
 ghost use Rattle.sg_wire.specs.Sense.{fields_of};

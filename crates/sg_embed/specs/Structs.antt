@@ -1,0 +1,48 @@
+-- The structs of embed/mehdalung.h: the fields in the header's order, each with its width in bytes.
+-- A field begins where the fields and the padding before it end.
+use Rattle.std.specs.Prelude.{List, ◌++◌}
+use mir.Mem.{Cell}
+use Rattle.sg_embed.specs.InMemory.{number, bytes, flag, padding}
+use Rattle.sg_embed.specs.declared.command.CommandRecord.{CommandRecord}
+use Rattle.sg_embed.specs.declared.record.IdentityRecord.{IdentityRecord}
+use Rattle.sg_embed.specs.declared.record.ReplyRecord.{ReplyRecord}
+use Rattle.sg_embed.specs.declared.record.SenseRecord.{SenseRecord}
+
+abbrev pub mdl_identity : IdentityRecord → List Cell
+mdl_identity identity =
+    bytes 8 identity.vendor
+    ++ bytes 16 identity.product
+    ++ bytes 4 identity.revision
+    ++ bytes 8 identity.serial
+    ++ padding 4
+    ++ number 8 identity.local
+
+abbrev pub mdl_reply : ReplyRecord → List Cell
+mdl_reply reply =
+    number 1 reply.status
+    ++ number 1 reply.sense_length
+    ++ bytes 20 reply.sense
+    ++ padding 2
+    ++ number 8 reply.data_in_length
+    ++ number 8 reply.visits
+    ++ number 8 reply.probes
+    ++ number 8 reply.links
+
+abbrev pub mdl_sense : SenseRecord → List Cell
+mdl_sense sense =
+    number 1 sense.key
+    ++ number 1 sense.asc
+    ++ number 1 sense.ascq
+    ++ flag sense.has_information
+    ++ flag sense.has_pointer
+    ++ flag sense.in_command
+    ++ number 2 sense.byte
+    ++ number 8 sense.information
+
+abbrev pub mdl_command : CommandRecord → List Cell
+mdl_command command =
+    bytes 16 command.cdb
+    ++ number 1 command.cdb_length
+    ++ padding 3
+    ++ number 4 command.kind
+    ++ number 8 command.data_out_length
