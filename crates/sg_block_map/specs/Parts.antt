@@ -1,12 +1,19 @@
--- What a `BlockMap` is made of.
-use Rattle.std.specs.Prelude.{◌≡◌, ℕ, ◌≤◌}
+-- What a `BlockMap` is made of: it is the `BlockMap` of the listed parts, each part is a field of the
+-- listed type, and there is no other field.
+use Rattle.std.specs.Prelude.{◌≡◌, ℕ, ◌≤◌, [], ◌∷◌}
 use Rattle.std.proofs.Common.{refl}
 use Rattle.sg_store.specs.Disk.{IsWellFormed, max_capacity, max_pool}
 use Rattle.sg_table.specs.Draft.{empty_draft}
 use Rattle.sg_pool.specs.Slots.{Slots}
+use Rattle.sg_pool.specs.contracts.pool.Pool as pool
+use Rattle.sg_table.specs.Fields.{HasOnly}
 use Rattle.sg_table.specs.Table.{Table}
+use Rattle.sg_table.specs.contracts.draft.Draft as draft
+use Rattle.sg_table.specs.contracts.table.RunTable as table
 use Rattle.sg_block_map.specs.Runs.{AreRuns, chained_contents}
+use Rattle.sg_block_map.specs.contracts.block_map.BlockMap.{struct}
 use Rattle.sg_block_map.specs.declared.block_map.BlockMap.{BlockMap}
+use denote.Struct.Field.{u64-field}
 
 -- A capacity, a table with its counts, and a pool with its links make up a disk.
 pub record FitTogether (capacity : ℕ) (table : Table) (pool : Slots) : Type 0 where
@@ -45,3 +52,12 @@ fit_of map = record {
 -- and make it up.
 abbrev pub IsMadeOfParts : Type 0
 IsMadeOfParts = (map : BlockMap) → map ≡ parts map.capacity map.table map.pool (fit_of map)
+
+abbrev pub HasOnlyItsParts : Type 0
+HasOnlyItsParts = HasOnly struct.parts (
+    u64-field  -- capacity
+    ∷ table.the_field  -- table
+    ∷ pool.the_field  -- pool
+    ∷ draft.the_field  -- gathered
+    ∷ draft.the_field  -- remaining
+    ∷ [])

@@ -1,11 +1,17 @@
 //! What holds of every [`BlockMap`](crate::BlockMap).
-ghost use Rattle.sg_block_map.specs.Parts.{IsMadeOfParts};
+ghost use Rattle.sg_block_map.specs.Parts.{HasOnlyItsParts, IsMadeOfParts};
 ghost use Rattle.sg_block_map.specs.RunLaws.{HasExactlyTheMaximalRuns, RunsRise};
 
 /// A [`BlockMap`](crate::BlockMap) is made of its capacity, its table and its pool. So it keeps no
 /// record but those of the table, which are counted when they are read.
 pub fn a_block_map_is_made_of_its_parts()
     ensures { IsMadeOfParts }
+{}
+
+/// These and two lists of records, which are empty between calls, are its fields, each of a listed
+/// type. It has no other field.
+pub fn a_block_map_has_only_its_parts()
+    ensures { HasOnlyItsParts }
 {}
 
 /// A run of addresses is one of the maximal runs, which the records of a

@@ -1,7 +1,15 @@
--- What a `Pool` is made of: of two that agree in the listed parts, each is the other, so that
--- neither keeps anything else.
-use Rattle.std.specs.Prelude.{◌≡◌}
+-- What a `Pool` is made of, in two ways: of two that agree in the listed parts, each is the other, and
+-- each part is a field of the listed type, while there is no other field. So neither keeps anything
+-- else. And where in its memory each block is.
+use Rattle.std.specs.Prelude.{◌≡◌, [], ◌∷◌, length}
+use Rattle.sg_store.specs.declared.store.TheConstants.{BLOCK_LENGTH}
+use Rattle.sg_table.specs.Fields.{HasOnly, vec_field}
+use Rattle.sg_pool.specs.Slots.{zero_padded}
+use Rattle.sg_pool.specs.contracts.pool.Pool.TheInside.{struct}
 use Rattle.sg_pool.specs.declared.pool.Pool.TheInside.{Inside}
+use Rattle.sg_pool.specs.declared.pool.Pool.TheView.{view}
+use denote.Builtin.{Array, u8, u32}
+use denote.Struct.Field.{u32-field, u64-field}
 
 -- The same blocks and links, the same free slots, and the same count.
 pub record IsSamePool (pool other : Inside) : Type 0 where
@@ -14,3 +22,18 @@ pub record IsSamePool (pool other : Inside) : Type 0 where
 
 abbrev pub PoolIsItsParts : Type 0
 PoolIsItsParts = (pool other : Inside) → IsSamePool pool other → pool ≡ other
+
+abbrev pub PoolHasOnlyItsParts : Type 0
+PoolHasOnlyItsParts = HasOnly struct.parts (
+    vec_field (Array u8 tt BLOCK_LENGTH)  -- blocks
+    ∷ vec_field u32  -- next
+    ∷ u32-field  -- first_given
+    ∷ u32-field  -- given_count
+    ∷ u32-field  -- fresh
+    ∷ u64-field  -- links
+    ∷ [])
+
+-- The block of a slot is the item of `blocks` at the number of the slot. Past its end they are zeros.
+abbrev pub BlocksLieInOrder : Type 0
+BlocksLieInOrder = (pool : Inside)
+    → (view pool).blocks ≡ zero_padded pool.blocks.items (length pool.next.items)

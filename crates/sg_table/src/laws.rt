@@ -1,18 +1,42 @@
 //! What each [`RunTable`](crate::RunTable) is made of, down to its records. Nothing is kept beside
 //! the parts that are listed, so there is no second copy of a record that is read without counting.
-ghost use Rattle.sg_table.specs.Parts.{DirectoryFollows, DraftIsItsParts, EachSlotHasOneLeaf};
-ghost use Rattle.sg_table.specs.Parts.{LeafIsItsRecords, LeafListIsItsParts, LeavesAreTheirParts};
-ghost use Rattle.sg_table.specs.Parts.{TableIsItsParts};
+ghost use Rattle.sg_table.specs.Parts.{DirectoryFollows, DraftHasOnlyItsParts, DraftIsItsParts};
+ghost use Rattle.sg_table.specs.Parts.{EachSlotHasOneLeaf, GhostNumberHasNoField};
+ghost use Rattle.sg_table.specs.Parts.{LeafHasOnlyItsRecords, LeafIsItsRecords};
+ghost use Rattle.sg_table.specs.Parts.{LeafListHasOnlyItsParts, LeafListIsItsParts};
+ghost use Rattle.sg_table.specs.Parts.{LeavesAreTheirParts, LeavesHaveOnlyTheirParts};
+ghost use Rattle.sg_table.specs.Parts.{RunHasOnlyItsParts, SpanHasOnlyItsParts};
+ghost use Rattle.sg_table.specs.Parts.{TableHasOnlyItsParts, TableIsItsParts};
 
 /// A [`RunTable`](crate::RunTable) is made of its leaves, its room and what was counted.
 pub fn a_table_is_made_of_its_leaves_and_counts()
     ensures { TableIsItsParts }
 {}
 
+/// These are its fields, each of a listed type, and it has no other field.
+pub fn a_table_has_only_its_parts()
+    ensures { TableHasOnlyItsParts }
+{}
+
+/// A number that only proofs read has no field, so it takes no memory.
+pub fn a_ghost_number_has_no_field()
+    ensures { GhostNumberHasNoField }
+{}
+
 /// Its leaves are made of a list of leaves, a directory of two lists, the span of the leaf that was
 /// found last, the number of addresses with data, and the number of moves.
 pub fn the_leaves_are_made_of_a_list_and_a_directory()
     ensures { LeavesAreTheirParts }
+{}
+
+/// These are their fields, each of a listed type, and they have no other field.
+pub fn the_leaves_have_only_their_parts()
+    ensures { LeavesHaveOnlyTheirParts }
+{}
+
+/// The span of a leaf has three numbers and no other field.
+pub fn a_span_has_only_its_parts()
+    ensures { SpanHasOnlyItsParts }
 {}
 
 /// The directory, the span and the number follow from the records: they are the index and the first
@@ -26,6 +50,11 @@ pub fn a_list_of_leaves_is_made_of_its_slots()
     ensures { LeafListIsItsParts }
 {}
 
+/// These are three vectors, one of leaves and two of numbers, and it has no other field.
+pub fn a_list_of_leaves_has_only_its_parts()
+    ensures { LeafListHasOnlyItsParts }
+{}
+
 /// Each slot is that of one leaf of the table, or is free.
 pub fn each_slot_has_one_leaf_or_is_free()
     ensures { EachSlotHasOneLeaf }
@@ -36,7 +65,22 @@ pub fn a_leaf_is_made_of_its_records()
     ensures { LeafIsItsRecords }
 {}
 
+/// Its only field is an array of records.
+pub fn a_leaf_has_only_its_records()
+    ensures { LeafHasOnlyItsRecords }
+{}
+
+/// A record has four numbers and a kind, and no other field.
+pub fn a_record_has_only_its_parts()
+    ensures { RunHasOnlyItsParts }
+{}
+
 /// A [`Draft`](crate::Draft) is made of an index, its records and their room.
 pub fn a_draft_is_made_of_its_records()
     ensures { DraftIsItsParts }
+{}
+
+/// These are its fields, each of a listed type, and it has no other field.
+pub fn a_draft_has_only_its_parts()
+    ensures { DraftHasOnlyItsParts }
 {}
