@@ -19,6 +19,7 @@ mod OwnLemmas
 mod RegistrationLemmas
 mod OutsiderLemmas
 mod NewcomerLemmas
+mod RegisteringLemmas
 mod PreemptLemmas
 -- Registrants and others.
 mod AgreeLemmas

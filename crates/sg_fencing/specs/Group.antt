@@ -1,13 +1,8 @@
 -- The group of a disk: what its registrants see together, what a new registration changes of that, and
 -- that the commands of those outside may be left out.
-use Rattle.std.specs.Prelude.{◌≡◌, ℕ, ◌+◌, ◌%◌, ◌^◌, Bool, true, false, ◌&&◌, not, List, filter}
-use Rattle.std.specs.Prelude.{slice_get, take, Option, Some, None, Result, Ok, if◌then◌else◌}
-use Rattle.sg_wire.specs.CutAnswer.{first_bytes}
+use Rattle.std.specs.Prelude.{◌≡◌, ℕ, ◌+◌, ◌%◌, ◌^◌, Bool, true, false, not, List, filter}
+use Rattle.std.specs.Prelude.{slice_get, take, Option, Some}
 use Rattle.sg_wire.specs.Layout.{command_of}
-use Rattle.sg_wire.specs.OutList.{out_list}
-use Rattle.sg_wire.specs.declared.command.CdbFault.{CdbFault}
-use Rattle.sg_wire.specs.declared.command.Command.{Command}
-use Rattle.sg_wire.specs.declared.command.Command.TheVariants.{PersistentReserveOut}
 use Rattle.sg_wire.specs.declared.out_list.OutList.{OutList}
 use Rattle.sg_store.specs.Disk.{Disk}
 use Rattle.sg_pages.specs.ModePage.{ModeState}
@@ -20,8 +15,8 @@ use Rattle.sg_target.specs.Step.{Answer, step}
 use Rattle.sg_target.specs.declared.call.Call.{Call}
 use Rattle.sg_fencing.specs.ChosenAnswers.{answers_where}
 use Rattle.sg_fencing.specs.Fencing.{view_of}
-use Rattle.sg_fencing.specs.Registrants.{has_registering, is_registering}
-use Rattle.sg_fencing.specs.Registrants.{is_registrant, is_reserved}
+use Rattle.sg_fencing.specs.Registrants.{StaysUnregistered, is_registrant, is_reserved}
+use Rattle.sg_fencing.specs.Registrants.{registering_list}
 
 -- ---- What a group sees
 
@@ -49,12 +44,6 @@ group_view state = record {
 
 -- ---- A new registration
 
--- The parameter list of a REGISTER or a REGISTER AND IGNORE EXISTING KEY (SPC-4, 6.16.3).
-abbrev pub registering_list : Result Command CdbFault → (data_out : List ℕ) → Option OutList
-registering_list (Ok (PersistentReserveOut c)) data_out =
-    if is_registering c.action then Some (out_list (first_bytes c.list_length data_out)) else None
-registering_list _ data_out = None
-
 -- There is one registration more, at the end; PRGENERATION, which has 32 bits, is incremented; and APTPL
 -- is that of the parameter list (SPC-4, 5.13, registering).
 abbrev pub with_newcomer : GroupView → (initiator : ℕ) → OutList → GroupView
@@ -80,12 +69,6 @@ NewcomersAreSeen =
     → IsSeen state (step state initiator cdb data_out).state initiator list
 
 -- ---- Those outside, among others
-
--- An initiator stays outside through a list of calls: it is not registered before them, and none of
--- them registers it.
-abbrev pub stays_outside : State → List Call → (initiator : ℕ) → Bool
-stays_outside state calls initiator =
-    not (is_registrant state initiator) && not (has_registering initiator calls)
 
 -- The calls of all others, in order, and the answers to them.
 abbrev pub is_from_inside : (outside : ℕ → Bool) → Call → Bool
@@ -114,9 +97,10 @@ IsReservedFrom outside state calls =
     (n : ℕ) (call : Call) → slice_get calls n ≡ Some call → outside call.initiator ≡ true
     → is_reserved (state_after_all state (take n calls)) ≡ true
 
--- So it is over each list of commands, of registrants and others in any order.
+-- So it is over each list of commands, of registrants and others in any order, for any initiators that
+-- stay unregistered.
 abbrev pub OutsidersMayBeLeftOut : Type 0
 OutsidersMayBeLeftOut =
-    (state : State) (calls : List Call) → IsWithinLimits state
-    → IsReservedFrom (stays_outside state calls) state calls
-    → IsAsIfInsideAlone (stays_outside state calls) state calls
+    (outside : ℕ → Bool) (state : State) (calls : List Call) → IsWithinLimits state
+    → ((initiator : ℕ) → outside initiator ≡ true → StaysUnregistered initiator state calls)
+    → IsReservedFrom outside state calls → IsAsIfInsideAlone outside state calls
