@@ -4,7 +4,6 @@ mod HolderLemmas
 mod ReserveOutLemmas
 mod OwnReserveOutLemmas
 -- From a command to its operation.
-mod LiftLemmas
 mod OperationLemmas
 -- Commands of others.
 mod AccessLemmas

@@ -41,7 +41,7 @@ use Rattle.sg_target.specs.declared.refusal.Refusal.{Refusal}
 use Rattle.sg_target.specs.declared.refusal.Refusal.TheVariants.{CheckCondition}
 use Rattle.sg_fencing.specs.Group.{IsSeen}
 use Rattle.sg_fencing.specs.Registrants.{is_registering, is_registrant, registering_list}
-use Rattle.sg_fencing.proofs.LiftLemmas.{lifted}
+use Rattle.sg_target.proofs.LiftLemmas.{lifted}
 use Rattle.sg_fencing.proofs.OperationLemmas.{listed}
 use Rattle.sg_fencing.proofs.OthersLemmas.{changed-keeps}
 use Rattle.sg_fencing.proofs.RegistrationLemmas.{not_so, outcome-leaves}

@@ -24,7 +24,7 @@ use Rattle.sg_target.specs.declared.reply.Status.TheVariants.{Good}
 use Rattle.sg_fencing.specs.Registrants.{IsNeverGranted, RegistersItself}
 use Rattle.sg_fencing.specs.Registrants.{StaysUnregistered, asks_to_register, is_registrant}
 use Rattle.sg_fencing.specs.Registrants.{registering_list}
-use Rattle.sg_fencing.proofs.LiftLemmas.{lifted}
+use Rattle.sg_target.proofs.LiftLemmas.{lifted}
 use Rattle.sg_fencing.proofs.NewcomerLemmas.{key-sent}
 use Rattle.sg_fencing.proofs.OutsiderLemmas.{registers, stays-unknown}
 

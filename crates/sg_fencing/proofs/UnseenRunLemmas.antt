@@ -42,7 +42,7 @@ use Rattle.sg_fencing.specs.ChosenAnswers.{answers_where, calls_among}
 use Rattle.sg_fencing.specs.Registrants.{ExcludesReadingFrom, StaysUnregistered, excludes_reading}
 use Rattle.sg_fencing.specs.Registrants.{is_registrant}
 use Rattle.sg_fencing.proofs.FencedRunLemmas.{answers_in}
-use Rattle.sg_fencing.proofs.LiftLemmas.{lifted-both}
+use Rattle.sg_target.proofs.LiftLemmas.{lifted-both}
 use Rattle.sg_fencing.proofs.OutsiderLemmas.{shut}
 use Rattle.sg_fencing.proofs.OutsiderRunLemmas.{held-to-exclude}
 use Rattle.sg_fencing.proofs.UnseenLemmas.{fits, parse-same, unseen}
