@@ -22,6 +22,7 @@ mod RegisteringLemmas
 mod PreemptLemmas
 -- Registrants and others.
 mod AgreeLemmas
+mod GroupLemmas
 mod InsideLemmas
 -- Lists of commands.
 mod OutsiderRunLemmas

@@ -1,29 +1,34 @@
--- The group of a disk: what its registrants see together, what a new registration changes of that, and
--- that the commands of those outside may be left out.
+-- The group of a disk. Its registrants see a view together, and nothing else. A new registration changes
+-- that view in one place. The commands of those outside may be left out.
 use Rattle.std.specs.Prelude.{◌≡◌, ℕ, ◌+◌, ◌%◌, ◌^◌, Bool, true, false, not, List, filter}
 use Rattle.std.specs.Prelude.{slice_get, take, Option, Some}
+use Rattle.std.specs.List.{list_any}
 use Rattle.sg_wire.specs.Layout.{command_of}
 use Rattle.sg_wire.specs.declared.out_list.OutList.{OutList}
 use Rattle.sg_store.specs.Disk.{Disk}
 use Rattle.sg_pages.specs.ModePage.{ModeState}
+use Rattle.sg_units.specs.Attentions.{pending_for}
 use Rattle.sg_units.specs.Registrations.{with_registration}
 use Rattle.sg_units.specs.declared.registrations.Registration.{Registration}
 use Rattle.sg_units.specs.declared.reservation.Reservation.{Reservation}
 use Rattle.sg_target.specs.Runs.{answers, state_after_all}
 use Rattle.sg_target.specs.State.{IsWithinLimits, State}
-use Rattle.sg_target.specs.Step.{Answer, step}
+use Rattle.sg_target.specs.Step.{Answer, Step, step}
 use Rattle.sg_target.specs.declared.call.Call.{Call}
 use Rattle.sg_fencing.specs.ChosenAnswers.{answers_where}
-use Rattle.sg_fencing.specs.Fencing.{view_of}
+use Rattle.sg_fencing.specs.Fencing.{is_from, view_of}
 use Rattle.sg_fencing.specs.Registrants.{StaysUnregistered, is_registrant, is_reserved}
 use Rattle.sg_fencing.specs.Registrants.{registering_list}
 
 -- ---- What a group sees
 
--- What the registrants of a disk see together: the blocks and the mode pages; by READ KEYS and READ
--- FULL STATUS who is registered under which key, in the order of registration, and PRGENERATION; by
--- READ RESERVATION the reservation; and by REPORT CAPABILITIES whether these persist through a power
--- loss (SPC-4, 6.15). The unit attentions are each initiator's own.
+-- The registrants of a disk see these together (SPC-4, 6.15):
+-- - the blocks and the mode pages
+-- - by READ KEYS and READ FULL STATUS, who is registered under which key, in the order of registration,
+--   and PRGENERATION
+-- - by READ RESERVATION, the reservation
+-- - by REPORT CAPABILITIES, whether these persist through a power loss.
+-- Unit attentions are not among them: each initiator has its own.
 pub record GroupView : Type 0 where
   pub disk : Disk
   pub modes : ModeState
@@ -41,6 +46,43 @@ group_view state = record {
   reservation = state.reservations.reservation;
   persists = state.reservations.persists_through_power_loss;
 }
+
+-- A command of an initiator ends alike in two states: with equal answers, and the group sees the same
+-- afterwards. Each initiator that had equal unit attentions in both has equal ones again.
+pub record EndAlikeForGroup (before before' : State) (done done' : Step) : Type 0 where
+  pub answer : done.answer ≡ done'.answer
+  pub group : group_view done.state ≡ group_view done'.state
+  pub identity : done.state.identity ≡ done'.state.identity
+  pub attentions : (other : ℕ)
+      → pending_for before.attentions other ≡ pending_for before'.attentions other
+      → pending_for done.state.attentions other ≡ pending_for done'.state.attentions other
+
+-- So it is if the group sees the same in both states of one disk, and the same unit attentions are
+-- pending for the initiator. So no answer shows more than that, and no command depends on more, not even
+-- PERSISTENT RESERVE IN and PERSISTENT RESERVE OUT.
+abbrev pub EqualGroupViewsEndAlike : Type 0
+EqualGroupViewsEndAlike =
+    (first second : State) (initiator : ℕ) (cdb data_out : List ℕ)
+    → first.identity ≡ second.identity → group_view first ≡ group_view second
+    → pending_for first.attentions initiator ≡ pending_for second.attentions initiator
+    → EndAlikeForGroup first second (step first initiator cdb data_out)
+    (step second initiator cdb data_out)
+
+-- Over a list of commands of some initiators the answers are equal, and the group sees the same in the
+-- end.
+pub record RunAlikeForGroup (first second : State) (calls : List Call) : Type 0 where
+  pub answers : answers first calls ≡ answers second calls
+  pub group : group_view (state_after_all first calls) ≡ group_view (state_after_all second calls)
+
+-- So it is if at first the group sees the same, and the same unit attentions are pending for each of
+-- these initiators.
+abbrev pub EqualGroupViewsRunAlike : Type 0
+EqualGroupViewsRunAlike =
+    (first second : State) (calls : List Call)
+    → first.identity ≡ second.identity → group_view first ≡ group_view second
+    → ((initiator : ℕ) → list_any (is_from initiator) calls ≡ true
+    → pending_for first.attentions initiator ≡ pending_for second.attentions initiator)
+    → RunAlikeForGroup first second calls
 
 -- ---- A new registration
 

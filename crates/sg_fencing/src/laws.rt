@@ -3,6 +3,7 @@
 ghost use Rattle.sg_fencing.specs.Fencing.{EqualViewsEndAlike, HolderIsAsIfAlone};
 ghost use Rattle.sg_fencing.specs.Fencing.{OthersAreShutOut, OthersLeaveTheView, OthersReadNothing};
 ghost use Rattle.sg_fencing.specs.Fencing.{OnlyPreemptionEnds, OthersSeeNoBlock};
+ghost use Rattle.sg_fencing.specs.Group.{EqualGroupViewsEndAlike, EqualGroupViewsRunAlike};
 ghost use Rattle.sg_fencing.specs.Group.{NewcomersAreSeen, OutsidersMayBeLeftOut};
 ghost use Rattle.sg_fencing.specs.Laws.{ConflictChangesNothing, OnlyWritesChangeBlocks};
 ghost use Rattle.sg_fencing.specs.Laws.{RefusedByReservation, RefusedChangesNothing};
@@ -189,6 +190,20 @@ pub fn the_unregistered_change_nothing()
     others_are_refused();
     commands_have_their_class();
 }
+
+/// If a group sees the same in two states of one disk, and the same unit attentions are pending for an
+/// initiator, then each command of it ends with equal answers in both, and the group sees the same
+/// afterwards.
+pub fn equal_views_of_a_group_end_alike()
+    ensures { EqualGroupViewsEndAlike }
+{}
+
+/// Over a list of commands, if a group sees the same in two states of one disk, and the same unit
+/// attentions are pending for each sender: the answers are equal, and the group sees the same in the
+/// end.
+pub fn equal_views_of_a_group_run_alike()
+    ensures { EqualGroupViewsRunAlike }
+{}
 
 /// Where an initiator becomes registered, what the registrants see together is as it was but for its
 /// registration, the next PRGENERATION, and APTPL of its parameter list. Nothing that another
