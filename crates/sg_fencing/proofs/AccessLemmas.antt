@@ -8,12 +8,12 @@ use Rattle.sg_target.specs.Checks.{bad_field, cdb_checks, empty_cdb, pending_att
 use Rattle.sg_target.specs.Checks.{reservation_conflict, short_cdb, unknown_opcode}
 use Rattle.sg_target.specs.Refusal.{first_some}
 use Rattle.sg_target.specs.State.{State}
-use Rattle.sg_target.specs.Step.{Step, refused, step}
+use Rattle.sg_target.specs.Step.{Step, step}
 use Rattle.sg_target.specs.declared.operation.Operation.{Operation}
 use Rattle.sg_target.specs.declared.refusal.Refusal.{Refusal}
-use Rattle.sg_target.specs.declared.refusal.Refusal.TheVariants.{Conflict, CheckCondition}
+use Rattle.sg_target.specs.declared.refusal.Refusal.TheVariants.{Conflict}
 use Rattle.sg_target.specs.declared.reply.Status.TheVariants.{Good}
-use Rattle.sg_fencing.proofs.LiftLemmas.{Asked, lifted}
+use Rattle.sg_target.proofs.LiftLemmas.{Asked, lifted, not_good}
 use Rattle.sg_fencing.proofs.OperationLemmas.{asked-suits, class_for}
 
 module _ (state : State) (j : ℕ) where
@@ -39,10 +39,6 @@ module _ (state : State) (j : ℕ) where
       (short_cdb (command_of cdb)) (bad_field (command_of cdb)) passed
       (conflict cdb class is not_allowed)
 
-  pub not_good : (refusal : Refusal) → (refused state j refusal).answer.status ≡ Good → ⊥
-  not_good Conflict e = cc
-  not_good (CheckCondition reason) e = cc
-
   -- nor is the operation that it asks for one of a class that is not
   pub asked-is-allowed : CommandsHaveTheirClass → (cdb data_out : List ℕ) (operation : Operation)
       (class : Class) → Asked state j cdb data_out operation → allows state.reservations j class ≡ false
@@ -58,5 +54,5 @@ module _ (state : State) (j : ℕ) where
       → allows state.reservations j class ≡ false
       → (step state j cdb data_out).answer.status ≡ Good → ⊥
   shut-out cdb data_out class is not_allowed =
-      lifted state j cdb data_out (λ (done : Step). done.answer.status ≡ Good → ⊥) not_good
+      lifted state j cdb data_out (λ (done : Step). done.answer.status ≡ Good → ⊥) (not_good state j)
       (λ operation k e. passed-is-allowed cdb class k.passed is not_allowed)

@@ -13,7 +13,7 @@ use Rattle.sg_target.specs.declared.operation.Operation.TheVariants.{ReturnReser
 use Rattle.sg_fencing.proofs.AlikeLemmas.{EffectsAgree, StepsAgree, checks-same, operation-agrees}
 use Rattle.sg_fencing.proofs.AlikeLemmas.{parse-same, raised-equal, refused-agree, reporting-agree}
 use Rattle.sg_fencing.proofs.AlikeLemmas.{sound-agree}
-use Rattle.sg_fencing.proofs.LiftLemmas.{lifted-both}
+use Rattle.sg_target.proofs.LiftLemmas.{lifted-both}
 
 abbrev pub with_attentions : State → Pending → State
 with_attentions state attentions = record state { attentions = attentions }

@@ -1,10 +1,10 @@
 -- Lists of commands of registrants and others while a reservation is held: those of initiators that are
 -- not registered may be left out.
-use Rattle.std.proofs.Common.{◌≡◌, ℕ, suc, Bool, true, false, cond, not, ◌&&◌, List, [], ◌∷◌}
+use Rattle.std.proofs.Common.{◌≡◌, ℕ, suc, Bool, true, false, cond, not, List, [], ◌∷◌}
 use Rattle.std.proofs.Common.{filter, Result, Ok, Err, refl, sym, ap, ◌∙◌, subst, arith}
 use Rattle.std.specs.List.{zip}
 use Rattle.std.specs.Result.{result_map_both}
-use Rattle.std.proofs.lemmas.Bool.{eq-eqb, false≢true, or_parts}
+use Rattle.std.proofs.lemmas.Bool.{false≢true}
 use Rattle.sg_wire.specs.Laws.{CommandsHaveTheirClass}
 use Rattle.sg_wire.specs.Layout.{command_of}
 use Rattle.sg_wire.specs.declared.command.CdbFault.{CdbFault}
@@ -14,9 +14,10 @@ use Rattle.sg_wire.specs.declared.command.out_action.OutAction.{OutAction}
 use Rattle.sg_wire.specs.declared.out_list.OutList.{OutList}
 use Rattle.sg_units.specs.Attentions.{pending_for}
 use Rattle.sg_units.specs.Laws.{OthersAreRefused}
+use Rattle.sg_units.specs.Registrations.{is_registered}
 use Rattle.sg_units.specs.ReserveOut.{Outcome, outcome}
 use Rattle.sg_units.specs.declared.reservation_state.ReservationState.{ReservationState}
-use Rattle.sg_units.proofs.OutcomeLemmas.{EffectIs, and_false}
+use Rattle.sg_units.proofs.OutcomeLemmas.{EffectIs}
 use Rattle.sg_target.specs.Laws.{LimitsAreKept}
 use Rattle.sg_target.specs.Refusal.{when_sound}
 use Rattle.sg_target.specs.ReservationCommands.{changing_reservations, out_refusal}
@@ -26,56 +27,55 @@ use Rattle.sg_target.specs.State.{IsWithinLimits, State}
 use Rattle.sg_target.specs.Step.{Answer, step}
 use Rattle.sg_target.specs.declared.call.Call.{Call}
 use Rattle.sg_fencing.specs.ChosenAnswers.{calls_among}
-use Rattle.sg_fencing.specs.Fencing.{View, is_from, view_of}
+use Rattle.sg_fencing.specs.Fencing.{View, view_of}
 use Rattle.sg_fencing.specs.Group.{IsAsIfInsideAlone, IsReservedFrom, answers_inside, calls_inside}
 use Rattle.sg_fencing.specs.Group.{group_view, is_from_inside}
-use Rattle.sg_fencing.specs.Registrants.{has_registering, is_registering, is_registrant, registers}
+use Rattle.sg_fencing.specs.Registrants.{StaysUnregistered, is_registrant}
 use Rattle.sg_fencing.proofs.AgreeLemmas.{AreSame, steps-agree, with_attentions}
 use Rattle.sg_fencing.proofs.AlikeLemmas.{StepsAgree, with_others}
 use Rattle.sg_fencing.proofs.FencedRunLemmas.{answers_in}
 use Rattle.sg_fencing.proofs.OperationLemmas.{is_of_kind}
 use Rattle.sg_fencing.proofs.OthersLemmas.{Keeps}
 use Rattle.sg_fencing.proofs.OutsiderLemmas.{IsOutside, outsider-keeps}
-use Rattle.sg_fencing.proofs.OutsiderRunLemmas.{unknown-after-call}
-use Rattle.sg_fencing.proofs.RegistrationLemmas.{Never, outcome-refused}
+use Rattle.sg_fencing.proofs.RegistrationLemmas.{IsIdle, outcome-idle}
 use Rattle.sg_fencing.proofs.StandingLemmas.{EffectStands, step-stands}
 
 -- ---- A command from outside
 
 module _ (state : State) (j : ℕ) (unknown : is_registrant state j ≡ false) where
   abbrev Same : ReservationState → Type 0
-  Same after = after ≡ state.reservations
+  Same after = is_registered after.registrations j ≡ false → after ≡ state.reservations
 
-  abbrev spares : OutAction → Bool
-  spares action = not (is_registering action)
+  abbrev any_action : OutAction → Bool
+  any_action action = true
 
-  changing-stays : (o : Outcome) → EffectIs (Never state.reservations j unknown) o
-      → EffectStands Same state j refl
+  changing-stays : (o : Outcome) → EffectIs (IsIdle state.reservations j unknown) o
+      → EffectStands Same state j (λ _. refl)
       (when_sound (result_map_both (λ change. change) out_refusal o) (changing_reservations state j))
-  changing-stays (Ok change) k = absurd (k.shown change refl)
+  changing-stays (Ok change) k = k.shown change refl
   changing-stays (Err fault) k = tt
 
-  reserving-stays : (action : OutAction) (scope_type : ℕ) (list : OutList) → spares action ≡ true
-      → EffectStands Same state j refl
+  reserving-stays : (action : OutAction) (scope_type : ℕ) (list : OutList) → any_action action ≡ true
+      → EffectStands Same state j (λ _. refl)
       (when_sound (reservation_change state j action scope_type list) (changing_reservations state j))
   unfolding reservation_change
   reserving-stays action scope_type list h =
       changing-stays (outcome state.reservations j action scope_type list)
-      (outcome-refused state.reservations j unknown action scope_type list h)
+      (outcome-idle state.reservations j unknown action scope_type list)
 
-  of-kind : (parsed : Result Command CdbFault) → registers parsed ≡ false
-      → is_of_kind spares parsed ≡ true
-  of-kind (Ok (PersistentReserveOut c)) h = ap not h
-  of-kind (Ok _) h = refl
-  of-kind (Err fault) h = refl
+  of-any-kind : (parsed : Result Command CdbFault) → is_of_kind any_action parsed ≡ true
+  of-any-kind (Ok (PersistentReserveOut c)) = refl
+  of-any-kind (Ok _) = refl
+  of-any-kind (Err fault) = refl
 
-  reservations-stay : (cdb data_out : List ℕ) → registers (command_of cdb) ≡ false
+  reservations-stay : (cdb data_out : List ℕ) → is_registrant (step state j cdb data_out).state j ≡ false
       → (step state j cdb data_out).state.reservations ≡ state.reservations
-  reservations-stay cdb data_out h =
-      step-stands Same state j refl spares reserving-stays cdb data_out (of-kind (command_of cdb) h)
+  reservations-stay cdb data_out =
+      step-stands Same state j (λ _. refl) any_action reserving-stays cdb data_out
+      (of-any-kind (command_of cdb))
 
 -- nothing has changed but unit attentions of j
-record IsIdle (j : ℕ) (before after : State) : Type 0 where
+record LeavesOthers (j : ℕ) (before after : State) : Type 0 where
   rest : with_attentions before after.attentions ≡ after
   queues : (k : ℕ) → (j ≡ k → ⊥) → pending_for after.attentions k ≡ pending_for before.attentions k
 
@@ -83,16 +83,17 @@ next-differs : (j : ℕ) → j ≡ suc j → ⊥
 next-differs j e = omega arith
 
 idle : OthersAreRefused → CommandsHaveTheirClass → (state : State) (j : ℕ) → IsOutside state j
-    → IsWithinLimits state → (cdb data_out : List ℕ) → registers (command_of cdb) ≡ false
-    → IsIdle j state (step state j cdb data_out).state
-idle refuses classes state j h w cdb data_out silent =
+    → IsWithinLimits state → (cdb data_out : List ℕ)
+    → is_registrant (step state j cdb data_out).state j ≡ false
+    → LeavesOthers j state (step state j cdb data_out).state
+idle refuses classes state j h w cdb data_out gone =
     let after = (step state j cdb data_out).state in
     let kept : (k : ℕ) (other : j ≡ k → ⊥) → Keeps state after k =
     λ k other. outsider-keeps refuses classes state k j other h w cdb data_out in
     let one = kept (suc j) (next-differs j) in
     let disk = ap (λ (v : View). v.disk) (sym one.view) in
     let modes = ap (λ (v : View). v.modes) (sym one.view) in
-    let reservations = sym (reservations-stay state j h.unknown cdb data_out silent) in
+    let reservations = sym (reservations-stay state j h.unknown cdb data_out gone) in
     let identity = sym one.identity in
     record {
       rest =
@@ -128,7 +129,7 @@ module _ (limits : LimitsAreKept) (refuses : OthersAreRefused) (classes : Comman
   parted : (j k : ℕ) → outside j ≡ true → outside k ≡ false → j ≡ k → ⊥
   parted j k o i e = false≢true (sym i ∙ (ap outside (sym e) ∙ o))
 
-  one-next : (s t after : State) (j : ℕ) → LookSame s t → outside j ≡ true → IsIdle j s after
+  one-next : (s t after : State) (j : ℕ) → LookSame s t → outside j ≡ true → LeavesOthers j s after
       → LookSame after t
   one-next s t after j a o h = record {
     rest = ap (λ (x : State). with_attentions x t.attentions) (sym h.rest) ∙ a.rest;
@@ -139,8 +140,7 @@ module _ (limits : LimitsAreKept) (refuses : OthersAreRefused) (classes : Comman
   record Begins (s t : State) (calls : List Call) : Type 0 where
     within : IsWithinLimits s
     same : LookSame s t
-    unknown : (k : ℕ) → outside k ≡ true → is_registrant s k ≡ false
-    silent : (k : ℕ) → outside k ≡ true → has_registering k calls ≡ false
+    stay : (k : ℕ) → outside k ≡ true → StaysUnregistered k s calls
     reserved : IsReservedFrom outside s calls
 
   record Ends (s t : State) (calls own : List Call) : Type 0 where
@@ -152,17 +152,12 @@ module _ (limits : LimitsAreKept) (refuses : OthersAreRefused) (classes : Comman
 
   begins-next : (s t t' : State) (call : Call) (calls : List Call) → Begins s t (call ∷ calls)
       → LookSame (step_of s call).state t' → Begins (step_of s call).state t' calls
-  begins-next s t t' call calls h same =
-      let parts = λ (k : ℕ) (o : outside k ≡ true).
-      or_parts (is_from k call && registers (command_of call.cdb.now)) (has_registering k calls)
-      (h.silent k o) in
-      record {
-        within = limits.command s call.initiator call.cdb.now call.data_out.now h.within;
-        same = same;
-        unknown = λ k o. unknown-after-call s k call (h.unknown k o) (parts k o).0;
-        silent = λ k o. (parts k o).1;
-        reserved = λ n other e o. h.reserved (suc n) other e o;
-      }
+  begins-next s t t' call calls h same = record {
+    within = limits.command s call.initiator call.cdb.now call.data_out.now h.within;
+    same = same;
+    stay = λ k o n other e from. h.stay k o (suc n) other e from;
+    reserved = λ n other e o. h.reserved (suc n) other e o;
+  }
 
   abbrev exchanges : State → List Call → List (Call × Answer)
   exchanges s calls =
@@ -192,13 +187,9 @@ module _ (limits : LimitsAreKept) (refuses : OthersAreRefused) (classes : Comman
       }
   by-caller call calls own true e rest s t h =
       let j = call.initiator in
-      let from_it = eq-eqb j j refl in
-      let own_call = or_parts (is_from j call && registers (command_of call.cdb.now))
-      (has_registering j calls) (h.silent j e) in
-      let silent = and_false (is_from j call) (registers (command_of call.cdb.now)) from_it
-      own_call.0 in
-      let is_out : IsOutside s j = record { held = h.reserved 0 call refl e; unknown = h.unknown j e } in
-      let after = idle refuses classes s j is_out h.within call.cdb.now call.data_out.now silent in
+      let unknown = h.stay j e 0 call refl refl in
+      let is_out : IsOutside s j = record { held = h.reserved 0 call refl e; unknown = unknown.0 } in
+      let after = idle refuses classes s j is_out h.within call.cdb.now call.data_out.now unknown.1 in
       let same = one-next s t (step_of s call).state j h.same e after in
       let ends = rest (step_of s call).state t (begins-next s t t call calls h same) in
       let more = exchanges (step_of s call).state calls in
@@ -216,16 +207,14 @@ module _ (limits : LimitsAreKept) (refuses : OthersAreRefused) (classes : Comman
       s t h
 
   pub left-out : (state : State) (calls : List Call) → IsWithinLimits state
-      → ((k : ℕ) → outside k ≡ true → is_registrant state k ≡ false)
-      → ((k : ℕ) → outside k ≡ true → has_registering k calls ≡ false)
+      → ((k : ℕ) → outside k ≡ true → StaysUnregistered k state calls)
       → IsReservedFrom outside state calls → IsAsIfInsideAlone outside state calls
-  left-out state calls w unknown silent reserved =
+  left-out state calls w stay reserved =
       let start : LookSame state state = record { rest = refl; queues = λ k i. refl } in
       let ends = run-alike calls state state (record {
         within = w;
         same = start;
-        unknown = unknown;
-        silent = silent;
+        stay = stay;
         reserved = reserved;
       }) in
       let all = state_after_all state calls in

@@ -4,7 +4,6 @@ mod HolderLemmas
 mod ReserveOutLemmas
 mod OwnReserveOutLemmas
 -- From a command to its operation.
-mod LiftLemmas
 mod OperationLemmas
 -- Commands of others.
 mod AccessLemmas
@@ -19,9 +18,11 @@ mod OwnLemmas
 mod RegistrationLemmas
 mod OutsiderLemmas
 mod NewcomerLemmas
+mod RegisteringLemmas
 mod PreemptLemmas
 -- Registrants and others.
 mod AgreeLemmas
+mod GroupLemmas
 mod InsideLemmas
 -- Lists of commands.
 mod OutsiderRunLemmas

@@ -1,5 +1,5 @@
 -- Where an initiator becomes registered, the group sees its registration and no other change.
-use Rattle.std.proofs.Common.{◌≡◌, ◌==◌, ℕ, true, false, List, length, Option, Some}
+use Rattle.std.proofs.Common.{◌≡◌, ◌==◌, ℕ, true, false, not, List, length, Option, Some}
 use Rattle.std.proofs.Common.{None, Result, Ok, Err, refl, sym, ap, ◌∙◌, subst}
 use Rattle.std.specs.Prelude.{unwrap_or}
 use Rattle.std.specs.Result.{result_map_both}
@@ -22,7 +22,8 @@ use Rattle.sg_units.specs.ReserveOut.{register_cases}
 use Rattle.sg_units.specs.declared.reservation_change.ReservationChange.{ReservationChange}
 use Rattle.sg_units.specs.declared.reservation_state.ReservationState.{ReservationState}
 use Rattle.sg_units.specs.declared.types.ReservationType.{ReservationType}
-use Rattle.sg_units.proofs.OutcomeLemmas.{EffectIs, FirstIs, case_or, if-accepted, effective, refused}
+use Rattle.sg_units.proofs.OutcomeLemmas.{EffectIs, FirstIs, and_false, case_or, if-accepted, effective}
+use Rattle.sg_units.proofs.OutcomeLemmas.{refused}
 use Rattle.sg_target.specs.Checks.{no_space}
 use Rattle.sg_target.specs.Demands.{demands}
 use Rattle.sg_target.specs.Effect.{Effect}
@@ -38,12 +39,12 @@ use Rattle.sg_target.specs.declared.refusal.Reason.TheVariants.{ParameterListLen
 use Rattle.sg_target.specs.declared.refusal.Reason.TheVariants.{UnitAttention as Attention}
 use Rattle.sg_target.specs.declared.refusal.Refusal.{Refusal}
 use Rattle.sg_target.specs.declared.refusal.Refusal.TheVariants.{CheckCondition}
-use Rattle.sg_fencing.specs.Group.{IsSeen, registering_list}
-use Rattle.sg_fencing.specs.Registrants.{is_registering, is_registrant}
-use Rattle.sg_fencing.proofs.LiftLemmas.{lifted}
+use Rattle.sg_fencing.specs.Group.{IsSeen}
+use Rattle.sg_fencing.specs.Registrants.{is_registering, is_registrant, registering_list}
+use Rattle.sg_target.proofs.LiftLemmas.{lifted}
 use Rattle.sg_fencing.proofs.OperationLemmas.{listed}
 use Rattle.sg_fencing.proofs.OthersLemmas.{changed-keeps}
-use Rattle.sg_fencing.proofs.RegistrationLemmas.{Leaves, not_so, outcome-leaves}
+use Rattle.sg_fencing.proofs.RegistrationLemmas.{not_so, outcome-leaves}
 
 -- ---- The outcome
 
@@ -55,6 +56,7 @@ pub record Adds (state : ReservationState) (j : ℕ) (list : OutList) (change : 
   pub reservation : change.reservation ≡ state.reservation
   pub increments : change.increments_generation ≡ true
   pub aptpl : change.aptpl ≡ Some list.aptpl
+  pub key : (list.service_action_key == 0) ≡ false
 
 module _ (state : ReservationState) (j : ℕ) (unknown : is_registered state.registrations j ≡ false)
     (list : OutList) where
@@ -67,13 +69,14 @@ module _ (state : ReservationState) (j : ℕ) (unknown : is_registered state.reg
   register-adds =
       case_or (EffectIs AddsIf) _ _
       (λ _. effective AddsIf _ (λ known. absurd (false≢true (sym unknown ∙ known))))
-      (λ _. case_or (EffectIs AddsIf) _ _ (λ _. refused AddsIf _)
+      (λ keyed. case_or (EffectIs AddsIf) _ _ (λ _. refused AddsIf _)
       (λ _. case_or (EffectIs AddsIf) _ _
       (λ _. effective AddsIf _ (λ _. record {
         registrations = refl;
         reservation = refl;
         increments = refl;
         aptpl = refl;
+        key = and_false (not (is_registered state.registrations j)) _ (ap not unknown) keyed;
       }))
       (λ known. absurd (not_so (is_registered state.registrations j) unknown known))))
 
@@ -90,77 +93,100 @@ module _ (state : ReservationState) (j : ℕ) (unknown : is_registered state.reg
 
 -- ---- The command
 
-module _ (state : State) (j : ℕ) (w : IsWithinLimits state) (unknown : is_registrant state j ≡ false)
-    (list : OutList) where
-  abbrev SeenIn : State → Type 0
-  SeenIn after = is_registrant after j ≡ true → IsSeen state after j list
+-- What is true after each change that adds the registration of j is true after j's command, if j is
+-- registered then.
+module _ (state : State) (j : ℕ) (unknown : is_registrant state j ≡ false) (list : OutList)
+    (Follows : State → Type 0) where
+  abbrev IfKnown : State → Type 0
+  IfKnown after = is_registrant after j ≡ true → Follows after
 
-  unseen-refusal : (refusal : Refusal) → SeenIn (refused_step state j refusal).state
-  unseen-refusal (CheckCondition (Attention condition)) known = absurd (false≢true (sym unknown ∙ known))
-  unseen-refusal _ known = absurd (false≢true (sym unknown ∙ known))
+  after-refusal : (refusal : Refusal) → IfKnown (refused_step state j refusal).state
+  after-refusal (CheckCondition (Attention condition)) known = absurd (false≢true (sym unknown ∙ known))
+  after-refusal _ known = absurd (false≢true (sym unknown ∙ known))
 
-  by-space : (effect : Effect) (refusal : Option Refusal) → SeenIn effect.after
-      → SeenIn (unless_no_space state j effect refusal).state
+  by-space : (effect : Effect) (refusal : Option Refusal) → IfKnown effect.after
+      → IfKnown (unless_no_space state j effect refusal).state
   by-space effect None h = h
-  by-space effect (Some refusal) h = unseen-refusal refusal
+  by-space effect (Some refusal) h = after-refusal refusal
 
-  abbrev LeavesOthers : Outcome → Type 0
-  LeavesOthers o =
-      (i : ℕ) (other : j ≡ i → ⊥) → EffectIs (Leaves state.reservations i j (ne_eqb j i other) unknown) o
+  abbrev FollowsFrom : Outcome → Type 0
+  FollowsFrom o =
+      (change : ReservationChange) → o ≡ Ok change → Adds state.reservations j list change
+      → Follows (changing_reservations state j change).after
 
-  change-seen : (change : ReservationChange) → Adds state.reservations j list change
-      → LeavesOthers (Ok change) → IsSeen state (changing_reservations state j change).after j list
-  change-seen change h leaves = record {
-    group =
-        λ d. record {
-          disk = state.disk;
-          modes = state.modes;
-          registrations = h.registrations d;
-          generation = generation_after (h.increments d) state.reservations.generation;
-          reservation = h.reservation d;
-          persists = unwrap_or (h.aptpl d) state.reservations.persists_through_power_loss;
-        };
-    others =
-        λ i other.
-        let left = (leaves i other).shown change refl in
-        (changed-keeps state i j w change left.key left.reservation left.unraised).view;
-  }
-
-  outcome-seen : (o : Outcome) → EffectIs (AddsIf state.reservations j unknown list) o → LeavesOthers o
-      → SeenIn (step_outcome state j (when_sound (result_map_both (λ change. change) out_refusal o)
+  after-outcome : (o : Outcome) → EffectIs (AddsIf state.reservations j unknown list) o → FollowsFrom o
+      → IfKnown (step_outcome state j (when_sound (result_map_both (λ change. change) out_refusal o)
       (changing_reservations state j))).state
-  outcome-seen (Ok change) adds leaves =
+  after-outcome (Ok change) adds f =
       let effect = changing_reservations state j change in
       by-space effect (no_space effect.after.disk)
-      (λ known. change-seen change (adds.shown change refl known) leaves)
-  outcome-seen (Err fault) adds leaves = unseen-refusal (out_refusal fault)
+      (λ known. f change refl (adds.shown change refl known))
+  after-outcome (Err fault) adds f = after-refusal (out_refusal fault)
 
-  registering-seen : (action : OutAction) (scope_type : ℕ) → is_registering action ≡ true
-      → SeenIn (step_by state j (ChangeReservations action scope_type list)).state
-  unfolding reservation_change
-  registering-seen action scope_type h =
-      outcome-seen (outcome state.reservations j action scope_type list)
-      (outcome-adds state.reservations j unknown list action scope_type h)
-      (λ i other. outcome-leaves state.reservations i j (ne_eqb j i other) unknown action scope_type list)
+  module _ (follows : (action : OutAction) (scope_type : ℕ)
+      → FollowsFrom (outcome state.reservations j action scope_type list)) where
+    after-registering : (action : OutAction) (scope_type : ℕ) → is_registering action ≡ true
+        → IfKnown (step_by state j (ChangeReservations action scope_type list)).state
+    unfolding reservation_change
+    after-registering action scope_type h =
+        after-outcome (outcome state.reservations j action scope_type list)
+        (outcome-adds state.reservations j unknown list action scope_type h) (follows action scope_type)
 
-  command-seen : (command : Command) (data_out : List ℕ) (operation : Operation)
-      → (demands state.disk.capacity command data_out).operation ≡ Ok operation
-      → registering_list (Ok command) data_out ≡ Some list
-      → SeenIn (step_by state j operation).state
-  command-seen (PersistentReserveOut c) data_out operation e h =
-      let bytes = first_bytes c.list_length data_out in
-      let parts = cond_some (is_registering c.action) (out_list bytes) list h in
-      let asked = listed c.action c.scope_type (length bytes == list_length) (out_list bytes)
-      (CheckCondition ParameterListLengthError) operation e in
-      subst (λ (o : Operation). SeenIn (step_by state j o).state)
-      (ap (λ (l : OutList). ChangeReservations c.action c.scope_type l) (sym parts.1) ∙ asked)
-      (registering-seen c.action c.scope_type parts.0)
-  command-seen _ data_out operation e h = cc
+    after-command : (command : Command) (data_out : List ℕ) (operation : Operation)
+        → (demands state.disk.capacity command data_out).operation ≡ Ok operation
+        → registering_list (Ok command) data_out ≡ Some list
+        → IfKnown (step_by state j operation).state
+    after-command (PersistentReserveOut c) data_out operation e h =
+        let bytes = first_bytes c.list_length data_out in
+        let parts = cond_some (is_registering c.action) (out_list bytes) list h in
+        let asked = listed c.action c.scope_type (length bytes == list_length) (out_list bytes)
+        (CheckCondition ParameterListLengthError) operation e in
+        subst (λ (o : Operation). IfKnown (step_by state j o).state)
+        (ap (λ (l : OutList). ChangeReservations c.action c.scope_type l) (sym parts.1) ∙ asked)
+        (after-registering c.action c.scope_type parts.0)
+    after-command _ data_out operation e h = cc
 
-  pub newcomer-seen : (cdb data_out : List ℕ) → registering_list (command_of cdb) data_out ≡ Some list
+    if-known : (cdb data_out : List ℕ) → registering_list (command_of cdb) data_out ≡ Some list
+        → IfKnown (step state j cdb data_out).state
+    if-known cdb data_out h =
+        lifted state j cdb data_out (λ (done : Step). IfKnown done.state) after-refusal
+        (λ operation k. after-command k.command data_out operation k.operation_is
+        (sym (ap (λ (p : Result Command CdbFault). registering_list p data_out) k.command_is) ∙ h))
+
+module _ (state : State) (j : ℕ) (unknown : is_registrant state j ≡ false) (list : OutList) where
+  -- it was not sent with the key zero
+  pub key-sent : (cdb data_out : List ℕ) → registering_list (command_of cdb) data_out ≡ Some list
       → is_registrant (step state j cdb data_out).state j ≡ true
-      → IsSeen state (step state j cdb data_out).state j list
-  newcomer-seen cdb data_out h =
-      lifted state j cdb data_out (λ (done : Step). SeenIn done.state) unseen-refusal
-      (λ operation k. command-seen k.command data_out operation k.operation_is
-      (sym (ap (λ (p : Result Command CdbFault). registering_list p data_out) k.command_is) ∙ h))
+      → (list.service_action_key == 0) ≡ false
+  key-sent =
+      if-known state j unknown list (λ (after : State). (list.service_action_key == 0) ≡ false)
+      (λ action scope_type change e h. h.key)
+
+  module _ (w : IsWithinLimits state) where
+    change-seen : (action : OutAction) (scope_type : ℕ) (change : ReservationChange)
+        → outcome state.reservations j action scope_type list ≡ Ok change
+        → Adds state.reservations j list change
+        → IsSeen state (changing_reservations state j change).after j list
+    change-seen action scope_type change e h = record {
+      group =
+          λ d. record {
+            disk = state.disk;
+            modes = state.modes;
+            registrations = h.registrations d;
+            generation = generation_after (h.increments d) state.reservations.generation;
+            reservation = h.reservation d;
+            persists = unwrap_or (h.aptpl d) state.reservations.persists_through_power_loss;
+          };
+      others =
+          λ i other.
+          let left =
+          (outcome-leaves state.reservations i j (ne_eqb j i other) unknown action scope_type list).shown
+          change e in
+          (changed-keeps state i j w change left.key left.reservation left.unraised).view;
+    }
+
+    pub newcomer-seen : (cdb data_out : List ℕ) → registering_list (command_of cdb) data_out ≡ Some list
+        → is_registrant (step state j cdb data_out).state j ≡ true
+        → IsSeen state (step state j cdb data_out).state j list
+    newcomer-seen =
+        if-known state j unknown list (λ (after : State). IsSeen state after j list) change-seen

@@ -33,7 +33,7 @@ use Rattle.sg_target.specs.declared.operation.Operation.TheVariants.{UnmapExtent
 use Rattle.sg_target.specs.declared.refusal.Reason.TheVariants.{UnitAttention as Attention}
 use Rattle.sg_target.specs.declared.refusal.Refusal.{Refusal}
 use Rattle.sg_target.specs.declared.refusal.Refusal.TheVariants.{CheckCondition}
-use Rattle.sg_fencing.proofs.LiftLemmas.{lifted}
+use Rattle.sg_target.proofs.LiftLemmas.{lifted}
 use Rattle.sg_target.specs.Laws.{LimitsAreKept}
 use Rattle.sg_fencing.specs.Fencing.{holds_alone, view_of}
 use Rattle.sg_fencing.proofs.AccessLemmas.{asked-is-allowed}

@@ -27,7 +27,7 @@ use Rattle.sg_target.specs.ReservationCommands.{changing_reservations, out_refus
 use Rattle.sg_target.specs.ReservationCommands.{reservation_change}
 use Rattle.sg_target.specs.State.{IsWithinLimits, State}
 use Rattle.sg_target.specs.Step.{step}
-use Rattle.sg_fencing.specs.Registrants.{excludes_reading, is_fenced_off, is_registering, registers}
+use Rattle.sg_fencing.specs.Registrants.{excludes_reading, is_fenced_off, is_registering}
 use Rattle.sg_fencing.proofs.OthersLemmas.{EffectKeeps, Keeps, changed-keeps, step-keeps}
 use Rattle.sg_fencing.proofs.OperationLemmas.{is_of_kind}
 use Rattle.sg_fencing.proofs.RegistrationLemmas.{IsUnknown, Leaves, outcome-leaves, outcome-unknown}
@@ -106,6 +106,11 @@ module _ (refuses : OthersAreRefused) (classes : CommandsHaveTheirClass) (state 
       data_out tt
 
 -- ---- Who stays unregistered
+
+-- a REGISTER or a REGISTER AND IGNORE EXISTING KEY
+abbrev pub registers : Result Command CdbFault → Bool
+registers (Ok (PersistentReserveOut c)) = is_registering c.action
+registers _ = false
 
 module _ (state : State) (i j : ℕ)
     (unknown : is_registered state.reservations.registrations i ≡ false) where

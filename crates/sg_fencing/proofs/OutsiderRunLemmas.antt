@@ -1,16 +1,15 @@
 -- Lists of commands while a reservation is held: those of initiators that are not registered.
-use Rattle.std.proofs.Common.{◌≡◌, ℕ, zero, suc, Bool, true, false, not, ◌&&◌, List}
-use Rattle.std.proofs.Common.{[], ◌∷◌, take, Option, Some, None, refl, sym, ap, ◌∙◌}
+use Rattle.std.proofs.Common.{◌≡◌, ℕ, zero, suc, Bool, true, false, List}
+use Rattle.std.proofs.Common.{[], ◌∷◌, Option, Some, None, refl, sym, ap, ◌∙◌}
 use Rattle.std.specs.Prelude.{is_some}
-use Rattle.std.specs.List.{list_all, list_any}
-use Rattle.std.proofs.lemmas.Bool.{and_parts, eq-eqb, eqb-false, not-true, or_parts}
+use Rattle.std.specs.List.{list_any}
+use Rattle.std.proofs.lemmas.Bool.{eqb-false, or_parts}
 use Rattle.sg_wire.specs.Laws.{CommandsHaveTheirClass}
-use Rattle.sg_wire.specs.Layout.{class_of, command_of}
+use Rattle.sg_wire.specs.Layout.{class_of}
 use Rattle.sg_wire.specs.declared.command.Class.{Class}
 use Rattle.sg_wire.specs.declared.command.Class.TheVariants.{Reads, Writes}
 use Rattle.sg_units.specs.Access.{allows}
 use Rattle.sg_units.specs.Laws.{OthersAreRefused}
-use Rattle.sg_units.proofs.OutcomeLemmas.{and_false}
 use Rattle.sg_units.specs.declared.reservation.Reservation.{Reservation}
 use Rattle.sg_target.specs.Runs.{state_after_all, step_of}
 use Rattle.sg_target.specs.State.{IsWithinLimits, State}
@@ -19,19 +18,10 @@ use Rattle.sg_target.specs.declared.call.Call.{Call}
 use Rattle.sg_target.specs.declared.reply.Status.TheVariants.{Good}
 use Rattle.sg_target.specs.Laws.{LimitsAreKept}
 use Rattle.sg_fencing.specs.Fencing.{View, is_from, view_of}
-use Rattle.sg_fencing.specs.Registrants.{NoneIsServed, excludes_reading, has_registering, is_from_outside}
-use Rattle.sg_fencing.specs.Registrants.{is_registrant, is_reserved, registers}
+use Rattle.sg_fencing.specs.Registrants.{NoneIsServed, StaysUnregistered, excludes_reading}
+use Rattle.sg_fencing.specs.Registrants.{is_registrant, is_reserved}
 use Rattle.sg_fencing.proofs.AccessLemmas.{shut-out}
-use Rattle.sg_fencing.proofs.OutsiderLemmas.{outsider-keeps, shut, stays-unknown}
-
--- who is not registered is not after a call that does not register it
-pub unknown-after-call : (state : State) (i : ℕ) (call : Call) → is_registrant state i ≡ false
-    → (is_from i call && registers (command_of call.cdb.now)) ≡ false
-    → is_registrant (step_of state call).state i ≡ false
-unknown-after-call state i call unknown silent =
-    stays-unknown state i call.initiator unknown call.cdb.now call.data_out.now
-    (λ own. and_false (is_from i call) (registers (command_of call.cdb.now))
-    (eq-eqb call.initiator i own) silent)
+use Rattle.sg_fencing.proofs.OutsiderLemmas.{outsider-keeps, shut}
 
 -- ---- Nothing is written, nor read
 
@@ -68,42 +58,33 @@ module _ (condition : State → Bool) (class : Class) (refuses : IsRefusedWhere 
       (refuses state call.initiator met here)
 
   pub not-served : NoneIsServed class condition
-  not-served state i [] n call answer unknown silent e f from of_class met good = cc
-  not-served state i (first ∷ calls) zero call answer unknown silent e f from of_class met good =
+  not-served state [] n call answer e f of_class unknown met good = cc
+  not-served state (first ∷ calls) zero call answer e f of_class unknown met good =
       let same : first ≡ call = cc in
       let answered : (step_of state first).answer ≡ answer = cc in
-      not-first state i call unknown from of_class met
+      not-first state call.initiator call unknown refl of_class met
       (ap (λ (c : Call). (step_of state c).answer.status) (sym same)
       ∙ (ap (λ (a : Answer). a.status) answered ∙ good))
-  not-served state i (first ∷ calls) (suc n) call answer unknown silent e f from of_class met good =
-      let parts = or_parts (is_from i first && registers (command_of first.cdb.now))
-      (has_registering i (take n calls)) silent in
-      not-served (step_of state first).state i calls n call answer
-      (unknown-after-call state i first unknown parts.0) parts.1 e f from of_class met good
+  not-served state (first ∷ calls) (suc n) call answer e f of_class unknown met good =
+      not-served (step_of state first).state calls n call answer e f of_class unknown met good
 
 -- ---- Nothing is changed
 
 pub nothing-changed : LimitsAreKept → OthersAreRefused → CommandsHaveTheirClass
-    → (start state : State) (i : ℕ) (calls : List Call) → IsWithinLimits state → is_reserved state ≡ true
-    → ((j : ℕ) → is_registrant start j ≡ false → is_registrant state j ≡ false)
-    → list_all (is_from_outside start) calls ≡ true → list_any (is_from i) calls ≡ false
+    → (state : State) (i : ℕ) (calls : List Call) → IsWithinLimits state → is_reserved state ≡ true
+    → ((j : ℕ) → StaysUnregistered j state calls) → list_any (is_from i) calls ≡ false
     → view_of (state_after_all state calls) i ≡ view_of state i
-nothing-changed limits refuses classes start state i [] w held unknown outside others = refl
-nothing-changed limits refuses classes start state i (call ∷ calls) w held unknown outside others =
+nothing-changed limits refuses classes state i [] w held stay others = refl
+nothing-changed limits refuses classes state i (call ∷ calls) w held stay others =
     let j = call.initiator in
     let cdb = call.cdb.now in
     let data_out = call.data_out.now in
-    let outsiders = and_parts (is_from_outside start call) (list_all (is_from_outside start) calls) outside in
-    let parts = and_parts (not (is_registrant start j)) (not (registers (command_of cdb))) outsiders.0 in
     let other = or_parts (is_from i call) (list_any (is_from i) calls) others in
-    let known = unknown j (not-true (is_registrant start j) parts.0) in
-    let silent = not-true (registers (command_of cdb)) parts.1 in
     let kept =
     outsider-keeps refuses classes state i j (eqb-false j i other.0)
-    (record { held = held; unknown = known }) w cdb data_out in
-    nothing-changed limits refuses classes start (step_of state call).state i calls
+    (record { held = held; unknown = (stay j 0 call refl refl).0 }) w cdb data_out in
+    nothing-changed limits refuses classes (step_of state call).state i calls
     (limits.command state j cdb data_out w)
     (ap (λ (v : View). is_some v.reservation) kept.view ∙ held)
-    (λ k before. stays-unknown state k j (unknown k before) cdb data_out (λ own. silent))
-    outsiders.1 other.1
+    (λ k n next e from. stay k (suc n) next e from) other.1
     ∙ kept.view

@@ -29,7 +29,7 @@ use Rattle.sg_target.specs.Step.{Step, outcome as step_outcome, step, step_by, u
 use Rattle.sg_target.specs.declared.operation.Operation.{Operation}
 use Rattle.sg_target.specs.declared.operation.Operation.TheVariants.{ChangeReservations}
 use Rattle.sg_target.specs.declared.operation.Operation.TheVariants.{ReturnReservations}
-use Rattle.sg_fencing.proofs.LiftLemmas.{lifted-both}
+use Rattle.sg_target.proofs.LiftLemmas.{lifted-both}
 use Rattle.sg_fencing.specs.Fencing.{View, holds_alone, shows_others, view_of}
 use Rattle.sg_fencing.proofs.AlikeLemmas.{StepsAgree, checks-same, operation-agrees, parse-same}
 use Rattle.sg_fencing.proofs.AlikeLemmas.{refused-agree, reporting-agree, with_others}

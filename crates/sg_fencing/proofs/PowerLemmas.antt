@@ -1,11 +1,9 @@
 -- Power cycles, alone and among commands.
-use Rattle.std.proofs.Common.{◌≡◌, ◌<◌, ℕ, Bool, true, false, ◌&&◌, List, [], ◌∷◌, Option, Some}
+use Rattle.std.proofs.Common.{◌≡◌, ◌<◌, ℕ, suc, Bool, true, false, List, [], ◌∷◌, Option, Some}
 use Rattle.std.proofs.Common.{refl, ap, ◌∙◌}
 use Rattle.std.specs.Prelude.{if◌then◌else◌}
-use Rattle.std.specs.List.{list_any}
-use Rattle.std.proofs.lemmas.Bool.{or_parts}
 use Rattle.std.proofs.lemmas.List.{get_or-replicate}
-use Rattle.sg_wire.specs.Layout.{class_of, command_of}
+use Rattle.sg_wire.specs.Layout.{class_of}
 use Rattle.sg_wire.specs.declared.command.Class.TheVariants.{Writes}
 use Rattle.sg_wire.specs.Initiator.{initiator_count}
 use Rattle.sg_units.specs.Attentions.{pending_for}
@@ -24,10 +22,10 @@ use Rattle.sg_target.specs.declared.call.Call.{Call}
 use Rattle.sg_target.specs.declared.event.Event.{Event}
 use Rattle.sg_target.specs.declared.event.Event.TheVariants as event
 use Rattle.sg_target.specs.declared.reply.Status.TheVariants.{Good}
-use Rattle.sg_fencing.specs.Fencing.{is_from}
-use Rattle.sg_fencing.specs.PowerCycles.{HasNoReservations, KeepsReservations, persists, registers_by}
-use Rattle.sg_fencing.specs.Registrants.{is_registrant, is_reserved, registers}
-use Rattle.sg_fencing.proofs.OutsiderRunLemmas.{not-first, unknown-after-call, writes-refused}
+use Rattle.sg_fencing.specs.PowerCycles.{HasNoReservations, KeepsReservations, persists}
+use Rattle.sg_fencing.specs.Registrants.{IsNeverGranted, is_registrant, is_reserved}
+use Rattle.sg_fencing.proofs.OutsiderRunLemmas.{not-first, writes-refused}
+use Rattle.sg_fencing.proofs.RegisteringLemmas.{unknown-after-call}
 
 -- ---- One power cycle
 
@@ -86,24 +84,23 @@ unknown-after state i unknown = split (persists state)
     split true = unknown
     split false = refl
 
-unknown-still : (state : State) (i : ℕ) (events : List Event) → is_registrant state i ≡ false
-    → list_any (registers_by i) events ≡ false
-    → is_registrant (state_after_events state events) i ≡ false
-unknown-still state i [] unknown silent = unknown
-unknown-still state i (event.Call first ∷ events) unknown silent =
-    let parts = or_parts (is_from i first && registers (command_of first.cdb.now))
-    (list_any (registers_by i) events) silent in
+pub unknown-still : (state : State) (i : ℕ) (events : List Event) → is_registrant state i ≡ false
+    → IsNeverGranted i state events → is_registrant (state_after_events state events) i ≡ false
+unknown-still state i [] unknown refused = unknown
+unknown-still state i (event.Call first ∷ events) unknown refused =
     unknown-still (step_of state first).state i events
-    (unknown-after-call state i first unknown parts.0) parts.1
-unknown-still state i (event.Power ∷ events) unknown silent =
-    unknown-still (after_power_cycle state) i events (unknown-after state i unknown) silent
+    (unknown-after-call state i first unknown (refused 0 first refl))
+    (λ n call at. refused (suc n) call at)
+unknown-still state i (event.Power ∷ events) unknown refused =
+    unknown-still (after_power_cycle state) i events (unknown-after state i unknown)
+    (λ n call at. refused (suc n) call at)
 
 pub stays-fenced-off : OthersAreRefused → (state : State) (i : ℕ) (events : List Event)
     (call : Call)
-    → is_registrant state i ≡ false → list_any (registers_by i) events ≡ false
+    → is_registrant state i ≡ false → IsNeverGranted i state events
     → call.initiator ≡ i → class_of call.cdb.now ≡ Some Writes
     → is_reserved (state_after_events state events) ≡ true
     → (step_of (state_after_events state events) call).answer.status ≡ Good → ⊥
-stays-fenced-off refuses state i events call unknown silent from writes held good =
+stays-fenced-off refuses state i events call unknown refused from writes held good =
     not-first is_reserved Writes (writes-refused refuses) (state_after_events state events) i call
-    (unknown-still state i events unknown silent) from writes held good
+    (unknown-still state i events unknown refused) from writes held good

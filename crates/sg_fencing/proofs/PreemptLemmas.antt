@@ -41,10 +41,9 @@ use Rattle.sg_target.specs.declared.refusal.Reason.TheVariants.{ParameterListLen
 use Rattle.sg_target.specs.declared.refusal.Refusal.{Refusal}
 use Rattle.sg_target.specs.declared.refusal.Refusal.TheVariants.{CheckCondition}
 use Rattle.sg_target.specs.declared.reply.Status.TheVariants.{Good}
-use Rattle.sg_fencing.proofs.LiftLemmas.{lifted}
+use Rattle.sg_target.proofs.LiftLemmas.{lifted, not_good}
 use Rattle.sg_fencing.proofs.OperationLemmas.{listed}
 use Rattle.sg_fencing.specs.Registrants.{is_preempting, preempted_key}
-use Rattle.sg_fencing.proofs.AccessLemmas.{not_good}
 use Rattle.sg_fencing.proofs.RegistrationLemmas.{none-kept}
 
 -- ---- The one registration of an initiator

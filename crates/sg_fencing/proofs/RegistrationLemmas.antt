@@ -3,7 +3,7 @@
 use Rattle.std.proofs.Common.{◌≡◌, ◌==◌, ℕ, Bool, true, false, cond, not, ◌&&◌, ◌||◌, List}
 use Rattle.std.proofs.Common.{[], ◌∷◌, filter, Option, None, Ok, refl, sym, ap, ◌∙◌}
 use Rattle.std.specs.Prelude.{if◌then◌else◌, is_some}
-use Rattle.std.proofs.lemmas.Bool.{false≢true, or_from, or_parts}
+use Rattle.std.proofs.lemmas.Bool.{eq-eqb, false≢true, or_from, or_parts, or_right}
 use Rattle.sg_wire.specs.declared.command.out_action.OutAction.{OutAction}
 use Rattle.sg_wire.specs.declared.command.out_action.OutAction.TheVariants.{Register, Reserve}
 use Rattle.sg_wire.specs.declared.command.out_action.OutAction.TheVariants.{Release, Clear, Preempt}
@@ -13,6 +13,7 @@ use Rattle.sg_units.specs.Registrations.{is_of, is_registered, is_registered_und
 use Rattle.sg_units.specs.Registrations.{with_key_replaced, with_registration, without_initiator}
 use Rattle.sg_units.specs.ReservationType.{type_of}
 use Rattle.sg_units.specs.ReserveOut.{accepts_key, action_outcome, outcome, preempt_cases}
+use Rattle.sg_units.specs.ReserveOut.{state_after}
 use Rattle.sg_units.specs.ReserveOut.{register_cases, release_cases, reserve_cases}
 use Rattle.sg_wire.specs.declared.out_list.OutList.{OutList}
 use Rattle.sg_units.specs.declared.registrations.Registration.{Registration}
@@ -65,6 +66,30 @@ pub not_so : (b : Bool) → b ≡ false → not b ≡ false → ⊥
 not_so true h e = false≢true (sym h)
 not_so false h e = false≢true (sym e)
 
+-- It has the outcome of one that registers, or is refused.
+module _ (state : ReservationState) (j : ℕ) (unknown : is_registered state.registrations j ≡ false)
+    (P : ReservationChange → Type 0)
+    (registering : (sark : ℕ) (aptpl : Bool) → FirstIs (EffectIs P) (register_cases state j sark aptpl)) where
+  not-own : (key : ℕ) → is_registered_under state.registrations j key ≡ true → ⊥
+  not-own key h = false≢true (sym (not-under state.registrations j key unknown) ∙ h)
+
+  by-action : (action : OutAction) (type : Option ReservationType) (sark : ℕ) (aptpl : Bool) (key : ℕ)
+      → accepts_key state.registrations j action key ≡ true
+      → EffectIs P (action_outcome state j action type sark aptpl)
+  by-action Register type sark aptpl key h = (registering sark aptpl).first
+  by-action RegisterAndIgnoreExistingKey type sark aptpl key h = (registering sark aptpl).first
+  by-action Reserve type sark aptpl key h = absurd (not-own key h)
+  by-action Release type sark aptpl key h = absurd (not-own key h)
+  by-action Clear type sark aptpl key h = absurd (not-own key h)
+  by-action Preempt type sark aptpl key h = absurd (not-own key h)
+  by-action PreemptAndAbort type sark aptpl key h = absurd (not-own key h)
+
+  by-registering : (action : OutAction) (scope_type : ℕ) (list : OutList)
+      → EffectIs P (outcome state j action scope_type list)
+  by-registering action scope_type list =
+      if-accepted P state j action scope_type list
+      (by-action action (type_of scope_type) list.service_action_key list.aptpl list.reservation_key)
+
 module _ (state : ReservationState) (i j : ℕ) (other : (j == i) ≡ false)
     (unknown : is_registered state.registrations j ≡ false) where
   abbrev pub Leaves : ReservationChange → Type 0
@@ -90,51 +115,35 @@ module _ (state : ReservationState) (i j : ℕ) (other : (j == i) ≡ false)
       (λ _. left _ (key_of-push state.registrations i j sark other) refl refl refl)
       (λ known. absurd (not_so (is_registered state.registrations j) unknown known))))
 
-  not-own : (key : ℕ) → is_registered_under state.registrations j key ≡ true → ⊥
-  not-own key h = false≢true (sym (not-under state.registrations j key unknown) ∙ h)
-
-  action-leaves : (action : OutAction) (type : Option ReservationType) (sark : ℕ) (aptpl : Bool)
-      (key : ℕ)
-      → accepts_key state.registrations j action key ≡ true
-      → EffectIs Leaves (action_outcome state j action type sark aptpl)
-  action-leaves Register type sark aptpl key h = (register-leaves sark aptpl).first
-  action-leaves RegisterAndIgnoreExistingKey type sark aptpl key h = (register-leaves sark aptpl).first
-  action-leaves Reserve type sark aptpl key h = absurd (not-own key h)
-  action-leaves Release type sark aptpl key h = absurd (not-own key h)
-  action-leaves Clear type sark aptpl key h = absurd (not-own key h)
-  action-leaves Preempt type sark aptpl key h = absurd (not-own key h)
-  action-leaves PreemptAndAbort type sark aptpl key h = absurd (not-own key h)
-
   pub outcome-leaves : (action : OutAction) (scope_type : ℕ) (list : OutList)
       → EffectIs Leaves (outcome state j action scope_type list)
-  outcome-leaves action scope_type list =
-      if-accepted Leaves state j action scope_type list
-      (action-leaves action (type_of scope_type) list.service_action_key list.aptpl list.reservation_key)
+  outcome-leaves = by-registering state j unknown Leaves register-leaves
 
--- ---- Other actions of it than those that register
+-- ---- Whether it is registered afterwards
+
+pub pushed-known : (rs : List Registration) (j key : ℕ)
+    → is_registered (with_registration rs j key) j ≡ true
+pushed-known [] j key = ap (λ b. b || false) (eq-eqb j j refl)
+pushed-known (r ∷ rs) j key = or_right (is_of j r) _ (pushed-known rs j key)
 
 module _ (state : ReservationState) (j : ℕ) (unknown : is_registered state.registrations j ≡ false) where
-  abbrev pub Never : ReservationChange → Type 0
-  Never change = ⊥
+  -- all is as it was, unless j is registered afterwards
+  abbrev pub IsIdle : ReservationChange → Type 0
+  IsIdle change = is_registered change.registrations j ≡ false → state_after state (Ok change) ≡ state
 
-  no-key : (action : OutAction) (key : ℕ) → not (is_registering action) ≡ true
-      → accepts_key state.registrations j action key ≡ is_registered_under state.registrations j key
-  no-key Register key h = absurd (false≢true h)
-  no-key RegisterAndIgnoreExistingKey key h = absurd (false≢true h)
-  no-key Reserve key h = refl
-  no-key Release key h = refl
-  no-key Clear key h = refl
-  no-key Preempt key h = refl
-  no-key PreemptAndAbort key h = refl
+  register-idle : (sark : ℕ) (aptpl : Bool) → FirstIs (EffectIs IsIdle) (register_cases state j sark aptpl)
+  unfolding register_cases
+  register-idle sark aptpl =
+      case_or (EffectIs IsIdle) _ _ (λ _. effective IsIdle _ (λ _. refl))
+      (λ _. case_or (EffectIs IsIdle) _ _ (λ _. refused IsIdle _)
+      (λ _. case_or (EffectIs IsIdle) _ _
+      (λ _. effective IsIdle _ (λ gone. absurd (false≢true
+      (sym gone ∙ pushed-known state.registrations j sark))))
+      (λ known. absurd (not_so (is_registered state.registrations j) unknown known))))
 
-  pub outcome-refused : (action : OutAction) (scope_type : ℕ) (list : OutList)
-      → not (is_registering action) ≡ true
-      → EffectIs Never (outcome state j action scope_type list)
-  outcome-refused action scope_type list h =
-      let key = list.reservation_key in
-      if-accepted Never state j action scope_type list
-      (λ accepted. absurd (false≢true
-      (sym (no-key action key h ∙ not-under state.registrations j key unknown) ∙ accepted)))
+  pub outcome-idle : (action : OutAction) (scope_type : ℕ) (list : OutList)
+      → EffectIs IsIdle (outcome state j action scope_type list)
+  outcome-idle = by-registering state j unknown IsIdle register-idle
 
 -- ---- An initiator stays unregistered
 

@@ -36,7 +36,7 @@ use Rattle.sg_target.specs.declared.operation.Operation.TheVariants.{ChangeReser
 use Rattle.sg_target.specs.declared.refusal.Reason.TheVariants.{UnitAttention as Attention}
 use Rattle.sg_target.specs.declared.refusal.Refusal.{Refusal}
 use Rattle.sg_target.specs.declared.refusal.Refusal.TheVariants.{CheckCondition}
-use Rattle.sg_fencing.proofs.LiftLemmas.{lifted}
+use Rattle.sg_target.proofs.LiftLemmas.{lifted}
 use Rattle.sg_fencing.specs.Fencing.{can_end_for_others, holds_alone}
 use Rattle.sg_fencing.proofs.HolderLemmas.{HoldsAlone}
 use Rattle.sg_fencing.proofs.OperationLemmas.{asked-suits, fits, is_of_kind}

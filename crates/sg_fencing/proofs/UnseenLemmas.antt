@@ -32,7 +32,7 @@ use Rattle.sg_target.specs.declared.operation.Operation.TheVariants.{ChangeReser
 use Rattle.sg_target.specs.declared.refusal.Reason.TheVariants.{SpaceAllocationFailed}
 use Rattle.sg_target.specs.declared.refusal.Refusal.{Refusal}
 use Rattle.sg_target.specs.declared.refusal.Refusal.TheVariants.{CheckCondition}
-use Rattle.sg_fencing.proofs.LiftLemmas.{Asked, lifted-both}
+use Rattle.sg_target.proofs.LiftLemmas.{Asked, lifted-both}
 use Rattle.sg_fencing.proofs.OperationLemmas.{class_for}
 use Rattle.sg_fencing.proofs.AccessLemmas.{asked-is-allowed}
 

@@ -1,14 +1,13 @@
 -- Over lists of commands what the blocks are shows in nothing else, nor in the answers to an initiator
 -- that may neither read nor write.
-use Rattle.std.proofs.Common.{◌≡◌, ◌≤◌, ℕ, suc, Bool, true, false, cond, ◌&&◌, List, [], ◌∷◌}
+use Rattle.std.proofs.Common.{◌≡◌, ◌≤◌, ℕ, suc, Bool, true, false, cond, List, [], ◌∷◌}
 use Rattle.std.proofs.Common.{filter, Option, Some, None, Result, Ok, Err, refl, sym, ap, ◌∙◌}
 use Rattle.std.proofs.Common.{subst}
 use Rattle.std.specs.Prelude.{nat_lt}
 use Rattle.std.specs.FinMap.{len}
 use Rattle.std.specs.List.{zip}
-use Rattle.std.proofs.lemmas.Bool.{eqb-true, or_parts}
+use Rattle.std.proofs.lemmas.Bool.{eqb-true}
 use Rattle.sg_wire.specs.Laws.{CommandsHaveTheirClass}
-use Rattle.sg_wire.specs.Layout.{command_of}
 use Rattle.sg_store.specs.Disk.{Contents, Disk}
 use Rattle.sg_units.specs.Laws.{OthersAreRefused}
 use Rattle.sg_target.specs.BlockCommands.{read_capacity_10, read_capacity_16, reading, writing}
@@ -40,12 +39,12 @@ use Rattle.sg_target.specs.declared.refusal.Refusal.{Refusal}
 use Rattle.sg_target.specs.declared.refusal.Refusal.TheVariants.{CheckCondition}
 use Rattle.sg_fencing.specs.Fencing.{is_from}
 use Rattle.sg_fencing.specs.ChosenAnswers.{answers_where, calls_among}
-use Rattle.sg_fencing.specs.Registrants.{ExcludesReadingFrom, excludes_reading}
-use Rattle.sg_fencing.specs.Registrants.{has_registering, is_registrant, registers}
+use Rattle.sg_fencing.specs.Registrants.{ExcludesReadingFrom, StaysUnregistered, excludes_reading}
+use Rattle.sg_fencing.specs.Registrants.{is_registrant}
 use Rattle.sg_fencing.proofs.FencedRunLemmas.{answers_in}
-use Rattle.sg_fencing.proofs.LiftLemmas.{lifted-both}
+use Rattle.sg_target.proofs.LiftLemmas.{lifted-both}
 use Rattle.sg_fencing.proofs.OutsiderLemmas.{shut}
-use Rattle.sg_fencing.proofs.OutsiderRunLemmas.{held-to-exclude, unknown-after-call}
+use Rattle.sg_fencing.proofs.OutsiderRunLemmas.{held-to-exclude}
 use Rattle.sg_fencing.proofs.UnseenLemmas.{fits, parse-same, unseen}
 
 -- ---- One command
@@ -194,23 +193,21 @@ module _ (limits : LimitsAreKept) (refuses : OthersAreRefused) (classes : Comman
       call.data_out.now)
 
   pub unseen-over : (calls : List Call) (s t : State) → IsWithinLimits s → IsWithinLimits t
-      → DifferInBlocks s t → is_registrant s i ≡ false → has_registering i calls ≡ false
-      → ExcludesReadingFrom i s calls
+      → DifferInBlocks s t → StaysUnregistered i s calls → ExcludesReadingFrom i s calls
       → answers_where (is_from i) t calls ≡ answers_where (is_from i) s calls
-  unseen-over [] s t w w' h unknown silent exclusive = refl
-  unseen-over (call ∷ calls) s t w w' h unknown silent exclusive =
-      let parts = or_parts (is_from i call && registers (command_of call.cdb.now))
-      (has_registering i calls) silent in
+  unseen-over [] s t w w' h stays exclusive = refl
+  unseen-over (call ∷ calls) s t w w' h stays exclusive =
       let after = (step_of s call).state in
       let after' = (step_of t call).state in
       let rest = unseen-over calls after after'
       (limits.command s call.initiator call.cdb.now call.data_out.now w)
       (limits.command t call.initiator call.cdb.now call.data_out.now w')
-      (next-differs s t call w w' h) (unknown-after-call s i call unknown parts.0) parts.1
+      (next-differs s t call w w' h) (λ n other e from. stays (suc n) other e from)
       (λ n other e from. exclusive (suc n) other e from) in
       more call (is_from i call) (step_of t call).answer (step_of s call).answer (exchanges after' calls)
       (exchanges after calls)
       (λ from.
       let own = eqb-true call.initiator i from in
-      same-answer s t call w w' h (ap (is_registrant s) own ∙ unknown) (exclusive 0 call refl own))
+      same-answer s t call w w' h (ap (is_registrant s) own ∙ (stays 0 call refl own).0)
+      (exclusive 0 call refl own))
       rest

@@ -1,34 +1,34 @@
--- The group of a disk: what its registrants see together, what a new registration changes of that, and
--- that the commands of those outside may be left out.
-use Rattle.std.specs.Prelude.{◌≡◌, ℕ, ◌+◌, ◌%◌, ◌^◌, Bool, true, false, ◌&&◌, not, List, filter}
-use Rattle.std.specs.Prelude.{slice_get, take, Option, Some, None, Result, Ok, if◌then◌else◌}
-use Rattle.sg_wire.specs.CutAnswer.{first_bytes}
+-- The group of a disk. Its registrants see a view together, and nothing else. A new registration changes
+-- that view in one place. The commands of those outside may be left out.
+use Rattle.std.specs.Prelude.{◌≡◌, ℕ, ◌+◌, ◌%◌, ◌^◌, Bool, true, false, not, List, filter}
+use Rattle.std.specs.Prelude.{slice_get, take, Option, Some}
+use Rattle.std.specs.List.{list_any}
 use Rattle.sg_wire.specs.Layout.{command_of}
-use Rattle.sg_wire.specs.OutList.{out_list}
-use Rattle.sg_wire.specs.declared.command.CdbFault.{CdbFault}
-use Rattle.sg_wire.specs.declared.command.Command.{Command}
-use Rattle.sg_wire.specs.declared.command.Command.TheVariants.{PersistentReserveOut}
 use Rattle.sg_wire.specs.declared.out_list.OutList.{OutList}
 use Rattle.sg_store.specs.Disk.{Disk}
 use Rattle.sg_pages.specs.ModePage.{ModeState}
+use Rattle.sg_units.specs.Attentions.{pending_for}
 use Rattle.sg_units.specs.Registrations.{with_registration}
 use Rattle.sg_units.specs.declared.registrations.Registration.{Registration}
 use Rattle.sg_units.specs.declared.reservation.Reservation.{Reservation}
 use Rattle.sg_target.specs.Runs.{answers, state_after_all}
 use Rattle.sg_target.specs.State.{IsWithinLimits, State}
-use Rattle.sg_target.specs.Step.{Answer, step}
+use Rattle.sg_target.specs.Step.{Answer, Step, step}
 use Rattle.sg_target.specs.declared.call.Call.{Call}
 use Rattle.sg_fencing.specs.ChosenAnswers.{answers_where}
-use Rattle.sg_fencing.specs.Fencing.{view_of}
-use Rattle.sg_fencing.specs.Registrants.{has_registering, is_registering}
-use Rattle.sg_fencing.specs.Registrants.{is_registrant, is_reserved}
+use Rattle.sg_fencing.specs.Fencing.{is_from, view_of}
+use Rattle.sg_fencing.specs.Registrants.{StaysUnregistered, is_registrant, is_reserved}
+use Rattle.sg_fencing.specs.Registrants.{registering_list}
 
 -- ---- What a group sees
 
--- What the registrants of a disk see together: the blocks and the mode pages; by READ KEYS and READ
--- FULL STATUS who is registered under which key, in the order of registration, and PRGENERATION; by
--- READ RESERVATION the reservation; and by REPORT CAPABILITIES whether these persist through a power
--- loss (SPC-4, 6.15). The unit attentions are each initiator's own.
+-- The registrants of a disk see these together (SPC-4, 6.15):
+-- - the blocks and the mode pages
+-- - by READ KEYS and READ FULL STATUS, who is registered under which key, in the order of registration,
+--   and PRGENERATION
+-- - by READ RESERVATION, the reservation
+-- - by REPORT CAPABILITIES, whether these persist through a power loss.
+-- Unit attentions are not among them: each initiator has its own.
 pub record GroupView : Type 0 where
   pub disk : Disk
   pub modes : ModeState
@@ -47,13 +47,44 @@ group_view state = record {
   persists = state.reservations.persists_through_power_loss;
 }
 
--- ---- A new registration
+-- A command of an initiator ends alike in two states: with equal answers, and the group sees the same
+-- afterwards. Each initiator that had equal unit attentions in both has equal ones again.
+pub record EndAlikeForGroup (before before' : State) (done done' : Step) : Type 0 where
+  pub answer : done.answer ≡ done'.answer
+  pub group : group_view done.state ≡ group_view done'.state
+  pub identity : done.state.identity ≡ done'.state.identity
+  pub attentions : (other : ℕ)
+      → pending_for before.attentions other ≡ pending_for before'.attentions other
+      → pending_for done.state.attentions other ≡ pending_for done'.state.attentions other
 
--- The parameter list of a REGISTER or a REGISTER AND IGNORE EXISTING KEY (SPC-4, 6.16.3).
-abbrev pub registering_list : Result Command CdbFault → (data_out : List ℕ) → Option OutList
-registering_list (Ok (PersistentReserveOut c)) data_out =
-    if is_registering c.action then Some (out_list (first_bytes c.list_length data_out)) else None
-registering_list _ data_out = None
+-- So it is if the group sees the same in both states of one disk, and the same unit attentions are
+-- pending for the initiator. So no answer shows more than that, and no command depends on more, not even
+-- PERSISTENT RESERVE IN and PERSISTENT RESERVE OUT.
+abbrev pub EqualGroupViewsEndAlike : Type 0
+EqualGroupViewsEndAlike =
+    (first second : State) (initiator : ℕ) (cdb data_out : List ℕ)
+    → first.identity ≡ second.identity → group_view first ≡ group_view second
+    → pending_for first.attentions initiator ≡ pending_for second.attentions initiator
+    → EndAlikeForGroup first second (step first initiator cdb data_out)
+    (step second initiator cdb data_out)
+
+-- Over a list of commands of some initiators the answers are equal, and the group sees the same in the
+-- end.
+pub record RunAlikeForGroup (first second : State) (calls : List Call) : Type 0 where
+  pub answers : answers first calls ≡ answers second calls
+  pub group : group_view (state_after_all first calls) ≡ group_view (state_after_all second calls)
+
+-- So it is if at first the group sees the same, and the same unit attentions are pending for each of
+-- these initiators.
+abbrev pub EqualGroupViewsRunAlike : Type 0
+EqualGroupViewsRunAlike =
+    (first second : State) (calls : List Call)
+    → first.identity ≡ second.identity → group_view first ≡ group_view second
+    → ((initiator : ℕ) → list_any (is_from initiator) calls ≡ true
+    → pending_for first.attentions initiator ≡ pending_for second.attentions initiator)
+    → RunAlikeForGroup first second calls
+
+-- ---- A new registration
 
 -- There is one registration more, at the end; PRGENERATION, which has 32 bits, is incremented; and APTPL
 -- is that of the parameter list (SPC-4, 5.13, registering).
@@ -80,12 +111,6 @@ NewcomersAreSeen =
     → IsSeen state (step state initiator cdb data_out).state initiator list
 
 -- ---- Those outside, among others
-
--- An initiator stays outside through a list of calls: it is not registered before them, and none of
--- them registers it.
-abbrev pub stays_outside : State → List Call → (initiator : ℕ) → Bool
-stays_outside state calls initiator =
-    not (is_registrant state initiator) && not (has_registering initiator calls)
 
 -- The calls of all others, in order, and the answers to them.
 abbrev pub is_from_inside : (outside : ℕ → Bool) → Call → Bool
@@ -114,9 +139,10 @@ IsReservedFrom outside state calls =
     (n : ℕ) (call : Call) → slice_get calls n ≡ Some call → outside call.initiator ≡ true
     → is_reserved (state_after_all state (take n calls)) ≡ true
 
--- So it is over each list of commands, of registrants and others in any order.
+-- So it is over each list of commands, of registrants and others in any order, for any initiators that
+-- stay unregistered.
 abbrev pub OutsidersMayBeLeftOut : Type 0
 OutsidersMayBeLeftOut =
-    (state : State) (calls : List Call) → IsWithinLimits state
-    → IsReservedFrom (stays_outside state calls) state calls
-    → IsAsIfInsideAlone (stays_outside state calls) state calls
+    (outside : ℕ → Bool) (state : State) (calls : List Call) → IsWithinLimits state
+    → ((initiator : ℕ) → outside initiator ≡ true → StaysUnregistered initiator state calls)
+    → IsReservedFrom outside state calls → IsAsIfInsideAlone outside state calls

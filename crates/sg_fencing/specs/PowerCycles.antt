@@ -1,8 +1,7 @@
 -- Power cycles, in a user's words: what is left, what is reported, and that fencing outlives them.
-use Rattle.std.specs.Prelude.{◌≡◌, ◌<◌, ℕ, Bool, true, false, ◌&&◌, List, [], ◌∷◌, Some, None}
+use Rattle.std.specs.Prelude.{◌≡◌, ◌<◌, ℕ, Bool, true, false, List, [], ◌∷◌, Some, None}
 use Rattle.std.specs.Prelude.{filter, slice_get, take}
-use Rattle.std.specs.List.{list_any}
-use Rattle.sg_wire.specs.Layout.{class_of, command_of}
+use Rattle.sg_wire.specs.Layout.{class_of}
 use Rattle.sg_wire.specs.declared.command.Class.TheVariants.{Writes}
 use Rattle.sg_wire.specs.Initiator.{initiator_count}
 use Rattle.sg_units.specs.Attentions.{pending_for}
@@ -16,7 +15,7 @@ use Rattle.sg_target.specs.declared.event.Event.TheVariants as event
 use Rattle.sg_target.specs.declared.reply.Status.TheVariants.{Good}
 use Rattle.sg_fencing.specs.ChosenAnswers.{answers_among}
 use Rattle.sg_fencing.specs.Fencing.{holds_alone, is_compared, is_from, view_of}
-use Rattle.sg_fencing.specs.Registrants.{is_registrant, is_reserved, registers}
+use Rattle.sg_fencing.specs.Registrants.{IsNeverGranted, is_registrant, is_reserved}
 
 -- ---- One power cycle
 
@@ -70,20 +69,14 @@ TwoAreOne =
 
 -- ---- Lists of events
 
--- An event is a command of an initiator that registers it.
-abbrev pub registers_by : (initiator : ℕ) → Event → Bool
-registers_by initiator (event.Call call) =
-    is_from initiator call && registers (command_of call.cdb.now)
-registers_by initiator event.Power = false
-
--- After commands and power cycles in any order, an initiator that was not registered and has not
--- registered since writes nothing while a reservation is held: none of its commands that write ends
--- with GOOD. So a node that was fenced off stays so, whoever loses power.
+-- An initiator was not registered, and the disk has granted it no registration since. Then, after
+-- commands and power cycles in any order, it writes nothing while a reservation is held: none of its
+-- commands that write ends with GOOD. So a node that was fenced off stays so, whoever loses power, and
+-- however often it tries to register.
 abbrev pub FencedOffThroughPowerCycles : Type 0
 FencedOffThroughPowerCycles =
     (state : State) (initiator : ℕ) (events : List Event) (call : Call)
-    → is_registrant state initiator ≡ false
-    → list_any (registers_by initiator) events ≡ false
+    → is_registrant state initiator ≡ false → IsNeverGranted initiator state events
     → call.initiator ≡ initiator → class_of call.cdb.now ≡ Some Writes
     → is_reserved (state_after_events state events) ≡ true
     → (step_of (state_after_events state events) call).answer.status ≡ Good → ⊥

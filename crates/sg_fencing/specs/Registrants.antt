@@ -1,10 +1,10 @@
 -- Fencing by registration: what an initiator that is not registered can do while a reservation is
 -- held. So a cluster fences a node off under the types registrants only and all registrants, whose
 -- registrants all may write: another node removes its registration by PREEMPT.
-use Rattle.std.specs.Prelude.{◌≡◌, ◌≤◌, ℕ, Bool, true, false, ◌&&◌, not, List, Option, Some}
+use Rattle.std.specs.Prelude.{◌≡◌, ◌≤◌, ◌==◌, ℕ, Bool, true, false, ◌&&◌, not, List, Option, Some}
 use Rattle.std.specs.Prelude.{Result, Ok, None, if◌then◌else◌}
 use Rattle.std.specs.Prelude.{is_some, slice_get, take}
-use Rattle.std.specs.List.{list_all, list_any}
+use Rattle.std.specs.List.{list_any}
 use Rattle.std.specs.FinMap.{len}
 use Rattle.std.specs.Option.{option_map_or}
 use Rattle.sg_wire.specs.CutAnswer.{first_bytes}
@@ -20,14 +20,17 @@ use Rattle.sg_wire.specs.declared.command.out_action.OutAction.TheVariants.{Pree
 use Rattle.sg_wire.specs.declared.command.out_action.OutAction.TheVariants.{RegisterAndIgnoreExistingKey}
 use Rattle.sg_store.specs.Disk.{Contents}
 use Rattle.sg_wire.specs.OutList.{out_list}
+use Rattle.sg_wire.specs.declared.out_list.OutList.{OutList}
 use Rattle.sg_units.specs.Registrations.{is_registered, key_of}
 use Rattle.sg_units.specs.ReservationType.{is_exclusive_access}
 use Rattle.sg_units.specs.declared.reservation.Reservation.{Reservation}
 use Rattle.sg_target.specs.Effect.{with_contents}
-use Rattle.sg_target.specs.Runs.{answers, state_after_all, step_of}
+use Rattle.sg_target.specs.Runs.{all_calls, answers, state_after_all, state_after_events, step_of}
 use Rattle.sg_target.specs.State.{IsWithinLimits, State}
 use Rattle.sg_target.specs.Step.{Answer, step}
 use Rattle.sg_target.specs.declared.call.Call.{Call}
+use Rattle.sg_target.specs.declared.event.Event.{Event}
+use Rattle.sg_target.specs.declared.event.Event.TheVariants as event
 use Rattle.sg_target.specs.declared.reply.Status.TheVariants.{Good}
 use Rattle.sg_fencing.specs.ChosenAnswers.{answers_where}
 use Rattle.sg_fencing.specs.Fencing.{is_from, view_of}
@@ -56,9 +59,18 @@ is_registering Register = true
 is_registering RegisterAndIgnoreExistingKey = true
 is_registering _ = false
 
-abbrev pub registers : Result Command CdbFault → Bool
-registers (Ok (PersistentReserveOut c)) = is_registering c.action
-registers _ = false
+-- The parameter list of a REGISTER or a REGISTER AND IGNORE EXISTING KEY (SPC-4, 6.16.3).
+abbrev pub registering_list : Result Command CdbFault → (data_out : List ℕ) → Option OutList
+registering_list (Ok (PersistentReserveOut c)) data_out =
+    if is_registering c.action then Some (out_list (first_bytes c.list_length data_out)) else None
+registering_list _ data_out = None
+
+-- Such a command asks to register its initiator if its key is not zero. With the key zero it asks to
+-- unregister its initiator (SPC-4, 5.13, registering and unregistering).
+abbrev pub asks_to_register : Result Command CdbFault → (data_out : List ℕ) → Bool
+asks_to_register command data_out =
+    option_map_or (λ (list : OutList). not (list.service_action_key == 0))
+    (registering_list command data_out) false
 
 -- The key of the registrations that a PREEMPT or a PREEMPT AND ABORT is to remove.
 abbrev pub is_preempting : OutAction → Bool
@@ -107,13 +119,20 @@ FencedOffSeeNoBlock =
     → (step (with_contents state contents) initiator cdb data_out).answer
     ≡ (step state initiator cdb data_out).answer
 
--- An initiator that is not registered becomes so by a command of its own that registers it alone.
+-- A command is an initiator's own, asks to register it, and ends with GOOD.
+pub record RegistersItself (state : State) (initiator caller : ℕ) (cdb data_out : List ℕ)
+    : Type 0 where
+  pub own : caller ≡ initiator
+  pub asks : asks_to_register (command_of cdb) data_out ≡ true
+  pub good : (step state caller cdb data_out).answer.status ≡ Good
+
+-- An initiator that is not registered becomes registered only by such a command.
 abbrev pub OnlyRegisteringRegisters : Type 0
 OnlyRegisteringRegisters =
     (state : State) (initiator caller : ℕ) (cdb data_out : List ℕ)
     → is_registrant state initiator ≡ false
-    → (caller ≡ initiator → registers (command_of cdb) ≡ false)
-    → is_registrant (step state caller cdb data_out).state initiator ≡ false
+    → is_registrant (step state caller cdb data_out).state initiator ≡ true
+    → RegistersItself state initiator caller cdb data_out
 
 -- After a PREEMPT or a PREEMPT AND ABORT that ends with GOOD, no other initiator is registered that
 -- was registered under its key.
@@ -125,21 +144,44 @@ PreemptedAreUnregistered =
     → (step state caller cdb data_out).answer.status ≡ Good
     → is_registrant (step state caller cdb data_out).state initiator ≡ false
 
+-- ---- Who stays unregistered
+
+-- An initiator stays unregistered in a list: before each of its own commands it is not registered, and
+-- after each it is not either. It may send REGISTER, which the disk refuses.
+abbrev pub StaysUnregistered : (initiator : ℕ) → State → List Call → Type 0
+StaysUnregistered initiator state calls =
+    (n : ℕ) (call : Call) → slice_get calls n ≡ Some call → call.initiator ≡ initiator →
+    (let before = state_after_all state (take n calls) in
+    (is_registrant before initiator ≡ false)
+    × (is_registrant (step_of before call).state initiator ≡ false))
+
+-- The disk grants an initiator no registration: of its own commands that ask to register it, none ends
+-- with GOOD.
+abbrev pub IsNeverGranted : (initiator : ℕ) → State → List Event → Type 0
+IsNeverGranted initiator state events =
+    (n : ℕ) (call : Call) → slice_get events n ≡ Some (event.Call call)
+    → call.initiator ≡ initiator
+    → asks_to_register (command_of call.cdb.now) call.data_out.now ≡ true
+    → (step_of (state_after_events state (take n events)) call).answer.status ≡ Good → ⊥
+
+-- Then an initiator that is not registered stays unregistered. It may send REGISTER with the key that it
+-- had, which the disk refuses. It may also send the key zero, which ends with GOOD and registers nobody.
+abbrev pub TheRefusedStayUnregistered : Type 0
+TheRefusedStayUnregistered =
+    (state : State) (initiator : ℕ) (calls : List Call) → is_registrant state initiator ≡ false
+    → IsNeverGranted initiator state (all_calls calls)
+    → StaysUnregistered initiator state calls
+
 -- ---- Lists of commands
 
--- One of the calls is of an initiator, and registers it.
-abbrev pub has_registering : (initiator : ℕ) → List Call → Bool
-has_registering initiator calls =
-    list_any (λ (call : Call). is_from initiator call && registers (command_of call.cdb.now)) calls
-
--- No command of a class ends with GOOD whose initiator is not registered, and has not registered since
--- the list began, in states that meet a condition.
+-- A command of a class does not end with GOOD if the state before it meets a condition and its initiator
+-- is not registered in that state. So it is for each command of a list.
 abbrev pub NoneIsServed : Class → (condition : State → Bool) → Type 0
 NoneIsServed class condition =
-    (state : State) (initiator : ℕ) (calls : List Call) (n : ℕ) (call : Call) (answer : Answer)
-    → is_registrant state initiator ≡ false → has_registering initiator (take n calls) ≡ false
+    (state : State) (calls : List Call) (n : ℕ) (call : Call) (answer : Answer)
     → slice_get calls n ≡ Some call → slice_get (answers state calls) n ≡ Some answer
-    → call.initiator ≡ initiator → class_of call.cdb.now ≡ Some class
+    → class_of call.cdb.now ≡ Some class
+    → is_registrant (state_after_all state (take n calls)) call.initiator ≡ false
     → condition (state_after_all state (take n calls)) ≡ true
     → answer.status ≡ Good → ⊥
 
@@ -158,19 +200,18 @@ ExcludesReadingFrom initiator state calls =
     (n : ℕ) (call : Call) → slice_get calls n ≡ Some call → call.initiator ≡ initiator
     → excludes_reading (state_after_all state (take n calls)).reservations.reservation ≡ true
 
--- Then it sees no block, whatever the others write: the answers to it are the same whatever the blocks
--- were before the list, and whichever were mapped.
+-- Then an initiator that stays unregistered sees no block, whatever the others write. The answers to it
+-- are the same whatever the blocks were before the list, and whichever were mapped.
 abbrev pub NoBlockIsSeenOverAList : Type 0
 NoBlockIsSeenOverAList =
     (state : State) (contents : Contents) (initiator : ℕ) (calls : List Call)
     → IsWithinLimits state → IsWithinLimits (with_contents state contents)
-    → is_registrant state initiator ≡ false → has_registering initiator calls ≡ false
-    → ExcludesReadingFrom initiator state calls
+    → StaysUnregistered initiator state calls → ExcludesReadingFrom initiator state calls
     → answers_where (is_from initiator) (with_contents state contents) calls
     ≡ answers_where (is_from initiator) state calls
 
--- So after a PREEMPT or a PREEMPT AND ABORT of its key an initiator writes nothing until it
--- registers again, while a reservation is held.
+-- So after a PREEMPT or a PREEMPT AND ABORT of its key an initiator writes nothing while a reservation
+-- is held, until the disk grants it a registration again.
 abbrev pub PreemptedWriteNothing : Type 0
 PreemptedWriteNothing =
     (state : State) (preempt : Call) (initiator key : ℕ) (calls : List Call) (n : ℕ) (call : Call)
@@ -180,22 +221,18 @@ PreemptedWriteNothing =
     → key_of state.reservations.registrations initiator ≡ Some key
     → (step_of state preempt).answer.status ≡ Good →
     (let after = (step_of state preempt).state in
-    has_registering initiator (take n calls) ≡ false
+    IsNeverGranted initiator after (all_calls (take n calls))
     → slice_get calls n ≡ Some call → slice_get (answers after calls) n ≡ Some answer
     → call.initiator ≡ initiator → class_of call.cdb.now ≡ Some Writes
     → is_reserved (state_after_all after (take n calls)) ≡ true
     → answer.status ≡ Good → ⊥)
 
--- A call of an initiator that is not registered in a state, and that does not register it.
-abbrev pub is_from_outside : State → Call → Bool
-is_from_outside state call =
-    not (is_registrant state call.initiator) && not (registers (command_of call.cdb.now))
-
--- While a reservation is held, lists of such calls leave the view of every initiator that sends
--- none of them: the blocks, the mode pages, its unit attentions, its key and the reservation.
+-- A reservation is held, and each sender of a list of commands stays unregistered. Then the list leaves
+-- the view of every initiator that sends none of them: the blocks, the mode pages, its unit attentions,
+-- its key and the reservation.
 abbrev pub OutsidersChangeNothing : Type 0
 OutsidersChangeNothing =
     (state : State) (initiator : ℕ) (calls : List Call) → IsWithinLimits state
-    → is_reserved state ≡ true → list_all (is_from_outside state) calls ≡ true
+    → is_reserved state ≡ true → ((sender : ℕ) → StaysUnregistered sender state calls)
     → list_any (is_from initiator) calls ≡ false
     → view_of (state_after_all state calls) initiator ≡ view_of state initiator

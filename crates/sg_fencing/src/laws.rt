@@ -3,6 +3,7 @@
 ghost use Rattle.sg_fencing.specs.Fencing.{EqualViewsEndAlike, HolderIsAsIfAlone};
 ghost use Rattle.sg_fencing.specs.Fencing.{OthersAreShutOut, OthersLeaveTheView, OthersReadNothing};
 ghost use Rattle.sg_fencing.specs.Fencing.{OnlyPreemptionEnds, OthersSeeNoBlock};
+ghost use Rattle.sg_fencing.specs.Group.{EqualGroupViewsEndAlike, EqualGroupViewsRunAlike};
 ghost use Rattle.sg_fencing.specs.Group.{NewcomersAreSeen, OutsidersMayBeLeftOut};
 ghost use Rattle.sg_fencing.specs.Laws.{ConflictChangesNothing, OnlyWritesChangeBlocks};
 ghost use Rattle.sg_fencing.specs.Laws.{RefusedByReservation, RefusedChangesNothing};
@@ -15,6 +16,7 @@ ghost use Rattle.sg_fencing.specs.Registrants.{FencedOffReadNothing, FencedOffSe
 ghost use Rattle.sg_fencing.specs.Registrants.{FencedOffWriteNothing, NoBlockIsSeenOverAList};
 ghost use Rattle.sg_fencing.specs.Registrants.{OnlyRegisteringRegisters, OutsidersChangeNothing};
 ghost use Rattle.sg_fencing.specs.Registrants.{PreemptedAreUnregistered, PreemptedWriteNothing};
+ghost use Rattle.sg_fencing.specs.Registrants.{TheRefusedStayUnregistered};
 
 use sg_target::laws::limits_are_kept;
 use sg_units::laws::{one_key_each, others_are_refused};
@@ -139,31 +141,38 @@ pub fn the_unregistered_see_no_block()
     commands_have_their_class();
 }
 
-/// An initiator that is not registered becomes so by REGISTER or REGISTER AND IGNORE EXISTING KEY
-/// of its own alone.
+/// An initiator that is not registered becomes registered only by its own REGISTER or REGISTER AND
+/// IGNORE EXISTING KEY, with a key other than zero, that ends with GOOD.
 pub fn nobody_registers_another()
     ensures { OnlyRegisteringRegisters }
 {}
 
-/// Over a list of commands, while a reservation of any type is held, no command that writes of an
-/// initiator that is not registered ends with GOOD until the initiator registers.
+/// An initiator that is not registered stays unregistered over a list of commands if none of its
+/// commands that ask to register it ends with GOOD. It may send REGISTER with the key that it had,
+/// or with the key zero, as often as it likes.
+pub fn the_refused_stay_unregistered()
+    ensures { TheRefusedStayUnregistered }
+{}
+
+/// Over a list of commands, no command that writes ends with GOOD if in the state before it a
+/// reservation of any type is held and its initiator is not registered.
 pub fn the_unregistered_write_nothing()
     ensures { FencedOffWriteNothing }
 {
     others_are_refused();
 }
 
-/// Over a list of commands, while a reservation of an exclusive access type is held, no command that
-/// reads of an initiator that is not registered ends with GOOD until the initiator registers.
+/// Over a list of commands, no command that reads ends with GOOD if in the state before it a
+/// reservation of an exclusive access type is held and its initiator is not registered.
 pub fn the_unregistered_read_nothing()
     ensures { FencedOffReadNothing }
 {
     others_are_refused();
 }
 
-/// Over a list of commands, where a reservation of an exclusive access type is held whenever an
-/// initiator sends one that is not registered and does not register: the answers to it are the same
-/// whatever the blocks were before.
+/// Over a list of commands, if an initiator stays unregistered, and a reservation of an exclusive
+/// access type is held whenever it sends a command: the answers to it are the same whatever the blocks
+/// were before.
 pub fn the_unregistered_see_no_block_over_a_list()
     ensures { NoBlockIsSeenOverAList }
 {
@@ -172,8 +181,8 @@ pub fn the_unregistered_see_no_block_over_a_list()
     commands_have_their_class();
 }
 
-/// While a reservation of any type is held, a list of commands of initiators that are not
-/// registered, none of which registers, leaves the view of every initiator that sends none of them.
+/// While a reservation of any type is held, a list of commands of initiators that stay unregistered
+/// leaves the view of every initiator that sends none of them.
 pub fn the_unregistered_change_nothing()
     ensures { OutsidersChangeNothing }
 {
@@ -182,6 +191,20 @@ pub fn the_unregistered_change_nothing()
     commands_have_their_class();
 }
 
+/// If a group sees the same in two states of one disk, and the same unit attentions are pending for an
+/// initiator, then each command of it ends with equal answers in both, and the group sees the same
+/// afterwards.
+pub fn equal_views_of_a_group_end_alike()
+    ensures { EqualGroupViewsEndAlike }
+{}
+
+/// Over a list of commands, if a group sees the same in two states of one disk, and the same unit
+/// attentions are pending for each sender: the answers are equal, and the group sees the same in the
+/// end.
+pub fn equal_views_of_a_group_run_alike()
+    ensures { EqualGroupViewsRunAlike }
+{}
+
 /// Where an initiator becomes registered, what the registrants see together is as it was but for its
 /// registration, the next PRGENERATION, and APTPL of its parameter list. Nothing that another
 /// initiator sees for itself has changed.
@@ -189,9 +212,9 @@ pub fn a_new_registration_is_seen()
     ensures { NewcomersAreSeen }
 {}
 
-/// Over a list of commands of registrants and others, where a reservation of any type is held whenever
-/// an initiator sends one that is not registered and registers nowhere in the list: the answers to all
-/// others, and what they see in the end, are those of a run without its commands.
+/// Over a list of commands of registrants and others, the commands of any initiators that stay
+/// unregistered may be left out, if a reservation of any type is held whenever one of these sends a
+/// command: the answers to all others, and what they see in the end, are those of a run without.
 pub fn outsiders_may_be_left_out()
     ensures { OutsidersMayBeLeftOut }
 {
@@ -209,8 +232,8 @@ pub fn preemption_unregisters()
 }
 
 /// After a PREEMPT or a PREEMPT AND ABORT, over a list of commands, while a reservation of any type is
-/// held, no command that writes of such an initiator ends with GOOD until the initiator registers
-/// again.
+/// held, no command that writes of such an initiator ends with GOOD until the disk grants it a
+/// registration again.
 pub fn the_preempted_write_nothing()
     ensures { PreemptedWriteNothing }
 {
@@ -247,7 +270,7 @@ pub fn two_power_cycles_are_one()
 {}
 
 /// Over a list of commands and power cycles, while a reservation is held, no command that writes of
-/// an initiator that is not registered ends with GOOD until the initiator registers.
+/// an initiator that is not registered ends with GOOD until the disk grants it a registration.
 pub fn the_unregistered_write_nothing_through_power_cycles()
     ensures { FencedOffThroughPowerCycles }
 {

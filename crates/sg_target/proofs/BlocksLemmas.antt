@@ -59,7 +59,7 @@ unless None asked h = h refl
 unless (Some refusal) asked h = tt
 
 -- data-out that is not refused is long enough
-long_enough : (unsupported : Option ℕ) (n : ℕ) (data_out : List ℕ) →
+pub long_enough : (unsupported : Option ℕ) (n : ℕ) (data_out : List ℕ) →
     first_some (unsupported_value unsupported ∷ short_data_out (Some n) data_out ∷ []) ≡ None
     → n ≤ length data_out
 long_enough (Some byte) n data_out e = cc

@@ -1,5 +1,6 @@
 -- From a CDB to its step, and lists of events.
 pub mod StepLemmas
+pub mod LiftLemmas
 pub mod SenseLemmas
 pub mod RunLemmas
 -- Parameter data.
@@ -11,6 +12,7 @@ pub mod ExtentLemmas
 pub mod UnmapLemmas
 mod InTurnLemmas
 mod EachExtentLemmas
+mod CommandLemmas
 mod JoiningLemmas
 mod NeedLemmas
 pub mod Space

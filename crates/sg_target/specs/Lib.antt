@@ -21,6 +21,7 @@ pub mod Execution
 pub mod PowerCycle
 pub mod Runs
 pub mod Laws
+pub mod CommandLaws
 -- What private contracts cite alone.
 pub mod DataIn
 pub mod Extents

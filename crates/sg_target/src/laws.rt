@@ -1,5 +1,7 @@
 //! Laws of the definitions: each is the contract of a function that does nothing, and calls those
 //! whose laws it follows from.
+ghost use Rattle.sg_target.specs.CommandLaws.{ReadsReturnTheirBlocks, UnmapsFollowTheirLists};
+ghost use Rattle.sg_target.specs.CommandLaws.{WriteSamesLeaveTheirBlock, WritesLeaveTheirData};
 ghost use Rattle.sg_target.specs.Laws.{AnchorsEachExtent, LimitsAreKept, UnmapsEachExtent};
 
 /// No command and no power cycle takes a table of the disk past its limit.
@@ -27,6 +29,44 @@ pub fn an_unmap_deallocates_each_extent()
 pub fn an_anchoring_anchors_each_extent()
     ensures { AnchorsEachExtent }
 {
+    sg_store::laws::an_anchoring_anchors_the_addresses_of_its_range();
+    sg_store::laws::an_anchoring_zeroes_the_blocks_of_its_range();
+}
+
+/// The data-in of a READ that ends with GOOD is its blocks, and the READ changes nothing.
+pub fn reads_return_their_blocks()
+    ensures { ReadsReturnTheirBlocks }
+{}
+
+/// After a WRITE that ends with GOOD each of its blocks has its bytes of the data-out and is mapped.
+/// All else is as it was.
+pub fn writes_leave_their_data()
+    ensures { WritesLeaveTheirData }
+{
+    sg_store::laws::a_write_maps_the_addresses_of_its_range();
+    sg_store::laws::a_write_replaces_the_blocks_of_its_range();
+}
+
+/// After an UNMAP that ends with GOOD each address that lies in some extent of its parameter list is
+/// read as zeros. Without ANCHOR the address is deallocated, and with ANCHOR it is anchored. All else
+/// is as it was.
+pub fn unmaps_follow_their_lists()
+    ensures { UnmapsFollowTheirLists }
+{
+    an_unmap_deallocates_each_extent();
+    an_anchoring_anchors_each_extent();
+}
+
+/// After a WRITE SAME that ends with GOOD each of its addresses is read as the block of the data-out.
+/// With UNMAP 1 and a block of zeros the address is deallocated, or with ANCHOR anchored, and
+/// otherwise it is mapped. All else is as it was.
+pub fn write_sames_leave_their_block()
+    ensures { WriteSamesLeaveTheirBlock }
+{
+    sg_store::laws::a_fill_maps_the_addresses_of_its_range();
+    sg_store::laws::a_fill_puts_one_block_at_each_address_of_its_range();
+    sg_store::laws::an_unmap_deallocates_the_addresses_of_its_range();
+    sg_store::laws::an_unmap_zeroes_the_blocks_of_its_range();
     sg_store::laws::an_anchoring_anchors_the_addresses_of_its_range();
     sg_store::laws::an_anchoring_zeroes_the_blocks_of_its_range();
 }

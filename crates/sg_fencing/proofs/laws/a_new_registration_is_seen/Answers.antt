@@ -3,4 +3,4 @@ use Rattle.sg_fencing.proofs.laws.a_new_registration_is_seen.Goals as goal
 
 pub returns : goal.returns
 returns c state initiator cdb data_out list w unknown sent known =
-    newcomer-seen state initiator w unknown list cdb data_out sent known
+    newcomer-seen state initiator unknown list w cdb data_out sent known

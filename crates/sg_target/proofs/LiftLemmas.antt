@@ -1,23 +1,39 @@
 -- From the operation that a command asks for to its step.
-use Rattle.std.proofs.Common.{◌≡◌, ℕ, List, Option, Some, None, Result, Ok, Err, refl, subst}
+use Rattle.std.proofs.Common.{◌≡◌, ℕ, List, [], ◌∷◌, Option, Some, None, Result, Ok, Err, refl, subst}
 use Rattle.sg_wire.specs.Layout.{command_of}
 use Rattle.sg_wire.specs.declared.command.CdbFault.{CdbFault}
 use Rattle.sg_wire.specs.declared.command.Command.{Command}
 use Rattle.sg_target.specs.Checks.{cdb_checks, checked_cdb, checked_operation, checked_parse, requested}
 use Rattle.sg_target.specs.Checks.{medium_checks}
-use Rattle.sg_target.specs.Demands.{demands}
+use Rattle.sg_target.specs.Checks.{short_data_out, unsupported_value}
+use Rattle.sg_target.specs.Demands.{Demands, demands}
 use Rattle.sg_target.specs.Refusal.{checked_next, first_some, unless_refused}
 use Rattle.sg_target.specs.Semantics.{effect_of, medium_use}
 use Rattle.sg_target.specs.State.{State}
 use Rattle.sg_target.specs.Step.{Step, outcome, refused, step, step_by}
 use Rattle.sg_target.specs.declared.operation.Operation.{Operation}
 use Rattle.sg_target.specs.declared.refusal.Refusal.{Refusal}
+use Rattle.sg_target.specs.declared.refusal.Refusal.TheVariants.{Conflict, CheckCondition}
+use Rattle.sg_target.specs.declared.reply.Status.TheVariants.{Good}
+
+-- no refusal is GOOD
+pub not_good : (state : State) (i : ℕ) (refusal : Refusal)
+    → (refused state i refusal).answer.status ≡ Good → ⊥
+not_good state i Conflict e = cc
+not_good state i (CheckCondition reason) e = cc
+
+-- the checks of a command by its demands
+abbrev pub request_checks : Demands → (data_out : List ℕ) → List (Option Refusal)
+request_checks d data_out =
+    unsupported_value d.unsupported ∷ short_data_out d.data_out_length data_out ∷ []
 
 -- the command that asks for an operation, and the checks that it has passed
 pub record Asked (state : State) (i : ℕ) (cdb data_out : List ℕ) (operation : Operation) : Type 0 where
   pub passed : first_some (cdb_checks state i cdb) ≡ None
   pub command : Command
   pub command_is : command_of cdb ≡ Ok command
+  pub accepted : first_some
+      (request_checks (demands state.disk.capacity command data_out) data_out) ≡ None
   pub operation_is : (demands state.disk.capacity command data_out).operation ≡ Ok operation
 
 record Passed {A : Type 0} (refusal : Option Refusal) (result : Result A Refusal) (value : A) : Type 0 where
@@ -40,6 +56,8 @@ record Parsed (state : State) (parsed : Result Command CdbFault) (data_out : Lis
     (operation : Operation) : Type 0 where
   command : Command
   is : parsed ≡ Ok command
+  accepted : first_some
+      (request_checks (demands state.disk.capacity command data_out) data_out) ≡ None
   asks : (demands state.disk.capacity command data_out).operation ≡ Ok operation
 
 parsed-ok : (state : State) (parsed : Result Command CdbFault) (data_out : List ℕ)
@@ -48,13 +66,9 @@ parsed-ok : (state : State) (parsed : Result Command CdbFault) (data_out : List 
 parsed-ok state (Err fault) data_out operation e = cc
 parsed-ok state (Ok command) data_out operation e =
     let d = demands state.disk.capacity command data_out in
-    record {
-      command = command;
-      is = refl;
-      asks =
-          (unless-ok _ d.operation operation
-          (requested-ok state (requested d data_out) operation e)).is;
-    }
+    let passed = unless-ok (first_some (request_checks d data_out)) d.operation operation
+    (requested-ok state (requested d data_out) operation e) in
+    record { command = command; is = refl; accepted = passed.none; asks = passed.is }
 
 module _ (state : State) (i : ℕ) (cdb data_out : List ℕ) where
   asked : (operation : Operation) → checked_cdb state i cdb data_out ≡ Ok operation
@@ -67,6 +81,7 @@ module _ (state : State) (i : ℕ) (cdb data_out : List ℕ) where
         passed = passed.none;
         command = parsed.command;
         command_is = parsed.is;
+        accepted = parsed.accepted;
         operation_is = parsed.asks;
       }
 

@@ -1,0 +1,350 @@
+-- Commands on blocks that end with GOOD.
+use Rattle.std.proofs.Common.{◌≡◌, ◌≤◌, ◌<◌, ℕ, ◌+◌, ◌-◌, ◌*◌, ◌==◌, ◌&&◌, List, [], ◌∷◌, length, take, drop}
+use Rattle.std.proofs.Common.{Bool, true, false, cond, Option, Some, None, Result, Ok, Err, replicate}
+use Rattle.std.proofs.Common.{refl, sym, ap, ◌∙◌, subst, arith, length-take}
+use Rattle.std.proofs.lemmas.Bool.{and_parts, eqb-true}
+use Rattle.std.proofs.lemmas.Bool.Decides.{nat_tests}
+use Rattle.std.proofs.lemmas.List.{drop-take, take-take}
+use Rattle.sg_wire.specs.CutAnswer.{first_bytes}
+use Rattle.sg_wire.specs.Layout.{command_of}
+use Rattle.sg_wire.specs.UnmapList.{unmap_list}
+use Rattle.sg_wire.specs.declared.command.CdbFault.{CdbFault}
+use Rattle.sg_wire.specs.declared.command.Command.{Command}
+use Rattle.sg_wire.specs.declared.command.Command.TheVariants as command
+use Rattle.sg_wire.specs.declared.command.provisioning.Unmap.{Unmap}
+use Rattle.sg_wire.specs.declared.extent.Extent.{Extent}
+use Rattle.sg_wire.specs.declared.unmap_list.UnmapListFault.{UnmapListFault}
+use Rattle.sg_store.specs.Disk.{Contents, block, block_at, lies_in, zero_block}
+use Rattle.sg_store.specs.LbaStatus.{status_at}
+use Rattle.sg_store.specs.Laws.{AnchorsEachAddress, AnchorZeroesEachBlock, FillMapsEachAddress}
+use Rattle.sg_store.specs.Laws.{FillsEachBlock, MapsEachAddress, UnmapsEachAddress, UnmapsEachBlock}
+use Rattle.sg_store.specs.Laws.{WritesEachBlock}
+use Rattle.sg_store.specs.declared.lba_status.ProvisioningStatus.{ProvisioningStatus}
+use Rattle.sg_store.specs.declared.lba_status.ProvisioningStatus.TheVariants.{Mapped, Deallocated}
+use Rattle.sg_store.specs.declared.lba_status.ProvisioningStatus.TheVariants.{Anchored}
+use Rattle.sg_target.specs.BlockCommands.{blocks_out, bytes_of, reading, writing}
+use Rattle.sg_target.specs.Checks.{no_space}
+use Rattle.sg_target.specs.CommandLaws.{Changes, EndsWithGood, ReadsReturnTheirBlocks, ReturnsBlocks}
+use Rattle.sg_target.specs.CommandLaws.{SameFields, UnmapsFollowTheirLists}
+use Rattle.sg_target.specs.CommandLaws.{WriteSamesLeaveTheirBlock, WritesLeaveTheirData}
+use Rattle.sg_target.specs.CommandLaws.{blocks_to_read, blocks_to_write, is_zero_block, same_fields}
+use Rattle.sg_target.specs.CommandLaws.{status_of_same, unmapped_status}
+use Rattle.sg_target.specs.Demands.{bad_count, demands, extent, unless_anchor_alone, unmap_extent}
+use Rattle.sg_target.specs.Demands.{unmap_extents, unmap_or_fill}
+use Rattle.sg_target.specs.Effect.{Effect, with_contents}
+use Rattle.sg_target.specs.Laws.{AnchorsEachExtent, UnmapsEachExtent, lies_in_any}
+use Rattle.sg_target.specs.ProvisioningCommands.{anchoring, block_out, filling, unmap_list_refusal}
+use Rattle.sg_target.specs.ProvisioningCommands.{unmapping, unmaps}
+use Rattle.sg_target.specs.Refusal.{first_some, or_refused, when_sound}
+use Rattle.sg_target.specs.Semantics.{effect_of}
+use Rattle.sg_target.specs.State.{State}
+use Rattle.sg_target.specs.Step.{Step, executed, outcome, step, unless_no_space}
+use Rattle.sg_target.specs.declared.operation.Operation.{Operation}
+use Rattle.sg_target.specs.declared.operation.Operation.TheVariants as operation
+use Rattle.sg_target.specs.declared.refusal.Refusal.{Refusal}
+use Rattle.sg_target.specs.declared.reply.Status.TheVariants.{Good}
+use Rattle.sg_target.proofs.BlocksLemmas.{long_enough}
+use Rattle.sg_target.proofs.LiftLemmas.{Asked, lifted, not_good, request_checks}
+
+-- ---- Any command
+
+-- the operation that it asks for has its effect
+module _ (state : State) (i : ℕ) (cdb data_out : List ℕ) where
+  record Done (done : Step) : Type 0 where
+    operation : Operation
+    asked : Asked state i cdb data_out operation
+    effect : Effect
+    effect_is : effect_of state i operation ≡ Ok effect
+    done_is : executed effect ≡ done
+
+  abbrev DoneIfGood : Step → Type 0
+  DoneIfGood done = done.answer.status ≡ Good → Done done
+
+  by-space : (operation : Operation) → Asked state i cdb data_out operation → (effect : Effect)
+      → effect_of state i operation ≡ Ok effect → (refusal : Option Refusal)
+      → DoneIfGood (unless_no_space state i effect refusal)
+  by-space operation k effect e None good = record {
+    operation = operation;
+    asked = k;
+    effect = effect;
+    effect_is = e;
+    done_is = refl;
+  }
+  by-space operation k effect e (Some refusal) good = absurd (not_good state i refusal good)
+
+  by-effect : (operation : Operation) → Asked state i cdb data_out operation
+      → (effect : Result Effect Refusal) → effect_of state i operation ≡ effect
+      → DoneIfGood (outcome state i effect)
+  by-effect operation k (Ok effect) e good =
+      by-space operation k effect e (no_space effect.after.disk) good
+  by-effect operation k (Err refusal) e good = absurd (not_good state i refusal good)
+
+  done-well : EndsWithGood state i cdb data_out → Done (step state i cdb data_out)
+  done-well =
+      lifted state i cdb data_out DoneIfGood (λ refusal good. absurd (not_good state i refusal good))
+      (λ operation k. by-effect operation k (effect_of state i operation) refl)
+
+-- what is true of the effect of the operation is true of the step
+same-effect : (found : Result Effect Refusal) (first second : Effect) → found ≡ Ok first
+    → found ≡ Ok second → first ≡ second
+same-effect found first second e f = cc
+
+by-operation : (P : Step → Type 0) (state : State) (i : ℕ) (operation : Operation) (effect : Effect)
+    (done : Step) (known : Operation) (its : Effect) → known ≡ operation
+    → effect_of state i known ≡ Ok its
+    → effect_of state i operation ≡ Ok effect → executed effect ≡ done → P (executed its) → P done
+by-operation P state i operation effect done known its same e f is h =
+    subst P
+    (ap executed
+    (same-effect (effect_of state i known) its effect e (ap (effect_of state i) same ∙ f)) ∙ is)
+    h
+
+-- ---- READ
+
+read-asked : (capacity : ℕ) (c : Command) (data_out : List ℕ) (o : Operation) (read : Extent)
+    → (demands capacity c data_out).operation ≡ Ok o → blocks_to_read (Ok c) ≡ Some read
+    → operation.Read read ≡ o
+read-asked capacity (command.Read6 short) data_out o read e h = cc
+read-asked capacity (command.Read10 c) data_out o read e h = cc
+read-asked capacity (command.Read16 c) data_out o read e h = cc
+read-asked capacity _ data_out o read e h = cc
+
+pub reads-return : ReadsReturnTheirBlocks
+reads-return state i cdb data_out read is good =
+    let d = done-well state i cdb data_out good in
+    let known = read-asked state.disk.capacity d.asked.command data_out d.operation read
+    d.asked.operation_is (ap blocks_to_read (sym d.asked.command_is) ∙ is) in
+    by-operation (λ (done : Step). ReturnsBlocks state done read) state i d.operation d.effect
+    (step state i cdb data_out) (operation.Read read) (reading state read) known refl d.effect_is
+    d.done_is (record { data_in = refl; state = refl })
+
+-- ---- WRITE
+
+write-asked : (capacity : ℕ) (c : Command) (data_out : List ℕ) (o : Operation) (out : Extent)
+    → (demands capacity c data_out).operation ≡ Ok o → blocks_to_write (Ok c) ≡ Some out
+    → operation.Write (blocks_out out data_out) ≡ o
+write-asked capacity (command.Write6 short) data_out o out e h = cc
+write-asked capacity (command.Write10 c) data_out o out e h = cc
+write-asked capacity (command.Write16 c) data_out o out e h = cc
+write-asked capacity _ data_out o out e h = cc
+
+-- a block of the first bytes of data-out is that of data-out
+first-block : (data_out : List ℕ) (count index : ℕ) → index < count
+    → block_at (take (512 * count) data_out) index ≡ block_at data_out index
+first-block data_out count index below =
+    let more = 512 * count - 512 * index in
+    let sum : 512 * index + more ≡ 512 * count = omega arith in
+    let enough : 512 ≤ more = omega arith in
+    ap (λ n. take 512 (drop (512 * index) (take n data_out))) (sym sum)
+    ∙ (ap (take 512) (drop-take (512 * index) more data_out)
+    ∙ take-take 512 more (drop (512 * index) data_out) enough)
+
+-- a range's address has an index below the count
+below : (lba count address : ℕ) → lies_in lba count address ≡ true → address - lba < count
+below lba count address h = grind (arith, nat_tests)
+
+given-first : (lies : Bool) (out : Extent) (data_out : List ℕ) (address : ℕ) (old : List ℕ)
+    → (lies ≡ true → address - out.lba < out.count)
+    → cond lies (block_at (first_bytes (bytes_of out) data_out) (address - out.lba)) old
+    ≡ cond lies (block_at data_out (address - out.lba)) old
+given-first true out data_out address old h =
+    first-block data_out out.count (address - out.lba) (h refl)
+given-first false out data_out address old h = refl
+
+pub writes-leave : MapsEachAddress → WritesEachBlock → WritesLeaveTheirData
+writes-leave maps puts state i cdb data_out out is good =
+    let d = done-well state i cdb data_out good in
+    let contents = state.disk.contents in
+    let fields = blocks_out out data_out in
+    let known = write-asked state.disk.capacity d.asked.command data_out d.operation out
+    d.asked.operation_is (ap blocks_to_write (sym d.asked.command_is) ∙ is) in
+    by-operation
+    (λ (done : Step). Changes state done.state (lies_in out.lba out.count) Mapped
+    (λ address. block_at data_out (address - out.lba)))
+    state i d.operation d.effect (step state i cdb data_out) (operation.Write fields)
+    (writing state fields) known refl d.effect_is d.done_is
+    (record {
+      statuses = maps contents out.lba out.count fields.bytes;
+      blocks =
+          λ address.
+          puts contents out.lba out.count fields.bytes address
+          ∙ given-first (lies_in out.lba out.count address) out data_out address (block contents address)
+          (below out.lba out.count address);
+      rest = refl;
+    })
+
+-- ---- UNMAP
+
+record Listed (anchor : Bool) (found : Result (List Extent) UnmapListFault) (o : Operation) : Type 0 where
+  extents : List Extent
+  listed : found ≡ Ok extents
+  is : unmap_extents anchor extents ≡ o
+
+listed : (anchor : Bool) (found : Result (List Extent) UnmapListFault) (o : Operation)
+    → when_sound (or_refused unmap_list_refusal found) (unmap_extents anchor) ≡ Ok o
+    → Listed anchor found o
+listed anchor (Ok extents) o e = record { extents = extents; listed = refl; is = cc }
+listed anchor (Err fault) o e = cc
+
+unmap-asked : (capacity : ℕ) (k : Command) (c : Unmap) (data_out : List ℕ) (o : Operation)
+    → (demands capacity k data_out).operation ≡ Ok o → (parsed : Result Command CdbFault)
+    → parsed ≡ Ok k → parsed ≡ Ok (command.Unmap c)
+    → Listed c.anchor (unmap_list (first_bytes c.list_length data_out)) o
+unmap-asked capacity k c data_out o e parsed h is =
+    let same : k ≡ command.Unmap c = cc in
+    listed c.anchor (unmap_list (first_bytes c.list_length data_out)) o
+    (subst (λ (other : Command). (demands capacity other data_out).operation ≡ Ok o) same e)
+
+module _ (state : State) (i : ℕ) where
+  abbrev effect_of_unmap : (anchor : Bool) → List Extent → Effect
+  effect_of_unmap anchor extents = cond anchor (anchoring state extents) (unmapping state extents)
+
+  unmap-effect : (anchor : Bool) (extents : List Extent)
+      → effect_of state i (unmap_extents anchor extents) ≡ Ok (effect_of_unmap anchor extents)
+  unmap-effect true extents = refl
+  unmap-effect false extents = refl
+
+  unmap-changes : UnmapsEachExtent → AnchorsEachExtent → (anchor : Bool) (extents : List Extent)
+      → Changes state (effect_of_unmap anchor extents).after (lies_in_any extents)
+      (unmapped_status anchor) (λ address. zero_block)
+  unmap-changes unmaps anchors true extents = record {
+    statuses = anchors.statuses state extents;
+    blocks = anchors.blocks state extents;
+    rest = refl;
+  }
+  unmap-changes unmaps anchors false extents = record {
+    statuses = unmaps.statuses state extents;
+    blocks = unmaps.blocks state extents;
+    rest = refl;
+  }
+
+pub unmaps-follow : UnmapsEachExtent → AnchorsEachExtent → UnmapsFollowTheirLists
+unmaps-follow unmaps anchors state i cdb data_out c is good =
+    let d = done-well state i cdb data_out good in
+    let known = unmap-asked state.disk.capacity d.asked.command c data_out d.operation
+    d.asked.operation_is (command_of cdb) d.asked.command_is is in
+    record {
+      extents = known.extents;
+      listed = known.listed;
+      unmapped =
+          by-operation
+          (λ (done : Step). Changes state done.state (lies_in_any known.extents)
+          (unmapped_status c.anchor) (λ address. zero_block))
+          state i d.operation d.effect (step state i cdb data_out)
+          (unmap_extents c.anchor known.extents) (effect_of_unmap state i c.anchor known.extents)
+          known.is (unmap-effect state i c.anchor known.extents) d.effect_is d.done_is
+          (unmap-changes state i unmaps anchors c.anchor known.extents);
+    }
+
+-- ---- WRITE SAME
+
+same-asked : (capacity : ℕ) (k : Command) (data_out : List ℕ) (o : Operation) (c : SameFields)
+    → (demands capacity k data_out).operation ≡ Ok o → same_fields (Ok k) ≡ Some c
+    → unmap_or_fill c.anchor c.unmap c.extent (block_out data_out) ≡ o
+same-asked capacity (command.WriteSame10 w) data_out o c e h =
+    let same : record { extent = extent w.lba w.count; anchor = w.anchor; unmap = w.unmap } ≡ c = cc in
+    let is : unmap_or_fill w.anchor w.unmap (extent w.lba w.count) (block_out data_out) ≡ o = cc in
+    ap (λ (f : SameFields). unmap_or_fill f.anchor f.unmap f.extent (block_out data_out)) (sym same) ∙ is
+same-asked capacity (command.WriteSame16 w) data_out o c e h =
+    let same : record { extent = extent w.lba w.count; anchor = w.anchor; unmap = w.unmap } ≡ c = cc in
+    let is : unmap_or_fill w.anchor w.unmap (extent w.lba w.count) (block_out data_out) ≡ o = cc in
+    ap (λ (f : SameFields). unmap_or_fill f.anchor f.unmap f.extent (block_out data_out)) (sym same) ∙ is
+same-asked capacity _ data_out o c e h = cc
+
+same-long : (capacity : ℕ) (k : Command) (data_out : List ℕ) (c : SameFields)
+    → first_some (request_checks (demands capacity k data_out) data_out) ≡ None
+    → same_fields (Ok k) ≡ Some c → 512 ≤ length data_out
+same-long capacity (command.WriteSame10 w) data_out c e h =
+    long_enough (unless_anchor_alone w.anchor w.unmap (bad_count w.count 7)) 512 data_out e
+same-long capacity (command.WriteSame16 w) data_out c e h =
+    long_enough (unless_anchor_alone w.anchor w.unmap (bad_count w.count 10)) 512 data_out e
+same-long capacity _ data_out c e h = cc
+
+-- a block of zeros is the block of zeros
+all-zero : (bytes : List ℕ) → is_zero_block bytes ≡ true → bytes ≡ replicate (length bytes) 0
+all-zero [] h = refl
+all-zero (byte ∷ bytes) h =
+    let parts = and_parts (byte == 0) (is_zero_block bytes) h in
+    λ d. eqb-true byte 0 parts.0 d ∷ all-zero bytes parts.1 d
+
+zero-is : (bytes : List ℕ) → length bytes ≡ 512 → is_zero_block bytes ≡ true → zero_block ≡ bytes
+unfolding zero_block
+zero-is bytes h z = sym (all-zero bytes z ∙ ap (λ n. replicate n 0) h)
+
+whole-block : (data_out : List ℕ) → 512 ≤ length data_out → length (block_out data_out) ≡ 512
+whole-block data_out h = omega (arith, length-take 512 data_out)
+
+-- a range that is read as zeros is read as a block of zeros
+zeroed : (state : State) (contents : Contents) (e : Extent) (status : ProvisioningStatus)
+    (given : List ℕ) → zero_block ≡ given
+    → ((address : ℕ) → status_at contents address
+    ≡ cond (lies_in e.lba e.count address) status (status_at state.disk.contents address))
+    → ((address : ℕ) → block contents address
+    ≡ cond (lies_in e.lba e.count address) zero_block (block state.disk.contents address))
+    → Changes state (with_contents state contents) (lies_in e.lba e.count) status (λ address. given)
+zeroed state contents e status given zero statuses blocks = record {
+  statuses = statuses;
+  blocks =
+      λ address.
+      blocks address
+      ∙ ap (λ z. cond (lies_in e.lba e.count address) z (block state.disk.contents address)) zero;
+  rest = refl;
+}
+
+module _ (fills : FillMapsEachAddress) (puts : FillsEachBlock) (unmapped : UnmapsEachAddress)
+    (zeroes : UnmapsEachBlock) (anchored : AnchorsEachAddress) (blanks : AnchorZeroesEachBlock) where
+  record SameEffect (state : State) (i : ℕ) (o : Operation) (e : Extent)
+      (status : ProvisioningStatus) (given : List ℕ) : Type 0 where
+    its : Effect
+    is : effect_of state i o ≡ Ok its
+    changes : Changes state its.after (lies_in e.lba e.count) status (λ address. given)
+
+  by-flags : (state : State) (i : ℕ) (anchor unmapping_it : Bool) (e : Extent) (given : List ℕ)
+      → (unmapping_it ≡ true → zero_block ≡ given)
+      → SameEffect state i (cond unmapping_it (unmap_extent anchor e) (operation.Fill e given)) e
+      (cond unmapping_it (unmapped_status anchor) Mapped) given
+  by-flags state i true true e given zero = record {
+    its = anchoring state (e ∷ []);
+    is = refl;
+    changes = zeroed state _ e Anchored given (zero refl)
+        (anchored state.disk.contents e.lba e.count) (blanks state.disk.contents e.lba e.count);
+  }
+  by-flags state i false true e given zero = record {
+    its = unmapping state (e ∷ []);
+    is = refl;
+    changes = zeroed state _ e Deallocated given (zero refl)
+        (unmapped state.disk.contents e.lba e.count) (zeroes state.disk.contents e.lba e.count);
+  }
+  by-flags state i anchor false e given zero = record {
+    its = filling state e given;
+    is = refl;
+    changes = record {
+      statuses = fills state.disk.contents e.lba e.count given;
+      blocks = puts state.disk.contents e.lba e.count given;
+      rest = refl;
+    };
+  }
+
+  by-fields : (state : State) (i : ℕ) (c : SameFields) (given : List ℕ) → length given ≡ 512
+      → SameEffect state i (unmap_or_fill c.anchor c.unmap c.extent given) c.extent
+      (status_of_same c given) given
+  unfolding unmaps
+  by-fields state i c given h =
+      by-flags state i c.anchor (c.unmap && is_zero_block given) c.extent given
+      (λ both. zero-is given h (and_parts c.unmap (is_zero_block given) both).1)
+
+  pub write-sames-leave : WriteSamesLeaveTheirBlock
+  write-sames-leave state i cdb data_out c is good =
+      let d = done-well state i cdb data_out good in
+      let fields : same_fields (Ok d.asked.command) ≡ Some c =
+      ap same_fields (sym d.asked.command_is) ∙ is in
+      let known = same-asked state.disk.capacity d.asked.command data_out d.operation c
+      d.asked.operation_is fields in
+      let long = same-long state.disk.capacity d.asked.command data_out c d.asked.accepted fields in
+      let done = by-fields state i c (block_out data_out) (whole-block data_out long) in
+      by-operation
+      (λ (after : Step). Changes state after.state (lies_in c.extent.lba c.extent.count)
+      (status_of_same c (block_out data_out)) (λ address. block_out data_out))
+      state i d.operation d.effect (step state i cdb data_out)
+      (unmap_or_fill c.anchor c.unmap c.extent (block_out data_out)) done.its known done.is
+      d.effect_is d.done_is done.changes

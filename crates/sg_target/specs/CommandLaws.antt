@@ -1,0 +1,136 @@
+-- Laws of the commands on blocks: what `step` returns and leaves if one of them ends with GOOD.
+use Rattle.std.specs.Prelude.{◌≡◌, ℕ, ◌-◌, ◌==◌, ◌&&◌, List, Bool, if◌then◌else◌}
+use Rattle.std.specs.Prelude.{Option, Some, None, Result, Ok}
+use Rattle.std.specs.List.{list_all}
+use Rattle.sg_wire.specs.CutAnswer.{first_bytes}
+use Rattle.sg_wire.specs.Layout.{command_of}
+use Rattle.sg_wire.specs.UnmapList.{unmap_list}
+use Rattle.sg_wire.specs.declared.command.CdbFault.{CdbFault}
+use Rattle.sg_wire.specs.declared.command.Command.{Command}
+use Rattle.sg_wire.specs.declared.command.Command.TheVariants as command
+use Rattle.sg_wire.specs.declared.command.provisioning.Unmap.{Unmap}
+use Rattle.sg_wire.specs.declared.extent.Extent.{Extent}
+use Rattle.sg_store.specs.Disk.{block, block_at, block_length, blocks, lies_in, zero_block}
+use Rattle.sg_store.specs.LbaStatus.{status_at}
+use Rattle.sg_store.specs.declared.lba_status.ProvisioningStatus.{ProvisioningStatus}
+use Rattle.sg_store.specs.declared.lba_status.ProvisioningStatus.TheVariants.{Mapped, Deallocated}
+use Rattle.sg_store.specs.declared.lba_status.ProvisioningStatus.TheVariants.{Anchored}
+use Rattle.sg_target.specs.Effect.{with_contents}
+use Rattle.sg_target.specs.Laws.{lies_in_any}
+use Rattle.sg_target.specs.State.{State}
+use Rattle.sg_target.specs.Step.{Step, step}
+use Rattle.sg_target.specs.declared.reply.Status.TheVariants.{Good}
+
+-- ---- Words
+
+abbrev pub EndsWithGood : State → (initiator : ℕ) → (cdb data_out : List ℕ) → Type 0
+EndsWithGood state initiator cdb data_out =
+    (step state initiator cdb data_out).answer.status ≡ Good
+
+-- Some addresses have a status, and each is read as the block that is given for it. Every other address
+-- is as it was. So are the mode pages, the unit attentions, the registrations and the reservation.
+pub record Changes (before after : State) (addresses : ℕ → Bool) (status : ProvisioningStatus)
+    (given : ℕ → List ℕ) : Type 0 where
+  pub statuses : (address : ℕ) → status_at after.disk.contents address
+      ≡ (if addresses address then status else status_at before.disk.contents address)
+  pub blocks : (address : ℕ) → block after.disk.contents address
+      ≡ (if addresses address then given address else block before.disk.contents address)
+  pub rest : after ≡ with_contents before after.disk.contents
+
+abbrev extent : (lba count : ℕ) → Option Extent
+extent lba count = Some (record { lba = lba; count = count })
+
+-- ---- READ (SBC-3, 5.11 and 5.13; READ(6) of SBC-2)
+
+-- The blocks of a READ(6), READ(10) or READ(16).
+abbrev pub blocks_to_read : Result Command CdbFault → Option Extent
+blocks_to_read (Ok (command.Read6 short)) = extent short.0 short.1
+blocks_to_read (Ok (command.Read10 c)) = extent c.lba c.count
+blocks_to_read (Ok (command.Read16 c)) = extent c.lba c.count
+blocks_to_read _ = None
+
+-- They are the data-in, and nothing changes.
+pub record ReturnsBlocks (before : State) (done : Step) (read : Extent) : Type 0 where
+  pub data_in : done.answer.data_in ≡ blocks before.disk.contents read.lba read.count
+  pub state : done.state ≡ before
+
+abbrev pub ReadsReturnTheirBlocks : Type 0
+ReadsReturnTheirBlocks =
+    (state : State) (initiator : ℕ) (cdb data_out : List ℕ) (read : Extent)
+    → blocks_to_read (command_of cdb) ≡ Some read → EndsWithGood state initiator cdb data_out
+    → ReturnsBlocks state (step state initiator cdb data_out) read
+
+-- ---- WRITE (SBC-3, 5.33 and 5.35; WRITE(6) of SBC-2)
+
+-- The blocks of a WRITE(6), WRITE(10) or WRITE(16).
+abbrev pub blocks_to_write : Result Command CdbFault → Option Extent
+blocks_to_write (Ok (command.Write6 short)) = extent short.0 short.1
+blocks_to_write (Ok (command.Write10 c)) = extent c.lba c.count
+blocks_to_write (Ok (command.Write16 c)) = extent c.lba c.count
+blocks_to_write _ = None
+
+-- They are mapped, and each has its bytes of the data-out.
+abbrev pub WritesLeaveTheirData : Type 0
+WritesLeaveTheirData =
+    (state : State) (initiator : ℕ) (cdb data_out : List ℕ) (out : Extent)
+    → blocks_to_write (command_of cdb) ≡ Some out → EndsWithGood state initiator cdb data_out
+    → Changes state (step state initiator cdb data_out).state (lies_in out.lba out.count) Mapped
+    (λ address. block_at data_out (address - out.lba))
+
+-- ---- UNMAP (SBC-3, 5.28)
+
+-- ANCHOR says whether addresses that are unmapped are anchored, or deallocated (SBC-3, 4.7.4).
+abbrev pub unmapped_status : (anchor : Bool) → ProvisioningStatus
+unmapped_status anchor = if anchor then Anchored else Deallocated
+
+-- The parameter list names some extents. Each address that lies in one of them is unmapped so, and is
+-- read as zeros.
+pub record UnmapsItsList (before after : State) (c : Unmap) (data_out : List ℕ) : Type 0 where
+  pub extents : List Extent
+  pub listed : unmap_list (first_bytes c.list_length data_out) ≡ Ok extents
+  pub unmapped : Changes before after (lies_in_any extents) (unmapped_status c.anchor)
+      (λ address. zero_block)
+
+abbrev pub UnmapsFollowTheirLists : Type 0
+UnmapsFollowTheirLists =
+    (state : State) (initiator : ℕ) (cdb data_out : List ℕ) (c : Unmap)
+    → command_of cdb ≡ Ok (command.Unmap c) → EndsWithGood state initiator cdb data_out
+    → UnmapsItsList state (step state initiator cdb data_out).state c data_out
+
+-- ---- WRITE SAME (SBC-3, 5.43 and 5.44)
+
+-- The fields of a WRITE SAME(10) or WRITE SAME(16).
+pub record SameFields : Type 0 where
+  pub extent : Extent
+  pub anchor : Bool
+  pub unmap : Bool
+
+abbrev pub same_fields : Result Command CdbFault → Option SameFields
+same_fields (Ok (command.WriteSame10 c)) = Some (record {
+  extent = record { lba = c.lba; count = c.count };
+  anchor = c.anchor;
+  unmap = c.unmap;
+})
+same_fields (Ok (command.WriteSame16 c)) = Some (record {
+  extent = record { lba = c.lba; count = c.count };
+  anchor = c.anchor;
+  unmap = c.unmap;
+})
+same_fields _ = None
+
+-- With UNMAP 1 and a block of zeros the addresses are unmapped, and otherwise they are mapped.
+abbrev pub is_zero_block : List ℕ → Bool
+is_zero_block block = list_all (λ byte. byte == 0) block
+
+abbrev pub status_of_same : SameFields → (block : List ℕ) → ProvisioningStatus
+status_of_same c block =
+    if c.unmap && is_zero_block block then unmapped_status c.anchor else Mapped
+
+-- Each address has that status, and is read as the block of the data-out: also if it is unmapped.
+abbrev pub WriteSamesLeaveTheirBlock : Type 0
+WriteSamesLeaveTheirBlock =
+    (state : State) (initiator : ℕ) (cdb data_out : List ℕ) (c : SameFields)
+    → same_fields (command_of cdb) ≡ Some c → EndsWithGood state initiator cdb data_out →
+    (let block = first_bytes block_length data_out in
+    Changes state (step state initiator cdb data_out).state (lies_in c.extent.lba c.extent.count)
+    (status_of_same c block) (λ address. block))
