@@ -57,6 +57,10 @@ class Tour:
 
     def section(self, held_type):
         self.lines.append("# " + SECTIONS[held_type])
+        self.hold(held_type)
+
+    def hold(self, held_type):
+        """Sets up a state in which the first registrant has reserved the disk, unless None."""
         self.held_type = held_type
         self.set_up()
 
@@ -86,6 +90,12 @@ class Tour:
         self.is_observed = False
         if self.state() != self.set_up_state or self.device.reservations.generation != generation:
             self.observe()
+
+    def step(self, *parameters):
+        """Sends a command in whatever state there is, and observes."""
+        self.send(reserve_out(*parameters))
+        self.is_observed = False
+        self.observe()
 
     def observe(self):
         """Keys, reservation and unit attentions, if a command was sent since the last time."""
