@@ -70,9 +70,7 @@ class Tour:
         if registered:
             first = min(registered)
             self.send(reserve_out(first, "CLEAR", registered[first]))
-        for initiator in INITIATORS:
-            while self.device.attentions[initiator]:
-                self.send(request_sense(initiator))
+        self.take_attentions()
         for initiator, key in self.registrants:
             self.send(reserve_out(initiator, "REGISTER", 0, key))
         if self.held_type:
@@ -80,6 +78,11 @@ class Tour:
             self.send(reserve_out(initiator, "RESERVE", key, 0, self.held_type))
         self.set_up_state = self.state()
         self.is_set_up = True
+
+    def take_attentions(self):
+        for initiator in INITIATORS:
+            while self.device.attentions[initiator]:
+                self.send(request_sense(initiator))
 
     def command(self, *parameters):
         """Sends a PERSISTENT RESERVE OUT in the state that was set up, and shows its change."""
