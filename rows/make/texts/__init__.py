@@ -1,0 +1,45 @@
+"""The texts of answers (docs/SCRIPT.md, "Texts of answers" and "show KIND HEX").
+
+`show(kind, data)` returns the lines of a text, each with its two leading spaces; the status of a line
+`show` without a fault is 0, whatever the bytes are. A file of this folder has the kinds of one command,
+as tables of fields; `fields.py` says how a field is written, `answer.py` how a text ends.
+"""
+
+from . import inquiry, modes, provisioning, reservations, sense, vital
+from .answer import Ended, Truncated
+from .fields import hex_lines
+
+
+def whole(data):
+    """The whole answer in hex lines, as raw and the tools with --hex show it."""
+    yield from hex_lines(data)
+
+
+KINDS = {
+    "inq": inquiry.text,
+    "vpd": vital.text,
+    "modes6": modes.text_6,
+    "modes10": modes.text_10,
+    "lba": provisioning.text,
+    "keys": reservations.keys,
+    "resv": reservations.reservation,
+    "caps": reservations.capabilities,
+    "full": reservations.full_status,
+    "sense": sense.text,
+}
+
+# What only tools show: GET LBA STATUS in brief, and the whole answer in hex lines.
+TOOL_KINDS = KINDS | {"lba-brief": provisioning.brief, "hex": whole}
+
+
+def show(kind, data):
+    """The lines of an answer's text."""
+    shown = []
+    try:
+        for line in TOOL_KINDS[kind](data):
+            shown.append(line)
+    except Ended:
+        pass
+    except Truncated:
+        shown.append("truncated")
+    return ["  " + line for line in shown]
