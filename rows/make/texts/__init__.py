@@ -5,14 +5,10 @@
 as tables of fields; `fields.py` says how a field is written, `answer.py` how a text ends.
 """
 
-from . import inquiry, modes, provisioning, reservations, sense, vital
+import sense
+
+from . import inquiry, modes, provisioning, reservations, vital
 from .answer import Ended, Truncated
-from .fields import hex_lines
-
-
-def whole(data):
-    """The whole answer in hex lines, as raw and the tools with --hex show it."""
-    yield from hex_lines(data)
 
 
 KINDS = {
@@ -25,11 +21,11 @@ KINDS = {
     "resv": reservations.reservation,
     "caps": reservations.capabilities,
     "full": reservations.full_status,
-    "sense": sense.text,
+    "sense": lambda data: [sense.line(data)],
 }
 
-# What only tools show: GET LBA STATUS in brief, and the whole answer in hex lines.
-TOOL_KINDS = KINDS | {"lba-brief": provisioning.brief, "hex": whole}
+# What only a tool shows: sg_get_lba_status --brief.
+TOOL_KINDS = KINDS | {"lba-brief": provisioning.brief}
 
 
 def show(kind, data):
@@ -41,5 +37,5 @@ def show(kind, data):
     except Ended:
         pass
     except Truncated:
-        shown.append("truncated")
-    return ["  " + line for line in shown]
+        shown.append("  truncated")
+    return shown

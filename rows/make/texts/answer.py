@@ -51,4 +51,4 @@ class Answer:
         """A line for each row of a table."""
         for row in table:
             self.need(stop(row))
-            yield line(self.data, row)
+            yield "  " + line(self.data, row)

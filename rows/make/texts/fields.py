@@ -48,8 +48,3 @@ def line(data, row, between=": "):
     return ", ".join(
         name + between + FORMS[form[0] if form else "number"](number(data, place), raw(data, place))
         for name, place, *form in row)
-
-
-def hex_lines(data):
-    """Hex lines: the offset in eight digits, and up to sixteen bytes (docs/SCRIPT.md, "Replies")."""
-    return [f"{at:08x}  " + data[at:at + 16].hex(" ") for at in range(0, len(data), 16)]

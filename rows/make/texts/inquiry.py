@@ -1,7 +1,8 @@
 """Standard INQUIRY data (SPC-4, 6.6.2)."""
 
+from words import hex_lines
+
 from .answer import Answer
-from .fields import hex_lines
 
 TABLE = [
     [("qualifier", "0.7-5"), ("type", "0.4-0", "code")],

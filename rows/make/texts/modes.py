@@ -52,7 +52,7 @@ def descriptor(answer, at, length, form):
     if length == 0:
         return
     whole, (size, row) = answer.take(at, length), form
-    yield line(whole, row) if length == size else "descriptor: " + whole.hex()
+    yield "  " + (line(whole, row) if length == size else "descriptor: " + whole.hex())
 
 
 def pages(answer, at):
@@ -68,7 +68,7 @@ def pages(answer, at):
 def page(whole, head):
     """A mode page: its parameters, and for some pages their fields."""
     code, subpage = whole[0] & 0x3F, f"/{whole[1]:02X}h" if head == 4 else ""
-    yield f"page {code:02X}h{subpage}, PS {whole[0] >> 7}: {whole[head:].hex()}"
+    yield f"  page {code:02X}h{subpage}, PS {whole[0] >> 7}: {whole[head:].hex()}"
     row = FIELDS.get(code) if head == 2 else None
     if row and stop(row) <= len(whole):
-        yield "  " + line(whole, row)
+        yield "    " + line(whole, row)

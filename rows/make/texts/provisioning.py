@@ -27,4 +27,4 @@ def descriptors(answer):
         extent = answer.take(at, 16)
         status = number(extent, "12.3-0")
         name = STATUSES[status] if status < len(STATUSES) else f"reserved {status}"
-        yield f"0x{number(extent, '0-7'):016x} {number(extent, '8-11')} {name}"
+        yield f"  0x{number(extent, '0-7'):016x} {number(extent, '8-11')} {name}"

@@ -33,24 +33,24 @@ def keys(data):
     answer = Answer(data, "4-7", least=8)
     yield from answer.lines(HEADER)
     for at in range(8, answer.end, 8):
-        yield line(answer.take(at, 8), KEY)
+        yield "  " + line(answer.take(at, 8), KEY)
 
 
 def reservation(data):
     """READ RESERVATION: no reservation is held if ADDITIONAL LENGTH is 0."""
     answer = Answer(data, "4-7", least=8)
     yield from answer.lines(HEADER)
-    yield from ["no reservation"] if answer.end == 8 else answer.lines(RESERVATION)
+    yield from ["  no reservation"] if answer.end == 8 else answer.lines(RESERVATION)
 
 
 def capabilities(data):
     """REPORT CAPABILITIES: LENGTH counts all bytes, its own two too."""
     answer = Answer(data, "0-1", least=2)
-    yield f"length: {answer.number('0-1')}"
+    yield f"  length: {answer.number('0-1')}"
     answer.end = answer.number("0-1")
     yield from answer.lines(CAPABILITIES)
     mask = answer.take(0, 6)
-    yield " ".join(["types:"] + [name for name, bit in TYPES if number(mask, bit)])
+    yield " ".join(["  types:"] + [name for name, bit in TYPES if number(mask, bit)])
 
 
 def full_status(data):
@@ -61,5 +61,5 @@ def full_status(data):
     while at < answer.end:
         length = number(answer.take(at, 24), "20-23")
         whole = answer.take(at, 24 + length)
-        yield line(whole, REGISTRANT) + f", transport: {whole[24:].hex()}"
+        yield "  " + line(whole, REGISTRANT) + f", transport: {whole[24:].hex()}"
         at += len(whole)

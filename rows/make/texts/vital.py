@@ -1,7 +1,9 @@
 """Pages of vital product data (SPC-4, 7.8; SBC-3, the pages B0h and B2h)."""
 
+from words import hex_lines
+
 from .answer import Answer
-from .fields import bracketed, hex_lines, line
+from .fields import bracketed, line
 
 HEADER = [
     [("qualifier", "0.7-5"), ("type", "0.4-0", "code")],
@@ -37,12 +39,12 @@ def text(data):
 def supported_pages(answer):
     """Page 00h: a line for each page code."""
     for at in range(4, answer.end):
-        yield f"supported: {answer.take(at, 1)[0]:02X}h"
+        yield f"  supported: {answer.take(at, 1)[0]:02X}h"
 
 
 def serial_number(answer):
     """Page 80h: the serial number, as far as it is present."""
-    yield "serial: " + bracketed(answer.rest(4))
+    yield "  serial: " + bracketed(answer.rest(4))
     answer.need(answer.end)
 
 
@@ -52,9 +54,9 @@ def designators(answer):
     while at < answer.end:
         head = answer.take(at, 4)
         whole = answer.take(at, 4 + head[3])
-        yield "designator: " + line(whole, DESIGNATOR, between=" ")
+        yield "  designator: " + line(whole, DESIGNATOR, between=" ")
         is_ascii = whole[0] & 0xF == ASCII
-        yield "  " + (bracketed(whole[4:]) if is_ascii else "hex: " + whole[4:].hex())
+        yield "    " + (bracketed(whole[4:]) if is_ascii else "hex: " + whole[4:].hex())
         at += len(whole)
 
 
