@@ -76,5 +76,5 @@ def long_lines(kind, data):
     return lines
 
 
-for folder in ["show_inquiry", "show_mode_parameters"]:
+for folder in [f for f in FOLDERS if f.startswith("show_")]:
     import_module("." + folder, __name__)

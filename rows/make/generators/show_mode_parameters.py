@@ -12,6 +12,9 @@ ALL, MASKS = P01 + P08 + P0A + P1C, M01 + P08 + M0A + M1C
 # Its block descriptors: 4,096 blocks of 512 bytes.
 SHORT, LONG = "00001000" + "00000200", "0000000000001000" + "00000000" + "00000200"
 
+# Those of other disks: 2^20 blocks of 512 bytes, and 2^33 blocks of 4,096.
+DISK, LARGE = "0010000000000200", "0000000200000000" + "00000000" + "00001000"
+
 # Pages as other disks have them.
 CONTROL = "8a0a061000000000ffff001e"
 CACHING = "88121400ffff0000ffffffff8014000000000000"
@@ -65,11 +68,10 @@ def ten_cut():
 @row("show-mode-parameters/block-descriptors-cut-at-each-length")
 def descriptors_cut():
     """Descriptors of the length that LONGLBA names, and of another, which have no fields."""
-    disk, large = "0010000000000200", "0000000200000000" + "00000000" + "00001000"
-    sixes = [six(CONTROL, disk), six(CONTROL, large), six(CONTROL, "00ffffff0f000800"),
+    sixes = [six(CONTROL, DISK), six(CONTROL, LARGE), six(CONTROL, "00ffffff0f000800"),
              six(CONTROL, "010203")]
-    tens = [ten(CONTROL, disk), ten(CONTROL, disk, long="01"), ten(CONTROL, large),
-            ten(CONTROL, large, long="01"), ten(CONTROL, "ff" * 8),
+    tens = [ten(CONTROL, DISK), ten(CONTROL, DISK, long="01"), ten(CONTROL, LARGE),
+            ten(CONTROL, LARGE, long="01"), ten(CONTROL, "ff" * 8),
             ten(CONTROL, "ff" * 16, long="01")]
     return [line for kind, answers in (("modes6", sixes), ("modes10", tens))
             for answer in answers for line in cuts(kind, answer)]
@@ -142,9 +144,10 @@ def other_targets():
     return ["# six pages",
             *cuts("modes6", six(RECOVERY + "020e" + "80" * 2 + "00" * 12 + "88120400ffff0000"
                                 + "ffffffff8014000000000000" + "8a0a061008800000ffff001e"
-                                + EXCEPTIONS + "1a020100", "0010000000000200")),
+                                + EXCEPTIONS + "1a020100", DISK)),
             "# a long block descriptor, subpages and pages that are short",
-            *cuts("modes10", ten(short, LONG, parameter="80", long="01")),
+            *cuts("modes10", ten(short, LARGE,
+                                parameter="80", long="01")),
             "# unusual ones",
             *each("modes6", "{}", ["000200000800", "15000010" + ascending(16).hex() + "8800"]),
             show("modes10", "000e0010010000080010000000000200"),
@@ -154,13 +157,13 @@ def other_targets():
 @row("show-mode-parameters/six-of-other-disks-cut-at-each-length")
 def six_of_other_disks():
     """Pages with a subpage and without, and a vendor's page, in the order of a disk that has them."""
-    return cuts("modes6", six(OTHER, "0010000000000200"))
+    return cuts("modes6", six(OTHER, DISK))
 
 
 @row("show-mode-parameters/ten-of-other-disks-cut-at-each-length")
 def ten_of_other_disks():
     """The same with a long block descriptor, of a disk of more than 2^32 blocks."""
-    return cuts("modes10", ten(OTHER, "0000000200000000" + "00000000" + "00001000", long="01"))
+    return cuts("modes10", ten(OTHER, LARGE, long="01"))
 
 
 OTHER = RECONNECT + CONTROL + CONTROL_EXTENSION + EXCEPTIONS + VENDOR
@@ -171,10 +174,10 @@ def of_other_disks():
     """Each page as other disks have it: all of them, then one by one by both commands."""
     pages = [RECOVERY, RECONNECT, CACHING, CONTROL, CONTROL_EXTENSION, PORT, POWER, EXCEPTIONS,
              BACKGROUND, VENDOR]
-    disk, every = "0010000000000200", "".join(pages)
-    return [show("modes6", six(every, disk, parameter="90")),
-            show("modes10", ten(every, disk, parameter="90")),
-            show("modes10", ten(every, "0000000200000000" + "00000000" + "00001000", long="01")),
+    every = "".join(pages)
+    return [show("modes6", six(every, DISK, parameter="90")),
+            show("modes10", ten(every, DISK, parameter="90")),
+            show("modes10", ten(every, LARGE, long="01")),
             *(line for page in pages
               for line in (show("modes6", six(page)), show("modes10", ten(page))))]
 
