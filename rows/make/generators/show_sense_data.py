@@ -15,6 +15,54 @@ def described(key, code, *descriptors):
     return octets(f"72{key:02x}{code:04x}000000{len(rest):02x}", rest)
 
 
+def in_cdb(*places):
+    """INVALID FIELD IN CDB at each of these bytes, in fixed format."""
+    return [fixed(5, 0x2400, f"c0{place:04x}") for place in places]
+
+
+def in_list(*places):
+    """INVALID FIELD IN PARAMETER LIST at each of these bytes, in fixed format."""
+    return [fixed(5, 0x2600, f"80{place:04x}") for place in places]
+
+
+def out_of_range(*addresses):
+    """LOGICAL BLOCK ADDRESS OUT OF RANGE, with each address as INFORMATION."""
+    return [fixed(5, 0x2100, information=address) for address in addresses]
+
+
+def information(address):
+    """An information descriptor (SPC-4, 4.5.2.2)."""
+    return f"000a8000{address:016x}"
+
+
+def pointer(flags, place):
+    """A sense key specific descriptor with a field pointer (SPC-4, 4.5.2.4.2)."""
+    return f"02060000{flags:02x}{place:04x}00"
+
+
+@row("show-sense-data/cut-at-each-length")
+def own_sense_data():
+    """The sense data that the disk returns, in both formats: each code, and each byte it points to."""
+    return cuts(
+        "sense",
+        fixed(6, 0x2900), described(6, 0x2900), fixed(0, 0), *in_cdb(2), fixed(5, 0x2000), *in_cdb(0),
+        *out_of_range(0x1000), *in_cdb(7), fixed(7, 0x2707), fixed(0xB, 0x4B00), *in_cdb(5),
+        *out_of_range(None, 0x1001), described(0, 0), *in_cdb(1, 3, 10, 9),
+        *out_of_range(0xFFFFFFFF, 0x1FFFFF, 1), *in_cdb(4, 6, 8, 14), *in_list(2), fixed(5, 0x1A00),
+        *out_of_range(5000), *in_cdb(15), *in_list(18),
+        described(6, 0x2A01), described(5, 0x2100, information(2**33)), fixed(7, 0x2702),
+        *in_list(11, 15, 4, 5, 6, 8, 9, 10, 13, 14, 7, 12, 16, 17, *range(19, 28), 1, 3),
+        fixed(6, 0x2A01), described(7, 0x2702), fixed(6, 0x2A05),
+        described(5, 0x2600, pointer(0x80, 6)), described(5, 0x2600, pointer(0x80, 4)),
+        fixed(5, 0x5504), fixed(5, 0x2604), fixed(6, 0x2A04), fixed(6, 0x2A03),
+        described(6, 0x2A04), described(6, 0x2A03),
+        described(5, 0x2100, information(2**64 - 1)),
+        described(5, 0x2400, pointer(0xC0, 2)), described(5, 0x2400, pointer(0xC0, 3)),
+        described(5, 0x2100, information(0x1000)), described(5, 0x2400, pointer(0xC0, 1)),
+        described(5, 0x2100, information(5000)), described(5, 0x2600, pointer(0x80, 20)),
+        described(5, 0x2604), described(5, 0x2600, pointer(0x80, 8)), described(5, 0x5504))
+
+
 @row("show-sense-data/each-response-code")
 def each_response_code():
     """Only 70h, F0h and 72h are read, and not deferred errors (71h, 73h) or others."""
@@ -25,7 +73,7 @@ def each_response_code():
 
 @row("show-sense-data/fixed-of-other-disks-cut-at-each-length")
 def other_fixed():
-    """INFORMATION, the command specific part, and other lengths than 18: what is read is 18 bytes."""
+    """INFORMATION, command specific bytes, and other lengths: what is read is 14 or 18 bytes."""
     return cuts("sense", "f00005000102030aaabbccdd210012c8000241424344",
                 "70000b000000002800000000470300" + "00" * 33, "f00083ffffffff0a000000001100")
 
@@ -33,9 +81,16 @@ def other_fixed():
 @row("show-sense-data/several-descriptors-cut-at-each-length")
 def several_descriptors():
     """Descriptors in any order: the first of each of two types is read, the others are passed."""
-    information, pointer = "000a80000000000200000001", "02060000c8000200"
     return cuts(
         "sense",
-        described(5, 0x2400, information, "010a0000000000000000000b", pointer, "03020015 05020020"),
-        described(5, 0x2400, "090c000000010002000300044051", "8006" + b"MAKER!".hex(), pointer,
-                  "000a80000000000000000020", information))
+        described(5, 0x2400, information(2**33 + 1), "010a0000000000000000000b",
+                  pointer(0xC8, 2), "03020015 05020020"),
+        described(5, 0x2400, "090c000000010002000300044051", "8006" + b"MAKER!".hex(),
+                  pointer(0xC8, 2), information(2), information(2**33 + 1)))
+
+
+@row("show-sense-data/deferred-cut-at-each-length")
+def deferred():
+    """Deferred errors of both formats are unreadable at each length (SPC-4, 4.5.6)."""
+    return cuts("sense", "710003000000000a00000000110000000000",
+                "f10003000102030a00000000110000000000", "730311000000000c000a80000000000000000102")
