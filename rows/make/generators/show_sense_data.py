@@ -91,6 +91,6 @@ def several_descriptors():
 
 @row("show-sense-data/deferred-cut-at-each-length")
 def deferred():
-    """Deferred errors of both formats are unreadable at each length (SPC-4, 4.5.6)."""
+    """Deferred errors of both formats are unreadable at each length (SPC-4, 4.5, deferred errors)."""
     return cuts("sense", "710003000000000a00000000110000000000",
                 "f10003000102030a00000000110000000000", "730311000000000c000a80000000000000000102")
