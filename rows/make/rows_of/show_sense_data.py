@@ -1,6 +1,7 @@
 """Rows of sense data (SPC-4, 4.5) as its line."""
 
-from . import cuts, each, octets, row, show
+from rows_of import row
+from rows_of.show_lines import cuts, each, octets, show
 
 
 def fixed(key, code, pointer="000000", information=None):

@@ -1,6 +1,7 @@
 """Rows of mode parameters (SPC-4, 7.5) as text."""
 
-from . import ascending, cuts, each, long_lines, octets, one_bit, row, show
+from rows_of import row
+from rows_of.show_lines import ascending, cuts, each, long_lines, octets, one_bit, show
 
 # The pages of our disk, with their default values and their masks (docs/PROFILE.md, "Mode pages").
 P01, M01 = "810ac0080000000008000000", "810ac0ff00000000ff000000"

@@ -1,6 +1,7 @@
 """Rows of pages of vital product data (SPC-4, 7.8; SBC-3) as text."""
 
-from . import ascending, cuts, each, long_lines, octets, one_bit, row, show
+from rows_of import row
+from rows_of.show_lines import ascending, cuts, each, long_lines, octets, one_bit, show
 
 # Block limits of two other disks, the first with its reserved bytes set.
 LIMITS = "0108000800004000000020000000100000400000000001000000002080000004000000000000ffff00" \

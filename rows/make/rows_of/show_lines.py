@@ -1,34 +1,4 @@
-"""The scripts of the large rows, each by its rule: a file for each folder of rows.
-
-A generator is a function that returns the lines of one script. Its docstring says what the row shows and
-why. `ROWS` has each generator by the name of its row, and `script(name)` is the script as bytes.
-The helpers below make lines of `show` (docs/SCRIPT.md), which most of these rows consist of.
-"""
-
-from importlib import import_module
-
-ROWS = {}
-FOLDERS = [
-    "sg_get_lba_status", "sg_inq", "sg_modes", "sg_persist", "sg_unmap", "sg_vpd", "show",
-    "show_inquiry", "show_lba_status", "show_mode_parameters", "show_reservations",
-    "show_sense_data", "show_vital_product_data", "tools",
-]
-
-
-def row(name):
-    """Names the row that a generator makes."""
-    def keep(generator):
-        ROWS[name] = generator
-        return generator
-    return keep
-
-
-def script(name):
-    """The script of a row: each line ends with LF."""
-    return "".join(line + "\n" for line in ROWS[name]()).encode()
-
-
-# --------------------------------------------------------------------------------- lines of `show`
+"""Lines of `show` (docs/SCRIPT.md), which the rows of texts consist of."""
 
 
 def octets(*parts):
@@ -74,7 +44,3 @@ def long_lines(kind, data):
         count = (length - len(verb) - 1) // 2
         lines.append(verb + data[:count].hex().rjust(length - len(verb)))
     return lines
-
-
-for folder in [f for f in FOLDERS if f.startswith("show_")]:
-    import_module("." + folder, __name__)

@@ -1,6 +1,7 @@
 """Rows of the answers of PERSISTENT RESERVE IN (SPC-4, 6.15) as text."""
 
-from . import cuts, each, long_lines, octets, one_bit, row, show
+from rows_of import row
+from rows_of.show_lines import cuts, each, long_lines, octets, one_bit, show
 
 # Full status of other disks: a Fibre Channel port that holds the reservation, and an iSCSI name.
 HOLDER = "123456789abcdef0" + "00000000" + "0305" + "00000000" + "0000"

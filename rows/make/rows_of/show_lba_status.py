@@ -1,6 +1,7 @@
 """Rows of the answer of GET LBA STATUS (SBC-3, 5.4.2) as text."""
 
-from . import cuts, each, long_lines, octets, row, show
+from rows_of import row
+from rows_of.show_lines import cuts, each, long_lines, octets, show
 
 # Three descriptors: one mapped block, all up to address FFFFFFFEh deallocated, two anchored ones.
 THREE = ("0000000000000000" + "00000001" + "00000000" + "0000000000000001" + "fffffffe" + "01000000"

@@ -1,6 +1,7 @@
 """Rows of standard INQUIRY data (SPC-4, 6.6.2) as text."""
 
-from . import ascending, cuts, each, long_lines, octets, one_bit, row, show
+from rows_of import row
+from rows_of.show_lines import ascending, cuts, each, long_lines, octets, one_bit, show
 
 OWN = "000006021f000000" + "53474d4f44454c20" + "5448494e204449534b20202020202020" + "30313030"
 
