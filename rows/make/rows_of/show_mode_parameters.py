@@ -30,14 +30,14 @@ VENDOR = "800600800f000000"
 
 
 def six(pages, descriptor="", parameter="10"):
-    """An answer to MODE SENSE(6) (SPC-4, 7.5.4): the header, a block descriptor and pages."""
+    """An answer to MODE SENSE(6) (SPC-4, 7.5): the header, a block descriptor and pages."""
     descriptor, pages = octets(descriptor), octets(pages)
     length = 3 + len(descriptor) + len(pages)
     return octets(bytes([length, 0]), parameter, bytes([len(descriptor)]), descriptor, pages)
 
 
 def ten(pages, descriptor="", parameter="10", long="00"):
-    """An answer to MODE SENSE(10) (SPC-4, 7.5.4); `long` is the byte that has LONGLBA."""
+    """An answer to MODE SENSE(10) (SPC-4, 7.5); `long` is the byte that has LONGLBA."""
     descriptor, pages = octets(descriptor), octets(pages)
     length = 6 + len(descriptor) + len(pages)
     return octets(length.to_bytes(2, "big"), "00", parameter, long, "00",
@@ -82,7 +82,7 @@ def descriptors_cut():
 def each_page_code():
     """A page of each code, with PS and without: codes below 40h have one byte of length.
 
-    With bit 6, SPF, the page has a subpage, and so two bytes of length (SPC-4, 7.5.5).
+    With bit 6, SPF, the page has a subpage, and so two bytes of length (SPC-4, 7.5).
     """
     return [show("modes6", six(bytes([code, 2]) + b"\xff\xff"))
             for code in range(256) if not code & 0x40] + [

@@ -95,3 +95,33 @@ def deferred():
     """Deferred errors of both formats are unreadable at each length (SPC-4, 4.5, deferred errors)."""
     return cuts("sense", "710003000000000a00000000110000000000",
                 "f10003000102030a00000000110000000000", "730311000000000c000a80000000000000000102")
+
+
+@row("show-sense-data/each-key")
+def each_key():
+    """The key is the low four bits; only with ILLEGAL REQUEST is a field pointer read."""
+    keys = [*range(16), 0x15, 0x25, 0x45, 0x85, 0xE6, 0xF0]
+    return (each("sense", "7000{:02x}000000000a00000000110400c00009", keys)
+            + each("sense", "72{:02x}11040000000802060000c0000900", keys))
+
+
+@row("show-sense-data/descriptors-with-each-additional-length")
+def additional_lengths():
+    """ADDITIONAL SENSE LENGTH ends the descriptors, and then ADDITIONAL LENGTH of the first does."""
+    stream, block = "03020015", information(2**33 + 1)
+    return (each("sense", "72052400000000{:02x}" + stream + block + pointer(0xC8, 2),
+                 [*range(30), 0x7F, 0x80, 0xFF])
+            + each("sense", "720524000000001655{:02x}" + block + pointer(0xC8, 2),
+                   [0, 1, 2, *range(10, 14), *range(18, 23), 0x7F, 0x80, 0xFD, 0xFF]))
+
+
+@row("show-sense-data/ends-in-a-descriptor")
+def ends_in_a_descriptor():
+    """Data and ADDITIONAL SENSE LENGTH that end at each byte of the last descriptor."""
+    descriptors = pointer(0xC8, 2) + information(2**33 + 1)
+    whole = described(5, 0x2400, descriptors)
+    return ([show("sense", whole[:length]) for length in range(8, 29)]
+            + each("sense", "72052400000000{:02x}" + descriptors, range(22))
+            + [show("sense", described(5, 0x2400, rest)) for rest in (
+                "00", information(2**33 + 1) + "02", information(2**33 + 1) + "020600",
+                "02ff" + information(2**33 + 1), "020b" + information(2**33 + 1)[:20])])

@@ -10,7 +10,6 @@ import sense
 from . import inquiry, modes, provisioning, reservations, vital
 from .answer import Ended, Truncated
 
-
 KINDS = {
     "inq": inquiry.text,
     "vpd": vital.text,

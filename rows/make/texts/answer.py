@@ -5,7 +5,7 @@ answer ends by its own length field within an item, the text ends before that it
 item are missing, the text ends with `truncated` before it.
 """
 
-from .fields import line, number, raw, stop
+from .fields import end, line, number, row_end
 
 
 class Ended(Exception):
@@ -23,8 +23,8 @@ class Answer:
         """`length` is the place of the length field, which counts the bytes after it. The first
         `least` bytes are part of each answer, whatever that field says."""
         self.data, self.end = data, least
-        if len(data) >= stop([("", length)]):
-            self.end = max(least, stop([("", length)]) + number(data, length))
+        if end(length) <= len(data):
+            self.end = max(least, end(length) + number(data, length))
 
     def need(self, count):
         """Stops the text unless the first `count` bytes are part of the answer and present."""
@@ -44,11 +44,11 @@ class Answer:
 
     def number(self, place):
         """The number in a place of bytes that are all there."""
-        self.need(stop([("", place)]))
+        self.need(end(place))
         return number(self.data, place)
 
     def lines(self, table):
         """A line for each row of a table."""
         for row in table:
-            self.need(stop(row))
+            self.need(row_end(row))
             yield "  " + line(self.data, row)

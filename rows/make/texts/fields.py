@@ -38,9 +38,14 @@ def number(data, place):
     return value if bits is None else value >> bits[1] & (1 << bits[0] - bits[1] + 1) - 1
 
 
-def stop(row):
+def end(place):
+    """The number of bytes up to the end of a place."""
+    return bounds(place)[1] + 1
+
+
+def row_end(row):
     """The number of bytes up to the end of a row's last field."""
-    return 1 + max(bounds(place)[1] for _, place, *_ in row)
+    return max(end(place) for _, place, *_ in row)
 
 
 def line(data, row, between=": "):

@@ -1,7 +1,7 @@
 """Mode parameters (SPC-4, 7.5; SBC-3, 6.4): a header, a block descriptor and mode pages."""
 
 from .answer import Answer
-from .fields import line, number, stop
+from .fields import line, number, row_end
 
 # The headers of MODE SENSE(6) and MODE SENSE(10).
 SIX = [
@@ -70,5 +70,5 @@ def page(whole, head):
     code, subpage = whole[0] & 0x3F, f"/{whole[1]:02X}h" if head == 4 else ""
     yield f"  page {code:02X}h{subpage}, PS {whole[0] >> 7}: {whole[head:].hex()}"
     row = FIELDS.get(code) if head == 2 else None
-    if row and stop(row) <= len(whole):
+    if row and row_end(row) <= len(whole):
         yield "    " + line(whole, row)
