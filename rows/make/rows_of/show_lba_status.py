@@ -1,0 +1,87 @@
+"""Rows of the answer of GET LBA STATUS (SBC-3, 5.4.2) as text."""
+
+from rows_of import row
+from rows_of.show_lines import cuts, each, long_lines, octets, show
+
+# Three descriptors: one mapped block, all up to address FFFFFFFEh deallocated, two anchored ones.
+THREE = ("0000000000000000" + "00000001" + "00000000" + "0000000000000001" + "fffffffe" + "01000000"
+         + "00000000ffffffff" + "00000002" + "02000000")
+
+
+def answer(*extents):
+    """An answer: its length, four reserved bytes, and descriptors of address, count and status."""
+    descriptors = b"".join(
+        address.to_bytes(8, "big") + count.to_bytes(4, "big") + bytes([status, 0, 0, 0])
+        for address, count, status in extents)
+    return (4 + len(descriptors)).to_bytes(4, "big") + bytes(4) + descriptors
+
+
+@row("show-lba-status/cut-at-each-length")
+def own_disks():
+    """Answers of disks of 4,096 to 2^40 blocks; a run of 2^32 blocks or more is several extents."""
+    last, most = 2**40 - 1, 2**32 - 1
+    whole_disk = answer((0, 1, 1))
+    return cuts(
+        "lba",
+        answer((0, 3, 0), (3, 4093, 1)),
+        answer((0, most, 1), (most, most, 1), (2 * most, 2, 1)),
+        answer((2**40 - 4, 4, 1)),
+        answer((last, 1, 1)),
+        answer((last - most, most, 1), (last, 1, 1)),
+        octets("00000814 00000000 0000008000000002 ffffffff 01000000"),
+        whole_disk, answer((0, 1, 0)),
+        answer((0, 2, 0), (2, 4094, 1)),
+        answer((0, 1, 1), (1, 1, 0), (2, 4094, 1)),
+        answer((0, 2, 0), (2, 14, 1), (16, 2, 0), (18, 4078, 1)),
+        answer((0, 1, 0), (1, 4095, 1)),
+        answer((1, 31, 1), (32, 1, 0), (33, 4063, 1)),
+        answer((0, 1, 0), (1, 1, 1), (2, 2, 0), (4, 4092, 1)))
+
+
+@row("show-lba-status/of-other-disks-cut-at-each-length")
+def other_disks():
+    """Each status, also reserved ones, with large addresses and counts."""
+    return cuts("lba", octets(
+        "00000084 00000000", THREE, "0000000100000001 00000010 03000000",
+        "0000010000000000 00000001 04000000", "8000000000000000 00000000 05000000",
+        "ffffffffffffffff ffffffff 06000000", "123456789abcdef0 87654321 07000000"))
+
+
+@row("show-lba-status/each-parameter-data-length")
+def each_length():
+    """PARAMETER DATA LENGTH ends the text before each descriptor, and past the answer."""
+    return each("lba", "{:08x}00000000" + THREE,
+                [*range(0x46), 0xFF, 0x100, 2**16, 2**24, 2**31 - 1, 2**31, 2**32 - 5, 2**32 - 4,
+                 2**32 - 1])
+
+
+@row("show-lba-status/each-provisioning-status")
+def each_status():
+    """The status is the low four bits of byte 12; the other four are reserved, and not shown."""
+    return [show("lba", answer(*((16 * status, 16, status) for status in range(16)))),
+            *each("lba", "00000014 00000000 0000000000000001 00000002 {:02x}ffffff", range(256))]
+
+
+@row("show-lba-status/of-127-extents-and-cut")
+def of_127_extents():
+    """The first of 512 descriptors of 16 bytes: as many as a line of 4,096 bytes has room for."""
+    data = answer(*((address, 1, address % 2) for address in range(512)))
+    return [show("lba", data[:length])
+            for length in (2024, 2023, 2025, 2039, 2040, 2041, 24, 40, 1000)]
+
+
+@row("show-lba-status/as-long-as-a-line")
+def as_long_as_a_line():
+    """The longest lines, with 128 descriptors of which PARAMETER DATA LENGTH counts 126."""
+    data = answer(*((address, 3 * address, address % 5) for address in range(128)))
+    return long_lines("lba", octets((4 + 126 * 16).to_bytes(4, "big"), data[4:]))
+
+
+@row("show-lba-status/extents-of-each-status-cut-at-each-length-and-unusual-data")
+def each_status_cut():
+    """One extent of each status, and data that has a length and no descriptor."""
+    return ["# each provisioning status",
+            *cuts("lba", octets("00000044 00000000", THREE,
+                                "0000000100000001 00000010 f3000000")),
+            "# unusual ones",
+            show("lba", "00000003 000000000000")]
