@@ -32,6 +32,7 @@ class Row:
 def row(name, *parameters, blocks=DEFAULT_BLOCKS, pool=DEFAULT_POOL):
     """Makes the function below it the lines of a row; `parameters` are passed to it."""
     def keep(lines):
+        assert name not in ROWS, f"{name} is made twice"
         ROWS[name] = Row(name, lambda: lines(*parameters), blocks, pool)
         return lines
     return keep
