@@ -149,7 +149,7 @@ def registrant_alone():
 
 @row("persistent-reserve-out/registrants-leave-one-after-the-other-under-each-type")
 def registrants_leave():
-    """Three registrants leave, the holder first or last: when the reservation ends, and who hears"""
+    """Three registrants leave, the holder first or last: when the reservation ends, who is told"""
     tour = Tour([(0, A), (1, B), (2, C)], range(3))
     for held_type in SECTIONS:
         for order in ((0, 1, 2), (2, 1, 0)):
