@@ -1,9 +1,9 @@
 """Lines of scripts, by the commands that they send."""
 
-INITIATORS = range(8)
-MODE_PAGES = (0x01, 0x08, 0x0A, 0x1C)
-ALL_PAGES = 0x3F
-ALL_SUBPAGES = 0xFF
+from device import INITIATORS
+from modes import DEFAULT
+
+MODE_PAGES = tuple(DEFAULT)
 
 
 def raw(initiator, cdb, data_out=None):
@@ -54,12 +54,7 @@ def mode_select_10(parameters, sp=0, initiator=0):
 
 def mode_page(code):
     """The default values of a mode page, as a list of MODE SELECT has them."""
-    return bytes.fromhex({
-        0x01: "01 0A C0 08 00 00 00 00 08 00 00 00",
-        0x08: "08 12 04 00 00 00 00 00 00 00 00 00 00 00 00 00 00 00 00 00",
-        0x0A: "0A 0A 00 00 00 00 00 00 00 00 00 00",
-        0x1C: "1C 0A 08 00 00 00 00 00 00 00 00 00",
-    }[code])
+    return bytes([code, len(DEFAULT[code])]) + DEFAULT[code]
 
 
 def with_byte(data, place, value):

@@ -2,43 +2,18 @@
 
 from itertools import permutations
 
+from device import GOOD, INITIATORS
+from modes import ALL_PAGES, CHANGEABLE, DEFAULT
 from rows_of import row
 from rows_of.lines import (
-    ALL_PAGES, INITIATORS, MODE_PAGES, POWER_ON_REPORTED, POWER_ON_TAKEN, mode_page, mode_select_10,
-    mode_select_6, mode_sense_10, mode_sense_6, request_sense, test_unit_ready, with_byte)
+    MODE_PAGES, POWER_ON_REPORTED, POWER_ON_TAKEN, mode_page, mode_select_10, mode_select_6,
+    mode_sense_10, mode_sense_6, request_sense, test_unit_ready, with_byte)
+from rows_of.session import Session
 
-CHANGEABLE_BITS = {  # by page: byte of the page, mask (docs/PROFILE.md, "Mode pages")
-    0x01: {2: 0xC0, 3: 0xFF, 8: 0xFF},
-    0x08: {2: 0x04},
-    0x0A: {2: 0x04, 4: 0x08},
-    0x1C: {},
-}
 SHORT_DESCRIPTOR = bytes.fromhex("00001000 00000200")  # 4,096 blocks of 512 bytes
 LONG_DESCRIPTOR = bytes.fromhex("0000000000001000 00000000 00000200")
 LONG_HEADER = bytes.fromhex("0000 00 00 01 00 0010")  # LONGLBA 1, BLOCK DESCRIPTOR LENGTH 16
 SHORT_HEADER = bytes.fromhex("0000 00 00 00 00 0008")
-
-
-class Pages:
-    """The current values, as an initiator has to expect them after a list of one page."""
-
-    def __init__(self):
-        self.current = {code: mode_page(code) for code in MODE_PAGES}
-
-    def select(self, page):
-        """Whether the list of this one page is accepted: only changeable bits differ."""
-        code = page[0] & 0x7F  # PS is ignored
-        known = self.current.get(code)
-        if not known or len(page) != len(known) or page[1] != known[1]:
-            return False
-        masks = CHANGEABLE_BITS[code]
-        if any((page[at] ^ known[at]) & ~masks.get(at, 0) for at in range(2, len(page))):
-            return False
-        self.current[code] = bytes([code]) + page[1:]
-        return True
-
-    def differ_from_default(self):
-        return any(page != mode_page(code) for code, page in self.current.items())
 
 
 @row("mode-select/six-with-each-value-in-the-read-write-error-recovery-page", 0x01)
@@ -52,24 +27,23 @@ def each_value(code):
     read if a list is accepted and pages are not the default ones then, and the default page is
     selected again before the next byte. In the end each other initiator has one unit attention.
     """
-    yield from POWER_ON_TAKEN
-    pages = Pages()
+    session = Session()
+    session.send(*POWER_ON_TAKEN)
     default = mode_page(code)
-    yield mode_select_6(bytes(4) + default)
+    session.send(mode_select_6(bytes(4) + default))
     for place in range(len(default)):
         was_read = False
         for value in range(256):
-            page = with_byte(default, place, value)
-            yield mode_select_6(bytes(4) + page)
-            if pages.select(page) and pages.differ_from_default():
-                yield mode_sense_6(code, dbd=1)
+            reply = session.send(mode_select_6(bytes(4) + with_byte(default, place, value)))
+            if reply.status == GOOD and session.device.modes.current != DEFAULT:
+                session.send(mode_sense_6(code, dbd=1))
                 was_read = True
         if was_read:
-            yield mode_select_6(bytes(4) + default)
-            pages.select(default)
-    yield mode_sense_6(ALL_PAGES, dbd=1)
+            session.send(mode_select_6(bytes(4) + default))
+    session.send(mode_sense_6(ALL_PAGES, dbd=1))
     for other in INITIATORS[1:]:
-        yield from 2 * [test_unit_ready(other)]
+        session.send(*2 * [test_unit_ready(other)])
+    return session.lines
 
 
 @row("mode-select/six-with-each-value-in-the-header", mode_select_6, mode_sense_6, 4)
@@ -102,7 +76,7 @@ def each_bit(select, size):
         for place in range(len(page)):
             for bit in range(8):
                 yield select(bytes(size) + with_byte(page, place, page[place] ^ 1 << bit))
-                if CHANGEABLE_BITS[code].get(place, 0) & 1 << bit:
+                if place >= 2 and CHANGEABLE[code][place - 2] & 1 << bit:
                     yield select(bytes(size) + page)
 
 

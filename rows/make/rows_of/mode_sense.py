@@ -1,8 +1,9 @@
 """Rows of MODE SENSE (SPC-4, 6.13 and 6.14)."""
 
+from modes import ALL_PAGES, ALL_SUBPAGES
 from rows_of import row
 from rows_of.lines import (
-    ALL_PAGES, ALL_SUBPAGES, MODE_PAGES, POWER_ON_REPORTED, POWER_ON_TAKEN, mode_page,
+    MODE_PAGES, POWER_ON_REPORTED, POWER_ON_TAKEN, mode_page,
     mode_select_10, mode_select_6, mode_sense_10, mode_sense_6, raw, with_byte)
 
 PAGE_CONTROLS = range(4)

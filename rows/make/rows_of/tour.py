@@ -1,13 +1,12 @@
 """A tour through states of registrations and reservation, for rows of PERSISTENT RESERVE OUT.
 
 A tour sets a state up, sends commands, observes after each that has changed something, and sets the
-state up again before the next command. A disk of the model runs beside it, to know what changed.
+state up again before the next command.
 """
 
-from device import Device
 from layouts import SERVICE_ACTIONS
 from rows_of.lines import INITIATORS, POWER_ON_TAKEN, raw, request_sense, test_unit_ready
-from words import hex_bytes
+from rows_of.session import Session
 
 A, B, C = 0xA1B2C3D4E5F60718, 0x0123456789ABCDEF, 0x8000000000000001
 F = 0xFFFFFFFFFFFFFFFF  # nobody's key
@@ -35,21 +34,13 @@ def reserve_in(initiator, action, length=0x100):
     return raw(initiator, bytes([0x5E, action, 0, 0, 0, 0, 0]) + length.to_bytes(2, "big") + b"\0")
 
 
-class Tour:
+class Tour(Session):
     def __init__(self, registrants, watched):
         """`registrants` are pairs of initiator and key; those `watched` show unit attentions."""
+        super().__init__()
         self.registrants, self.watched = registrants, watched
-        self.lines = []
-        self.device = Device(4096, 4)
         self.is_set_up = self.is_observed = True
         self.send(*POWER_ON_TAKEN)
-
-    def send(self, *lines):
-        for line in lines:
-            self.lines.append(line)
-            _, initiator, *sent = line.split()
-            cdb, data_out = [hex_bytes(word) for word in (*sent, "-")][:2]
-            self.device.execute(int(initiator), cdb, data_out)
 
     def state(self):
         held = self.device.reservations
