@@ -1,8 +1,8 @@
 """The device server: the order of checks, unit attentions, and the way to each command.
 
 docs/PROFILE.md, "The order of checks", numbers the checks; the numbers below are the same. Checks 1
-to 6 are here and in `layouts.Command`. Checks 7 to 12 are in the order of the lines of each command,
-in `blocks`, `pages`, `modes` and `reservations`.
+to 6 are here and in `layouts.Command`. Checks 7 to 12 are in `blocks`, `pages`, `modes` and
+`reservations`, in each command in the order of its lines.
 """
 
 from dataclasses import dataclass
@@ -111,13 +111,7 @@ OPERATIONS = {
     "READ RESERVATION": reservations.read_reservation,
     "REPORT CAPABILITIES": reservations.report_capabilities,
     "READ FULL STATUS": reservations.read_full_status,
-    "REGISTER": reservations.persistent_reserve_out,
-    "RESERVE": reservations.persistent_reserve_out,
-    "RELEASE": reservations.persistent_reserve_out,
-    "CLEAR": reservations.persistent_reserve_out,
-    "PREEMPT": reservations.persistent_reserve_out,
-    "PREEMPT AND ABORT": reservations.persistent_reserve_out,
-    "REGISTER AND IGNORE EXISTING KEY": reservations.persistent_reserve_out,
+    **dict.fromkeys(reservations.ACTIONS, reservations.persistent_reserve_out),
     "READ(16)": blocks.read,
     "WRITE(16)": blocks.write,
     "WRITE SAME(16)": blocks.write_same,

@@ -2,7 +2,8 @@
 
 from blocks import need_data_out
 from provisioning import BLOCK_LENGTH
-from sense import MODE_PARAMETERS_CHANGED, invalid_field_in_parameter_list, parameter_list_length_error
+from sense import (
+    MODE_PARAMETERS_CHANGED, invalid_field_in_parameter_list, parameter_list_length_error)
 
 # Of each page what comes after PAGE LENGTH: the default values, and the bits that can be changed.
 PAGES = {

@@ -13,7 +13,7 @@ from sense import (
     parameter_list_length_error,
 )
 
-# TYPE (SPC-4, 6.15.3.4): who holds it, whether registrants share the access, whether it is exclusive.
+# TYPE (SPC-4, 6.15.3.4): whether all registrants hold it, or share its access; what it excludes.
 WRITE_EXCLUSIVE, EXCLUSIVE_ACCESS = 0x1, 0x3
 WRITE_EXCLUSIVE_REGISTRANTS_ONLY, EXCLUSIVE_ACCESS_REGISTRANTS_ONLY = 0x5, 0x6
 WRITE_EXCLUSIVE_ALL_REGISTRANTS, EXCLUSIVE_ACCESS_ALL_REGISTRANTS = 0x7, 0x8
@@ -137,7 +137,7 @@ def full_status_descriptor(state, registrant):
 
 
 class Request:
-    """A service action with its list, the state that it changes, and who is to be notified."""
+    """A service action with its list, and the state that it changes."""
 
     def __init__(self, device, caller, command, parameters):
         self.device, self.caller, self.command = device, caller, command

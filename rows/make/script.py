@@ -14,6 +14,7 @@ What this module asks of the two that decode answers and read the words of tools
 Both may use `words.number`, `words.hex_bytes` and `words.hex_lines`.
 """
 
+import re
 from dataclasses import dataclass, field
 
 import sense
@@ -24,6 +25,7 @@ from words import hex_bytes, hex_lines, number
 
 LONGEST_LINE = 4096
 MOST_WORDS = 64
+BAD_BYTE = re.compile(rb"[^\t -~]")  # neither a tab nor printable ASCII
 STATUS_OF_A_FAULT = 1
 STATUS_NAMES = {
     GOOD: "GOOD",
@@ -63,7 +65,7 @@ class Run:
         found = [word for word in found if word]
         if not found or found[0].startswith("#"):
             return [], 0
-        if any(byte != 0x09 and not 0x20 <= byte <= 0x7E for byte in line):
+        if BAD_BYTE.search(line):
             raise Fault("bad byte")
         if len(found) > MOST_WORDS:
             raise Fault("too many words")

@@ -32,4 +32,5 @@ def hex_bytes(text):
 
 def hex_lines(data):
     """Lines of sixteen bytes each, with the offset of the first in eight digits."""
-    return [f"  {place:08x}  {data[place:place + 16].hex(' ')}" for place in range(0, len(data), 16)]
+    places = range(0, len(data), 16)
+    return [f"  {place:08x}  {data[place:place + 16].hex(' ')}" for place in places]

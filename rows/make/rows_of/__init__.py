@@ -10,6 +10,7 @@ from pathlib import Path
 from typing import Callable
 
 ROWS = {}
+DEFAULT_BLOCKS, DEFAULT_POOL = 4096, 4  # of sgrun (docs/SCRIPT.md, "Options")
 
 
 @dataclass(frozen=True)
@@ -24,13 +25,14 @@ class Row:
 
     def listed(self):
         """The row's line in the list of rows."""
-        size = f" {self.blocks} {self.pool}" if (self.blocks, self.pool) != (4096, 4) else ""
-        return self.name + size
+        is_default = (self.blocks, self.pool) == (DEFAULT_BLOCKS, DEFAULT_POOL)
+        return self.name + ("" if is_default else f" {self.blocks} {self.pool}")
 
 
-def row(name, *parameters, blocks=4096, pool=4):
+def row(name, *parameters, blocks=DEFAULT_BLOCKS, pool=DEFAULT_POOL):
     """Makes the function below it the lines of a row; `parameters` are passed to it."""
     def keep(lines):
+        assert name not in ROWS, f"{name} is made twice"
         ROWS[name] = Row(name, lambda: lines(*parameters), blocks, pool)
         return lines
     return keep

@@ -8,7 +8,7 @@ FAR = 2**39
 
 @row("get-lba-status/of-more-than-512-extents", pool=600)
 def more_than_512_extents():
-    """Every second block of 1,040 is mapped: an answer has 512 descriptors at most (SBC-3, 5.4.2)"""
+    """Every second block of 1,040 is mapped: 512 descriptors are in an answer (SBC-3, 5.4.2)"""
     yield request_sense(0)
     for address in range(1, 1040, 2):
         yield fill(0, address, 1, 7)

@@ -82,7 +82,8 @@ def write_10(address, data, initiator=0):
 
 
 def transfer_10(code, address, count, flags=0):
-    return bytes([code, flags]) + address.to_bytes(4, "big") + b"\0" + count.to_bytes(2, "big") + b"\0"
+    return (bytes([code, flags]) + address.to_bytes(4, "big") + b"\0"
+            + count.to_bytes(2, "big") + b"\0")
 
 
 def read_16(address, count, initiator=0):
@@ -113,4 +114,5 @@ def unmap_list(extents, data_length=None, descriptors_length=None):
 def unmap(data_out, length=None, anchor=0):
     """UNMAP with these bytes; PARAMETER LIST LENGTH is their number, unless given."""
     length = len(data_out) if length is None else length
-    return raw(0, bytes([0x42, anchor, 0, 0, 0, 0, 0]) + length.to_bytes(2, "big") + b"\0", data_out)
+    cdb = bytes([0x42, anchor, 0, 0, 0, 0, 0]) + length.to_bytes(2, "big") + b"\0"
+    return raw(0, cdb, data_out)

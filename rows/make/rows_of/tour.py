@@ -5,6 +5,7 @@ state up again before the next command. A disk of the model runs beside it, to k
 """
 
 from device import Device
+from layouts import SERVICE_ACTIONS
 from rows_of.lines import INITIATORS, POWER_ON_TAKEN, raw, request_sense, test_unit_ready
 from words import hex_bytes
 
@@ -19,8 +20,7 @@ SECTIONS = {
     0x7: "write exclusive, all registrants",
     0x8: "exclusive access, all registrants",
 }
-ACTIONS = ("REGISTER", "RESERVE", "RELEASE", "CLEAR", "PREEMPT", "PREEMPT AND ABORT",
-           "REGISTER AND IGNORE EXISTING KEY")
+ACTIONS = SERVICE_ACTIONS["PERSISTENT RESERVE OUT"]
 
 
 def reserve_out(initiator, action, key=0, action_key=0, scope_and_type=0, flags=0):
