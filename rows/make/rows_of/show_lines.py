@@ -2,8 +2,7 @@
 
 
 def octets(*parts):
-    """Returns the bytes of parts in a row: each part is bytes, or hexadecimal text with or without
-    blanks."""
+    """Returns bytes. Each part is bytes, or hexadecimal text with or without blanks."""
     return b"".join(bytes.fromhex(part) if isinstance(part, str) else part for part in parts)
 
 
@@ -35,9 +34,10 @@ def ascending(count, first=0, step=1):
 
 
 def long_lines(kind, data):
-    """Returns lines of about 4,096 bytes, which is the longest that is read (docs/SCRIPT.md,
-    "Lines"). Each line shows as many bytes as it has room for. A second blank fills a byte that
-    is left."""
+    """Returns lines about 4,096 bytes, the longest that is read (docs/SCRIPT.md, "Lines").
+
+    Each line shows as many bytes as it has room for. A second blank fills a byte that is left.
+    """
     verb = f"show {kind}"
     lines = []
     for length in (4097, 4096, 4095, 4094, 3000):

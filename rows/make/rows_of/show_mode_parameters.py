@@ -5,8 +5,8 @@ from rows_of.show_lines import ascending, cuts, each, long_lines, octets, one_bi
 
 # The pages of our disk, with their default values and their masks (docs/PROFILE.md, "Mode pages").
 P01, M01 = "810ac0080000000008000000", "810ac0ff00000000ff000000"
-P08 = "8812" + "04" + "00" * 17
-P0A, M0A = "8a0a" + "00" * 10, "8a0a0400080000000000" + "0000"
+P08 = "881204" + "00" * 17
+P0A, M0A = "8a0a" + "00" * 10, "8a0a040008" + "00" * 7
 P1C, M1C = "9c0a08" + "00" * 9, "9c0a" + "00" * 10
 ALL, MASKS = P01 + P08 + P0A + P1C, M01 + P08 + M0A + M1C
 
@@ -27,6 +27,7 @@ POWER = "9a260001" + "00" * 36
 EXCEPTIONS = "9c0a08000000000000000001"
 BACKGROUND = "5c02000c000000008000000000001000"
 VENDOR = "800600800f000000"
+OTHER = RECONNECT + CONTROL + CONTROL_EXTENSION + EXCEPTIONS + VENDOR
 
 
 def six(pages, descriptor="", parameter="10"):
@@ -56,13 +57,15 @@ def six_cut():
         six(M01), six(M0A), six(M1C), six(MASKS), six(M0A, parameter="90"),
         six(P01, SHORT), six(M01, SHORT), six(P08, SHORT), six(M0A, SHORT), six(P1C, SHORT),
         six(M1C, SHORT), six(ALL, SHORT), six(MASKS, SHORT),
-        six("8812" + "00" * 18), six("8a0a00000800000000000000", parameter="90"))
+        six("8812" + "00" * 18), six("8a0a000008" + "00" * 7, parameter="90"))
 
 
 @row("show-mode-parameters/ten-cut-at-each-length")
 def ten_cut():
-    """The row cuts the disk's answers to MODE SENSE(10) with a short, a long and no block
-    descriptor."""
+    """The row cuts the disk's answers to MODE SENSE(10).
+
+    They have the short block descriptor, the long one, or none.
+    """
     return cuts(
         "modes10",
         ten(ALL, SHORT), ten(ALL), ten(ALL, LONG, long="01"),
@@ -161,8 +164,7 @@ def other_targets():
                                 + "ffffffff8014000000000000" + "8a0a061008800000ffff001e"
                                 + EXCEPTIONS + "1a020100", DISK)),
             "# a long block descriptor, subpages and pages that are short",
-            *cuts("modes10", ten(short, LARGE,
-                                parameter="80", long="01")),
+            *cuts("modes10", ten(short, LARGE, parameter="80", long="01")),
             "# unusual ones",
             *each("modes6", "{}", ["000200000800", "15000010" + ascending(16).hex() + "8800"]),
             show("modes10", "000e0010010000080010000000000200"),
@@ -179,9 +181,6 @@ def six_of_other_disks():
 def ten_of_other_disks():
     """The row cuts the same pages of a disk of 2^33 blocks, with the long descriptor."""
     return cuts("modes10", ten(OTHER, LARGE, long="01"))
-
-
-OTHER = RECONNECT + CONTROL + CONTROL_EXTENSION + EXCEPTIONS + VENDOR
 
 
 @row("show-mode-parameters/of-other-disks")
