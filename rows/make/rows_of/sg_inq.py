@@ -11,7 +11,10 @@ row("sg_inq/each-set-of-options", "sg_inq", ["-e", "-H", "-i", "-p sn", "-l 9"])
 
 @row("sg_inq/each-page-that-is-missing")
 def missing_pages():
-    """Each page that the disk does not have is refused at command byte 2 (SPC-4, 6.6.1)."""
+    """The row asks for each page that the disk lacks.
+
+    The disk refuses it at command byte 2 (SPC-4, 6.6.1).
+    """
     for page in range(256):
         if page not in PAGES.values():
             yield tool("sg_inq", "-p", page, "-H")
@@ -20,13 +23,16 @@ def missing_pages():
 @row("sg_inq/standard-inquiry-in-hex-cut-at-each-length", "sg_inq -H")
 @row("sg_inq/standard-inquiry-text-cut-at-each-length", "sg_inq")
 def standard_cut(name):
-    """Standard INQUIRY data at each allocation length up to past its end; 0 is the default of 36."""
+    """The row has each allocation length up to past the end of the data.
+
+    0 means the default of 36.
+    """
     yield from cut(name, "-l", [*range(1, 39), 0, 96, 252, 65535])
 
 
 @row("sg_inq/pages-that-sg-inq-and-sg-vpd-ask-for-alike")
 def alike():
-    """Both tools show a page alike, cut within the header, after it, in the page, and elsewhere."""
+    """The row asks for each page by both tools, whole and cut. Both show the same text."""
     for page in PAGES:
         yield tool("sg_inq -p", page)
         yield tool("sg_vpd -p", page)

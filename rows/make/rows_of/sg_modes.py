@@ -9,7 +9,7 @@ row("sg_modes/each-character-as-a-short-option", "sg_modes")(each_character)
 
 @row("sg_modes/each-set-of-options")
 def sets():
-    """Each set of options: -a excludes -p, and --six excludes -L."""
+    """The row has each set of options. -a excludes -p, and --six excludes -L."""
     yield request_sense(0)
     yield from sets_of("sg_modes", ["-a", "-d", "-L", "--six", "-H", "-c 1", "-p 8"])
 
@@ -17,7 +17,8 @@ def sets():
 @row("sg_modes/six-of-each-page-and-pc", "sg_modes --six")
 @row("sg_modes/of-each-page-and-pc", "sg_modes")
 def pages_and_pcs(name):
-    """Each page, and all of them, as current, changeable, default and saved values."""
+    """The row asks for each page, and for all pages, with current, changeable, default and saved
+    values."""
     yield request_sense(0)
     for page in (1, 8, 10, 28, 63):
         for pc in range(4):
@@ -26,7 +27,8 @@ def pages_and_pcs(name):
 
 @row("sg_modes/shows-each-field-that-can-be-changed")
 def fields():
-    """Each changeable field of docs/PROFILE.md, "Mode pages", is set and shown by both commands."""
+    """The row sets each changeable field (docs/PROFILE.md, "Mode pages"), and shows it by both
+    commands."""
     changes = [
         (1, "80080000000008"), (1, "40080000000008"), (1, "00080000000008"), (1, "c0000000000008"),
         (1, "c0080000000000"), (1, "c0ff00000000fe"), (1, "80010000000080"),
@@ -44,7 +46,7 @@ def fields():
 
 
 def mode_select(page, values):
-    """MODE SELECT(6) with a page that has these values, and zeros after them."""
+    """Returns a line of MODE SELECT(6) with a page that has these values, and zeros after them."""
     length = 18 if page == 8 else 10
     return mode_select_6(bytes(4) + bytes([page, length])
                          + bytes.fromhex(values).ljust(length, b"\0"))

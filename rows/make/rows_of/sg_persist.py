@@ -11,7 +11,7 @@ row("sg_persist/each-character-as-a-short-option", "sg_persist")(each_character)
 
 @row("sg_persist/each-pair-of-options")
 def pairs():
-    """Each pair of options: which exclude one another, and what the others do together."""
+    """The row has each pair of options: pairs that exclude one another, and pairs that do not."""
     options = [*"-k -r -c -s -G -I -R -L -C -P -A -Z -n -i -o".split(), "-K 1", "-S 1", "-T 1"]
     yield request_sense(0)
     for pair in combinations(options, 2):
@@ -22,7 +22,7 @@ def pairs():
 
 @row("sg_persist/actions-that-exclude-one-another")
 def actions():
-    """Each pair of service actions, by their letters, and some by their long names."""
+    """The row has each pair of service actions, by their letters, and some by their long names."""
     long_names = ("register register-ignore reserve release clear preempt preempt-abort read-keys "
                   "read-reservation report-capabilities read-full-status").split()
     yield request_sense(0)
@@ -34,7 +34,7 @@ def actions():
 
 @row("sg_persist/read-reservation-of-each-type")
 def read_reservation():
-    """The key of the holder is returned, and 0 under 7h and 8h, that all hold (SPC-4, 6.15.3)."""
+    """The disk returns the key of the holder, or 0 under types 7h and 8h (SPC-4, 6.15.3)."""
     yield from map(request_sense, range(2))
     yield tool("sg_persist -r")
     yield tool("sg_persist -G -S 0a1")
@@ -52,7 +52,7 @@ def read_reservation():
 
 @row("sg_persist/types")
 def types():
-    """T is one hexadecimal digit: each value, of which six are types, and texts that are none."""
+    """The row has each value of T, six of which are types, and texts that are no value of T."""
     yield request_sense(0)
     yield tool("sg_persist -G -S 1")
     for kind in [*"0123456789aF", "0x5", "0X7"]:

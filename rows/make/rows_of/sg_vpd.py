@@ -13,13 +13,17 @@ row("sg_vpd/each-set-of-options", "sg_vpd", ["-H", "-p sn", "-m 6"])(sets_of)
 @row("sg_vpd/supported-pages-text-cut-at-each-length", "sv", 9)
 @row("sg_vpd/logical-block-provisioning-text-cut-at-each-length", "lbpv", 8)
 def page_cut(page, size):
-    """A page at each allocation length up to two bytes past its end; 0 is the default of 252."""
+    """The row has each allocation length up to two bytes past the end of a page.
+
+    0 means the default of 252.
+    """
     yield from cut(f"sg_vpd -p {page}", "-m", [*range(1, size + 3), 0, 65535])
 
 
 @row("sg_vpd/pages-in-hex-cut")
 def hex_cut():
-    """Each page in hex lines, cut about the ends of pages and of hex lines."""
+    """The row cuts each page in hex lines: about the ends of pages, and about the ends of hex
+    lines."""
     lengths = [1, 3, 4, 5, 8, 9, 11, 12, 16, 17, 31, 32, 33, 51, 52, 63, 64, 65, 0]
     for page in ("sv", "sn", "di", "bl", "lbpv"):
         yield from cut(f"sg_vpd -H -p {page}", "-m", lengths)

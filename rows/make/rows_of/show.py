@@ -7,7 +7,10 @@ KINDS = "inq vpd modes6 modes10 lba keys resv caps sense".split()
 
 @row("show/bytes-as-a-kind-that-they-are-not")
 def other_kinds():
-    """Each kind's bytes as each other kind: each kind has a text for every list of bytes."""
+    """The row shows bytes of each kind as each other kind.
+
+    Each kind has a text for every list of bytes.
+    """
     answers = [
         "00000602", "00b2000400e40200", "0300900008", "0006001000000000",
         "00000014" + "00" * 11 + "070000000901000000", "00000001000000080000000000000abc",
@@ -22,7 +25,10 @@ def other_kinds():
 
 @row("show/bad-hex")
 def bad_hex():
-    """HEX is an even number of digits of either case, or `-`: neighbours of digits, and others."""
+    """HEX is an even number of digits of either case, or `-`.
+
+    The row has words that are neither, also with the characters next to the digits.
+    """
     words = ("0 000 0g g0 0x00 00h -- -0 0- -00 00- # +0 0_0 00,00 0G /0 :0 @0 `0 0/ 0: 0@ 0` zz . "
              "[]").split() + ["00 "]
     for kind in ("inq", "sense"):

@@ -9,7 +9,7 @@ THREE = ("0000000000000000" + "00000001" + "00000000" + "0000000000000001" + "ff
 
 
 def answer(*extents):
-    """An answer: its length, four reserved bytes, and descriptors of address, count and status."""
+    """Makes an answer: its length, four reserved bytes, and a descriptor for each extent."""
     descriptors = b"".join(
         address.to_bytes(8, "big") + count.to_bytes(4, "big") + bytes([status, 0, 0, 0])
         for address, count, status in extents)
@@ -18,7 +18,10 @@ def answer(*extents):
 
 @row("show-lba-status/cut-at-each-length")
 def own_disks():
-    """Answers of disks of 4,096 to 2^40 blocks; a run of 2^32 blocks or more is several extents."""
+    """The row cuts answers of disks of 4,096 to 2^40 blocks.
+
+    An extent has at most FFFFFFFFh blocks, so a longer run has several.
+    """
     last, most = 2**40 - 1, 2**32 - 1
     whole_disk = answer((0, 1, 1))
     return cuts(
@@ -40,7 +43,7 @@ def own_disks():
 
 @row("show-lba-status/of-other-disks-cut-at-each-length")
 def other_disks():
-    """Each status, also reserved ones, with large addresses and counts."""
+    """The row cuts an answer with each status, also reserved ones, and with large numbers."""
     return cuts("lba", octets(
         "00000084 00000000", THREE, "0000000100000001 00000010 03000000",
         "0000010000000000 00000001 04000000", "8000000000000000 00000000 05000000",
@@ -49,7 +52,8 @@ def other_disks():
 
 @row("show-lba-status/each-parameter-data-length")
 def each_length():
-    """PARAMETER DATA LENGTH ends the text before each descriptor, and past the answer."""
+    """The row has values of PARAMETER DATA LENGTH that end before, within and after each
+    descriptor."""
     return each("lba", "{:08x}00000000" + THREE,
                 [*range(0x46), 0xFF, 0x100, 2**16, 2**24, 2**31 - 1, 2**31, 2**32 - 5, 2**32 - 4,
                  2**32 - 1])
@@ -57,14 +61,17 @@ def each_length():
 
 @row("show-lba-status/each-provisioning-status")
 def each_status():
-    """The status is the low four bits of byte 12; the other four are reserved, and not shown."""
+    """The row has each value of byte 12.
+
+    Its low four bits are the status, and the others are reserved.
+    """
     return [show("lba", answer(*((16 * status, 16, status) for status in range(16)))),
             *each("lba", "00000014 00000000 0000000000000001 00000002 {:02x}ffffff", range(256))]
 
 
 @row("show-lba-status/of-127-extents-and-cut")
 def of_127_extents():
-    """The first of 512 descriptors of 16 bytes: as many as a line of 4,096 bytes has room for."""
+    """The row cuts an answer of 512 descriptors. A line has room for 127 of them."""
     data = answer(*((address, 1, address % 2) for address in range(512)))
     return [show("lba", data[:length])
             for length in (2024, 2023, 2025, 2039, 2040, 2041, 24, 40, 1000)]
@@ -72,14 +79,17 @@ def of_127_extents():
 
 @row("show-lba-status/as-long-as-a-line")
 def as_long_as_a_line():
-    """The longest lines, with 128 descriptors of which PARAMETER DATA LENGTH counts 126."""
+    """The row has the longest lines. PARAMETER DATA LENGTH counts 126 of 128 descriptors."""
     data = answer(*((address, 3 * address, address % 5) for address in range(128)))
     return long_lines("lba", octets((4 + 126 * 16).to_bytes(4, "big"), data[4:]))
 
 
 @row("show-lba-status/extents-of-each-status-cut-at-each-length-and-unusual-data")
 def each_status_cut():
-    """One extent of each status, and data that has a length and no descriptor."""
+    """The row cuts an answer with one extent of each status.
+
+    Then it has a length that counts no descriptor.
+    """
     return ["# each provisioning status",
             *cuts("lba", octets("00000044 00000000", THREE,
                                 "0000000100000001 00000010 f3000000")),

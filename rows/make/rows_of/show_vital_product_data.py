@@ -24,20 +24,23 @@ RESERVED = ["020000054142204344", "010b00020b0b", "041c00030c0c0c", "0f2d00010d"
 
 
 def page(code, *parts, first="00"):
-    """A page: qualifier and type, the code, PAGE LENGTH, and what follows."""
+    """Makes a page: the qualifier and the type, the code, PAGE LENGTH, and what follows."""
     rest = octets(*parts)
     return octets(first, code, len(rest).to_bytes(2, "big"), rest)
 
 
 @row("show-vital-product-data/designators-of-each-type-cut-at-each-length")
 def each_type_cut():
-    """A designator of each type that SPC-4 defines: whole ones only are shown."""
+    """The row cuts a page with designators of each type. The text shows only whole designators."""
     return cuts("vpd", page("83", *TYPES))
 
 
 @row("show-vital-product-data/pages-of-other-targets-cut-at-each-length-and-unusual-ones")
 def other_targets():
-    """Pages of another target, of each text that there is, and pages that end within an item."""
+    """The row cuts a page of each text, of another target.
+
+    Then it has pages that end within an item.
+    """
     designators = [
         "02000004610720c3", "0201000c" + b"LIO-ORG disk".hex(), EUI,
         "010300106001405a8f270d4ed12cf30011223344", PORT, "0115000400008000", "0106000400000002",
@@ -57,9 +60,10 @@ def other_targets():
 
 @row("show-vital-product-data/unknown-pages")
 def unknown_pages():
-    """Each page code with three bytes: five pages have texts, the others hex lines.
+    """The row has each page code.
 
-    The first two are ATA-like pages of another disk, Extended INQUIRY and device characteristics.
+    Five pages have texts, and the others have hex lines. The first two are Extended INQUIRY Data
+    and Block Device Characteristics.
     """
     return [show("vpd", page("86", "4417000100000001", bytes(52))),
             show("vpd", page("b1", "1c200002", bytes(56))),
@@ -68,66 +72,75 @@ def unknown_pages():
 
 @row("show-vital-product-data/block-limits-cut-at-each-length")
 def block_limits_cut():
-    """Page B0h, a page of 20 bytes as SBC-2 has it, and one of bits that are all 1."""
+    """The row cuts three pages B0h: of 64 bytes, of 20 bytes, and one whose bits are all 1."""
     return cuts("vpd", page("b0", LIMITS), page("b0", "000000800000ffff00008000000000ff"),
                 page("b0", "ff" * 60, first="20"))
 
 
 @row("show-vital-product-data/cut-at-each-length")
 def own_pages():
-    """The disk's own five pages, cut as an ALLOCATION LENGTH cuts them (SPC-4, 4.2.5.6)."""
+    """The row cuts the five pages of the disk as an ALLOCATION LENGTH does (SPC-4, 4.2.5.6).
+
+    Of page B2h it has a value without ANC_SUP.
+    """
     return cuts(
         "vpd",
         page("00", "008083b0b2"), page("80", b"00000001"),
         page("83", "02010020", b"SGMODEL ", b"THIN DISK       ", b"00000001",
              "01030008 3000000000000001"),
-        page("b0", "010000010000010000000000 00000000ffffffff0000004000000001000000000000000000010000",
-             bytes(20)),
+        page("b0", "01000001 00000100 00000000 00000000 ffffffff 00000040 00000001 00000000",
+             "0000000000010000", bytes(20)),
         page("b2", "00e40200"))
 
 
 @row("show-vital-product-data/unknown-pages-cut-at-each-length")
 def unknown_pages_cut():
-    """Pages without a text: a hex line is shown as far as its bytes are present."""
+    """The row cuts two pages without a text. A hex line shows the bytes that are present."""
     return (cuts("vpd", page("86", "4417000100000001", bytes(52)))
             + cuts("vpd", page("c0", ascending(37, 0x30), first="61")))
 
 
 @row("show-vital-product-data/block-limits-with-each-byte")
 def block_limits_bytes():
-    """Each byte as 81h, and each bit of byte 4: no field reads a byte of another."""
+    """The row sets each byte of page B0h to 81h, and each bit of byte 4.
+
+    No field reads a byte of another.
+    """
     return ([show("vpd", page("b0", bytes(place), "81", bytes(59 - place))) for place in range(60)]
             + [show("vpd", page("b0", bytes([bit]), bytes(59))) for bit in one_bit(1)])
 
 
 @row("show-vital-product-data/block-limits-with-each-page-length")
 def block_limits_lengths():
-    """PAGE LENGTH ends the text before each field, and past the answer."""
+    """The row has values of PAGE LENGTH that end before, within and after each field."""
     return each("vpd", "00b0{:04x}" + LIMITS, [*range(64), 0x100, 0xFFFF])
 
 
 @row("show-vital-product-data/designators-of-reserved-types-cut-at-each-length")
 def reserved_types_cut():
-    """Designators of reserved types and code sets, and of no byte."""
+    """The row cuts designators of reserved types and code sets, and empty ones."""
     return cuts("vpd", page("83", *RESERVED))
 
 
 @row("show-vital-product-data/a-cut-designator-list-at-each-length")
 def cut_list():
-    """A page of 72 bytes, whose third designator is cut for want of room."""
+    """The row cuts a page of 76 bytes that lacks the end of its last designator."""
     return cuts("vpd", octets("00830048", NAA, T10, "010300106001405a"))
 
 
 @row("show-vital-product-data/designators-with-each-page-length")
 def designators_lengths():
-    """PAGE LENGTH ends the text before each designator, and past the answer."""
+    """The row has values of PAGE LENGTH that end before, within and after each designator."""
     return (each("vpd", "008300{:02x}" + NAA + T10 + "01030002aabb", range(50))
             + each("vpd", "0083{:04x}" + NAA + T10, [0xFF, 0x100, 0x10C, 0x400, 0x2800, 0xFFFF]))
 
 
 @row("show-vital-product-data/designators-of-each-type")
 def each_type():
-    """Designators together and one by one, and each type in two code sets: only ASCII is a text."""
+    """The row has designators of each type, together and one by one.
+
+    Then it has each type with two code sets: only ASCII is shown as a text.
+    """
     return [*(show("vpd", page("83", *list_)) for list_ in (TYPES, RESERVED, RESERVED + TYPES)),
             *(show("vpd", page("83", one)) for one in TYPES + RESERVED),
             *(show("vpd", page("83", bytes([2 - kind % 2, kind]), "000427612d392127"))
@@ -136,7 +149,10 @@ def each_type():
 
 @row("show-vital-product-data/designators-with-each-length")
 def designator_lengths():
-    """DESIGNATOR LENGTH, where the page ends with the answer and where it goes on."""
+    """The row has values of DESIGNATOR LENGTH.
+
+    The data ends with the page, or before the page does.
+    """
     data = ascending(12, 1).hex()
     lengths = [*range(16), 0x7F, 0x80, 0xFF]
     return (each("vpd", "00830010010300{:02x}" + data, lengths)
@@ -146,7 +162,7 @@ def designator_lengths():
 
 @row("show-vital-product-data/unknown-pages-with-each-page-length")
 def unknown_pages_lengths():
-    """PAGE LENGTH of a page in hex lines: up to the answer, past it, and of 256 bytes."""
+    """The row has values of PAGE LENGTH of a page in hex lines, up to 256 and past the data."""
     data = octets("00b10100", ascending(256), "aa")
     return (each("vpd", "00b100{:02x}" + ascending(32).hex(), range(36))
             + each("vpd", "00b1{:04x}01", [0xFF, 0x100, 0x101, 0xFFFF])
@@ -155,34 +171,40 @@ def unknown_pages_lengths():
 
 @row("show-vital-product-data/serial-numbers-cut-at-each-length")
 def serial_numbers():
-    """Each kind of character, and a PAGE LENGTH of 0 and of more than there is."""
+    """The row cuts a serial number with each kind of character.
+
+    Then it has a PAGE LENGTH of 0, and one past the data.
+    """
     return cuts("vpd", page("80", "202039574d30414243442020001f207e7f80ff0a"),
                 "008000004142", "618000034142434445", "008001004142", "0080ffff41")
 
 
 @row("show-vital-product-data/logical-block-provisioning-cut-at-each-length")
 def provisioning_cut():
-    """Page B2h with a designator after it, and with bits that are all 1."""
+    """The row cuts three pages B2h. One has a designator after its fields."""
     return cuts("vpd", page("b2", "05e70700 01030010", ascending(16, 0x60)), page("b2", "ff18f8ff"),
                 page("b2", "00000100", first="7f"))
 
 
 @row("show-vital-product-data/each-bit-of-the-first-bytes")
 def each_bit():
-    """Each bit of the header: no field reads a bit of another."""
+    """The row sets each bit of the header. No field reads a bit of another field."""
     return each("vpd", "{:08x}00000000", one_bit(4))
 
 
 @row("show-vital-product-data/supported-pages-cut-at-each-length")
 def supported_pages_cut():
-    """Codes in any order, a list of one code, and codes past PAGE LENGTH."""
+    """The row cuts lists of page codes in any order, and one that is longer than PAGE LENGTH."""
     return cuts("vpd", page("00", "00808386878db0b1b2c0c1ff"), page("00", "00", first="7f"),
                 "000000008083")
 
 
 @row("show-vital-product-data/designators-with-each-bit-of-their-headers")
 def designator_bits():
-    """Each bit of the first three bytes of a designator, and patterns: reserved bits do not count."""
+    """The row sets each bit of the first three bytes of a designator.
+
+    The text does not show reserved bits.
+    """
     return (each("vpd", "00830008{:06x}0227787927", one_bit(3))
             + each("vpd", "00830007{:06x}01277a27",
                    [0xFFFFFF, 0xF2C000, 0xF0CF01, 0x0F3080, 0x030F00, 0x1255AA]))
@@ -190,7 +212,10 @@ def designator_bits():
 
 @row("show-vital-product-data/logical-block-provisioning-with-each-bit-and-page-length")
 def provisioning_bits():
-    """Each bit of bytes 5 and 6 of page B2h, values of byte 4, and each PAGE LENGTH up to 5."""
+    """The row sets each bit of bytes 5 and 6 of page B2h.
+
+    Then it has values of byte 4 and of PAGE LENGTH.
+    """
     return (each("vpd", "00b2000400{:04x}00", one_bit(2))
             + each("vpd", "00b20004{:02x}000000", [0x01, 0x7F, 0x80, 0xFF])
             + each("vpd", "00b2{:04x}05a50200", range(6)))
@@ -198,13 +223,13 @@ def provisioning_bits():
 
 @row("show-vital-product-data/an-unknown-page-as-long-as-a-line")
 def unknown_page_long():
-    """A page of 4,095 bytes, and the longest lines."""
+    """The row has the longest lines, with a page of 4,099 bytes."""
     return long_lines("vpd", octets("00c00fff", ascending(2100, 3, 7)))
 
 
 @row("show-vital-product-data/designators-as-long-as-a-line")
 def designators_long():
-    """Designators of 100 bytes in each code set and association, of each type."""
+    """The row has the longest lines, with designators of each code set, association and type."""
     heads = (bytes([1 + at % 3, (at % 4 << 4) + at % 16, 0, 100]) for at in range(20))
     return long_lines("vpd", octets("008307f0", *(
         head + ascending(100, 0x20 + at) for at, head in enumerate(heads))))

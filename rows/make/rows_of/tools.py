@@ -18,7 +18,8 @@ LONG_NAMES = {
 
 @row("tools/long-names-are-whole")
 def long_names():
-    """Each beginning of a long name that is no name itself, a longer one, and one in capitals."""
+    """The row has each beginning of a long name that is no name itself, a longer name, and the name
+    in capitals. No tool accepts any of them."""
     yield request_sense(0)
     for name, options in LONG_NAMES.items():
         for option in options.split():
@@ -31,10 +32,8 @@ def long_names():
 
 @row("tools/under-each-reservation")
 def reservations():
-    """What each tool gets under each type, as the holder, another registrant and neither.
-
-    The table is in docs/PROFILE.md, "Which commands a reservation allows".
-    """
+    """Under each type the row has each tool, sent by the holder, by another registrant and by an
+    initiator that is not registered (docs/PROFILE.md, "Which commands a reservation allows")."""
     yield from map(request_sense, range(3))
     yield tool("sg_persist -G -S a")
     yield tool("sg_persist -G -S b", initiator=1)

@@ -1,8 +1,9 @@
 """The texts of answers (docs/SCRIPT.md, "Texts of answers" and "show KIND HEX").
 
-`show(kind, data)` returns the lines of a text, each with its two leading spaces; the status of a line
-`show` without a fault is 0, whatever the bytes are. A file of this folder has the kinds of one command,
-as tables of fields; `fields.py` says how a field is written, `answer.py` how a text ends.
+`show(kind, data)` returns the lines of a text, with their leading blanks. The status of a line
+`show` without a fault is 0, whatever the bytes are. Each file of this folder has the kinds of one
+command, as tables of fields. `fields.py` says how a field is written, and `answer.py` how a text
+ends.
 """
 
 import sense

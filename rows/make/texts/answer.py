@@ -1,8 +1,9 @@
 """How a text ends: by the answer's own length field, or where bytes are missing.
 
-docs/SCRIPT.md, "Texts of answers": an item is a line, a whole designator, or a whole mode page. If the
-answer ends by its own length field within an item, the text ends before that item. If bytes of an
-item are missing, the text ends with `truncated` before it.
+An item is a line, a whole designator, or a whole mode page (docs/SCRIPT.md, "Texts of answers").
+If the answer ends by its own length field within an item, the text ends before that item.
+Otherwise, if bytes of an item are missing, the line `truncated` comes in its place, and ends the
+text.
 """
 
 from .fields import end, line, number, row_end
@@ -13,7 +14,7 @@ class Ended(Exception):
 
 
 class Truncated(Exception):
-    """The answer lacks bytes that its own length field counts."""
+    """The answer lacks bytes of an item that its own length field counts."""
 
 
 class Answer:

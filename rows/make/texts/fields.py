@@ -1,8 +1,8 @@
 """A line of a text is a row of fields, and a text begins with a table of such rows.
 
-A field is (name, place) or (name, place, form). A place counts bytes from 0, and bits as SPC-4 does,
-7 the highest: "4" is a byte, "8-15" are eight bytes, big-endian, "0.7-5" are the top three bits of
-byte 0, and "1.7" is a bit. The forms are those of docs/SCRIPT.md, "Texts of answers".
+A field is (name, place) or (name, place, form). A place counts bytes from 0, and bits as SPC-4
+does: bit 7 is the highest. "4" is a byte, and "8-15" are eight bytes, big-endian. "0.7-5" are the
+top three bits of byte 0, and "1.7" is a bit. docs/SCRIPT.md, "Texts of answers", has the forms.
 """
 
 FORMS = {

@@ -1,7 +1,8 @@
 """Tool lines: what the words after the initiator ask for (docs/SCRIPT.md, "I TOOL OPTIONS").
 
-`plan(words)` returns a Plan with the command that a tool sends and how its answer is shown, or with the
-fault of words that are no request. `options.py` reads options as clap does, `commands.py` has the tools.
+`plan(words)` returns a Plan. It has the command that a tool sends, and how the answer is shown, or
+the fault of words that are no request. `options.py` reads options as clap does, and `commands.py`
+has the six tools.
 """
 
 from typing import Callable, NamedTuple

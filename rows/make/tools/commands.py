@@ -1,7 +1,7 @@
 """The six tools: their options, and the command that each sends (docs/SCRIPT.md, man/sgrun-sg_*.1).
 
-A tool is a table of options, what they exclude, and a function from their values to a Request. A value
-is what its option reads, True for a flag that is given, and absent for what is not given.
+A tool is a table of options, what they exclude, and a function from their values to a Request. An
+option that is given has the value that it reads, or True if it is a flag.
 """
 
 import re
@@ -61,7 +61,7 @@ def inquiry(evpd, page, length):
 
 
 def sg_inq(values):
-    """Standard INQUIRY data, or a page, with the default length of sg_inq for each."""
+    """Standard INQUIRY data, or a page; each has a default length."""
     evpd = bool({"vpd", "page", "id"} & values.keys())
     page = 0x83 if "id" in values else values.get("page", 0)
     length = values.get("len") or (252 if evpd else 36)
@@ -159,18 +159,27 @@ def digits(most):
 
 
 def sg_persist(values):
-    """PERSISTENT RESERVE IN with 8,192 bytes of room, or OUT with a list of 24 bytes and SCOPE 0."""
+    """The service action of OUT that is given, or the one of IN, which is READ KEYS by default."""
     for name in OUT.keys() & values.keys():
-        cdb = bytes([0x5F, OUT[name], values.get("prout-type", 0)]) + (24).to_bytes(6, "big") + b"\0"
-        keys = [values.get(key, 0).to_bytes(8, "big") for key in ("param-rk", "param-sark")]
-        return Request(cdb, b"".join(keys) + bytes(4) + bytes(["param-aptpl" in values]) + bytes(3))
+        return persistent_reserve_out(OUT[name], values)
     if "out" in values:
-        if not IN.keys() & values.keys():
-            raise Usage
-    name = next(iter(IN.keys() & values.keys()), "read-keys")
-    action, kind = IN[name]
+        raise Usage
+    for name in IN.keys() & values.keys():
+        return persistent_reserve_in(*IN[name])
+    return persistent_reserve_in(*IN["read-keys"])
+
+
+def persistent_reserve_in(action, kind):
+    """PERSISTENT RESERVE IN, with an allocation length of 8,192."""
     cdb = bytes([0x5E, action]) + (8192).to_bytes(7, "big") + b"\0"
-    return Request(cdb, show=shown(kind, values))
+    return Request(cdb, show=lambda data: texts.show(kind, data))
+
+
+def persistent_reserve_out(action, values):
+    """PERSISTENT RESERVE OUT, with SCOPE 0 and a parameter list of 24 bytes."""
+    cdb = bytes([0x5F, action, values.get("prout-type", 0)]) + (24).to_bytes(6, "big") + b"\0"
+    keys = [values.get(key, 0).to_bytes(8, "big") for key in ("param-rk", "param-sark")]
+    return Request(cdb, b"".join(keys) + bytes(4) + bytes(["param-aptpl" in values]) + bytes(3))
 
 
 # --------------------------------------------------------------------------------------- the table
