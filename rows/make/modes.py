@@ -62,7 +62,10 @@ def is_of_six_bytes(command):
 
 
 def mode_sense(device, _initiator, command, _data_out):
-    """SPC-4, 6.13 and 6.14: a header (7.5.5), a block descriptor unless DBD is 1, pages"""
+    """SPC-4, 6.13 and 6.14: a header (7.5.5), a block descriptor unless DBD is 1, pages
+
+    LONGLBA says that the descriptor is the long one. Without a descriptor it is 0.
+    """
     if command["page_code"] not in (*PAGES, ALL_PAGES):
         raise command.unsupported("page_code")
     if command["subpage_code"] not in (0x00, ALL_SUBPAGES):
@@ -157,7 +160,7 @@ def check_descriptor(device, parameters, place, length):
 
 def pages_from(current, parameters, place):
     """The pages of the list by their codes: of one that is sent twice the last one counts."""
-    selected = {}
+    selected = {}  # all are compared with what they were before the command
     while place < len(parameters):
         code = parameters[place] & ~PS
         if code not in PAGES:  # an SPF of 1 makes it unknown, too

@@ -240,18 +240,19 @@ def clear(request):
 def preempt(request):
     """SPC-4, 5.13 (preempting): five cases, of which the first that applies decides"""
     state, key = request.state, request.action_key
-    if state.type is not None and state.type not in ALL_REGISTRANTS:
-        if key == 0:
-            raise invalid_field_in_parameter_list(8)
-        if key == state.keys[state.taker]:
-            return preempt_reservation(request, request.under_action_key())
-    if state.type in ALL_REGISTRANTS and key == 0:
-        return preempt_reservation(request, list(state.keys))
+    has_one_holder = state.type is not None and state.type not in ALL_REGISTRANTS
     removed = request.under_action_key()
-    if not removed:
+    if has_one_holder and key == 0:
+        raise invalid_field_in_parameter_list(8)
+    if has_one_holder and key == state.keys[state.taker]:
+        preempt_reservation(request, removed)
+    elif state.type in ALL_REGISTRANTS and key == 0:
+        preempt_reservation(request, list(state.keys))
+    elif not removed:
         raise Conflict
-    state.remove(removed)
-    request.notify(removed, REGISTRATIONS_PREEMPTED)
+    else:
+        state.remove(removed)
+        request.notify(removed, REGISTRATIONS_PREEMPTED)
     state.count_change()
 
 
@@ -266,7 +267,6 @@ def preempt_reservation(request, removed):
     request.notify(removed, REGISTRATIONS_PREEMPTED)
     if state.type != kind_before:
         request.notify(state.keys, RESERVATIONS_RELEASED)
-    state.count_change()
 
 
 ACTIONS = {
