@@ -72,6 +72,15 @@ class Field:
             return first // (self.mask & -self.mask)  # shifted to the right by the zeros below
         return int.from_bytes(bytes([first]) + cdb[self.first + 1:self.last + 1], "big")
 
+    def put(self, cdb, value):
+        """Sets the field in a CDB, for those who make one."""
+        if self.first == self.last:
+            cdb[self.first] |= value * (self.mask & -self.mask) & self.mask
+        else:
+            size = self.last - self.first + 1
+            bits = self.mask << 8 * (size - 1) | 256 ** (size - 1) - 1
+            cdb[self.first:self.last + 1] = (value & bits).to_bytes(size, "big")
+
 
 class Layout:
     """The form of the CDB of a command, or of one service action."""
