@@ -12,35 +12,35 @@ Reservation classes (SPC-4, 5.13, and SBC-3, the tables of commands that a reser
 from sense import invalid_field_in_cdb
 
 TABLE = """
-00    | TEST UNIT READY        | allowed |                                              |
-03    | REQUEST SENSE          | allowed | desc 1:01, allocation_length 4               |
-08    | READ(6)                | reads   | address 1:1F-3, count 4                      |
-0A    | WRITE(6)               | writes  | address 1:1F-3, count 4                      |
+00    | TEST UNIT READY        | allowed |                                             |
+03    | REQUEST SENSE          | allowed | desc 1:01, allocation_length 4              |
+08    | READ(6)                | reads   | address 1:1F-3, count 4                     |
+0A    | WRITE(6)               | writes  | address 1:1F-3, count 4                     |
 12    | INQUIRY                | allowed | evpd 1:01, page_code 2, \
-                                           allocation_length 3-4                        |
-15    | MODE SELECT(6)         | writes  | pf 1:10, sp 1:01, list_length 4              |
+                                           allocation_length 3-4                       |
+15    | MODE SELECT(6)         | writes  | pf 1:10, sp 1:01, list_length 4             |
 1A    | MODE SENSE(6)          | reads   | dbd 1:08, pc 2:C0, page_code 2:3F, \
-                                           subpage_code 3, allocation_length 4          |
-25    | READ CAPACITY(10)      | allowed |                                              |
-28    | READ(10)               | reads   | address 2-5, count 7-8                       | 1:1A, 6:1F
-2A    | WRITE(10)              | writes  | address 2-5, count 7-8                       | 1:1A, 6:1F
-35    | SYNCHRONIZE CACHE(10)  | writes  | address 2-5, count 7-8                       | 1:06, 6:1F
+                                           subpage_code 3, allocation_length 4         |
+25    | READ CAPACITY(10)      | allowed |                                             |
+28    | READ(10)               | reads   | address 2-5, count 7-8                      | 1:1A, 6:1F
+2A    | WRITE(10)              | writes  | address 2-5, count 7-8                      | 1:1A, 6:1F
+35    | SYNCHRONIZE CACHE(10)  | writes  | address 2-5, count 7-8                      | 1:06, 6:1F
 41    | WRITE SAME(10)         | writes  | anchor 1:10, unmap 1:08, address 2-5, \
-                                           count 7-8                                    | 6:1F
+                                           count 7-8                                   | 6:1F
 42    | UNMAP                  | writes  | anchor 1:01, group_number 6:1F, \
-                                           list_length 7-8                              |
-55    | MODE SELECT(10)        | writes  | pf 1:10, sp 1:01, list_length 7-8            |
+                                           list_length 7-8                             |
+55    | MODE SELECT(10)        | writes  | pf 1:10, sp 1:01, list_length 7-8           |
 5A    | MODE SENSE(10)         | reads   | llbaa 1:10, dbd 1:08, pc 2:C0, \
                                            page_code 2:3F, subpage_code 3, \
-                                           allocation_length 7-8                        |
-5E    | PERSISTENT RESERVE IN  | allowed | allocation_length 7-8                        |
-5F    | PERSISTENT RESERVE OUT | allowed | scope 2:F0, type 2:0F, list_length 5-8       |
-88    | READ(16)               | reads   | address 2-9, count 10-13                     | 1:1A, 14:1F
-8A    | WRITE(16)              | writes  | address 2-9, count 10-13                     | 1:1A, 14:1F
+                                           allocation_length 7-8                       |
+5E    | PERSISTENT RESERVE IN  | allowed | allocation_length 7-8                       |
+5F    | PERSISTENT RESERVE OUT | allowed | scope 2:F0, type 2:0F, list_length 5-8      |
+88    | READ(16)               | reads   | address 2-9, count 10-13                    | 1:1A, 14:1F
+8A    | WRITE(16)              | writes  | address 2-9, count 10-13                    | 1:1A, 14:1F
 93    | WRITE SAME(16)         | writes  | anchor 1:10, unmap 1:08, address 2-9, \
-                                           count 10-13                                  | 14:1F
-9E.10 | READ CAPACITY(16)      | allowed | allocation_length 10-13                      |
-9E.12 | GET LBA STATUS         | reads   | address 2-9, allocation_length 10-13         |
+                                           count 10-13                                 | 14:1F
+9E.10 | READ CAPACITY(16)      | allowed | allocation_length 10-13                     |
+9E.12 | GET LBA STATUS         | reads   | address 2-9, allocation_length 10-13        |
 """
 
 # These two have a name for each service action, from 00h on.

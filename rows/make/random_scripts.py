@@ -98,7 +98,7 @@ class Script:
         return self.reserve_list() if "list_length" in values else b""
 
     def reserve_list(self):
-        """The list of PERSISTENT RESERVE OUT: an initiator has key 0 at first, and then 1 mostly."""
+        """The list of PERSISTENT RESERVE OUT: most keys are 0 or 1, so many are the right ones."""
         key, action_key = self.random.choice((0, 1, 1, 2)), self.random.choice((0, 1, 1, 1, 2))
         flags = self.random.randrange(256) if self.is_rare(0.03) else self.random.choice((0, 1))
         return (key.to_bytes(8, "big") + action_key.to_bytes(8, "big")

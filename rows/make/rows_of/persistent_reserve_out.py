@@ -101,7 +101,7 @@ def reserve_and_release(action):
 
 @row("persistent-reserve-out/shared-keys-under-each-type")
 def shared_keys():
-    """Each action, if 0 and 2 have one key, and 3 and 5 another: an initiator is registered by itself"""
+    """Each action, if 0 and 2 have one key, and 3 and 5 another: each is registered by itself"""
     tour = Tour([(0, C), (1, B), (2, C), (3, A), (5, A)], range(6))
     for held_type in SECTIONS:
         tour.section(held_type)
