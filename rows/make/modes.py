@@ -124,7 +124,7 @@ def need_equal(parameters, place, wanted):
 
 
 def header(command, parameters):
-    """Checks the header (SPC-4, 7.5.5): where it ends, and the length of the block descriptor.
+    """Checks the header (SPC-4, 7.5.5). Returns its end, and the length of the block descriptor.
 
     MODE DATA LENGTH and the device-specific parameter are ignored. MEDIUM TYPE and reserved bits
     have to be zero. BLOCK DESCRIPTOR LENGTH is 0, or the length that LONGLBA names; the pointer is
@@ -147,7 +147,7 @@ def header(command, parameters):
 
 
 def check_descriptor(device, parameters, place, length):
-    """A descriptor is the disk's own, or has a number of blocks of 0; where it ends."""
+    """A descriptor is the disk's own, or has a number of blocks of 0. Returns its end."""
     if length:
         own = block_descriptor(device, length == 16)
         count_length = length // 2

@@ -1,4 +1,4 @@
-"""Scripts of random commands. A seed decides the script and the disk, on any machine.
+"""Scripts of random commands. A seed decides the script and the disk.
 
 The commands are near to valid ones: fields have values that matter, lists are whole or nearly so,
 and a bit is turned now and then. So most states of a small disk come up within some hundred lines.
@@ -11,9 +11,15 @@ from modes import CHANGEABLE, DEFAULT
 from reservations import TYPES
 
 INITIATORS = (0, 0, 0, 0, 1, 1, 1, 2, 2, 3, 4, 5, 6, 7)
-# A script has some commands more often: of reservations, of mode pages, of provisioning, or none.
-THEMES = ((0x5E, 0x5F, 0x5F, 0x5F), (0x15, 0x1A, 0x55, 0x5A), (0x41, 0x42, 0x93, 0x9E), ())
-OFTEN = 8
+# Some commands are more frequent in a script: of reservations, mode pages, provisioning, or none.
+THEMES = (
+    3 * ("REGISTER", "REGISTER AND IGNORE EXISTING KEY", "RESERVE")
+    + ("RELEASE", "PREEMPT", "READ RESERVATION", "READ FULL STATUS", "TEST UNIT READY"),
+    ("MODE SELECT(6)", "MODE SENSE(6)", "MODE SELECT(10)", "MODE SENSE(10)"),
+    ("WRITE SAME(10)", "UNMAP", "WRITE SAME(16)", "GET LBA STATUS"),
+    (),
+)
+OFTEN = 6
 TOOL_LINES = ("sg_inq", "sg_inq -l 5", "sg_vpd -p di", "sg_vpd -p bl", "sg_modes", "sg_modes -c 3",
               "sg_modes -L -p 10", "sg_get_lba_status -m 100", "sg_persist -k", "sg_persist -r",
               "sg_persist -s", "sg_persist -c")
@@ -27,7 +33,7 @@ class Script:
         self.type = self.random.choice(TYPES)  # most RESERVE, RELEASE and PREEMPT name it
         theme = self.random.choice(THEMES)
         self.layouts = [
-            it for it in LAYOUTS.items() for _ in range(1 + OFTEN * theme.count(it[0][0]))]
+            it for it in LAYOUTS.items() for _ in range(1 + OFTEN * theme.count(it[1].name))]
 
     def text(self, lines):
         return "".join(self.line() + "\n" for _ in range(lines))

@@ -5,7 +5,7 @@ What this module asks of the two that decode answers and read the words of tools
     texts.KINDS                the kinds of answers of `show`: "inq", "vpd", .. "sense"
     texts.show(kind, data)     the lines of an answer: a list of str, with their leading blanks and
                                without LF. For "sense" it is [sense.line(data)].
-    tools.plan(words)          words behind the initiator, as ["sg_inq", "-l", "5"], to a Plan:
+    tools.plan(words)          words after the initiator, as ["sg_inq", "-l", "5"], to a Plan:
         .fault                 None, or the text of the fault: "unknown tool", "usage", "exclusive"
                                or "number". Then the other three do not matter.
         .cdb, .data_out        bytes

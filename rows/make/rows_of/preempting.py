@@ -6,8 +6,8 @@ from rows_of import row
 from rows_of.persistent_reserve_out import TYPES, all_with_wrong_keys, own_key, tour_of_four
 from rows_of.tour import SECTIONS, Tour, A, B, C, F
 
-# SCOPE and TYPE of each PREEMPT with the sender's own key, in their order. Where it takes the
-# reservation, the first is refused; where it only removes, they are ignored.
+# SCOPE and TYPE of each PREEMPT with the sender's own key, in their order. A PREEMPT that takes the
+# reservation is refused with this one, and then has each valid type. Others ignore it.
 KINDS_OF_PREEMPT = {
     None: "01 05 07 00 04  0F 25 01 05 07  00 04 0F 25 01",
     0x1: "01 00 01 11 05  01 F8 01 04 08  01 25 01 F8 05",
@@ -17,7 +17,7 @@ KINDS_OF_PREEMPT = {
     0x7: "04 01 07 02 01  02 06 07 25 06  00 01 07 09 01",
     0x8: "F8 07 08 00 07  25 03 08 11 03  11 07 08 04 07",
 }
-# As above; where it takes the reservation, a refused one, that of the reservation, another one.
+# As above. One that takes the reservation has three: a refused one, the reservation's, another one.
 KINDS_OF_PREEMPT_AND_ABORT = {
     None: "06 08 02 09 11  F8 03 06 08 02  09 11 F8 03 06",
     0x1: "01 09/01/01 0F 08 01  25 25/01/08 05 01 02  05 02/01/07 01 0F 08",
@@ -30,7 +30,7 @@ KINDS_OF_PREEMPT_AND_ABORT = {
 
 
 def takes_reservation(held_type, action_key):
-    """Whether a PREEMPT with this key takes the reservation, where 0 holds it with key A"""
+    """Whether a PREEMPT with this key takes the reservation, if 0 holds it with key A"""
     if held_type is None:
         return False
     return action_key == (0 if held_type in (0x7, 0x8) else A)
@@ -55,7 +55,7 @@ def preempts(tour, action, kinds):
 @row("persistent-reserve-out/preempt-under-write-exclusive-all-registrants", 0x7)
 @row("persistent-reserve-out/preempt-under-exclusive-access-all-registrants", 0x8)
 def preempt(held_type):
-    """PREEMPT of each key by each initiator (SPC-4, 5.13); where it takes, with each type"""
+    """PREEMPT of each key by each initiator (SPC-4, 5.13); one that takes has each type"""
     tour = tour_of_four()
     tour.hold(held_type)
     kinds = [[int(kind, 16)] for kind in KINDS_OF_PREEMPT[held_type].split()]
