@@ -9,10 +9,12 @@ import random
 from layouts import LAYOUTS
 from modes import CHANGEABLE, DEFAULT
 from random_words import show_line, tool_line
+from reservations import TYPES
 
-INITIATORS = (0, 0, 0, 1, 1, 2)
-RESERVE_OUT = 0x5F
-CHOICES = [it for it in LAYOUTS.items() for _ in range(3 if it[0][0] == RESERVE_OUT else 1)]
+INITIATORS = (0, 0, 0, 0, 1, 1, 1, 2, 2, 3, 4, 5, 6, 7)
+# A script has some commands more often: of reservations, of mode pages, of provisioning, or none.
+THEMES = ((0x5E, 0x5F, 0x5F, 0x5F), (0x15, 0x1A, 0x55, 0x5A), (0x41, 0x42, 0x93, 0x9E), ())
+OFTEN = 8
 TOOL_LINES = ("sg_inq", "sg_inq -l 5", "sg_vpd -p di", "sg_vpd -p bl", "sg_modes", "sg_modes -c 3",
               "sg_modes -L -p 10", "sg_get_lba_status -m 100", "sg_persist -k", "sg_persist -r",
               "sg_persist -s", "sg_persist -c")
@@ -23,6 +25,10 @@ class Script:
         self.random = random.Random(seed)
         self.blocks = self.random.choice((1, 8, 20, 4096, 2**33))
         self.pool = self.random.choice((1, 4, 9))
+        self.type = self.random.choice(TYPES)  # most RESERVE, RELEASE and PREEMPT name it
+        theme = self.random.choice(THEMES)
+        self.layouts = [
+            it for it in LAYOUTS.items() for _ in range(1 + OFTEN * theme.count(it[0][0]))]
 
     def text(self, lines):
         return "".join(self.line() + "\n" for _ in range(lines))
@@ -44,10 +50,12 @@ class Script:
 
     def command(self):
         """A CDB with data-out, of any layout, rarely with a wrong bit or too short."""
-        (code, action), layout = self.random.choice(CHOICES)
+        (code, action), layout = self.random.choice(self.layouts)
         values = {name: self.value(name, layout.name) for name in layout.fields}
         data_out = self.data_out(layout.name, values)
         if "list_length" in values:
+            if self.is_rare(0.1):
+                data_out = data_out[:self.random.randrange(len(data_out) + 1)]
             values["list_length"] = len(data_out)
         cdb = bytearray(layout.length)
         cdb[:2] = code, action or 0
@@ -81,7 +89,7 @@ class Script:
             "subpage_code": self.random.choice((0, 0, 0xFF)),
             "pf": 1,
             "scope": 0,
-            "type": self.random.choice((1, 3, 5, 6, 7, 8)),
+            "type": self.random.choice((self.type, self.type, self.random.choice(TYPES))),
         }
         if field in usual and not self.is_rare(0.05):
             return usual[field]
@@ -93,7 +101,8 @@ class Script:
         if command.startswith("WRITE SAME"):
             return bytes([self.random.choice((0, 0, 7))]) * 512
         if command == "UNMAP":
-            extents = [(self.address(), self.small()) for _ in range(self.small())]
+            count = 65 if self.is_rare(0.03) else self.small()
+            extents = [(self.address(), self.small()) for _ in range(count)]
             descriptors = b"".join(
                 at.to_bytes(8, "big") + count.to_bytes(8, "big")[4:] + bytes(4)
                 for at, count in extents)
@@ -104,13 +113,17 @@ class Script:
 
     def reserve_list(self):
         """The list of PERSISTENT RESERVE OUT: most keys are 0 or 1, so many are the right ones."""
-        key, action_key = self.random.choice((0, 1, 1, 2)), self.random.choice((0, 1, 1, 1, 2))
+        key, action_key = self.random.choice((0, 1, 1, 1)), self.random.choice((0, 1, 1, 1, 2))
         flags = self.random.randrange(256) if self.is_rare(0.03) else self.random.choice((0, 1))
         return (key.to_bytes(8, "big") + action_key.to_bytes(8, "big")
                 + bytes([0, 0, 0, 0, flags, 0, 0, 0]))
 
     def mode_list(self, header):
         data = bytearray(header)
+        if self.is_rare(0.2):
+            blocks = self.random.choice((0, min(self.blocks, 2**32 - 1), self.small()))
+            data[header - 1] = 8
+            data += blocks.to_bytes(4, "big") + (512).to_bytes(4, "big")
         for code in self.random.sample(tuple(DEFAULT), self.random.choice((0, 1, 1, 2))):
             page = [kept ^ self.random.randrange(256) & bits
                     for kept, bits in zip(DEFAULT[code], CHANGEABLE[code])]
