@@ -8,6 +8,7 @@ import random
 
 from layouts import LAYOUTS
 from modes import CHANGEABLE, DEFAULT
+from random_words import show_line, tool_line
 from reservations import TYPES
 
 INITIATORS = (0, 0, 0, 0, 1, 1, 1, 2, 2, 3, 4, 5, 6, 7)
@@ -44,7 +45,11 @@ class Script:
             return "power"
         if place < 0.10:
             return f"{initiator} {self.random.choice(TOOL_LINES)}"
-        if place < 0.20:
+        if place < 0.13:
+            return tool_line(self.random, initiator)
+        if place < 0.17:
+            return show_line(self.random)
+        if place < 0.25:
             return f"fill {initiator} {self.address()} {self.small()} {self.small()}"
         cdb, data_out = self.command()
         return f"raw {initiator} {cdb.hex() or '-'} {data_out.hex() or '-'}"

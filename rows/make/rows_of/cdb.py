@@ -5,7 +5,7 @@ from rows_of.lines import mode_page, mode_select_6, raw, request_sense, with_byt
 
 BLOCK = bytes(512)
 
-# A CDB of each command, and data-out. Addresses are 2, which is past the end of a disk of one block.
+# A CDB of each command, and data-out. Address 2 is past the end of a disk of one block.
 COMMANDS = [
     ("000000000000", None),                          # TEST UNIT READY
     ("030000001200", None),                          # REQUEST SENSE
