@@ -1,0 +1,161 @@
+"""The commands that read and write logical blocks, and those of provisioning (SBC-3, 5).
+
+The lines of each command are in the order of checks 7 to 12 of docs/PROFILE.md: values that are not
+supported, data-out, the parameter list, addresses, write protection, room in the pool.
+"""
+
+from provisioning import BLOCK_LENGTH, ZEROS
+from sense import (
+    ABORTED_COMMAND,
+    DATA_PHASE_ERROR,
+    DATA_PROTECT,
+    ILLEGAL_REQUEST,
+    LOGICAL_BLOCK_ADDRESS_OUT_OF_RANGE,
+    LOGICAL_UNIT_SOFTWARE_WRITE_PROTECTED,
+    CheckCondition,
+    invalid_field_in_parameter_list,
+    parameter_list_length_error,
+)
+
+MAXIMUM_TRANSFER_LENGTH = 256  # these three are in the block limits page, `pages.block_limits`
+MAXIMUM_WRITE_SAME_LENGTH = 65536
+MAXIMUM_UNMAP_BLOCK_DESCRIPTOR_COUNT = 64
+
+
+# --------------------------------------------------------------------------------- checks 7 to 11
+
+
+def transfer_length(command):
+    """In READ(6) and WRITE(6) 0 means 256 (SBC-2); the others are limited by page B0h."""
+    count = command["count"]
+    if command.name in ("READ(6)", "WRITE(6)"):
+        return count or 256
+    if count > MAXIMUM_TRANSFER_LENGTH:
+        raise command.unsupported("count")
+    return count
+
+
+def need_data_out(data_out, length):
+    """What the command needs of its data-out: less is an error, more is ignored."""
+    if len(data_out) < length:
+        raise CheckCondition(ABORTED_COMMAND, DATA_PHASE_ERROR)
+    return data_out[:length]
+
+
+def check_addresses(device, extents):
+    """INFORMATION is the first address past the last block (SPC-4, 4.5.2.2)."""
+    capacity = device.provisioning.capacity
+    for address, count in extents:
+        if address + count > capacity:
+            raise CheckCondition(
+                ILLEGAL_REQUEST, LOGICAL_BLOCK_ADDRESS_OUT_OF_RANGE,
+                information=max(address, capacity))
+
+
+def check_write_protection(device):
+    """SWP of the control mode page (SPC-4, 7.5; SBC-3, 4.12)."""
+    if device.modes.swp:
+        raise CheckCondition(DATA_PROTECT, LOGICAL_UNIT_SOFTWARE_WRITE_PROTECTED)
+
+
+# ------------------------------------------------------------------------------ commands of blocks
+
+
+def read(device, _initiator, command, _data_out):
+    """READ (SBC-2, READ(6); SBC-3, 5.11 and 5.13)"""
+    address, count = command["address"], transfer_length(command)
+    check_addresses(device, [(address, count)])
+    return device.provisioning.read(address, count)
+
+
+def write(device, _initiator, command, data_out):
+    """WRITE (SBC-2, WRITE(6); SBC-3, 5.33 and 5.35)"""
+    address, count = command["address"], transfer_length(command)
+    data = need_data_out(data_out, BLOCK_LENGTH * count)
+    check_addresses(device, [(address, count)])
+    check_write_protection(device)
+    device.provisioning.write(
+        address, count, lambda offset: data[BLOCK_LENGTH * offset:BLOCK_LENGTH * (offset + 1)])
+    return b""
+
+
+def write_same(device, _initiator, command, data_out):
+    """WRITE SAME (SBC-3, 5.43 and 5.44); with UNMAP 1 and a block of zeros 4.7 applies"""
+    address, count = command["address"], command["count"]
+    if command["anchor"] and not command["unmap"]:
+        raise command.unsupported("anchor")
+    if not 1 <= count <= MAXIMUM_WRITE_SAME_LENGTH:
+        raise command.unsupported("count")
+    block = need_data_out(data_out, BLOCK_LENGTH)
+    extents = [(address, count)]
+    check_addresses(device, extents)
+    check_write_protection(device)
+    if not command["unmap"] or block != ZEROS:
+        device.provisioning.write(address, count, lambda _offset: block)
+    elif command["anchor"]:
+        device.provisioning.anchor(extents)
+    else:
+        device.provisioning.unmap(extents)
+    return b""
+
+
+def synchronize_cache(device, _initiator, command, _data_out):
+    """SYNCHRONIZE CACHE(10) (SBC-3, 5.26): nothing is cached, and 0 blocks are no block"""
+    check_addresses(device, [(command["address"], command["count"])])
+    return b""
+
+
+def read_capacity_10(device, _initiator, _command, _data_out):
+    """SBC-3, 5.15.2"""
+    last = min(device.provisioning.capacity - 1, 2**32 - 1)
+    return last.to_bytes(4, "big") + BLOCK_LENGTH.to_bytes(4, "big")
+
+
+def read_capacity_16(device, _initiator, command, _data_out):
+    """SBC-3, 5.16.2: LBPME and LBPRZ are 1"""
+    data = bytearray(32)
+    data[0:8] = (device.provisioning.capacity - 1).to_bytes(8, "big")
+    data[8:12] = BLOCK_LENGTH.to_bytes(4, "big")
+    data[14] = 0xC0
+    return bytes(data[:command["allocation_length"]])
+
+
+# ------------------------------------------------------------------------ commands of provisioning
+
+
+def unmap(device, _initiator, command, data_out):
+    """UNMAP (SBC-3, 5.28): all extents are checked before the first is unmapped or anchored"""
+    extents = unmap_extents(need_data_out(data_out, command["list_length"]))
+    check_addresses(device, extents)
+    check_write_protection(device)
+    change = device.provisioning.anchor if command["anchor"] else device.provisioning.unmap
+    change(extents)
+    return b""
+
+
+def unmap_extents(parameters):
+    """The block descriptors that are whole (SBC-3, 5.28.2)"""
+    if not parameters:
+        return []
+    if len(parameters) < 8:
+        raise parameter_list_length_error()
+    descriptors = parameters[8:8 + int.from_bytes(parameters[2:4], "big")]
+    places = range(0, len(descriptors) // 16 * 16, 16)
+    if len(places) > MAXIMUM_UNMAP_BLOCK_DESCRIPTOR_COUNT:
+        raise invalid_field_in_parameter_list(2)
+    return [
+        (int.from_bytes(descriptors[place:place + 8], "big"),
+         int.from_bytes(descriptors[place + 8:place + 12], "big"))
+        for place in places
+    ]
+
+
+def get_lba_status(device, _initiator, command, _data_out):
+    """GET LBA STATUS (SBC-3, 5.4): it has to start at a block of the disk"""
+    start = command["address"]
+    check_addresses(device, [(start, 1)])
+    descriptors = b"".join(
+        address.to_bytes(8, "big") + count.to_bytes(4, "big") + bytes([status, 0, 0, 0])
+        for address, count, status in device.provisioning.status_extents(start))
+    data = (4 + len(descriptors)).to_bytes(4, "big") + bytes(4) + descriptors
+    return data[:command["allocation_length"]]

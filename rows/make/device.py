@@ -1,0 +1,120 @@
+"""The device server: the order of checks, unit attentions, and the way to each command.
+
+docs/PROFILE.md, "The order of checks", numbers the checks; the numbers below are the same. Checks 1
+to 6 are here and in `layouts.Command`. Checks 7 to 12 are in `blocks`, `pages`, `modes` and
+`reservations`, in each command in the order of its lines.
+"""
+
+from dataclasses import dataclass
+
+import blocks
+import modes
+import pages
+import reservations
+import sense
+from layouts import OPERATION_CODES, Command, layout_of
+from provisioning import Provisioning
+from sense import CheckCondition, Sense, invalid_field_in_cdb
+
+GOOD, CHECK_CONDITION, RESERVATION_CONFLICT = 0x00, 0x02, 0x18  # SAM-5, the table of statuses
+INITIATORS = range(8)
+REQUEST_SENSE, INQUIRY = 0x03, 0x12
+
+
+@dataclass
+class Reply:
+    status: int
+    data_in: bytes = b""
+    sense: bytes = b""
+
+
+class Device:
+    """A logical unit that was just powered on."""
+
+    def __init__(self, capacity, pool):
+        self.provisioning = Provisioning(capacity, pool)
+        self.modes = modes.Modes()
+        self.reservations = reservations.Reservations()
+        self.power_on()
+
+    def power_on(self):
+        """SAM-5, 5.14: one condition is pending for each initiator, and no other."""
+        self.attentions = {
+            initiator: [sense.POWER_ON_RESET_OR_BUS_DEVICE_RESET_OCCURRED]
+            for initiator in INITIATORS
+        }
+
+    def power_cycle(self):
+        """Power is lost, and is on again. Logical blocks stay as they are."""
+        self.modes.power_cycle()
+        self.reservations.power_cycle()
+        self.power_on()
+
+    def execute(self, initiator, cdb, data_out):
+        try:
+            return Reply(GOOD, self.data_in(initiator, cdb, data_out))
+        except reservations.Conflict:
+            return Reply(RESERVATION_CONFLICT)
+        except CheckCondition as refused:
+            return Reply(CHECK_CONDITION, sense=refused.sense.data(self.modes.d_sense))
+
+    def data_in(self, initiator, cdb, data_out):
+        """What a command that ends with GOOD returns; raises whatever refuses it."""
+        if not cdb:  # 1
+            raise invalid_field_in_cdb(0)
+        if self.attentions[initiator] and cdb[0] not in (INQUIRY, REQUEST_SENSE):  # 2
+            raise CheckCondition(sense.UNIT_ATTENTION, self.attentions[initiator].pop(0))
+        if cdb[0] not in OPERATION_CODES:  # 3
+            raise CheckCondition(sense.ILLEGAL_REQUEST, sense.INVALID_COMMAND_OPERATION_CODE)
+        layout = layout_of(cdb)
+        if layout and not self.reservations.allow(initiator, layout.reservation_class):  # 4
+            raise reservations.Conflict
+        command = Command(cdb, layout)  # 5 and 6
+        return OPERATIONS[command.name](self, initiator, command, data_out)
+
+    def raise_attention(self, initiators, code):
+        """Each condition is in the queue of an initiator once at most (SAM-5, 5.14)."""
+        for initiator in initiators:
+            if code not in self.attentions[initiator]:
+                self.attentions[initiator].append(code)
+
+
+def test_unit_ready(_device, _initiator, _command, _data_out):
+    return b""
+
+
+def request_sense(device, initiator, command, _data_out):
+    """SPC-4, 6.39: the oldest unit attention is returned as data, and cleared."""
+    found = Sense(sense.NO_SENSE, sense.NO_ADDITIONAL_SENSE_INFORMATION)
+    if device.attentions[initiator]:
+        found = Sense(sense.UNIT_ATTENTION, device.attentions[initiator].pop(0))
+    return found.data(command["desc"])[:command["allocation_length"]]
+
+
+OPERATIONS = {
+    "TEST UNIT READY": test_unit_ready,
+    "REQUEST SENSE": request_sense,
+    "READ(6)": blocks.read,
+    "WRITE(6)": blocks.write,
+    "INQUIRY": pages.inquiry,
+    "MODE SELECT(6)": modes.mode_select,
+    "MODE SENSE(6)": modes.mode_sense,
+    "READ CAPACITY(10)": blocks.read_capacity_10,
+    "READ(10)": blocks.read,
+    "WRITE(10)": blocks.write,
+    "SYNCHRONIZE CACHE(10)": blocks.synchronize_cache,
+    "WRITE SAME(10)": blocks.write_same,
+    "UNMAP": blocks.unmap,
+    "MODE SELECT(10)": modes.mode_select,
+    "MODE SENSE(10)": modes.mode_sense,
+    "READ KEYS": reservations.read_keys,
+    "READ RESERVATION": reservations.read_reservation,
+    "REPORT CAPABILITIES": reservations.report_capabilities,
+    "READ FULL STATUS": reservations.read_full_status,
+    **dict.fromkeys(reservations.ACTIONS, reservations.persistent_reserve_out),
+    "READ(16)": blocks.read,
+    "WRITE(16)": blocks.write,
+    "WRITE SAME(16)": blocks.write_same,
+    "READ CAPACITY(16)": blocks.read_capacity_16,
+    "GET LBA STATUS": blocks.get_lba_status,
+}

@@ -1,0 +1,151 @@
+"""The command descriptor blocks of the profile (SPC-4, 4.2.5, and the section of each command).
+
+One table: operation code, service action, name, reservation class, fields, ignored bits. A field is
+written with the bytes that it takes: `4`, `2-5`, and with the bits of its first byte under a mask,
+as `1:10` or `1:1F-3`. SERVICE ACTION, if the command has one, is 1:1F. A bit that is neither a
+field's nor ignored has to be zero, so each bit of CONTROL, the last byte, too.
+
+Reservation classes (SPC-4, 5.13, and SBC-3, the tables of commands that a reservation allows):
+`allowed` under every reservation, `reads` and `writes` as their names say.
+"""
+
+from sense import invalid_field_in_cdb
+
+TABLE = """
+00    | TEST UNIT READY        | allowed |                                             |
+03    | REQUEST SENSE          | allowed | desc 1:01, allocation_length 4              |
+08    | READ(6)                | reads   | address 1:1F-3, count 4                     |
+0A    | WRITE(6)               | writes  | address 1:1F-3, count 4                     |
+12    | INQUIRY                | allowed | evpd 1:01, page_code 2, \
+                                           allocation_length 3-4                       |
+15    | MODE SELECT(6)         | writes  | pf 1:10, sp 1:01, list_length 4             |
+1A    | MODE SENSE(6)          | reads   | dbd 1:08, pc 2:C0, page_code 2:3F, \
+                                           subpage_code 3, allocation_length 4         |
+25    | READ CAPACITY(10)      | allowed |                                             |
+28    | READ(10)               | reads   | address 2-5, count 7-8                      | 1:1A, 6:1F
+2A    | WRITE(10)              | writes  | address 2-5, count 7-8                      | 1:1A, 6:1F
+35    | SYNCHRONIZE CACHE(10)  | writes  | address 2-5, count 7-8                      | 1:06, 6:1F
+41    | WRITE SAME(10)         | writes  | anchor 1:10, unmap 1:08, address 2-5, \
+                                           count 7-8                                   | 6:1F
+42    | UNMAP                  | writes  | anchor 1:01, group_number 6:1F, \
+                                           list_length 7-8                             |
+55    | MODE SELECT(10)        | writes  | pf 1:10, sp 1:01, list_length 7-8           |
+5A    | MODE SENSE(10)         | reads   | llbaa 1:10, dbd 1:08, pc 2:C0, \
+                                           page_code 2:3F, subpage_code 3, \
+                                           allocation_length 7-8                       |
+5E    | PERSISTENT RESERVE IN  | allowed | allocation_length 7-8                       |
+5F    | PERSISTENT RESERVE OUT | allowed | scope 2:F0, type 2:0F, list_length 5-8      |
+88    | READ(16)               | reads   | address 2-9, count 10-13                    | 1:1A, 14:1F
+8A    | WRITE(16)              | writes  | address 2-9, count 10-13                    | 1:1A, 14:1F
+93    | WRITE SAME(16)         | writes  | anchor 1:10, unmap 1:08, address 2-9, \
+                                           count 10-13                                 | 14:1F
+9E.10 | READ CAPACITY(16)      | allowed | allocation_length 10-13                     |
+9E.12 | GET LBA STATUS         | reads   | address 2-9, allocation_length 10-13        |
+"""
+
+# These two have a name for each service action, from 00h on.
+SERVICE_ACTIONS = {
+    "PERSISTENT RESERVE IN": (
+        "READ KEYS", "READ RESERVATION", "REPORT CAPABILITIES", "READ FULL STATUS"),
+    "PERSISTENT RESERVE OUT": (
+        "REGISTER", "RESERVE", "RELEASE", "CLEAR", "PREEMPT", "PREEMPT AND ABORT",
+        "REGISTER AND IGNORE EXISTING KEY"),
+}
+
+# The length of a CDB by the group code, bits 7 to 5 of the operation code (SPC-4, OPERATION CODE).
+LENGTH_OF_GROUP = {0: 6, 1: 10, 2: 10, 4: 16}
+
+
+class Field:
+    """Bytes `first` to `last` of a CDB, of the first of them the bits under `mask`."""
+
+    def __init__(self, text):
+        places, _, last = text.partition("-")
+        first, _, mask = places.partition(":")
+        self.first = int(first)
+        self.last = int(last or first)
+        self.mask = int(mask or "FF", 16)
+
+    def value(self, cdb):
+        first = cdb[self.first] & self.mask
+        if self.first == self.last:
+            return first // (self.mask & -self.mask)  # shifted to the right by the zeros below
+        return int.from_bytes(bytes([first]) + cdb[self.first + 1:self.last + 1], "big")
+
+    def put(self, cdb, value):
+        """Sets the field in a CDB, for those who make one."""
+        if self.first == self.last:
+            cdb[self.first] |= value * (self.mask & -self.mask) & self.mask
+        else:
+            size = self.last - self.first + 1
+            bits = self.mask << 8 * (size - 1) | 256 ** (size - 1) - 1
+            cdb[self.first:self.last + 1] = (value & bits).to_bytes(size, "big")
+
+
+class Layout:
+    """The form of the CDB of a command, or of one service action."""
+
+    def __init__(self, code, action, name, reservation_class, fields, ignored):
+        self.name, self.reservation_class = name, reservation_class
+        self.length = LENGTH_OF_GROUP[code >> 5]
+        self.fields = {}
+        for named in filter(None, fields.split(",")):
+            field, places = named.split()
+            self.fields[field] = Field(places)
+        allowed = [*self.fields.values(), *map(Field, filter(None, ignored.split(",")))]
+        if action is not None:
+            allowed.append(Field("1:1F"))
+        self.allowed_bits = [0xFF] + [0] * (self.length - 1)
+        for place in allowed:
+            self.allowed_bits[place.first] |= place.mask
+            for byte in range(place.first + 1, place.last + 1):
+                self.allowed_bits[byte] = 0xFF
+
+
+def read_table():
+    """The layouts, by operation code and by service action, which is None if there is none."""
+    layouts = {}
+    for row in TABLE.strip().splitlines():
+        codes, name, *others = (column.strip() for column in row.split("|"))
+        code, *action = (int(number, 16) for number in codes.split("."))
+        names = {action[0] if action else None: name}
+        if name in SERVICE_ACTIONS:
+            names = dict(enumerate(SERVICE_ACTIONS[name]))
+        for action, name in names.items():
+            layouts[code, action] = Layout(code, action, name, *others)
+    return layouts
+
+
+LAYOUTS = read_table()
+OPERATION_CODES = {code for code, _ in LAYOUTS}
+CODES_WITH_ACTIONS = {code for code, action in LAYOUTS if action is not None}
+
+
+def layout_of(cdb):
+    """The layout of a CDB with a known operation code; None if its service action is unknown."""
+    if cdb[0] not in CODES_WITH_ACTIONS:
+        return LAYOUTS[cdb[0], None]
+    return LAYOUTS.get((cdb[0], cdb[1] & 0x1F if len(cdb) > 1 else 0))
+
+
+class Command:
+    """A CDB that has passed the checks of its length and of its bits."""
+
+    def __init__(self, cdb, layout):
+        """Checks length, service action, and bits (docs/PROFILE.md, checks 5 and 6)."""
+        length = LENGTH_OF_GROUP[cdb[0] >> 5]
+        if len(cdb) < length:
+            raise invalid_field_in_cdb(len(cdb))
+        if layout is None:
+            raise invalid_field_in_cdb(1)  # no command allows the bits of this service action
+        for byte, bits in enumerate(layout.allowed_bits):
+            if cdb[byte] & ~bits:
+                raise invalid_field_in_cdb(byte)
+        self.cdb, self.layout, self.name = cdb, layout, layout.name
+
+    def __getitem__(self, field):
+        return self.layout.fields[field].value(self.cdb)
+
+    def unsupported(self, field):
+        """A value that the disk does not support: the pointer is to the field's first byte."""
+        return invalid_field_in_cdb(self.layout.fields[field].first)

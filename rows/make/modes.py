@@ -1,0 +1,177 @@
+"""Mode pages: MODE SENSE and MODE SELECT (SPC-4, 6.11 to 6.14 and 7.5; SBC-3, 6.4)."""
+
+from blocks import need_data_out
+from provisioning import BLOCK_LENGTH
+from sense import (
+    MODE_PARAMETERS_CHANGED, invalid_field_in_parameter_list, parameter_list_length_error)
+
+# Of each page what comes after PAGE LENGTH: the default values, and the bits that can be changed.
+PAGES = {
+    # Read-Write Error Recovery (SBC-3, 6.4): AWRE and ARRE, READ and WRITE RETRY COUNT
+    0x01: ("C0 08 00 00 00 00 08 00 00 00", "C0 FF 00 00 00 00 FF 00 00 00"),
+    # Caching (SBC-3, 6.4): WCE
+    0x08: ("04" + 17 * " 00", "04" + 17 * " 00"),
+    # Control (SPC-4, 7.5): D_SENSE, SWP
+    0x0A: ("00 00 00 00 00 00 00 00 00 00", "04 00 08 00 00 00 00 00 00 00"),
+    # Informational Exceptions Control (SPC-4, 7.5): DEXCPT
+    0x1C: ("08 00 00 00 00 00 00 00 00 00", "00 00 00 00 00 00 00 00 00 00"),
+}
+DEFAULT = {code: bytes.fromhex(default) for code, (default, _) in PAGES.items()}
+CHANGEABLE = {code: bytes.fromhex(bits) for code, (_, bits) in PAGES.items()}
+ALL_PAGES = 0x3F
+ALL_SUBPAGES = 0xFF
+PS = 0x80  # all pages can be saved
+WP, DPOFUA = 0x80, 0x10  # SBC-3, 6.4.1, the device-specific parameter
+LONGLBA = 0x01
+
+
+class Modes:
+    def __init__(self):
+        self.current = dict(DEFAULT)
+        self.saved = dict(DEFAULT)
+
+    def power_cycle(self):
+        """The saved values become the current ones (SPC-4, 7.5)."""
+        self.current = dict(self.saved)
+
+    @property
+    def d_sense(self):
+        return bool(self.current[0x0A][0] & 0x04)
+
+    @property
+    def swp(self):
+        return bool(self.current[0x0A][2] & 0x08)
+
+    def values(self, page_control):
+        return (self.current, CHANGEABLE, DEFAULT, self.saved)[page_control]
+
+
+def block_descriptor(device, long):
+    """The short or the long block descriptor (SBC-3, 6.4.2)"""
+    capacity = device.provisioning.capacity
+    if long:
+        return capacity.to_bytes(8, "big") + bytes(4) + BLOCK_LENGTH.to_bytes(4, "big")
+    return min(capacity, 2**32 - 1).to_bytes(4, "big") + BLOCK_LENGTH.to_bytes(4, "big")
+
+
+def is_of_six_bytes(command):
+    return command.name.endswith("(6)")
+
+
+# -------------------------------------------------------------------------------------- MODE SENSE
+
+
+def mode_sense(device, _initiator, command, _data_out):
+    """SPC-4, 6.13 and 6.14: a header (7.5.5), a block descriptor unless DBD is 1, pages
+
+    LONGLBA says that the descriptor is the long one. Without a descriptor it is 0.
+    """
+    if command["page_code"] not in (*PAGES, ALL_PAGES):
+        raise command.unsupported("page_code")
+    if command["subpage_code"] not in (0x00, ALL_SUBPAGES):
+        raise command.unsupported("subpage_code")
+    long = not is_of_six_bytes(command) and command["llbaa"] and not command["dbd"]
+    descriptor = b"" if command["dbd"] else block_descriptor(device, long)
+    values = device.modes.values(command["pc"])
+    pages = b"".join(
+        bytes([PS | code, len(values[code])]) + values[code]
+        for code in sorted(PAGES) if command["page_code"] in (code, ALL_PAGES))
+    specific = DPOFUA | (WP if device.modes.swp else 0)
+    if is_of_six_bytes(command):
+        after_length = bytes([0x00, specific, len(descriptor)])
+    else:
+        after_length = bytes([0x00, specific, LONGLBA if long else 0, 0])
+        after_length += len(descriptor).to_bytes(2, "big")
+    after_length += descriptor + pages
+    length = len(after_length).to_bytes(1 if is_of_six_bytes(command) else 2, "big")
+    return (length + after_length)[:command["allocation_length"]]
+
+
+# ------------------------------------------------------------------------------------- MODE SELECT
+
+
+def mode_select(device, initiator, command, data_out):
+    """SPC-4, 6.11 and 6.12: the list is applied whole, or its first fault refuses it"""
+    if not command["pf"]:
+        raise command.unsupported("pf")
+    parameters = need_data_out(data_out, command["list_length"])
+    modes = device.modes
+    selected = dict(modes.current)
+    if parameters:
+        place = check_descriptor(device, parameters, *header(command, parameters))
+        selected.update(pages_from(modes.current, parameters, place))
+    if selected != modes.current:
+        others = [other for other in device.attentions if other != initiator]
+        device.raise_attention(others, MODE_PARAMETERS_CHANGED)
+    modes.current = selected
+    if command["sp"]:
+        modes.saved = dict(selected)
+    return b""
+
+
+def present(parameters, end):
+    """A list that ends before byte `end` is too short for the check (SPC-4, 6.11)."""
+    if len(parameters) < end:
+        raise parameter_list_length_error()
+
+
+def need_equal(parameters, place, wanted):
+    """From front to back: a list that ends is too short, and a byte that differs is the fault."""
+    for byte, value in enumerate(wanted, place):
+        present(parameters, byte + 1)
+        if parameters[byte] != value:
+            raise invalid_field_in_parameter_list(byte)
+
+
+def header(command, parameters):
+    """Checks the header (SPC-4, 7.5.5). Returns its end, and the length of the block descriptor.
+
+    MODE DATA LENGTH and the device-specific parameter are ignored. MEDIUM TYPE and reserved bits
+    have to be zero. BLOCK DESCRIPTOR LENGTH is 0, or the length that LONGLBA names; the pointer is
+    to its first byte (SPC-4, 4.5.2.4.2), as there is no one value that it would have to equal.
+    """
+    if is_of_six_bytes(command):
+        need_equal(parameters, 1, b"\0")
+        length_place, end, long = 3, 4, False
+    else:
+        need_equal(parameters, 2, b"\0")
+        present(parameters, 5)
+        long = bool(parameters[4] & LONGLBA)
+        need_equal(parameters, 4, bytes([LONGLBA if long else 0, 0]))
+        length_place, end = 6, 8
+    present(parameters, end)
+    length = int.from_bytes(parameters[length_place:end], "big")
+    if length not in (0, 16 if long else 8):
+        raise invalid_field_in_parameter_list(length_place)
+    return end, length
+
+
+def check_descriptor(device, parameters, place, length):
+    """A descriptor is the disk's own, or has a number of blocks of 0. Returns its end."""
+    if length:
+        own = block_descriptor(device, length == 16)
+        count_length = length // 2
+        present(parameters, place + count_length)  # whether it is 0 is in all of its bytes
+        if not any(parameters[place:place + count_length]):
+            own = bytes(count_length) + own[count_length:]
+        need_equal(parameters, place, own)
+    return place + length
+
+
+def pages_from(current, parameters, place):
+    """The pages of the list by their codes: of one that is sent twice the last one counts."""
+    selected = {}  # all are compared with what they were before the command
+    while place < len(parameters):
+        code = parameters[place] & ~PS
+        if code not in PAGES:  # an SPF of 1 makes it unknown, too
+            raise invalid_field_in_parameter_list(place)
+        length = len(DEFAULT[code])
+        need_equal(parameters, place + 1, bytes([length]))
+        place += 2
+        sent = parameters[place:place + length]
+        values = zip(sent, current[code], CHANGEABLE[code])
+        need_equal(parameters, place, bytes(old & ~bits | new & bits for new, old, bits in values))
+        present(parameters, place + length)
+        selected[code] = sent
+        place += length
+    return selected

@@ -1,0 +1,91 @@
+"""Logical block provisioning (SBC-3, 4.7): which addresses have a block of the pool.
+
+An address is mapped, anchored or deallocated. Mapped and anchored ones have a block of the pool
+each. Deallocated and anchored ones read as zeros (LBPRZ 1).
+"""
+
+from sense import DATA_PROTECT, SPACE_ALLOCATION_FAILED_WRITE_PROTECT, CheckCondition
+
+BLOCK_LENGTH = 512
+ZEROS = bytes(BLOCK_LENGTH)
+MAPPED, DEALLOCATED, ANCHORED = 0, 1, 2  # SBC-3, 5.4.2, PROVISIONING STATUS
+MOST_BLOCKS_OF_A_DESCRIPTOR = 2**32 - 1
+MOST_DESCRIPTORS = 512
+
+
+class Provisioning:
+    def __init__(self, capacity, pool):
+        self.capacity = capacity
+        self.pool = pool
+        self.contents = {}  # the bytes of each mapped address, None for each anchored one
+
+    def status(self, address):
+        if address not in self.contents:
+            return DEALLOCATED
+        return ANCHORED if self.contents[address] is None else MAPPED
+
+    def read(self, address, count):
+        return b"".join(self.contents.get(address + offset) or ZEROS for offset in range(count))
+
+    def write(self, address, count, block):
+        """Maps each address to `block(offset)`, or none if the pool lacks room (SBC-3, 4.7)."""
+        self._need_room([(address, count)])
+        for offset in range(count):
+            self.contents[address + offset] = block(offset)
+
+    def unmap(self, extents):
+        """Deallocates the addresses, and gives their blocks back to the pool."""
+        for address, count in extents:
+            for known in self._known(address, count):
+                del self.contents[known]
+
+    def anchor(self, extents):
+        """Anchors the addresses, or none if the pool lacks room (SBC-3, 4.7.4)."""
+        extents = joined(extents)
+        self._need_room(extents)
+        for address, count in extents:
+            for offset in range(count):
+                self.contents[address + offset] = None
+
+    def _known(self, address, count):
+        """The addresses of the extent that have a block of the pool."""
+        if count < len(self.contents):
+            return [place for place in range(address, address + count) if place in self.contents]
+        return [place for place in self.contents if address <= place < address + count]
+
+    def _need_room(self, extents):
+        """Only an address that is deallocated needs a block more."""
+        needed = sum(count - len(self._known(address, count)) for address, count in extents)
+        if len(self.contents) + needed > self.pool:
+            raise CheckCondition(DATA_PROTECT, SPACE_ALLOCATION_FAILED_WRITE_PROTECT)
+
+    def status_extents(self, start):
+        """The longest extents of one status each, from `start` on: at most 512 (SBC-3, 5.4)."""
+        known = sorted(address for address in self.contents if address >= start)
+        extents, place, next_known = [], start, 0
+        while place < self.capacity and len(extents) < MOST_DESCRIPTORS:
+            status = self.status(place)
+            if status == DEALLOCATED:
+                end = known[next_known] if next_known < len(known) else self.capacity
+            else:
+                end = place
+                while end < self.capacity and self.status(end) == status:
+                    end += 1
+                next_known += end - place
+            while place < end and len(extents) < MOST_DESCRIPTORS:
+                count = min(end - place, MOST_BLOCKS_OF_A_DESCRIPTOR)
+                extents.append((place, count, status))
+                place += count
+        return extents
+
+
+def joined(extents):
+    """The same addresses as extents that do not overlap, in ascending order."""
+    apart = []
+    for address, count in sorted(extents):
+        if apart and address <= apart[-1][0] + apart[-1][1]:
+            start, before = apart[-1]
+            apart[-1] = (start, max(before, address + count - start))
+        elif count:
+            apart.append((address, count))
+    return apart

@@ -1,0 +1,139 @@
+"""Scripts of random commands. A seed decides the script and the disk.
+
+The commands are near to valid ones: fields have values that matter, lists are whole or nearly so,
+and a bit is turned now and then. So most states of a small disk come up within some hundred lines.
+"""
+
+import random
+
+from layouts import LAYOUTS
+from modes import CHANGEABLE, DEFAULT
+from random_words import show_line, tool_line
+from reservations import TYPES
+
+INITIATORS = (0, 0, 0, 0, 1, 1, 1, 2, 2, 3, 4, 5, 6, 7)
+# Some commands are more frequent in a script: of reservations, mode pages, provisioning, or none.
+THEMES = (
+    3 * ("REGISTER", "REGISTER AND IGNORE EXISTING KEY", "RESERVE")
+    + ("RELEASE", "PREEMPT", "READ RESERVATION", "READ FULL STATUS", "TEST UNIT READY"),
+    ("MODE SELECT(6)", "MODE SENSE(6)", "MODE SELECT(10)", "MODE SENSE(10)"),
+    ("WRITE SAME(10)", "UNMAP", "WRITE SAME(16)", "GET LBA STATUS"),
+    (),
+)
+OFTEN = 6
+TOOL_LINES = ("sg_inq", "sg_inq -l 5", "sg_vpd -p di", "sg_vpd -p bl", "sg_modes", "sg_modes -c 3",
+              "sg_modes -L -p 10", "sg_get_lba_status -m 100", "sg_persist -k", "sg_persist -r",
+              "sg_persist -s", "sg_persist -c")
+
+
+class Script:
+    def __init__(self, seed):
+        self.random = random.Random(seed)
+        self.blocks = self.random.choice((1, 8, 20, 4096, 2**33))
+        self.pool = self.random.choice((1, 4, 9))
+        self.type = self.random.choice(TYPES)  # most RESERVE, RELEASE and PREEMPT name it
+        theme = self.random.choice(THEMES)
+        self.layouts = [
+            it for it in LAYOUTS.items() for _ in range(1 + OFTEN * theme.count(it[1].name))]
+
+    def text(self, lines):
+        return "".join(self.line() + "\n" for _ in range(lines))
+
+    def line(self):
+        initiator, place = self.random.choice(INITIATORS), self.random.random()
+        if place < 0.005:
+            return "power"
+        if place < 0.10:
+            return f"{initiator} {self.random.choice(TOOL_LINES)}"
+        if place < 0.13:
+            return tool_line(self.random, initiator)
+        if place < 0.17:
+            return show_line(self.random)
+        if place < 0.25:
+            return f"fill {initiator} {self.address()} {self.small()} {self.small()}"
+        cdb, data_out = self.command()
+        return f"raw {initiator} {cdb.hex() or '-'} {data_out.hex() or '-'}"
+
+    def command(self):
+        """A CDB with data-out, of any layout, rarely with a wrong bit or too short."""
+        (code, action), layout = self.random.choice(self.layouts)
+        values = {name: self.value(name, layout.name) for name in layout.fields}
+        data_out = self.data_out(layout.name, values)
+        if "list_length" in values:
+            if self.is_rare(0.1):
+                data_out = data_out[:self.random.randrange(len(data_out) + 1)]
+            values["list_length"] = len(data_out)
+        cdb = bytearray(layout.length)
+        cdb[:2] = code, action or 0
+        for name, value in values.items():
+            layout.fields[name].put(cdb, value)
+        if self.is_rare(0.08):
+            cdb[self.random.randrange(len(cdb))] ^= 1 << self.random.randrange(8)
+        if self.is_rare(0.05):
+            data_out = data_out[:-1]
+        return (cdb[:self.random.randrange(len(cdb))] if self.is_rare(0.02) else cdb), data_out
+
+    def is_rare(self, share):
+        return self.random.random() < share
+
+    def small(self):
+        return self.random.choice((0, 1, 1, 1, 2, 2, 3, 5))
+
+    def address(self):
+        near = (self.small(), self.small(), self.blocks - self.small(), self.blocks + self.small())
+        return max(0, self.random.choice((*near, *near, 2**32 - self.small(), 2**64 - 1)))
+
+    def value(self, field, command):
+        pages = (0x01, 0x08, 0x0A, 0x1C, 0x3F)
+        if command == "INQUIRY":
+            pages = (0x00, 0x00, 0x80, 0x83, 0xB0, 0xB2)
+        usual = {
+            "address": self.address(),
+            "count": self.small(),
+            "allocation_length": self.random.choice((0, 5, 18, 24, 40, 255, 255, 255)),
+            "page_code": self.random.choice(pages),
+            "subpage_code": self.random.choice((0, 0, 0xFF)),
+            "pf": 1,
+            "scope": 0,
+            "type": self.random.choice((self.type, self.type, self.random.choice(TYPES))),
+        }
+        if field in usual and not self.is_rare(0.05):
+            return usual[field]
+        return self.random.randrange(256)  # as much of it as the field has room for
+
+    def data_out(self, command, values):
+        if command.startswith("WRITE("):
+            return bytes([self.small()]) * 512 * min(values["count"] or 256, 3)
+        if command.startswith("WRITE SAME"):
+            return bytes([self.random.choice((0, 0, 7))]) * 512
+        if command == "UNMAP":
+            count = 65 if self.is_rare(0.03) else self.small()
+            extents = [(self.address(), self.small()) for _ in range(count)]
+            descriptors = b"".join(
+                at.to_bytes(8, "big") + count.to_bytes(8, "big")[4:] + bytes(4)
+                for at, count in extents)
+            return bytes([0, 0]) + len(descriptors).to_bytes(2, "big") + bytes(4) + descriptors
+        if command.startswith("MODE SELECT"):
+            return self.mode_list(4 if command.endswith("(6)") else 8)
+        return self.reserve_list() if "list_length" in values else b""
+
+    def reserve_list(self):
+        """The list of PERSISTENT RESERVE OUT: most keys are 0 or 1, so many are the right ones."""
+        key, action_key = self.random.choice((0, 1, 1, 1)), self.random.choice((0, 1, 1, 1, 2))
+        flags = self.random.randrange(256) if self.is_rare(0.03) else self.random.choice((0, 1))
+        return (key.to_bytes(8, "big") + action_key.to_bytes(8, "big")
+                + bytes([0, 0, 0, 0, flags, 0, 0, 0]))
+
+    def mode_list(self, header):
+        data = bytearray(header)
+        if self.is_rare(0.2):
+            blocks = self.random.choice((0, min(self.blocks, 2**32 - 1), self.small()))
+            data[header - 1] = 8
+            data += blocks.to_bytes(4, "big") + (512).to_bytes(4, "big")
+        for code in self.random.sample(tuple(DEFAULT), self.random.choice((0, 1, 1, 2))):
+            page = [kept ^ self.random.randrange(256) & bits
+                    for kept, bits in zip(DEFAULT[code], CHANGEABLE[code])]
+            data += bytes([code, len(page), *page])
+        if self.is_rare(0.1):
+            data[self.random.randrange(len(data))] ^= 1 << self.random.randrange(8)
+        return bytes(data)

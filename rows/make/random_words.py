@@ -1,0 +1,72 @@
+"""Random lines of `show`, near to real answers, and random words of tools, near to valid ones."""
+
+from texts import KINDS
+from tools.commands import TOOLS
+
+# An answer of each kind, and of each page that has a text.
+ANSWERS = [
+    ("inq", "000006022400000053474d4f44454c205448494e204449534b2020202020202030313030abcdef0102"),
+    ("vpd", "00000005008083b0b2"),
+    ("vpd", "0080000a304100420a2e7e7f8020"),
+    ("vpd", "0083001e0201000441422043010300083000000000000001611400046e61612e"),
+    ("vpd", "00b0003c0108000800004000000020000000100000400000000001000000002080000004000000000000"
+            "ffff0000000000000000000000000000000000000000"),
+    ("vpd", "00b2000805e7020001030000"),
+    ("vpd", "00b10014000102030405060708090a0b0c0d0e0f10111213"),
+    ("modes6", "2100100800001000000002008a0a0400080000000000000059010002aabb9c0208ff"),
+    ("modes10", "0038009001000010000000020000000000000000000010008812040000000000000000000000000000"
+                "0000008108c00b00000000050001020102"),
+    ("lba", "0000003400000000000000000000000000000001000000000000000000000001fffffffe010000000000"
+            "0000ffffffff0000000202000000"),
+    ("keys", "000000020000001800000000000000a1ffffffffffffffff0000000000000000"),
+    ("resv", "000000010000001000000000000000a10000000000050000"),
+    ("caps", "00080181ea010000"),
+    ("full", "000000070000003400000000000000a100000000010500000000000100000018060000003000000000"
+             "00010000000000000000000000000000000000000000b2"),
+    ("sense", "f00005000010000a00000000240000c00002"),
+    ("sense", "72052100000000140206000080000600000a80000000000200000001"),
+]
+
+TEXTS = ["0", "1", "2", "5", "8", "10", "24", "40", "63", "255", "256", "4095", "65535",
+         "18446744073709551615", "0x10", "0XfF", "1Fh", "a1", "0xA1", "sn", "di", "bl", "lbpv",
+         "sv", "SN", "10,0", "8,255", "0,1", "1,1,1", "0,16", "1,,2", "", "-", "zz", "-1", "=3"]
+
+
+def show_line(random):
+    """An answer with some bytes changed, cut or longer, now and then as another kind."""
+    kind, text = random.choice(ANSWERS)
+    data = bytearray.fromhex(text)
+    for _ in range(random.choice((0, 0, 1, 1, 2, 3))):
+        place = random.choice((random.randrange(len(data)), random.randrange(min(len(data), 8))))
+        data[place] = random.choice((0, 1, data[place] ^ 1 << random.randrange(8),
+                                     random.randrange(256)))
+    if random.random() < 0.4:
+        del data[random.randrange(len(data) + 1):]
+    elif random.random() < 0.2:
+        data += random.randbytes(random.randrange(20))
+    if random.random() < 0.1:
+        kind = random.choice(sorted(KINDS))
+    return f"show {kind} {data.hex() or '-'}"
+
+
+def tool_line(random, initiator):
+    """A tool with some of its options in a random form, now and then with a word of no option."""
+    name = random.choice(sorted(TOOLS))
+    options = TOOLS[name].options
+    words = [word for option in random.sample(options, random.randrange(min(len(options), 5)))
+             for word in forms_of(random, option)]
+    if random.random() < 0.1:
+        words.insert(random.randrange(len(words) + 1),
+                     random.choice(("-h", "--", "-", "x", "-H", "-dH", "-kr", "--le", "-l5")))
+    return " ".join([str(initiator), name, *words])
+
+
+def forms_of(random, option):
+    """The words of an option: short or long, its text attached or behind it."""
+    text = random.choice(TEXTS)
+    short = option.short and random.random() < 0.6
+    named = f"-{option.short}" if short else f"--{option.long}"
+    if option.reads is None:
+        return [named + ("=" + text if random.random() < 0.02 else "")]
+    attached = [f"{named}={text}"] + ([named + text] if short else [])
+    return random.choice([[named, text], *([form] for form in attached)])

@@ -1,0 +1,280 @@
+"""Persistent reservations: PERSISTENT RESERVE IN and OUT (SPC-4, 5.13, 6.15 and 6.16)."""
+
+from blocks import need_data_out
+from sense import (
+    ILLEGAL_REQUEST,
+    INSUFFICIENT_REGISTRATION_RESOURCES,
+    INVALID_RELEASE_OF_PERSISTENT_RESERVATION,
+    REGISTRATIONS_PREEMPTED,
+    RESERVATIONS_PREEMPTED,
+    RESERVATIONS_RELEASED,
+    CheckCondition,
+    invalid_field_in_parameter_list,
+    parameter_list_length_error,
+)
+
+# TYPE (SPC-4, 6.15.3.4): whether all registrants hold it, or share its access; what it excludes.
+WRITE_EXCLUSIVE, EXCLUSIVE_ACCESS = 0x1, 0x3
+WRITE_EXCLUSIVE_REGISTRANTS_ONLY, EXCLUSIVE_ACCESS_REGISTRANTS_ONLY = 0x5, 0x6
+WRITE_EXCLUSIVE_ALL_REGISTRANTS, EXCLUSIVE_ACCESS_ALL_REGISTRANTS = 0x7, 0x8
+ALL_REGISTRANTS = (WRITE_EXCLUSIVE_ALL_REGISTRANTS, EXCLUSIVE_ACCESS_ALL_REGISTRANTS)
+SHARED = (
+    WRITE_EXCLUSIVE_REGISTRANTS_ONLY, EXCLUSIVE_ACCESS_REGISTRANTS_ONLY, *ALL_REGISTRANTS)
+EXCLUSIVE = (
+    EXCLUSIVE_ACCESS, EXCLUSIVE_ACCESS_REGISTRANTS_ONLY, EXCLUSIVE_ACCESS_ALL_REGISTRANTS)
+TYPES = (WRITE_EXCLUSIVE, *SHARED, EXCLUSIVE_ACCESS)
+
+MOST_REGISTRANTS = 6
+LIST_LENGTH = 24
+SPEC_I_PT, ALL_TG_PT, APTPL = 0x08, 0x04, 0x01  # of list byte 20
+
+
+class Conflict(Exception):
+    """The command ends with RESERVATION CONFLICT."""
+
+
+class Reservations:
+    def __init__(self):
+        self.keys = {}  # of the registrants, in the order in which they were registered
+        self.type = None  # of the reservation that is held, if any
+        self.taker = None  # the registrant that took it: its one holder, unless all are
+        self.generation = 0
+        self.aptpl = False
+
+    def power_cycle(self):
+        """SPC-4, 5.13 (persist through power loss) and 6.15.2 (PRGENERATION)"""
+        if not self.aptpl:
+            self.keys, self.type, self.taker = {}, None, None
+        self.generation = 0
+
+    def holders(self):
+        if self.type is None:
+            return []
+        return list(self.keys) if self.type in ALL_REGISTRANTS else [self.taker]
+
+    def allow(self, initiator, reservation_class):
+        """The tables of commands that a reservation allows (SPC-4, 5.13; SBC-3)."""
+        if self.type is None or reservation_class == "allowed" or initiator in self.holders():
+            return True
+        if self.type in SHARED and initiator in self.keys:
+            return True
+        return reservation_class == "reads" and self.type not in EXCLUSIVE
+
+    def count_change(self):
+        self.generation = (self.generation + 1) % 2**32
+
+    def take(self, initiator, kind):
+        self.type, self.taker = kind, initiator
+
+    def end(self):
+        self.type, self.taker = None, None
+
+    def remove(self, initiators):
+        """Unregisters. The reservation ends if no holder is left; returns its type then."""
+        for initiator in initiators:
+            del self.keys[initiator]
+        ended = self.type
+        if ended is None or any(holder in self.keys for holder in self.holders()):
+            return None
+        self.end()
+        return ended
+
+
+# -------------------------------------------------------------------------- PERSISTENT RESERVE IN
+
+
+def answer(device, command, parameters):
+    """PRGENERATION and ADDITIONAL LENGTH, then the parameters (SPC-4, 6.15.2)"""
+    header = device.reservations.generation.to_bytes(4, "big")
+    header += len(parameters).to_bytes(4, "big")
+    return (header + parameters)[:command["allocation_length"]]
+
+
+def read_keys(device, _initiator, command, _data_out):
+    """SPC-4, 6.15.2"""
+    keys = device.reservations.keys.values()
+    return answer(device, command, b"".join(key.to_bytes(8, "big") for key in keys))
+
+
+def read_reservation(device, _initiator, command, _data_out):
+    """SPC-4, 6.15.3: the key is 0 if each registrant holds the reservation; SCOPE is 0h"""
+    state = device.reservations
+    if state.type is None:
+        return answer(device, command, b"")
+    key = 0 if state.type in ALL_REGISTRANTS else state.keys[state.taker]
+    scope_and_type = bytes([0, 0, 0, 0, 0, state.type, 0, 0])
+    return answer(device, command, key.to_bytes(8, "big") + scope_and_type)
+
+
+def report_capabilities(device, _initiator, command, _data_out):
+    """SPC-4, 6.15.4: PTPL_C, then TMV and PTPL_A, then a mask with a bit for each type"""
+    persists = 0x01 if device.reservations.aptpl else 0
+    mask = sum(1 << kind for kind in TYPES).to_bytes(2, "little")
+    data = bytes([0, 8, 0x01, 0x80 | persists]) + mask + bytes(2)
+    return data[:command["allocation_length"]]
+
+
+def read_full_status(device, _initiator, command, _data_out):
+    """SPC-4, 6.15.5, a descriptor for each registrant"""
+    registrants = device.reservations.keys
+    return answer(device, command, b"".join(
+        full_status_descriptor(device.reservations, registrant) for registrant in registrants))
+
+
+def full_status_descriptor(state, registrant):
+    """With the TransportID of a SAS initiator port (SPC-4, 7.6.4)"""
+    holds = registrant in state.holders()
+    transport_id = bytearray(24)
+    transport_id[0] = 0x06
+    transport_id[4:12] = (0x30 << 56 | 0x0100 | registrant).to_bytes(8, "big")
+    port, length = 1, len(transport_id)
+    return (state.keys[registrant].to_bytes(8, "big") + bytes(4)
+            + bytes([0x01 if holds else 0, state.type if holds else 0]) + bytes(4)
+            + port.to_bytes(2, "big") + length.to_bytes(4, "big") + transport_id)
+
+
+# ------------------------------------------------------------------------- PERSISTENT RESERVE OUT
+
+
+class Request:
+    """A service action with its list, and the state that it changes."""
+
+    def __init__(self, device, caller, command, parameters):
+        self.device, self.caller, self.command = device, caller, command
+        self.state = device.reservations
+        self.key = int.from_bytes(parameters[0:8], "big")
+        self.action_key = int.from_bytes(parameters[8:16], "big")
+        self.aptpl = bool(parameters[20] & APTPL)
+        self.registered_before = list(self.state.keys)
+
+    def notify(self, initiators, code):
+        """Only who was registered before the command, and never the caller."""
+        told = [other for other in self.registered_before if other != self.caller]
+        self.device.raise_attention([other for other in told if other in initiators], code)
+
+    def under_action_key(self):
+        return [who for who, key in self.state.keys.items() if key == self.action_key]
+
+
+def persistent_reserve_out(device, caller, command, data_out):
+    """The faults in their order (docs/PROFILE.md, "PERSISTENT RESERVE OUT"), then the action"""
+    if command.name in ("RESERVE", "RELEASE"):
+        check_scope_and_type(command)
+    parameters = need_data_out(data_out, command["list_length"])
+    if len(parameters) != LIST_LENGTH:
+        raise parameter_list_length_error()
+    registers = command.name in ("REGISTER", "REGISTER AND IGNORE EXISTING KEY")
+    if parameters[20] & (SPEC_I_PT | (ALL_TG_PT if registers else 0)):
+        raise invalid_field_in_parameter_list(20)
+    request = Request(device, caller, command, parameters)
+    check_key(request)
+    ACTIONS[command.name](request)
+    return b""
+
+
+def check_scope_and_type(command):
+    """SCOPE 0h is the logical unit; both fields are in command byte 2."""
+    if command["scope"] != 0 or command["type"] not in TYPES:
+        raise command.unsupported("type")
+
+
+def check_key(request):
+    """RESERVATION KEY is the caller's, or 0 for a REGISTER of who is not registered."""
+    if request.command.name == "REGISTER AND IGNORE EXISTING KEY":
+        return
+    if request.caller in request.state.keys:
+        allowed = request.key == request.state.keys[request.caller]
+    else:
+        allowed = request.command.name == "REGISTER" and request.key == 0
+    if not allowed:
+        raise Conflict
+
+
+def register(request):
+    """SPC-4, 5.13 (registering; unregistering) and 6.16"""
+    state, caller = request.state, request.caller
+    if caller not in state.keys:
+        if request.action_key == 0:
+            return
+        if len(state.keys) == MOST_REGISTRANTS:
+            raise CheckCondition(ILLEGAL_REQUEST, INSUFFICIENT_REGISTRATION_RESOURCES)
+    if request.action_key:
+        state.keys[caller] = request.action_key  # a known caller keeps its place
+    else:
+        ended = state.remove([caller])
+        if ended in SHARED:
+            request.notify(state.keys, RESERVATIONS_RELEASED)
+    state.aptpl = request.aptpl
+    state.count_change()
+
+
+def reserve(request):
+    """SPC-4, 5.13 (reserving)"""
+    state, kind = request.state, request.command["type"]
+    if state.type is None:
+        state.take(request.caller, kind)
+    elif request.caller not in state.holders() or kind != state.type:
+        raise Conflict
+
+
+def release(request):
+    """SPC-4, 5.13 (releasing)"""
+    state, kind = request.state, request.command["type"]
+    if request.caller not in state.holders():
+        return
+    if kind != state.type:
+        raise CheckCondition(ILLEGAL_REQUEST, INVALID_RELEASE_OF_PERSISTENT_RESERVATION)
+    state.end()
+    if kind in SHARED:
+        request.notify(state.keys, RESERVATIONS_RELEASED)
+
+
+def clear(request):
+    """SPC-4, 5.13 (clearing)"""
+    request.state.end()
+    request.state.keys.clear()
+    request.notify(request.registered_before, RESERVATIONS_PREEMPTED)
+    request.state.count_change()
+
+
+def preempt(request):
+    """SPC-4, 5.13 (preempting): five cases, of which the first that applies decides"""
+    state, key = request.state, request.action_key
+    has_one_holder = state.type is not None and state.type not in ALL_REGISTRANTS
+    removed = request.under_action_key()
+    if has_one_holder and key == 0:
+        raise invalid_field_in_parameter_list(8)
+    if has_one_holder and key == state.keys[state.taker]:
+        preempt_reservation(request, removed)
+    elif state.type in ALL_REGISTRANTS and key == 0:
+        preempt_reservation(request, list(state.keys))
+    elif not removed:
+        raise Conflict
+    else:
+        state.remove(removed)
+        request.notify(removed, REGISTRATIONS_PREEMPTED)
+    state.count_change()
+
+
+def preempt_reservation(request, removed):
+    """The caller stays registered and takes the reservation, with TYPE of the command."""
+    check_scope_and_type(request.command)
+    state, kind_before = request.state, request.state.type
+    removed = [who for who in removed if who != request.caller]
+    for who in removed:
+        del state.keys[who]
+    state.take(request.caller, request.command["type"])
+    request.notify(removed, REGISTRATIONS_PREEMPTED)
+    if state.type != kind_before:
+        request.notify(state.keys, RESERVATIONS_RELEASED)
+
+
+ACTIONS = {
+    "REGISTER": register,
+    "RESERVE": reserve,
+    "RELEASE": release,
+    "CLEAR": clear,
+    "PREEMPT": preempt,
+    "PREEMPT AND ABORT": preempt,
+    "REGISTER AND IGNORE EXISTING KEY": register,
+}

@@ -1,0 +1,180 @@
+"""Scripts: lines, their faults, what each prints, and the exit status (docs/SCRIPT.md).
+
+What this module asks of the two that decode answers and read the words of tools:
+
+    texts.KINDS                the kinds of answers of `show`: "inq", "vpd", .. "sense"
+    texts.show(kind, data)     the lines of an answer: a list of str, with their leading blanks and
+                               without LF. For "sense" it is [sense.line(data)].
+    tools.plan(words)          words after the initiator, as ["sg_inq", "-l", "5"], to a Plan:
+        .fault                 None, or the text of the fault: "unknown tool", "usage", "exclusive"
+                               or "number". Then the other three do not matter.
+        .cdb, .data_out        bytes
+        .show                  a function from data-in to a list of lines, as texts.show returns
+
+Both may use `words.number`, `words.hex_bytes` and `words.hex_lines`.
+"""
+
+import re
+from dataclasses import dataclass, field
+
+import sense
+import texts
+import tools
+from device import CHECK_CONDITION, GOOD, RESERVATION_CONFLICT, Device
+from words import hex_bytes, hex_lines, number
+
+LONGEST_LINE = 4096
+MOST_WORDS = 64
+BAD_BYTE = re.compile(rb"[^\t -~]")  # neither a tab nor printable ASCII
+STATUS_OF_A_FAULT = 1
+STATUS_NAMES = {
+    GOOD: "GOOD",
+    CHECK_CONDITION: "CHECK CONDITION",
+    RESERVATION_CONFLICT: "RESERVATION CONFLICT",
+}
+INITIATORS = "01234567"
+
+
+class Fault(Exception):
+    """A line that is not executed, with the text that is printed instead."""
+
+
+@dataclass
+class Run:
+    """A disk under a script, with what it has printed, and its exit status so far."""
+
+    device: Device
+    printed: list = field(default_factory=list)
+    status: int = 0
+
+    def line(self, count, line):
+        try:
+            lines, status = self._executed(line)
+        except Fault as fault:
+            lines, status = [str(fault)], STATUS_OF_A_FAULT
+        if lines:
+            self.printed += [f"line {count}: {lines[0]}", *lines[1:]]
+        self.status = self.status or status
+
+    def _executed(self, line):
+        """What the line prints, and its status: the first row of the table in SCRIPT, "Lines"."""
+        if len(line) > LONGEST_LINE:
+            raise Fault("too long")
+        line = line.removesuffix(b"\r")
+        found = line.decode("latin-1").replace("\t", " ").split(" ")
+        found = [word for word in found if word]
+        if not found or found[0].startswith("#"):
+            return [], 0
+        if BAD_BYTE.search(line):
+            raise Fault("bad byte")
+        if len(found) > MOST_WORDS:
+            raise Fault("too many words")
+        verb, *operands = found
+        if verb in VERBS:
+            return VERBS[verb](self.device, operands)
+        if len(verb) == 1 and verb in INITIATORS:
+            return tool(self.device, int(verb), operands)
+        raise Fault("unknown verb")
+
+
+def run(script, capacity, pool):
+    """All that a new disk prints of the script, with a last line of the exit status."""
+    running = Run(Device(capacity, pool))
+    lines = script.split(b"\n")
+    if not lines[-1]:
+        lines.pop()  # the last line ended with LF
+    for count, line in enumerate(lines, 1):
+        running.line(count, line)
+    return "".join(text + "\n" for text in [*running.printed, f"status {running.status}"])
+
+
+# ------------------------------------------------------------------------------------------- verbs
+
+
+def raw(device, operands):
+    """raw I CDB [DATA]"""
+    if len(operands) not in (2, 3):
+        raise Fault("usage")
+    initiator = initiator_of(operands[0])
+    sent = [hex_bytes(word) for word in operands[1:]]
+    if None in sent:
+        raise Fault("hex")
+    cdb, data_out = (sent + [b""])[:2]
+    return replied(device.execute(initiator, cdb, data_out), hex_lines)
+
+
+def fill(device, operands):
+    """fill I LBA COUNT BYTE: a WRITE(16) of equal bytes (SBC-3, 5.35)"""
+    if len(operands) != 4:
+        raise Fault("usage")
+    initiator = initiator_of(operands[0])
+    most = (2**64 - 1, 256, 255)
+    numbers = [number(word, 0, limit) for word, limit in zip(operands[1:], most)]
+    if None in numbers:
+        raise Fault("number")
+    address, count, byte = numbers
+    cdb = b"\x8a\0" + address.to_bytes(8, "big") + count.to_bytes(4, "big") + b"\0\0"
+    return replied(device.execute(initiator, cdb, bytes([byte]) * (512 * count)), hex_lines)
+
+
+def show(_device, operands):
+    """show KIND HEX"""
+    if len(operands) != 2:
+        raise Fault("usage")
+    kind, word = operands
+    if kind not in texts.KINDS:
+        raise Fault("kind")
+    data = hex_bytes(word)
+    if data is None:
+        raise Fault("hex")
+    return ["SHOWN", *texts.show(kind, data)], 0
+
+
+def power(device, operands):
+    """power: a power cycle"""
+    if operands:
+        raise Fault("usage")
+    device.power_cycle()
+    return ["POWER"], 0
+
+
+def tool(device, initiator, operands):
+    """I TOOL OPTIONS"""
+    plan = tools.plan(operands)
+    if plan.fault:
+        raise Fault(plan.fault)
+    return replied(device.execute(initiator, plan.cdb, plan.data_out), plan.show)
+
+
+VERBS = {"raw": raw, "fill": fill, "show": show, "power": power}
+
+
+def initiator_of(word):
+    if len(word) != 1 or word not in INITIATORS:
+        raise Fault("initiator")
+    return int(word)
+
+
+# ----------------------------------------------------------------------------------------- replies
+
+
+def replied(reply, shown):
+    """The lines of a reply and its status (docs/SCRIPT.md, "Replies", "Exit status")."""
+    lines = [STATUS_NAMES[reply.status]]
+    if reply.status == GOOD:
+        return lines + shown(reply.data_in), 0
+    if reply.status == RESERVATION_CONFLICT:
+        return lines, 24
+    return [*lines, sense.line(reply.sense)], status_of(sense.read(reply.sense))
+
+
+def status_of(found):
+    """The exit statuses of sg3_utils(8), for the sense keys that the disk returns."""
+    of_codes = {
+        sense.INVALID_COMMAND_OPERATION_CODE: 9,
+        sense.LOGICAL_BLOCK_ADDRESS_OUT_OF_RANGE: 22,
+    }
+    of_keys = {sense.UNIT_ATTENTION: 6, sense.DATA_PROTECT: 7, sense.ABORTED_COMMAND: 11}
+    if found.key == sense.ILLEGAL_REQUEST:
+        return of_codes.get(found.code, 5)
+    return of_keys.get(found.key, 99)

@@ -1,0 +1,41 @@
+"""The texts of answers (docs/SCRIPT.md, "Texts of answers" and "show KIND HEX").
+
+`show(kind, data)` returns the lines of a text, with their leading blanks. The status of a line
+`show` without a fault is 0, whatever the bytes are. Each file of this folder has the kinds of one
+command, as tables of fields. `fields.py` says how a field is written, and `answer.py` how a text
+ends.
+"""
+
+import sense
+
+from . import inquiry, modes, provisioning, reservations, vital
+from .answer import Ended, Truncated
+
+KINDS = {
+    "inq": inquiry.text,
+    "vpd": vital.text,
+    "modes6": modes.text_6,
+    "modes10": modes.text_10,
+    "lba": provisioning.text,
+    "keys": reservations.keys,
+    "resv": reservations.reservation,
+    "caps": reservations.capabilities,
+    "full": reservations.full_status,
+    "sense": lambda data: [sense.line(data)],
+}
+
+# What only a tool shows: sg_get_lba_status --brief.
+TOOL_KINDS = KINDS | {"lba-brief": provisioning.brief}
+
+
+def show(kind, data):
+    """The lines of an answer's text."""
+    shown = []
+    try:
+        for line in TOOL_KINDS[kind](data):
+            shown.append(line)
+    except Ended:
+        pass
+    except Truncated:
+        shown.append("  truncated")
+    return shown
