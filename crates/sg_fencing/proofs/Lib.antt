@@ -29,4 +29,5 @@ mod OutsiderRunLemmas
 mod UnseenRunLemmas
 mod FencedRunLemmas
 mod PowerLemmas
+mod PersistLemmas
 mod PoweredRunLemmas

@@ -93,6 +93,32 @@ module _ (state : ReservationState) (j : ℕ) (unknown : is_registered state.reg
 
 -- ---- The command
 
+-- What is true of each refusal, and of each REGISTER and REGISTER AND IGNORE EXISTING KEY with a list, is
+-- true of the command with that list.
+module _ (state : State) (j : ℕ) (list : OutList) (P : Step → Type 0)
+    (refusing : (refusal : Refusal) → P (refused_step state j refusal))
+    (registering : (action : OutAction) (scope_type : ℕ) → is_registering action ≡ true
+    → P (step_by state j (ChangeReservations action scope_type list))) where
+  by-command : (command : Command) (data_out : List ℕ) (operation : Operation)
+      → (demands state.disk.capacity command data_out).operation ≡ Ok operation
+      → registering_list (Ok command) data_out ≡ Some list → P (step_by state j operation)
+  by-command (PersistentReserveOut c) data_out operation e h =
+      let bytes = first_bytes c.list_length data_out in
+      let parts = cond_some (is_registering c.action) (out_list bytes) list h in
+      let asked = listed c.action c.scope_type (length bytes == list_length) (out_list bytes)
+      (CheckCondition ParameterListLengthError) operation e in
+      subst (λ (o : Operation). P (step_by state j o))
+      (ap (λ (l : OutList). ChangeReservations c.action c.scope_type l) (sym parts.1) ∙ asked)
+      (registering c.action c.scope_type parts.0)
+  by-command _ data_out operation e h = cc
+
+  pub with-list : (cdb data_out : List ℕ) → registering_list (command_of cdb) data_out ≡ Some list
+      → P (step state j cdb data_out)
+  with-list cdb data_out h =
+      lifted state j cdb data_out P refusing
+      (λ operation k. by-command k.command data_out operation k.operation_is
+      (sym (ap (λ (p : Result Command CdbFault). registering_list p data_out) k.command_is) ∙ h))
+
 -- What is true after each change that adds the registration of j is true after j's command, if j is
 -- registered then.
 module _ (state : State) (j : ℕ) (unknown : is_registrant state j ≡ false) (list : OutList)
@@ -132,26 +158,10 @@ module _ (state : State) (j : ℕ) (unknown : is_registrant state j ≡ false) (
         after-outcome (outcome state.reservations j action scope_type list)
         (outcome-adds state.reservations j unknown list action scope_type h) (follows action scope_type)
 
-    after-command : (command : Command) (data_out : List ℕ) (operation : Operation)
-        → (demands state.disk.capacity command data_out).operation ≡ Ok operation
-        → registering_list (Ok command) data_out ≡ Some list
-        → IfKnown (step_by state j operation).state
-    after-command (PersistentReserveOut c) data_out operation e h =
-        let bytes = first_bytes c.list_length data_out in
-        let parts = cond_some (is_registering c.action) (out_list bytes) list h in
-        let asked = listed c.action c.scope_type (length bytes == list_length) (out_list bytes)
-        (CheckCondition ParameterListLengthError) operation e in
-        subst (λ (o : Operation). IfKnown (step_by state j o).state)
-        (ap (λ (l : OutList). ChangeReservations c.action c.scope_type l) (sym parts.1) ∙ asked)
-        (after-registering c.action c.scope_type parts.0)
-    after-command _ data_out operation e h = cc
-
     if-known : (cdb data_out : List ℕ) → registering_list (command_of cdb) data_out ≡ Some list
         → IfKnown (step state j cdb data_out).state
-    if-known cdb data_out h =
-        lifted state j cdb data_out (λ (done : Step). IfKnown done.state) after-refusal
-        (λ operation k. after-command k.command data_out operation k.operation_is
-        (sym (ap (λ (p : Result Command CdbFault). registering_list p data_out) k.command_is) ∙ h))
+    if-known =
+        with-list state j list (λ (done : Step). IfKnown done.state) after-refusal after-registering
 
 module _ (state : State) (j : ℕ) (unknown : is_registrant state j ≡ false) (list : OutList) where
   -- it was not sent with the key zero

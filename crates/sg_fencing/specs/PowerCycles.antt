@@ -1,9 +1,11 @@
 -- Power cycles, in a user's words: what is left, what is reported, and that fencing outlives them.
-use Rattle.std.specs.Prelude.{◌≡◌, ◌<◌, ℕ, Bool, true, false, List, [], ◌∷◌, Some, None}
+use Rattle.std.specs.Prelude.{◌≡◌, ◌<◌, ◌≤◌, ◌==◌, ℕ, ◌+◌, Bool, true, false, not, ◌||◌}
+use Rattle.std.specs.Prelude.{List, [], ◌∷◌, Some, None}
 use Rattle.std.specs.Prelude.{filter, slice_get, take}
-use Rattle.sg_wire.specs.Layout.{class_of}
+use Rattle.sg_wire.specs.Layout.{class_of, command_of}
 use Rattle.sg_wire.specs.declared.command.Class.TheVariants.{Writes}
 use Rattle.sg_wire.specs.Initiator.{initiator_count}
+use Rattle.sg_wire.specs.declared.out_list.OutList.{OutList}
 use Rattle.sg_units.specs.Attentions.{pending_for}
 use Rattle.sg_units.specs.declared.unit_attention.UnitAttention.TheVariants.{PowerOn}
 use Rattle.sg_target.specs.PowerCycle.{after_power_cycle}
@@ -16,6 +18,7 @@ use Rattle.sg_target.specs.declared.reply.Status.TheVariants.{Good}
 use Rattle.sg_fencing.specs.ChosenAnswers.{answers_among}
 use Rattle.sg_fencing.specs.Fencing.{holds_alone, is_compared, is_from, view_of}
 use Rattle.sg_fencing.specs.Registrants.{IsNeverGranted, is_registrant, is_reserved}
+use Rattle.sg_fencing.specs.Registrants.{registering_list}
 
 -- ---- One power cycle
 
@@ -68,6 +71,31 @@ TwoAreOne =
     (state : State) → after_power_cycle (after_power_cycle state) ≡ after_power_cycle state
 
 -- ---- Lists of events
+
+-- A REGISTER or a REGISTER AND IGNORE EXISTING KEY counts if it ends with GOOD, and increments PRGENERATION
+-- then. It does not count if its initiator is not registered and sends the key zero.
+pub record Counts (state : State) (call : Call) (list : OutList) : Type 0 where
+  pub sent : registering_list (command_of call.cdb.now) call.data_out.now ≡ Some list
+  pub good : (step_of state call).answer.status ≡ Good
+  pub acts : (is_registrant state call.initiator || not (list.service_action_key == 0)) ≡ true
+
+-- None of the events from an index on counts.
+abbrev pub NoneCountsFrom : (index : ℕ) → State → List Event → Type 0
+NoneCountsFrom index state events =
+    (n : ℕ) (call : Call) (list : OutList) → index ≤ n → slice_get events n ≡ Some (event.Call call)
+    → Counts (state_after_events state (take n events)) call list → ⊥
+
+-- After commands and power cycles in any order, registrations and reservation persist through a power
+-- loss exactly if the last command that counts set APTPL (SPC-4, 6.16.3). If none counts, they persist
+-- exactly if they did before.
+pub record TheLastRegisterDecides : Type 0 where
+  pub last : (state : State) (events : List Event) (n : ℕ) (call : Call) (list : OutList)
+      → slice_get events n ≡ Some (event.Call call)
+      → Counts (state_after_events state (take n events)) call list
+      → NoneCountsFrom (n + 1) state events
+      → persists (state_after_events state events) ≡ list.aptpl
+  pub none : (state : State) (events : List Event) → NoneCountsFrom 0 state events
+      → persists (state_after_events state events) ≡ persists state
 
 -- An initiator was not registered, and the disk has granted it no registration since. Then, after
 -- commands and power cycles in any order, it writes nothing while a reservation is held: none of its

@@ -11,6 +11,7 @@ ghost use Rattle.sg_fencing.specs.Laws.{RefusedReturnsNothing};
 ghost use Rattle.sg_fencing.specs.PowerCycles.{BlocksAndSavedPagesStay, FencedOffThroughPowerCycles};
 ghost use Rattle.sg_fencing.specs.PowerCycles.{HolderIsAsIfAloneThroughPowerCycles, OthersAreGone};
 ghost use Rattle.sg_fencing.specs.PowerCycles.{PersistentOnesStay, PowerOnIsPendingForEach, TwoAreOne};
+ghost use Rattle.sg_fencing.specs.PowerCycles.{TheLastRegisterDecides};
 ghost use Rattle.sg_fencing.specs.Registrants.{FencedOffAreKeptOut, FencedOffLeaveTheView};
 ghost use Rattle.sg_fencing.specs.Registrants.{FencedOffReadNothing, FencedOffSeeNoBlock};
 ghost use Rattle.sg_fencing.specs.Registrants.{FencedOffWriteNothing, NoBlockIsSeenOverAList};
@@ -257,6 +258,14 @@ pub fn persistent_reservations_outlive_power()
 pub fn other_reservations_end_with_power()
     ensures { OthersAreGone }
 {}
+
+/// After commands and power cycles in any order, registrations and reservation persist through a power
+/// loss exactly if the last REGISTER or REGISTER AND IGNORE EXISTING KEY that counts set APTPL.
+pub fn the_last_register_decides()
+    ensures { TheLastRegisterDecides }
+{
+    refused_changes_nothing();
+}
 
 /// After a power cycle one unit attention is pending for each initiator, POWER ON, and none that was
 /// pending before.

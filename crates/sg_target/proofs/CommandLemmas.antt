@@ -16,6 +16,19 @@ use Rattle.sg_wire.specs.declared.extent.Extent.{Extent}
 use Rattle.sg_wire.specs.declared.unmap_list.UnmapListFault.{UnmapListFault}
 use Rattle.sg_store.specs.Disk.{Contents, block, block_at, lies_in, zero_block}
 use Rattle.sg_store.specs.LbaStatus.{status_at}
+use Rattle.sg_store.specs.Disk.{Mapping, need}
+use Rattle.sg_store.specs.Disk.Mapping.{Data}
+use Rattle.sg_store.specs.LbaStatus.{status_in}
+use Rattle.sg_store.specs.Laws.{RemappingTakesWhatIsNeeded}
+use Rattle.std.specs.FinMap.{contains_key, get, len}
+use Rattle.std.proofs.Common.{zero, suc, ap₂, not, is_some}
+use Rattle.sg_store.proofs.NeedLemmas.{need-more, need-none}
+use Rattle.sg_target.specs.Checks.{checked_cdb}
+use Rattle.sg_target.specs.CommandLaws.{WritesOverUsedAddressesHaveSpace}
+use Rattle.sg_target.specs.Refusal.{checked_next}
+use Rattle.sg_target.specs.Step.{executed_or_refused}
+use Rattle.sg_target.proofs.LiftLemmas.{asked}
+use Rattle.sg_target.proofs.Space.{space-left}
 use Rattle.sg_store.specs.Laws.{AnchorsEachAddress, AnchorZeroesEachBlock, FillMapsEachAddress}
 use Rattle.sg_store.specs.Laws.{FillsEachBlock, MapsEachAddress, UnmapsEachAddress, UnmapsEachBlock}
 use Rattle.sg_store.specs.Laws.{WritesEachBlock}
@@ -173,6 +186,66 @@ writes-leave maps puts state i cdb data_out out is good =
       rest = refl;
     })
 
+-- ---- A WRITE over addresses that have a block of the pool
+
+has-slot : (found : Option Mapping) → (status_in found ≡ Deallocated → ⊥) → is_some found ≡ true
+has-slot (Some mapping) h = refl
+has-slot None h = absurd (h refl)
+
+none-needed : (contents : Contents) (lba count : ℕ)
+    → ((i : ℕ) → i < count → contains_key contents (lba + i) ≡ true) → need contents lba count ≡ 0
+none-needed contents lba zero h = need-none contents lba
+none-needed contents lba (suc count) h =
+    let e : suc count ≡ count + 1 = omega arith in
+    rw (e, need-more contents lba count) (
+    ap₂ (λ (x : ℕ) (b : Bool). x + cond (not b) 1 0)
+    (none-needed contents lba count (λ i lt. h i (omega arith))) (h count (omega arith)))
+
+lies : (lba count i : ℕ) → i < count → lies_in lba count (lba + i) ≡ true
+lies lba count i lt = grind (arith, nat_tests)
+
+module _ (state : State) (i : ℕ) (cdb data_out : List ℕ) (effect : Effect) where
+  -- the operation that has passed the checks
+  record Passed : Type 0 where
+    operation : Operation
+    asked_is : Asked state i cdb data_out operation
+    effect_is : effect_of state i operation ≡ Ok effect
+
+  passed : (checked : Result Operation Refusal) → checked_cdb state i cdb data_out ≡ checked
+      → checked_next checked (effect_of state i) ≡ Ok effect → Passed
+  passed (Ok operation) e f = record {
+    operation = operation;
+    asked_is = asked state i cdb data_out operation e;
+    effect_is = f;
+  }
+  passed (Err refusal) e f = cc
+
+pub used-have-space : RemappingTakesWhatIsNeeded → WritesOverUsedAddressesHaveSpace
+used-have-space law state i cdb data_out out effect w is used e =
+    let p = passed state i cdb data_out effect (checked_cdb state i cdb data_out) refl e in
+    let contents = state.disk.contents in
+    let fields = blocks_out out data_out in
+    let known = write-asked state.disk.capacity p.asked_is.command data_out p.operation out
+    p.asked_is.operation_is (ap blocks_to_write (sym p.asked_is.command_is) ∙ is) in
+    let its : writing state fields ≡ effect =
+    same-effect (effect_of state i (operation.Write fields)) (writing state fields) effect refl
+    (ap (effect_of state i) known ∙ p.effect_is) in
+    let none : need contents out.lba out.count ≡ 0 =
+    none-needed contents out.lba out.count
+    (λ index lt. has-slot (get contents (out.lba + index))
+    (used (out.lba + index) (lies out.lba out.count index lt))) in
+    let after = (writing state fields).after.disk in
+    let same : len after.contents ≡ len contents + need contents out.lba out.count =
+    law.taken contents out.lba out.count (λ index. Data (block_at fields.bytes index)) in
+    let fits : len after.contents ≤ after.pool =
+    omega (arith, same, none, w.used) in
+    ap (λ (found : Result Effect Refusal). (outcome state i found).answer.status) e
+    ∙ (ap (λ (x : Effect). (executed_or_refused state i x).answer.status) (sym its)
+    ∙ ap
+    (λ (refusal : Option Refusal).
+    (unless_no_space state i (writing state fields) refusal).answer.status)
+    (space-left after fits))
+
 -- ---- UNMAP
 
 record Listed (anchor : Bool) (found : Result (List Extent) UnmapListFault) (o : Operation) : Type 0 where
@@ -282,12 +355,12 @@ zeroed : (state : State) (contents : Contents) (e : Extent) (status : Provisioni
     → ((address : ℕ) → block contents address
     ≡ cond (lies_in e.lba e.count address) zero_block (block state.disk.contents address))
     → Changes state (with_contents state contents) (lies_in e.lba e.count) status (λ address. given)
-zeroed state contents e status given zero statuses blocks = record {
+zeroed state contents e status given blank statuses blocks = record {
   statuses = statuses;
   blocks =
       λ address.
       blocks address
-      ∙ ap (λ z. cond (lies_in e.lba e.count address) z (block state.disk.contents address)) zero;
+      ∙ ap (λ z. cond (lies_in e.lba e.count address) z (block state.disk.contents address)) blank;
   rest = refl;
 }
 
@@ -303,19 +376,19 @@ module _ (fills : FillMapsEachAddress) (puts : FillsEachBlock) (unmapped : Unmap
       → (unmapping_it ≡ true → zero_block ≡ given)
       → SameEffect state i (cond unmapping_it (unmap_extent anchor e) (operation.Fill e given)) e
       (cond unmapping_it (unmapped_status anchor) Mapped) given
-  by-flags state i true true e given zero = record {
+  by-flags state i true true e given blank = record {
     its = anchoring state (e ∷ []);
     is = refl;
-    changes = zeroed state _ e Anchored given (zero refl)
+    changes = zeroed state _ e Anchored given (blank refl)
         (anchored state.disk.contents e.lba e.count) (blanks state.disk.contents e.lba e.count);
   }
-  by-flags state i false true e given zero = record {
+  by-flags state i false true e given blank = record {
     its = unmapping state (e ∷ []);
     is = refl;
-    changes = zeroed state _ e Deallocated given (zero refl)
+    changes = zeroed state _ e Deallocated given (blank refl)
         (unmapped state.disk.contents e.lba e.count) (zeroes state.disk.contents e.lba e.count);
   }
-  by-flags state i anchor false e given zero = record {
+  by-flags state i anchor false e given blank = record {
     its = filling state e given;
     is = refl;
     changes = record {

@@ -71,7 +71,7 @@ parsed-ok state (Ok command) data_out operation e =
     record { command = command; is = refl; accepted = passed.none; asks = passed.is }
 
 module _ (state : State) (i : ℕ) (cdb data_out : List ℕ) where
-  asked : (operation : Operation) → checked_cdb state i cdb data_out ≡ Ok operation
+  pub asked : (operation : Operation) → checked_cdb state i cdb data_out ≡ Ok operation
       → Asked state i cdb data_out operation
   unfolding checked_cdb
   asked operation e =

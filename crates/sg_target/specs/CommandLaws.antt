@@ -1,5 +1,5 @@
 -- Laws of the commands on blocks: what `step` returns and leaves if one of them ends with GOOD.
-use Rattle.std.specs.Prelude.{◌≡◌, ℕ, ◌-◌, ◌==◌, ◌&&◌, List, Bool, if◌then◌else◌}
+use Rattle.std.specs.Prelude.{◌≡◌, ℕ, ◌-◌, ◌==◌, ◌&&◌, List, Bool, true, if◌then◌else◌}
 use Rattle.std.specs.Prelude.{Option, Some, None, Result, Ok}
 use Rattle.std.specs.List.{list_all}
 use Rattle.sg_wire.specs.CutAnswer.{first_bytes}
@@ -15,9 +15,10 @@ use Rattle.sg_store.specs.LbaStatus.{status_at}
 use Rattle.sg_store.specs.declared.lba_status.ProvisioningStatus.{ProvisioningStatus}
 use Rattle.sg_store.specs.declared.lba_status.ProvisioningStatus.TheVariants.{Mapped, Deallocated}
 use Rattle.sg_store.specs.declared.lba_status.ProvisioningStatus.TheVariants.{Anchored}
-use Rattle.sg_target.specs.Effect.{with_contents}
+use Rattle.sg_target.specs.Checks.{checked_effect}
+use Rattle.sg_target.specs.Effect.{Effect, with_contents}
 use Rattle.sg_target.specs.Laws.{lies_in_any}
-use Rattle.sg_target.specs.State.{State}
+use Rattle.sg_target.specs.State.{IsWithinLimits, State}
 use Rattle.sg_target.specs.Step.{Step, step}
 use Rattle.sg_target.specs.declared.reply.Status.TheVariants.{Good}
 
@@ -76,6 +77,17 @@ WritesLeaveTheirData =
     → blocks_to_write (command_of cdb) ≡ Some out → EndsWithGood state initiator cdb data_out
     → Changes state (step state initiator cdb data_out).state (lies_in out.lba out.count) Mapped
     (λ address. block_at data_out (address - out.lba))
+
+-- A WRITE whose addresses all have a block of the pool, mapped or anchored, takes no more of the pool
+-- (SBC-3, 4.7.4). So it ends with GOOD if it passes the checks before the check for space.
+abbrev pub WritesOverUsedAddressesHaveSpace : Type 0
+WritesOverUsedAddressesHaveSpace =
+    (state : State) (initiator : ℕ) (cdb data_out : List ℕ) (out : Extent) (effect : Effect)
+    → IsWithinLimits state → blocks_to_write (command_of cdb) ≡ Some out
+    → ((address : ℕ) → lies_in out.lba out.count address ≡ true
+    → status_at state.disk.contents address ≡ Deallocated → ⊥)
+    → checked_effect state initiator cdb data_out ≡ Ok effect
+    → EndsWithGood state initiator cdb data_out
 
 -- ---- UNMAP (SBC-3, 5.28)
 

@@ -2,6 +2,7 @@
 //! whose laws it follows from.
 ghost use Rattle.sg_target.specs.CommandLaws.{ReadsReturnTheirBlocks, UnmapsFollowTheirLists};
 ghost use Rattle.sg_target.specs.CommandLaws.{WriteSamesLeaveTheirBlock, WritesLeaveTheirData};
+ghost use Rattle.sg_target.specs.CommandLaws.{WritesOverUsedAddressesHaveSpace};
 ghost use Rattle.sg_target.specs.Laws.{AnchorsEachExtent, LimitsAreKept, UnmapsEachExtent};
 
 /// No command and no power cycle takes a table of the disk past its limit.
@@ -45,6 +46,14 @@ pub fn writes_leave_their_data()
 {
     sg_store::laws::a_write_maps_the_addresses_of_its_range();
     sg_store::laws::a_write_replaces_the_blocks_of_its_range();
+}
+
+/// A WRITE whose addresses are all mapped or anchored ends with GOOD if it passes the checks before the
+/// check for space. So the disk never refuses it for space.
+pub fn writes_over_used_addresses_have_space()
+    ensures { WritesOverUsedAddressesHaveSpace }
+{
+    sg_store::laws::remapping_takes_what_is_needed();
 }
 
 /// After an UNMAP that ends with GOOD each address that lies in some extent of its parameter list is
