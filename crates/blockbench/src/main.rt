@@ -1,10 +1,11 @@
-//! `blockbench MAPPED READS WRITES`: block commands on a large disk, for `bench/blocks` to measure from
-//! outside.
+//! `blockbench MAPPED READS WRITES`: block commands on a large disk. `bench/blocks` measures them
+//! from outside.
 //!
-//! A disk of 2^30 blocks with a pool of 65,536 gets MAPPED blocks, one WRITE each, at scattered addresses
-//! of a range of which they fill half. Then come READS of 8 blocks at scattered addresses of that range, and
-//! WRITES of one block at addresses of it that are not mapped yet, as long as there are some. The numbers of
-//! commands that were good are printed.
+//! A disk of 2^30 blocks with a pool of 65,536 gets MAPPED blocks, one WRITE each, at scattered
+//! addresses of a range. They fill half of the range. Then come READS of 8 blocks at scattered
+//! addresses of that range, and WRITES of one block. The WRITES go to addresses of the range that
+//! are not mapped yet, as long as there are some. The program prints the numbers of commands that
+//! were good.
 #![tactic(auto)]
 
 use sg_pages::Identity;
@@ -21,7 +22,8 @@ const BLOCKS: u64 = 1 << 30;
 
 const POOL: u32 = 65_536;
 
-/// A prime that is no divisor of a range's length, so that its multiples meet each address of the range once.
+/// A prime that is no divisor of a range's length, so that its multiples meet each address of the
+/// range once.
 const STRIDE: u64 = 1_000_003;
 
 /// The blocks of each READ.
@@ -49,7 +51,7 @@ fn scattered(index: u64, range: u64) -> u64 {
     }
 }
 
-/// Sends a command, and counts it where it is good.
+/// Sends a command, and counts it if it is good.
 fn send<S: Store>(
     target: &mut Target<S>,
     initiator: Initiator,

@@ -1,5 +1,5 @@
 //! `both_stores`: 10,000 commands from a fixed seed over both stores. The replies have to be equal,
-//! but for what the stores count.
+//! except for the stores' counts.
 #![tactic(auto)]
 
 mod random;
@@ -32,7 +32,7 @@ const LONGEST_LIST: usize = 4_096;
 /// The bytes of the parameter list of UNMAP with one descriptor.
 const EXTENT_LIST: usize = 24;
 
-/// The bytes of that of PERSISTENT RESERVE OUT.
+/// The bytes of the parameter list of PERSISTENT RESERVE OUT.
 const KEY_LIST: usize = 24;
 
 /// The same disk over each store, with the buffers of their data-in.
@@ -44,7 +44,7 @@ struct Disks {
     of_runs: [u8; BUFFER_LENGTH],
 }
 
-/// How many replies are equal, and how many of these have each status.
+/// The number of replies that are equal, and how many of these have each status.
 #[derive(Clone, Copy, Default)]
 struct Tally {
     equal: u64,
@@ -64,7 +64,7 @@ impl Disks {
         })
     }
 
-    /// Executes a command over both, and returns the status where the replies are equal.
+    /// Executes a command over both, and returns the status if the replies are equal.
     fn execute(&mut self, initiator: Initiator, cdb: &[u8], data_out: &[u8]) -> Option<Status> {
         let plain = self
             .plain
@@ -78,7 +78,7 @@ impl Disks {
         if are_equal { Some(runs.status) } else { None }
     }
 
-    /// A power cycle of both.
+    /// Takes both through a power cycle.
     fn power_cycle(&mut self) {
         self.plain.power_cycle();
         self.runs.power_cycle();
@@ -106,7 +106,7 @@ impl Tally {
     }
 }
 
-/// A command of the next kind, with the length of its data-out, whose bytes are written.
+/// Makes a command of the next kind, and writes its data-out. Returns the data-out's length too.
 fn next_command(
     random: &mut Random,
     data_out: &mut [u8; LONGEST_LIST],
@@ -176,7 +176,7 @@ fn reserve_out(random: &mut Random) -> Option<Command> {
     }))
 }
 
-/// The parameter list of UNMAP with one descriptor (SBC-3, 5.28.2).
+/// Writes the parameter list of UNMAP with one descriptor (SBC-3, 5.28.2).
 fn list_extent(random: &mut Random, list: &mut [u8; LONGEST_LIST]) {
     list.fill(0);
     list[1] = 22;
@@ -185,7 +185,7 @@ fn list_extent(random: &mut Random, list: &mut [u8; LONGEST_LIST]) {
     list[19] = random.byte() % 32;
 }
 
-/// The parameter list of PERSISTENT RESERVE OUT with two small keys (SPC-4, 6.16.3).
+/// Writes the parameter list of PERSISTENT RESERVE OUT with two small keys (SPC-4, 6.16.3).
 fn list_keys(random: &mut Random, list: &mut [u8; LONGEST_LIST]) {
     list.fill(0);
     list[7] = random.byte() % 3;

@@ -1,9 +1,9 @@
-//! `callbench BLOCKS CALLS`: calls of `Target::execute`, for `bench/call` to measure from outside, beside
-//! the same calls from C.
+//! `callbench BLOCKS CALLS`: calls of `Target::execute`. `bench/call` measures them from outside,
+//! beside the same calls from C.
 //!
-//! A disk of 4,096 blocks with a pool of 64 gets 64 blocks by one WRITE. Then come CALLS of READ(10) of
-//! the first BLOCKS blocks, or of TEST UNIT READY where BLOCKS is 0. The number of these that were good
-//! is printed.
+//! A disk of 4,096 blocks with a pool of 64 gets 64 blocks by one WRITE. Then come CALLS of
+//! READ(10) of the first BLOCKS blocks; if BLOCKS is 0, they are TEST UNIT READY. The program
+//! prints the number of these that were good.
 #![tactic(auto)]
 
 use sg_block_map::BlockMap;
@@ -22,7 +22,7 @@ const POOL: u32 = 64;
 
 const POOL_LENGTH: usize = 64 * BLOCK_LENGTH;
 
-/// What is called, and how many times.
+/// The call, and the number of times that it is made.
 #[derive(Clone, Copy)]
 struct Load {
     blocks: u16,
@@ -50,7 +50,7 @@ fn command(blocks: u16) -> Command {
     }
 }
 
-/// A disk of which the first blocks are mapped, as many as the pool has.
+/// A disk whose first blocks are mapped, as many as the pool has.
 fn written_disk(
     rt: &HostRuntime,
     initiator: Initiator,

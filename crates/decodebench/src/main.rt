@@ -1,9 +1,9 @@
-//! `decodebench ANSWER COUNT`: decodes an answer COUNT times to standard output, for `bench/decode` to
-//! measure from outside. ANSWER is one of
+//! `decodebench ANSWER COUNT`: decodes an answer COUNT times to standard output. `bench/decode`
+//! measures it from outside. ANSWER is one of
 //!
 //! - `inquiry`, standard INQUIRY data of 36 bytes;
 //! - `lba-status`, GET LBA STATUS parameter data with 512 descriptors;
-//! - `modes`, what MODE SENSE(6) returns of all pages of the disk;
+//! - `modes`, the answer of MODE SENSE(6) to a request for all pages of the disk;
 //! - `hex`, the bytes of `lba-status` in hex lines.
 #![tactic(auto)]
 
@@ -50,7 +50,7 @@ fn read_words(rt: &HostRuntime) -> Option<(Kind, u64)> {
     Some((kind, args.next()?.parse().ok()?))
 }
 
-/// GET LBA STATUS parameter data: 512 blocks, every second of them mapped.
+/// GET LBA STATUS parameter data: 512 blocks, every second one mapped.
 fn lba_status(alloc: Global) -> io::Result<Vec<u8>> {
     let mut data = Vec::new(alloc);
     data.extend_from_slice(&[0x00, 0x00, 0x20, 0x04, 0, 0, 0, 0])?;

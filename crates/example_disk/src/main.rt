@@ -1,4 +1,4 @@
-//! A disk in a program: a block is written and read again, and what the disk answers is printed.
+//! A disk in a program: it writes a block, reads it again, and prints the disk's answers.
 #![tactic(auto)]
 
 use sg_blocks::{BLOCK_LENGTH, BlockMap};
@@ -26,7 +26,7 @@ fn read_block(lba: u32) -> CdbBytes {
     command.write()
 }
 
-/// Prints the status of a reply and, where it has sense data, the sense key and the additional sense
+/// Prints the status of a reply and, if it has sense data, the sense key and the additional sense
 /// code.
 fn print_reply(rt: &HostRuntime, name: &str, reply: &Reply) {
     let status = reply.status.code();

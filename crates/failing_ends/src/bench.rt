@@ -1,4 +1,4 @@
-// A run of a script, and what it has to leave.
+// A run of a script, and the outcome that it has to have.
 use crate::ends::{Pace, Pieces, Sink};
 use sg_pages::Identity;
 use sg_plain_map::PlainMap;
@@ -16,7 +16,7 @@ pub(crate) struct Bench {
     buf: [u8; BUFFER_LENGTH],
 }
 
-/// What a run left.
+/// The outcome of a run.
 #[derive(Drop)]
 pub(crate) struct Outcome {
     result: Result<u8, RunFault>,
@@ -26,19 +26,20 @@ pub(crate) struct Outcome {
     calls_after: usize,
 }
 
-/// What a run has to leave.
+/// The outcome that a run has to have.
 #[derive(Clone, Copy)]
 pub(crate) struct Wanted<'a> {
     pub(crate) result: Result<u8, RunFault>,
     pub(crate) text: &'a [u8],
-    /// How many of the first initiators have sent a command, so that they have no unit attention.
+    /// The number of the first initiators that have sent a command, so that they have no unit
+    /// attention.
     pub(crate) sent: usize,
-    /// How many calls of the reader there are, where that is known.
+    /// The number of calls of the reader, if it is known.
     pub(crate) reads: Option<usize>,
 }
 
 impl Outcome {
-    /// Whether it is as wanted, and no call came after one that failed.
+    /// Whether the outcome is as wanted, and no call came after one that failed.
     pub(crate) fn is(&self, wanted: Wanted) -> bool {
         let are_reads = match wanted.reads {
             Some(reads) => self.reads == reads,
@@ -75,7 +76,8 @@ impl Bench {
         Ok(outcome)
     }
 
-    /// Runs what a reader delivers on a new disk. The calls of the reader are not counted.
+    /// Runs the bytes that a reader delivers on a new disk. The calls of the reader are not
+    /// counted.
     pub(crate) fn run_from<R: Read>(
         &mut self,
         reader: &mut R,
@@ -98,7 +100,7 @@ impl Bench {
         })
     }
 
-    /// How many of the first initiators have sent a command, as TEST UNIT READY from each shows.
+    /// Counts the first initiators that have sent a command, as TEST UNIT READY from each shows.
     fn count_sent(&mut self, target: &mut Target<PlainMap>) -> usize {
         let mut sent = 0;
         for number in 0..8 {
@@ -120,7 +122,7 @@ fn new_target(alloc: Global) -> Result<Target<PlainMap>, AllocError> {
     Target::new(alloc, config)
 }
 
-/// How many runs there were, and how many of them left what they have to.
+/// The number of runs, and how many of them had the outcome that they have to have.
 #[derive(Clone, Copy, Default)]
 pub(crate) struct Tally {
     pub(crate) runs: u64,

@@ -49,7 +49,7 @@ pub(crate) const KINDS: [ErrorKind; 42] = [
     ErrorKind::Uncategorized,
 ];
 
-/// How a call fails.
+/// The way a call fails.
 #[derive(Clone, Copy)]
 pub(crate) enum Failure {
     /// A write takes no byte.
@@ -57,7 +57,7 @@ pub(crate) enum Failure {
     Error(ErrorKind),
 }
 
-/// How many bytes pass at each call, and which call fails. The calls after that one succeed.
+/// The number of bytes that pass at each call, and the call that fails. The calls after it succeed.
 #[derive(Clone, Copy)]
 pub(crate) struct Pace {
     /// The most bytes of a call.
@@ -65,7 +65,7 @@ pub(crate) struct Pace {
     /// The bytes that pass before the call that fails.
     left: usize,
     failure: Option<Failure>,
-    /// How many calls there were, and how many of them after the one that failed.
+    /// The number of calls, and the number of calls after the failed call.
     pub(crate) calls: usize,
     pub(crate) calls_after: usize,
 }
@@ -90,7 +90,7 @@ impl Pace {
         pace
     }
 
-    /// How many of some bytes pass at the next call.
+    /// Counts the next call, and returns how many of some bytes pass.
     fn pass(&mut self, bytes: usize) -> io::Result<usize> {
         let has_failed = self.failure.is_none() && self.left == 0;
         self.calls = self.calls.saturating_add(1);
@@ -152,7 +152,7 @@ impl Read for Zeros {
     }
 }
 
-/// Keeps what it takes.
+/// Keeps the bytes that it takes.
 #[derive(Drop)]
 pub(crate) struct Sink {
     pub(crate) held: Vec<u8>,

@@ -1,17 +1,17 @@
 //! `failing_ends`: runs scripts whose reader or writer fails, at each call in turn and after each
-//! count of bytes, and scripts that are read and written in pieces.
+//! count of bytes. It also runs scripts that are read and written in pieces.
 //!
-//! - Where the reader fails, the lines that are whole before that are executed and printed, and no
-//!   other; the result is a read fault.
-//! - Where the writer fails, what it took is a prefix of the text, the line that it was writing is
-//!   executed, and no line after it; the result is a write fault.
+//! - If the reader fails, the lines that are whole before that are executed and printed, and no
+//!   other line is. The result is a read fault.
+//! - If the writer fails, the bytes that it took are a prefix of the text. The line that it was
+//!   writing is executed, and no line after it. The result is a write fault.
 //! - Every error is a fault, `Interrupted` too, and an end that failed is called no more.
 //! - In pieces of any length a script prints the same, and its end is read once.
 //! - A script may have 4,294,967,295 bytes. A byte more is a read fault.
 //!
-//! One session serves all runs: it keeps nothing of the run before, whichever way that ended. A
-//! line is printed for each loop, with the number of runs and how many of them are as expected.
-//! Expectations that are wrong on purpose show that the others are looked at.
+//! One session serves all runs: it keeps nothing of the run before, whichever way that ended. The
+//! program prints a line for each loop, with the number of runs and how many of them are as
+//! expected. Expectations that are wrong on purpose show that the others are looked at.
 #![tactic(auto)]
 
 mod bench;
@@ -29,10 +29,10 @@ use std::io::ErrorKind;
 use std::process::ExitCode;
 use std::rt::Runtime;
 
-/// The most bytes of a call, where each call in turn fails.
+/// The most bytes of a call, if each call in turn fails.
 const STEPS: [usize; 6] = [1, 2, 3, 7, 20, LONG_STEP];
 
-/// The most bytes of a read and of a write, where none fails.
+/// The most bytes of a read and of a write, if no call fails.
 const PIECES: [(usize, usize); 6] = [
     (LONG_STEP, LONG_STEP),
     (1, LONG_STEP),
@@ -45,10 +45,10 @@ const PIECES: [(usize, usize); 6] = [
 /// More bytes than a script or its text has.
 const LONG_STEP: usize = 1_000;
 
-/// In bytes.
+/// The length of the longest script, in bytes.
 const LONGEST_SCRIPT: u64 = 4_294_967_295;
 
-/// What has to be left where the reader fails after a number of bytes.
+/// The outcome to expect if the reader fails after a number of bytes.
 fn after_reads<'a>(script: &'a Script, step: usize, after: usize) -> Wanted<'a> {
     let executed = script.lines_in(after);
     Wanted {
@@ -59,7 +59,7 @@ fn after_reads<'a>(script: &'a Script, step: usize, after: usize) -> Wanted<'a> 
     }
 }
 
-/// What has to be left where the writer fails after a number of bytes.
+/// The outcome to expect if the writer fails after a number of bytes.
 fn after_writes<'a>(script: &'a Script, after: usize) -> Wanted<'a> {
     let text = script.text.as_bytes();
     Wanted {
@@ -70,12 +70,12 @@ fn after_writes<'a>(script: &'a Script, after: usize) -> Wanted<'a> {
     }
 }
 
-/// The calls that a number of bytes takes, and one more, which fails or finds the end.
+/// The number of calls for a number of bytes, and one more, which fails or finds the end.
 fn calls(bytes: usize, step: usize) -> usize {
     bytes.div_ceil(step.max(1)).saturating_add(1)
 }
 
-/// A reader that fails after a number of bytes, with an error of each of some kinds.
+/// Tries a reader that fails after a number of bytes, with an error of each of some kinds.
 fn try_reader(
     bench: &mut Bench,
     script: &Script,
@@ -93,7 +93,8 @@ fn try_reader(
     Ok(tally)
 }
 
-/// A writer that takes a number of bytes in all, and then none, or fails with each of some kinds.
+/// Tries a writer that takes a number of bytes in all, and then none, or fails with each of some
+/// kinds.
 fn try_writer(
     bench: &mut Bench,
     script: &Script,
@@ -114,7 +115,7 @@ fn try_writer(
     Ok(tally)
 }
 
-/// A reader of a step that fails after each count of bytes, the script's end among them.
+/// Tries a reader of a step that fails after each count of bytes, also at the script's end.
 fn try_readers(bench: &mut Bench, script: &Script, step: usize) -> io::Result<Tally> {
     let mut tally = Tally::default();
     for after in 0..=script.bytes.len() {
@@ -124,7 +125,7 @@ fn try_readers(bench: &mut Bench, script: &Script, step: usize) -> io::Result<Ta
     Ok(tally)
 }
 
-/// A writer of a step that fails after each count of bytes of the text.
+/// Tries a writer of a step that fails after each count of bytes of the text.
 fn try_writers(bench: &mut Bench, script: &Script, step: usize) -> io::Result<Tally> {
     let mut tally = Tally::default();
     for after in 0..script.text.len() {
@@ -151,7 +152,7 @@ fn is_whole(
     }))
 }
 
-/// Whole scripts, in pieces of a length.
+/// Tries whole scripts, in pieces of a length.
 fn try_whole(bench: &mut Bench, script: &Script, read: usize, write: usize) -> io::Result<Tally> {
     let mut tally = Tally::default();
     tally.count(is_whole(bench, script.whole(), read, write)?);
@@ -161,7 +162,8 @@ fn try_whole(bench: &mut Bench, script: &Script, read: usize, write: usize) -> i
     Ok(tally)
 }
 
-/// The longest script, a line of zeros that is too long to be executed, and one of a byte more.
+/// Tries the longest script, which is one line of zeros, too long to be executed, and a script of a
+/// byte more.
 fn try_longest(bench: &mut Bench) -> io::Result<Tally> {
     let longest = Wanted {
         result: Ok(1),
@@ -183,7 +185,7 @@ fn try_longest(bench: &mut Bench) -> io::Result<Tally> {
     Ok(tally)
 }
 
-/// Wrong expectations of a reader that fails after 30 bytes, within the second line.
+/// Tries wrong expectations of a reader that fails after 30 bytes, within the second line.
 fn try_wrong(bench: &mut Bench, script: &Script) -> io::Result<Tally> {
     let right = after_reads(script, LONG_STEP, 30);
     let mut result = right;
@@ -209,7 +211,7 @@ fn report(rt: &impl Print, what: &str, tally: Tally) -> io::Result<()> {
     println!(rt; "{what}: {as_expected} of {runs} runs as expected")
 }
 
-/// The failures at each call in turn.
+/// Tries the failures at each call in turn.
 fn try_each_call(rt: &impl Print, bench: &mut Bench, script: &Script) -> io::Result<Tally> {
     let mut all = Tally::default();
     for step in STEPS {
@@ -225,7 +227,7 @@ fn try_each_call(rt: &impl Print, bench: &mut Bench, script: &Script) -> io::Res
     Ok(all)
 }
 
-/// Runs without a failure, in pieces.
+/// Tries runs without a failure, in pieces.
 fn try_pieces(rt: &impl Print, bench: &mut Bench, script: &Script) -> io::Result<Tally> {
     let mut all = Tally::default();
     for (read, write) in PIECES {
@@ -237,7 +239,7 @@ fn try_pieces(rt: &impl Print, bench: &mut Bench, script: &Script) -> io::Result
     Ok(all)
 }
 
-/// The failures of each kind, and the longest script.
+/// Tries the failures of each kind, and the longest script.
 fn try_others(rt: &impl Print, bench: &mut Bench, script: &Script) -> io::Result<Tally> {
     let reader = try_reader(bench, script, LONG_STEP, 30, &KINDS)?;
     report(
@@ -256,7 +258,7 @@ fn try_others(rt: &impl Print, bench: &mut Bench, script: &Script) -> io::Result
     Ok(reader.plus(writer).plus(longest))
 }
 
-/// 0 where every run is as expected, and no wrong expectation is met.
+/// 0 if every run is as expected, and no wrong expectation is met.
 fn exit_status(all: Tally, wrong: Tally) -> u8
     ensures { result ≡ (if all.as_expected == all.runs && wrong.as_expected == 0 then 0 else 1) }
 {

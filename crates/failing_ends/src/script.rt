@@ -1,8 +1,9 @@
-// The scripts, with what they print.
+// The scripts, with the texts that they print.
 use std::alloc::{AllocError, Global};
 use std::fmt::Write;
 
-/// A line of a script, and what it prints after its number: nothing where that is empty.
+/// A line of a script, and the text that it prints after its number. If this text is empty, the
+/// line prints nothing.
 type Exchange = (&'static [u8], &'static str);
 
 const POWER_ON: &str = "CHECK CONDITION\n  sense: UNIT ATTENTION, 29h/00h\n";
@@ -29,7 +30,7 @@ const STATUS: u8 = 6;
 pub(crate) struct Script {
     pub(crate) bytes: Vec<u8>,
     pub(crate) text: String,
-    /// The length of what the first lines print, for each count of lines from 0 on.
+    /// The length of the text of the first lines, for each count of lines from 0 on.
     ends: Vec<usize>,
 }
 
@@ -56,19 +57,19 @@ impl Script {
         (&self.bytes, text, STATUS, sent_by(LINES.len()))
     }
 
-    /// How many lines are whole in the first bytes.
+    /// The number of lines that are whole in the first bytes.
     pub(crate) fn lines_in(&self, bytes: usize) -> usize {
         let bytes = &self.bytes[..bytes.min(self.bytes.len())];
         bytes.iter().filter(|byte| **byte == b'\n').count()
     }
 
-    /// How many lines are executed where the first bytes of the text, and no more, are written: the
-    /// last one is that of the byte after them.
+    /// The number of lines that are executed if only the first bytes of the text are written. The
+    /// text of the last of these lines has the byte after them.
     pub(crate) fn lines_written_in(&self, bytes: usize) -> usize {
         self.ends.iter().filter(|end| **end <= bytes).count()
     }
 
-    /// What the first lines print.
+    /// The text that the first lines print.
     pub(crate) fn text_of(&self, lines: usize) -> &[u8] {
         let text = self.text.as_bytes();
         let end = self.ends.get(lines).copied().unwrap_or(text.len());
@@ -76,7 +77,7 @@ impl Script {
     }
 }
 
-/// How many initiators have no unit attention pending after the first lines: how many of them have
+/// The number of initiators that have no unit attention pending after the first lines: they have
 /// reported one since the last power cycle.
 pub(crate) fn sent_by(lines: usize) -> usize {
     let lines = &LINES[..lines.min(LINES.len())];
@@ -94,7 +95,7 @@ pub(crate) fn sent_by(lines: usize) -> usize {
 
 const POWER_ON_1: &str = "line 1: CHECK CONDITION\n  sense: UNIT ATTENTION, 29h/00h\n";
 
-/// A script, what it prints, its status, and from how many initiators it sends commands.
+/// A script, its text, its status, and the number of initiators that it sends commands from.
 pub(crate) type WholeScript<'a> = (&'a [u8], &'a str, u8, usize);
 
 /// Scripts that end in each way.

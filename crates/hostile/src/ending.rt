@@ -37,7 +37,7 @@ impl Ending {
         }
     }
 
-    /// Whether a reply ends so. A command that is refused returns no data-in.
+    /// Whether a reply has this ending. A command that is refused returns no data-in.
     pub(crate) fn is_of(self, reply: &Reply) -> bool {
         let has_sense = match self.sense() {
             Some(sense) => reply.sense.as_slice() == sense.as_slice() && reply.data_in == 0,
@@ -47,7 +47,8 @@ impl Ending {
     }
 }
 
-/// SKSV and C/D are set, and the pointer is to a byte of the CDB (SPC-4, 4.5.2.4.2).
+/// The sense data of INVALID FIELD IN CDB. SKSV and C/D are set, and the pointer is to a byte of
+/// the CDB (SPC-4, 4.5.2.4.2).
 fn invalid_field(byte: usize) -> [u8; 18] {
     let [high, low] = u16::try_from(byte).unwrap_or(u16::MAX).to_be_bytes();
     [

@@ -1,15 +1,15 @@
 //! `hostile`: sends commands that are cut short, have a bit that no field has, or come with too
 //! little or too much data-out. For each command of a table:
 //!
-//! - each shorter length of its CDB is refused, with a pointer to the first byte that is missing,
-//!   and after a power cycle it first reports that, but for REQUEST SENSE and INQUIRY;
-//! - each bit that no field has and that is not ignored, alone, is refused, with a pointer to its
-//!   byte, and so is CONTROL 01h;
-//! - one byte less of data-out than it announces is a DATA PHASE ERROR, and one more changes
-//!   nothing.
+//! - The disk refuses each shorter length of its CDB, with a pointer to the first byte that is
+//!   missing. After a power cycle it first reports POWER ON, except for REQUEST SENSE and INQUIRY.
+//! - The disk refuses each single bit that no field has and that is not ignored, with a pointer to
+//!   its byte. It refuses CONTROL 01h in the same way.
+//! - One byte of data-out less than the command announces is a DATA PHASE ERROR, and one more
+//!   changes nothing.
 //!
-//! A line with the numbers of tries is printed for each command, and one for each try that ends
-//! otherwise. Rows that are wrong on purpose show that such tries are found.
+//! The program prints a line with the numbers of tries for each command, and a line for each try
+//! that ends otherwise. Rows that are wrong on purpose show that such tries are found.
 #![tactic(auto)]
 
 mod ending;
@@ -31,10 +31,10 @@ use std::rt::Runtime;
 /// The masks of the bits of a byte.
 const BITS: [u8; 8] = [0x01, 0x02, 0x04, 0x08, 0x10, 0x20, 0x40, 0x80];
 
-/// How many tries of the wrong rows end otherwise than the rows say.
+/// The number of tries of the wrong rows that end otherwise than the rows say.
 const FOUND: u64 = 4;
 
-/// In bytes.
+/// The length of the longest CDB, in bytes.
 const LONGEST_CDB: usize = 16;
 
 /// A disk, and the initiator whose commands are tried.
@@ -58,7 +58,7 @@ impl TestDisk {
         Some(disk)
     }
 
-    /// Executes a command. Whether it ends so.
+    /// Executes a command, and returns whether it has this ending.
     fn ends(&mut self, cdb: &[u8], data_out: &[u8], ending: Ending) -> bool {
         let reply = self
             .target
@@ -66,8 +66,9 @@ impl TestDisk {
         ending.is_of(&reply)
     }
 
-    /// Whether a command ends so after a power cycle. First it reports POWER ON, unless its CDB has
-    /// no byte or is that of REQUEST SENSE or INQUIRY, which no unit attention stops (SAM-5, 5.14).
+    /// Whether a command has this ending after a power cycle. First it reports POWER ON, unless its
+    /// CDB has no byte or no unit attention stops it. None stops REQUEST SENSE or INQUIRY (SAM-5,
+    /// 5.14).
     fn ends_after_power_on(&mut self, cdb: &[u8], data_out: &[u8], ending: Ending) -> bool {
         self.target.power_cycle();
         let reports = matches!(cdb.first(), None | Some(0x03 | 0x12))
@@ -76,8 +77,8 @@ impl TestDisk {
     }
 }
 
-/// The numbers of tries: of lengths, of bits, of CONTROL and of data-out, and how many of all end
-/// otherwise than they have to.
+/// The numbers of tries of lengths, of bits, of CONTROL and of data-out. The last number counts the
+/// tries that end otherwise than they have to.
 #[derive(Clone, Copy, Default)]
 struct Tally {
     lengths: u64,
@@ -99,13 +100,13 @@ impl Tally {
     }
 }
 
-/// One more where a try ends otherwise, which is printed.
+/// Prints that a try ends otherwise, and returns the count with one more.
 fn wrong_after(rt: &impl Print, wrong: u64, name: &str, what: &str, at: usize) -> io::Result<u64> {
     println!(rt; "{name}: {what} {at} ends otherwise")?;
     Ok(wrong.saturating_add(1))
 }
 
-/// Each shorter length.
+/// Tries each shorter length.
 fn try_lengths(
     rt: &impl Print,
     disk: &mut TestDisk,
@@ -123,7 +124,7 @@ fn try_lengths(
     Ok(tally)
 }
 
-/// A CDB with one more bit, which is refused at its byte.
+/// Whether a CDB with one more bit is refused at its byte.
 fn is_bit_refused(disk: &mut TestDisk, row: Row, data_out: &[u8], byte: usize, bit: u8) -> bool {
     let mut cdb = [0; LONGEST_CDB];
     let len = row.cdb.len().min(LONGEST_CDB);
@@ -134,7 +135,7 @@ fn is_bit_refused(disk: &mut TestDisk, row: Row, data_out: &[u8], byte: usize, b
     disk.ends(&cdb[..len], data_out, Ending::InvalidField(byte))
 }
 
-/// Each bit of a byte that no field has, alone.
+/// Tries each bit of a byte that no field has, one at a time.
 fn try_bits_of(
     rt: &impl Print,
     disk: &mut TestDisk,
@@ -156,7 +157,7 @@ fn try_bits_of(
     Ok(tally)
 }
 
-/// Those of all bytes between the operation code and CONTROL.
+/// Tries the bits of all bytes between the operation code and CONTROL.
 fn try_bits(rt: &impl Print, disk: &mut TestDisk, row: Row, data_out: &[u8]) -> io::Result<Tally> {
     let mut tally = Tally::default();
     for byte in 1..row.cdb.len().saturating_sub(1).max(1) {
@@ -165,7 +166,7 @@ fn try_bits(rt: &impl Print, disk: &mut TestDisk, row: Row, data_out: &[u8]) -> 
     Ok(tally)
 }
 
-/// CONTROL 01h.
+/// Tries CONTROL 01h.
 fn try_control(
     rt: &impl Print,
     disk: &mut TestDisk,
@@ -181,7 +182,7 @@ fn try_control(
     Ok(tally)
 }
 
-/// One byte less of data-out than is announced, and one more, where some is.
+/// Tries one byte of data-out less than the command announces, and one more, if it announces any.
 fn try_data_out(rt: &impl Print, disk: &mut TestDisk, row: Row, more: &[u8]) -> io::Result<Tally>
     requires { row.data_out < length more.now }
 {
@@ -209,7 +210,7 @@ fn print_tally(rt: &impl Print, name: &str, tally: Tally) -> io::Result<()> {
     )
 }
 
-/// All tries of a command, each on the same new disk, after the command itself.
+/// Executes a command on a new disk, and then tries it in each way on the same disk.
 fn try_row(rt: &HostRuntime, row: Row) -> io::Result<Tally> {
     let Some(mut disk) = TestDisk::new(rt.alloc()) else {
         return Err(io::Error::from(io::ErrorKind::OutOfMemory));
@@ -234,7 +235,7 @@ fn try_row(rt: &HostRuntime, row: Row) -> io::Result<Tally> {
     Ok(tally)
 }
 
-/// All rows of a table.
+/// Tries all rows of a table.
 fn try_rows(rt: &HostRuntime, rows: &[Row]) -> io::Result<Tally> {
     let mut tally = Tally::default();
     for row in rows {
@@ -243,7 +244,7 @@ fn try_rows(rt: &HostRuntime, rows: &[Row]) -> io::Result<Tally> {
     Ok(tally)
 }
 
-/// 0 where every command ends as it has to, and the wrong rows do not.
+/// 0 if every command ends as it has to, and the wrong rows do not.
 fn exit_status(wrong: u64, found: u64) -> u8
     ensures { result ≡ (if wrong == 0 && found == FOUND then 0 else 1) }
 {

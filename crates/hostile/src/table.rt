@@ -1,5 +1,5 @@
-// The CDBs of the commands, as SPC-4, SBC-3 and docs/PROFILE.md have them. The table of the disk is
-// another one: the two are compared.
+// The CDBs of the commands, as SPC-4, SBC-3 and docs/PROFILE.md give them. The disk has a table of
+// its own: the two are compared.
 use crate::ending::Ending::{self, Conflict, Good};
 
 /// A command.
@@ -12,13 +12,13 @@ pub(crate) struct Row {
     pub(crate) named: &'static [u8],
     /// The number of bytes of data-out that it announces, all of them zero.
     pub(crate) data_out: usize,
-    /// How it ends.
+    /// The ending of the command.
     pub(crate) ending: Ending,
 }
 
-/// The commands of docs/PROFILE.md, in the order of their operation codes, and where a service
-/// action is part of the command, of these. RESERVE, RELEASE, CLEAR and PREEMPT come from an
-/// initiator that is not registered.
+/// The commands of docs/PROFILE.md, in the order of their operation codes, and then of their
+/// service actions, if they have any. RESERVE, RELEASE, CLEAR and PREEMPT come from an initiator
+/// that is not registered.
 pub(crate) const COMMANDS: [Row; 34] = [
     Row {
         name: "test unit ready",
@@ -296,8 +296,8 @@ pub(crate) const COMMANDS: [Row; 34] = [
     },
 ];
 
-/// Rows that are wrong on purpose: a CDB that has a byte too many, a bit that is ignored and not
-/// named, and data-out of which a part suffices. For each a difference has to be found.
+/// Rows that are wrong on purpose: a CDB with a byte too many; a bit that is ignored and not named;
+/// data-out that is longer than needed. For each a difference has to be found.
 pub(crate) const WRONG: [Row; 3] = [
     Row {
         name: "a read capacity 10 of eleven bytes",

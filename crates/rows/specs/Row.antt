@@ -13,7 +13,7 @@ after_word text = after_first (λ byte. byte == 32) text
 abbrev pub HasSpace : List ℕ → Type 0
 HasSpace text = position_or_len (λ byte. byte == 32) text < length text
 
--- A number in decimal digits that fits some bits. A plus may come before it.
+-- A number in decimal digits that fits in this many bits. A plus may come before it.
 abbrev pub IsNumber : (bits : ℕ) → List ℕ → Type 0
 IsNumber bits text = let digits = without_leading_plus text in
     IsNumeral 10 digits × (digits_value 10 digits < 2 ^ bits)

@@ -1,8 +1,8 @@
-// Where two texts differ.
+// The place where two texts differ.
 ghost use Rattle.std.specs.Prelude.{◌≡◌, ◌≢◌, ◌↔◌, ◌≤◌, ◌==◌, length, take, IsNone, IfSome};
 ghost use Rattle.std.specs.Prelude.{slice_get, count_by};
 
-/// The index of the first byte in which two texts differ, which one of them may lack.
+/// The index of the first byte in which two texts differ. One of them may lack it.
 pub(crate) fn first_difference(expected: &[u8], printed: &[u8]) -> Option<usize>
     ensures same { IsNone result ↔ (expected.now ≡ printed.now) }
     ensures within { IfSome result (λ index. index ≤ length expected.now) }
@@ -23,7 +23,7 @@ pub(crate) fn first_difference(expected: &[u8], printed: &[u8]) -> Option<usize>
     }
 }
 
-/// How many lines end before a byte.
+/// The number of lines that end before a byte.
 pub(crate) fn lines_before(text: &[u8], index: usize) -> usize
     requires { index ≤ length text.now }
     ensures { result ≡ count_by (λ byte. byte == 10) (take index text.now) }
@@ -31,7 +31,7 @@ pub(crate) fn lines_before(text: &[u8], index: usize) -> usize
     text[..index].iter().filter(|byte| **byte == b'\n').count()
 }
 
-/// The line after `count` others, or nothing where the text has ended.
+/// The line after `count` others, or nothing if the text has ended.
 pub(crate) fn line_after(text: &[u8], count: usize) -> &[u8] {
     match text.split(|byte| *byte == b'\n').nth(count) {
         Some(line) => line,

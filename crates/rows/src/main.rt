@@ -1,16 +1,17 @@
-//! `rows`: runs worked rows over the disk. A row is a script with all that it has to print, kept as
-//! files in `data/`, where the program runs:
+//! `rows`: runs worked rows over the disk. A row is a script with all that it has to print. The
+//! rows are files in `data/`, and the program runs there:
 //!
-//! - `rows` has a line for each row: its name with its folder, and where the disk is not of 4,096
-//!   blocks with a pool of 4, its number of blocks and its pool, as `read-capacity/of-1-block 1 4`;
-//! - `NAME.script` is the script;
-//! - `NAME.expected` is what it prints, and a last line `status N` with its exit status.
+//! - `rows` has a line for each row: its name with its folder. A disk usually has 4,096 blocks and
+//!   a pool of 4. For any other disk, its number of blocks and its pool follow, as in
+//!   `read-capacity/of-1-block 1 4`.
+//! - `NAME.script` is the script.
+//! - `NAME.expected` is the text that it prints, and a last line `status N` with its exit status.
 //!
 //! Each row runs over both stores, which have to print the same text.
 //!
-//! A line is printed for each row: `as expected`, or the first line that differs. `wrong-rows`
-//! lists rows in the same form that are wrong on purpose, for each of which a difference has to be
-//! found.
+//! The program prints a line for each row: `as expected`, or the first line that differs.
+//! `wrong-rows` lists rows in the same form that are wrong on purpose. For each of them the program
+//! has to find a difference.
 #![tactic(auto)]
 
 mod difference;
@@ -34,15 +35,15 @@ use std::process::ExitCode;
 use std::rt::Runtime;
 use std::{env, fs, io};
 
-/// How many rows a list has, and how many of them are as expected.
+/// The number of rows of a list, and how many of them are as expected.
 #[derive(Clone, Copy, Default)]
 struct Tally {
     rows: u64,
     as_expected: u64,
 }
 
-/// What a script prints on a new disk over a store, and a last line with its exit status. No contract
-/// says so: a `Watched` does not return its writer. The wrong rows show it.
+/// The text that a script prints on a new disk over a store, and a last line with its exit status.
+/// No contract says so, because a `Watched` does not return its writer. The wrong rows show it.
 fn run_row<S: Store>(
     alloc: Global,
     session: &mut Session,
@@ -76,7 +77,7 @@ fn report(rt: &impl Print, name: &str, expected: &[u8], printed: &[u8]) -> io::R
     Ok(false)
 }
 
-/// A line of what is printed, which is ASCII.
+/// A line of the printed text, which is ASCII.
 fn text(line: &[u8]) -> &str {
     str::from_utf8(line).unwrap_or("no text")
 }
@@ -131,7 +132,7 @@ fn check_list(
     Ok(tally)
 }
 
-/// 0 where each row is as expected, and no wrong row is taken for one.
+/// 0 if each row is as expected, and no wrong row is.
 fn exit_status(rows: Tally, wrong: Tally) -> u8
     ensures { result ≡ (if rows.as_expected == rows.rows && wrong.as_expected == 0 then 0 else 1) }
 {
@@ -140,8 +141,8 @@ fn exit_status(rows: Tally, wrong: Tally) -> u8
     if all_pass && none_passes { 0 } else { 1 }
 }
 
-/// Runs the rows and the wrong rows of the folder that the first argument names, or of the one that
-/// it runs in.
+/// Runs the rows and the wrong rows of the folder that the first argument names. Without an
+/// argument it takes the folder that it runs in.
 fn run(rt: &HostRuntime) -> io::Result<u8> {
     let args: Vec<String> = env::args(rt)?.collect(rt.alloc())?;
     let folder = match args.as_slice() {

@@ -1,4 +1,4 @@
-// The lines of the file `rows`: each names a row, and its disk where that is not the usual one.
+// The lines of the file `rows`. Each names a row, and also its disk if that is not the usual one.
 ghost use Rattle.std.specs.Prelude.{◌≡◌, MatchOption};
 ghost use Rattle.rows.specs.Row.{IsRow, IsNoRow};
 
@@ -8,7 +8,7 @@ pub(crate) struct Row<'a> {
     pub(crate) name: &'a str,
     /// The disk's logical blocks.
     pub(crate) blocks: u64,
-    /// How many of them can be mapped at once.
+    /// The number of blocks that can be mapped at once.
     pub(crate) pool: u32,
 }
 

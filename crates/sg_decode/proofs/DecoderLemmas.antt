@@ -13,7 +13,7 @@ header_ends d bytes a b all same ends p =
     let over : all_shown None bytes d.header ≡ false = cc in
     rw (over, append-nil (shown None bytes d.header)) p
 
--- the rest is shown behind the header
+-- the rest is shown after the header
 pub goes_on : (d : Decoder) (bytes : List ℕ) (a b c : Printing) (all : Bool)
     → all ≡ all_shown None bytes d.header → all ≡ true → Prints a b (shown None bytes d.header)
     → Prints b c (body_text d bytes) → Prints a c (decoded d bytes)

@@ -145,7 +145,7 @@ line-chunk bytes chunk rest count at most =
     let sixteen : 16 * count + 16 - 16 * count ≡ 16 = omega arith in
     rw (sixteen, at) (take-chunk 16 chunk rest most)
 
--- what is left behind a chunk
+-- the bytes that are left after a chunk
 left-chunk : (n count : ℕ) (bytes chunk rest : List ℕ) → drop (n * count) bytes ≡ chunk ++ rest
     → length chunk ≡ min n (length (chunk ++ rest)) → rest ≡ drop (n * (count + 1)) bytes
 left-chunk n count bytes chunk rest at most =
@@ -179,7 +179,7 @@ next_line offset k bytes chunk rest left text written count number after size le
       rw next (left-chunk 16 count bytes chunk rest at most),
     )
 
--- elements before the end, or nothing follows
+-- the first elements are all in the first list, or nothing follows it
 take-before : (n : ℕ) (xs ys : List ℕ) → (0 < length ys → n ≤ length xs)
     → take n (xs ++ ys) ≡ take n xs
 take-before n xs [] within = ap (take n) (append-nil xs)
@@ -209,8 +209,8 @@ no-line : (offset : ℕ) (bytes : List ℕ) → first_hex_lines_from offset 0 by
 unfolding first_hex_lines_from
 no-line offset bytes = refl
 
--- the lines of a chunk, whose offset is a multiple of 256, have offsets that do not begin again
--- within it
+-- the lines of a chunk, whose offset is a multiple of 256; within it the 32-bit offsets do not
+-- begin again
 lines-of-chunk : (bytes part rest : List ℕ) (count k : ℕ) → 16 * count % 256 ≡ 0
     → drop (16 * count) bytes ≡ part ++ rest → length part ≡ min 256 (length (part ++ rest))
     → 16 * k < length part + 16

@@ -1,4 +1,4 @@
--- Which items are shown.
+-- The items that are shown.
 use Rattle.std.proofs.Common.{◌≡◌, ◌≤◌, ◌<◌, ◌+◌, ℕ, zero, suc, List, [], ◌∷◌, ◌++◌, length, take}
 use Rattle.std.proofs.Common.{drop, get_or, true, false, Bool, ◌&&◌, Option, Some, if◌then◌else◌}
 use Rattle.std.proofs.Common.{arith, refl, ap, sym, ◌∙◌, append_assoc, append-nil, drop-cons, ◌-◌}
@@ -23,7 +23,7 @@ use Rattle.sg_decode.specs.Items.{end_text, Item, item, as_present, passes, line
 use Rattle.sg_decode.specs.Items.{shown, all_shown, is_shown, stop_text, entries, entries_from}
 use Rattle.sg_decode.specs.Items.{size, entry_text}
 
--- what is shown of an item
+-- the text of an item that is shown
 abbrev pub own_text : List ℕ → Item → List ℕ
 own_text bytes i = i.text (slice_range bytes i.first i.end)
 
@@ -114,7 +114,7 @@ line_at (x ∷ xs) (suc k) d = line_at xs k d
 
 -- ---- entries
 
--- the entries before `start` are printed, and `count` are enough for those behind it
+-- the entries before `start` are printed, and `count` are enough for the entries after it
 pub record EntriesShown (reported : Option ℕ) (bytes : List ℕ) (entry : Entry) (first start : ℕ)
     (a b : Printing) : Type 0 where
   pub count : ℕ
@@ -186,7 +186,7 @@ entries_end reported bytes entry first start end a b c w same ending q =
     rw (w.whole, entries-stop reported bytes entry start w.count end same (omega arith) ending)
     (Prints-on w.printed (rw ending at q))
 
--- the length of an entry's header depends on its first byte alone
+-- the length of an entry's header depends only on its first byte
 pub header_own : (kind : EntryKind) (rest : List ℕ) (n : ℕ) → 1 ≤ n
     → (entry_of kind).header (take n rest) ≡ (entry_of kind).header rest
 header_own SupportedPages rest n some = refl
@@ -266,7 +266,7 @@ header_in_size entry bytes =
     (λ b. entry.header bytes ≤ (if b then entry.header bytes + entry.following bytes else
     entry.header bytes)) [ true ↦ omega arith | false ↦ omega arith ]
 
--- the header of an entry that is shown is all there
+-- all of the header of an entry that is shown is present
 pub header_fits : (kind : EntryKind) (bytes : List ℕ) (start n : ℕ)
     → n ≡ size (entry_of kind) (drop start bytes) → start + n ≤ length bytes → 1 ≤ n
     → (entry_of kind).header (slice_range bytes start (start + n)) ≤ length
@@ -278,7 +278,7 @@ header_fits kind bytes start n same given some =
     rw same (header_in_size (entry_of kind) (drop start bytes)) in
     rw (back, own, header_own kind (drop start bytes) n some) header
 
--- ---- as much as is there
+-- ---- as much as is present
 
 pub as_present-text : (first reported : ℕ) (f : List ℕ → List ℕ) (bytes : List ℕ)
     → shown (Some reported) bytes (as_present first reported f bytes)

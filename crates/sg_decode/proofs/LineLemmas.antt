@@ -28,7 +28,7 @@ end_at [] i d n within all = absurd (omega arith)
 end_at (x ∷ xs) zero d n within all = omega arith
 end_at (x ∷ xs) (suc i) d n within all = end_at xs i d n (omega arith) (omega arith)
 
--- all parts are the line
+-- all parts together are the line
 pub parts_joined : (bytes : List ℕ) (fields : List Field)
     → flat_map (λ f. part_text bytes (part_of f)) fields
     ≡ flat_map (part_text bytes) (line_of fields)

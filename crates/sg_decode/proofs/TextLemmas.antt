@@ -1,4 +1,4 @@
--- How texts go on.
+-- Texts that go on.
 use Rattle.std.proofs.Common.{◌≡◌, ◌/◌, ◌%◌, ◌<◌, ◌+◌, ℕ, List, [], ◌∷◌, ◌++◌, length, take, get_or}
 use Rattle.std.proofs.Common.{slice_index, map, arith, refl, ap, sym, ◌∙◌, append_assoc, append-nil}
 use Rattle.std.specs.List.{flat_map, join_with_byte}
@@ -19,7 +19,7 @@ blank-join : (f : ℕ → List ℕ) (x : ℕ) (xs : List ℕ)
 blank-join f x [] = ap (λ t. 32 ∷ t) (sym (append-nil (f x)))
 blank-join f x (y ∷ ys) = ap (λ t. 32 ∷ (f x ++ t)) (blank-join f y ys)
 
--- a line in the pieces in which it is written
+-- a line in the pieces that the code writes
 pub hex_line-pieces : (offset : ℕ) (bytes : List ℕ) → 0 < length bytes
     → hex_line offset bytes ≡ (codes "  " ++ (hex_offset offset ++ codes " "))
     ++ (flat_map (λ byte. 32 ∷ hex_byte byte) bytes ++ codes "\n")

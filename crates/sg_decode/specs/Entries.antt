@@ -87,7 +87,7 @@ parameter_lines code =
     else (if code == 0x1C then informational_exceptions ∷ []
     else [])))
 
--- It is shown of a page without subpage code that has all its fields.
+-- The line is shown for a page that has no subpage code and has all of the line's fields.
 abbrev pub fits_in : (page : List ℕ) → Line → Bool
 fits_in page line = nat_le (line_end line) (length page)
 

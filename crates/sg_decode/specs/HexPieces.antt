@@ -1,4 +1,4 @@
--- The pieces in which hexadecimal text is written.
+-- The pieces of hexadecimal text that the code writes.
 use Rattle.std.specs.Prelude.{ℕ, ◌+◌, ◌*◌, ◌/◌, ◌%◌, List, [], ◌∷◌, length, slice_index, slice_set}
 use Rattle.std.specs.List.{flat_map, range_with_len}
 use Rattle.hex.specs.Hex.{lower_digits}
@@ -15,7 +15,7 @@ low_digit byte = slice_index lower_digits (byte % 16)
 abbrev pub spaced_digits : ℕ → List ℕ
 spaced_digits byte = 32 ∷ high_digit byte ∷ low_digit byte ∷ []
 
--- The first lines of bytes, where the first byte has this offset.
+-- The first lines of bytes, if the first byte has this offset.
 unfoldable pub first_hex_lines_from : (offset count : ℕ) → List ℕ → List ℕ
 first_hex_lines_from offset count bytes =
     flat_map (λ number. hex_line (offset + 16 * number) (bytes_of_line bytes number))
@@ -25,6 +25,6 @@ first_hex_lines_from offset count bytes =
 abbrev pub hex_lines_from : (offset : ℕ) → List ℕ → List ℕ
 hex_lines_from offset bytes = first_hex_lines_from offset ((length bytes + 15) / 16) bytes
 
--- What a line has before its bytes, by what line 0 of its sixteen lines has.
+-- The text of a line before its bytes, made from the same text of line 0 of its sixteen lines.
 abbrev pub line_head : (first : List ℕ) → (number : ℕ) → List ℕ
 line_head first number = slice_set first 8 (slice_index lower_digits number)

@@ -17,13 +17,13 @@ hex_byte byte = encode_lower (byte ∷ [])
 abbrev pub hex_offset : ℕ → List ℕ
 hex_offset offset = encode_lower (to_be_bytes w32 offset)
 
--- A line of bytes with a blank between them, behind the offset of the first.
+-- A line of bytes: the offset of the first, and the bytes with a blank between them.
 unfoldable pub hex_line : (offset : ℕ) → (bytes : List ℕ) → List ℕ
 hex_line offset bytes =
     codes "  " ++ (hex_offset offset ++ (codes "  "
     ++ (join_with_byte 32 (map hex_byte bytes) ++ codes "\n")))
 
--- The sixteen bytes of the line with this number, or those that are left.
+-- The sixteen bytes of the line with this number, or the fewer that are left.
 abbrev pub bytes_of_line : List ℕ → (number : ℕ) → List ℕ
 bytes_of_line bytes number = slice_range bytes (16 * number) (16 * number + 16)
 
@@ -41,7 +41,7 @@ hex_lines bytes = first_hex_lines ((length bytes + 15) / 16) bytes
 abbrev pub gathered_text : ℕ
 gathered_text = 960
 
--- ---- Cited by private contracts alone
+-- ---- Cited only by private contracts
 
 -- A byte with a blank before it.
 abbrev pub blank_hex_byte : ℕ → List ℕ

@@ -22,7 +22,7 @@ inquiry_lines =
     ∷ []
 
 -- The 36 bytes that every target returns are shown whatever ADDITIONAL LENGTH contains. The bytes
--- behind them, vendor specific ones and version descriptors, are shown in hexadecimal.
+-- after them, vendor specific ones and version descriptors, are shown in hexadecimal.
 abbrev pub inquiry : Decoder
 inquiry = record {
   header = line_items inquiry_lines;

@@ -1,4 +1,4 @@
--- ---- What public contracts cite: the one rule of all texts,
+-- ---- Public contracts cite these: the one rule of all texts,
 pub mod Items
 pub mod Lines
 pub mod Values
@@ -12,5 +12,5 @@ pub mod Entries
 -- and the texts that are no table.
 pub mod SenseText
 pub mod HexText
--- ---- What only private contracts cite.
+-- ---- Only private contracts cite these.
 pub mod HexPieces

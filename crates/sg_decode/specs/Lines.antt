@@ -6,7 +6,7 @@ use Rattle.sg_decode.specs.Values.{value_text, value_end, is_sound}
 use Rattle.sg_decode.specs.declared.value.Value.{Value}
 use Rattle.sg_decode.specs.declared.value.Field.{Field}
 
--- A label and the value behind it.
+-- A label and the value after it.
 pub record Part : Type 0 where
   pub label : List ℕ
   pub value : Value
@@ -20,7 +20,7 @@ Line = List Part
 abbrev pub part_text : List ℕ → Part → List ℕ
 part_text bytes p = p.label ++ value_text p.value bytes
 
--- The parts, one behind the other, and an LF.
+-- The parts, one after the other, and an LF.
 unfoldable pub line_text : Line → List ℕ → List ℕ
 line_text line bytes = flat_map (part_text bytes) line ++ codes "\n"
 
@@ -29,7 +29,7 @@ abbrev pub line_end : Line → ℕ
 line_end [] = 0
 line_end (p ∷ ps) = max (value_end p.value) (line_end ps)
 
--- ---- Cited by private contracts alone
+-- ---- Cited only by private contracts
 
 abbrev pub lines_end : List Line → ℕ
 lines_end [] = 0
@@ -41,7 +41,7 @@ is_sound_line line = list_all (λ (p : Part). is_sound p.value) line
 abbrev pub are_sound : List Line → Bool
 are_sound lines = list_all is_sound_line lines
 
--- How a table of the code is seen.
+-- A table of the code, seen as one of the definitions.
 
 abbrev pub part_of : Field → Part
 part_of f = part f.0.now f.1

@@ -18,7 +18,7 @@ header_6 =
     ∷ (part (codes "  block descriptor length: ") (Number 3 1) ∷ [])
     ∷ []
 
--- That of MODE SENSE(10), of eight bytes.
+-- The mode parameter header of MODE SENSE(10), of eight bytes.
 abbrev pub header_10 : List Line
 header_10 =
     (part (codes "  mode data length: ") (Number 0 2) ∷ [])
@@ -28,8 +28,8 @@ header_10 =
     ∷ (part (codes "  block descriptor length: ") (Number 6 2) ∷ [])
     ∷ []
 
--- The short LBA and the long LBA mode parameter block descriptor (SBC-3, 6.4.2). One of another
--- length is shown in hexadecimal.
+-- The short LBA and the long LBA mode parameter block descriptor (SBC-3, 6.4.2). A descriptor of
+-- another length is shown in hexadecimal.
 abbrev short_descriptor : Line
 short_descriptor =
     part (codes "  blocks: ") (Number 0 4) ∷ part (codes ", block length: ") (Number 5 3) ∷ []
@@ -52,7 +52,7 @@ descriptor_items first long length =
     if length == 0 then []
     else item first (first + length) (line_text (descriptor_line long length)) ∷ []
 
--- The block descriptor, if there is one, and the pages behind it.
+-- The block descriptor, if there is one, and the pages after it.
 abbrev pub mode_body : (first : ℕ) → (long : Bool) → (length : ℕ) → List ℕ → List Item
 mode_body first long length bytes =
     descriptor_items first long length ++ entries_from (entry_of ModePages) (first + length) bytes

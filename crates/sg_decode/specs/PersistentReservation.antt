@@ -20,7 +20,7 @@ generation_lines =
 abbrev pub additional_length : List ℕ → ℕ
 additional_length bytes = big_number 4 (drop 4 bytes)
 
--- Entries of a kind behind the header.
+-- Entries of a kind after the header.
 abbrev pub list_of : EntryKind → Decoder
 list_of kind = record {
   header = line_items generation_lines;

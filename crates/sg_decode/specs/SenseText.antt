@@ -37,7 +37,7 @@ unfoldable pub pointer_text : Option Pointer → List ℕ
 pointer_text None = []
 pointer_text (Some p) = pointer_label p.in_command ++ decimal p.byte
 
--- One line: the sense key, the additional sense code and its qualifier, and what else there is.
+-- One line: the sense key, the additional sense code and its qualifier, and any other fields.
 unfoldable pub fields_text : SenseFields → List ℕ
 fields_text s =
     codes "  sense: " ++ (key_text s.key ++ (code_text s.asc s.ascq
@@ -47,6 +47,6 @@ abbrev pub sense_text : Option SenseFields → List ℕ
 sense_text None = codes "  sense: unreadable\n"
 sense_text (Some s) = fields_text s
 
--- The line of sense data. No byte is sense data that can't be read.
+-- The line of sense data. If the sense data can't be read, the line is empty.
 unfoldable pub sense_line : List ℕ → List ℕ
 sense_line bytes = sense_text (read_sense bytes)

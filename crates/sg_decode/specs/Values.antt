@@ -1,4 +1,4 @@
--- How the value of a field is shown.
+-- The text of a field's value.
 use Rattle.std.specs.Prelude.{ℕ, ◌+◌, List, [], ◌∷◌, ◌++◌, map, drop, codes}
 use Rattle.std.specs.Prelude.{decimal, slice_index, slice_range, Option, Some, None, unwrap_or}
 use Rattle.std.specs.Prelude.{Bool, ◌&&◌, ◌==◌, nat_le, nat_lt, if◌then◌else◌}
@@ -13,7 +13,7 @@ use Rattle.sg_decode.specs.declared.value.Value.TheVariants.{Bits, Code, Number,
 use Rattle.sg_decode.specs.declared.value.Value.TheVariants.{Text, TextFrom, HexFrom}
 use Rattle.sg_decode.specs.declared.value.Value.TheVariants.{ProvisioningStatus, ReservationTypes}
 
--- A byte of a text. One that is no printable ASCII is shown as a dot.
+-- A byte of a text. A byte that is no printable ASCII is shown as a dot.
 abbrev pub printable : ℕ → ℕ
 printable byte = if is_printable byte then byte else 0x2E
 
@@ -86,7 +86,7 @@ value_end (HexFrom first) = first
 value_end (ProvisioningStatus byte) = byte + 1
 value_end (ReservationTypes first) = first + 2
 
--- ---- Cited by private contracts alone
+-- ---- Cited only by private contracts
 
 -- Bits are bits of a byte, a number has one to eight bytes, and each index is less than 256.
 abbrev is_index : ℕ → Bool

@@ -52,7 +52,7 @@ logical_block_provisioning =
     ∷ (part (codes "  provisioning type: ") (Bits 6 2 0) ∷ [])
     ∷ []
 
--- What is shown behind the header, by PAGE CODE. Other pages are shown in hexadecimal.
+-- The items after the header, by PAGE CODE. Other pages are shown in hexadecimal.
 abbrev pub page_body : (code : ℕ) → (bytes : List ℕ) → (end : ℕ) → List Item
 page_body code bytes end =
     if code == 0x00 then entries_from (entry_of SupportedPages) 4 bytes
@@ -62,7 +62,7 @@ page_body code bytes end =
     else (if code == 0xB2 then line_items logical_block_provisioning
     else as_present 4 end hex_lines bytes))))
 
--- PAGE LENGTH counts the bytes behind it.
+-- PAGE LENGTH counts the bytes after it.
 abbrev pub vital_product_data : Decoder
 vital_product_data = record {
   header = line_items page_header;

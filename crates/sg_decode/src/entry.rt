@@ -98,8 +98,8 @@ const FULL_STATUS: &[Field] = &[
 ];
 
 impl EntryKind {
-    /// The size of the first entry of some bytes. One whose header is not all present has the size
-    /// of its header.
+    /// The size of the first entry of some bytes. If not all of its header is present, it is the
+    /// size of the header.
     pub(crate) fn size(self, bytes: &[u8]) -> usize
         ensures value { result ≡ size (entry_of self) bytes.now }
         ensures not_zero { 1 ≤ result }
@@ -129,7 +129,7 @@ impl EntryKind {
         }
     }
 
-    /// The number of bytes behind its header.
+    /// The number of bytes after its header.
     fn following(self, bytes: &[u8]) -> usize
         requires { (entry_of self).header bytes.now ≤ length bytes.now }
         ensures value { result ≡ (entry_of self).following bytes.now }
@@ -145,7 +145,7 @@ impl EntryKind {
         }
     }
 
-    /// Prints an entry, of which at least the header is present.
+    /// Prints an entry. At least its header is present.
     pub(crate) fn put_text<W: Write>(self, bytes: &[u8], out: &mut Printer<'_, W>)
         requires { (entry_of self).header bytes.now ≤ length bytes.now }
         ensures { PrintsText W.contents out.old out.new (entry_text (entry_of self) bytes.now) }

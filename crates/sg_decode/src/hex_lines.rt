@@ -11,14 +11,14 @@ use sg_wire::Printer;
 use std::io::Write;
 use std::simd::prelude::*;
 
-// The bytes of a line, and the length of its text: two blanks, eight digits of the offset, a blank,
-// three characters a byte, and the LF.
+// The bytes of a line, and the length of its text. The text is two blanks, eight digits of the
+// offset, a blank, three characters a byte, and the LF.
 const LINE_BYTES: usize = 16;
 
 const LINE_TEXT: usize = 60;
 
-/// How many lines are put at once: as many as have offsets that differ in one digit. They are
-/// gathered first, since bytes that were just written in small parts are slow to copy.
+/// The number of lines that are put at once: as many as have offsets that differ in one digit. They
+/// are gathered first, because bytes that were just written in small parts are slow to copy.
 const LINES: usize = 16;
 
 /// An offset has 32 bits.
@@ -38,7 +38,7 @@ pub fn put_hex<W: Write>(bytes: &[u8], out: &mut Printer<'_, W>)
     put_hex_lines(bytes, &mut text, out);
 }
 
-/// Prints bytes as `put_hex` does. The lines are gathered in `text`, of at least `GATHERED_TEXT`
+/// Prints bytes as `put_hex` does. It gathers the lines in `text`, of at least `GATHERED_TEXT`
 /// bytes, so that a caller with many answers borrows the memory for it once.
 #[tactic(auto, using(crate::proofs::TextLemmas::prints), unfolding(crate::specs::HexText::first_hex_lines))]
 pub fn put_hex_lines<W: Write>(bytes: &[u8], text: &mut [u8], out: &mut Printer<'_, W>)
@@ -70,8 +70,8 @@ fn write_lines(offset: u32, bytes: &[u8], text: &mut [u8]) -> usize
     len
 }
 
-/// Writes a line of at most sixteen bytes, likewise. Its offset is that of `head`, but for the last
-/// digit but one, which is the line's number.
+/// Writes a line of at most sixteen bytes in the same way. Its offset is the offset of `head`,
+/// except for the last digit but one, which is the line's number.
 fn write_line(head: u8x16, number: usize, bytes: &[u8], text: &mut [u8]) -> usize
     requires head { length head ≡ 16 }
     requires number { number < 16 }
@@ -82,7 +82,7 @@ fn write_line(head: u8x16, number: usize, bytes: &[u8], text: &mut [u8]) -> usiz
         ++ (flat_map blank_hex_byte bytes.now ++ codes "\n") }
     ensures length { result ≡ 12 + 3 * length bytes.now }
 {
-    // Five of the sixteen characters are written over by those of the bytes.
+    // The bytes' digits overwrite five of the sixteen characters.
     head.copy_to_slice(&mut text[..16]);
     text[8] = LOWER_DIGITS[number];
     write_bytes(bytes, &mut text[11..]);

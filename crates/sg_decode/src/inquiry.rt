@@ -25,10 +25,10 @@ const LINES: [&[Field]; 8] = [
     &[Field(b"  revision: ", Value::Text(32, 4))],
 ];
 
-/// The bytes behind those of the lines.
+/// The first byte after the bytes of the lines.
 const DUMP: usize = 36;
 
-/// Prints standard INQUIRY data (SPC-4, 6.6.2), and what follows its 36 bytes in hex lines.
+/// Prints standard INQUIRY data (SPC-4, 6.6.2), and the bytes after its 36 bytes in hex lines.
 #[tactic(auto, using(crate::proofs::DecoderLemmas::decoders), unfolding(crate::specs::Items::decoded))]
 pub fn put_inquiry<W: Write>(bytes: &[u8], out: &mut Printer<'_, W>)
     ensures { PrintsText W.contents out.old out.new (decoded inquiry bytes.now) }

@@ -1,4 +1,4 @@
-// Which items of an answer are shown.
+// The items of an answer that are shown.
 ghost use Rattle.std.specs.Prelude.{◌≡◌, ◌≤◌, ◌<◌, ◌^◌, [], min, slice_range, nat_le, codes};
 ghost use Rattle.std.specs.Prelude.{length, drop, true, Some, if◌then◌else◌};
 ghost use Rattle.sg_wire.specs.Printer.{PrintsText};
@@ -15,8 +15,8 @@ use crate::value::Field;
 use sg_wire::Printer;
 use std::io::Write;
 
-/// Whether an item with this end is shown: it passes neither the reported end, where one is known,
-/// nor the bytes. Where it passes the bytes alone, `  truncated` is printed.
+/// Whether an item with this end is shown: it passes neither the reported end, if one is known, nor
+/// the bytes. If it passes only the bytes, `  truncated` is printed.
 pub(crate) fn is_shown<W: Write>(
     end: usize,
     reported: Option<usize>,
@@ -68,7 +68,7 @@ pub(crate) fn show_lines<W: Write>(
     true
 }
 
-/// Shows entries that follow one another, the first of which begins at `first`.
+/// Shows entries that follow one another. The first begins at `first`.
 pub(crate) fn show_entries<W: Write>(
     kind: EntryKind,
     first: usize,
@@ -94,7 +94,7 @@ pub(crate) fn show_entries<W: Write>(
     }
 }
 
-/// The bytes from `first` on, none where it is past them.
+/// The bytes from `first` on; none if `first` is past them.
 fn bytes_from(first: usize, bytes: &[u8]) -> &[u8]
     ensures { result.now ≡ drop first bytes.now }
 {
@@ -132,7 +132,7 @@ pub(crate) fn present_bytes(first: usize, reported: usize, bytes: &[u8]) -> &[u8
     }
 }
 
-/// Prints `  truncated` where the reported end is past the bytes.
+/// Prints `  truncated` if the reported end is past the bytes.
 pub(crate) fn put_truncated<W: Write>(reported: usize, bytes: &[u8], out: &mut Printer<'_, W>)
     ensures { let text = if nat_le reported (length bytes.now) then [] else codes "  truncated\n" in
         PrintsText W.contents out.old out.new text }

@@ -1,8 +1,8 @@
-//! The texts of answers: what the bytes of data-in and of sense data contain, field by field.
+//! The texts of answers: the contents of data-in and of sense data, field by field.
 //!
-//! Each text is defined for every list of bytes, also for an answer that is cut, that reports
-//! another length than it has, or that another target returned. `put_..` prints a text into a
-//! [`sg_wire::Printer`], behind what was printed before; `print_..` writes it to a writer.
+//! Each text is defined for every list of bytes. An answer may be cut, may report another length
+//! than it has, or may come from another target. `put_..` prints a text into a
+//! [`sg_wire::Printer`], after the text that was printed before; `print_..` writes it to a writer.
 #![tactic(auto)]
 
 mod entry;

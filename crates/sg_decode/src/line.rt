@@ -1,4 +1,4 @@
-// A line is labels with values: which bytes it needs, and its text.
+// A line is labels with values: the bytes that it needs, and its text.
 ghost use Rattle.std.specs.Prelude.{◌≡◌, ◌≤◌, length, true};
 ghost use Rattle.std.specs.List.{flat_map};
 ghost use Rattle.sg_wire.specs.Printer.{PrintsText};

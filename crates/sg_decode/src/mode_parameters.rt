@@ -51,8 +51,8 @@ const LONG_DESCRIPTOR: &[Field] = &[
 
 const OTHER_DESCRIPTOR: &[Field] = &[Field(b"  descriptor: ", Value::HexFrom(0))];
 
-/// Prints mode parameters (SPC-4, 7.5), those of MODE SENSE(10) where `ten` is true, and otherwise
-/// those of MODE SENSE(6).
+/// Prints mode parameters (SPC-4, 7.5) of MODE SENSE(10) if `ten` is true, and otherwise of MODE
+/// SENSE(6).
 pub fn put_modes<W: Write>(ten: bool, bytes: &[u8], out: &mut Printer<'_, W>)
     ensures { PrintsText W.contents out.old out.new (decoded (mode_parameters ten) bytes.now) }
 {
@@ -82,7 +82,7 @@ fn put_modes_10<W: Write>(bytes: &[u8], out: &mut Printer<'_, W>)
     }
 }
 
-/// Shows the block descriptor, which begins at `first`, and the pages behind it.
+/// Shows the block descriptor, which begins at `first`, and the pages after it.
 fn show_body<W: Write>(
     first: usize,
     long: bool,
@@ -91,7 +91,7 @@ fn show_body<W: Write>(
     bytes: &[u8],
     out: &mut Printer<'_, W>,
 )
-    // Where the descriptor begins, behind the header, and its length.
+    // The first byte of the descriptor, which is after the header, and its length.
     requires not_first_byte { 1 ≤ first }
     requires first { first ≤ 8 }
     requires descriptor { size < 2 ^ 16 }

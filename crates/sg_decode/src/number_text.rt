@@ -1,4 +1,4 @@
-// How the values of fields are printed: in decimal, as characters in brackets, or as digits.
+// The values of fields as text: in decimal, as characters in brackets, or as digits.
 ghost use Rattle.std.specs.Prelude.{◌≡◌, ◌++◌, decimal, codes, length, map};
 ghost use Rattle.hex.specs.Hex.{encode_lower};
 ghost use Rattle.sg_wire.specs.Printer.{PrintsText};
@@ -17,7 +17,7 @@ pub fn put_number<W: Write>(number: u64, out: &mut Printer<'_, W>)
     out.put(digits.format(number).as_bytes());
 }
 
-/// Prints bytes as a text in brackets, each that is no printable ASCII as a dot.
+/// Prints bytes as a text in brackets. A byte that is no printable ASCII is printed as a dot.
 #[tactic(auto, using(crate::proofs::TextLemmas::prints))]
 pub(crate) fn put_bracketed<W: Write>(bytes: &[u8], out: &mut Printer<'_, W>)
     ensures { PrintsText W.contents out.old out.new (bracketed bytes.now) }

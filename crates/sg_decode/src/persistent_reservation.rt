@@ -50,7 +50,7 @@ pub fn put_full_status<W: Write>(bytes: &[u8], out: &mut Printer<'_, W>)
     put_list(EntryKind::FullStatusDescriptors, bytes, out);
 }
 
-/// Prints the header, and the entries of a kind behind it.
+/// Prints the header, and the entries of a kind after it.
 fn put_list<W: Write>(kind: EntryKind, bytes: &[u8], out: &mut Printer<'_, W>)
     ensures { PrintsText W.contents out.old out.new (decoded (list_of kind) bytes.now) }
 {
@@ -69,7 +69,7 @@ pub fn put_reservation<W: Write>(bytes: &[u8], out: &mut Printer<'_, W>)
     }
 }
 
-/// Shows the reservation, of which ADDITIONAL LENGTH counts `size` bytes.
+/// Shows the reservation. ADDITIONAL LENGTH counts `size` bytes of it.
 fn show_reservation<W: Write>(size: usize, bytes: &[u8], out: &mut Printer<'_, W>)
     requires size { size < 2 ^ 32 }
     requires header { 8 ≤ length bytes.now }

@@ -22,10 +22,10 @@ use sg_wire::{Printer, Watched};
 use std::io;
 use std::io::Write;
 
-/// How many bytes of a text are gathered for a write.
+/// The number of bytes of a text that are gathered for a write.
 pub const GATHERED: usize = 512;
 
-/// Prints standard INQUIRY data (SPC-4, 6.6.2), and what follows its 36 bytes in hex lines.
+/// Prints standard INQUIRY data (SPC-4, 6.6.2), and the bytes after its 36 bytes in hex lines.
 ///
 /// # Errors
 ///
@@ -56,8 +56,8 @@ pub fn print_vpd<W: Write>(bytes: &[u8], writer: &mut Watched<W>) -> io::Result<
     out.finish()
 }
 
-/// Prints mode parameters (SPC-4, 7.5), those of MODE SENSE(10) where `ten` is true, and otherwise
-/// those of MODE SENSE(6).
+/// Prints mode parameters (SPC-4, 7.5) of MODE SENSE(10) if `ten` is true, and otherwise of MODE
+/// SENSE(6).
 ///
 /// # Errors
 ///

@@ -21,7 +21,7 @@ pub fn put_sense<W: Write>(bytes: &[u8], out: &mut Printer<'_, W>)
     put_read_sense(Sense::read(bytes), out);
 }
 
-/// Prints the line of sense data that was read, `None` where it could not be read.
+/// Prints the line of sense data that was read. `sense` is `None` if it could not be read.
 pub fn put_read_sense<W: Write>(sense: Option<Sense>, out: &mut Printer<'_, W>)
     ensures { PrintsText W.contents out.old out.new (sense_text (option_map fields_of sense)) }
 {

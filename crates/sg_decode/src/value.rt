@@ -1,4 +1,4 @@
-// The fields of an answer, and how their values are shown.
+// The fields of an answer, and the texts of their values.
 ghost use Rattle.std.specs.Prelude.{◌≡◌, ◌≤◌, ◌<◌, ◌+◌, ◌^◌, ◌++◌, drop, [], length, codes};
 ghost use Rattle.std.specs.Prelude.{option_map, true, if◌then◌else◌};
 ghost use Rattle.byteorder.specs.Endian.{big_number};
@@ -14,7 +14,7 @@ use byteorder::{BigEndian, ByteOrder};
 use sg_wire::Printer;
 use std::io::Write;
 
-/// Where a value lies in some bytes, and how it is shown. A byte is named by its index.
+/// The place of a value in some bytes, and how it is shown. A byte is named by its index.
 pub(crate) enum Value {
     /// The bits of a byte from a high one down to a low one, in decimal.
     Bits(usize, u8, u8),
@@ -36,7 +36,7 @@ pub(crate) enum Value {
     ReservationTypes(usize),
 }
 
-/// A label and the value behind it.
+/// A label and the value after it.
 pub(crate) struct Field(pub &'static [u8], pub Value);
 
 impl Value {

@@ -51,7 +51,7 @@ pub fn put_vpd<W: Write>(bytes: &[u8], out: &mut Printer<'_, W>)
     }
 }
 
-/// Shows what follows the header, by the page code.
+/// Shows the bytes after the header, by the page code.
 fn show_page<W: Write>(code: u8, end: usize, bytes: &[u8], out: &mut Printer<'_, W>)
     requires end { end ≤ 2 ^ 17 }
     requires header { 4 ≤ length bytes.now }

@@ -1,4 +1,4 @@
--- What an accepted list changes.
+-- The changes of an accepted list.
 use Rattle.std.proofs.Common.{◌≡◌, ℕ, ◌+◌, List, [], ◌∷◌, ◌++◌, length, drop, Bool, true, false}
 use Rattle.std.proofs.Common.{cond, refl, sym, ap, ◌∙◌}
 use Rattle.std.specs.Prelude.{Some, Result, Ok, Err, bit_or, unwrap_or, ◌==◌}
@@ -58,7 +58,7 @@ differences-at m n (o ∷ expected) (i ∷ ignored) (x ∷ xs) e =
     by true e k = k e
     by false e k = cc
 
--- behind the first byte
+-- after the first byte
 tail-nil : (offset o i : ℕ) (expected ignored xs : List ℕ)
     → differences offset (o ∷ expected) (i ∷ ignored) xs ≡ []
     → differences (offset + 1) expected ignored (drop 1 xs) ≡ []

@@ -83,7 +83,7 @@ map-or : {A B : Type 0} (f : A → B) (o p : Option A) → option_map f (option_
 map-or f None p = refl
 map-or f (Some x) p = refl
 
--- the first fault of two parts, one behind the other
+-- the first fault of two parts, one after the other
 pub first_fault-append : (list_length n : ℕ) (a b : List ℕ) → Below n a → From n b
     → first_fault list_length (a ++ b)
     ≡ option_or (first_fault list_length a) (first_fault list_length b)
@@ -141,7 +141,7 @@ differences-nil offset [] ignored = refl
 differences-nil offset (o ∷ expected) [] = refl
 differences-nil offset (o ∷ expected) (m ∷ ignored) = refl
 
--- two stretches, one behind the other
+-- two stretches, one after the other
 pub differences-append : (offset : ℕ) (expected expected' ignored ignored' bytes bytes' : List ℕ)
     → length ignored ≡ length expected → length bytes ≡ length expected →
     differences offset (expected ++ expected') (ignored ++ ignored') (bytes ++ bytes')
@@ -190,7 +190,7 @@ cut-from n offset true = (omega arith, tt)
 pub truncation_of-from : (p : Part) → From (p.offset + length p.bytes) (truncation_of p)
 truncation_of-from p = cut-from (length p.bytes) p.offset (nat_lt (length p.bytes) p.size)
 
--- the faults of a part stand in it
+-- the faults of a part are not before it
 pub part_faults-from : (expected ignored : List ℕ) (offset size : ℕ) (list : List ℕ)
     → From offset (part_faults expected ignored (part_at offset size list))
 part_faults-from expected ignored offset size list =
@@ -248,7 +248,7 @@ rest-same offset k expected ignored sent h i j e =
     ap least (sym (rest-cons offset k expected ignored sent h i j
     ∙ ap (λ c. cond c rest ((offset + k) ∷ rest)) (eq-eqb _ _ e)))
 
--- the first that differs
+-- the first byte that differs
 pub rest-differs : (offset k : ℕ) (expected ignored sent : List ℕ) → k < length expected
     → k < length ignored → k < length sent →
     (bit_or (get_or sent k 0) (get_or ignored k 0)

@@ -8,7 +8,7 @@ use Rattle.sg_pages.specs.ModeSense.{length_bytes, header_after_length, list_aft
 use Rattle.sg_pages.specs.ModeSense.{mode_parameter_list}
 use Rattle.sg_pages.proofs.PageLemmas.{put-two}
 
--- header, block descriptor and pages, where the header has their lengths
+-- header, block descriptor and pages, if the header has their lengths
 pub list-put : PartsArePutInTurn → (p q r s : CutAnswer) (state : ModeState) (asked : RequestFields)
     (descriptor following : ℕ) → descriptor ≡ length (descriptor_data asked)
     → (let pages = requested_pages (selected_by state asked.page_control) asked.page_code in

@@ -56,7 +56,7 @@ header-whole ten list h = ap (λ c. cond c ((0 + length (take (header_length ten
     (le-ltb (length (take (header_length ten) list)) (header_length ten)
     (omega (arith, length-take (header_length ten) list)))
 
--- what stands before the descriptor's length is looked at first
+-- the part before the descriptor's length is looked at first
 header-split : (ten : Bool) (list : List ℕ) → first_fault (length list) (header_faults ten list)
     ≡ option_or (first_fault (length list)
     (part_faults (zeros_for (ignored_header_bits ten)) (ignored_header_bits ten)
@@ -95,7 +95,7 @@ header-split ten list =
           (sym uncut))
     ]
 
--- the same where the kind of command is known
+-- the same if the kind of command is known
 pub header-split-at : (ten known : Bool) (list : List ℕ) → ten ≡ known
     → first_fault (length list) (header_faults ten list)
     ≡ option_or (first_fault (length list)
@@ -154,7 +154,7 @@ no-descriptor ten blocks list e =
     ∙ ap (λ xs. first_fault (length list) (xs ++ []))
     (differences-nil (header_length ten) (expected []) (zeros_for (expected [])))
 
--- which descriptor is announced by its length
+-- the descriptor that its length announces
 long-by : (n : ℕ) (long : Bool) → n ≡ descriptor_length long
     → (n ≡ 8 → long ≡ false) × ((n ≡ 8 → ⊥) → (long ≡ true) × (n ≡ 16))
 long-by n true e = (λ h. absurd (omega arith), λ h. (refl, e))

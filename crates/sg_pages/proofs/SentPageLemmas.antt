@@ -1,4 +1,4 @@
--- A page that is sent: its two bytes of header, and its values behind them.
+-- A page that is sent: its two bytes of header, and its values after them.
 use Rattle.std.proofs.Common.{◌≡◌, ◌≤◌, ◌<◌, ℕ, suc, ◌+◌, List, [], ◌∷◌, ◌++◌, length, take, drop}
 use Rattle.std.proofs.Common.{get_or, Bool, true, false, cond, refl, sym, ap, ◌∙◌, arith, inl, inr}
 use Rattle.std.proofs.Common.{append_assoc, add-zero}
@@ -27,11 +27,11 @@ use Rattle.sg_pages.proofs.FaultLemmas.{first_fault-append, field}
 
 -- ---- One check after another
 
--- what a check answers
+-- the result of a check
 abbrev pub checked : Option ModeSelectFault → Result (Unit {0}) ModeSelectFault
 checked fault = unless_fault fault (tt {0})
 
--- w is what a and then b find
+-- w is the first fault that a finds, and otherwise the first fault that b finds
 pub first-fails : {A : Type 0} (w a b : Option ModeSelectFault) (fault : ModeSelectFault)
     (value : A) → w ≡ option_or a b → Err fault ≡ checked a → Err fault ≡ unless_fault w value
 first-fails w None b fault value e h = cc
@@ -54,13 +54,13 @@ both-pass w (Some f) b value e h k = cc
 
 -- ---- The header of a page
 
--- the faults of a part, by what the list has from its offset on
+-- the faults of a part, by the list's bytes from the part's offset on
 abbrev faults_in : (offset size : ℕ) (expected ignored rest : List ℕ) → List ℕ
 faults_in offset size expected ignored rest =
     differences offset expected ignored (take size rest) ++ cond
     (nat_lt (length (take size rest)) size) ((offset + length (take size rest)) ∷ []) []
 
--- where the list ends behind a page's first byte
+-- the list ends after a page's first byte
 one_byte : (list_length offset : ℕ) (c : Bool) (o : Option ModeSelectFault) →
     (let x = first_fault list_length (cond c [] (offset ∷ []) ++ ((offset + 1) ∷ [])) in
     x ≡ option_or x o)
@@ -114,7 +114,7 @@ other_length list_length offset h0 h1 x y o p h =
     ap (λ d. option_or (first_fault list_length (f c d)) o) d
     ∙ (at c ∙ sym (ap (λ d. option_or (first_fault list_length (f c d ++ [])) p) d))
 
--- a page's faults are those of its header, and behind it those of its values
+-- a page's faults are the faults of its header, and after them the faults of its values
 page-split : (list_length offset h0 h1 : ℕ) (expected ignored rest : List ℕ) → h1 ≡ length expected
     → 0 < length rest →
     first_fault list_length (faults_in offset (2 + get_or rest 1 0) (h0 ∷ h1 ∷ expected)
@@ -160,7 +160,7 @@ page-split list_length offset h0 h1 expected ignored (x ∷ y ∷ ss) e h =
           (first_fault list_length (back (length expected))) other
     ]))
 
--- the same of a page in a list
+-- the same for a page in a list
 pub sent_page-split : (list_length offset code : ℕ) (expected ignored list : List ℕ)
     → offset < length list →
     first_fault list_length (part_faults (page_bytes code expected) (0x80 ∷ 0x00 ∷ ignored)
@@ -211,7 +211,7 @@ sent_values offset n list e =
 
 -- ---- Which page is sent
 
--- the page code of the page at a offset
+-- the page code of the page at an offset
 pub sent_code-page_at : (offset : ℕ) (list : List ℕ) → sent_code (page_at offset list)
     ≡ bit_and (get_or list offset 0) 0x3F
 sent_code-page_at offset list =
@@ -221,7 +221,7 @@ sent_code-page_at offset list =
     ∙ (get_or-drop offset list 0 0 ∙ ap (λ k. get_or list k 0) (add-zero offset)) in
     ap (λ byte. bit_and byte 0x3F) here
 
--- a page has the code by which it was found
+-- a page has the code that found it
 holds-at : (test : ModePage → Bool) (pages : List ModePage) (page : ModePage)
     → find test pages ≡ Some page → test page ≡ true
 holds-at test [] page e = cc

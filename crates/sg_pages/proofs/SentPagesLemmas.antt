@@ -1,4 +1,4 @@
--- The pages of a list, one behind the other.
+-- The pages of a list, one after the other.
 use Rattle.std.proofs.Common.{◌≡◌, ◌≤◌, ◌<◌, ℕ, zero, suc, ◌+◌, List, [], ◌∷◌, ◌++◌, length, drop}
 use Rattle.std.proofs.Common.{Bool, true, false, cond, refl, sym, ap, ◌∙◌, arith, reverse}
 use Rattle.std.specs.Prelude.{Option, Some, None, Ok, Err, find, unwrap_or, nat_lt, ◌==◌}
@@ -27,7 +27,7 @@ pages_up_to-end (suc n) offset list h =
     ap (λ c. cond c (page_at offset list ∷ pages_up_to n (offset + (page_at offset list).size) list)
     []) (le-ltb offset (length list) h)
 
--- enough turns are as good as more
+-- more turns than are needed change nothing
 enough : (n m offset : ℕ) (list : List ℕ) → length list ≤ offset + n → length list ≤ offset + m
     → pages_up_to n offset list ≡ pages_up_to m offset list
 enough zero m offset list h k = sym (pages_up_to-end m offset list (omega arith))
@@ -54,7 +54,7 @@ pages_from-next offset (x ∷ xs) h =
     ∙ ap (λ rest. page_at offset list ∷ rest)
     (enough (length xs) (length list) next list (omega arith) (omega arith))
 
--- ---- Where their faults stand
+-- ---- The places of their faults
 
 against-from : (current : PageValues) (offset : ℕ) (list : List ℕ) → (o : Option ModePage) →
     From offset (option_map_or (faults_against current (page_at offset list)) o (offset ∷ []))
@@ -123,7 +123,7 @@ next-faults current offset list h =
     (flat_map (page_faults current) (pages_from next list)) (page_faults-below current offset list)
     (pages_from-from current next list)
 
--- its values stand where no later page has its code
+-- its values stay if no later page has its code
 later : (o : Option Part) (p : Part) (b : Bool) (v : List ℕ) →
     unwrap_or (option_map (λ (q : Part). drop 2 q.bytes) (option_or o (cond b (Some p) None))) v
     ≡ unwrap_or (option_map (λ (q : Part). drop 2 q.bytes) o) (cond b (drop 2 p.bytes) v)

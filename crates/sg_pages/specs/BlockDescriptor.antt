@@ -2,8 +2,8 @@
 use Rattle.std.specs.Prelude.{ℕ, min, List, [], ◌∷◌, ◌++◌, Bool, if◌then◌else◌}
 use Rattle.byteorder.specs.Endian.{big_bytes}
 
--- How many bytes the short and the long descriptor have, and how many of them are NUMBER OF LOGICAL
--- BLOCKS.
+-- The length of the short and of the long descriptor in bytes, and the length of their field NUMBER
+-- OF LOGICAL BLOCKS.
 abbrev pub descriptor_length : (long : Bool) → ℕ
 descriptor_length long = if long then 16 else 8
 
@@ -15,7 +15,7 @@ abbrev pub logical_block_length : ℕ
 logical_block_length = 512
 
 -- NUMBER OF LOGICAL BLOCKS, reserved bytes, and LOGICAL BLOCK LENGTH. In the short descriptor a
--- greater number than fits is FFFFFFFFh.
+-- number that does not fit is FFFFFFFFh.
 unfoldable pub block_descriptor : (long : Bool) (blocks : ℕ) → List ℕ
 block_descriptor long blocks =
     if long then big_bytes 8 blocks ++ (0 ∷ 0 ∷ 0 ∷ 0 ∷ []) ++ big_bytes 4 logical_block_length

@@ -4,7 +4,7 @@ use Rattle.sg_pages.specs.declared.mode_pages.mode_page.ModePage.{ModePage}
 use Rattle.sg_pages.specs.ModePage.{ModeState, row_of, values_of}
 use Rattle.sg_pages.specs.ModeSelect.{differences, mode_select}
 
--- A MODE SELECT changes only bits that can be changed: from byte 2 on no byte of a page differs in
+-- A MODE SELECT changes only bits that can be changed: from byte 2 on, no byte of a page differs in
 -- another bit.
 abbrev pub OnlyChangeableBitsChange : Type 0
 OnlyChangeableBitsChange =
@@ -21,7 +21,7 @@ OnlySpSaves =
     → mode_select before list ten false blocks ≡ Ok after
     → after.saved ≡ before.saved
 
--- A MODE SELECT with SP saves the current values of all pages, as they are after it.
+-- A MODE SELECT with SP saves the current values of all pages, as they are afterwards.
 abbrev pub SpSavesAll : Type 0
 SpSavesAll =
     (before after : ModeState) (list : List ℕ) (ten : Bool) (blocks : ℕ)

@@ -13,7 +13,7 @@ use Rattle.sg_pages.specs.declared.mode_pages.mode_page.PageValues.{PageValues}
 
 -- ---- The table
 
--- PAGE CODE and PAGE LENGTH; and for each byte from byte 2 on its default, and the bits that MODE
+-- PAGE CODE and PAGE LENGTH. For each byte from byte 2 on, its default, and the bits that MODE
 -- SELECT may change.
 pub record PageRow : Type 0 where
   pub code : ℕ
@@ -21,7 +21,7 @@ pub record PageRow : Type 0 where
   pub defaults : List ℕ
   pub changeable : List ℕ
 
--- A byte has the value that is named for it, and is else zero.
+-- A byte has the value that is named for it, and otherwise it is zero.
 abbrev pub value_at : (named : List (ℕ × ℕ)) → (byte : ℕ) → ℕ
 value_at named byte =
     option_map_or (λ (n : ℕ × ℕ). n.1) (find (λ (n : ℕ × ℕ). n.0 == byte) named) 0
@@ -91,7 +91,7 @@ values_of values Caching = values.caching
 values_of values Control = values.control
 values_of values InformationalExceptionsControl = values.exceptions_control
 
--- The bytes that a rule has for each page.
+-- The bytes that a rule gives for each page.
 abbrev pub by_page : (ModePage → List ℕ) → PageValues
 by_page rule = record {
   error_recovery = rule ReadWriteErrorRecovery;
@@ -110,7 +110,8 @@ changeable_bits = by_page (λ page. (row_of page).changeable)
 abbrev pub parameters_saveable : ℕ
 parameters_saveable = 0x80
 
--- A whole page: PS, as each page can be saved, and PAGE CODE; PAGE LENGTH; and the bytes behind it.
+-- A whole page: PS and PAGE CODE; PAGE LENGTH; and the bytes after it. PS is set, because each page
+-- can be saved.
 unfoldable pub page_bytes : (code : ℕ) (values : List ℕ) → List ℕ
 page_bytes code values = (parameters_saveable + code) ∷ length values ∷ values
 
@@ -119,7 +120,7 @@ page_data values page = page_bytes (code_of page) (values_of values page)
 
 -- ---- What a disk keeps of them
 
--- The current values and the saved ones. The default ones and the changeable bits never change.
+-- The current values and the saved ones. The default values and the changeable bits never change.
 -- Choice (SPC-4, 7.5): each initiator may have values of its own.
 pub record ModeState : Type 0 where
   pub current : PageValues
@@ -148,9 +149,9 @@ descriptor_sense state = has_bit (byte_2 (values_of state.current Control)) d_se
 abbrev pub write_protected : ModeState → Bool
 write_protected state = has_bit (byte_4 (values_of state.current Control)) swp
 
--- ---- Cited by private contracts alone
+-- ---- Cited only by private contracts
 
--- The values with other ones for a page.
+-- The values with other bytes for a page.
 abbrev pub with_values : PageValues → ModePage → List ℕ → PageValues
 with_values values changed bytes =
     by_page (λ page. if code_of changed == code_of page then bytes else values_of values page)

@@ -1,4 +1,4 @@
--- What MODE SELECT does with a mode parameter list (SPC-4, 7.5).
+-- The effect of MODE SELECT with a mode parameter list (SPC-4, 7.5).
 use Rattle.std.specs.Prelude.{ℕ, zero, suc, ◌+◌, ◌<◌, ⊤, min, nat_lt, bit_or}
 use Rattle.std.specs.Prelude.{List, [], ◌∷◌, ◌++◌, length, take, drop, slice_index}
 use Rattle.std.specs.Prelude.{map, find, reverse, Bool, not, ◌&&◌, ◌||◌, ◌==◌, if◌then◌else◌}
@@ -21,8 +21,8 @@ use Rattle.sg_pages.specs.BlockDescriptor.{number_length, descriptor_length, blo
 
 -- ---- The parts of the list
 
--- A part of the list: the offset of its first byte, how many bytes the list's own length fields
--- give it, and those of them that the list has.
+-- A part of the list: the offset of its first byte, its size, and its bytes. The size is the number
+-- of bytes that the list's own length fields give it. The bytes are those that the list has.
 pub record Part : Type 0 where
   pub offset : ℕ
   pub size : ℕ
@@ -53,12 +53,12 @@ has_longlba ten list = ten && has_bit (slice_index list 4) 0x01
 abbrev pub descriptor_in : (ten : Bool) → List ℕ → Part
 descriptor_in ten list = part_at (header_length ten) (block_descriptor_length ten list) list
 
--- A page has two bytes, of which the second is PAGE LENGTH, and as many more as that is. Where the
--- list ends before the second, it has two at least.
+-- A page has two bytes, the second of them PAGE LENGTH, and then as many bytes as PAGE LENGTH says.
+-- If the list ends before PAGE LENGTH, the page's length is two.
 abbrev pub page_at : (offset : ℕ) → List ℕ → Part
 page_at offset list = part_at offset (2 + slice_index (drop offset list) 1) list
 
--- The pages from an offset on, up to the end of the list, `count` of them at most.
+-- The pages from an offset on, up to the end of the list, at most `count` of them.
 abbrev pub pages_up_to : (count offset : ℕ) → List ℕ → List Part
 pages_up_to zero offset list = []
 pages_up_to (suc count) offset list =
@@ -90,11 +90,11 @@ abbrev pub truncation_of : Part → List ℕ
 truncation_of p =
     if nat_lt (length p.bytes) p.size then (p.offset + length p.bytes) ∷ [] else []
 
--- A part has to have the expected bytes, but for the ignored bits, and has to be whole.
+-- A part has to have the expected bytes, except for the ignored bits, and has to be whole.
 abbrev pub part_faults : (expected ignored : List ℕ) → Part → List ℕ
 part_faults expected ignored p = differences p.offset expected ignored p.bytes ++ truncation_of p
 
--- What is ignored in the header before BLOCK DESCRIPTOR LENGTH: MODE DATA LENGTH, DEVICE-SPECIFIC
+-- The ignored bits of the header before BLOCK DESCRIPTOR LENGTH: MODE DATA LENGTH, DEVICE-SPECIFIC
 -- PARAMETER and LONGLBA. MEDIUM TYPE and the reserved bits have to be zero.
 abbrev pub ignored_header_bits : (ten : Bool) → List ℕ
 ignored_header_bits ten =
@@ -109,7 +109,7 @@ is_descriptor_length ten list =
     block_descriptor_length ten list == 0
     || block_descriptor_length ten list == descriptor_length (has_longlba ten list)
 
--- It is checked where the list has the whole header.
+-- BLOCK DESCRIPTOR LENGTH is checked if the list has the whole header.
 abbrev pub length_faults : (ten : Bool) → List ℕ → List ℕ
 length_faults ten list =
     if nat_lt (length list) (header_length ten) || is_descriptor_length ten list then []
@@ -140,7 +140,7 @@ descriptor_faults ten blocks list =
 abbrev pub sent_code : Part → ℕ
 sent_code sent = bits_of (slice_index sent.bytes 0) 5 0
 
--- A page has to be as it is now, but for PS and the bits that can be changed. So SPF has to be
+-- A page has to be as it is now, except for PS and the bits that can be changed. So SPF has to be
 -- zero.
 -- Choice (SPC-4, 6.11): a change of a reserved bit may be overlooked.
 abbrev pub faults_against : (current : PageValues) → Part → ModePage → List ℕ
@@ -148,7 +148,7 @@ faults_against current sent page =
     let changeable = parameters_saveable ∷ 0x00 ∷ (row_of page).changeable in
     part_faults (page_data current page) changeable sent
 
--- Of a page that the disk does not have, the first byte is at fault.
+-- If the disk does not have a page, the page's first byte is at fault.
 abbrev pub page_faults : (current : PageValues) → Part → List ℕ
 page_faults current sent =
     option_map_or (faults_against current sent) (page_with_code (sent_code sent)) (sent.offset ∷ [])
@@ -165,7 +165,7 @@ abbrev pub least : List ℕ → Option ℕ
 least [] = None
 least (offset ∷ offsets) = Some (option_map_or (min offset) (least offsets) offset)
 
--- At the end of the list it is the parameter list length that is at fault.
+-- A fault at the end of the list is a fault of the parameter list length.
 abbrev pub fault_at : (list_length offset : ℕ) → ModeSelectFault
 fault_at list_length offset = if nat_lt offset list_length then Field offset else Length
 
@@ -215,18 +215,18 @@ mode_select state list ten save blocks =
     result_map_both (saved_after save state) (λ fault. fault)
     (selected_values state.current ten blocks list)
 
--- Whether a byte of a page differs.
+-- A byte of a page differs.
 abbrev pub differ : PageValues → PageValues → Bool
 differ a b =
     not (bytes_eq a.error_recovery b.error_recovery
     && (bytes_eq a.caching b.caching
     && (bytes_eq a.control b.control && bytes_eq a.exceptions_control b.exceptions_control)))
 
--- Whether a current byte differs afterwards.
+-- A current byte differs afterwards.
 abbrev pub changed_by : (before after : ModeState) → Changed
 changed_by before after = record { 0 = differ after.current before.current }
 
--- ---- Cited by private contracts alone
+-- ---- Cited only by private contracts
 
 -- The values after one more page that is sent.
 abbrev pub with_sent : PageValues → Part → PageValues

@@ -15,8 +15,8 @@ use Rattle.sg_pages.specs.ModePage.{ModeState, each_page, code_of, page_data}
 use Rattle.sg_pages.specs.ModePage.{default_values, changeable_bits, write_protected}
 use Rattle.sg_pages.specs.BlockDescriptor.{block_descriptor}
 
--- What a MODE SENSE requests: whether by the CDB of ten bytes; LLBAA, DBD, PC, PAGE CODE and
--- SUBPAGE CODE; and the number of blocks of the disk.
+-- The request of a MODE SENSE. It says whether the CDB has ten bytes, and has LLBAA, DBD, PC, PAGE
+-- CODE and SUBPAGE CODE. The last field is the number of blocks of the disk.
 pub record RequestFields : Type 0 where
   pub ten : Bool
   pub llbaa : Bool
@@ -72,8 +72,8 @@ is_long r = r.llbaa && not r.dbd
 abbrev pub descriptor_data : RequestFields → List ℕ
 descriptor_data r = if r.dbd then [] else block_descriptor (is_long r) r.blocks
 
--- Bits of DEVICE-SPECIFIC PARAMETER (SBC-3, 6.4.1): WP, the medium is write protected, is bit 7;
--- DPOFUA, the disk supports DPO and FUA, is bit 4.
+-- Bits of DEVICE-SPECIFIC PARAMETER (SBC-3, 6.4.1). WP, bit 7: the medium is write protected.
+-- DPOFUA, bit 4: the disk supports DPO and FUA.
 abbrev pub wp : ℕ
 wp = 0x80
 
@@ -81,19 +81,19 @@ wp = 0x80
 abbrev pub dpofua : ℕ
 dpofua = 0x10
 
--- DEVICE-SPECIFIC PARAMETER: DPOFUA, and WP where SWP is set.
+-- DEVICE-SPECIFIC PARAMETER: DPOFUA, and WP if SWP is set.
 abbrev pub device_specific : ModeState → ℕ
 device_specific state = if write_protected state then wp + dpofua else dpofua
 
--- LONGLBA and a reserved byte are in the header of MODE SENSE(10) alone. Its two lengths have two
--- bytes each, and those of MODE SENSE(6) one.
+-- Only the header of MODE SENSE(10) has LONGLBA and a reserved byte. Its two lengths have two bytes
+-- each. The two lengths of MODE SENSE(6) have one byte each.
 abbrev pub longlba_bytes : RequestFields → List ℕ
 longlba_bytes r = if r.ten then (if is_long r then 0x01 else 0x00) ∷ 0x00 ∷ [] else []
 
 abbrev pub length_bytes : (ten : Bool) → ℕ → List ℕ
 length_bytes ten length = if ten then big_bytes 2 length else length ∷ []
 
--- The header behind MODE DATA LENGTH: MEDIUM TYPE, DEVICE-SPECIFIC PARAMETER, LONGLBA, and BLOCK
+-- The header after MODE DATA LENGTH: MEDIUM TYPE, DEVICE-SPECIFIC PARAMETER, LONGLBA, and BLOCK
 -- DESCRIPTOR LENGTH.
 abbrev pub header_after_length : ModeState → RequestFields → (descriptor_length : ℕ) → List ℕ
 header_after_length state r descriptor_length =
@@ -112,7 +112,7 @@ unfoldable pub mode_parameter_list : ModeState → RequestFields → List ℕ
 mode_parameter_list state r =
     let following = list_after_length state r in length_bytes r.ten (length following) ++ following
 
--- The list, or the first field of the CDB that requests what the disk does not have.
+-- The list, or the first field of the CDB that requests something that the disk does not have.
 abbrev pub mode_sense : ModeState → RequestFields → Result (List ℕ) ModeSenseFault
 mode_sense state r =
     if not (has_page r.page_code) then Err Page

@@ -1,5 +1,5 @@
--- The pages of a disk that is thin provisioned: Block Limits and Logical Block Provisioning (SBC-3,
--- vital product data parameters).
+-- The pages of a thin provisioned disk: Block Limits and Logical Block Provisioning (SBC-3, vital
+-- product data parameters).
 use Rattle.std.specs.Prelude.{ℕ, List, [], ◌∷◌}
 use Rattle.sg_wire.specs.Fields.{Field, field, fields_bytes}
 use Rattle.sg_wire.specs.UnmapList.{maximum_unmap_descriptors}
@@ -86,7 +86,7 @@ block_limits =
 abbrev threshold_exponent : Field
 threshold_exponent = field 1 0
 
--- LBPU, LBPWS, LBPWS10, LBPRZ and ANC_SUP 1, byte 5: UNMAP and WRITE SAME (16) and (10) unmap
+-- LBPU, LBPWS, LBPWS10, LBPRZ and ANC_SUP 1, byte 5. UNMAP and WRITE SAME (16) and (10) unmap
 -- blocks, unmapped blocks read as zeros, and blocks can be anchored. DP 0: no group descriptor
 -- follows.
 abbrev provisioning_bits : Field

@@ -11,7 +11,7 @@ pub fn only_sp_saves()
     ensures { OnlySpSaves }
 {}
 
-/// A MODE SELECT with SP saves the current values of all pages, as they are after it.
+/// A MODE SELECT with SP saves the current values of all pages, as they are afterwards.
 pub fn sp_saves_all()
     ensures { SpSavesAll }
 {}

@@ -1,5 +1,5 @@
-//! What the disk reports about itself: its identity, the standard INQUIRY data and the pages of
-//! vital product data (VPD); and its mode pages, for MODE SENSE and MODE SELECT.
+//! The disk's reports about itself: its identity, the standard INQUIRY data and the pages of vital
+//! product data (VPD). The crate also has the mode pages, for MODE SENSE and MODE SELECT.
 #![tactic(auto)]
 
 mod identity;

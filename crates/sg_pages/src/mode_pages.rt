@@ -1,4 +1,4 @@
-// The mode pages between two commands. What MODE SENSE and MODE SELECT do is in the folder.
+// The mode pages between two commands. The folder has MODE SENSE and MODE SELECT.
 use std::marker::Model;
 
 mod block_descriptor;

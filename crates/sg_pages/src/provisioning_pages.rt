@@ -1,4 +1,4 @@
-// Block Limits and Logical Block Provisioning: what a thin provisioned disk adds to the pages.
+// Block Limits and Logical Block Provisioning: the pages that a thin provisioned disk adds.
 ghost use Rattle.std.specs.Prelude.{◌≡◌};
 ghost use Rattle.sg_pages.specs.ProvisioningPages.{block_limits, logical_block_provisioning};
 
@@ -14,8 +14,8 @@ pub const MAXIMUM_WRITE_SAME_LENGTH: u32 = 65_536;
 /// A WRITE SAME of no block is refused.
 const WSNZ: u8 = 0x01;
 
-/// UNMAP and WRITE SAME (16) and (10) unmap blocks (LBPU, LBPWS and LBPWS10), unmapped blocks read as
-/// zeros (LBPRZ), and blocks can be anchored (ANC_SUP).
+/// UNMAP and WRITE SAME (16) and (10) unmap blocks (LBPU, LBPWS and LBPWS10), unmapped blocks read
+/// as zeros (LBPRZ), and blocks can be anchored (ANC_SUP).
 const PROVISIONING_BITS: u8 = 0x80 | 0x40 | 0x20 | 0x04 | 0x02;
 
 /// PROVISIONING TYPE.

@@ -46,7 +46,7 @@ bytes-past (d ∷ ds) (suc k) few =
     ap (λ n. drop n (all_bytes (d ∷ ds))) next ∙ sym (drop-drop (16 * k) 16 (all_bytes (d ∷ ds)))
     ∙ bytes-past ds k (omega arith)
 
--- what it has from a descriptor on
+-- the bytes of the answer from a descriptor on
 from-descriptor : (ds : List StatusDescriptor) (k : ℕ) → k < length ds → drop (8 + 16 * k) (status_data ds)
     ≡ descriptor_bytes (get_or ds k no_descriptor) ++ all_bytes (drop (k + 1) ds)
 unfolding status_data
@@ -64,7 +64,7 @@ code-small Anchored = omega arith
 low-bits : (x : ℕ) → x < 16 → bits_of x 3 0 ≡ x
 low-bits x small = and_mask x 4 ∙ mod-eq_of_lt small
 
--- its fields have room
+-- its fields fit
 pub record HasRoom (d : StatusDescriptor) : Type 0 where
   pub lba : d.lba < 2 ^ 64
   pub count : d.count < 2 ^ 32
@@ -97,7 +97,7 @@ module _ (ds : List StatusDescriptor) (n : ℕ) (few : length ds ≤ 512) (enoug
   unfolding whole_count
   count-is = omega (arith, end-is, length-take n (status_data ds), data-long ds)
 
-  -- what is left of it from a descriptor on that is whole
+  -- the bytes that are left of the answer from a whole descriptor on
   own-is : (k : ℕ) → k < length ds → 24 + 16 * k ≤ n → drop (8 + 16 * k) cut
       ≡ descriptor_bytes (get_or ds k no_descriptor)
       ++ take (n - (24 + 16 * k)) (all_bytes (drop (k + 1) ds))
@@ -118,7 +118,7 @@ module _ (ds : List StatusDescriptor) (n : ℕ) (few : length ds ≤ 512) (enoug
       ∙ descriptor-read (get_or ds k no_descriptor)
       (take (n - (24 + 16 * k)) (all_bytes (drop (k + 1) ds))) (room k no_descriptor within)
 
-  -- The whole ones are the first ones.
+  -- The whole descriptors are the first descriptors.
   pub whole-are : whole_descriptors cut ≡ map fields_of (take ((n - 8) / 16) ds)
   whole-are =
       let k = whole_count cut in

@@ -11,7 +11,7 @@ use Rattle.hex.proofs.Pairs.{prepend, decode_start, decode_step, decode_err, dec
 use Rattle.hex.proofs.HexLemmas.{decode_of-even}
 use Rattle.sg_tools.specs.HexDigits.{no_digit, digit_or_none}
 
--- what is known after the first pairs: the bytes so far, or that a digit was none
+-- the facts after the first pairs: the bytes so far, or a byte that is no digit
 abbrev pub ReadsPairs : (are_digits : Bool) → (digits bytes : List ℕ) → (count : ℕ) → Type 0
 ReadsPairs true digits bytes count =
     decode_pairs 0 digits ≡ prepend (take count bytes) (decode_pairs (2 * count) (drop (2 * count) digits))

@@ -1,4 +1,4 @@
--- The descriptors from an address on, in however many answers.
+-- The descriptors from an address on, in any number of answers.
 use Rattle.std.proofs.Common.{◌≡◌, ℕ, ◌+◌, ◌-◌, ◌<◌, ◌≤◌, zero, suc, List, [], ◌∷◌, ◌++◌, length}
 use Rattle.std.proofs.Common.{take, arith, refl, sym, ap, ap₂, subst, ◌∙◌, inl, inr, cond, Bool, true}
 use Rattle.std.proofs.Common.{eq-eqb}
@@ -32,7 +32,7 @@ alike-some m capacity a below =
 -- ---- Descriptors that follow one another
 
 module _ (m : Contents) (capacity : ℕ) where
-  -- those from an address on, and where they end
+  -- the descriptors from an address on, and the address at their end
   abbrev pub from : (start most : ℕ) → List StatusDescriptor
   from start most = descriptors_from m capacity start most
 
@@ -54,7 +54,7 @@ module _ (m : Contents) (capacity : ℕ) where
   pub end-past : (start most : ℕ) → capacity ≤ start → end start most ≡ start
   end-past start most past = omega (arith, ap covered (descriptors-end m capacity start most past))
 
-  -- what is past the first of them are those from their end on
+  -- after the first of them come the descriptors from their end on
   pub from-split : (first rest start : ℕ)
       → from start (first + rest) ≡ from start first ++ from (end start first) rest
   from-split zero rest start =
@@ -97,7 +97,7 @@ module _ (m : Contents) (capacity : ℕ) where
         ∙ sym (ap (from start) more ∙ descriptors-first m capacity start (min k most) below)
   ]
 
-  -- As many as there are addresses are all.
+  -- As many descriptors as there are addresses are all.
   pub from-all : (most more start : ℕ) → capacity ≤ start + most → from start (most + more) ≡ from start most
   from-all zero more start room =
       descriptors-end m capacity start (zero + more) (omega arith)
@@ -136,7 +136,7 @@ module _ (m : Contents) (capacity : ℕ) where
         end-first start most below ∙ end-all most (next start) (omega arith) (omega arith)
   ]
 
-  -- There is one where there is an address.
+  -- There is a descriptor if there is an address.
   pub from-some : (most start : ℕ) → start < capacity → 0 < most → 0 < length (from start most)
   from-some zero start below some = absurd (omega arith)
   from-some (suc most) start below some =
@@ -178,7 +178,7 @@ module _ (m : Contents) (capacity : ℕ) where
 
   -- ---- Each of them
 
-  -- it ends with the disk or before, and its count has room
+  -- it ends with the disk or before, and its count fits
   abbrev pub IsNarrow : StatusDescriptor → Type 0
   IsNarrow d = (d.lba + d.count ≤ capacity) × (d.count ≤ max_addresses)
 

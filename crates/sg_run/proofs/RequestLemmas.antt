@@ -1,4 +1,4 @@
--- What a line asks for, by the first of its words.
+-- The request of a line, by the first of its words.
 use Rattle.std.proofs.Common.{◌≡◌, ◌≤◌, ◌<◌, ℕ, ◌-◌, List, [], ◌∷◌, length, map, take, drop}
 use Rattle.std.proofs.Common.{slice_index, slice_index_or, Bor, Option, Some, None, true, false, refl}
 use Rattle.std.proofs.Common.{sym, ap, ◌∙◌, arith}
@@ -31,7 +31,7 @@ after-tests : (text verb : List ℕ) (operands : List (List ℕ))
 after-tests text verb operands no_comment allowed few =
     rw (no_comment, allowed, few-words (length (verb ∷ operands)) few) refl
 
--- the first words of a text of which this many are kept
+-- the first words of a text; this many of its words are kept
 pub record HasFirstWords (text verb : List ℕ) (operands : List (List ℕ)) : Type 0 where
   pub words_are : verb ∷ operands ≡ take 6 (words text)
   pub no_comment : (slice_index verb 0 == 0x23) ≡ false
@@ -51,7 +51,7 @@ by-first_words text verb operands (v ∷ os) first no_comment allowed few =
     let tested = after-tests text v os (rw (← same_verb) no_comment) allowed few in
     rw (same_verb) (same_operands, tested)
 
--- a verb, which no initiator is
+-- a verb, which is no initiator
 pub request-by_verb : (text verb : List ℕ) (operands : List (List ℕ))
     → HasFirstWords text verb operands → initiator_of verb ≡ None
     → by_verb verb operands ≡ text_request text
@@ -75,7 +75,7 @@ request-by_tool text verb operands initiator w some =
     let by_word : Option ℕ → LineRequest = λ i. by_first_word i verb (drop 1 all) in
     (by.0, sym (by.1 ∙ ap by_word some))
 
--- of borrowed words, the first of which is the verb
+-- borrowed words, whose first is the verb
 pub first_words : (text : List ℕ) (kept : List (Bor (List ℕ))) (d : Bor (List ℕ))
     → map (λ word. word.now) kept ≡ take 6 (words text) → 1 ≤ length kept
     → (slice_index (slice_index_or kept 0 d).now 0 == 0x23) ≡ false

@@ -1,4 +1,4 @@
--- What GET LBA STATUS returns where it ends with GOOD.
+-- The data-in of GET LBA STATUS, if it ends with GOOD.
 use Rattle.std.proofs.Common.{◌≡◌, ℕ, List, Option, Some, None, Result, Ok, refl, sym, subst}
 use Rattle.sg_wire.specs.Layout.{command_of}
 use Rattle.sg_wire.specs.declared.command.CdbFault.{CdbFault}

@@ -23,7 +23,7 @@ first-take : (tool : List (List ℕ)) → first_tool (take 5 tool) ≡ first_too
 first-take [] = refl
 first-take (word ∷ words) = refl
 
--- of those that are kept
+-- of the words that are kept
 pub name_of : (initiator : ℕ) (name : Option ToolName) (kept tool : List (List ℕ))
     → name ≡ first_tool kept → kept ≡ take 5 tool
     → named_tool initiator name tool ≡ tool_line initiator tool
@@ -32,7 +32,7 @@ name_of initiator name kept tool is same =
 
 -- ---- all of them, as texts
 
--- the words after the first of those that are kept
+-- the words after the first kept word
 abbrev pub others : List (Bor (List ℕ)) → List (Bor (List ℕ))
 others kept = take (length kept - 1) (drop 1 kept)
 
@@ -75,7 +75,7 @@ all-others text kept same few =
     ∙ (sym (drop-map now 1 kept)
     ∙ ap (drop 1) (same ∙ take_all 64 (words text) few))
 
--- ---- what they ask for, in a text
+-- ---- the request of a text
 
 pub asked-in_text : (text : List ℕ) (kept : List (List ℕ)) (name : ToolName)
     → list_all is_allowed text ≡ true → length (words text) ≤ word_limit → kept ≡ words text
@@ -90,7 +90,7 @@ names-in_text : (asked : ToolRequest) → names_tool (in_text asked) ≡ true
 names-in_text (Ok tool) = refl
 names-in_text (Err fault) = refl
 
--- what a tool returns is what its text asks for, or memory was refused
+-- a tool returns the request of its text, or memory was refused
 pub read-in_text : (text : List ℕ) (result : Result Tool TextFault) (expected parsed : ToolRequest)
     → result ≡ in_text parsed → IsUnlessOutOfMemory expected parsed
     → tool_of_text text ≡ in_text expected → IsReadUnlessOutOfMemory text result

@@ -37,7 +37,7 @@ module _ (disk : Disk) (fits : disk.capacity < 2 ^ 64) where
   abbrev after : (start most : ℕ) → ℕ
   after start most = end m c start most
 
-  -- ---- Where the last descriptor ends
+  -- ---- The end of the last descriptor
 
   end-of_one : (start : ℕ) → start < c → address_after (fields_of (descriptor_at m c start))
       ≡ Some (start + count_alike m c start)
@@ -85,7 +85,7 @@ module _ (disk : Disk) (fits : disk.capacity < 2 ^ 64) where
       let narrow = each-narrow m c most start k d here in
       record { lba = omega (arith, narrow.0); count = omega (arith, narrow.1) }
 
-  -- how many whole descriptors it has, at most
+  -- the most whole descriptors that it has
   abbrev whole_of : (n : ℕ) → ℕ
   whole_of n = min ((n - 8) / 16) max_descriptors
 
@@ -127,7 +127,7 @@ module _ (disk : Disk) (fits : disk.capacity < 2 ^ 64) where
       ap (λ b. cond b (status_answer disk start n
       ∷ option_map_or (walk disk lengths) (next_start (status_answer disk start n)) []) []) off
 
-  -- ---- What it names
+  -- ---- The descriptors that it names
 
   abbrev Roomy : List ℕ → Type 0
   Roomy lengths = All (λ n. room_for_one ≤ n) lengths
@@ -135,7 +135,7 @@ module _ (disk : Disk) (fits : disk.capacity < 2 ^ 64) where
   abbrev named : (lengths : List ℕ) (start : ℕ) → List Descriptor
   named lengths start = named_by (walk disk lengths start)
 
-  -- all is what it names, and a rest
+  -- all descriptors are the named ones, and a rest
   record Names (lengths : List ℕ) (start : ℕ) : Type 0 where
     rest : List Descriptor
     all : every_read disk start ≡ named lengths start ++ rest
@@ -196,7 +196,7 @@ module _ (disk : Disk) (fits : disk.capacity < 2 ^ 64) where
         (All-tail (λ n. room_for_one ≤ n) n lengths roomy)))
   ]
 
-  -- ---- Where it ends
+  -- ---- The end of the walk
 
   abbrev Enough : (lengths : List ℕ) (start : ℕ) → Type 0
   Enough lengths start = length (every_descriptor disk start) ≤ length lengths
@@ -210,7 +210,7 @@ module _ (disk : Disk) (fits : disk.capacity < 2 ^ 64) where
       let joined = length-append (those start (whole_of n)) (every m c (after start (whole_of n))) in
       omega (arith, some, all, joined, enough)
 
-  -- without a length for it no descriptor is left
+  -- if no length is left for it, no descriptor is left
   none-left : (start : ℕ) → start < c → Enough [] start → ⊥
   none-left start below enough =
       let some = from-some m c (c - start) start below (omega arith) in omega (arith, some, enough)
@@ -237,7 +237,7 @@ module _ (disk : Disk) (fits : disk.capacity < 2 ^ 64) where
         ∙ sym (every-on n start low)
   ]
 
-  -- where the next answer would begin, after an answer that leads to the first of these
+  -- the address of the next answer, after an answer that leads to the first of these
   abbrev leads : Option (List ℕ) → Option ℕ
   leads last = option_and_then next_start last
 
@@ -292,7 +292,7 @@ module _ (disk : Disk) (fits : disk.capacity < 2 ^ 64) where
         ∙ sym (walk-on n lengths start below wide)
   ]
 
-  -- ---- How often an address is named
+  -- ---- The number of times that an address is named
 
   abbrev one_if : Bool → ℕ
   one_if b = cond b 1 0

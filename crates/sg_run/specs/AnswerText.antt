@@ -1,4 +1,4 @@
--- How the bytes of an answer are printed.
+-- The text of the bytes of an answer.
 use Rattle.std.specs.Prelude.{ℕ, List, [], true, false}
 use Rattle.sg_decode.specs.HexText.{hex_lines}
 use Rattle.sg_decode.specs.Inquiry.{inquiry}

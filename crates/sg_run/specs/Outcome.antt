@@ -1,4 +1,4 @@
--- From a line and the state before it to its text, its exit status and the state after it.
+-- A line and the state before it have an outcome: a text, an exit status and the state after it.
 use Rattle.std.specs.Prelude.{ℕ, ◌*◌, List, [], ◌∷◌, ◌++◌, replicate, Option, codes, Ok, Err, Bool}
 use Rattle.std.specs.Prelude.{if◌then◌else◌}
 use Rattle.sg_wire.specs.Layout.{cdb_of}
@@ -26,7 +26,7 @@ use Rattle.sg_run.specs.Request.{request_of, show_answer}
 use Rattle.sg_run.specs.declared.request.line_fault.LineFault.{LineFault}
 use Rattle.sg_run.specs.declared.request.line_fault.LineFault.TheVariants.{OutOfMemory}
 
--- What is printed, the exit status, and the state of the disk afterwards.
+-- The text that is printed, the exit status, and the state of the disk afterwards.
 pub record Outcome : Type 0 where
   pub text : List ℕ
   pub status : ℕ
@@ -46,13 +46,13 @@ abbrev pub sense_lines : (sense : List ℕ) → List ℕ
 sense_lines [] = []
 sense_lines (byte ∷ bytes) = sense_line (byte ∷ bytes)
 
--- Data-in is shown where the command ended with GOOD.
+-- Data-in is shown if the command ended with GOOD.
 abbrev pub shown_answer : Status → Show → (data_in : List ℕ) → List ℕ
 shown_answer Good show data_in = answer_text show data_in
 shown_answer CheckCondition show data_in = []
 shown_answer ReservationConflict show data_in = []
 
--- A command's status, its sense data where it has some, and its data-in.
+-- A command's status, its sense data if it has some, and its data-in.
 abbrev pub reply_text : (number : ℕ) → Show → Status → (sense data_in : List ℕ) → List ℕ
 reply_text number show status sense data_in =
     line_header number (status_name status) ++ (sense_lines sense ++ shown_answer status show data_in)
@@ -116,8 +116,8 @@ by_request number out_of_memory state (run_tool initiator request) =
     if out_of_memory then fault_outcome number state OutOfMemory
     else tool_outcome number state initiator request
 
--- What the line with a number does, by what is kept of it, which is nothing where it is too long,
--- and by whether a tool was refused memory.
+-- The outcome of the line with a number, by what is kept of it, and by whether a tool was refused
+-- memory. Nothing is kept of a line that is too long.
 unfoldable pub outcome : (number : ℕ) → (line : Option (List ℕ)) → (out_of_memory : Bool) → State
     → Outcome
 outcome number line out_of_memory state = by_request number out_of_memory state (request_of line)

@@ -1,4 +1,4 @@
--- How an outcome is met by what was printed, the status and the state.
+-- An outcome, compared with the printed text, the status and the state.
 use Rattle.std.specs.Prelude.{◌≡◌, ℕ, List, Option, Result, Bool, IfOk}
 use Rattle.sg_wire.specs.Printer.{PrintsText}
 use Rattle.sg_wire.specs.Watched.{SendsText}
@@ -7,15 +7,14 @@ use Rattle.sg_wire.specs.declared.watched.Watched.{Watched}
 use Rattle.sg_target.specs.State.{State}
 use Rattle.sg_run.specs.Outcome.{Outcome}
 
--- An outcome's text was printed, where `contents` is what a writer holds; its status and its state
--- are these.
+-- The text, the status and the state are an outcome's. `contents` is what a writer holds.
 pub record HasOutcome {W : Type 0} (contents : W → Option (List ℕ)) (old new : Printer W)
     (state : State) (status : ℕ) (outcome : Outcome) : Type 0 where
   pub text : PrintsText contents old new outcome.text
   pub state_is : state ≡ outcome.state
   pub status_is : status ≡ outcome.status
 
--- The same of one of two outcomes: memory was refused, or it was not.
+-- The same for one of two outcomes: memory was refused, or it was not.
 pub record HasOutcomeUnlessOutOfMemory {W : Type 0} (contents : W → Option (List ℕ))
     (old new : Printer W) (state : State) (status : ℕ) (outcome : (out_of_memory : Bool) → Outcome)
     : Type 0 where

@@ -1,4 +1,5 @@
--- What the words of a text ask a tool for: those of a script's line without its initiator.
+-- The request that a text's words make to a tool: the words of a script's line without its
+-- initiator.
 use Rattle.std.specs.Prelude.{◌≡◌, ◌⊎◌, ℕ, List, Option, Some, None, Result, Ok, Err, Bool, true, false}
 use Rattle.sg_tools.specs.Requests.{request, Request as ToolRequest}
 use Rattle.sg_tools.specs.declared.tool.Tool.{Tool}
@@ -27,13 +28,13 @@ by_tool_words text words =
 unfoldable pub tool_of_text : List ℕ → Result Tool TextFault
 tool_of_text text = by_tool_words text (words text)
 
--- Whether a text that asks for this names a tool, which takes memory to read its words.
+-- Whether a text with this request names a tool, which takes memory to read its words.
 abbrev pub names_tool : Result Tool TextFault → Bool
 names_tool (Ok tool) = true
 names_tool (Err (Refused fault)) = true
 names_tool (Err fault) = false
 
--- What a text asks for; or memory was refused, where the text names a tool.
+-- The request of a text; or memory was refused, if the text names a tool.
 abbrev pub IsReadUnlessOutOfMemory : (text : List ℕ) → Result Tool TextFault → Type 0
 IsReadUnlessOutOfMemory text result =
     (result ≡ tool_of_text text)

@@ -20,19 +20,19 @@ use Rattle.sg_decode.specs.LbaStatus.{Descriptor, next_start, whole_descriptors}
 
 -- ---- All descriptors
 
--- All from an address on, whatever the number of answers that they take. Each covers at least one
--- address, so there are at most as many as addresses are left.
+-- All descriptors from an address on, in any number of answers. Each covers at least one address,
+-- so there are at most as many as addresses are left.
 abbrev pub every_descriptor : Disk → (start : ℕ) → List StatusDescriptor
 every_descriptor disk start =
     descriptors_from disk.contents disk.capacity start (disk.capacity - start)
 
--- An answer has the first of them.
+-- An answer has the first descriptors.
 abbrev pub AnswersHaveTheFirst : Type 0
 AnswersHaveTheFirst =
     (disk : Disk) (start : ℕ)
     → lba_status disk start ≡ take max_descriptors (every_descriptor disk start)
 
--- As they are read.
+-- The fields of a descriptor, as a reader reads them.
 abbrev pub fields_of : StatusDescriptor → Descriptor
 fields_of d = record { lba = d.lba; count = d.count; status = code_of d.status }
 
@@ -45,9 +45,9 @@ every_read disk start = map fields_of (every_descriptor disk start)
 abbrev pub status_answer : Disk → (start allocation_length : ℕ) → List ℕ
 status_answer disk start n = first_bytes n (status_data (lba_status disk start))
 
--- The answers of a walk, at most one for each allocation length. The first is that from an address
--- on, and each next one begins where the last whole descriptor of the one before ends. At the end of
--- the disk the walk ends, as it does after an answer without a whole descriptor.
+-- The answers of a walk, at most one for each allocation length. The first is the answer from an
+-- address on, and each next one begins at the end of the last whole descriptor of the one before.
+-- The walk ends at the end of the disk, or after an answer without a whole descriptor.
 unfoldable pub walk : Disk → (allocation_lengths : List ℕ) → (start : ℕ) → List (List ℕ)
 walk disk [] start = []
 walk disk (n ∷ lengths) start =
@@ -62,8 +62,8 @@ named_by answers = flat_map whole_descriptors answers
 
 -- ---- The laws
 
--- A walk's answers are the disk's: GET LBA STATUS that ends with GOOD returns the answer from its
--- address on, cut at its allocation length, and leaves the disk as it was.
+-- A walk's answers are the disk's. If GET LBA STATUS ends with GOOD, it returns the answer from its
+-- address on, cut at its allocation length. It leaves the disk as it was.
 pub record IsAnswerOfAWalk (state : State) (fields : GetLbaStatus) (done : Step) : Type 0 where
   pub data_in : done.answer.data_in
       ≡ status_answer state.disk fields.start fields.allocation_length
@@ -80,12 +80,12 @@ AnswersAreOfAWalk =
 abbrev pub names : (address : ℕ) → Descriptor → Bool
 names address d = lies_in d.lba d.count address
 
--- Where the next answer would begin.
+-- The first address that the next answer would have.
 abbrev pub end_of : List (List ℕ) → Option ℕ
 end_of answers = option_and_then next_start (last_or None answers)
 
--- A walk that has reached the end of the disk: it has named all descriptors, and so each address from
--- its start on once, and no other. It goes no further.
+-- A walk that has reached the end of the disk. It has named all descriptors, and so each address
+-- from its start on once, and no other. It goes no further.
 pub record ReachesTheEnd (disk : Disk) (start : ℕ) (lengths : List ℕ) : Type 0 where
   pub all : named_by (walk disk lengths start) ≡ every_read disk start
   pub once : (address : ℕ) → count_by (names address) (named_by (walk disk lengths start))
@@ -93,9 +93,9 @@ pub record ReachesTheEnd (disk : Disk) (start : ℕ) (lengths : List ℕ) : Type
   pub end : end_of (walk disk lengths start) ≡ Some disk.capacity
   pub no_further : (more : List ℕ) → walk disk (lengths ++ more) start ≡ walk disk lengths start
 
--- The descriptors of a walk are the first of all: there is no gap, no overlap and no descriptor that
--- is split between them. Each answer adds one or more, so as many answers as there are descriptors
--- reach the end of the disk.
+-- The descriptors of a walk are the first of all: there is no gap, no overlap and no descriptor
+-- that is split between them. Each answer adds one or more, so as many answers as there are
+-- descriptors reach the end of the disk.
 pub record IsInOrder (disk : Disk) (start : ℕ) (lengths : List ℕ) : Type 0 where
   pub first : named_by (walk disk lengths start)
       ≡ take (length (named_by (walk disk lengths start))) (every_read disk start)
@@ -103,7 +103,7 @@ pub record IsInOrder (disk : Disk) (start : ℕ) (lengths : List ℕ) : Type 0 w
   pub reaches : length (every_descriptor disk start) ≤ length lengths
       → ReachesTheEnd disk start lengths
 
--- So it is for every disk, from each of its addresses on, where each allocation length has room for
+-- This holds for every disk, from each of its addresses on, if each allocation length has room for
 -- one descriptor. An address has 64 bits.
 abbrev pub room_for_one : ℕ
 room_for_one = 24

@@ -1,4 +1,5 @@
-// From the bytes of a line to its text: the request is read and done, and its reply printed.
+// From the bytes of a line to its text: the runner reads the request, executes it and prints its
+// reply.
 ghost use Rattle.std.specs.Prelude.{◌≡◌, ◌≤◌, ◌++◌, false, length, take, replicate, codes};
 ghost use Rattle.std.specs.Prelude.{option_map, IfSome};
 ghost use Rattle.sg_wire.specs.Watched.{has_failed};
@@ -29,11 +30,11 @@ use std::alloc::Global;
 use std::io;
 use std::io::Write;
 
-/// Executes a line of a script, `None` being one that is too long, writes what it prints and returns
-/// its exit status. The command is executed before its text is written.
+/// Executes a line of a script, writes its text and returns its exit status. The line is `None` if
+/// it is too long. The command is executed before its text is written.
 ///
 /// # Errors
-/// The writer failed. The line was executed all the same.
+/// The writer failed. The line was still executed.
 #[tactic(auto, unfolding(crate::specs::Outcome::outcome))]
 pub(crate) fn execute_line<W: Write, S: Store>(
     alloc: Global,
@@ -58,7 +59,7 @@ pub(crate) fn execute_line<W: Write, S: Store>(
     Ok(status)
 }
 
-/// Does what a line asks for, and prints its text.
+/// Executes the request of a line, and prints its text.
 fn execute_request<W: Write, S: Store>(
     alloc: Global,
     number: u64,

@@ -7,16 +7,16 @@ pub fn an_answer_has_the_first_descriptors()
     ensures { AnswersHaveTheFirst }
 {}
 
-/// GET LBA STATUS that ends with GOOD returns what a walk has as its answer from that address on, and
-/// leaves the disk as it was.
+/// If GET LBA STATUS ends with GOOD, it returns the answer that a walk has from that address on,
+/// and leaves the disk as it was.
 pub fn the_answers_of_a_walk_are_the_disks()
     ensures { AnswersAreOfAWalk }
 {}
 
-/// A walk over a disk by GET LBA STATUS, each of which begins where the last whole descriptor of the
-/// one before ends ([`sg_decode::next_start`]), names the descriptors of the disk in order, and each
-/// answer adds one or more. As many answers as there are descriptors reach the end of the disk: then
-/// each address from the start on was named once.
+/// A walk over a disk by GET LBA STATUS names the descriptors of the disk in order, and each answer
+/// adds one or more. Each answer begins at the end of the last whole descriptor of the one before
+/// ([`sg_decode::next_start`]). As many answers as there are descriptors reach the end of the disk:
+/// then each address from the start on was named once.
 pub fn a_walk_names_each_address_once()
     ensures { WalksInOrder }
 {}

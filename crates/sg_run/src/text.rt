@@ -1,4 +1,4 @@
-// What is printed of a line.
+// The text that is printed for a line.
 pub(crate) mod answer;
 pub(crate) mod header;
 pub(crate) mod reply;

@@ -1,4 +1,4 @@
--- Addresses in a row that have one provisioning status, and the descriptors of them.
+-- Addresses in a row that have one provisioning status, and their descriptors.
 use Rattle.std.proofs.Common.{◌≡◌, ◌≢◌, ℕ, ◌+◌, ◌-◌, ◌<◌, ◌≤◌, zero, suc, List, [], ◌∷◌, ◌++◌}
 use Rattle.std.proofs.Common.{arith, refl, sym, ap, ap₂, ◌∙◌, eq-eqb}
 use Rattle.std.proofs.Common.{cond, Bool, true, false}
@@ -15,7 +15,7 @@ use Rattle.sg_store.specs.declared.lba_status.ProvisioningStatus.{ProvisioningSt
 use Rattle.sg_store.specs.declared.lba_status.ProvisioningStatus.TheVariants.{Mapped, Deallocated, Anchored}
 use Rattle.sg_store.specs.declared.lba_status.StatusDescriptor.{StatusDescriptor}
 
--- the numbers of a range that pass a test, before the first that does not
+-- the numbers of a range that pass a test, before the first number that fails it
 prefix-is : (p : ℕ → Bool) (a n k : ℕ) → k ≤ n → ((i : ℕ) → i < k → p (a + i) ≡ true)
     → (k < n → p (a + k) ≡ false) → prefix_len p (range_with_len a n) ≡ k
 prefix-is p a zero zero le all stop = refl
@@ -73,7 +73,7 @@ alike-within m capacity a = omega (
   length-range_with_len a (min max_addresses (capacity - a)),
 )
 
--- those of one more
+-- the addresses of one more descriptor
 pub covered-first : (d : StatusDescriptor) (ds : List StatusDescriptor)
     → covered (d ∷ ds) ≡ d.count + covered ds
 covered-first d ds = sum_by-cons (λ (x : StatusDescriptor). x.count) d ds

@@ -15,7 +15,7 @@ use Rattle.std.proofs.lemmas.Bool.Decides.{nat_tests}
 use Rattle.std.proofs.lemmas.List.Sums.{fold-append, sum_by-cons}
 use Rattle.std.specs.Cmp.{nat_cmp_is}
 
--- where an address lies
+-- the place of an address: in a range, below it or above it
 pub inside : (a k q : ℕ) → a ≤ q → q < a + k → lies_in a k q ≡ true
 inside a k q ge lt = grind (arith, nat_tests)
 
@@ -121,7 +121,7 @@ count_step : (b : Bool) (w n k mm : ℕ) → w + mm ≡ n + k → cond b w (w + 
 count_step true w n k mm h = omega arith
 count_step false w n k mm h = omega arith
 
--- the pairs after it: those before, and one for each address that had none
+-- the pairs afterwards: the earlier pairs, and one for each address that had none
 pub len-remapped : (m : Contents) (a k : ℕ) (f : ℕ → Mapping)
     → map.len (remapped m a k f) + used_among m a k ≡ map.len m + k
 len-remapped m a zero f = rw (remapped-none m a f, used_among-none m a) refl
@@ -137,7 +137,7 @@ len-remapped m a (suc k) f =
     ∙ count_step (map.contains_key m (a + k)) (map.len w) (map.len m) k (used_among m a k)
     (len-remapped m a k f))
 
--- a part of a range has at most as many addresses without a pair as the range
+-- a part of a range has at most as many addresses with a pair as the range
 pub used_among-rest : (m : Contents) (a j d : ℕ) → used_among m a (j + d) ≤ used_among m a j + d
 used_among-rest m a j zero = let e : j + 0 ≡ j = omega arith in rw e (omega arith)
 used_among-rest m a j (suc d) =
@@ -147,7 +147,7 @@ used_among-rest m a j (suc d) =
     let rest = used_among-rest m a j d in
     rw e (omega arith)
 
--- an address past the part that is remapped has a pair if it had
+-- an address past the remapped part has a pair if it had one
 pub used_at-past : (m : Contents) (a j : ℕ) (f : ℕ → Mapping)
     → used_at (remapped m a j f) (a + j) ≡ used_at m (a + j)
 used_at-past m a j f = ap (λ o. cond (is_some o) 1 0) (get-remapped-past m a j (a + j) f (omega arith))

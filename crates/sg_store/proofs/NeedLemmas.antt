@@ -1,4 +1,4 @@
--- How many addresses of a range have no block of the pool.
+-- The number of addresses of a range that have no block of the pool.
 use Rattle.std.proofs.Common.{◌≡◌, ℕ, ◌+◌, ◌≤◌, zero, suc, refl, ap, ◌∙◌, arith, cond, Bool}
 use Rattle.std.proofs.Common.{true, false}
 use Rattle.std.specs.FinMap as map

@@ -1,4 +1,4 @@
--- What the answer of GET LBA STATUS covers and reports.
+-- The addresses that the answer of GET LBA STATUS covers, and their statuses.
 use Rattle.std.proofs.Common.{◌≡◌, ◌≢◌, ℕ, ◌+◌, ◌-◌, ◌<◌, ◌≤◌, zero, suc, List, ◌∷◌, length}
 use Rattle.std.proofs.Common.{get_or, arith, refl, sym, ap, subst, ◌∙◌, eq-eqb, inl, inr, Bool}
 use Rattle.std.proofs.Common.{true, false, Some}
@@ -86,7 +86,7 @@ covers m capacity (suc most) lba low room = elim (cases_lt lba capacity) [
       )
 ]
 
--- where the addresses of one status end
+-- the end of the addresses of one status
 alike-stops : (m : Contents) (capacity a : ℕ) → count_alike m capacity a < max_addresses
     → a + count_alike m capacity a < capacity
     → status_at m (a + count_alike m capacity a) ≢ status_at m a

@@ -1,5 +1,5 @@
--- The answer of GET LBA STATUS, as a store writes it: a header, each descriptor as it is found, and
--- in the end the header once more.
+-- The answer of GET LBA STATUS, as a store writes it. A header comes first, and each descriptor
+-- when it is found. In the end the header is written once more.
 use Rattle.std.proofs.Common.{◌≡◌, ℕ, ◌+◌, ◌-◌, ◌<◌, ◌≤◌, ◌⊎◌, inl, inr, zero, suc, List, [], ◌∷◌}
 use Rattle.std.proofs.Common.{◌++◌, length, length-drop, get_or, take, drop, arith, refl, sym, ap, ◌∙◌}
 use Rattle.std.proofs.lemmas.List.{flat_map_more, take_more, take_all}
@@ -37,7 +37,7 @@ none-written law m capacity lba cut = record {
   reached = omega arith;
 }
 
--- the bytes of one more
+-- the bytes of one more descriptor
 descriptor-put : PartsArePutInTurn → (old before after : CutAnswer) (bytes : List ℕ)
     (ds : List StatusDescriptor) (i : ℕ) (d : StatusDescriptor)
     → before ≡ put old (flat_map descriptor_bytes (take i ds)) → after ≡ put before bytes
@@ -58,7 +58,7 @@ next-of (x ∷ all) rest zero d e is = (omega arith, ap (λ xs. get_or xs 0 e) i
 next-of (x ∷ all) rest (suc n) d e is = let more = next-of all rest n d e is in
     let on : suc n + 1 ≡ suc (n + 1) = omega arith in (omega (arith, more.0), more.1, rw on more.2)
 
--- the first descriptor of those that are left
+-- the first of the descriptors that are left
 first-of : (m : Contents) (capacity a n : ℕ) (d : StatusDescriptor) (all : List StatusDescriptor)
     → a < capacity → n < 512 → d ≡ descriptor_at m capacity a
     → drop n all ≡ descriptors_from m capacity a (512 - n)
@@ -70,7 +70,7 @@ first-of m capacity a n d all below room is more =
     (sym is)
     ∙ ap (λ k. d ∷ descriptors_from m capacity (a + d.count) k) one
 
--- and then one more
+-- and then one more descriptor
 pub one-written : PartsArePutInTurn → (m : Contents) (capacity lba : ℕ)
     (old now after : CutAnswer) (count next : ℕ) (d : StatusDescriptor) (bytes : List ℕ)
     → AreWritten m capacity lba old now count next
@@ -103,7 +103,7 @@ all-of : (all : List StatusDescriptor) (n : ℕ) → drop n all ≡ [] → n ≤
 all-of all n none le = let len = ap length none in let rest = length-drop n all in
     (take_all n all (omega arith), omega arith)
 
--- at the end of the disk, or with as many as an answer has at most
+-- at the end of the disk, or with as many descriptors as an answer has at most
 pub all-written : (m : Contents) (capacity lba : ℕ) (old now : CutAnswer) (count next : ℕ)
     → AreWritten m capacity lba old now count next → (capacity ≤ next) ⊎ (512 ≤ count)
     → AllWritten m capacity lba old now count next
@@ -140,7 +140,7 @@ module _ (law : PartsArePutInTurn) (cut : Cut) (begun after : CutAnswer) (first 
       let longer = kept.kept cut (first ++ flat_map descriptor_bytes ds) in
       rw both (omega (arith, longer, start))
 
-  -- the header with their number is written over it
+  -- the header with the number of descriptors is written over it
   pub header-replaced : PartsAreReplaced → (result : CutAnswer) (last : List ℕ) (count : ℕ)
       → first ≡ status_header 0 → last ≡ status_header count → count ≡ length ds
       → result ≡ replace after at last

@@ -12,7 +12,7 @@ use Rattle.sg_store.specs.LbaStatus.{status_in}
 use Rattle.sg_store.specs.declared.lba_status.ProvisioningStatus.TheVariants.{Deallocated}
 use Rattle.sg_store.specs.Laws.{UnmapsEachBlock, UnmapsEachAddress}
 
--- what is found at an address afterwards
+-- the value that is found at an address afterwards
 pub get-outside : {X : Type 0} (m : FinMap nat_cmp X) (a k q : ℕ)
     → map.get (outside_range m a k) q ≡ cond (not (lies_in a k q)) (map.get m q) None
 get-outside m a k q = get-retain_keys m (λ x. not (lies_in a k x)) q

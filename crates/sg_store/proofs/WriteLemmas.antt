@@ -1,4 +1,4 @@
--- What remapping does at each address.
+-- The effect of remapping on each address.
 use Rattle.std.proofs.Common.{◌≡◌, ◌≢◌, ℕ, ◌+◌, ◌-◌, zero, suc, refl, ap, ◌∙◌, arith, cond}
 use Rattle.std.proofs.Common.{Bool, true, false, Option, Some, inl, inr}
 use Rattle.std.proofs.lemmas.Bool.{cases_lt}
@@ -20,7 +20,7 @@ lies_in-last a k q e = grind (arith, nat_tests)
 lies_in-other : (a k q : ℕ) → q ≢ a + k → lies_in a (k + 1) q ≡ lies_in a k q
 lies_in-other a k q e = grind (arith, nat_tests)
 
--- what is found at an address: the new mapping in the range, and what was there outside
+-- the mapping that is found at an address: the new one in the range, and the old one outside
 abbrev found : (a k : ℕ) → (ℕ → Mapping) → (q : ℕ) → Option Mapping → Option Mapping
 found a k f q before = cond (lies_in a k q) (Some (f (q - a))) before
 

@@ -1,4 +1,4 @@
--- That equal contents are equal in one way, as a model needs it that has contents.
+-- Equal contents are equal in one way. The model of a type that has contents needs this.
 use Rattle.std.specs.Prelude.{◌≡◌, ℕ, List, Option, Some, None}
 use Rattle.std.specs.Coded.{Coded, code_by, coded_ℕ, coded_list, coded_option}
 use Rattle.std.specs.FinMap.{code}

@@ -1,4 +1,4 @@
--- The disk: blocks of 512 bytes, of which those that were written are mapped to blocks of a pool, and
+-- The disk: blocks of 512 bytes. Blocks that were written are mapped to blocks of a pool, and
 -- others may be anchored there (SBC-3, 4.7, logical block provisioning).
 use Rattle.std.specs.Prelude.{◌≡◌, ℕ, ◌+◌, ◌*◌, ◌^◌, ◌<◌, Bool, true, false, ◌&&◌, not, nat_le}
 use Rattle.std.specs.Prelude.{nat_lt, if◌then◌else◌}
@@ -19,18 +19,18 @@ max_capacity = 2 ^ 40
 abbrev pub max_pool : ℕ
 max_pool = 65536
 
--- What an address has a block of the pool for: data, or none yet. It is anchored then (SBC-3, 4.7.4):
--- it reads as zeros, and writing it takes no more of the pool.
+-- The use that an address makes of its block of the pool: data, or none yet. Without data it is
+-- anchored (SBC-3, 4.7.4): it reads as zeros, and writing it takes no more of the pool.
 pub data Mapping : Type 0 where
   Data : (block : List ℕ) → Mapping
   Anchored : Mapping
 
--- The addresses that have a block of the pool, each with what it has.
+-- The addresses that have a block of the pool, each with its mapping.
 abbrev pub Contents : Type 0
 Contents = FinMap nat_cmp Mapping
 
--- The number of addresses, how many of them can have a block of the pool at once, and those that
--- have.
+-- The number of addresses, the number of them that can have a block of the pool at once, and the
+-- addresses that have one.
 pub record Disk : Type 0 where
   pub capacity : ℕ
   pub pool : ℕ
@@ -53,7 +53,7 @@ pub record IsWellFormed (capacity : ℕ) (contents : Contents) : Type 0 where
 unfoldable pub zero_block : List ℕ
 zero_block = replicate block_length 0
 
--- The block that is read; where there is no data, it is zeros (LBPRZ 1).
+-- The block that is read. If there is no data, it is zeros (LBPRZ 1).
 abbrev pub data_in : Option Mapping → List ℕ
 data_in (Some (Data block)) = block
 data_in (Some Anchored) = zero_block
@@ -84,15 +84,15 @@ with_mappings contents ((lba, mapping) ∷ more) = with_mappings (insert content
 unfoldable pub remapped : Contents → (lba count : ℕ) → (mapping : ℕ → Mapping) → Contents
 remapped contents lba count mapping = with_mappings contents (addressed lba count mapping)
 
--- The blocks from an address on replaced, each by the one for its index.
+-- The blocks from an address on replaced, each by the block for its index.
 abbrev pub replaced : Contents → (lba count : ℕ) → (block : ℕ → List ℕ) → Contents
 replaced contents lba count block = remapped contents lba count (λ index. Data (block index))
 
--- The blocks from an address on replaced by those that are joined,
+-- The blocks from an address on replaced by joined blocks.
 abbrev pub written : Contents → (lba count : ℕ) → (bytes : List ℕ) → Contents
 written contents lba count bytes = replaced contents lba count (block_at bytes)
 
--- and by one block for all.
+-- The blocks from an address on replaced, all by one block.
 abbrev pub filled : Contents → (lba count : ℕ) → (block : List ℕ) → Contents
 filled contents lba count block = replaced contents lba count (λ index. block)
 
@@ -111,11 +111,11 @@ disk_written disk lba count bytes = disk_replaced disk lba count (block_at bytes
 abbrev pub disk_filled : Disk → (lba count : ℕ) → (block : List ℕ) → Disk
 disk_filled disk lba count block = disk_replaced disk lba count (λ index. block)
 
--- Whether an address lies in a range.
+-- An address lies in a range.
 abbrev pub lies_in : (lba count address : ℕ) → Bool
 lies_in lba count address = nat_le lba address && nat_lt address (lba + count)
 
--- What each address outside a range has.
+-- The entries of a map whose addresses are outside a range.
 abbrev pub outside_range : {X : Type 0} → FinMap nat_cmp X → (lba count : ℕ) → FinMap nat_cmp X
 outside_range found lba count = retain_keys found (λ address. not (lies_in lba count address))
 
@@ -139,16 +139,16 @@ disk_anchored disk lba count = disk_remapped disk lba count (λ index. Anchored)
 abbrev pub IsOverfull : Disk → Type 0
 IsOverfull disk = disk.pool < len disk.contents
 
--- How many of the addresses from one on have a block of the pool.
+-- The number of addresses of a range that have a block of the pool.
 unfoldable pub used_among : Contents → (lba count : ℕ) → ℕ
 used_among contents lba count = count_by (contains_key contents) (range_with_len lba count)
 
--- How many of them have none.
+-- The number of addresses of a range that have no block of the pool.
 unfoldable pub need : Contents → (lba count : ℕ) → ℕ
 need contents lba count =
     count_by (λ address. not (contains_key contents address)) (range_with_len lba count)
 
--- Whether there is data, and how many addresses have some.
+-- There is data; and the number of addresses that have data.
 abbrev pub has_data : Mapping → Bool
 has_data (Data block) = true
 has_data Anchored = false
@@ -156,6 +156,6 @@ has_data Anchored = false
 unfoldable pub data_count : Contents → ℕ
 data_count contents = count_by (λ (entry : ℕ × Mapping). has_data entry.1) (entries contents)
 
--- One where the address has a block of the pool.
+-- One if the address has a block of the pool, and otherwise zero.
 abbrev pub used_at : Contents → ℕ → ℕ
 used_at contents lba = if contains_key contents lba then 1 else 0

@@ -1,4 +1,4 @@
--- That contents are well formed holds in at most one way.
+-- Contents are well formed in at most one way.
 use Rattle.std.specs.Prelude.{ℕ}
 use Rattle.std.proofs.Props.{props}
 use Rattle.sg_store.specs.Disk.{Contents, IsWellFormed, HasBlockLength, Mapping}

@@ -1,4 +1,4 @@
--- What the calls do and report, address by address.
+-- The effects and the reports of the calls, address by address.
 use Rattle.std.specs.FinMap.{get, len}
 use Rattle.std.specs.Prelude.{◌≡◌, ◌≢◌, ℕ, ◌+◌, ◌-◌, ◌<◌, ◌≤◌, if◌then◌else◌}
 use Rattle.std.specs.Prelude.{Bool, List, All, length, find, Option, Some, option_map}
@@ -23,7 +23,7 @@ MapsEachAddress = (contents : Contents) (lba count : ℕ) (bytes : List ℕ) (ad
     status_at (written contents lba count bytes) address
     ≡ (if lies_in lba count address then Mapped else status_at contents address)
 
--- After a fill, the block at an address is the one that was given inside the range, and the old one
+-- After a fill, the block at an address is the given block inside the range, and the old one
 -- outside.
 abbrev pub FillsEachBlock : Type 0
 FillsEachBlock = (contents : Contents) (lba count : ℕ) (given : List ℕ) (address : ℕ) →
@@ -70,30 +70,30 @@ status_of descriptor = descriptor.status
 abbrev pub status_reported : List StatusDescriptor → (address : ℕ) → Option ProvisioningStatus
 status_reported descriptors address = option_map status_of (find (covers address) descriptors)
 
--- GET LBA STATUS reports the status of each address that it covers,
+-- GET LBA STATUS reports the status of each address that it covers.
 abbrev pub ReportsEachStatus : Type 0
 ReportsEachStatus = (disk : Disk) (lba address : ℕ) →
     lba ≤ address → address < lba + covered (lba_status disk lba) →
     status_reported (lba_status disk lba) address ≡ Some (status_at disk.contents address)
 
--- and covers the addresses up to the end of the disk, unless it has no room for more descriptors.
+-- It covers the addresses up to the end of the disk, unless it has no room for more descriptors.
 abbrev pub CoversTheRest : Type 0
 CoversTheRest = (disk : Disk) (lba : ℕ) →
     lba ≤ disk.capacity → length (lba_status disk lba) < max_descriptors →
     lba + covered (lba_status disk lba) ≡ disk.capacity
 
--- A descriptor that covers fewer addresses than it could ends before one of another status.
+-- A descriptor that covers fewer addresses than it could ends before an address of another status.
 abbrev pub EndsAtAnotherStatus : Disk → StatusDescriptor → Type 0
 EndsAtAnotherStatus disk descriptor =
     let next = descriptor.lba + descriptor.count in
     descriptor.count < max_addresses → next < disk.capacity →
     status_at disk.contents next ≢ descriptor.status
 
--- So do all that GET LBA STATUS reports.
+-- Each descriptor that GET LBA STATUS reports covers as many addresses as it can.
 abbrev pub CoversTheMost : Type 0
 CoversTheMost = (disk : Disk) (lba : ℕ) → All (EndsAtAnotherStatus disk) (lba_status disk lba)
 
--- A disk stays well-formed where addresses of it are mapped to whole blocks or anchored, and where
+-- A disk stays well-formed if its addresses are mapped to whole blocks or anchored, and if
 -- addresses are deallocated.
 pub record DisksStayWellFormed : Type 0 where
   pub mapping : (capacity : ℕ) (contents : Contents) (lba count : ℕ) (mappings : ℕ → Mapping)
@@ -103,8 +103,9 @@ pub record DisksStayWellFormed : Type 0 where
   pub unmapping : (capacity : ℕ) (contents : Contents) (lba count : ℕ)
       → IsWellFormed capacity contents → IsWellFormed capacity (unmapped contents lba count)
 
--- An address that is remapped has what its index says, and others have what they had. That takes as
--- many blocks of the pool more as the addresses need, which are at most as many as they are.
+-- An address that is remapped has what its index says, and others have what they had. Remapping
+-- takes as many more blocks of the pool as the addresses need, which are at most as many as the
+-- addresses.
 pub record RemappingTakesWhatIsNeeded : Type 0 where
   pub found : (contents : Contents) (lba count : ℕ) (mapping : ℕ → Mapping) (address : ℕ)
       → get (remapped contents lba count mapping) address

@@ -14,8 +14,8 @@ use Rattle.sg_store.specs.declared.lba_status.ProvisioningStatus.TheVariants.{Ma
 use Rattle.sg_store.specs.declared.lba_status.ProvisioningStatus.TheVariants.{Anchored as AnchoredStatus}
 use Rattle.sg_store.specs.declared.lba_status.StatusDescriptor.{StatusDescriptor}
 
--- The most descriptors that an answer has, and the most addresses that one covers: NUMBER OF LOGICAL
--- BLOCKS has four bytes.
+-- The most descriptors that an answer has, and the most addresses that one descriptor covers.
+-- NUMBER OF LOGICAL BLOCKS has four bytes.
 -- Choice (SBC-3, 5.4.2): an answer may have fewer descriptors.
 abbrev pub max_descriptors : ℕ
 max_descriptors = 512
@@ -25,7 +25,7 @@ max_addresses = 0xFFFFFFFF
 
 -- ---- Which descriptors an answer has
 
--- The status of an address by what it is mapped to, and the code of a status.
+-- The status of an address by its mapping, and the code of a status.
 abbrev pub status_in : Option Mapping → ProvisioningStatus
 status_in (Some (Data block)) = Mapped
 status_in (Some Anchored) = AnchoredStatus
@@ -40,8 +40,8 @@ code_of Mapped = 0
 code_of Deallocated = 1
 code_of AnchoredStatus = 2
 
--- How many addresses from one on have its status, before one that has another. The count fits its
--- field, and ends with the disk.
+-- The number of addresses from one on that have its status, before an address with another status.
+-- The count fits its field, and ends with the disk.
 unfoldable pub count_alike : Contents → (capacity lba : ℕ) → ℕ
 count_alike contents capacity lba =
     prefix_len (λ address. code_of (status_at contents address) == code_of (status_at contents lba))
@@ -56,7 +56,7 @@ descriptor_at contents capacity lba = record {
 }
 
 -- At most `limit` descriptors, up to the end of the disk. The first begins at an address, and each
--- next one where the one before ends.
+-- next one at the end of the one before.
 unfoldable pub descriptors_from : Contents → (capacity lba limit : ℕ) → List StatusDescriptor
 descriptors_from contents capacity lba zero = []
 descriptors_from contents capacity lba (suc limit) =
@@ -65,11 +65,11 @@ descriptors_from contents capacity lba (suc limit) =
     ∷ descriptors_from contents capacity (lba + count_alike contents capacity lba) limit
     else []
 
--- Those of an answer.
+-- The descriptors of an answer.
 abbrev pub lba_status : Disk → (lba : ℕ) → List StatusDescriptor
 lba_status disk lba = descriptors_from disk.contents disk.capacity lba max_descriptors
 
--- How many addresses they cover.
+-- The number of addresses that they cover.
 abbrev pub covered : List StatusDescriptor → ℕ
 covered descriptors = sum_by (λ (descriptor : StatusDescriptor). descriptor.count) descriptors
 
@@ -81,7 +81,7 @@ descriptor_bytes descriptor =
     big_bytes 8 descriptor.lba
     ++ (big_bytes 4 descriptor.count ++ (code_of descriptor.status ∷ replicate 3 0))
 
--- PARAMETER DATA LENGTH, that of all bytes behind it, and four reserved bytes.
+-- PARAMETER DATA LENGTH, the number of all bytes after it, and four reserved bytes.
 abbrev pub status_header : (count : ℕ) → List ℕ
 status_header count = big_bytes 4 (4 + 16 * count) ++ replicate 4 0
 
@@ -90,7 +90,7 @@ unfoldable pub status_data : List StatusDescriptor → List ℕ
 status_data descriptors =
     status_header (length descriptors) ++ flat_map descriptor_bytes descriptors
 
--- ---- Cited by private contracts alone
+-- ---- Cited only by private contracts
 
 -- The descriptors from an address on are put, `count` of them.
 pub record PutsDescriptors (contents : Contents) (capacity lba : ℕ) (old new : Cut) (count : ℕ) :

@@ -1,9 +1,9 @@
--- What the calls of a store cost.
+-- The cost of the calls of a store.
 use Rattle.std.specs.Prelude.{◌≡◌, ℕ, ◌+◌, ◌^◌, ◌≤◌, Result, OnOk}
 use Rattle.sg_store.specs.declared.store.Counts.{Counts}
 
--- The counts since the last restart; the visits to map records since the store was made, which no
--- restart lowers; and the number of restarts.
+-- The counts since the last restart, the visits to map records since the store was made, and the
+-- number of restarts. No restart lowers these visits.
 pub record Meter : Type 0 where
   pub counts : Counts
   pub total : ℕ
@@ -30,13 +30,13 @@ pub record HasHeadroom (counts : Counts) : Type 0 where
   pub probes : counts.probes ≤ max_count
   pub links : counts.links ≤ max_count
 
--- At most how many addresses a call over a range compares.
+-- The most addresses that a call over a range compares.
 abbrev pub probe_bound : ℕ
 probe_bound = 64
 
--- What a call over a range counts beside its price: each visit is in the total as well, at most
--- `probe_bound` addresses are compared, at most as many links are followed as the pool has blocks,
--- and the counts are not restarted.
+-- The counts of a call over a range beside its price. Each visit is in the total as well. At most
+-- `probe_bound` addresses are compared. At most as many links are followed as the pool has blocks.
+-- The counts are not restarted.
 pub record Costs (pool : ℕ) (before after : Meter) : Type 0 where
   pub visits : after.counts.visits + before.total ≡ before.counts.visits + after.total
   pub visits_rise : before.total ≤ after.total
@@ -46,14 +46,13 @@ pub record Costs (pool : ℕ) (before after : Meter) : Type 0 where
   pub links : after.counts.links ≤ before.counts.links + pool
   pub restarts : after.restarts ≡ before.restarts
 
--- All that a call over a range costs, which visits at most `at_most` records and at least
--- `at_least`.
+-- All costs of a call over a range. It visits at most `at_most` records and at least `at_least`.
 pub record Charged (pool at_most at_least : ℕ) (before after : Meter) : Type 0 where
   pub cost : Costs pool before after
   pub price : after.total ≤ before.total + at_most
   pub least : before.total + at_least ≤ after.total
 
--- The same of a call that can fail: it visits at least `at_least` records if it succeeds.
+-- All costs of a call that can fail. It visits at least `at_least` records if it succeeds.
 pub record ChargedOnOk {T E : Type 0} (result : Result T E) (pool at_most at_least : ℕ)
     (before after : Meter) : Type 0 where
   pub cost : Costs pool before after

@@ -1,5 +1,5 @@
-//! What the calls of a store do and report, address by address: laws above the definitions that
-//! [`Store`](crate::Store) cites.
+//! The effects and the reports of a store's calls, address by address: laws above the definitions
+//! that [`Store`](crate::Store) cites.
 ghost use Rattle.sg_store.specs.Laws.{WritesEachBlock, MapsEachAddress};
 ghost use Rattle.sg_store.specs.Laws.{FillsEachBlock, FillMapsEachAddress};
 ghost use Rattle.sg_store.specs.Laws.{UnmapsEachBlock, UnmapsEachAddress};
@@ -18,7 +18,7 @@ pub fn a_write_maps_the_addresses_of_its_range()
     ensures { MapsEachAddress }
 {}
 
-/// After a fill, the block at an address is the one that was given inside the range, and the old one
+/// After a fill, the block at an address is the given block inside the range, and the old one
 /// outside.
 pub fn a_fill_puts_one_block_at_each_address_of_its_range()
     ensures { FillsEachBlock }
@@ -30,7 +30,7 @@ pub fn a_fill_maps_the_addresses_of_its_range()
 {}
 
 /// After an unmap, the block at an address is zeros inside the range, and the old one outside. So
-/// no call can read what was written there before.
+/// no call can read the bytes that were written there before.
 pub fn an_unmap_zeroes_the_blocks_of_its_range()
     ensures { UnmapsEachBlock }
 {}
@@ -40,8 +40,8 @@ pub fn an_unmap_deallocates_the_addresses_of_its_range()
     ensures { UnmapsEachAddress }
 {}
 
-/// After an anchoring, the block at an address is zeros inside the range, and the old one outside. So
-/// no call can read what was written there before.
+/// After an anchoring, the block at an address is zeros inside the range, and the old one outside.
+/// So no call can read the bytes that were written there before.
 pub fn an_anchoring_zeroes_the_blocks_of_its_range()
     ensures { AnchorZeroesEachBlock }
 {}
@@ -62,19 +62,19 @@ pub fn an_answer_with_room_left_covers_the_rest_of_the_disk()
     ensures { CoversTheRest }
 {}
 
-/// Each descriptor of GET LBA STATUS covers as many addresses as it can: it ends with the disk, at
-/// the most that its count can be, or before an address of another status.
+/// Each descriptor of GET LBA STATUS covers as many addresses as it can. It ends with the disk, at
+/// its greatest count, or before an address of another status.
 pub fn each_descriptor_covers_as_many_addresses_as_it_can()
     ensures { CoversTheMost }
 {}
 
-/// A disk stays well-formed where addresses of it are mapped to whole blocks or anchored, and where
+/// A disk stays well-formed if its addresses are mapped to whole blocks or anchored, and if
 /// addresses are deallocated.
 pub fn disks_stay_well_formed()
     ensures { DisksStayWellFormed }
 {}
 
-/// Remapping addresses changes these alone, and takes as many blocks of the pool as they need.
+/// Remapping addresses changes only these, and takes as many blocks of the pool as they need.
 pub fn remapping_takes_what_is_needed()
     ensures { RemappingTakesWhatIsNeeded }
 {}

@@ -1,5 +1,5 @@
-//! The parameter data of GET LBA STATUS, part by part: a header and descriptors. Which descriptors
-//! there are is a store's to find, and how many of their bytes are returned a `Cut`'s.
+//! The parameter data of GET LBA STATUS, part by part: a header and descriptors. A store finds the
+//! descriptors, and a `Cut` decides how many of their bytes are returned.
 ghost use Rattle.std.specs.Prelude.{◌≡◌, ◌≤◌};
 ghost use Rattle.sg_store.specs.LbaStatus.{code_of, descriptor_bytes, status_header};
 
@@ -11,7 +11,7 @@ pub const MAX_DESCRIPTORS: usize = 512;
 /// The most addresses that a descriptor covers. NUMBER OF LOGICAL BLOCKS has four bytes.
 pub const MAX_ADDRESSES: u32 = 0xFFFF_FFFF;
 
-// The length of the header, in bytes, and that of each descriptor behind it.
+// The length of the header, in bytes, and the length of each descriptor after it.
 const HEADER_LENGTH: usize = 8;
 
 const DESCRIPTOR_LENGTH: usize = 16;
@@ -24,7 +24,7 @@ pub enum ProvisioningStatus {
     Mapped = 0,
     /// Not mapped.
     Deallocated = 1,
-    /// Not mapped, with a block of the pool for it.
+    /// Not mapped, but with a block of the pool.
     Anchored = 2,
 }
 
@@ -42,7 +42,7 @@ impl ProvisioningStatus {
 pub struct StatusDescriptor {
     /// The first address.
     pub lba: u64,
-    /// The number of addresses, `MAX_ADDRESSES` at most.
+    /// The number of addresses, at most `MAX_ADDRESSES`.
     pub count: u32,
     /// Their provisioning status.
     pub status: ProvisioningStatus,
@@ -61,8 +61,8 @@ impl StatusDescriptor {
     }
 }
 
-/// What the parameter data of `count` descriptors begins with (SBC-3, 5.4.2). A store that finds
-/// the descriptors one by one puts it first with a count of 0, and replaces it at the end.
+/// The header of the parameter data of `count` descriptors (SBC-3, 5.4.2). A store that finds the
+/// descriptors one by one puts it first with a count of 0, and replaces it at the end.
 pub fn status_header(count: usize) -> [u8; HEADER_LENGTH]
     requires { count ≤ MAX_DESCRIPTORS }
     ensures { result ≡ status_header count }

@@ -1,5 +1,6 @@
-//! What a store of blocks must do, and nothing of how it does it: the trait [`Store`], whose meaning
-//! is a finite map from addresses to blocks, and the parameter data of GET LBA STATUS.
+//! The calls of a store of blocks, and nothing about how the blocks are kept: the trait [`Store`].
+//! The meaning of a store is a finite map from addresses to blocks. The crate also has the
+//! parameter data of GET LBA STATUS.
 #![tactic(auto)]
 
 pub mod laws;

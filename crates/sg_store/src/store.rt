@@ -1,5 +1,5 @@
-// What every store does: its calls, each with its effect on a disk of blocks and its cost. It knows
-// neither commands nor how the blocks are kept.
+// The calls of every store, each with its effect on a disk of blocks and its cost. The trait knows
+// no commands, and does not know how the blocks are kept.
 ghost use Rattle.std.specs.Prelude.{◌≡◌, ℕ, ◌+◌, ◌*◌, ◌<◌, ◌≤◌, ◌↔◌, length, max};
 ghost use Rattle.std.specs.Prelude.{IfOk, OnOk, OnErr, IsErr};
 ghost use Rattle.std.specs.FinMap.{len};
@@ -24,10 +24,10 @@ pub const MAX_CAPACITY: u64 = 1 << 40;
 /// The most addresses that can be mapped or anchored at once.
 pub const MAX_POOL: u32 = 65_536;
 
-/// The most that a count may have reached before a call. What a call adds then fits beside it.
+/// The most that a count may have reached before a call. The counts of a call can then be added.
 pub const MAX_COUNT: u64 = 1 << 62;
 
-/// What a store did, counted since its last restart.
+/// The work of a store, counted since its last restart.
 #[derive(Clone, Copy, Debug, PartialEq, Default)]
 pub struct Counts {
     /// Whole records of the map that were read.
@@ -44,22 +44,22 @@ pub struct Counts {
 #[error("the pool has too few blocks")]
 pub struct Space;
 
-/// A disk of blocks of 512 bytes, of which those that were written are mapped to the blocks of a
-/// pool, and others may be anchored there (SBC-3, 4.7).
+/// A disk of blocks of 512 bytes. Blocks that were written are mapped to the blocks of a pool, and
+/// others may be anchored there (SBC-3, 4.7).
 ///
-/// All memory is taken by [`Store::make`]; no other call can ask for more.
+/// [`Store::make`] takes all memory; no other call can ask for more.
 pub trait Store: Drop {
     /// The disk that is kept.
     ghost disk: { Self → Disk };
 
-    /// What the calls cost so far.
+    /// The cost of the calls so far.
     ghost meter: { Self → Meter };
 
-    /// At most how many records a call over a range visits, by the contents of the disk, the
-    /// range's first address and its count.
+    /// The most records that a call over a range visits, by the contents of the disk, the range's
+    /// first address and its count.
     ghost price: { Contents → ℕ → ℕ → ℕ };
 
-    /// At least how many records a call over a range visits, if it succeeds, by the same.
+    /// The fewest records that a successful call over a range visits, by the same three.
     ghost least: { Contents → ℕ → ℕ → ℕ };
 
     /// A disk of `capacity` addresses, none of them mapped, and a pool of `pool` blocks.
@@ -72,25 +72,25 @@ pub trait Store: Drop {
         ensures disk { IfOk result (λ store. disk store ≡ empty_disk capacity pool) }
         ensures meter { IfOk result (λ store. meter store ≡ new_meter) };
 
-    /// Reads the blocks from an address on, into a slice that is just as long as they are.
+    /// Reads the blocks from an address on into a slice, which is just as long as the blocks.
     fn read(&mut self, lba: u64, count: u32, bytes: &mut [u8])
         requires range { lba + count ≤ (disk self.old).capacity }
         requires byte_count { length bytes.old ≡ BLOCK_LENGTH * count }
         requires headroom { HasHeadroom (meter self.old).counts }
 
-        // The blocks are those of the disk, which stays as it is.
+        // The blocks are the disk's, and the disk stays as it is.
         ensures bytes { bytes.new ≡ blocks (disk self.old).contents lba count }
         ensures disk { disk self.new ≡ disk self.old }
 
-        // What the call costs, and between which bounds its visits lie.
+        // The cost of the call, and the bounds of its visits.
         ensures costs { Charged (disk self.old).pool (price (disk self.old).contents lba count)
             (least (disk self.old).contents lba count) (meter self.old) (meter self.new) };
 
-    /// Replaces the blocks from an address on by those of a slice, which is just as long as they
-    /// are.
+    /// Replaces the blocks from an address on by the blocks of a slice, which is just as long.
     ///
     /// # Errors
-    /// More addresses would be mapped or anchored than the pool has blocks. Nothing is written then.
+    /// More addresses would be mapped or anchored than the pool has blocks. Then nothing is
+    /// written.
     fn write(&mut self, lba: u64, count: u32, bytes: &[u8]) -> Result<(), Space>
         requires range { lba + count ≤ (disk self.old).capacity }
         requires byte_count { length bytes.now ≡ BLOCK_LENGTH * count }
@@ -102,7 +102,7 @@ pub trait Store: Drop {
         ensures ok { OnOk result (disk self.new ≡ disk_written (disk self.old) lba count bytes.now) }
         ensures err { OnErr result (disk self.new ≡ disk self.old) }
 
-        // What the call costs, and between which bounds its visits lie.
+        // The cost of the call, and the bounds of its visits.
         ensures costs { ChargedOnOk result (disk self.old).pool
             (price (disk self.old).contents lba count) (least (disk self.old).contents lba count)
             (meter self.old) (meter self.new) };
@@ -110,7 +110,8 @@ pub trait Store: Drop {
     /// Replaces each block from an address on by one block (SBC-3, 5.43).
     ///
     /// # Errors
-    /// More addresses would be mapped or anchored than the pool has blocks. Nothing is written then.
+    /// More addresses would be mapped or anchored than the pool has blocks. Then nothing is
+    /// written.
     fn fill(&mut self, lba: u64, count: u32, block: &[u8; BLOCK_LENGTH]) -> Result<(), Space>
         requires range { lba + count ≤ (disk self.old).capacity }
         requires headroom { HasHeadroom (meter self.old).counts }
@@ -121,21 +122,21 @@ pub trait Store: Drop {
         ensures ok { OnOk result (disk self.new ≡ disk_filled (disk self.old) lba count block.now) }
         ensures err { OnErr result (disk self.new ≡ disk self.old) }
 
-        // What the call costs, and between which bounds its visits lie.
+        // The cost of the call, and the bounds of its visits.
         ensures costs { ChargedOnOk result (disk self.old).pool
             (price (disk self.old).contents lba count) (least (disk self.old).contents lba count)
             (meter self.old) (meter self.new) };
 
-    /// Unmaps the addresses from one on: their blocks read as zeros from then on, and the pool has
-    /// room for as many others (SBC-3, 5.28).
+    /// Unmaps the addresses from one on (SBC-3, 5.28). Their blocks read as zeros from then on, and
+    /// the pool has room for as many others.
     fn unmap(&mut self, lba: u64, count: u32)
         requires range { lba + count ≤ (disk self.old).capacity }
         requires headroom { HasHeadroom (meter self.old).counts }
 
-        // The addresses are mapped no more.
+        // The addresses are no longer mapped.
         ensures disk { disk self.new ≡ disk_unmapped (disk self.old) lba count }
 
-        // What the call costs, and between which bounds its visits lie.
+        // The cost of the call, and the bounds of its visits.
         ensures costs { Charged (disk self.old).pool (price (disk self.old).contents lba count)
             (least (disk self.old).contents lba count) (meter self.old) (meter self.new) };
 
@@ -143,23 +144,24 @@ pub trait Store: Drop {
     /// one, and reads as zeros from then on. Data there is lost.
     ///
     /// # Errors
-    /// More addresses would have a block than the pool has. Nothing is anchored then.
+    /// More addresses would have a block than the pool has blocks. Nothing is anchored then.
     fn anchor(&mut self, lba: u64, count: u32) -> Result<(), Space>
         requires range { lba + count ≤ (disk self.old).capacity }
         requires headroom { HasHeadroom (meter self.old).counts }
 
-        // Either the pool has too few blocks and the disk stays as it is, or all are anchored.
+        // Either the pool has too few blocks and the disk stays as it is, or all addresses are
+        // anchored.
         ensures space { IsErr result ↔ IsOverfull (disk_anchored (disk self.old) lba count) }
         ensures ok { OnOk result (disk self.new ≡ disk_anchored (disk self.old) lba count) }
         ensures err { OnErr result (disk self.new ≡ disk self.old) }
 
-        // What the call costs, and between which bounds its visits lie.
+        // The cost of the call, and the bounds of its visits.
         ensures costs { ChargedOnOk result (disk self.old).pool
             (price (disk self.old).contents lba count) (least (disk self.old).contents lba count)
             (meter self.old) (meter self.new) };
 
-    /// How many of the addresses from one on have no block of the pool: as many blocks as anchoring
-    /// them needs. Ranges that were joined can have more addresses than a descriptor names.
+    /// The number of addresses from one on that have no block of the pool. Anchoring them needs as
+    /// many blocks. Ranges that were joined can have more addresses than a descriptor names.
     fn need(&mut self, lba: u64, count: u64) -> u64
         requires range { lba + count ≤ (disk self.old).capacity }
         requires headroom { HasHeadroom (meter self.old).counts }
@@ -167,12 +169,12 @@ pub trait Store: Drop {
         ensures value { result ≡ need (disk self.old).contents lba count }
         ensures disk { disk self.new ≡ disk self.old }
 
-        // What the call costs, and between which bounds its visits lie.
+        // The cost of the call, and the bounds of its visits.
         ensures costs { Charged (disk self.old).pool (price (disk self.old).contents lba count)
             (least (disk self.old).contents lba count) (meter self.old) (meter self.new) };
 
-    /// Writes the parameter data of GET LBA STATUS (SBC-3, 5.4.2): which addresses are mapped, from
-    /// one on to the end of the disk, in at most 512 descriptors.
+    /// Writes the parameter data of GET LBA STATUS (SBC-3, 5.4.2). It reports which addresses are
+    /// mapped, from one on to the end of the disk, in at most 512 descriptors.
     fn status(&mut self, lba: u64, cut: &mut Cut)
         requires address { lba < (disk self.old).capacity }
         requires headroom { HasHeadroom (meter self.old).counts }
@@ -181,23 +183,23 @@ pub trait Store: Drop {
         ensures data { Puts cut.old cut.new (status_data (lba_status (disk self.old) lba)) }
         ensures disk { disk self.new ≡ disk self.old }
 
-        // What the call costs, and between which bounds its visits lie, over the addresses that
-        // the descriptors cover.
+        // The cost of the call, and the bounds of its visits, over the addresses that the
+        // descriptors cover.
         ensures costs { let count = covered (lba_status (disk self.old) lba) in
             Charged (disk self.old).pool (price (disk self.old).contents lba count)
             (least (disk self.old).contents lba count) (meter self.old) (meter self.new) };
 
-    /// How many addresses are mapped to data. Anchored ones are not counted.
+    /// The number of addresses that are mapped to data. Anchored addresses are not counted.
     fn mapped(&self) -> u32
         ensures value { result ≡ data_count (disk self.now).contents };
 
-    /// How many addresses have a block of the pool, with data or anchored.
+    /// The number of addresses that have a block of the pool, with data or anchored.
     fn used(&self) -> u32
         ensures value { result ≡ len (disk self.now).contents }
         ensures within { result ≤ (disk self.now).pool }
         ensures well_formed { IsWellFormed (disk self.now).capacity (disk self.now).contents };
 
-    /// What was counted since the last restart.
+    /// The counts since the last restart.
     fn counts(&self) -> Counts
         ensures { result ≡ (meter self.now).counts };
 
@@ -206,17 +208,16 @@ pub trait Store: Drop {
         ensures disk { disk self.new ≡ disk self.old }
         ensures meter { meter self.new ≡ restarted (meter self.old) };
 
-    /// No call over a range visits more records than two more than it has addresses.
+    /// A call over a range visits at most two records more than the range has addresses.
     ghost price_within: { (contents : Contents) (lba count : ℕ) →
         price contents lba count ≤ count + 2 };
 
-    /// A successful call over a range in which an address has a block of the pool visits at least
-    /// one record.
+    /// If an address of the range has a block of the pool, a successful call visits at least one
+    /// record.
     ghost least_positive: { (contents : Contents) (lba count : ℕ) →
         0 < used_among contents lba count → 0 < least contents lba count };
 
-    /// Two ranges that overlap, or of which one begins where the other ends, cost at most as much
-    /// joined as they cost together.
+    /// Two ranges that overlap or adjoin cost at most as much joined as they cost together.
     ghost price_joined: { (contents : Contents) (lba count offset more : ℕ) → offset ≤ count →
         price contents lba (max count (offset + more))
         ≤ price contents lba count + price contents (lba + offset) more };

@@ -1,13 +1,14 @@
 -- The leaves in their slots.
 use Rattle.std.proofs.Common.{◌≡◌, ◌≢◌, ℕ, zero, suc, ◌+◌, ◌<◌, ◌≤◌, List, [], ◌∷◌, ◌++◌, length}
-use Rattle.std.proofs.Common.{map, get_or, set, sym, ap, ap₂, ◌∙◌, arith, refl, length-append, length-set}
+use Rattle.std.proofs.Common.{map, get_or, set, sym, ap, ap₂, ◌∙◌, arith, refl, inl, inr, length-append}
+use Rattle.std.proofs.Common.{length-set}
 use Rattle.std.proofs.Math.Seq.{get_or-append_seam}
 use Rattle.std.proofs.lemmas.List.{get_or_default, get_or-map, get_or_append_left}
+use Rattle.std.proofs.lemmas.Bool.{cases_lt}
 use Rattle.std.proofs.lemmas.List.{get_or-set_same, get_or-set_other, length-map}
-use Rattle.std.specs.List.{All}
 use Rattle.std.proofs.lemmas.List.Edits.{length-insert, length-remove}
 use Rattle.std.specs.Prelude.{insert, remove}
-use Rattle.sg_table.specs.LeafList.{LeafRow, AreSlots, IsTaken, leaves_in}
+use Rattle.sg_table.specs.LeafList.{LeafRow, AreEmpty, AreSlots, IsTaken, leaves_in}
 use Rattle.sg_table.specs.Leaves.{leaf_at}
 use Rattle.sg_table.specs.Occurrences.{occurrences, one_if_equal}
 use Rattle.sg_table.specs.declared.run.Run.{Run}
@@ -61,12 +62,6 @@ pub order-below : (slots : List (List Run)) (order free : List ℕ) (k d : ℕ) 
     → k < length order → get_or order k d < length slots
 order-below slots order free k d are lt =
     below slots order free (get_or order k d) are (occurs order k d lt)
-
-pub free-below : (slots : List (List Run)) (order free : List ℕ) (k d : ℕ) → AreSlots slots order free
-    → k < length free → get_or free k d < length slots
-free-below slots order free k d are lt =
-    below_count (length slots) (order ++ free) (get_or free k d) are.once
-    (omega (arith, occurrences-append (get_or free k d) order free, occurs free k d lt))
 
 -- as many slots are in the order as there are leaves
 pub count-leaves : (slots : List (List Run)) (order : List ℕ) (ls : List (List Run))
@@ -188,31 +183,92 @@ slots-remove slots order free ls k s are same lt' at = let lt : k < length order
       map-remove (leaf_at slots) order k ∙ ap (λ l. remove l k) same,
     )
 
+-- the leaf in a free slot is not that of a slot in the order
+pub empty-apart : (slots : List (List Run)) (order free : List ℕ) (k s d : ℕ) (leaf : List Run)
+    → AreSlots slots order free → AreEmpty slots free → k < length order → s ≡ get_or order k d
+    → AreEmpty (set slots s leaf) free
+empty-apart slots order free k s d leaf are none lt at = λ j e within.
+    let t = get_or free j e in
+    let some : 1 ≤ occurrences s order = rw at (occurs order k d lt) in
+    let apart : t ≢ s = λ same. absurd (omega (
+      arith,
+      rw same at (occurs free j e within),
+      some,
+      once-le (length slots) (order ++ free) s are.once,
+      occurrences-append s order free,
+    )) in
+    get_or-set_other slots s t leaf [] apart ∙ none j e within
+
+-- a leaf loses its records
+cleared : (slots : List (List Run)) (s : ℕ) → leaf_at (set slots s []) s ≡ []
+cleared [] s = refl
+cleared (x ∷ slots) zero = refl
+cleared (x ∷ slots) (suc s) = cleared slots s
+
+stays-empty : (slots : List (List Run)) (s t : ℕ) → leaf_at slots t ≡ []
+    → leaf_at (set slots s []) t ≡ []
+stays-empty [] s t none = refl
+stays-empty (x ∷ slots) zero zero none = refl
+stays-empty (x ∷ slots) zero (suc t) none = none
+stays-empty (x ∷ slots) (suc s) zero none = none
+stays-empty (x ∷ slots) (suc s) (suc t) none = stays-empty slots s t none
+
+-- the slot of a removed leaf is cleared as it becomes free
+pub slots-clear : (slots : List (List Run)) (order free : List ℕ) (s : ℕ)
+    → AreSlots slots order (free ++ s ∷ []) → AreEmpty slots free
+    → AreSlots (set slots s []) order (free ++ s ∷ [])
+    × (leaves_in (set slots s []) order ≡ leaves_in slots order)
+    × AreEmpty (set slots s []) (free ++ s ∷ [])
+slots-clear slots order free s are none = (
+  record { once = rw (length-set slots s []) are.once; count = are.count ∙ sym (length-set slots s []) },
+  leaves_in-others slots (set slots s []) s order (λ t _ apart. get_or-set_other slots s t [] [] apart)
+      (λ t some. below slots order (free ++ s ∷ []) t are some)
+      (omega (
+        arith,
+        once-le (length slots) (order ++ (free ++ s ∷ [])) s are.once,
+        occurrences-append s order (free ++ s ∷ []),
+        occurrences-append s free (s ∷ []),
+        occurrences-one s s,
+        same_slot s,
+      )),
+  λ k d lt. elim (cases_lt k (length free)) [
+    | inl in' ↦ rw (get_or_append_left free (s ∷ []) d k in')
+        (stays-empty slots s (get_or free k d) (none k d in'))
+    | inr ge ↦ let last : k ≡ length free = omega (arith, ge, lt, length-append free (s ∷ [])) in
+        rw (last, get_or-append_seam free s [] d) (cleared slots s)
+  ],
+)
+
 -- a slot that was free
-pub taken-free : (old : List (List Run)) (free free' : List ℕ) (s : ℕ) → All (λ t. t < length old) free
-    → free ≡ free' ++ s ∷ [] → IsTaken old (set old s []) free free' s
-taken-free old free free' s all e = let lt : s < length old =
-    rw get_or-append_seam at (rw e at (all (length free') s
-    (omega (arith, ap length e, length-append free' (s ∷ []))))) in record {
-      empty = get_or-set_same old s [] [] lt;
-      others = λ t _ apart. get_or-set_other old s t [] [] apart;
-      slots = λ order are. record {
-        once = record {
-          each = λ t.
-              let before = rw e at (are.once.each t) in
-              rw (length-set old s []) (omega (
-                arith,
-                before,
-                occurrences-append t order (free' ++ s ∷ []),
-                occurrences-append t free' (s ∷ []),
-                occurrences-one t s,
-                occurrences-append t (s ∷ order) free',
-                occurrences-more t s order,
-              ));
-        };
-        count = omega (arith, are.count, ap length e, length-append free' (s ∷ []), length-set old s []);
-      };
-    }
+pub taken-free : (old : List (List Run)) (free free' : List ℕ) (s : ℕ) → AreEmpty old free
+    → free ≡ free' ++ s ∷ [] → IsTaken old old free free' s
+taken-free old free free' s none e = record {
+  empty = rw get_or-append_seam at (rw e at (none (length free') s
+      (omega (arith, ap length e, length-append free' (s ∷ [])))));
+  others = λ t _ _. refl;
+  slots = λ order are. record {
+    once = record {
+      each = λ t.
+          let before = rw e at (are.once.each t) in
+          omega (
+            arith,
+            before,
+            occurrences-append t order (free' ++ s ∷ []),
+            occurrences-append t free' (s ∷ []),
+            occurrences-one t s,
+            occurrences-append t (s ∷ order) free',
+            occurrences-more t s order,
+          );
+    };
+    count = omega (arith, are.count, ap length e, length-append free' (s ∷ []));
+  };
+}
+
+pub empty-left : (old : List (List Run)) (free free' : List ℕ) (s : ℕ) → AreEmpty old free
+    → free ≡ free' ++ s ∷ [] → AreEmpty old free'
+empty-left old free free' s none e = λ k d lt.
+    rw (get_or_append_left free' (s ∷ []) d k lt) at (rw e at (none k d
+    (omega (arith, lt, ap length e, length-append free' (s ∷ [])))))
 
 -- a new slot
 pub taken-new : (old : List (List Run)) (free free' : List ℕ) → free ≡ free'
@@ -236,6 +292,18 @@ taken-new old free free' e =
         count = omega (arith, are.count, ap length e, n);
       };
     }
+
+stays-empty-before : (old : List (List Run)) (t : ℕ) → leaf_at old t ≡ []
+    → leaf_at (old ++ [] ∷ []) t ≡ []
+stays-empty-before [] zero none = refl
+stays-empty-before [] (suc t) none = refl
+stays-empty-before (x ∷ old) zero none = none
+stays-empty-before (x ∷ old) (suc t) none = stays-empty-before old t none
+
+pub empty-new : (old : List (List Run)) (free free' : List ℕ) → AreEmpty old free → free ≡ free'
+    → AreEmpty (old ++ [] ∷ []) free'
+empty-new old free free' none e = λ k d lt.
+    stays-empty-before old (get_or free' k d) ((rw e at none) k d lt)
 
 pub same-list : (a b : List (List Run)) (n m : ℕ) → a ≡ b → n ≡ m
     → let l : LeafRow = record { leaves = a; capacity = n } in

@@ -1,5 +1,6 @@
 -- The leaves of the table in their slots.
 use Rattle.std.specs.Prelude.{◌≡◌, ◌≢◌, ℕ, ◌+◌, ◌<◌, List, [], ◌∷◌, ◌++◌, length, map}
+use Rattle.std.specs.List.{All}
 use Rattle.sg_table.specs.Leaves.{leaf_at}
 use Rattle.sg_table.specs.Occurrences.{IsEachOnce}
 use Rattle.sg_table.specs.declared.run.Run.{Run}
@@ -17,6 +18,10 @@ leaves_in slots order = map (leaf_at slots) order
 pub record AreSlots (slots : List (List Run)) (order free : List ℕ) : Type 0 where
   pub once : IsEachOnce (length slots) (order ++ free)
   pub count : length order + length free ≡ length slots
+
+-- The leaves in free slots have no records.
+abbrev pub AreEmpty : (slots : List (List Run)) (free : List ℕ) → Type 0
+AreEmpty slots free = All (λ slot. leaf_at slots slot ≡ []) free
 
 -- ---- Cited by private contracts alone
 

@@ -4,7 +4,7 @@
 use Rattle.std.specs.Prelude.{◌≡◌, ◌<◌, [], ◌∷◌}
 use Rattle.arrayvec.specs.contracts.array_vec.ArrayVec as array_vec
 use Rattle.sg_table.specs.Fields.{HasOnly, VariantsHaveOnly, vec_field}
-use Rattle.sg_table.specs.LeafList.{AreSlots}
+use Rattle.sg_table.specs.LeafList.{AreEmpty, AreSlots}
 use Rattle.sg_table.specs.Leaves.{IsSpan, first_addresses, joined, max_leaf, starts_of}
 use Rattle.sg_table.specs.Records.{data_in}
 use Rattle.sg_table.specs.contracts.draft.Draft.TheInside.{struct as draft}
@@ -117,6 +117,11 @@ LeafListHasOnlyItsParts = HasOnly leaf_list_inside.parts (
 abbrev pub EachSlotHasOneLeaf : Type 0
 EachSlotHasOneLeaf = (list : LeafListInside) → leaf_list_invariant list
     → AreSlots list.slots.items list.order.items list.free.items
+
+-- A leaf in a free slot has no records.
+abbrev pub FreeSlotsAreEmpty : Type 0
+FreeSlotsAreEmpty = (list : LeafListInside) → leaf_list_invariant list
+    → AreEmpty list.slots.items list.free.items
 
 -- A leaf is its records.
 abbrev pub LeafIsItsRecords : Type 0

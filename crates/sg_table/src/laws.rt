@@ -1,7 +1,8 @@
 //! What each [`RunTable`](crate::RunTable) is made of, down to its records. Nothing is kept beside
 //! the parts that are listed, so there is no second copy of a record that is read without counting.
 ghost use Rattle.sg_table.specs.Parts.{DirectoryFollows, DraftHasOnlyItsParts, DraftIsItsParts};
-ghost use Rattle.sg_table.specs.Parts.{EachSlotHasOneLeaf, GhostNumberHasNoField};
+ghost use Rattle.sg_table.specs.Parts.{EachSlotHasOneLeaf, FreeSlotsAreEmpty};
+ghost use Rattle.sg_table.specs.Parts.{GhostNumberHasNoField};
 ghost use Rattle.sg_table.specs.Parts.{LeafHasOnlyItsRecords, LeafIsItsRecords};
 ghost use Rattle.sg_table.specs.Parts.{LeafListHasOnlyItsParts, LeafListIsItsParts};
 ghost use Rattle.sg_table.specs.Parts.{LeavesAreTheirParts, LeavesHaveOnlyTheirParts};
@@ -58,6 +59,11 @@ pub fn a_list_of_leaves_has_only_its_parts()
 /// Each slot is that of one leaf of the table, or is free.
 pub fn each_slot_has_one_leaf_or_is_free()
     ensures { EachSlotHasOneLeaf }
+{}
+
+/// The leaf in a free slot has no records.
+pub fn a_free_slot_has_no_records()
+    ensures { FreeSlotsAreEmpty }
 {}
 
 /// A leaf is made of its records.

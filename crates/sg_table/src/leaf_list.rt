@@ -2,9 +2,8 @@
 // order or the number of their records.
 ghost use Rattle.std.specs.Prelude.{◌≡◌, ◌+◌, ◌-◌, ◌<◌, ◌≤◌, [], length, slice_set, insert, remove};
 ghost use Rattle.std.specs.Prelude.{vec_capacity, IfOk};
-ghost use Rattle.std.specs.List.{All};
 ghost use Rattle.std.specs.List.{splice as splice_list};
-ghost use Rattle.sg_table.specs.LeafList.{IsTaken};
+ghost use Rattle.sg_table.specs.LeafList.{AreEmpty, IsTaken};
 ghost use Rattle.sg_table.specs.Leaves.{leaf_at};
 
 use crate::leaf::{Leaf, MAX_LEAF};
@@ -21,13 +20,13 @@ pub(crate) struct LeafList {
     slots: Vec<Leaf>,
     /// The slots that are in use, in the order of their leaves.
     order: Vec<u16>,
-    /// The slots that are free again.
+    /// The slots that are free again. Their leaves have no records.
     free: Vec<u16>,
 }
 
 impl Model for LeafList {
     ghost use Rattle.std.specs.Prelude.{◌≤◌, vec_capacity};
-    ghost use Rattle.sg_table.specs.LeafList.{LeafRow, AreSlots, leaves_in};
+    ghost use Rattle.sg_table.specs.LeafList.{LeafRow, AreEmpty, AreSlots, leaves_in};
     ghost use Rattle.sg_table.specs.declared.leaves.TheConstants.{MAX_LEAVES};
 
     ghost Value = { LeafRow };
@@ -40,20 +39,21 @@ impl Model for LeafList {
     ghost invariant = { λ l. AreSlots l.slots.items l.order.items l.free.items
         × (vec_capacity l.slots ≤ vec_capacity l.order)
         × (vec_capacity l.slots ≤ vec_capacity l.free)
-        × (vec_capacity l.slots ≤ MAX_LEAVES) };
+        × (vec_capacity l.slots ≤ MAX_LEAVES)
+        × AreEmpty l.slots.items l.free.items };
 }
 
 /// Takes a free slot, or a new one where none is free. Its leaf has no records.
 fn take_slot(slots: &mut Vec<Leaf>, free: &mut Vec<u16>) -> u16
-    requires free { All (λ slot. slot < length slots.old.items) free.old.items }
+    requires empty { AreEmpty slots.old.items free.old.items }
     requires room { length slots.old.items < vec_capacity slots.old + length free.old.items }
     requires count { vec_capacity slots.old ≤ MAX_LEAVES }
     ensures taken { IsTaken slots.old.items slots.new.items free.old.items free.new.items result }
+    ensures empty { AreEmpty slots.new.items free.new.items }
     ensures capacity { vec_capacity slots.new ≡ vec_capacity slots.old }
     ensures free_capacity { vec_capacity free.old ≤ vec_capacity free.new }
 {
     if let Some(slot) = free.pop() {
-        slots[slot as usize].clear();
         return slot;
     }
     let slot = slots.len() as u16;
@@ -117,6 +117,7 @@ impl LeafList {
         ensures { self.new ≡ record self.old { leaves = remove self.old.leaves index } }
     {
         let slot = self.order.remove(index);
+        self.slots[slot as usize].clear();
         self.free.push_reserved(slot);
     }
 }

@@ -16,6 +16,7 @@ use Rattle.sg_store.specs.declared.lba_status.ProvisioningStatus.{ProvisioningSt
 use Rattle.sg_store.specs.declared.lba_status.ProvisioningStatus.TheVariants.{Mapped, Deallocated}
 use Rattle.sg_store.specs.declared.lba_status.ProvisioningStatus.TheVariants.{Anchored}
 use Rattle.sg_target.specs.Checks.{checked_effect}
+use Rattle.sg_target.specs.Demands.{extent}
 use Rattle.sg_target.specs.Effect.{Effect, with_contents}
 use Rattle.sg_target.specs.Laws.{lies_in_any}
 use Rattle.sg_target.specs.State.{IsWithinLimits, State}
@@ -24,6 +25,7 @@ use Rattle.sg_target.specs.declared.reply.Status.TheVariants.{Good}
 
 -- ---- Words
 
+-- A command of an initiator ends with GOOD.
 abbrev pub EndsWithGood : State → (initiator : ℕ) → (cdb data_out : List ℕ) → Type 0
 EndsWithGood state initiator cdb data_out =
     (step state initiator cdb data_out).answer.status ≡ Good
@@ -38,16 +40,13 @@ pub record Changes (before after : State) (addresses : ℕ → Bool) (status : P
       ≡ (if addresses address then given address else block before.disk.contents address)
   pub rest : after ≡ with_contents before after.disk.contents
 
-abbrev extent : (lba count : ℕ) → Option Extent
-extent lba count = Some (record { lba = lba; count = count })
-
 -- ---- READ (SBC-3, 5.11 and 5.13; READ(6) of SBC-2)
 
 -- The blocks of a READ(6), READ(10) or READ(16).
 abbrev pub blocks_to_read : Result Command CdbFault → Option Extent
-blocks_to_read (Ok (command.Read6 short)) = extent short.0 short.1
-blocks_to_read (Ok (command.Read10 c)) = extent c.lba c.count
-blocks_to_read (Ok (command.Read16 c)) = extent c.lba c.count
+blocks_to_read (Ok (command.Read6 short)) = Some (extent short.0 short.1)
+blocks_to_read (Ok (command.Read10 c)) = Some (extent c.lba c.count)
+blocks_to_read (Ok (command.Read16 c)) = Some (extent c.lba c.count)
 blocks_to_read _ = None
 
 -- They are the data-in, and nothing changes.
@@ -65,9 +64,9 @@ ReadsReturnTheirBlocks =
 
 -- The blocks of a WRITE(6), WRITE(10) or WRITE(16).
 abbrev pub blocks_to_write : Result Command CdbFault → Option Extent
-blocks_to_write (Ok (command.Write6 short)) = extent short.0 short.1
-blocks_to_write (Ok (command.Write10 c)) = extent c.lba c.count
-blocks_to_write (Ok (command.Write16 c)) = extent c.lba c.count
+blocks_to_write (Ok (command.Write6 short)) = Some (extent short.0 short.1)
+blocks_to_write (Ok (command.Write10 c)) = Some (extent c.lba c.count)
+blocks_to_write (Ok (command.Write16 c)) = Some (extent c.lba c.count)
 blocks_to_write _ = None
 
 -- They are mapped, and each has its bytes of the data-out.
@@ -119,12 +118,12 @@ pub record SameFields : Type 0 where
 
 abbrev pub same_fields : Result Command CdbFault → Option SameFields
 same_fields (Ok (command.WriteSame10 c)) = Some (record {
-  extent = record { lba = c.lba; count = c.count };
+  extent = extent c.lba c.count;
   anchor = c.anchor;
   unmap = c.unmap;
 })
 same_fields (Ok (command.WriteSame16 c)) = Some (record {
-  extent = record { lba = c.lba; count = c.count };
+  extent = extent c.lba c.count;
   anchor = c.anchor;
   unmap = c.unmap;
 })

@@ -2,7 +2,7 @@
 pub mod DigitLemmas
 pub mod NumberLemmas
 pub mod NumberListLemmas
--- Options, and what they ask for.
+-- Options, and the requests that they make.
 pub mod OptionLemmas
 pub mod ActionLemmas
 pub mod RequestLemmas

@@ -85,7 +85,7 @@ value-grows radix number (c ∷ cs) some =
     let times : number * 1 ≤ number * radix = mul-le-mul_left number some in
     omega arith
 
--- what is known after the first digits, whose value is a number
+-- the facts after the first digits, whose value is a number
 pub record ReadsDigits (radix : ℕ) (digits : List ℕ) (count number : ℕ) : Type 0 where
   pub others : AllDigits radix (drop count digits) → AllDigits radix digits
   pub among : AllDigits radix digits → AllDigits radix (drop count digits)

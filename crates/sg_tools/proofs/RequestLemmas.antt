@@ -1,4 +1,4 @@
--- What words ask for, from what clap gives.
+-- The requests that words make, from the options that clap finds.
 use Rattle.std.proofs.Common.{◌≡◌, List, Result, Ok, Err, sym, ap, ◌∙◌}
 use Rattle.clap.specs.Words.{Row, Text}
 use Rattle.sg_tools.specs.Options.{command_line}

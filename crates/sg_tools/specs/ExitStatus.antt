@@ -4,8 +4,8 @@ use Rattle.std.specs.Prelude.{if◌then◌else◌}
 use Rattle.sg_wire.specs.SenseData.{SenseFields}
 use Rattle.sg_wire.specs.SenseKey.{illegal_request, unit_attention, data_protect, aborted_command}
 
--- Sense data with a sense key, and with an additional sense code and its qualifier where these
--- matter, and its exit status.
+-- Sense data, and its exit status. It has a sense key and, if they matter, an additional sense code
+-- and its qualifier.
 pub record SenseStatus : Type 0 where
   pub key : ℕ
   pub codes : Option (ℕ × ℕ)
@@ -29,7 +29,7 @@ sense_statuses =
     ∷ with_key aborted_command 11
     ∷ []
 
--- Every other failure, unreadable sense data too.
+-- Every other failure, also if the sense data can't be read.
 abbrev pub other_failure : ℕ
 other_failure = 99
 

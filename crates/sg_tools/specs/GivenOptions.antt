@@ -1,4 +1,4 @@
--- What `clap` finds in words: options with their texts, or a refusal.
+-- The result of `clap` for words: options with their texts, or a refusal.
 use Rattle.std.specs.Prelude.{◌≡◌, List, [], ◌∷◌, Option, Some, None, Result, Ok, Err, Bool, true}
 use Rattle.std.specs.Prelude.{false, codes, if◌then◌else◌}
 use Rattle.std.specs.Str.{bytes_eq}
@@ -11,7 +11,8 @@ abbrev pub is_refused : Kinds → Bool
 is_refused [] = false
 is_refused (kind ∷ kinds) = true
 
--- What clap finds in the words, unless it refuses them. A request for help is refused too.
+-- The options that clap finds in the words, unless it refuses them. It refuses a request for help
+-- too.
 unfoldable pub given_options : App → List Text → Result (List Row) ToolFault
 given_options app words =
     if is_refused (fault_of app words) then Err Usage else Ok (matches_of app words)
@@ -28,7 +29,7 @@ is_true (Some text) = bytes_eq text (codes "true")
 abbrev pub is_set : Text → List Row → Bool
 is_set option rows = is_true (first_of option rows)
 
--- The result is this one, or memory was refused.
+-- The result is the expected one, unless memory was refused.
 abbrev pub IsUnlessOutOfMemory : {A : Type 0} → Result A ToolFault → Result A ToolFault → Type 0
 IsUnlessOutOfMemory expected (Ok value) = expected ≡ Ok value
 IsUnlessOutOfMemory expected (Err OutOfMemory) = Unit {0}

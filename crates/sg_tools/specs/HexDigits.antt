@@ -2,7 +2,7 @@
 use Rattle.std.specs.Prelude.{ℕ, unwrap_or}
 use Rattle.hex.specs.Hex.{hex_digit_value}
 
--- What is returned for a byte that is no digit.
+-- The value for a byte that is no digit.
 abbrev pub no_digit : ℕ
 no_digit = 255
 

@@ -1,4 +1,4 @@
--- What public contracts cite, in the order in which it is read best.
+-- Public contracts cite these. They are best read in this order.
 pub mod ToolNames
 pub mod Options
 pub mod GivenOptions

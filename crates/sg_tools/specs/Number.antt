@@ -5,12 +5,12 @@ use Rattle.std.specs.Char.{is_digit}
 use Rattle.std.specs.List.{list_all}
 use Rattle.std.specs.Str.Parse.{digits_value}
 
--- One digit or more of a radix, and nothing else.
+-- One digit or more of a radix, and no other byte.
 abbrev pub is_numeral : (radix : ℕ) → List ℕ → Bool
 is_numeral radix digits =
     nat_lt 0 (length digits) && list_all (λ digit. is_digit digit radix) digits
 
--- The value of digits, where it has at most 64 bits.
+-- The value of digits, if it has at most 64 bits.
 unfoldable pub number_in : (radix : ℕ) → List ℕ → Option ℕ
 number_in radix digits =
     if is_numeral radix digits && nat_lt (digits_value radix digits) (2 ^ 64)
@@ -28,7 +28,7 @@ has_h word =
     let last = slice_index word (length word - 1) in
     nat_le 1 (length word) && (last == 0x68 || last == 0x48)
 
--- `0x` and digits, or digits and `h`, are hexadecimal; digits alone are decimal.
+-- `0x` and digits, or digits and `h`, are hexadecimal; digits without either are decimal.
 unfoldable pub number_of : List ℕ → Option ℕ
 number_of word =
     if has_0x word then number_in 16 (drop 2 word)

@@ -4,7 +4,7 @@ use Rattle.std.specs.Prelude.{nat_lt, if◌then◌else◌}
 use Rattle.sg_wire.specs.UnmapList.{maximum_unmap_descriptors}
 use Rattle.sg_tools.specs.declared.number_list.NumberList.{NumberList}
 
--- As many as UNMAP takes, and how many there are.
+-- A list keeps as many numbers as UNMAP takes, and counts them all.
 pub record Keeps (numbers : List ℕ) (list : NumberList) : Type 0 where
   pub count : list.count ≡ length numbers
   pub first : list.first.items ≡ take maximum_unmap_descriptors numbers
@@ -15,7 +15,7 @@ ReadsList None (Some list) = ⊥
 ReadsList (Some numbers) None = ⊥
 ReadsList (Some numbers) (Some list) = Keeps numbers list
 
--- One more number is kept, where there is room.
+-- One more number is kept, if there is room.
 pub record PushesNumber (old : NumberList) (number : ℕ) (new : NumberList) : Type 0 where
   pub count : new.count ≡ old.count + 1
   pub first : new.first.items ≡ (

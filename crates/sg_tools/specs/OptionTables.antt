@@ -1,4 +1,4 @@
--- How the rows of the code's tables are those of the definitions.
+-- The rows of the code's tables, seen as the rows of the definitions.
 use Rattle.std.specs.Prelude.{List, map, Some, None, true, false}
 use Rattle.sg_tools.specs.Options.{OptionRow}
 use Rattle.sg_tools.specs.Requests.{ActionFlag as ActionRow}

@@ -6,7 +6,8 @@ use Rattle.std.specs.Str.{bytes_eq}
 use Rattle.clap.specs.Words.{Text}
 use Rattle.sg_tools.specs.Number.{has_0x, number_in, number_up_to}
 
--- The value of an option: the default where it is not given, and None where its text has no value.
+-- The value of an option. It is the default if the option is not given, and None if its text has no
+-- value.
 abbrev pub value_or : {A : Type 0} → (default : A) → (value_of : Text → Option A) → Option Text
     → Option A
 value_or default value_of None = Some default
@@ -56,7 +57,7 @@ abbrev pub all_values : {A : Type 0} → (value_of : Text → Option A) → List
 all_values value_of [] = Some []
 all_values value_of (text ∷ texts) = prepend (value_of text) (all_values value_of texts)
 
--- None where an entry is no number or one past the limit.
+-- None if an entry is no number or is past the limit.
 unfoldable pub numbers_up_to : (limit : ℕ) → Text → Option (List ℕ)
 numbers_up_to limit text = all_values (number_up_to limit) (entries text)
 

@@ -11,8 +11,8 @@ use Rattle.sg_tools.specs.declared.tool_name.ToolName.TheVariants.{SgGetLbaStatu
 
 -- ---- The tables
 
--- An option: its short name, if it has one, its long name, and whether it has a text. One without
--- a text is a flag.
+-- An option: its short name, if it has one, its long name, and whether it has a text. An option
+-- without a text is a flag.
 pub record OptionRow : Type 0 where
   pub short : Option ℕ
   pub long : Text

@@ -11,6 +11,6 @@ parameter_list parameters.Nothing = []
 parameter_list (parameters.Unmap extents) = unmap_list_bytes extents
 parameter_list (parameters.ReserveOut list) = out_list_bytes list
 
--- The length of the longest, of UNMAP with the most descriptors.
+-- The length of the longest data-out, which UNMAP with the most descriptors has.
 abbrev pub max_data_out : ℕ
 max_data_out = unmap_list_length maximum_unmap_descriptors

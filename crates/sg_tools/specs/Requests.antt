@@ -1,6 +1,6 @@
--- What the options of a tool ask for (their manual pages in sg3_utils, with the choices of
--- docs/DECISIONS.md). Of two faults the first in this order is returned: `Usage` of clap, or of a list
--- that is not given; `Exclusive`; `Number`; and then any other `Usage`.
+-- The requests that the options of a tool make (their manual pages in sg3_utils, with the choices
+-- of docs/DECISIONS.md). Of two faults, the first in this order is returned: `Usage` of clap, or of
+-- a list that is not given; `Exclusive`; `Number`; any other `Usage`.
 use Rattle.std.specs.Prelude.{ℕ, ◌^◌, ◌-◌, List, [], ◌∷◌, length, codes, filter, map, Option, Some}
 use Rattle.std.specs.Prelude.{None, is_some, Result, Ok, Err, Bool, true, false, ◌==◌, ◌&&◌, ◌||◌}
 use Rattle.std.specs.Prelude.{nat_le, if◌then◌else◌}
@@ -39,7 +39,7 @@ use Rattle.sg_wire.specs.declared.command.out_action.OutAction.TheVariants.{Regi
 
 -- ---- Requests
 
--- What a tool sends, or why its words ask for nothing.
+-- The command that a tool sends, or why its words ask for nothing.
 abbrev pub Request : Type 0
 Request = Result Tool ToolFault
 
@@ -54,15 +54,15 @@ asks command show = sends command parameters.Nothing show
 abbrev pub unless_exclusive : Bool → Request → Request
 unless_exclusive are_exclusive request = if are_exclusive then Err Exclusive else request
 
--- With the value of an option, where its text has one.
+-- A request with the value of an option, if its text has one.
 abbrev pub with_value : {A : Type 0} → Option A → (A → Request) → Request
 with_value None request = Err Number
 with_value (Some value) request = request value
 
 -- ---- sg_inq and sg_vpd: INQUIRY
 
--- The allocation length is 36 bytes for the standard INQUIRY data and 252 for a page, where none or
--- 0 is given.
+-- If no allocation length or 0 is given, it is 36 bytes for the standard INQUIRY data and 252 for a
+-- page.
 abbrev pub inquiry_length : (evpd : Bool) → (given : ℕ) → ℕ
 inquiry_length evpd given = if given == 0 then (if evpd then 252 else 36) else given
 
@@ -83,7 +83,8 @@ length_or_0 text = number_or 0 0xFFFF text
 abbrev pub default_page : (id : Bool) → ℕ
 default_page id = if id then 0x83 else 0x00
 
--- --page asks for a page, --id for device identification, and --vpd alone for the supported pages.
+-- --page asks for a page, --id for device identification, and --vpd without them for the supported
+-- pages.
 abbrev pub sg_inq : List Row → Request
 sg_inq rows =
     let page = text_of (codes "page") rows in
@@ -144,7 +145,7 @@ with_both_lists None num request = Err Usage
 with_both_lists (Some lba) None request = Err Usage
 with_both_lists (Some lba) (Some num) request = request lba num
 
--- Both lists have to be given, equally long, of at most 64 entries.
+-- Both lists have to be given. They have to have the same length, of at most 64 entries.
 abbrev pub sg_unmap : List Row → Request
 sg_unmap rows =
     with_both_lists (text_of (codes "lba") rows) (text_of (codes "num") rows) (λ lba num.
@@ -200,7 +201,8 @@ given_actions flags rows =
     map (λ (row : ActionFlag). row.action)
     (filter (λ (row : ActionFlag). is_set row.flag rows) flags)
 
--- Two service actions; --in with --out; or one of them with an action of the other.
+-- A service action excludes a second one, and --in excludes --out. Each of these options excludes
+-- the actions of the other.
 abbrev pub are_exclusive : (as_in as_out : Bool) → List ServiceAction → Bool
 are_exclusive as_in as_out [] = as_in && as_out
 are_exclusive as_in as_out (In action ∷ []) = as_out
@@ -216,13 +218,13 @@ reserve_in_show ReadFullStatus = show.FullStatus
 abbrev pub reserve_in : InAction → Request
 reserve_in action = asks (command.reserve_in action 8192) (reserve_in_show action)
 
--- The SCOPE is that of a logical unit, 0h.
+-- The SCOPE is a logical unit, 0h.
 abbrev pub reserve_out : OutAction → (type : ℕ) → OutList → Request
 reserve_out action type list =
     sends (command.reserve_out action type list_length)
     (parameters.ReserveOut list) show.Nothing
 
--- READ KEYS where no service action is given, and --out neither.
+-- READ KEYS if neither a service action nor --out is given.
 abbrev pub reserve : (as_out : Bool) → List ServiceAction → (type : ℕ) → OutList → Request
 reserve as_out [] type list = if as_out then Err Usage else reserve_in ReadKeys
 reserve as_out (In action ∷ others) type list = reserve_in action
@@ -261,6 +263,6 @@ abbrev pub request_by : ToolName → Result (List Row) ToolFault → Request
 request_by tool (Err fault) = Err fault
 request_by tool (Ok rows) = request_of tool rows
 
--- What words ask a tool for. The first word is the tool's name.
+-- The request that words make to a tool. The first word is the tool's name.
 unfoldable pub request : ToolName → (words : List Text) → Request
 request tool words = request_by tool (given_options (command_line tool) words)

@@ -1,8 +1,8 @@
-// What `clap` finds, as a list of options with their texts.
+// The options that `clap` finds, as a list with their texts.
 use clap::ArgMatches;
 use std::marker::Model;
 
-/// What clap finds in words, seen as a list of options with their texts.
+/// The options that clap finds in words, seen as a list with their texts.
 #[derive(Drop)]
 pub struct GivenOptions<'a> {
     matches: ArgMatches<'a>,
@@ -46,12 +46,12 @@ impl<'a> GivenOptions<'a> {
         GivenOptions::of_words(line, words)
     }
 
-    /// The options that words give, the first word being the name of the program. No option of the
+    /// The options that words give. The first word is the name of the program. No option of the
     /// command line has a rule on another.
     ///
     /// # Errors
-    /// `Usage` where clap does not accept the words or they ask for help, and `OutOfMemory` where
-    /// memory is refused.
+    /// `Usage` if clap does not accept the words or they ask for help, and `OutOfMemory` if memory
+    /// is refused.
     pub fn of_words<S: AsStr>(
         line: Command<'a>,
         words: &'a [S],

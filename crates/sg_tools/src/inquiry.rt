@@ -10,12 +10,12 @@ use crate::tool::Tool;
 use crate::tool_fault::ToolFault;
 use sg_wire::{Command, Inquiry};
 
-// Pages of vital product data that are asked for by default (SPC-4, 7.8).
+// Pages of vital product data that the tools ask for by default (SPC-4, 7.8).
 const SUPPORTED_PAGES: u8 = 0x00;
 
 const DEVICE_IDENTIFICATION: u8 = 0x83;
 
-/// What the options of sg_inq ask for.
+/// The request that the options of sg_inq make.
 pub(crate) fn sg_inq(options: &GivenOptions) -> Result<Tool, ToolFault>
     ensures { result ≡ sg_inq options.now }
 {
@@ -43,7 +43,7 @@ fn default_page(id: bool) -> u8
     }
 }
 
-/// What the options of sg_vpd ask for.
+/// The request that the options of sg_vpd make.
 pub(crate) fn sg_vpd(options: &GivenOptions) -> Result<Tool, ToolFault>
     ensures { result ≡ sg_vpd options.now }
 {
@@ -55,7 +55,7 @@ pub(crate) fn sg_vpd(options: &GivenOptions) -> Result<Tool, ToolFault>
     )
 }
 
-/// INQUIRY, where the page and the allocation length have values.
+/// INQUIRY, if the page and the allocation length have values.
 fn inquiry(evpd: bool, page: Option<u8>, length: Option<u16>, hex: bool) -> Result<Tool, ToolFault>
     ensures { result ≡ inquiry evpd page length hex }
 {
@@ -90,7 +90,7 @@ fn inquiry_show(evpd: bool, hex: bool) -> Show
     }
 }
 
-/// The page of vital product data of a text, the default where there is no text.
+/// The page of vital product data of a text; the default if there is no text.
 fn page_or(default: u8, text: Option<&str>) -> Option<u8>
     ensures { result ≡ page_or default (option_map (λ t. t.now) text.entry) }
 {
@@ -105,7 +105,7 @@ fn page_or(default: u8, text: Option<&str>) -> Option<u8>
     }
 }
 
-/// The allocation length of a text, 0 where there is no text.
+/// The allocation length of a text; 0 if there is no text.
 fn length_or_0(text: Option<&str>) -> Option<u16>
     ensures { result ≡ length_or_0 (option_map (λ t. t.now) text.entry) }
 {

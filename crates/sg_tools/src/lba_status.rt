@@ -12,7 +12,7 @@ use sg_wire::{Command, GetLbaStatus};
 /// The allocation length that is sent by default, of one descriptor.
 const DEFAULT_LENGTH: u64 = 24;
 
-/// What the options of sg_get_lba_status ask for.
+/// The request that the options of sg_get_lba_status make.
 pub(crate) fn sg_get_lba_status(options: &GivenOptions) -> Result<Tool, ToolFault>
     ensures { result ≡ sg_get_lba_status options.now }
 {

@@ -1,5 +1,5 @@
-//! The tools modelled on sg3_utils: what the words of their command lines ask for, the command and
-//! the parameter list that each sends, how its answer is shown, and its exit status.
+//! The tools modelled on sg3_utils: the request that the words of a command line make, with its
+//! command and its parameter list. They also choose the text of the answer, and the exit status.
 #![tactic(auto)]
 
 mod digits;

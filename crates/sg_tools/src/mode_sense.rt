@@ -12,10 +12,10 @@ use crate::tool::Tool;
 use crate::tool_fault::ToolFault;
 use sg_wire::{Command, ModeSense6, ModeSense10, PageCode, PageControlField};
 
-/// The PAGE CODE by which all pages are requested (SPC-4, 6.13).
+/// The PAGE CODE that requests all pages (SPC-4, 6.13).
 const ALL_PAGES: u64 = 0x3f;
 
-/// What the options of sg_modes ask for.
+/// The request that the options of sg_modes make.
 pub(crate) fn sg_modes(options: &GivenOptions) -> Result<Tool, ToolFault>
     ensures { result ≡ sg_modes options.now }
 {
@@ -74,14 +74,14 @@ fn modes_show(six: bool, hex: bool) -> Show
     }
 }
 
-/// The page control of a text, that of current values where there is no text.
+/// The page control of a text; current values if there is no text.
 fn page_control(text: Option<&str>) -> Option<PageControlField>
     ensures { result ≡ number_or 0 3 (option_map (λ t. t.now) text.entry) }
 {
     PageControlField::new(number_or(0, 3, text)? as u8)
 }
 
-/// The page and the subpage of a text, all pages where there is no text.
+/// The page and the subpage of a text; all pages if there is no text.
 fn mode_page_or_all(text: Option<&str>) -> Option<(PageCode, u8)>
     ensures { result ≡ value_or (0x3F, 0x00) mode_page (option_map (λ t. t.now) text.entry) }
 {

@@ -5,7 +5,7 @@ ghost use Rattle.sg_tools.specs.Number.{number_in, number_of, number_up_to};
 use crate::digits::digit_value;
 
 /// The number of a word: decimal digits, or `0x` and hexadecimal digits, or hexadecimal digits and
-/// `h`, with letters in either case. None where it is no such word or has more than 64 bits.
+/// `h`, with letters in either case. None if it is no such word or has more than 64 bits.
 #[tactic(auto, unfolding(crate::specs::Number::number_of))]
 pub fn read_number(word: &[u8]) -> Option<u64>
     ensures { result ≡ number_of word.now }
@@ -17,7 +17,7 @@ pub fn read_number(word: &[u8]) -> Option<u64>
     }
 }
 
-/// The number of a word, where it is at most a limit.
+/// The number of a word, if it is at most a limit.
 pub fn read_number_up_to(limit: u64, word: &[u8]) -> Option<u64>
     ensures value { result ≡ number_up_to limit word.now }
     ensures within { IfSome result (λ n. n ≤ limit) }

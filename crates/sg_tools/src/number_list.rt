@@ -8,14 +8,14 @@ use crate::number::read_number_up_to;
 use arrayvec::ArrayVec;
 use sg_wire::MAXIMUM_UNMAP_DESCRIPTORS;
 
-/// The numbers of a list: as many as UNMAP takes, and how many there are.
+/// The numbers of a list: as many as UNMAP takes, and the number of all.
 #[derive(Drop)]
 pub(crate) struct NumberList {
     pub(crate) first: ArrayVec<u64, MAXIMUM_UNMAP_DESCRIPTORS>,
     pub(crate) count: usize,
 }
 
-/// The numbers of a list. None where an entry is no number or one past the limit.
+/// The numbers of a list. None if an entry is no number or is past the limit.
 pub(crate) fn read_list(limit: u64, text: &[u8]) -> Option<NumberList>
     ensures { ReadsList (numbers_up_to limit text.now) result }
 {
@@ -40,7 +40,7 @@ pub(crate) fn read_list(limit: u64, text: &[u8]) -> Option<NumberList>
     }
 }
 
-/// One more number. It is counted also where there is no room for it.
+/// Adds one more number. It is counted even if there is no room for it.
 fn push(numbers: &mut NumberList, number: u64)
     requires { numbers.old.count < usize.MAX }
     ensures { PushesNumber numbers.old number numbers.new }

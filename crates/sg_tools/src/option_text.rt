@@ -4,7 +4,7 @@ ghost use Rattle.sg_tools.specs.OptionTexts.{number_or};
 
 use crate::number::read_number_up_to;
 
-/// The number of a text, where it is at most a limit; the default where there is no text.
+/// The number of a text, if it is at most a limit; the default if there is no text.
 pub fn number_or(default: u64, limit: u64, text: Option<&str>) -> Option<u64>
     requires { default ≤ limit }
     ensures value { result ≡ number_or default limit (option_map (λ t. t.now) text.entry) }

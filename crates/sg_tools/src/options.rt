@@ -1,4 +1,4 @@
-// The options of each tool as a table, row by row that of `specs/Options.antt`.
+// The options of each tool as a table, with the rows of the table in `specs/Options.antt`.
 ghost use Rattle.std.specs.Prelude.{◌≡◌, IfOk, Some, map, false};
 ghost use Rattle.clap.specs.Words.{app_of, new_rule, rule_of};
 ghost use Rattle.sg_tools.specs.Options.{command_line, options_of, rule, with_rules};

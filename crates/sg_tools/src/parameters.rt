@@ -7,17 +7,18 @@ ghost use Rattle.sg_tools.specs.ParameterLists.{max_data_out, parameter_list};
 use sg_wire::laws::answers_are_in_their_buffers;
 use sg_wire::{Cut, OutList, UnmapList};
 
-/// The length of the longest data-out of a tool, in bytes: that of UNMAP with the most descriptors.
+/// The length of the longest data-out of a tool, in bytes. It is a list of UNMAP with the most
+/// descriptors.
 pub const MAX_DATA_OUT: usize = UnmapList::MAXIMUM_LENGTH;
 
 /// The parameter list that a tool sends.
 #[derive(Drop)]
 pub enum Parameters {
-    /// None.
+    /// No parameter list.
     Nothing,
-    /// That of UNMAP.
+    /// The parameter list of UNMAP.
     Unmap(UnmapList),
-    /// That of PERSISTENT RESERVE OUT.
+    /// The parameter list of PERSISTENT RESERVE OUT.
     ReserveOut(OutList),
 }
 

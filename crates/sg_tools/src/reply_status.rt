@@ -13,7 +13,7 @@ pub fn status_of(status: u8, sense: &[u8]) -> u8
     exit_status(status, Sense::read(sense))
 }
 
-/// The exit status that sg3_utils(8) give a reply with this status code. The sense is `None` where
+/// The exit status that sg3_utils(8) give a reply with this status code. The sense is `None` if the
 /// sense data can't be read.
 pub fn exit_status(status: u8, sense: Option<Sense>) -> u8
     ensures { result ≡ exit_status status (option_map fields_of sense) }

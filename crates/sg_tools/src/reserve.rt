@@ -13,7 +13,7 @@ use crate::tool::Tool;
 use crate::tool_fault::ToolFault;
 use sg_wire::{Command, InAction, OutAction, OutList, PersistentReserveIn, PersistentReserveOut};
 
-/// What the options of sg_persist ask for.
+/// The request that the options of sg_persist make.
 pub(crate) fn sg_persist(options: &GivenOptions) -> Result<Tool, ToolFault>
     ensures { result ≡ sg_persist options.now }
 {
@@ -38,7 +38,7 @@ pub(crate) fn sg_persist(options: &GivenOptions) -> Result<Tool, ToolFault>
     reserve(as_out, &actions, type_code, list)
 }
 
-/// READ KEYS where no service action is given.
+/// The request that service actions make; READ KEYS if none is given.
 fn reserve(
     as_out: bool,
     actions: &[ServiceAction],
@@ -90,7 +90,7 @@ fn reserve_out(action: OutAction, type_code: u8, list: OutList) -> Tool
     }
 }
 
-/// The key of a text, 0 where there is no text.
+/// The key of a text; 0 if there is no text.
 fn key_or_0(text: Option<&str>) -> Option<u64>
     ensures { result ≡ key_or_0 (option_map (λ t. t.now) text.entry) }
 {
@@ -100,7 +100,7 @@ fn key_or_0(text: Option<&str>) -> Option<u64>
     }
 }
 
-/// The type of a text, 0 where there is no text.
+/// The type of a text; 0 if there is no text.
 fn type_or_0(text: Option<&str>) -> Option<u8>
     ensures { result ≡ value_or 0 reservation_type (option_map (λ t. t.now) text.entry) }
 {

@@ -66,7 +66,8 @@ fn actions_of(flags: &'static [ActionFlag], options: &GivenOptions) -> ServiceAc
     actions
 }
 
-/// Whether service actions exclude one another, --in or --out, or these one another.
+/// Whether options exclude one another: two service actions, --in and --out, or one of these and an
+/// action of the other.
 pub(crate) fn are_exclusive(as_in: bool, as_out: bool, actions: &[ServiceAction]) -> bool
     ensures { result ≡ are_exclusive as_in as_out actions.now }
 {

@@ -34,7 +34,7 @@ pub enum Show {
 }
 
 impl Show {
-    /// How the bytes of an answer of some kind are shown. None where a word names no kind.
+    /// How the bytes of an answer of some kind are shown. None if a word names no kind.
     pub fn of_word(word: &str) -> Option<Show>
         ensures { result ≡ show_named show_kinds word.now }
     {

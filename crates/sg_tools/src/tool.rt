@@ -19,41 +19,42 @@ use crate::unmap::sg_unmap;
 use sg_wire::{CdbBytes, Command};
 use std::alloc::Global;
 
-/// What the words of a tool ask for: a command, its parameter list, and how the answer is shown.
+/// The request that the words of a tool make: a command, its parameter list, and how the answer is
+/// shown.
 #[derive(Drop)]
 pub struct Tool {
     /// The command.
     pub command: Command,
     /// Its parameter list.
     pub parameters: Parameters,
-    /// How the answer is shown, where the command ends with GOOD.
+    /// How the answer is shown, if the command ends with GOOD.
     pub show: Show,
 }
 
-/// What a tool sends, as bytes.
+/// The bytes that a tool sends.
 #[derive(Drop)]
 pub struct Plan {
     /// The CDB.
     pub cdb: CdbBytes,
     /// The length of the data-out, in bytes.
     pub data_out: usize,
-    /// How the answer is shown, where the command ends with GOOD.
+    /// How the answer is shown, if the command ends with GOOD.
     pub show: Show,
 }
 
 impl Tool {
-    /// What words ask a tool for. The first word is the name of the tool, the others are its
-    /// options.
+    /// Reads the request that words make. The first word is the name of the tool, and the others
+    /// are its options.
     ///
     /// # Errors
     /// The first of these that applies:
-    /// - `Usage` where clap does not accept the words, or a list of sg_unmap is not given,
-    /// - `Exclusive` where two options exclude one another,
-    /// - `Number` where the text of an option, needed or not, has no value or one out of range,
-    /// - `Usage` where the lists of sg_unmap have unequal lengths or more than 64 entries, or
+    /// - `Usage` if clap does not accept the words, or if a list of sg_unmap is not given.
+    /// - `Exclusive` if two options exclude one another.
+    /// - `Number` if the text of an option, needed or not, has no value or a value out of range.
+    /// - `Usage` if the lists of sg_unmap have unequal lengths or more than 64 entries, or if
     ///   `--out` of sg_persist is given without a service action.
     ///
-    /// `OutOfMemory` comes in place of any result, where memory is refused.
+    /// If memory is refused, `OutOfMemory` comes in place of any result.
     pub fn parse<'a>(alloc: Global, tool: ToolName, words: &'a [&'a str]) -> Result<Tool, ToolFault>
         ensures { let texts = map (λ word. word.now) words.entry.now in
             IsUnlessOutOfMemory (request tool texts) result }
@@ -64,9 +65,9 @@ impl Tool {
         }
     }
 
-    /// The CDB and the data-out that the tool sends. The data-out is written to the first bytes of
-    /// `data_out`, which has at least [`MAX_DATA_OUT`](crate::MAX_DATA_OUT) bytes, and those behind it
-    /// stay as they were.
+    /// Returns the CDB that the tool sends, and writes its data-out. The data-out goes to the first
+    /// bytes of `data_out`, which has at least [`MAX_DATA_OUT`](crate::MAX_DATA_OUT) bytes. The
+    /// bytes after it stay as they were.
     pub fn plan(&self, data_out: &mut [u8]) -> Plan
         requires { max_data_out ≤ length data_out.old }
         ensures cdb { result.cdb ≡ cdb_of self.now.command }
@@ -95,7 +96,7 @@ impl Tool {
     }
 }
 
-/// What the options of a tool ask for.
+/// The request that the options of a tool make.
 fn request_of(tool: ToolName, options: &GivenOptions) -> Result<Tool, ToolFault>
     ensures { result ≡ request_of tool options.now }
 {

@@ -3,11 +3,11 @@ use thiserror::Error;
 /// Why words ask a tool for nothing.
 #[derive(Clone, Copy, Debug, Error, PartialEq, Eq)]
 pub enum ToolFault {
-    /// The words are not those of the tool, a list is missing, lists have unequal lengths or too
-    /// many entries, or no service action is given with `--out`.
+    /// The tool does not take the words, a list is missing, or lists have unequal lengths or too
+    /// many entries. Or `--out` is given, and no service action.
     #[error("the words are not those of the tool")]
     Usage,
-    /// The text of an option has no value, or one that is out of range.
+    /// The text of an option has no value, or a value that is out of range.
     #[error("an option has no such value")]
     Number,
     /// Two options exclude one another.

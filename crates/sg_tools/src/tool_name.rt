@@ -20,7 +20,7 @@ pub enum ToolName {
 }
 
 impl ToolName {
-    /// The tool that has a word as its name. None where no tool has.
+    /// The tool that has a word as its name. None if no tool has this name.
     pub fn of_word(word: &str) -> Option<ToolName>
         ensures { result ≡ tool_named word.now }
     {

@@ -13,7 +13,7 @@ use crate::tool::Tool;
 use crate::tool_fault::ToolFault;
 use sg_wire::{Command, Extent, GroupNumber, MAXIMUM_UNMAP_DESCRIPTORS, Unmap, UnmapList};
 
-/// What the options of sg_unmap ask for.
+/// The request that the options of sg_unmap make.
 pub(crate) fn sg_unmap(options: &GivenOptions) -> Result<Tool, ToolFault>
     ensures { result ≡ sg_unmap options.now }
 {
@@ -47,7 +47,7 @@ fn unmap(anchor: bool, group: GroupNumber, list: UnmapList) -> Tool
     }
 }
 
-/// The group number of a text, 0 where there is no text.
+/// The group number of a text; 0 if there is no text.
 fn group_number(text: Option<&str>) -> Option<GroupNumber>
     ensures { result ≡ number_or 0 31 (option_map (λ t. t.now) text.entry) }
 {

@@ -59,7 +59,7 @@ times-cons : (number : ℕ) (c : UnitAttention) (cs : List UnitAttention)
     → times number (c ∷ cs) ≡ cond (number_of c == number) 1 0 + times number cs
 times-cons number c cs = sum_by-cons (λ d. cond (number_of d == number) 1 0) c cs
 
--- a condition that is not pending is there no time
+-- a condition that is not pending occurs zero times
 times-not_pending : (condition : UnitAttention) (queue : List UnitAttention)
     → is_pending queue condition ≡ false → times (number_of condition) queue ≡ 0
 times-not_pending condition [] h = refl
@@ -109,7 +109,7 @@ of_five-nil : 0 ≡ of_five []
 unfolding of_five
 of_five-nil = refl
 
--- what one more condition adds
+-- the part that one more condition adds
 of_five-cons : (c : UnitAttention) (cs : List UnitAttention)
     → of_five (c ∷ cs) ≡ of_five (c ∷ []) + of_five cs
 unfolding of_five
@@ -257,7 +257,7 @@ IsQueue-pending_for [] i h = no-queue
 IsQueue-pending_for (first ∷ more) zero h = h.0
 IsQueue-pending_for (first ∷ more) (suc i) h = IsQueue-pending_for more i h.1
 
--- a queue of the list is what it was changed to
+-- a queue of the list is as it was changed
 pub queue-replaced : (change : List UnitAttention → List UnitAttention)
     (queues : List (ArrayVec UnitAttention)) (i : ℕ) (d new : ArrayVec UnitAttention)
     → new.items ≡ change (get_or queues i d).items
@@ -282,14 +282,14 @@ ArePending-set pending i queue h q = record {
   queues = queues-set pending i queue h.queues q;
 }
 
--- the oldest of a queue is dropped, if any
+-- the oldest condition of a queue is dropped, if there is one
 pub ArePending-cleared : (pending : Pending) (i : ℕ) → ArePending pending
     → ArePending (without_oldest pending i)
 ArePending-cleared pending i h =
     ArePending-set pending i (drop 1 (pending_for pending i)) h
     (IsQueue-drop (pending_for pending i) (IsQueue-pending_for pending i h.queues))
 
--- one is put to each, if any
+-- one condition is put to each queue, if there is one
 pub ArePending-raised : (pending : Pending) (conditions : Conditions) → ArePending pending
     → ArePending (raised_for_each pending conditions)
 unfolding raised_for_each
@@ -318,7 +318,8 @@ same_or_less k n h = cases_of (cases_lt k n)
     cases_of (inl l) = inr l
     cases_of (inr l) = inl (omega arith)
 
--- the first n initiators have what is established for them, the others what they had
+-- the first n initiators have the conditions that are established for them, and the others
+-- are unchanged
 pub record RaisedBelow (initial : Pending) (conditions : Conditions) (pending : Pending)
     (n : ℕ) : Type 0 where
   pub below : (k : ℕ) → k < n → pending_for pending k ≡ queue_after initial conditions k

@@ -47,7 +47,7 @@ kept r rs ys i true h =
     omega (arith, registrations_of-cons r rs i, registrations_of-cons r ys i)
 kept r rs ys i false h = omega (arith, registrations_of-cons r rs i)
 
--- a filter keeps no more
+-- a filter keeps no more registrations
 registrations_of-filter : (p : Registration → Bool) (rs : List Registration) (i : ℕ)
     → registrations_of (filter p rs) i ≤ registrations_of rs i
 registrations_of-filter p [] i = omega arith
@@ -69,7 +69,7 @@ registrations_of-push rs i key j h k =
     let none = registrations_of-none rs i h in
     grind (arith, nat_tests)
 
--- a registration whose key is replaced is the same initiator's
+-- a registration with a replaced key is the same initiator's
 same_initiator : (r : Registration) (i key : ℕ) (b : Bool) → (r.initiator == i) ≡ b
     → (cond b (registration i key) r).initiator ≡ r.initiator
 same_initiator r i key true h = grind (arith, nat_tests)
@@ -122,7 +122,7 @@ held-push (Some reservation) rs i key h =
     let holder = λ (r : Registration). holds reservation r.initiator in
     list_any-append holder rs (registration i key ∷ []) ∙ or_left (has_holder reservation rs) _ h
 
--- what is left of a reservation has a holder, and is what it was
+-- the rest of a reservation has a holder, and is as it was
 held_if : (reservation : Reservation) (rest : List Registration) (b : Bool)
     → has_holder reservation rest ≡ b
     → is_held_if_any (if b then Some reservation else None) rest ≡ true
@@ -145,7 +145,7 @@ named-while_held : (held : Option Reservation) (rest : List Registration)
 named-while_held None rest h = refl
 named-while_held (Some reservation) rest h = named_if reservation (has_holder reservation rest) h
 
--- an initiator that is registered holds what it takes
+-- an initiator that is registered holds the reservation that it takes
 anybody : (rs : List Registration) (i : ℕ) → is_registered rs i ≡ true
     → list_any (λ (r : Registration). true) rs ≡ true
 anybody [] i h = absurd (false≢true h)

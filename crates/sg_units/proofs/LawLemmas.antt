@@ -1,4 +1,4 @@
--- What the laws stand on.
+-- The lemmas of the laws.
 use Rattle.std.proofs.Common.{◌≡◌, ◌⊎◌, inl, inr, ◌≤◌, ◌<◌, ◌+◌, ◌%◌, ◌^◌, ◌==◌, ℕ, Bool, true}
 use Rattle.std.proofs.Common.{false, cond, ◌&&◌, ◌||◌, List, [], ◌∷◌, length, Option, Some}
 use Rattle.std.proofs.Common.{None, Ok, Err, refl, sym, ap, ◌∙◌, arith}
@@ -108,7 +108,7 @@ and_implied false false h = refl
 abbrev with_holder : ReservationType → Option ℕ → Reservation
 with_holder type holder = record { kind = type; holder = holder }
 
--- the one that is named is registered, and alone a holder
+-- the named holder is registered, and is the only holder
 named_holder : (rs : List Registration) (type : ReservationType) (holder : Option ℕ) (named : ℕ)
     → holder ≡ Some named → has_holder (with_holder type holder) rs ≡ true
     → is_registered rs named ≡ true
@@ -210,7 +210,7 @@ reads_refused WriteExclusiveAllRegistrants registered h k = absurd (false≢true
 reads_refused ExclusiveAccessAllRegistrants true h k = absurd (false≢true (sym h))
 reads_refused ExclusiveAccessAllRegistrants false h k = refl
 
--- what a reservation that is held allows to an initiator
+-- the classes that a held reservation allows to an initiator
 allows_held : (state : ReservationState) (reservation : Reservation) (i : ℕ) (class : Class)
     (holder : Bool) → state.reservation ≡ Some reservation → is_holder state i ≡ holder
     → allows state i class

@@ -1,4 +1,4 @@
--- What each change that PERSISTENT RESERVE OUT can make is shown to be, case by case.
+-- A property of each change that PERSISTENT RESERVE OUT can make is shown case by case.
 use Rattle.std.proofs.Common.{◌≡◌, ℕ, Bool, true, false, cond, not, ◌&&◌, List, ◌∷◌}
 use Rattle.std.proofs.Common.{Option, Some, None, Ok, Err, IfOk, sym, ◌∙◌, subst}
 use Rattle.std.proofs.lemmas.Bool.{cond_both, false≢true, not-false}

@@ -1,4 +1,4 @@
--- What a power cycle leaves belongs together.
+-- The state after a power cycle is consistent.
 use Rattle.std.proofs.Common.{Bool, true, false}
 use Rattle.std.specs.Prelude.{if◌then◌else◌}
 use Rattle.sg_units.specs.PowerOn.{after_power_on}

@@ -1,4 +1,4 @@
--- Which commands a persistent reservation allows (SPC-4, 5.13, and SBC-3, the tables of allowed
+-- The commands that a persistent reservation allows (SPC-4, 5.13, and SBC-3, the tables of allowed
 -- commands).
 use Rattle.std.specs.Prelude.{ℕ, Bool, true, nat_le, Option, Some, None, if◌then◌else◌}
 use Rattle.sg_wire.specs.declared.command.Class.{Class}
@@ -44,7 +44,7 @@ rank Writes = 2
 abbrev pub is_within : (highest class : Class) → Bool
 is_within highest class = nat_le (rank class) (rank highest)
 
--- Who asks.
+-- The standing of the initiator that asks.
 abbrev pub standing_of : ReservationState → (initiator : ℕ) → Standing
 standing_of state initiator =
     if is_holder state initiator then Holder
@@ -60,6 +60,6 @@ allowed None standing class = true
 allowed (Some reservation) standing class =
     is_within (highest_class (access_of reservation.kind) standing) class
 
--- Whether an initiator's command of a class is allowed.
+-- An initiator's command of a class is allowed.
 abbrev pub allows : ReservationState → (initiator : ℕ) → Class → Bool
 allows state initiator class = allowed state.reservation (standing_of state initiator) class

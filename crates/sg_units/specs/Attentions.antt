@@ -14,7 +14,7 @@ use Rattle.sg_units.specs.declared.unit_attention.UnitAttention.TheVariants.{Pow
 abbrev pub Pending : Type 0
 Pending = List (List UnitAttention)
 
--- After power on.
+-- The queues after power on.
 -- Choice (SAM-5, 5.14): 29h/01h, POWER ON OCCURRED, may be reported.
 abbrev pub power_on_pending : Pending
 power_on_pending = replicate initiator_count (PowerOn ∷ [])
@@ -27,7 +27,7 @@ pending_for pending initiator = slice_index_or pending initiator []
 abbrev pub oldest : Pending → (initiator : ℕ) → Option UnitAttention
 oldest pending initiator = slice_get (pending_for pending initiator) 0
 
--- The oldest condition of an initiator is cleared, where one is pending.
+-- The oldest condition of an initiator is cleared, if one is pending.
 abbrev pub without_oldest : Pending → (initiator : ℕ) → Pending
 without_oldest pending initiator =
     slice_set pending initiator (drop 1 (pending_for pending initiator))
@@ -48,18 +48,18 @@ abbrev pub raised : Pending → (initiator : ℕ) → UnitAttention → Pending
 raised pending initiator condition =
     slice_set pending initiator (with_condition (pending_for pending initiator) condition)
 
--- The queue where a condition, or none, is established.
+-- The queue after a condition, or none, is established.
 abbrev pub with_optional : List UnitAttention → Option UnitAttention → List UnitAttention
 with_optional queue None = queue
 with_optional queue (Some condition) = with_condition queue condition
 
 -- ---- Limits
 
--- How many conditions there are.
+-- The number of conditions that exist.
 abbrev pub condition_count : ℕ
 condition_count = 5
 
--- A condition is none of those in a queue.
+-- A condition differs from all conditions in a queue.
 abbrev pub IsNotAmong : UnitAttention → List UnitAttention → Type 0
 IsNotAmong condition [] = Unit {0}
 IsNotAmong condition (first ∷ rest) = (condition ≡ first → ⊥) × IsNotAmong condition rest
@@ -68,7 +68,7 @@ abbrev pub AreDistinct : List UnitAttention → Type 0
 AreDistinct [] = Unit {0}
 AreDistinct (first ∷ rest) = IsNotAmong first rest × AreDistinct rest
 
--- A queue has at most as many conditions as there are, as it has none twice.
+-- A queue has no condition twice. So it has at most as many conditions as exist.
 pub record IsQueue (queue : List UnitAttention) : Type 0 where
   pub limit : length queue ≤ condition_count
   pub distinct : AreDistinct queue

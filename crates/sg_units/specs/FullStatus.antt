@@ -32,21 +32,22 @@ transport_id_length = 24
 abbrev pub relative_target_port : ℕ
 relative_target_port = 1
 
--- R_HOLDER: whether a registrant holds the reservation, if any is held. Under an all registrants
--- type each of them does.
+-- R_HOLDER: a registrant holds the reservation, if any is held. Under an all registrants type each
+-- registrant holds it.
 abbrev pub holder_flag : Option Reservation → (registrant : ℕ) → ℕ
 holder_flag None registrant = 0
 holder_flag (Some reservation) registrant = if holds reservation registrant then 1 else 0
 
--- SCOPE and TYPE of the reservation that a registrant holds, and zeros where it holds none.
+-- SCOPE and TYPE of the reservation that a registrant holds, and zeros if it holds none.
 -- Choice (SPC-4, 6.15.5): the byte is not defined for a registrant that holds nothing.
 abbrev pub held_type : Option Reservation → (registrant : ℕ) → ℕ
 held_type None registrant = 0
 held_type (Some reservation) registrant =
     if holds reservation registrant then code_of reservation.kind else 0
 
--- RESERVATION KEY, four reserved bytes, ALL_TG_PT 0 with R_HOLDER, SCOPE with TYPE, four reserved
--- bytes, RELATIVE TARGET PORT IDENTIFIER, ADDITIONAL DESCRIPTOR LENGTH, and the TransportID.
+-- The fields of the descriptor, in order. First come RESERVATION KEY, four reserved bytes,
+-- ALL_TG_PT 0 with R_HOLDER, and SCOPE with TYPE. Then come four reserved bytes, RELATIVE TARGET
+-- PORT IDENTIFIER, ADDITIONAL DESCRIPTOR LENGTH, and the TransportID.
 abbrev pub full_status_fields : Option Reservation → Registration → List Field
 full_status_fields reservation r =
     field 8 r.key

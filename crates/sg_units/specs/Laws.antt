@@ -56,7 +56,7 @@ pub record HasOneHolder (state : ReservationState) (holder : Option ℕ) : Type 
   pub alone : (initiator other : ℕ) → holder ≡ Some initiator
       → is_holder state other ≡ (other == initiator)
 
--- So it is under every type that is not all registrants.
+-- A reservation has one holder under every type that is not all registrants.
 abbrev pub OneHolder : Type 0
 OneHolder =
     (state : ReservationState) (reservation : Reservation) → IsConsistent state
@@ -69,7 +69,7 @@ pub record IsHeldByAll (state : ReservationState) : Type 0 where
       → is_holder state initiator ≡ is_registered state.registrations initiator
   pub at_least_one : 0 < length state.registrations
 
--- So it is under an all registrants type.
+-- The registrants hold a reservation under an all registrants type.
 abbrev pub EachRegistrantHolds : Type 0
 EachRegistrantHolds =
     (state : ReservationState) (reservation : Reservation) → IsConsistent state
@@ -78,8 +78,8 @@ EachRegistrantHolds =
 
 -- ---- Access
 
--- What a reservation refuses to an initiator that neither holds nor shares it: writing under every
--- type, and reading under the exclusive access types.
+-- An initiator that does not hold or share a reservation is refused writing under every type, and
+-- reading under the exclusive access types.
 pub record IsRefused (state : ReservationState) (held : Reservation) (initiator : ℕ) : Type 0 where
   pub writes : allows state initiator Writes ≡ false
   pub reads : is_exclusive_access held.kind ≡ true → allows state initiator Reads ≡ false
@@ -102,7 +102,7 @@ SharersAreAllowed =
 
 -- ---- PRGENERATION
 
--- It stays, and then no registration has changed, or is incremented.
+-- PRGENERATION is incremented, or it stays and no registration has changed.
 pub record CountsChanges (before after : ReservationState) : Type 0 where
   pub by_one : (after.generation ≡ before.generation)
       ⊎ (after.generation ≡ (before.generation + 1) % 2 ^ 32)
@@ -117,8 +117,8 @@ GenerationCountsChanges =
 
 -- ---- The end of a reservation
 
--- The service actions that can end the reservation of another initiator that holds it alone. (Where
--- all registrants hold it, a RELEASE of any of them ends it, too.)
+-- The service actions that can end another initiator's reservation, if only that initiator holds
+-- it. (If all registrants hold it, a RELEASE of any registrant ends it, too.)
 abbrev pub ends_for_others : OutAction → Bool
 ends_for_others Clear = true
 ends_for_others Preempt = true
@@ -127,16 +127,16 @@ ends_for_others _ = false
 
 -- ---- What stays true
 
--- Where registrations and reservation belong together they still do after PERSISTENT RESERVE OUT, and
--- after a power cycle.
+-- If registrations and reservation are consistent, they are consistent after PERSISTENT RESERVE OUT
+-- and after a power cycle.
 pub record ReservationsStayConsistent : Type 0 where
   pub changed : (state : ReservationState) (initiator : ℕ) (action : OutAction) (scope_type : ℕ)
       (list : OutList) (change : ReservationChange) → IsConsistent state
       → outcome state initiator action scope_type list ≡ Ok change → IsConsistentChange change
   pub power_cycle : (state : ReservationState) → IsConsistent state → IsConsistent (after_power_on state)
 
--- The queues of unit attentions stay within their limits as the oldest of one is cleared, and as
--- conditions are raised; and they are so after a power cycle.
+-- The queues of unit attentions stay within their limits if the oldest condition of a queue is
+-- cleared, and if conditions are raised. They are within their limits after a power cycle.
 pub record QueuesKeepTheirLimits : Type 0 where
   pub cleared : (pending : Pending) (initiator : ℕ) → ArePending pending
       → ArePending (without_oldest pending initiator)

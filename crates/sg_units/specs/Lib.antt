@@ -1,4 +1,4 @@
--- What public contracts cite, in the order in which it is read best.
+-- Modules that public contracts cite, in the best order to read them.
 pub mod UnitAttention
 pub mod Attentions
 pub mod Raised

@@ -10,7 +10,7 @@ use Rattle.sg_units.specs.declared.unit_attention.UnitAttention.{UnitAttention}
 abbrev pub Conditions : Type 0
 Conditions = List (Option UnitAttention)
 
--- One condition for every initiator but the one whose command establishes it.
+-- One condition for every initiator except the initiator whose command establishes it.
 abbrev pub raised_for_others : (initiator : ℕ) → UnitAttention → Conditions
 raised_for_others initiator condition =
     slice_set (replicate initiator_count (Some condition)) initiator None

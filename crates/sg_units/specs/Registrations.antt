@@ -4,7 +4,7 @@ use Rattle.std.specs.Prelude.{List, [], ◌∷◌, ◌++◌, map, filter, find, 
 use Rattle.std.specs.List.{list_any}
 use Rattle.sg_units.specs.declared.registrations.Registration.{Registration}
 
--- How many there is room for.
+-- The number of registrations that there is room for.
 abbrev pub max_registrations : ℕ
 max_registrations = 6
 
@@ -26,7 +26,7 @@ abbrev pub is_registered_under : List Registration → (initiator key : ℕ) →
 is_registered_under registrations initiator key =
     list_any (λ r. is_of initiator r && is_under key r) registrations
 
--- Whether some initiator is registered under a key.
+-- Some initiator is registered under a key.
 abbrev pub has_key : List Registration → (key : ℕ) → Bool
 has_key registrations key = list_any (is_under key) registrations
 
@@ -35,7 +35,7 @@ abbrev pub key_of : List Registration → (initiator : ℕ) → Option ℕ
 key_of registrations initiator =
     option_map (λ (r : Registration). r.key) (find (is_of initiator) registrations)
 
--- How many registrations an initiator has.
+-- The number of registrations that an initiator has.
 abbrev pub registrations_of : List Registration → (initiator : ℕ) → ℕ
 registrations_of registrations initiator = count_by (is_of initiator) registrations
 
@@ -56,7 +56,7 @@ without_initiator registrations initiator = filter (λ r. not (is_of initiator r
 abbrev pub without_key : List Registration → (key : ℕ) → List Registration
 without_key registrations key = filter (λ r. not (is_under key r)) registrations
 
--- Those of others under a key are removed.
+-- The registrations of others under a key are removed.
 abbrev pub without_key_of_others : List Registration → (initiator key : ℕ) → List Registration
 without_key_of_others registrations initiator key =
     filter (λ r. is_of initiator r || not (is_under key r)) registrations

@@ -26,27 +26,26 @@ each_type =
     ∷ ExclusiveAccessAllRegistrants
     ∷ []
 
--- The type in a byte of SCOPE and TYPE. None where the scope or the type is not valid.
+-- The type in a byte of SCOPE and TYPE. None if the scope or the type is not valid.
 abbrev pub type_of : ℕ → Option ReservationType
 type_of scope_type = find (λ type. code_of type == scope_type) each_type
 
 abbrev pub is_same_type : ReservationType → ReservationType → Bool
 is_same_type a b = code_of a == code_of b
 
--- Whether each registrant is a holder: the all registrants types.
+-- Each registrant is a holder: the all registrants types.
 abbrev pub is_all_registrants : ReservationType → Bool
 is_all_registrants WriteExclusiveAllRegistrants = true
 is_all_registrants ExclusiveAccessAllRegistrants = true
 is_all_registrants type = false
 
--- Whether each registrant has the access of a holder: the registrants only and the all registrants
--- types.
+-- Each registrant has the access of a holder: the registrants only and the all registrants types.
 abbrev pub is_shared : ReservationType → Bool
 is_shared WriteExclusive = false
 is_shared ExclusiveAccess = false
 is_shared type = true
 
--- Whether others may not read either: the exclusive access types.
+-- Others may not read either: the exclusive access types.
 abbrev pub is_exclusive_access : ReservationType → Bool
 is_exclusive_access ExclusiveAccess = true
 is_exclusive_access ExclusiveAccessRegistrantsOnly = true

@@ -21,15 +21,15 @@ empty_state = record {
 
 -- ---- Holders
 
--- A reservation that an initiator takes has it as its one holder. An all registrants reservation
--- names none.
+-- If an initiator takes a reservation, the initiator is its one holder. An all registrants
+-- reservation names no holder.
 abbrev pub taken : ReservationType → (initiator : ℕ) → Reservation
 taken type initiator = record {
   kind = type;
   holder = if is_all_registrants type then None else Some initiator;
 }
 
--- Whether a registrant holds a reservation: its one holder, or where none is named, each.
+-- A registrant holds a reservation: it is the one holder, or no holder is named.
 abbrev pub holds : Reservation → (registrant : ℕ) → Bool
 holds reservation registrant =
     option_map_or (λ holder. registrant == holder) reservation.holder true
@@ -38,7 +38,7 @@ abbrev pub has_holder : Reservation → List Registration → Bool
 has_holder reservation registrations =
     list_any (λ (r : Registration). holds reservation r.initiator) registrations
 
--- A reservation ends once no registrant holds it.
+-- A reservation ends if no registrant holds it any more.
 abbrev pub while_held : Option Reservation → List Registration → Option Reservation
 while_held None registrations = None
 while_held (Some reservation) registrations =
@@ -52,7 +52,7 @@ is_held_by (Some reservation) registrations initiator =
 abbrev pub is_holder : ReservationState → (initiator : ℕ) → Bool
 is_holder state initiator = is_held_by state.reservation state.registrations initiator
 
--- Whether a reservation is held, and is of a type.
+-- A reservation is held, and is of a type.
 abbrev pub has_type : Option Reservation → ReservationType → Bool
 has_type None type = false
 has_type (Some reservation) type = is_same_type reservation.kind type
@@ -64,7 +64,7 @@ abbrev pub is_held_if_any : Option Reservation → List Registration → Bool
 is_held_if_any None registrations = true
 is_held_if_any (Some reservation) registrations = has_holder reservation registrations
 
--- It names its one holder, unless it is an all registrants reservation.
+-- A reservation names its one holder, unless it is an all registrants reservation.
 abbrev pub names_holder : (all_registrants : Bool) (holder : Option ℕ) → Bool
 names_holder true holder = is_none holder
 names_holder false holder = is_some holder
@@ -74,8 +74,8 @@ names_holder_if_any None = true
 names_holder_if_any (Some reservation) =
     names_holder (is_all_registrants reservation.kind) reservation.holder
 
--- No initiator is registered twice, none under the key 0, there are no more registrations than there
--- is room for, and a reservation has the holders that its type asks for.
+-- No initiator is registered twice, and none under the key 0. There are no more registrations than
+-- there is room for. A reservation has the holders that its type asks for.
 pub record AreConsistent (registrations : List Registration) (reservation : Option Reservation) : Type 0 where
   pub one_each : (initiator : ℕ) → registrations_of registrations initiator ≤ 1
   pub no_zero_key : has_key registrations 0 ≡ false

@@ -26,7 +26,7 @@ keys_data state =
     header state.generation (8 * length state.registrations)
     ++ flat_map key_bytes state.registrations
 
--- The key of the one holder, or 0 where each registrant is a holder.
+-- The key of the one holder, or 0 if each registrant is a holder.
 abbrev pub holder_key : List Registration → (holder : Option ℕ) → ℕ
 holder_key registrations holder = unwrap_or (option_and_then (key_of registrations) holder) 0
 
@@ -55,13 +55,13 @@ reservation_data state = reservation_data_of state state.reservation
 
 -- ---- REPORT CAPABILITIES (SPC-4, 6.15.4)
 
--- LENGTH, bytes 0 and 1: of the whole data, itself included.
+-- LENGTH, bytes 0 and 1: the length of the whole data, including LENGTH itself.
 abbrev capabilities_length : (following : List ℕ) → Field
 capabilities_length following = field 2 (2 + length following)
 
 -- Byte 2. PTPL_C, bit 0: registrations and reservation can persist through a power loss. RLR_C,
--- CRH, SIP_C and ATP_C 0: neither REPLACE LOST RESERVATION, nor exceptions for RESERVE and RELEASE,
--- nor SPEC_I_PT, nor ALL_TG_PT is supported.
+-- CRH, SIP_C and ATP_C are 0. So the disk does not support REPLACE LOST RESERVATION, exceptions for
+-- RESERVE and RELEASE, SPEC_I_PT or ALL_TG_PT.
 abbrev ptpl_c : ℕ
 ptpl_c = 0x01
 
@@ -81,7 +81,7 @@ abbrev activated_bits : ReservationState → Field
 activated_bits state = field 1 (if state.persists_through_power_loss then tmv + ptpl_a else tmv)
 
 -- PERSISTENT RESERVATION TYPE MASK, bytes 4 and 5: WR_EX_AR, EX_AC_RO, WR_EX_RO, EX_AC, WR_EX and
--- EX_AC_AR 1, as each type is supported. The bit of a type follows from its code: it is bit
+-- EX_AC_AR 1, because each type is supported. The bit of a type follows from its code: it is bit
 -- `code % 8` of the mask's byte `code / 8`.
 abbrev is_in_byte : (byte : ℕ) → ReservationType → Bool
 is_in_byte byte type = code_of type / 8 == byte

@@ -54,9 +54,9 @@ same_generation registrations reservation for_remaining = Ok (record {
   aptpl = None;
 })
 
--- The registrations and the reservation afterwards, and the conditions that are raised for each
--- other initiator whose registration is removed, and for each whose registration remains.
--- PRGENERATION is incremented.
+-- The registrations and the reservation afterwards, and the conditions that are raised for other
+-- initiators. One is for each initiator whose registration is removed, and one for each whose
+-- registration remains. PRGENERATION is incremented.
 abbrev pub next_generation : List Registration → Option Reservation
     → (for_removed for_remaining : Option UnitAttention) → Outcome
 next_generation registrations reservation for_removed for_remaining = Ok (record {
@@ -68,8 +68,8 @@ next_generation registrations reservation for_removed for_remaining = Ok (record
   aptpl = None;
 })
 
--- So it is where an initiator registers or unregisters, and APTPL of its parameter list says from
--- then on whether registrations and reservation persist through a power loss.
+-- If an initiator registers or unregisters, PRGENERATION is incremented too. From then on, APTPL of
+-- its parameter list says whether registrations and reservation persist through a power loss.
 abbrev pub registered : List Registration → Option Reservation
     → (for_remaining : Option UnitAttention) → (aptpl : Bool) → Outcome
 registered registrations reservation for_remaining aptpl = Ok (record {
@@ -81,7 +81,7 @@ registered registrations reservation for_remaining aptpl = Ok (record {
   aptpl = Some aptpl;
 })
 
--- Of the cases of a service action the first that applies decides.
+-- A case of a service action. The first case that applies decides.
 pub record Case : Type 0 where
   pub condition : Bool
   pub outcome : Outcome
@@ -99,17 +99,17 @@ first_case (case ∷ cases) = if case.condition then case.outcome else first_cas
 
 -- ---- What the end of a reservation raises for the other registrants
 
--- They are notified where they had the access of a holder.
+-- Registrants are notified if they had the access of a holder.
 abbrev pub released : ReservationType → Option UnitAttention
 released type = if is_shared type then Some ReservationsReleased else None
 
--- Where no registrant holds it any more.
+-- They are notified if no registrant holds the reservation any more.
 abbrev pub released_unless_held : Option Reservation → List Registration → Option UnitAttention
 released_unless_held None rest = None
 released_unless_held (Some reservation) rest =
     if has_holder reservation rest then None else released reservation.kind
 
--- Where another type takes its place.
+-- They are notified if another type takes the reservation's place.
 abbrev pub released_unless_type : Option Reservation → ReservationType → Option UnitAttention
 released_unless_type held type = if has_type held type then None else Some ReservationsReleased
 
@@ -155,7 +155,7 @@ release_cases state caller type =
 abbrev pub cleared : Outcome
 cleared = next_generation [] None (Some ReservationsPreempted) None
 
--- The caller takes the reservation, where the scope and type are valid, and these registrations
+-- If the scope and type are valid, the caller takes the reservation, and these registrations
 -- remain.
 abbrev pub preempted : Option Reservation → (caller : ℕ) → Option ReservationType
     → List Registration → Outcome
@@ -164,7 +164,7 @@ preempted held caller (Some type) rest =
     next_generation rest (Some (taken type caller)) (Some RegistrationsPreempted)
     (released_unless_type held type)
 
--- A reservation has one holder; each registrant holds it; a key is that of its one holder.
+-- A reservation has one holder; each registrant holds it; a key is the key of its one holder.
 abbrev pub has_one_holder : Option Reservation → Bool
 has_one_holder held = option_map_or (λ (r : Reservation). is_some r.holder) held false
 
@@ -196,7 +196,7 @@ preempt_cases state caller type sark =
 
 -- ---- The command
 
--- A service action that needs a type is refused where the scope or the type is not valid.
+-- A service action that needs a type is refused if the scope or the type is not valid.
 abbrev pub with_type : Option ReservationType → (ReservationType → Outcome) → Outcome
 with_type None outcome = Err BadType
 with_type (Some type) outcome = outcome type
@@ -237,11 +237,12 @@ outcome state caller action scope_type list =
 
 -- ---- What it leaves
 
--- The registrations and the reservation of a change belong together.
+-- The registrations and the reservation of a change are consistent.
 abbrev pub IsConsistentChange : ReservationChange → Type 0
 IsConsistentChange change = AreConsistent change.registrations change.reservation
 
--- What is raised for an initiator: nothing for the caller, nor for one that was not registered.
+-- The condition that is raised for an initiator. The caller gets none, and an initiator that was
+-- not registered gets none.
 abbrev pub raised_for : List Registration → (caller : ℕ) → ReservationChange → (initiator : ℕ)
     → Option UnitAttention
 raised_for before caller change initiator =

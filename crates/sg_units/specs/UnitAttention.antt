@@ -14,6 +14,6 @@ code_of ReservationsPreempted = (0x2A, 0x03)
 code_of ReservationsReleased = (0x2A, 0x04)
 code_of RegistrationsPreempted = (0x2A, 0x05)
 
--- Both as one number, big-endian, by which conditions are compared.
+-- Both as one number, big-endian. Conditions are compared by this number.
 abbrev pub number_of : UnitAttention → ℕ
 number_of condition = 256 * (code_of condition).0 + (code_of condition).1

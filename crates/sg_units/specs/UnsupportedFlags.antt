@@ -5,8 +5,8 @@ use Rattle.sg_wire.specs.declared.command.out_action.OutAction.TheVariants.{Regi
 use Rattle.sg_wire.specs.declared.command.out_action.OutAction.TheVariants.{RegisterAndIgnoreExistingKey}
 use Rattle.sg_wire.specs.declared.out_list.OutList.{OutList}
 
--- Whether a flag is set that is not supported: SPEC_I_PT with every service action, and where an
--- initiator registers ALL_TG_PT too. Other service actions ignore ALL_TG_PT and APTPL.
+-- A flag is set that is not supported. No service action supports SPEC_I_PT. The service actions
+-- that register do not support ALL_TG_PT. Other service actions ignore ALL_TG_PT and APTPL.
 abbrev pub has_unsupported_flag : OutAction → OutList → Bool
 has_unsupported_flag Register list = list.spec_i_pt || list.all_tg_pt
 has_unsupported_flag RegisterAndIgnoreExistingKey list = list.spec_i_pt || list.all_tg_pt

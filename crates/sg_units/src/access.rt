@@ -1,11 +1,11 @@
-// Which commands a persistent reservation allows.
+// The commands that a persistent reservation allows.
 ghost use Rattle.std.specs.Prelude.{◌≡◌};
 ghost use Rattle.sg_units.specs.Access.{access_of, highest_class, is_within};
 
 use crate::ReservationType;
 use sg_wire::Class;
 
-/// How an initiator stands to the reservation.
+/// The standing of an initiator towards the reservation.
 #[derive(Clone, Copy)]
 pub(crate) enum Standing {
     // It is a holder.
@@ -27,7 +27,7 @@ pub(crate) fn highest_class(kind: ReservationType, standing: Standing) -> Class
     }
 }
 
-/// The highest class that is allowed to those who do not share the reservation.
+/// The highest class that is allowed to initiators that do not share the reservation.
 fn class_of_others(kind: ReservationType) -> Class
     ensures { result ≡ highest_class (access_of kind) Standing.Other }
 {
@@ -41,7 +41,7 @@ fn class_of_others(kind: ReservationType) -> Class
     }
 }
 
-/// Whether a class is the highest one that is allowed, or a lower one.
+/// Returns `true` if a class is the highest one that is allowed, or a lower one.
 pub(crate) fn is_within(highest: Class, class: Class) -> bool
     ensures { result ≡ is_within highest class }
 {

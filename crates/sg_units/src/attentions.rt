@@ -5,7 +5,7 @@ use sg_wire::Initiator;
 use std::array;
 use std::marker::Model;
 
-/// How many conditions can be pending for an initiator: as many as there are.
+/// The most conditions that can be pending for an initiator: as many as exist.
 const MAX_PENDING: usize = 5;
 
 /// The unit attention conditions that are pending for each initiator, the oldest first (SAM-5,
@@ -34,7 +34,7 @@ ghost use Rattle.sg_units.specs.Attentions.{power_on_pending, raised, with_optio
 ghost use Rattle.sg_units.specs.Raised.{raised_for_each};
 
 impl Attentions {
-    /// POWER ON alone is pending for each initiator.
+    /// The queues after power on: only POWER ON is pending for each initiator.
     pub fn new() -> Attentions
         ensures pending { result ≡ power_on_pending }
         ensures limits { ArePending result }
@@ -53,7 +53,7 @@ impl Attentions {
         self.raise_at(usize::from(initiator.number()), Some(condition));
     }
 
-    /// Establishes what a command establishes, for each initiator.
+    /// Establishes the conditions of a command, for each initiator.
     pub fn raise_for_each(&mut self, raised: &Raised)
         ensures pending { self.new ≡ raised_for_each self.old raised.now }
         ensures limits { ArePending self.new }
@@ -83,7 +83,7 @@ impl Attentions {
         queue.as_slice().first().copied()
     }
 
-    /// Clears the oldest condition of an initiator. Where none is pending, nothing changes.
+    /// Clears the oldest condition of an initiator. If none is pending, nothing changes.
     pub fn clear_oldest(&mut self, initiator: Initiator)
         ensures pending { self.new ≡ without_oldest self.old initiator }
         ensures limits { ArePending self.new }
@@ -91,7 +91,7 @@ impl Attentions {
         remove_first(&mut self.pending[usize::from(initiator.number())]);
     }
 
-    /// Clears all conditions, and establishes POWER ON for each initiator: what a power cycle does.
+    /// Clears all conditions, and establishes POWER ON for each initiator, as a power cycle does.
     pub fn clear_to_power_on(&mut self)
         ensures pending { self.new ≡ power_on_pending }
         ensures limits { ArePending self.new }

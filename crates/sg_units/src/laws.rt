@@ -24,13 +24,13 @@ pub fn one_holder()
     ensures { OneHolder }
 {}
 
-/// Under an all registrants type the holders are the registrants, of which there is at least one.
+/// Under an all registrants type the holders are the registrants, and there is at least one.
 pub fn each_registrant_holds()
     ensures { EachRegistrantHolds }
 {}
 
-/// Who neither holds nor shares a reservation is refused writing under every type, and reading
-/// under the exclusive access types.
+/// An initiator that does not hold or share a reservation is refused writing under every type, and
+/// reading under the exclusive access types.
 pub fn others_are_refused()
     ensures { OthersAreRefused }
 {}
@@ -45,14 +45,14 @@ pub fn generation_counts_changes()
     ensures { GenerationCountsChanges }
 {}
 
-/// Registrations and reservation that belong together still do after PERSISTENT RESERVE OUT, and
+/// Registrations and reservation that are consistent stay so after PERSISTENT RESERVE OUT, and
 /// after a power cycle.
 pub fn reservations_stay_consistent()
     ensures { ReservationsStayConsistent }
 {}
 
-/// The queues of unit attentions stay within their limits as the oldest of one is cleared, as
-/// conditions are raised, and in a power cycle.
+/// The queues of unit attentions stay within their limits if the oldest condition of one is
+/// cleared, if conditions are raised, and in a power cycle.
 pub fn queues_keep_their_limits()
     ensures { QueuesKeepTheirLimits }
 {}

@@ -1,4 +1,4 @@
-//! What the disk keeps for its initiators: the unit attention conditions that are pending for each,
+//! The disk's state for its initiators: the unit attention conditions that are pending for each,
 //! their registrations, and the persistent reservation.
 #![tactic(auto)]
 

@@ -1,6 +1,6 @@
 use thiserror::Error;
 
-/// Why PERSISTENT RESERVE OUT is refused.
+/// The reason why PERSISTENT RESERVE OUT is refused.
 #[derive(Clone, Copy, Debug, Error, PartialEq, Eq)]
 pub enum OutFault {
     /// RESERVATION CONFLICT, a status without sense data.

@@ -1,4 +1,4 @@
-// What a command establishes, as a value: what makes it knows no queue.
+// The conditions that a command establishes, as a value: the code that makes it knows no queue.
 ghost use Rattle.std.specs.Prelude.{◌≡◌, ◌<◌, slice_index_or, None};
 ghost use Rattle.sg_wire.specs.Initiator.{initiator_count};
 ghost use Rattle.sg_units.specs.ReserveOut.{raised_by, raised_for};
@@ -26,7 +26,7 @@ impl Model for Raised {
 }
 
 impl Raised {
-    /// A condition for every initiator but one: the one whose command establishes it.
+    /// A condition for every initiator except the initiator whose command establishes it.
     pub fn for_others(initiator: Initiator, condition: UnitAttention) -> Raised
         ensures { result ≡ raised_for_others initiator condition }
     {
@@ -43,7 +43,7 @@ impl Raised {
         self.conditions[number]
     }
 
-    /// What a change of PERSISTENT RESERVE OUT raises for each initiator.
+    /// The conditions that a change of PERSISTENT RESERVE OUT raises for each initiator.
     #[tactic(auto, unfolding(crate::specs::ReserveOut::raised_by))]
     pub(crate) fn by(
         before: &Registrations,
@@ -60,7 +60,7 @@ impl Raised {
     }
 }
 
-/// What a change raises for the initiator with a number.
+/// The condition that a change raises for the initiator with a number.
 fn raised_for(
     before: &Registrations,
     caller: Initiator,

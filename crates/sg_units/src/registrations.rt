@@ -1,4 +1,4 @@
-// Who is registered, in the order of registration, and under which key.
+// The registrants and their keys, in the order of registration.
 ghost use Rattle.std.specs.Prelude.{◌≡◌, ◌<◌, ◌≤◌, ◌==◌, [], length};
 ghost use Rattle.sg_units.specs.Registrations.{has_key, is_of, is_registered, is_registered_under};
 ghost use Rattle.sg_units.specs.Registrations.{key_of, max_registrations, with_key_replaced};
@@ -18,7 +18,7 @@ pub struct Registration {
     pub key: u64,
 }
 
-// What is in the places of a table that are not in use.
+// The value in the places of a table that are not in use.
 impl Default for Registration {
     fn default() -> Registration {
         match Initiator::new(0) {
@@ -36,7 +36,7 @@ impl Registration {
     }
 }
 
-/// How many registrations there is room for.
+/// The most registrations that there is room for.
 const MAX_REGISTRATIONS: usize = 6;
 
 /// The registrations, in the order in which they were made.
@@ -77,7 +77,7 @@ impl Registrations {
         self.items.is_full()
     }
 
-    /// Whether an initiator is registered.
+    /// Returns `true` if an initiator is registered.
     pub(crate) fn has(&self, initiator: Initiator) -> bool
         ensures { result ≡ is_registered self.now initiator }
     {
@@ -87,7 +87,7 @@ impl Registrations {
             .any(|registration| registration.is_of(initiator))
     }
 
-    /// Whether an initiator is registered under a key.
+    /// Returns `true` if an initiator is registered under a key.
     pub(crate) fn has_under(&self, initiator: Initiator, key: u64) -> bool
         ensures { result ≡ is_registered_under self.now initiator key }
     {
@@ -95,7 +95,7 @@ impl Registrations {
             && registration.key == key)
     }
 
-    /// Whether some initiator is registered under a key.
+    /// Returns `true` if some initiator is registered under a key.
     pub(crate) fn has_key(&self, key: u64) -> bool
         ensures { result ≡ has_key self.now key }
     {

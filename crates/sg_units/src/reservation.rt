@@ -1,4 +1,4 @@
-// A persistent reservation by itself: its type, and who of the registrants holds it.
+// A persistent reservation by itself: its type and its holder.
 ghost use Rattle.std.specs.Prelude.{◌≡◌};
 ghost use Rattle.sg_units.specs.ReserveOut.{released};
 ghost use Rattle.sg_units.specs.Reservations.{has_holder, holds, taken};
@@ -12,7 +12,7 @@ use sg_wire::Initiator;
 pub struct Reservation {
     /// Its type.
     pub kind: ReservationType,
-    /// Its one holder. None under an all registrants type, where each registrant is a holder.
+    /// Its one holder. None under an all registrants type: there each registrant is a holder.
     pub holder: Option<Initiator>,
 }
 
@@ -29,7 +29,7 @@ impl Reservation {
         Reservation { kind, holder }
     }
 
-    /// Whether a registrant is a holder.
+    /// Returns `true` if a registrant is a holder.
     pub(crate) fn is_held_by(&self, registrant: Initiator) -> bool
         ensures { result ≡ holds self.now registrant }
     {
@@ -39,7 +39,7 @@ impl Reservation {
         }
     }
 
-    /// Whether one of the registrants is a holder.
+    /// Returns `true` if one of the registrants is a holder.
     pub(crate) fn has_holder(&self, registrations: &Registrations) -> bool
         ensures { result ≡ has_holder self.now registrations.now }
     {
@@ -49,7 +49,7 @@ impl Reservation {
             .any(|registration| self.is_held_by(registration.initiator))
     }
 
-    /// What its end raises for the other registrants.
+    /// The condition that the end of a reservation raises for the other registrants.
     pub(crate) fn released(kind: ReservationType) -> Option<UnitAttention>
         ensures { result ≡ released kind }
     {

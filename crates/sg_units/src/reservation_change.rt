@@ -5,7 +5,7 @@ ghost use Rattle.sg_units.specs.ReserveOut.{next_generation, registered, same_ge
 use crate::registrations::Registrations;
 use crate::{Reservation, UnitAttention};
 
-/// What a PERSISTENT RESERVE OUT that is not refused changes.
+/// The change that a PERSISTENT RESERVE OUT makes, if it is not refused.
 #[derive(Drop)]
 pub struct ReservationChange {
     // The registrations afterwards.
@@ -16,7 +16,7 @@ pub struct ReservationChange {
     pub(crate) for_removed: Option<UnitAttention>,
     // The condition for each other initiator whose registration remains.
     pub(crate) for_remaining: Option<UnitAttention>,
-    // Whether PRGENERATION is incremented.
+    // PRGENERATION is incremented.
     pub(crate) increments_generation: bool,
     // APTPL of a command that registers or unregisters.
     pub(crate) aptpl: Option<bool>,
@@ -42,7 +42,8 @@ impl ReservationChange {
         }
     }
 
-    /// With the condition for each whose registration is removed, too. PRGENERATION is incremented.
+    /// The change that also has a condition for each initiator whose registration is removed.
+    /// PRGENERATION is incremented.
     pub(crate) fn next_generation(
         registrations: Registrations,
         reservation: Option<Reservation>,
@@ -58,8 +59,8 @@ impl ReservationChange {
         }
     }
 
-    /// The next generation of an initiator that registers or unregisters, whose APTPL decides from
-    /// then on what a power loss leaves.
+    /// The next generation of an initiator that registers or unregisters. From then on its APTPL
+    /// decides what a power loss leaves.
     pub(crate) fn registered(
         registrations: Registrations,
         reservation: Option<Reservation>,

@@ -1,5 +1,6 @@
-// The registrations, the reservation and PRGENERATION: who holds it, and whom it allows which
-// commands. The service actions are in the folder of this name.
+// The registrations, the reservation and PRGENERATION. The state says who holds the reservation,
+// and which initiators may execute which commands. The service actions are in the folder of this
+// name.
 mod persistent_reserve_in;
 mod persistent_reserve_out;
 mod preempt;
@@ -40,7 +41,7 @@ impl ReservationState {
         }
     }
 
-    /// Whether an initiator holds the reservation.
+    /// Returns `true` if an initiator holds the reservation.
     pub(crate) fn is_holder(&self, initiator: Initiator) -> bool
         ensures { result ≡ is_holder self.now initiator }
     {
@@ -52,7 +53,7 @@ impl ReservationState {
         }
     }
 
-    /// Whether a reservation is held, and is of a type.
+    /// Returns `true` if a reservation is held, and is of a type.
     pub(crate) fn has_type(&self, kind: ReservationType) -> bool
         ensures { result ≡ has_type self.now.reservation kind }
     {
@@ -62,7 +63,7 @@ impl ReservationState {
         }
     }
 
-    /// The reservation, where one of the registrants holds it.
+    /// The reservation, if one of the registrants holds it.
     pub(crate) fn while_held(&self, registrations: &Registrations) -> Option<Reservation>
         ensures { result ≡ while_held self.now.reservation registrations.now }
     {
@@ -84,7 +85,7 @@ impl ReservationState {
         }
     }
 
-    /// Whether an initiator's command of a class is allowed.
+    /// Returns `true` if an initiator's command of a class is allowed.
     pub(crate) fn allows(&self, initiator: Initiator, class: Class) -> bool
         ensures { result ≡ allows self.now initiator class }
     {

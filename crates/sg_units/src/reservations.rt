@@ -4,15 +4,15 @@ use crate::{OutFault, OutList, Raised, ReservationChange};
 use sg_wire::{Class, Cut, Initiator, OutAction};
 use std::marker::Model;
 
-// Flags of REPORT CAPABILITIES: persist through power loss capable, in byte 2; the type mask is valid,
-// and persist through power loss activated, in byte 3.
+// Flags of REPORT CAPABILITIES. Byte 2: persist through power loss capable. Byte 3: the type mask
+// is valid, and persist through power loss activated.
 const PTPL_C: u8 = 0x01;
 
 const TMV: u8 = 0x80;
 
 const PTPL_A: u8 = 0x01;
 
-/// Which initiators are registered, under which keys, who holds a persistent reservation,
+/// The registered initiators and their keys, the persistent reservation and its holder,
 /// PRGENERATION, and whether a power loss leaves these (SPC-4, 5.13).
 #[derive(Drop)]
 pub struct Reservations {
@@ -52,8 +52,8 @@ impl Reservations {
         }
     }
 
-    /// What a service action of PERSISTENT RESERVE OUT changes, for an initiator (SPC-4, 5.13). The
-    /// scope and type are byte 2 of the CDB. Nothing has changed yet.
+    /// Returns the change that a service action of PERSISTENT RESERVE OUT makes, for an initiator
+    /// (SPC-4, 5.13). The scope and type are byte 2 of the CDB. Nothing has changed yet.
     ///
     /// # Errors
     /// The first fault that applies.
@@ -90,7 +90,7 @@ impl Reservations {
         raised
     }
 
-    /// Executes a service action: what [`Reservations::change`] returns is applied.
+    /// Executes a service action: applies the result of [`Reservations::change`].
     ///
     /// # Errors
     /// The first fault that applies. Nothing has changed then.
@@ -107,14 +107,14 @@ impl Reservations {
             state_after self.old (outcome self.old caller action scope_type list.now) }
         ensures consistent { IsConsistent self.new }
     {
-        // Where a field is used it is known that the state is consistent, which a fault leaves so.
+        // A use of a field makes it known that the state is consistent. A fault leaves it so.
         let _ = &self.state;
         let change = self.change(caller, action, scope_type, list)?;
         Ok(self.apply(caller, change))
     }
 
-    /// A power cycle: PRGENERATION is 0 after it, and registrations and reservation are as they were
-    /// where they persist through a power loss, and gone where not (SPC-4, 5.13).
+    /// Makes a power cycle. PRGENERATION is 0 after it. If registrations and reservation persist
+    /// through a power loss, they are as they were; otherwise they are gone (SPC-4, 5.13).
     pub fn power_on(&mut self)
         ensures state { self.new ≡ after_power_on self.old }
         ensures consistent { IsConsistent self.new }
@@ -126,7 +126,8 @@ impl Reservations {
         }
     }
 
-    /// Whether the reservation that is held, if any, allows an initiator's command of a class.
+    /// Returns `true` if the reservation that is held, if any, allows an initiator's command of a
+    /// class.
     pub fn allows(&self, initiator: Initiator, class: Class) -> bool
         ensures { result ≡ allows self.now initiator class }
     {
@@ -149,9 +150,9 @@ impl Reservations {
         self.state.read_reservation(cut);
     }
 
-    /// Writes the data-in of READ FULL STATUS: PRGENERATION, and of each registration its key,
-    /// whether it holds the reservation, its target port and the TransportID of its initiator
-    /// (SPC-4, 6.15.5).
+    /// Writes the data-in of READ FULL STATUS: PRGENERATION, and a descriptor for each registration
+    /// (SPC-4, 6.15.5). The descriptor has its key, whether it holds the reservation, its target
+    /// port and the TransportID of its initiator.
     pub fn read_full_status(&self, cut: &mut Cut)
         ensures { Puts cut.old cut.new (full_status_data self.now) }
     {

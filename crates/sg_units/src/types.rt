@@ -1,4 +1,4 @@
-// The six types, and who has the access of a holder under each.
+// The six types, and the initiators that have the access of a holder under each.
 ghost use Rattle.std.specs.Prelude.{◌≡◌};
 ghost use Rattle.sg_units.specs.ReservationType.{code_of, is_all_registrants, is_shared};
 ghost use Rattle.sg_units.specs.ReservationType.{type_of};
@@ -21,8 +21,8 @@ pub enum ReservationType {
 }
 
 impl ReservationType {
-    /// The type in byte 2 of a CDB, whose high four bits are the SCOPE and whose low four bits are
-    /// the TYPE. None where the scope is not that of a logical unit, 0h, or the type is none of the
+    /// The type in byte 2 of a CDB. The high four bits of the byte are the SCOPE, and the low four
+    /// are the TYPE. None if the scope is not 0h, a logical unit, or if the type is none of the
     /// six.
     pub fn with_scope_and_type(scope_type: u8) -> Option<ReservationType>
         ensures { result ≡ type_of scope_type }
@@ -45,7 +45,7 @@ impl ReservationType {
         self as u8
     }
 
-    /// Whether each registrant is a holder.
+    /// Returns `true` if each registrant is a holder.
     pub(crate) fn is_all_registrants(self) -> bool
         ensures { result ≡ is_all_registrants self }
     {
@@ -56,7 +56,7 @@ impl ReservationType {
         )
     }
 
-    /// Whether each registrant has the access of a holder.
+    /// Returns `true` if each registrant has the access of a holder.
     pub(crate) fn is_shared(self) -> bool
         ensures { result ≡ is_shared self }
     {

@@ -1,4 +1,4 @@
--- The class of a CDB is that of its command.
+-- The class of a CDB is the class of its command.
 use Rattle.std.proofs.Common.{◌≡◌, ℕ, List, [], ◌∷◌, length, map, filter, Option, Some, None}
 use Rattle.std.proofs.Common.{Result}
 use Rattle.std.proofs.Common.{Ok, Err, Bool, true, false, cond, refl, sym, ap, ◌∙◌}
@@ -53,7 +53,7 @@ find-makes : (p : Layout → Bool) (ls : List Layout) → AllMake ls → MakesIf
 find-makes p [] h = tt
 find-makes p (l ∷ ls) h = found-first (p l) l (find p ls) h.0 (find-makes p ls h.1)
 
--- The class that a found row gives a CDB is that of the command that it makes.
+-- The class that a found row gives a CDB is the class of the command that the row makes.
 made : (bad : Option ℕ) (command other : Command) (class : Class) → (layout other).class ≡ class
     → unless_bad bad other ≡ Ok command → class ≡ (layout command).class
 made None command other class h e =

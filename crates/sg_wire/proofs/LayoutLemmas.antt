@@ -23,7 +23,7 @@ first_bad-end masks bytes k h = rw (drop_all k masks h) refl
 
 pub ruleset byte_by_byte = (first_bad-more, first_bad-end)
 
--- a number is read again
+-- a number is read back
 pub number_again : (n x : ℕ) (rest : List ℕ) → x < 256 ^ n
     → big_number n (big_bytes n x ++ rest) ≡ x
 number_again n x rest h = big_from-bytes n x rest ∙ mod-eq_of_lt h

@@ -1,4 +1,4 @@
--- The parameter list of PERSISTENT RESERVE OUT is read again as it was written.
+-- The parameter list of PERSISTENT RESERVE OUT reads back as it was written.
 use Rattle.std.proofs.Common.{◌≡◌, ◌<◌, ◌^◌, ℕ, List, [], ◌∷◌, ◌++◌, Bool, true, false, refl, ap, ◌∙◌}
 use Rattle.byteorder.specs.Endian.{big_bytes, big_number}
 use Rattle.byteorder.specs.Numbers.{big_number-reads_back}

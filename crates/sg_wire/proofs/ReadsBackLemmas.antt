@@ -1,5 +1,6 @@
--- The CDB of each command is decoded as it again. The places of a row's fields do not overlap and
--- lie in its masks, which computes: so each field has its own bits of the CDB.
+-- The CDB of each command decodes to the command again. The places of a row's fields do not
+-- overlap, and they lie in the row's masks: both compute. So each field has its own bits of the
+-- CDB.
 use Rattle.std.proofs.Common.{◌≡◌, ◌<◌, ◌≤◌, ℕ, zero, suc, ◌+◌, ◌-◌, ◌*◌, ◌/◌, ◌^◌, ◌%◌, ◌==◌, List}
 use Rattle.std.proofs.Common.{[], ◌∷◌, ◌++◌, map, Bool, true, false, Ok, None, ⊎_elim, eq-eqb, refl}
 use Rattle.std.proofs.Common.{sym, ap, ◌∙◌, min, max, arith}
@@ -59,7 +60,7 @@ module _ (a b m n : ℕ) (am : IsWithin a m) (bn : IsWithin b n) (apart : bit_an
   sum_is_within = rw sum_is_or (same_from_bits _ _
       (λ i. omega (arith, bit_by_bit i, bit_at_and (bit_or a b) (bit_or m n) i)))
 
-  -- what has their sum there has each of them
+  -- a number that has their sum there has each of them
   parted : (x : ℕ) → bit_and x (bit_or m n) ≡ a + b → (bit_and x m ≡ a) × (bit_and x n ≡ b)
   parted x h =
       let both = λ (i : ℕ). bit_of x (bit_or m n) (bit_or a b) i (h ∙ sum_is_or) in (
@@ -202,7 +203,7 @@ blocks_again : (count : ℕ) → (nat_le 1 count && nat_le count 256) ≡ true
 blocks_again count h = grind (arith, nat_tests)
 
 module _ (all : List Field) where
-  -- what is read at a place, in the bytes of all fields
+  -- the value that is read at a place, in the bytes of all fields
   abbrev read : (place : Place) → Value place → Value place
   read (bit k index) value = has_bit (byte k all) (2 ^ index)
   read (bits k high low) value = bits_of (byte k all) high low
@@ -239,7 +240,7 @@ module _ (all : List Field) where
       let lba = address_again value.0 (ltb-true value.0 (2 ^ 21) both.0) in
       let count = blocks_again value.1 both.1 in λ i. (lba i, count i)
 
-  -- what is made of the values that are read, and of the fields' own
+  -- the command that is made of the values that are read, and of the fields' own values
   abbrev made : (fields : List Field) → Maker fields → Command
   made [] command = command
   made (f ∷ fields) make = made fields (make (read f.place f.value))

@@ -40,7 +40,7 @@ unfolding command_with
 reserve_out-known cdb action whole known =
     rw (long_enough (length cdb) whole, find-row cdb each_out_action, known) refl
 
--- no byte is bad where the masks fit
+-- no byte is bad if the masks fit
 abbrev fit : (is_short : Bool) (count : ℕ) → Option ℕ → Result Unit CdbFault
 fit is_short count bad = if is_short then Err (Short count) else unless_bad bad tt
 

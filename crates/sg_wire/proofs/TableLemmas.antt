@@ -1,4 +1,4 @@
--- What the code's table says of a CDB is what the definition's says.
+-- The code's table and the definition's table agree on each CDB.
 use Rattle.std.proofs.Common.{◌≡◌, ◌≢◌, ◌<◌, ◌≤◌, ℕ, ◌==◌, List, [], ◌∷◌, length, get_or, map, Bool}
 use Rattle.std.proofs.Common.{true, false, Option, Some, None, Ok, Err, Result, cond, refl, sym, subst}
 use Rattle.std.proofs.Common.{ap, ◌∙◌, ◌⊎◌, inl, inr, arith}
@@ -27,7 +27,7 @@ use Rattle.sg_wire.specs.declared.command.table.Name.TheVariants as name
 abbrev unless_short : {A : Type 0} → (is_short : Bool) → List ℕ → Result A CdbFault → Result A CdbFault
 unless_short is_short cdb read = if is_short then Err (Short (length cdb)) else read
 
--- a layout decodes a CDB just where it fits the masks
+-- a layout decodes a CDB exactly if the CDB fits the masks
 fits : {A : Type 0} (made : A) (cdb : List ℕ) (is_short : Bool) (bad : Option ℕ)
     → unless_short is_short cdb (unless_bad bad (tt {0})) ≡ Ok (tt {0})
     → unless_short is_short cdb (unless_bad bad made) ≡ Ok made
@@ -42,7 +42,7 @@ refused made cdb true bad fault e = cc
 refused made cdb false None fault e = cc
 refused made cdb false (Some byte) fault e = cc
 
--- the layouts that are alone with their operation code and their service action
+-- the layouts whose operation code and service action no other layout has
 abbrev Decodes : List ℕ → Name → Type 0
 Decodes cdb name.PersistentReserveIn = Unit {0}
 Decodes cdb name.PersistentReserveOut = Unit {0}
@@ -76,7 +76,7 @@ decides cdb named d =
     let bad = first_bad 0 (masks l) cdb in
     ((λ e. d ∙ fits made cdb is_short bad e), (λ fault e. d ∙ refused made cdb is_short bad fault e))
 
--- what the masks of a row decide
+-- the masks of a row decide whether its command is decoded
 pub row-decides : (cdb : List ℕ) (named : Name) (bits : List ℕ) (checked : Result Unit CdbFault)
     → HasAction cdb named → bits ≡ masks (layout_of named) → checked ≡ fits_masks bits cdb
     → OnOk checked (IsDecoded cdb named) × IfErr checked (IsRefused cdb named)

@@ -1,4 +1,4 @@
--- Whether a CDB has room for the values of a command.
+-- The room that a CDB has for the values of a command.
 use Rattle.std.specs.Prelude.{◌+◌, ◌-◌, ◌^◌, List, Bool, true, ◌&&◌, nat_lt, nat_le}
 use Rattle.std.specs.List.{list_all}
 use Rattle.sg_wire.specs.Layout.{Field, Place, Value, layout}

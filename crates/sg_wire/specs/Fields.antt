@@ -11,6 +11,6 @@ pub record Field : Type 0 where
 abbrev pub field : (size value : ℕ) → Field
 field size value = record { size = size; value = value }
 
--- Fields one behind the other.
+-- Fields one after the other.
 abbrev pub fields_bytes : List Field → List ℕ
 fields_bytes fields = flat_map (λ (f : Field). big_bytes f.size f.value) fields

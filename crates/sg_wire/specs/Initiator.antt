@@ -1,6 +1,6 @@
 -- The initiators that the disk serves.
 use Rattle.std.specs.Prelude.{ℕ}
 
--- How many there are. They are numbered from 0 on.
+-- The number of initiators. They are numbered from 0 on.
 abbrev pub initiator_count : ℕ
 initiator_count = 8

@@ -21,21 +21,21 @@ PrefixesAreRefused =
     (command : Command) (count : ℕ) → count < length (cdb_of command)
     → command_of (take count (cdb_of command)) ≡ Err (cut_at count)
 
--- The class of a CDB is read from its operation code and service action. Where the CDB is a command,
--- it is the class of that command's row.
+-- The class of a CDB is read from its operation code and service action. If the CDB is a command,
+-- its class is the class of that command's row.
 abbrev pub CommandsHaveTheirClass : Type 0
 CommandsHaveTheirClass =
     (cdb : List ℕ) (command : Command) → command_of cdb ≡ Ok command
     → class_of cdb ≡ Some (layout command).class
 
--- Parts that are put one behind the other are put as one, and putting no bytes changes nothing.
+-- Parts that are put one after the other are put as one, and putting no bytes changes nothing.
 pub record PartsArePutInTurn : Type 0 where
   pub in_turn : (answer : CutAnswer) (first second : List ℕ)
       → put (put answer first) second ≡ put answer (first ++ second)
   pub nothing : (cut : Cut) → put (answer_of cut) [] ≡ answer_of cut
 
--- What was written stays when more is put, and a part that is replaced by one of the same length is as
--- if that one had been put first, also where more was put behind it.
+-- Written bytes stay if more is put. If a part is replaced by one of the same length, the answer
+-- is as if the new part had been put at first. This holds even if more was put after it.
 pub record PartsAreReplaced : Type 0 where
   pub kept : (cut : Cut) (bytes : List ℕ)
       → length (answer_of cut).written ≤ length (put (answer_of cut) bytes).written
@@ -43,8 +43,8 @@ pub record PartsAreReplaced : Type 0 where
       → replace (put (answer_of cut) (old ++ behind)) (length (answer_of cut).written) new
       ≡ put (answer_of cut) (new ++ behind)
 
--- Of an answer that is put whole its first bytes are written, as many as the limit lets through, and
--- then are in the buffer, before those of its bytes that they have not replaced.
+-- If an answer is put whole, its first bytes are written, as many as the limit lets through. The
+-- buffer then begins with them, and the buffer's bytes after them are as they were.
 pub record AnswersAreInTheirBuffers : Type 0 where
   pub written : (buffer : GName) (bytes full : List ℕ) (limit : ℕ) (begun done : Cut)
       → answer_of begun ≡ empty_answer buffer bytes limit → Puts begun done full

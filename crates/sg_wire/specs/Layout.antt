@@ -32,16 +32,16 @@ use Rattle.sg_wire.specs.ReservationAction.{in_code, out_code, each_in_action, e
 
 -- ---- Fields
 
--- Where a field lies: a bit of a byte; some bits of a byte, from a high one to a low one; whole
--- bytes, the most significant first; or the address and the transfer length of READ(6) and
--- WRITE(6), in bytes 1 to 4.
+-- The place of a field: a bit of a byte, some bits of a byte, or whole bytes. Some bits go from a
+-- high one to a low one. Whole bytes have the most significant one first. The last place has the
+-- address and the transfer length of READ(6) and WRITE(6), in bytes 1 to 4.
 pub data Place : Type 0 where
   bit : (byte index : ℕ) → Place
   bits : (byte high low : ℕ) → Place
   bytes : (first last : ℕ) → Place
   short_extent : Place
 
--- What a field contains: whether its bit is set, a number, or the address and the count of blocks.
+-- The content of a field: whether its bit is set, a number, or the address and the count of blocks.
 abbrev pub Value : Place → Type 0
 Value (bit byte index) = Bool
 Value (bits byte high low) = ℕ
@@ -56,12 +56,12 @@ pub record Field : Type 0 where
 abbrev field : (place : Place) → Value place → Field
 field place value = record { place = place; value = value }
 
--- What makes a command of the values of its fields: their types come from the fields' places.
+-- The function that makes a command of the values of its fields. The fields' places give the types.
 abbrev pub Maker : List Field → Type 0
 Maker [] = Command
 Maker (field ∷ fields) = Value field.place → Maker fields
 
--- Where the SERVICE ACTION field lies (SPC-4, 4.2.5.2).
+-- The place of the SERVICE ACTION field (SPC-4, 4.2.5.2).
 abbrev pub action_place : Place
 action_place = bits 1 4 0
 
@@ -72,10 +72,10 @@ pub data ServiceAction : Type 0 where
 
 -- ---- The table
 
--- A command's CDB. Bits of the ignored places may have any value; all others outside the fields
--- have to be zero, and so has CONTROL, the last byte. The class is how it meets a reservation of
--- another initiator (SPC-4, 5.13). `blocked_by_attention`: a pending unit attention is reported in
--- place of the command (SAM-5, 5.14).
+-- A command's CDB. Bits of the ignored places may have any value. All other bits outside the fields
+-- have to be zero, and so has CONTROL, the last byte. The class says how the command meets a
+-- reservation of another initiator (SPC-4, 5.13). `blocked_by_attention`: a pending unit attention
+-- is reported in place of the command (SAM-5, 5.14).
 pub record Layout : Type 0 where
   pub opcode : ℕ
   pub action : ServiceAction
@@ -185,8 +185,8 @@ abbrev reserve_out : PersistentReserveOut → List Field
 reserve_out c = field (bytes 2 2) c.scope_type ∷ field (bytes 5 8) c.list_length ∷ []
 
 -- The disk has no cache and groups no blocks. So of READ and WRITE it ignores DPO, FUA, the
--- obsolete bit 1 and the GROUP NUMBER, and of SYNCHRONIZE CACHE the obsolete bit 2, IMMED and the
--- GROUP NUMBER. Of WRITE SAME it ignores the GROUP NUMBER.
+-- obsolete bit 1 and the GROUP NUMBER. Of SYNCHRONIZE CACHE it ignores the obsolete bit 2, IMMED
+-- and the GROUP NUMBER. Of WRITE SAME it ignores the GROUP NUMBER.
 -- Choice (SBC-3, 5.11): the obsolete bit 1 may be refused.
 -- Choice (SBC-3, RARC): RARC may be ignored.
 abbrev cache_bits : (group_byte : ℕ) → List Place
@@ -201,8 +201,9 @@ abbrev group_number : (byte : ℕ) → List Place
 group_number byte = bits byte 4 0 ∷ []
 
 -- One row for each command: operation code, service action, class, unit attention, fields, ignored
--- places, and the command itself. The commands of SPC-4, 6, then those of SBC-3, 5 (READ(6) and
--- WRITE(6) of SBC-2), and last PERSISTENT RESERVE IN and OUT of SPC-4, which have service actions.
+-- places, and the command itself. The commands of SPC-4, 6, come first, and then the commands of
+-- SBC-3, 5 (READ(6) and WRITE(6) of SBC-2). Last come PERSISTENT RESERVE IN and OUT of SPC-4, which
+-- have service actions.
 abbrev pub layout : Command → Layout
 layout command.TestUnitReady = row 0x00 none Always blocked [] [] command.TestUnitReady
 layout (command.RequestSense c) =
@@ -236,8 +237,8 @@ layout (command.PersistentReserveIn c) =
 layout (command.PersistentReserveOut c) =
     row 0x5F (named (out_code c.action)) Always blocked (reserve_out c) [] (make.reserve_out c.action)
 
--- Each command once, and where its service action is a value of it, once with each. Only the places
--- of its fields matter here, not their values.
+-- Each command once; if its service action is a value of it, the command comes once with each
+-- service action. Only the places of its fields matter here, not their values.
 -- Departure (SPC-4, 6.33): REPORT LUNS is mandatory there.
 -- Departure (SBC-3, 5.3): FORMAT UNIT is mandatory there.
 -- Departure (SPC-4, 6.42): SEND DIAGNOSTIC is mandatory for a disk there.
@@ -274,7 +275,7 @@ abbrev pub rows_of : ℕ → List Layout
 rows_of opcode = filter (λ l. l.opcode == opcode) table
 
 -- The length of a CDB follows from the group code, the top three bits of the operation code (SPC-4,
--- 4.2.5.1): here for the groups 0, 1, 2, 4 and 5. The table has no row of another one.
+-- 4.2.5.1). The groups here are 0, 1, 2, 4 and 5. The table has no row of another group.
 abbrev pub length_of : ℕ → ℕ
 length_of opcode =
     let group = opcode / 32 in
@@ -290,10 +291,10 @@ checked_extent lba count =
     if nat_lt lba (2 ^ 21) && (nat_le 1 count && nat_le count 256) then Some (lba, count) else None
 
 -- ---- Decoding
--- A field of one byte, a shift by 0 and a single part are cases of their own here and below, as there
--- is nothing to compute. The other case would give the same for each value that fits.
+-- A field of one byte, a shift by 0 and a single part are cases of their own here and below. They
+-- have nothing to compute. The other case would give the same for each value that fits.
 
--- Whether a bit of the mask is set in a byte.
+-- A bit of the mask is set in a byte.
 abbrev pub has_bit : ℕ → ℕ → Bool
 has_bit byte mask = not (bit_and byte mask == 0)
 
@@ -318,7 +319,7 @@ value_at cdb (bytes first last) = number_at cdb first last
 value_at cdb short_extent =
     (bits_of (slice_index cdb 1) 4 0 * 65536 + number_at cdb 2 3, blocks_of (slice_index cdb 4))
 
--- The SERVICE ACTION field of a CDB, zero where the CDB ends before it.
+-- The SERVICE ACTION field of a CDB, or zero if the CDB ends before it.
 abbrev pub service_action : List ℕ → ℕ
 service_action cdb = value_at cdb action_place
 
@@ -338,7 +339,7 @@ abbrev pub action_mask : ℕ → ServiceAction → ℕ
 action_mask k none = 0
 action_mask k (named action) = mask_in k action_place
 
--- The bits of byte k that may be set. All of byte 0, the operation code.
+-- The bits of byte k that may be set. In byte 0, the operation code, all bits may be set.
 -- Choice (SPC-4, 3.3, reserved): a reserved or obsolete bit may be ignored.
 -- Choice (SAM-5, 5.2): bits 7 and 6 of CONTROL may have a meaning.
 abbrev pub mask_of : Layout → ℕ → ℕ
@@ -394,7 +395,7 @@ command_of (opcode ∷ rest) = command_with opcode (opcode ∷ rest)
 
 -- ---- What the operation code and the service action decide
 
--- With a service action that no row has, Always.
+-- If no row has the service action, the class is Always.
 -- Choice (SPC-4, 5.13): an unknown service action may be a conflict.
 abbrev pub class_by_rows : List ℕ → List Layout → Option Class
 class_by_rows cdb [] = None
@@ -406,8 +407,8 @@ unfoldable pub class_of : List ℕ → Option Class
 class_of [] = None
 class_of (opcode ∷ rest) = class_by_rows (opcode ∷ rest) (rows_of opcode)
 
--- Whether a pending unit attention is reported in place of the command: also for no byte and for an
--- unknown operation code.
+-- A pending unit attention is reported in place of the command. This holds for no byte too, and for
+-- an unknown operation code.
 unfoldable pub is_blocked_by_attention : List ℕ → Bool
 is_blocked_by_attention [] = true
 is_blocked_by_attention (opcode ∷ rest) =
@@ -415,7 +416,7 @@ is_blocked_by_attention (opcode ∷ rest) =
 
 -- ---- Encoding
 
--- What a place puts into byte k, where it has bits there.
+-- The bits that a place puts into byte k, if it has bits there.
 abbrev pub part_in : ℕ → (place : Place) → Value place → List ℕ
 part_in k (bit byte index) value = if k == byte then (if value then 2 ^ index else 0) ∷ [] else []
 part_in k (bits byte high low) value =
@@ -452,7 +453,7 @@ cdb_of command =
     let l = layout command in
     map (byte_of l) (range_with_len 0 (length_of l.opcode))
 
--- ---- Cited by private contracts alone
+-- ---- Cited only by private contracts
 
 -- A CDB is as long as its masks and has no bit outside them.
 unfoldable pub fits_masks : List ℕ → List ℕ → Result Unit CdbFault

@@ -9,7 +9,7 @@ use Rattle.sg_wire.specs.declared.out_list.OutList.{OutList}
 abbrev pub list_length : ℕ
 list_length = 24
 
--- Where its fields are: the first bytes of the keys, and the byte of the flags.
+-- The places of its fields: the first bytes of the keys, and the byte of the flags.
 abbrev pub service_action_key_at : ℕ
 service_action_key_at = 8
 

@@ -1,5 +1,5 @@
--- The code's table of commands: each row is that of the command's layout, and each CDB gets the row of
--- its command.
+-- The code's table of commands: each row has what the command's layout says, and each CDB gets the
+-- row of its command.
 use Rattle.std.specs.Prelude.{ℕ, ◌≡◌, ◌≢◌, ◌≤◌, List, [], length, slice_index, Bool, true, false}
 use Rattle.std.specs.Prelude.{Option, Some, None, Ok, Err}
 use Rattle.sg_wire.specs.Commands as make
@@ -65,8 +65,8 @@ abbrev pub IsNamed : List ℕ → Name → Type 0
 IsNamed cdb named =
     (1 ≤ length cdb) × (slice_index cdb 0 ≡ (layout_of named).opcode) × HasAction cdb named
 
--- The command of a CDB whose bits fit its row's masks, or the fault where they do not. PERSISTENT
--- RESERVE IN and OUT have a row for each service action, so their names alone decide neither.
+-- The command of a CDB whose bits fit its row's masks, or the fault if they do not fit. PERSISTENT
+-- RESERVE IN and OUT have a row for each service action, so the name decides neither here.
 abbrev pub IsDecoded : List ℕ → Name → Type 0
 IsDecoded cdb name.PersistentReserveIn = Unit {0}
 IsDecoded cdb name.PersistentReserveOut = Unit {0}
@@ -78,15 +78,16 @@ IsRefused cdb name.PersistentReserveIn fault = Unit {0}
 IsRefused cdb name.PersistentReserveOut fault = Unit {0}
 IsRefused cdb named fault = command_with (layout_of named).opcode cdb ≡ Err fault
 
--- What the table has for a CDB: the row of its command; or its operation code has commands, and none
--- with its service action; or no command has its operation code.
+-- The table's result for a CDB: the row of its command, `NoServiceAction` or `NoOpcode`. With
+-- `NoServiceAction`, commands have its operation code, and none of them has its service action.
+-- With `NoOpcode`, no command has its operation code.
 abbrev pub IsFound : List ℕ → Found → Type 0
 IsFound cdb (FoundRow row) = IsNamed cdb row.now.name × IsRow row.now
 IsFound cdb NoServiceAction = (slice_index cdb 0 ≡ 0x9E)
     × (service_action cdb ≢ 0x10) × (service_action cdb ≢ 0x12)
 IsFound cdb NoOpcode = 1 ≤ length cdb → rows_of (slice_index cdb 0) ≡ []
 
--- The reservation class, and whether a pending unit attention blocks the CDB, as the table has them.
+-- The reservation class in the table, and whether a pending unit attention blocks the CDB.
 abbrev pub class_found : Found → Option Class
 class_found (FoundRow row) = Some row.now.class
 class_found NoServiceAction = Some Always

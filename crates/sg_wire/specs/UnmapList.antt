@@ -7,7 +7,7 @@ use Rattle.sg_wire.specs.declared.extent.Extent.{Extent}
 use Rattle.sg_wire.specs.declared.unmap_list.UnmapListFault.{UnmapListFault}
 use Rattle.sg_wire.specs.declared.unmap_list.UnmapListFault.TheVariants.{Short, TooManyDescriptors}
 
--- In bytes: its header, and each block descriptor behind it.
+-- In bytes: its header, and each block descriptor after it.
 abbrev pub unmap_header_length : ℕ
 unmap_header_length = 8
 
@@ -17,7 +17,7 @@ unmap_descriptor_length = 16
 abbrev pub unmap_list_length : (descriptors : ℕ) → ℕ
 unmap_list_length descriptors = unmap_header_length + unmap_descriptor_length * descriptors
 
--- Where UNMAP BLOCK DESCRIPTOR DATA LENGTH begins.
+-- The first byte of UNMAP BLOCK DESCRIPTOR DATA LENGTH.
 abbrev pub descriptor_data_length_at : ℕ
 descriptor_data_length_at = 2
 
@@ -27,8 +27,8 @@ maximum_unmap_descriptors = 64
 
 -- ---- The bytes of a list
 
--- UNMAP DATA LENGTH, which counts what follows it, in bytes 0 and 1; UNMAP BLOCK DESCRIPTOR DATA
--- LENGTH in bytes 2 and 3; and four reserved bytes.
+-- UNMAP DATA LENGTH is in bytes 0 and 1, and counts what follows it. UNMAP BLOCK DESCRIPTOR DATA
+-- LENGTH is in bytes 2 and 3. Four reserved bytes follow.
 abbrev pub unmap_header : (descriptors : ℕ) → List ℕ
 unmap_header descriptors =
     let data_length = unmap_list_length descriptors - 2 in
@@ -56,15 +56,15 @@ descriptor_at bytes index = extent_at bytes (unmap_list_length index)
 abbrev pub first_descriptors : (bytes : List ℕ) (count : ℕ) → List Extent
 first_descriptors bytes count = map (descriptor_at bytes) (range_with_len 0 count)
 
--- How many whole descriptors there are in the bytes that the header counts, or in those that are
--- behind it, where these are fewer.
+-- The number of whole descriptors in the bytes that the header counts, or in the bytes after the
+-- header, if these are fewer.
 -- Choice (SBC-3, 5.28.2): lengths that disagree may be refused.
 unfoldable pub descriptor_count : (bytes : List ℕ) → ℕ
 descriptor_count bytes =
     let counted = big_number 2 (drop descriptor_data_length_at bytes) in
     min counted (length bytes - unmap_header_length) / unmap_descriptor_length
 
--- No byte is a list without an extent. Any other list has its header, and no more descriptors than
+-- A list of no bytes has no extent. Any other list has its header, and no more descriptors than
 -- there may be.
 -- Choice (SPC-4, 3.3, reserved): a reserved byte that is not 0 may be refused.
 unfoldable pub unmap_list : (bytes : List ℕ) → Result (List Extent) UnmapListFault

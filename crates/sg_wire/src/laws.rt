@@ -8,26 +8,26 @@ pub fn prefixes_are_refused()
     ensures { PrefixesAreRefused }
 {}
 
-/// Whether another initiator's reservation conflicts with a CDB is decided by its class, which is read
-/// before the CDB is decoded: a CDB that is a command has the class of that command.
+/// The class of a CDB decides whether another initiator's reservation conflicts with it. The class
+/// is read before the CDB is decoded: a CDB that is a command has the class of that command.
 pub fn commands_have_their_class()
     ensures { CommandsHaveTheirClass }
 {}
 
-/// Of an answer that was put whole, its first bytes, up to the limit, are at the beginning of the
-/// buffer, and those after them are as they were.
+/// If an answer was put whole, its first bytes, up to the limit, are at the beginning of the
+/// buffer. The bytes of the buffer after them are as they were.
 pub fn answers_are_in_their_buffers()
     ensures { AnswersAreInTheirBuffers }
 {}
 
-/// Parts of an answer that are put one behind the other are put as one, and where no byte is put,
-/// nothing changes.
+/// Parts of an answer that are put one after the other are put as one, and putting no byte changes
+/// nothing.
 pub fn parts_are_put_in_turn()
     ensures { PartsArePutInTurn }
 {}
 
-/// A part of an answer that is replaced by one of the same length is as if that one had been put,
-/// and what was written before is still there.
+/// Replacing a part of an answer by one of the same length is as if the new part had been put at
+/// first. All that was written before is still there.
 pub fn parts_are_replaced()
     ensures { PartsAreReplaced }
 {}

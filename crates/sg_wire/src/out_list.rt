@@ -7,9 +7,9 @@ use byteorder::{BigEndian, ByteOrder};
 /// The parameter list of PERSISTENT RESERVE OUT (SPC-4, 6.16.3).
 #[derive(Clone, Copy)]
 pub struct OutList {
-    /// RESERVATION KEY: the one that the initiator is registered under.
+    /// RESERVATION KEY: the key that the initiator is registered under.
     pub reservation_key: u64,
-    /// SERVICE ACTION RESERVATION KEY: the one to register, or to preempt.
+    /// SERVICE ACTION RESERVATION KEY: the key to register, or to preempt.
     pub service_action_key: u64,
     /// SPEC_I_PT: other initiators are to be registered too.
     pub spec_i_pt: bool,
@@ -30,7 +30,7 @@ impl OutList {
     /// The length of a list, in bytes.
     pub const LENGTH: usize = 24;
 
-    /// Where SERVICE ACTION RESERVATION KEY is.
+    /// The first byte of SERVICE ACTION RESERVATION KEY.
     pub const SERVICE_ACTION_KEY_AT: usize = 8;
 
     /// The byte of the flags.

@@ -15,13 +15,13 @@ use byteorder::{BigEndian, ByteOrder};
 use std::marker::Model;
 use thiserror::Error;
 
-/// The most block descriptors that a list has, as the page Block Limits reports it.
+/// The most block descriptors that a list has. The Block Limits page reports this number.
 pub const MAXIMUM_UNMAP_DESCRIPTORS: usize = 64;
 
-/// Why bytes are no parameter list of UNMAP. The first that applies is returned.
+/// The reason why bytes are no parameter list of UNMAP. The first reason that applies is returned.
 #[derive(Clone, Copy, Debug, Error, PartialEq, Eq)]
 pub enum UnmapListFault {
-    /// There are bytes, and fewer than a header has.
+    /// There are bytes, but fewer than a header has.
     #[error("the list ends within its header")]
     Short,
     /// There are more than [`MAXIMUM_UNMAP_DESCRIPTORS`] block descriptors.
@@ -45,8 +45,8 @@ impl Model for UnmapList {
     ghost view = { λ l. l.extents.items };
 }
 
-/// The extents of a list's bytes, which are read where they lie, as often as they are needed: so
-/// that a command whose list was checked has no table of them.
+/// The extents of a list's bytes, read at their place as often as they are needed. So a command
+/// whose list was checked has no table of them.
 #[derive(Drop)]
 pub struct ListedExtents<'a> {
     bytes: &'a [u8],
@@ -69,7 +69,7 @@ impl UnmapList {
     /// The length of the header, in bytes.
     pub const HEADER_LENGTH: usize = 8;
 
-    /// Where UNMAP BLOCK DESCRIPTOR DATA LENGTH is.
+    /// The first byte of UNMAP BLOCK DESCRIPTOR DATA LENGTH.
     pub const DESCRIPTOR_DATA_LENGTH_AT: usize = 2;
 
     /// The length of a block descriptor, in bytes.
@@ -129,7 +129,7 @@ impl UnmapList {
     }
 
     /// Finds the extents of a list in its bytes. UNMAP DATA LENGTH and reserved bytes are ignored.
-    /// So is what is left of a last descriptor that is not whole.
+    /// The rest of a last descriptor that is not whole is ignored too.
     ///
     /// # Errors
     /// The first fault of [`UnmapListFault`], in the order given there.

@@ -1,4 +1,4 @@
--- What words ask for, from the options that they give.
+-- The requests that words make, from the options that they give.
 use Rattle.std.proofs.Common.{◌≡◌, List, Result, Ok, Err, sym, ap, ◌∙◌, inl, inr}
 use Rattle.clap.specs.Words.{App, Row, Text}
 use Rattle.sg_tools.specs.GivenOptions.{given_options}

@@ -1,5 +1,6 @@
--- What the words of the command line ask for (docs/SCRIPT.md). Of two stops the first in this order
--- is returned: `Usage`; `Number`; and then `Blocks` and `Pool`, as a disk is checked.
+-- The request that the words of the command line make (docs/SCRIPT.md). Of two stops, the first in
+-- this order is returned: `Usage`; `Number`; and then `Blocks` and `Pool`, in the order of a disk's
+-- checks.
 use Rattle.std.specs.Prelude.{◌≡◌, ◌⊎◌, ℕ, ◌^◌, ◌-◌, List, codes, Option, Some, None, Result, Ok}
 use Rattle.std.specs.Prelude.{Err}
 use Rattle.clap.specs.Words.{Row, Text}
@@ -22,7 +23,7 @@ default_blocks = 4096
 abbrev pub default_pool : ℕ
 default_pool = 4
 
--- A disk with the standard identity, whose numbers have to be in range.
+-- A disk with the standard identity. Its numbers have to be in range.
 abbrev pub disk_with : (blocks pool : ℕ) → ConfigFields
 disk_with blocks pool = record { blocks = blocks; pool = pool; identity = standard_identity }
 
@@ -33,7 +34,7 @@ by_config (Err fault) = Err (stop_of_config fault)
 abbrev pub checked_disk : (blocks pool : ℕ) → Result ConfigFields Stop
 checked_disk blocks pool = by_config (checked_config (disk_with blocks pool))
 
--- The number of an option's text, or the default where the option is not given.
+-- The number of an option's text, or the default if the option is not given.
 abbrev pub number_of_option : (default : ℕ) → Option Text → Option ℕ
 number_of_option default text = number_or default (2 ^ 64 - 1) text
 
@@ -66,10 +67,11 @@ abbrev pub arguments_by : Result (List Row) ToolFault → Result ArgumentFields 
 arguments_by (Err fault) = Err (stop_of_options fault)
 arguments_by (Ok rows) = arguments_of rows
 
--- What words ask for, or why there is nothing to run. The first word is the program's name.
+-- The disk and the file that words ask for, or why there is nothing to run. The first word is the
+-- program's name.
 unfoldable pub arguments : (words : List Text) → Result ArgumentFields Stop
 arguments words = arguments_by (given_options command_line words)
 
--- The result is this one, or memory was refused.
+-- The result is the expected one, unless memory was refused.
 abbrev pub IsUnlessOutOfMemory : {A : Type 0} → (expected result : Result A Stop) → Type 0
 IsUnlessOutOfMemory expected result = (result ≡ expected) ⊎ (result ≡ Err OutOfMemory)

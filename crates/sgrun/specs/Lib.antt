@@ -1,7 +1,7 @@
--- What is asked for,
+-- The request of the command line,
 pub mod Options
 pub mod Arguments
--- what is run,
+-- the run,
 pub mod NewDisk
 -- and why there is no script's status.
 pub mod Stops

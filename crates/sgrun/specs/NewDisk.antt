@@ -12,7 +12,8 @@ abbrev pub by_run : Result ℕ RunFault → Result ℕ Stop
 by_run (Ok status) = Ok status
 by_run (Err fault) = Err (stop_of_run fault)
 
--- The script was run. `old` and `new` are what was run on, with any state of the disk.
+-- The script was run. `old` and `new` are its reader, its writer and the disk before and after the
+-- run, for any state of the disk.
 pub record Ran (old new : Snapshot) (result : Result ℕ Stop) : Type 0 where
   pub ran : Result ℕ RunFault
   pub runs : RunsScript old new ran

@@ -14,7 +14,8 @@ use Rattle.sgrun.specs.declared.stop.Stop.{Stop}
 use Rattle.sgrun.specs.declared.stop.Stop.TheVariants.{Usage, Number, Blocks, Pool, CannotOpen}
 use Rattle.sgrun.specs.declared.stop.Stop.TheVariants.{Read, Write, OutOfMemory}
 
--- What a stop prints to standard error after the program's name, and the program's exit status.
+-- The text that a stop prints to standard error after the program's name, and the program's exit
+-- status.
 pub record Row : Type 0 where
   pub message : List ℕ
   pub status : ℕ
@@ -32,22 +33,22 @@ row_of Read = row (codes "read fault") 15
 row_of Write = row (codes "write fault") 15
 row_of OutOfMemory = row (codes "out of memory") 99
 
--- The stop where the words of the command line can't be read: they are not UTF-8.
+-- The stop if the words of the command line can't be read: they are not UTF-8.
 abbrev pub stop_of_words : ErrorKind → Stop
 stop_of_words NoMemory = OutOfMemory
 stop_of_words kind = Usage
 
--- The stop where words don't give options: clap does not accept them.
+-- The stop if words don't give options: clap does not accept them.
 abbrev pub stop_of_options : ToolFault → Stop
 stop_of_options NoMemoryFault = OutOfMemory
 stop_of_options fault = Usage
 
--- The stop where a disk can't have such a size.
+-- The stop if a disk can't have such a size.
 abbrev pub stop_of_config : ConfigFault → Stop
 stop_of_config BlocksFault = Blocks
 stop_of_config PoolFault = Pool
 
--- The stop where the file of this name can't be opened.
+-- The stop if the file of this name can't be opened.
 abbrev pub stop_of_open : (file : Bor (List ℕ)) → ErrorKind → Stop
 stop_of_open file NoMemory = OutOfMemory
 stop_of_open file kind = CannotOpen file
@@ -57,7 +58,7 @@ abbrev pub stop_of_run : RunFault → Stop
 stop_of_run ReadFault = Read
 stop_of_run WriteFault = Write
 
--- The program's exit status: the script's, or that of the stop.
+-- The program's exit status: the status of the script, or the status of the stop.
 abbrev pub exit_status : Result ℕ Stop → ℕ
 exit_status (Ok status) = status
 exit_status (Err stop) = (row_of stop).status

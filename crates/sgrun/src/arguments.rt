@@ -2,7 +2,7 @@
 use sg_target::Config;
 use std::marker::Model;
 
-/// What the command line asks for.
+/// The request of the command line.
 #[derive(Drop)]
 pub(crate) struct Arguments<'a> {
     /// The disk that the script runs on.
@@ -37,22 +37,22 @@ use sg_pages::Identity;
 use sg_tools::{GivenOptions, number_or};
 use std::alloc::{AllocError, Global};
 
-// The disk's logical blocks, and how many of them can be mapped at once, where no option says them.
+// The disk's logical blocks, and the number of them that can be mapped at once, if no option gives
+// them.
 const DEFAULT_BLOCKS: u64 = 4_096;
 
 const DEFAULT_POOL: u64 = 4;
 
 impl<'a> Arguments<'a> {
-    /// What words ask for. The first word is the program's name.
+    /// Reads the request that words make. The first word is the program's name.
     ///
     /// # Errors
     /// The first of these that applies:
-    /// - `Usage` where clap does not accept the words, or they ask for help,
-    /// - `Number` where the text of `--blocks` or `--pool` is no number,
-    /// - `Blocks` or `Pool` where there is no disk of that size.
+    /// - `Usage` if clap does not accept the words, or if they ask for help.
+    /// - `Number` if the text of `--blocks` or `--pool` is no number.
+    /// - `Blocks` or `Pool` if there is no disk of that size.
     ///
-    /// `OutOfMemory` is returned in place of any of these, and of a success, where memory is
-    /// refused.
+    /// If memory is refused, `OutOfMemory` is returned in place of any of these, and of a success.
     pub(crate) fn parse(alloc: Global, words: &'a [String]) -> Result<Arguments<'a>, Stop<'a>>
         ensures { let texts = map (λ word. string_bytes word) words.entry.now in
             IsUnlessOutOfMemory (arguments texts) result }
@@ -80,7 +80,7 @@ fn disk<'a>(options: &GivenOptions) -> Result<Config, Stop<'a>>
     checked_disk(blocks, pool)
 }
 
-/// The number of a text, or the default where there is none.
+/// The number of a text, or the default if there is no text.
 fn number_of_option(default: u64, text: Option<&str>) -> Option<u64>
     ensures { result ≡ number_of_option default (option_map (λ t. t.now) text.entry) }
 {
@@ -91,7 +91,7 @@ fn number_of_option(default: u64, text: Option<&str>) -> Option<u64>
 fn checked_disk<'a>(blocks: u64, pool: u64) -> Result<Config, Stop<'a>>
     ensures { result ≡ checked_disk blocks pool }
 {
-    // What is no u32 is too large, as is the largest one.
+    // A number that is no u32 is too large, and so is the largest u32.
     let pool = pool.min(u64::from(u32::MAX)) as u32;
     Ok(Config::new(blocks, pool, Identity::standard())?)
 }

@@ -1,5 +1,5 @@
 //! `sgrun`: reads a script from standard input or a file, executes its commands on a disk in memory
-//! and prints their replies. Its exit status is the first line's that is not 0.
+//! and prints their replies. Its exit status is the first status of a line that is not 0.
 #![tactic(auto)]
 
 mod arguments;
@@ -30,7 +30,7 @@ fn main(rt: HostRuntime) -> ExitCode {
     ExitCode::from(exit_status(outcome))
 }
 
-/// The words of the command line, the first of which is the program's name.
+/// The words of the command line. The first is the program's name.
 fn words<'a>(rt: &HostRuntime) -> Result<Vec<String>, Stop<'a>> {
     match env::args(rt) {
         Ok(words) => Ok(words.collect(rt.alloc())?),

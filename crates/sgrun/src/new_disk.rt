@@ -1,4 +1,4 @@
-// Makes the disk and runs the script on it. Here alone the program names a store.
+// Makes the disk and runs the script on it. The program names a store only here.
 ghost use Rattle.std.specs.Prelude.{◌≡◌, false};
 ghost use Rattle.sg_wire.specs.Watched.{has_failed};
 ghost use Rattle.sg_run.specs.ScriptRun.{snapshot};
@@ -34,7 +34,8 @@ pub(crate) fn run_on_new_disk<'a, R: Read, W: Write>(
     run_in_new_session(alloc, reader, writer, &mut target)
 }
 
-/// Runs a script. Apart from the disk, so that each is dropped in a function of its own.
+/// Runs a script. This is a function of its own, so that the disk and the session are dropped in
+/// two functions.
 fn run_in_new_session<'a, R: Read, W: Write, S: Store>(
     alloc: Global,
     reader: &mut Watched<R>,
@@ -52,8 +53,8 @@ fn run_in_new_session<'a, R: Read, W: Write, S: Store>(
     outcome_of_run(run_script(alloc, reader, writer, &mut session, target))
 }
 
-/// The outcome of a run. Apart, so that the session is dropped in one place: the prover follows that
-/// once.
+/// The outcome of a run. This is a function of its own, so that the session is dropped in one
+/// place: the prover follows that once.
 fn outcome_of_run<'a>(ran: Result<u8, RunFault>) -> Result<u8, Stop<'a>>
     ensures { result ≡ by_run ran }
 {

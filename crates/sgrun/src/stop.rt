@@ -1,4 +1,4 @@
-// What ends the program without a status of the script, and the message that it prints.
+// The reasons why the program ends without a status of the script, and the message for each.
 ghost use Rattle.std.specs.Prelude.{◌≡◌, ◌++◌};
 ghost use Rattle.sgrun.specs.Stops.{exit_status, row_of, stop_of_open, stop_of_words};
 
@@ -11,7 +11,7 @@ use std::io::ErrorKind;
 /// Why there is no script's status.
 #[derive(Clone, Copy)]
 pub(crate) enum Stop<'a> {
-    /// The words of the command line are not those of the program, or ask for help.
+    /// The program does not take the words of the command line, or they ask for help.
     Usage,
     /// The text of an option is no number.
     Number,
@@ -50,7 +50,7 @@ impl<'a> Stop<'a> {
         }
     }
 
-    /// What is printed to standard error, after the program's name: two texts, one after the other.
+    /// The message to standard error, after the program's name: two texts, one after the other.
     pub(crate) fn message(self) -> (&'a str, &'a str)
         ensures { result.0.now ++ result.1.now ≡ (row_of self.entry).message }
     {
@@ -126,7 +126,7 @@ impl From<RunFault> for Stop<'_> {
     }
 }
 
-/// The program's exit status: the script's, or that of the stop.
+/// The program's exit status: the status of the script, or the status of the stop.
 pub(crate) fn exit_status(outcome: Result<u8, Stop>) -> u8
     ensures { result ≡ exit_status outcome.entry }
 {

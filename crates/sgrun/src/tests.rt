@@ -1,4 +1,4 @@
-// What the command line asks for, in the forms that clap takes, and how it is refused.
+// The request of the command line, in the forms that clap takes, and its refusals.
 use crate::arguments::Arguments;
 use std::alloc::{AllocError, Global};
 use std::test::Fail;

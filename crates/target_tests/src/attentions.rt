@@ -10,7 +10,7 @@ const MODE_PARAMETERS_CHANGED: Option<(u8, u8)> = Some((0x2A, 0x01));
 #[derive(Clone, Copy)]
 enum Change {
     Nothing,
-    /// MODE PARAMETERS CHANGED is raised.
+    /// Raises MODE PARAMETERS CHANGED.
     Raise,
     ClearOldest,
     PowerCycle,
@@ -18,9 +18,9 @@ enum Change {
 
 use Change::{ClearOldest, Nothing, PowerCycle, Raise};
 
-/// Changes for initiators, and the oldest condition that is pending for each then. What is raised is
-/// pending behind POWER ON, once, for the one initiator. After a power cycle POWER ON alone is
-/// pending, also where other conditions were.
+/// Changes for initiators, and the oldest condition that is pending for each then. A condition that
+/// is raised is pending after POWER ON, once, and only for this initiator. After a power cycle only
+/// POWER ON is pending, even if other conditions were.
 const CHANGES: [(Change, u8, Option<(u8, u8)>); 12] = [
     (Nothing, 1, POWER_ON),
     (Raise, 1, POWER_ON),

@@ -1,5 +1,5 @@
-// Which texts and local identifiers an identity may have, the data that shows one, and how requests for
-// mode pages are refused.
+// The texts and local identifiers that an identity may have, the data that shows one, and the
+// refusals of requests for mode pages.
 use sg_pages::{
     Ask, AskFault, Identity, IdentityFault, ModePages, PageControl, SelectFault, inquiry, vpd,
 };
@@ -11,8 +11,8 @@ const TEXT: Option<IdentityFault> = Some(IdentityFault::Text);
 
 const PRODUCT: &[u8; 16] = b"THIN DISK       ";
 
-/// The vendor, the product, the revision, the serial and the local identifier, and how they are
-/// refused.
+/// The vendor, the product, the revision, the serial and the local identifier, and the refusal of
+/// each.
 const IDENTITIES: [(
     &[u8; 8],
     &[u8; 16],
@@ -59,10 +59,10 @@ fn an_identity_is_checked(rt: HostRuntime) {
 /// Page 00h, supported VPD pages (SPC-4, 7.8): these five are listed.
 const SUPPORTED_PAGES: &[u8] = &[0x00, 0x00, 0x00, 0x05, 0x00, 0x80, 0x83, 0xB0, 0xB2];
 
-/// Page 80h, unit serial number (SPC-4, 7.8): that of the standard identity is 00000001.
+/// Page 80h, unit serial number (SPC-4, 7.8): the standard identity has 00000001.
 const SERIAL_NUMBER: &[u8] = b"\x00\x80\x00\x0800000001";
 
-/// Page codes, and the bytes of each page. The disk has no page 81h, and nothing is written.
+/// Page codes, and the bytes of each page. The disk has no page 81h, and writes nothing for it.
 const PAGES: [(u8, &[u8]); 3] = [(0x00, SUPPORTED_PAGES), (0x80, SERIAL_NUMBER), (0x81, &[])];
 
 #[test]
@@ -79,7 +79,7 @@ fn a_page_of_vital_product_data_is_written_by_its_code(rt: HostRuntime) {
     }
 }
 
-/// The first bytes of standard INQUIRY data (SPC-4, 6.6.2): VERSION is that of SPC-4, RESPONSE DATA
+/// The first bytes of standard INQUIRY data (SPC-4, 6.6.2): VERSION says SPC-4, RESPONSE DATA
 /// FORMAT is 2, and 31 bytes follow.
 #[test]
 fn standard_inquiry_data_is_cut(rt: HostRuntime) {

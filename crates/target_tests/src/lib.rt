@@ -1,5 +1,5 @@
-//! Tests of public calls of the target and of the crates below it, but for `sg_wire`: what no contract
-//! says, and that the definitions are the standard's.
+//! Tests of public calls of the target and of the crates below it, except `sg_wire`. They test what
+//! no contract says, and that the definitions agree with the standards.
 #![tactic(auto)]
 
 #[cfg(test)]

@@ -1,4 +1,4 @@
-// The stores: what their calls count on small maps, and the table that they stand on.
+// The stores: the counts of their calls on small maps, and the table that they stand on.
 mod counts;
 mod disk;
 mod table;

@@ -1,5 +1,5 @@
-// Commands to a target and its replies: what scripts do not show, as raw sense data, counts, sinks
-// and the bytes behind data-in.
+// Commands to a target and its replies: raw sense data, counts, sinks and the bytes after data-in,
+// which scripts do not show.
 mod configuration;
 mod data_in;
 mod log;
@@ -14,7 +14,7 @@ use std::test::Fail;
 
 const READY: &[u8] = &[0x00, 0, 0, 0, 0, 0];
 
-/// How a command ends.
+/// The ending of a command.
 #[derive(Clone, Copy)]
 enum Ending {
     Good,
@@ -22,7 +22,7 @@ enum Ending {
     UnknownOpcode,
     InvalidField(u8),
     DataPhaseError,
-    // With the first such address.
+    // LOGICAL BLOCK ADDRESS OUT OF RANGE, with the first such address.
     OutOfRange(u32),
     NoSpace,
 }

@@ -1,4 +1,4 @@
-// CDBs as SPC-4 and SBC-3 lay them out. Their faults and their ignored bits are worked rows.
+// CDBs as SPC-4 and SBC-3 lay them out. Worked rows test their faults and their ignored bits.
 use sg_wire::{
     Class, Command, Extent10, Extent16, GetLbaStatus, InAction, Inquiry, OutAction,
     PersistentReserveIn, PersistentReserveOut, ReadCapacity16, RequestSense, ShortExtent,
@@ -154,7 +154,7 @@ const CDBS: [(&[u8], Command); 20] = [
     ),
 ];
 
-/// For a message: Debug of all bytes takes long to prove.
+/// The operation code, for a message: Debug of all bytes takes long to prove.
 fn operation_code(cdb: &[u8]) -> u8 {
     match cdb {
         [code, ..] => *code,
@@ -162,7 +162,7 @@ fn operation_code(cdb: &[u8]) -> u8 {
     }
 }
 
-/// Whether a CDB is read as a command, which is written as the CDB.
+/// Whether a CDB is read as a command, and the command is written as the CDB.
 fn is_read_and_written(cdb: &[u8], command: Command) -> bool {
     Command::read(cdb) == Ok(command) && command.write().as_slice() == cdb
 }

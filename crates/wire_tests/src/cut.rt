@@ -26,7 +26,7 @@ fn an_answer_is_cut(rt: HostRuntime) {
     }
 }
 
-/// What is written keeps its length, and bytes behind it are dropped.
+/// A replacement keeps the length that was written, and its bytes after that length are dropped.
 #[test]
 fn written_bytes_are_replaced(rt: HostRuntime) {
     let mut buf = [9; 7];

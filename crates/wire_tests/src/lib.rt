@@ -1,6 +1,6 @@
-//! Tests of public calls of `sg_wire`, and of `sg_decode` and `sg_tools`, which stand on it alone:
-//! what no contract says, and that the definitions are the standard's. They stand here, since a crate
-//! that has tests is proved twice.
+//! Tests of public calls of `sg_wire`, and of `sg_decode` and `sg_tools`, which stand only on it.
+//! They test what no contract says, and that the definitions agree with the standards. They stand
+//! here, because a crate that has tests is proved twice.
 #![tactic(auto)]
 
 #[cfg(test)]

@@ -1,4 +1,4 @@
-// Where a walk by GET LBA STATUS goes on. Blocks 0 and 2 of 4,096 are mapped.
+// The address that a walk by GET LBA STATUS goes on from. Blocks 0 and 2 of 4,096 are mapped.
 use sg_decode::next_start;
 
 // The data from block 0 on, with four descriptors, and from block 3 on, with one.
@@ -16,7 +16,7 @@ const REPORTS_ONE: &[u8] = b"\x00\x00\x00\x14\x00\x00\x00\x00\
     \x00\x00\x00\x00\x00\x00\x00\x00\x00\x00\x00\x05\x00\x00\x00\x00\
     \x00\x00\x00\x00\x00\x00\x00\x05\x00\x00\x00\x09\x01\x00\x00\x00";
 
-// Descriptors that end at the last address of 64 bits, and behind it.
+// Descriptors that end at the last address of 64 bits, and after it.
 const LAST: &[u8] = b"\x00\x00\x00\x14\x00\x00\x00\x00\
     \xff\xff\xff\xff\xff\xff\xff\x00\x00\x00\x00\xff\x01\x00\x00\x00";
 

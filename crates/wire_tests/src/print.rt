@@ -1,4 +1,4 @@
-// Each decoder by the call that writes to a writer. What their texts contain is shown by rows.
+// Each decoder, by the call that writes to a writer. Worked rows show the contents of their texts.
 use sg_decode::{
     print_capabilities, print_full_status, print_hex, print_inquiry, print_keys, print_lba_status,
     print_modes, print_reservation, print_sense, print_vpd,
@@ -8,7 +8,7 @@ use std::alloc::Global;
 use std::io;
 use std::test::Fail;
 
-/// By what an answer is decoded.
+/// The decoder of an answer.
 enum Kind {
     Inquiry,
     Vpd,

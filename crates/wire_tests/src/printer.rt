@@ -1,4 +1,4 @@
-// What no contract says: how few the writes are, and that none comes after a failure.
+// Facts that no contract says: the writes are few, and none comes after a failure.
 use super::watched::{FakeWriter, Fault};
 use sg_wire::{Printer, Watched};
 use std::io::{ErrorKind, Write};
@@ -8,7 +8,7 @@ const PIECES: [&[u8]; 5] = [b"line ", b"12", b": ", b"", b"GOOD\n"];
 
 const TEXT: &[u8] = b"line 12: GOOD\n";
 
-/// How many writes the pieces take by the length of the buffer.
+/// The number of writes that the pieces take, by the length of the buffer.
 const WRITES: [(usize, usize); 9] = [
     (0, 4),
     (1, 4),

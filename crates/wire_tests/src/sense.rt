@@ -1,4 +1,4 @@
-// Sense data, byte by byte as SPC-4, 4.5, has it.
+// Sense data, byte by byte as SPC-4, 4.5, lays it out.
 use sg_wire::{Cut, Format, Pointer, Sense};
 
 const IN_COMMAND: Pointer = Pointer {
@@ -45,7 +45,7 @@ fn read(data: &[u8]) -> Option<Fields> {
     Some((sense.key, asc, ascq, sense.information, sense.pointer))
 }
 
-/// What the disk writes.
+/// The sense data that the disk writes.
 const WRITTEN: [(Fields, Format, &[u8]); 8] = [
     (
         (ILLEGAL_REQUEST, 0x24, 0x00, None, Some(IN_COMMAND)),
@@ -121,8 +121,9 @@ fn sense_data_is_written_and_read(rt: HostRuntime) {
     }
 }
 
-/// Sense data that the disk does not write, in both formats, and what is read as nothing. The walk over
-/// descriptors ends at the additional length, at the end of the bytes and before a part of one.
+/// Sense data that the disk does not write, in both formats, and bytes that are not read as sense
+/// data. The walk over descriptors ends at the additional length, at the end of the bytes and
+/// before a part of one.
 const READ: [(&[u8], Option<Fields>); 21] = [
     // Medium error with information.
     (

@@ -1,4 +1,5 @@
-// What the words of the tools send, as SPC-4 and SBC-3 lay it out. How they are refused is shown by rows.
+// The bytes that the words of the tools send, as SPC-4 and SBC-3 lay them out. Worked rows show
+// their refusals.
 use sg_tools::{MAX_DATA_OUT, Show, Tool, ToolName, status_of};
 use std::alloc::Global;
 use std::test::Fail;
@@ -146,7 +147,7 @@ const SENT: [(&str, &[u8], &[u8], Show); 28] = [
     ),
 ];
 
-/// What the words of a line ask for, of which the first is the tool's name.
+/// Reads the request that the words of a line make. The first word is the tool's name.
 fn parse(alloc: Global, line: &str) -> Result<Tool, Fail> {
     let mut words = Vec::new(alloc);
     for word in line.split_whitespace() {

@@ -9,7 +9,7 @@ const WIDE: Extent = Extent {
 
 const NARROW: Extent = Extent { lba: 3, count: 1 };
 
-/// The list of both: a header, behind whose first field 38 bytes follow, and two descriptors.
+/// The list of both: a header, with 38 bytes after its first field, and two descriptors.
 const BYTES: [u8; 40] = [
     0x00, 0x26, 0x00, 0x20, 0x00, 0x00, 0x00, 0x00, // header
     0x01, 0x02, 0x03, 0x04, 0x05, 0x06, 0x07, 0x08, 0x09, 0x0A, 0x0B, 0x0C, 0x00, 0x00, 0x00, 0x00,
@@ -44,7 +44,8 @@ fn a_list_is_written_and_read(rt: HostRuntime) {
     assert!(rt; length == 40 && written == 40 && buf == BYTES && are_read());
 }
 
-/// How many extents a list names, by its length and its UNMAP BLOCK DESCRIPTOR DATA LENGTH.
+/// The number of extents that a list names, by its length and its UNMAP BLOCK DESCRIPTOR DATA
+/// LENGTH.
 const COUNTS: [(usize, u8, u8, Result<usize, UnmapListFault>); 13] = [
     (0, 0x00, 0x00, Ok(0)),
     (1, 0x00, 0x00, Err(UnmapListFault::Short)),

@@ -1,20 +1,20 @@
-// What no contract says: each call reaches the reader or writer just once, and returns what that
-// returned.
+// Facts that no contract says: each call reaches the reader or writer just once, and returns the
+// result of this reader or writer.
 use sg_wire::Watched;
 use std::alloc::Global;
 use std::io;
 use std::io::{Error, ErrorKind, Read, Write};
 use std::test::Fail;
 
-/// What a `FakeWriter` does at its faulty call.
+/// The effect of a `FakeWriter`'s faulty call.
 #[derive(Clone, Copy)]
 pub(super) enum Fault {
     TakesNone,
     Fails(ErrorKind),
 }
 
-/// A writer that keeps what it takes, and counts the calls. It takes at most `most` bytes a call,
-/// and none at the faulty call. A flush fails.
+/// A writer that keeps the bytes that it takes, and counts the calls. It takes at most `most` bytes
+/// a call, and none at the faulty call. A flush fails.
 #[derive(Drop)]
 pub(super) struct FakeWriter {
     pub(super) bytes: Vec<u8>,
@@ -177,7 +177,7 @@ impl<'a> Read for FakeReader<'a> {
     }
 }
 
-/// Into buffers shorter than what the reader delivers, as long, and longer.
+/// Reads into buffers that are shorter than the reader's bytes, as long, and longer.
 #[test]
 fn reads_are_passed_on(rt: HostRuntime) -> Result<(), Fail> {
     for most in 1..=13 {

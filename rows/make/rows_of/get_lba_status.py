@@ -48,3 +48,13 @@ def largest_disk():
     for start in (FAR - 1, FAR, FAR + 1):
         yield get_lba_status(start, 0xFFFF)
     yield get_lba_status(FAR + 2, 0x18)
+
+
+@row("get-lba-status/of-512-extents-the-last-of-which-is-a-part", blocks=2**40, pool=200)
+def last_is_a_part():
+    """The limit of 512 descriptors falls within a long extent, which has many (SBC-3, 5.4.2)"""
+    yield request_sense(0)
+    for address in range(1, 400, 2):
+        yield fill(0, address, 1, 7)
+    yield get_lba_status(0, 0xFFFF)
+    yield get_lba_status(399, 0x2000)

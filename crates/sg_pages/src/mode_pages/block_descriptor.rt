@@ -16,7 +16,7 @@ pub(super) const LONG_NUMBER_LENGTH: usize = 8;
 
 const LOGICAL_BLOCK_LENGTH: u32 = 512;
 
-/// A greater number of blocks than fits is FFFFFFFFh.
+/// A number of blocks that does not fit is FFFFFFFFh.
 #[tactic(auto, unfolding(crate::specs::BlockDescriptor::block_descriptor))]
 pub(super) fn short_descriptor(blocks: u64) -> [u8; SHORT_DESCRIPTOR_LENGTH]
     ensures { result ≡ block_descriptor false blocks }

@@ -21,12 +21,12 @@ const HEADER_LENGTH_6: usize = 4;
 
 const HEADER_LENGTH_10: usize = 8;
 
-/// Where BLOCK DESCRIPTOR LENGTH begins in it.
+/// The first byte of BLOCK DESCRIPTOR LENGTH in it.
 const LENGTH_OFFSET_6: usize = 3;
 
 const LENGTH_OFFSET_10: usize = 6;
 
-/// What is ignored before that.
+/// The bits that are ignored before BLOCK DESCRIPTOR LENGTH.
 const IGNORED_IN_HEADER_6: [u8; LENGTH_OFFSET_6] = [0xFF, 0x00, 0xFF];
 
 const IGNORED_IN_HEADER_10: [u8; LENGTH_OFFSET_10] = [0xFF, 0xFF, 0x00, 0xFF, 0x01, 0x00];
@@ -36,8 +36,8 @@ const LONGLBA_OFFSET: usize = 4;
 
 const LONGLBA: u8 = 0x01;
 
-/// The offset of the first byte that differs from the expected one in a bit that is not ignored. The
-/// first byte sent is at `offset`.
+/// The offset of the first byte that differs from the expected one in a bit that is not ignored.
+/// The first byte sent is at `offset`.
 fn first_difference(offset: usize, expected: &[u8], ignored: &[u8], sent: &[u8]) -> Option<usize>
     requires ignored { length ignored.now ≡ length expected.now }
     requires offset { offset + length sent.now < 2 ^ 64 }
@@ -52,8 +52,8 @@ fn first_difference(offset: usize, expected: &[u8], ignored: &[u8], sent: &[u8])
     None
 }
 
-/// Checks a part of the list, `size` bytes from an offset on: it has to have the expected bytes, but
-/// for the ignored bits, and has to be whole.
+/// Checks a part of the list, `size` bytes from an offset on. It has to have the expected bytes,
+/// except for the ignored bits, and has to be whole.
 pub(super) fn check(
     list: &[u8],
     offset: usize,
@@ -161,8 +161,8 @@ pub(super) fn check_descriptor(
     }
 }
 
-/// The number of blocks that is accepted in a descriptor whose number has `count` bytes: that of the
-/// disk, or zero where these bytes are zero as far as the list has them.
+/// The number of blocks that is accepted in a descriptor whose number has `count` bytes. It is the
+/// disk's number, or zero if these bytes are zero as far as the list has them.
 fn accepted_blocks(list: &[u8], offset: usize, count: usize, blocks: u64) -> u64
     requires { offset ≤ length list.now }
     ensures { result ≡ accepted_blocks blocks (take count (drop offset list.now)) }

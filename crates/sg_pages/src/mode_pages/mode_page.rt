@@ -25,7 +25,7 @@ impl ModePage {
         ModePage::InformationalExceptionsControl,
     ];
 
-    /// The page with a page code. None where the disk has no such page.
+    /// The page with a page code. None if the disk has no such page.
     pub fn with_code(code: u8) -> Option<ModePage>
         ensures { result ≡ page_with_code code }
     {

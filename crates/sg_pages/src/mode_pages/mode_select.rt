@@ -13,11 +13,11 @@ use super::mode_page::{CHANGEABLE, PS};
 use super::{ModePage, ModePages, PageValues};
 use thiserror::Error;
 
-/// Whether a MODE SELECT changed a current value.
+/// The effect of a MODE SELECT: whether it changed a current value.
 #[derive(Clone, Copy, Debug, PartialEq, Eq)]
 pub struct Changed(pub bool);
 
-/// Why a mode parameter list is refused. Of several faults the one that comes first in the list is
+/// The reason why a mode parameter list is refused. Of several faults the first one in the list is
 /// returned.
 #[derive(Clone, Copy, Debug, Error, PartialEq, Eq)]
 pub enum ModeSelectFault {
@@ -32,11 +32,11 @@ pub enum ModeSelectFault {
 const PAGE_CODE: u8 = 0x3F;
 
 impl ModePages {
-    /// Changes the current values to those of a mode parameter list: the data-out of a MODE
-    /// SELECT(10), or of a MODE SELECT(6) where `ten` is false, to a disk of `blocks` logical
-    /// blocks. A page may differ from its current values only in the bits that can be changed. Of a
-    /// page that is sent twice the last one counts. With `save`, the SP bit, all pages are saved.
-    /// On a fault nothing has changed.
+    /// Changes the current values to the values of a mode parameter list. The list is the data-out
+    /// of a MODE SELECT(10), or of a MODE SELECT(6) if `ten` is false. The disk has `blocks`
+    /// logical blocks. A page may differ from its current values only in the bits that can be
+    /// changed. If a page is sent twice, the last one counts. With `save`, the SP bit, all pages
+    /// are saved. On a fault nothing has changed.
     ///
     /// # Errors
     /// The first fault of the list.
@@ -103,7 +103,7 @@ fn take_pages(
     Ok(values)
 }
 
-/// Takes the page at an offset into the values, and returns where it ends.
+/// Takes the page at an offset into the values, and returns the page's end.
 fn take_page(
     current: &PageValues,
     list: &[u8],
@@ -129,8 +129,8 @@ fn take_page(
     }
 }
 
-/// Checks the page at an offset, which has to have this code and these values but for the changeable
-/// bits, and returns where it ends.
+/// Checks the page at an offset, and returns the page's end. The page has to have this code and
+/// these values, except for the changeable bits.
 fn check_page(
     list: &[u8],
     offset: usize,

@@ -26,7 +26,7 @@ const WP: u8 = 0x80;
 
 impl ModePages {
     /// Writes the mode parameter list that is requested: header, block descriptor and pages. Its
-    /// lengths are those of the whole list. On a fault nothing is written.
+    /// length fields count the whole list. On a fault nothing is written.
     ///
     /// # Errors
     /// The first fault of [`ModeSenseFault`], in the order given there.

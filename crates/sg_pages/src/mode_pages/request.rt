@@ -4,7 +4,7 @@ ghost use Rattle.std.specs.Prelude.{IsTrue};
 
 use thiserror::Error;
 
-/// Which values of the pages are requested: the PC field (SPC-4, 6.13).
+/// The values of the pages that are requested: the PC field (SPC-4, 6.13).
 #[derive(Clone, Copy)]
 pub enum PageControl {
     /// The current values.
@@ -17,7 +17,7 @@ pub enum PageControl {
     Saved,
 }
 
-/// What a MODE SENSE requests (SPC-4, 6.13 and 6.14).
+/// The request of a MODE SENSE (SPC-4, 6.13 and 6.14).
 #[derive(Clone, Copy)]
 pub struct ModeSenseRequest {
     /// MODE SENSE(10), and not MODE SENSE(6).
@@ -37,7 +37,7 @@ pub struct ModeSenseRequest {
     pub ghost llbaa_only_in_ten: { IsTrue llbaa → IsTrue ten },
 }
 
-/// Why a MODE SENSE is refused. The first that applies is returned.
+/// The reason why a MODE SENSE is refused. The first reason that applies is returned.
 #[derive(Clone, Copy, Debug, Error, PartialEq, Eq)]
 pub enum ModeSenseFault {
     /// The disk does not have the page of PAGE CODE.

@@ -6,7 +6,7 @@ use std::marker::Model;
 /// The most bytes that a line may have, without its LF.
 pub(crate) const LONGEST_LINE: usize = 4_096;
 
-/// The bytes of a line, at most 4,096, or that there were more.
+/// The bytes of a line, at most 4,096, or a mark that there were more.
 #[derive(Drop)]
 pub(crate) struct Line {
     bytes: Vec<u8>,
@@ -65,7 +65,7 @@ impl Line {
         self.len = end;
     }
 
-    /// The bytes, or `None` where the line is too long.
+    /// The bytes, or `None` if the line is too long.
     pub(crate) fn bytes(&self) -> Option<&[u8]>
         ensures bytes { option_map (λ b. b.now) result ≡ self.now }
         ensures bound { IfSome (option_map (λ b. b.now) result) (λ bytes.

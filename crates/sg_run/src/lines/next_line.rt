@@ -1,4 +1,4 @@
-// Finds the LF of a line among the bytes ahead, and reads on where there is none.
+// Finds the LF of a line among the bytes ahead, and reads on if there is none.
 ghost use Rattle.std.specs.Prelude.{◌≡◌, ◌<◌, ◌≤◌, length, false, option_map, IfSome};
 ghost use Rattle.sg_wire.specs.Watched.{has_failed};
 ghost use Rattle.sg_run.specs.Limits.{longest_line, longest_read_ahead};
@@ -11,10 +11,10 @@ use sg_wire::Watched;
 use std::io;
 use std::io::{Error, ErrorKind, Read};
 
-/// What ends the next line of a script.
+/// The end of the next line of a script.
 #[derive(Clone, Copy, PartialEq)]
 pub(crate) enum NextLine {
-    /// An LF ends it, and it is where it was read: `ReadAhead::line`.
+    /// An LF ends it, and it stays in the bytes that were read: `ReadAhead::line`.
     Ahead,
     /// An LF ends it, and its parts were copied to the `Line`.
     Whole,
@@ -24,8 +24,8 @@ pub(crate) enum NextLine {
     End,
 }
 
-/// Takes the bytes that are ahead, at most `left`, up to the LF that ends the line, and returns whether
-/// it is among them.
+/// Takes the bytes that are ahead, at most `left`, up to the LF that ends the line. Returns whether
+/// the LF is among them.
 fn take_part(read_ahead: &mut ReadAhead, line: &mut Line, left: &mut u32) -> bool
     requires ahead { 0 < length read_ahead.old.ahead }
     requires allowed { 0 < left.old }
@@ -52,8 +52,8 @@ fn take_part(read_ahead: &mut ReadAhead, line: &mut Line, left: &mut u32) -> boo
     }
 }
 
-/// Takes the next line where it is whole among the bytes that are ahead, at most `left`, and returns
-/// whether it is. It stays where it is: most lines are not copied.
+/// Takes the next line if it is whole among the bytes that are ahead, at most `left`, and returns
+/// whether it is. The line stays in its place: most lines are not copied.
 fn take_whole(read_ahead: &mut ReadAhead, left: &mut u32) -> bool
     ensures takes { TakesIfWhole read_ahead.old read_ahead.new left.old left.new result }
     ensures within { length read_ahead.new.ahead ≤ longest_read_ahead }
@@ -107,7 +107,7 @@ pub(crate) fn next_line<R: Read>(
     }
 }
 
-/// The bytes of the line that `next_line` took, or `None` where it is too long.
+/// The bytes of the line that `next_line` took, or `None` if it is too long.
 pub(crate) fn line_bytes<'a>(
     next: NextLine,
     read_ahead: &'a ReadAhead,

@@ -10,8 +10,8 @@ use std::marker::Model;
 /// The most bytes that one read takes.
 const LONGEST_READ_AHEAD: usize = 131_072;
 
-/// Bytes of a script that were read and are still to be taken, and the last line that was taken whole
-/// of them.
+/// Bytes of a script that were read and are still to be taken, and the last line that was taken
+/// whole from them.
 #[derive(Drop)]
 pub(crate) struct ReadAhead {
     bytes: Vec<u8>,
@@ -77,7 +77,7 @@ impl ReadAhead {
         &self.bytes[self.start..self.end]
     }
 
-    /// The line that `take_line` took last, or `None` where it is too long. A read overwrites it.
+    /// The line that `take_line` took last, or `None` if it is too long. A read overwrites it.
     pub(crate) fn line(&self) -> Option<&[u8]>
         ensures bytes { option_map (λ b. b.now) result ≡ kept self.now.line }
         ensures bound { IfSome (option_map (λ b. b.now) result) (λ bytes.
@@ -117,7 +117,7 @@ impl ReadAhead {
         self.bytes().is_empty()
     }
 
-    /// Reads once, over the bytes that are there.
+    /// Reads once, over the bytes that are present.
     fn read_more<R: Read>(&mut self, reader: &mut Watched<R>) -> io::Result<()>
         requires { has_failed reader.old ≡ false }
         ensures reads { ReadsMore
@@ -131,8 +131,8 @@ impl ReadAhead {
         Ok(())
     }
 
-    /// Reads once where no byte is there. Returns whether there is one now, which is so but at the end of
-    /// the script.
+    /// Reads once if no byte is ahead. Returns whether a byte is ahead now. At the end of the
+    /// script there is none.
     ///
     /// # Errors
     /// The reader failed.

@@ -5,8 +5,8 @@ ghost use Rattle.hex.specs.Hex.{decode_of};
 
 use sg_tools::digit_value;
 
-/// Reads pairs of digits into bytes, and returns whether they were digits. All are read in any
-/// case, since a test that can end the loop would take longer than the digits after it.
+/// Reads pairs of digits into bytes, and returns whether they were digits. It reads all of them in
+/// any case, because a test that can end the loop would take longer than the digits after it.
 pub(super) fn decode(digits: &[u8], bytes: &mut [u8]) -> bool
     requires { length digits.now ≡ 2 * length bytes.old }
     ensures { result_ok (decode_of digits.now) ≡ (if result then Some bytes.new else None) }

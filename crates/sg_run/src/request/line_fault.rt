@@ -23,11 +23,11 @@ pub(crate) enum LineFault {
     Initiator,
     /// A word names no kind of answer.
     Kind,
-    /// A word is not of hexadecimal digits, two a byte.
+    /// A word does not consist of hexadecimal digits, two a byte.
     Hex,
     /// Two options exclude one another.
     Exclusive,
-    /// A word or the text of an option has no value, or one that is too large.
+    /// A word or the text of an option has no value, or a value that is too large.
     Number,
     /// Memory was refused.
     OutOfMemory,
@@ -46,7 +46,7 @@ impl LineFault {
         }
     }
 
-    /// What is printed about it.
+    /// The message about it.
     pub(crate) fn message(self) -> &'static [u8]
         ensures { result.now ≡ fault_message self }
     {

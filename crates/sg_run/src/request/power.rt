@@ -5,7 +5,7 @@ ghost use Rattle.sg_run.specs.RequestLines.{line_request};
 
 use super::{LineFault, Request};
 
-/// A power cycle, by the words after the verb, of which there may be none.
+/// A power cycle. No word may come after the verb.
 pub(super) fn read_power<'a>(operands: &[&[u8]]) -> Request<'a>
     ensures { line_request result ≡ power_of (map (λ word. word.now) operands.now) }
 {

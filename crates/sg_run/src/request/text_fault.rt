@@ -1,4 +1,5 @@
-// The faults of a tool's text are its own: most faults of a line it can't have.
+// The faults of a tool's text. They have a type of their own, because a text can't have most faults
+// of a line.
 use sg_tools::ToolFault;
 use thiserror::Error;
 

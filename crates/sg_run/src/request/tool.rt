@@ -1,5 +1,5 @@
-// The line of a tool: its name is read with the line, and its options when it is executed, as that
-// takes memory.
+// The line of a tool. Its name is read with the line. Its options are read when it is executed,
+// because that takes memory.
 ghost use Rattle.std.specs.Prelude.{◌≡◌, ◌≤◌, ◌<◌, All, true, length, map, take};
 ghost use Rattle.std.specs.List.{list_all};
 ghost use Rattle.std.specs.Str.{IsAscii};
@@ -17,7 +17,7 @@ use sg_tools::{Tool, ToolFault};
 use sg_wire::Initiator;
 use std::alloc::Global;
 
-/// The line of a tool, by the words after the initiator, of which the first are kept.
+/// The line of a tool, by the first words after the initiator, which are kept.
 pub(super) fn read_tool_line<'a>(
     initiator: Initiator,
     operands: &[&[u8]],
@@ -41,7 +41,7 @@ pub(super) fn read_tool_line<'a>(
 }
 
 impl ToolLine<'_> {
-    /// What the tool is asked for.
+    /// Reads the request that the words make to the tool.
     ///
     /// # Errors
     /// The words ask for nothing, or memory was refused.

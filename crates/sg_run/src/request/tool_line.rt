@@ -1,4 +1,4 @@
-// The line of a tool between being read and being executed. It is kept whole.
+// The line of a tool, after it is read and before it is executed. It is kept whole.
 ghost use Rattle.std.specs.Prelude.{◌≡◌, ◌≤◌, ◌<◌, true, length};
 ghost use Rattle.std.specs.List.{list_all};
 ghost use Rattle.sg_run.specs.Limits.{word_limit};

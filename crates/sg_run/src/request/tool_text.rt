@@ -8,17 +8,17 @@ use super::{TextFault, WORD_LIMIT};
 use sg_tools::{Tool, ToolFault};
 use std::alloc::Global;
 
-/// What the words of a text ask a tool for: those of a script's line without its initiator. The first
-/// word is the tool's name. A text may have any length.
+/// Reads the request that a text's words make to a tool: the words of a script's line without its
+/// initiator. The first word is the tool's name. A text may have any length.
 ///
 /// # Errors
 /// The first of these that applies:
-/// - `BadByte` where a byte is neither printable ASCII nor a tab,
-/// - `TooManyWords` where there are more than 64 words,
-/// - `UnknownTool` where there is no word, or the first is not the name of a tool,
-/// - the fault of [`Tool::parse`].
+/// - `BadByte` if a byte is neither printable ASCII nor a tab.
+/// - `TooManyWords` if there are more than 64 words.
+/// - `UnknownTool` if there is no word, or the first is not the name of a tool.
+/// - The fault of [`Tool::parse`].
 ///
-/// `OutOfMemory` comes in place of what [`Tool::parse`] returns, where memory is refused.
+/// If memory is refused, `OutOfMemory` comes in place of the result of [`Tool::parse`].
 #[tactic(auto, unfolding(crate::specs::ToolText::tool_of_text))]
 pub fn read_tool(alloc: Global, text: &[u8]) -> Result<Tool, TextFault>
     ensures { IsReadUnlessOutOfMemory text.now result }
@@ -38,7 +38,7 @@ pub fn read_tool(alloc: Global, text: &[u8]) -> Result<Tool, TextFault>
     }
 }
 
-/// With a tool's fault as one of its text.
+/// Makes a tool's fault one of its text.
 fn in_text(request: Result<Tool, ToolFault>) -> Result<Tool, TextFault>
     ensures { result ≡ in_text request }
 {

@@ -1,4 +1,4 @@
-// What a tool's line and a tool's text have in common: words, of which the first is the name.
+// The words that a tool's line and a tool's text have in common. The first is the tool's name.
 ghost use Rattle.std.specs.Prelude.{◌≡◌, ◌≤◌, All, length, map};
 ghost use Rattle.std.specs.Str.{IsAscii};
 ghost use Rattle.sg_tools.specs.GivenOptions.{IsUnlessOutOfMemory};
@@ -23,7 +23,7 @@ pub(super) fn first_tool(words: &[&[u8]]) -> Option<ToolName>
     }
 }
 
-/// What words ask a tool for, the first of them being its name.
+/// Reads the request that words make to a tool. The first word is the tool's name.
 ///
 /// # Errors
 /// The words ask for nothing, or memory was refused.

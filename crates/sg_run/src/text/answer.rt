@@ -1,4 +1,4 @@
-// What is printed of the bytes of an answer.
+// The text that is printed for the bytes of an answer.
 ghost use Rattle.std.specs.Prelude.{◌≡◌, ◌≤◌, false, length};
 ghost use Rattle.sg_wire.specs.Printer.{PrintsText};
 ghost use Rattle.sg_wire.specs.Watched.{SendsText, has_failed};

@@ -1,4 +1,4 @@
-// The first line of what a line of a script prints.
+// The first line that a line of a script prints.
 ghost use Rattle.sg_run.specs.LineText.{line_header};
 ghost use Rattle.sg_wire.specs.Printer.{PrintsText};
 

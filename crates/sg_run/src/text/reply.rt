@@ -14,8 +14,8 @@ use sg_tools::Show;
 use sg_wire::{Printer, Sense};
 use std::io::Write;
 
-/// Prints a reply: its status, its sense data, of which `sense` was read, and under GOOD its data-in,
-/// by lines that are gathered in `lines`.
+/// Prints a reply: its status, its sense data and, under GOOD, its data-in. `sense` was read from
+/// the sense data. The lines of data-in are gathered in `lines`.
 #[tactic(auto, using(crate::proofs::TextLemmas::prints))]
 pub(crate) fn put_reply<W: Write>(
     number: u64,

@@ -1,4 +1,4 @@
-// The line of sense data, which was read before, as the exit status needs it too.
+// The line of sense data. It was read before, because the exit status needs it too.
 ghost use Rattle.std.specs.Prelude.{◌≡◌, option_map};
 ghost use Rattle.sg_wire.specs.Sense.{fields_of};
 ghost use Rattle.sg_wire.specs.SenseData.{read_sense};
@@ -9,8 +9,8 @@ use sg_decode::put_read_sense;
 use sg_wire::{Printer, Sense};
 use std::io::Write;
 
-/// Prints the line of sense data, if there is some. `sense` is what was read of it, `None` where it could
-/// not be read.
+/// Prints the line of sense data, if there is some. `sense` was read from it, and is `None` if it
+/// could not be read.
 #[tactic(auto, using(crate::proofs::TextLemmas::prints), unfolding(sg_decode::specs::SenseText::sense_line))]
 pub(crate) fn put_reply_sense<W: Write>(
     bytes: &[u8],

@@ -54,7 +54,7 @@ impl ReservationState {
         cut.put(&[0, 0, 0, 0, 0, reservation.kind.code(), 0, 0]);
     }
 
-    /// The key of the one holder, or 0 where each registrant is a holder.
+    /// The key of the one holder, or 0 if each registrant is a holder.
     fn holder_key(&self, holder: Option<Initiator>) -> u64
         ensures { result ≡ holder_key self.now.registrations holder }
     {
@@ -74,7 +74,7 @@ fn put_keys(registrations: &[Registration], cut: &mut Cut)
     }
 }
 
-/// PRGENERATION, and how many bytes follow.
+/// PRGENERATION, and the number of bytes that follow.
 pub(super) fn header(generation: u32, additional_length: u32) -> [u8; 8]
     ensures { result ≡ header generation additional_length }
 {

@@ -1,4 +1,4 @@
-// What is checked of each service action: flags, then the key. Then its own cases decide.
+// The checks of each service action: the flags, then the key. After them its own cases decide.
 ghost use Rattle.std.specs.Prelude.{◌≡◌};
 ghost use Rattle.sg_units.specs.ReserveOut.{accepts_key, action_outcome, outcome};
 ghost use Rattle.sg_units.specs.UnsupportedFlags.{has_unsupported_flag};
@@ -9,7 +9,7 @@ use crate::{OutFault, OutList, ReservationType};
 use sg_wire::{Initiator, OutAction};
 
 impl ReservationState {
-    /// The change of a command, which changes nothing yet.
+    /// The change of a command. Nothing has changed yet.
     #[tactic(auto, unfolding(crate::specs::ReserveOut::outcome))]
     pub(crate) fn outcome(
         &self,
@@ -30,7 +30,7 @@ impl ReservationState {
         self.action_outcome(caller, action, kind, list)
     }
 
-    /// Whether a key is the caller's, or it needs none.
+    /// Returns `true` if a key is the caller's, or the action needs no key.
     fn accepts_key(&self, caller: Initiator, action: OutAction, key: u64) -> bool
         ensures { result ≡ accepts_key self.now.registrations caller action key }
     {
@@ -73,7 +73,7 @@ impl ReservationState {
     }
 }
 
-/// Whether a flag is set that is not supported with a service action.
+/// Returns `true` if a flag is set that is not supported with a service action.
 fn has_unsupported_flag(list: &OutList, action: OutAction) -> bool
     ensures { result ≡ has_unsupported_flag action list.now }
 {

@@ -13,8 +13,8 @@ use crate::{OutFault, OutList, Reservation, ReservationType, UnitAttention};
 use sg_wire::Initiator;
 
 impl ReservationState {
-    /// Removes the registrations under a key. Where it is the holder's, or is 0 and each registrant
-    /// is a holder, the caller takes the reservation.
+    /// Removes the registrations under a key. The caller takes the reservation if the key is the
+    /// holder's, or if the key is 0 and each registrant is a holder.
     #[tactic(auto, unfolding(crate::specs::ReserveOut::preempt_cases))]
     pub(super) fn preempt(
         &self,
@@ -63,7 +63,7 @@ impl ReservationState {
         Ok(ReservationChange::next_generation(registrations, reservation, preempted, for_remaining))
     }
 
-    /// These registrations remain, and the reservation, where one of them holds it.
+    /// These registrations remain, and the reservation, if one of them holds it.
     fn with_registrations_preempted(&self, registrations: Registrations) -> ReservationChange
         ensures { Ok result ≡
             next_generation registrations (while_held self.now.reservation registrations)
@@ -92,7 +92,7 @@ impl ReservationState {
         }
     }
 
-    /// Whether a key is that of the one holder.
+    /// Returns `true` if a key is the key of the one holder.
     fn is_key_of_holder(&self, key: u64) -> bool
         ensures { result ≡ is_key_of_holder self.now key }
     {

@@ -84,7 +84,7 @@ fn holder_flag(reservation: &Option<Reservation>, registrant: Initiator) -> u8
     }
 }
 
-/// SCOPE and TYPE of the reservation that a registrant holds, and zeros where it holds none.
+/// SCOPE and TYPE of the reservation that a registrant holds, and zeros if it holds none.
 fn held_type(reservation: &Option<Reservation>, registrant: Initiator) -> u8
     ensures { result ≡ held_type reservation.now registrant }
 {

@@ -1,5 +1,5 @@
-// REGISTER and REGISTER AND IGNORE EXISTING KEY (SPC-4, 5.13) differ in the check of the key alone,
-// which comes before.
+// REGISTER and REGISTER AND IGNORE EXISTING KEY (SPC-4, 5.13) differ only in the check of the key.
+// The check comes before.
 ghost use Rattle.std.specs.Prelude.{◌≡◌, Ok};
 ghost use Rattle.sg_units.specs.ReserveOut.{first_case, register_cases, registered};
 ghost use Rattle.sg_units.specs.ReserveOut.{released_unless_held};
@@ -44,7 +44,7 @@ impl ReservationState {
         Ok(self.with_registrations(registrations, aptpl))
     }
 
-    /// An initiator is unregistered. The reservation ends where no registrant holds it any more.
+    /// An initiator is unregistered. The reservation ends if no registrant holds it any more.
     fn unregistered(&self, caller: Initiator, aptpl: bool) -> ReservationChange
         ensures { let rest = without_initiator self.now.registrations caller in
             Ok result ≡ registered rest (while_held self.now.reservation rest)
@@ -57,7 +57,7 @@ impl ReservationState {
         ReservationChange::registered(registrations, reservation, for_remaining, aptpl)
     }
 
-    /// What is raised for the registrants that remain, where none of them holds the reservation.
+    /// The condition for the registrants that remain, if none of them holds the reservation.
     fn released_unless_held(&self, registrations: &Registrations) -> Option<UnitAttention>
         ensures { result ≡ released_unless_held self.now.reservation registrations.now }
     {

@@ -1,4 +1,4 @@
-// RESERVE, RELEASE and CLEAR (SPC-4, 5.13). Of these CLEAR alone changes registrations.
+// RESERVE, RELEASE and CLEAR (SPC-4, 5.13). Only CLEAR changes registrations.
 ghost use Rattle.std.specs.Prelude.{◌≡◌, Ok};
 ghost use Rattle.sg_units.specs.ReserveOut.{cleared, first_case, release_cases};
 ghost use Rattle.sg_units.specs.ReserveOut.{reserve_cases};
@@ -10,7 +10,7 @@ use crate::{OutFault, Reservation, ReservationType, UnitAttention};
 use sg_wire::Initiator;
 
 impl ReservationState {
-    /// A registrant takes a reservation, where none is held.
+    /// A registrant takes a reservation, if none is held.
     #[tactic(auto, unfolding(crate::specs::ReserveOut::reserve_cases))]
     pub(super) fn reserve(
         &self,

@@ -16,8 +16,8 @@ use super::{CdbFault, Command, ShortExtent};
 use crate::bytes::{CdbBytes, MAX_CDB_LENGTH};
 use byteorder::{BigEndian, ByteOrder};
 
-/// An extent of logical blocks as the CDBs of ten bytes name it: those of READ(10), WRITE(10) and
-/// SYNCHRONIZE CACHE(10) (SBC-3, 5.11, 5.33 and 5.26).
+/// An extent of logical blocks in the CDBs of READ(10), WRITE(10) and SYNCHRONIZE CACHE(10) (SBC-3,
+/// 5.11, 5.33 and 5.26).
 #[derive(Clone, Copy, Debug, PartialEq, Eq)]
 pub struct Extent10 {
     /// The first block's address.
@@ -26,8 +26,7 @@ pub struct Extent10 {
     pub count: u16,
 }
 
-/// An extent of logical blocks as the CDBs of sixteen bytes name it: those of READ(16) and
-/// WRITE(16) (SBC-3, 5.13 and 5.35).
+/// An extent of logical blocks in the CDBs of READ(16) and WRITE(16) (SBC-3, 5.13 and 5.35).
 #[derive(Clone, Copy, Debug, PartialEq, Eq)]
 pub struct Extent16 {
     /// The first block's address.
@@ -39,7 +38,7 @@ pub struct Extent16 {
 /// The field of READ CAPACITY(16) (SBC-3, 5.16).
 #[derive(Clone, Copy, Debug, PartialEq, Eq)]
 pub struct ReadCapacity16 {
-    /// In bytes.
+    /// The allocation length, in bytes.
     pub allocation_length: u32,
 }
 
@@ -136,8 +135,9 @@ pub(super) fn decode_extent_10(row: &Row, cdb: &[u8]) -> Result<Extent10, CdbFau
     })
 }
 
-/// An address, and the number behind it, of commands of 16 bytes.
-/// Inlined, since the masks of each caller are constant: a byte that may have any bit takes no test.
+/// An address, and the number after it, of commands of 16 bytes.
+/// Inlined, because the masks of each caller are constant: a byte that may have any bit takes no
+/// test.
 #[inline(always)]
 pub(super) fn decode_extent_16(row: &Row, cdb: &[u8]) -> Result<Extent16, CdbFault>
     requires row { IsRow row.now × (length row.now.masks.now ≡ 16) }

@@ -24,7 +24,7 @@ ghost use Rattle.std.specs.Option.{SomeIff};
 ghost use Rattle.sg_wire.specs.Layout.{bits_of};
 
 impl GroupNumber {
-    /// The group with a number. None where the number is not 0 to 31.
+    /// The group with a number. None if the number is not 0 to 31.
     pub fn new(number: u8) -> Option<GroupNumber>
         ensures { SomeIff result (number < 32) number }
     {

@@ -15,7 +15,7 @@ pub enum InAction {
 }
 
 impl InAction {
-    /// The service action with a code. None where no service action has it.
+    /// The service action with a code. None if no service action has the code.
     pub fn with_code(code: u8) -> Option<InAction>
         ensures { result ≡ in_action_with code }
     {

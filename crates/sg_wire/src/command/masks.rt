@@ -1,4 +1,4 @@
-// The bits that a CDB may have set, and those that are set in it.
+// The bits that a CDB may have set, and the bits that are set in it.
 ghost use Rattle.std.specs.Prelude.{◌≡◌, ◌≤◌, ◌<◌, ◌+◌, if◌then◌else◌};
 ghost use Rattle.std.specs.Prelude.{length, IfErr, OnOk, IfSome};
 ghost use Rattle.sg_wire.specs.Layout.{first_bad, fits_masks};

@@ -25,7 +25,7 @@ pub struct ModeSelect6 {
     pub pf: bool,
     /// All mode pages are to be saved.
     pub sp: bool,
-    /// Of the parameter list, in bytes.
+    /// The length of the parameter list, in bytes.
     pub list_length: u8,
 }
 
@@ -36,7 +36,7 @@ pub struct ModeSelect10 {
     pub pf: bool,
     /// All mode pages are to be saved.
     pub sp: bool,
-    /// Of the parameter list, in bytes.
+    /// The length of the parameter list, in bytes.
     pub list_length: u16,
 }
 
@@ -45,13 +45,13 @@ pub struct ModeSelect10 {
 pub struct ModeSense6 {
     /// No block descriptor is to be returned.
     pub dbd: bool,
-    /// Which values of the pages are asked for.
+    /// The values of the pages that the initiator asks for.
     pub page_control: PageControlField,
     /// The page, 3Fh for all pages.
     pub page_code: PageCode,
     /// The subpage.
     pub subpage_code: u8,
-    /// In bytes.
+    /// The allocation length, in bytes.
     pub allocation_length: u8,
 }
 
@@ -62,13 +62,13 @@ pub struct ModeSense10 {
     pub llbaa: bool,
     /// No block descriptor is to be returned.
     pub dbd: bool,
-    /// Which values of the pages are asked for.
+    /// The values of the pages that the initiator asks for.
     pub page_control: PageControlField,
     /// The page, 3Fh for all pages.
     pub page_code: PageCode,
     /// The subpage.
     pub subpage_code: u8,
-    /// In bytes.
+    /// The allocation length, in bytes.
     pub allocation_length: u16,
 }
 

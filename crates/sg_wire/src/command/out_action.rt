@@ -1,4 +1,4 @@
-// The service actions but REGISTER AND MOVE and REPLACE LOST RESERVATION: the disk has neither.
+// All service actions except REGISTER AND MOVE and REPLACE LOST RESERVATION: the disk has neither.
 ghost use Rattle.std.specs.Prelude.{◌≡◌};
 ghost use Rattle.sg_wire.specs.ReservationAction.{out_action_with, out_code};
 
@@ -22,7 +22,7 @@ pub enum OutAction {
 }
 
 impl OutAction {
-    /// The service action with a code. None where no service action has it.
+    /// The service action with a code. None if no service action has the code.
     pub fn with_code(code: u8) -> Option<OutAction>
         ensures { result ≡ out_action_with code }
     {

@@ -1,4 +1,4 @@
-// A PAGE CODE has six bits, since PC is above it in the same byte.
+// A PAGE CODE has six bits, because PC is above it in the same byte.
 use std::marker::Model;
 
 /// A PAGE CODE of mode pages, 0 to 3Fh (SPC-4, 6.13).
@@ -24,7 +24,7 @@ ghost use Rattle.std.specs.Option.{SomeIff};
 ghost use Rattle.sg_wire.specs.Layout.{bits_of};
 
 impl PageCode {
-    /// The code with a number. None where the number is not 0 to 3Fh.
+    /// The code with a number. None if the number is not 0 to 3Fh.
     pub fn new(number: u8) -> Option<PageCode>
         ensures { SomeIff result (number < 64) number }
     {

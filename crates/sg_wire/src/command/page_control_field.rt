@@ -24,7 +24,7 @@ ghost use Rattle.std.specs.Option.{SomeIff};
 ghost use Rattle.sg_wire.specs.Layout.{bits_of};
 
 impl PageControlField {
-    /// The field with a number. None where the number is not 0 to 3.
+    /// The field with a number. None if the number is not 0 to 3.
     pub fn new(number: u8) -> Option<PageControlField>
         ensures { SomeIff result (number < 4) number }
     {

@@ -12,7 +12,7 @@ use byteorder::{BigEndian, ByteOrder};
 pub struct RequestSense {
     /// Descriptor format is asked for, not fixed format.
     pub desc: bool,
-    /// In bytes.
+    /// The allocation length, in bytes.
     pub allocation_length: u8,
 }
 
@@ -23,7 +23,7 @@ pub struct Inquiry {
     pub evpd: bool,
     /// The page of vital product data.
     pub page_code: u8,
-    /// In bytes.
+    /// The allocation length, in bytes.
     pub allocation_length: u16,
 }
 

@@ -49,16 +49,16 @@ pub struct Unmap {
     pub anchor: bool,
     /// GROUP NUMBER, which the disk does not use.
     pub group: GroupNumber,
-    /// Of the parameter list, in bytes.
+    /// The length of the parameter list, in bytes.
     pub list_length: u16,
 }
 
 /// The fields of GET LBA STATUS (SBC-3, 5.4).
 #[derive(Clone, Copy, Debug, PartialEq, Eq)]
 pub struct GetLbaStatus {
-    /// The first address whose status is asked for.
+    /// The first address whose status the initiator asks for.
     pub start: u64,
-    /// In bytes.
+    /// The allocation length, in bytes.
     pub allocation_length: u32,
 }
 
@@ -103,7 +103,7 @@ pub(super) fn decode_get_lba_status(cdb: &[u8]) -> Result<Command, CdbFault>
     requires { service_action cdb.now ≡ 0x12 }
     ensures { result ≡ command_with 0x9E cdb.now }
 {
-    // The numbers lie where those of an extent do.
+    // The numbers lie in the places of an extent's numbers.
     let numbers = decode_extent_16(&table::GET_LBA_STATUS, cdb)?;
     Ok(Command::GetLbaStatus(GetLbaStatus {
         start: numbers.lba,

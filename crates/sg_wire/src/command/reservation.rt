@@ -12,20 +12,20 @@ use byteorder::{BigEndian, ByteOrder};
 /// The fields of PERSISTENT RESERVE IN (SPC-4, 6.15).
 #[derive(Clone, Copy, Debug, PartialEq, Eq)]
 pub struct PersistentReserveIn {
-    /// What is to be read.
+    /// The service action, which names what to read.
     pub action: InAction,
-    /// In bytes.
+    /// The allocation length, in bytes.
     pub allocation_length: u16,
 }
 
 /// The fields of PERSISTENT RESERVE OUT (SPC-4, 6.16).
 #[derive(Clone, Copy, Debug, PartialEq, Eq)]
 pub struct PersistentReserveOut {
-    /// What is to be done.
+    /// The service action, which names what to do.
     pub action: OutAction,
     /// SCOPE in the high four bits, and TYPE in the low four.
     pub scope_type: u8,
-    /// Of the parameter list, in bytes.
+    /// The length of the parameter list, in bytes.
     pub list_length: u32,
 }
 

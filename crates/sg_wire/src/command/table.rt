@@ -1,5 +1,5 @@
 // One row a command: operation code, service action, class, unit attention and masks are here and
-// nowhere else in code. What the fields mean is in the families. `specs/Layout.antt` has the
+// at no other place in code. The families say what the fields mean. `specs/Layout.antt` has the
 // definition's rows, and contracts name the codes again.
 ghost use Rattle.std.specs.Prelude.{◌≡◌, ◌≤◌, length, slice_index, IfErr, OnOk};
 ghost use Rattle.sg_wire.specs.Layout.{service_action};
@@ -35,13 +35,13 @@ pub(super) enum Name {
     GetLbaStatus,
 }
 
-/// What is known of a command.
+/// The table's facts about a command.
 pub(super) struct Row {
     pub(super) name: Name,
     pub(super) opcode: u8,
-    // Where several commands share the operation code.
+    // Present if several commands share the operation code.
     pub(super) service_action: Option<u8>,
-    // How it meets a reservation of another initiator.
+    // How the command meets a reservation of another initiator.
     pub(super) class: Class,
     // A pending unit attention is reported in place of the command.
     pub(super) is_blocked: bool,
@@ -55,7 +55,7 @@ const BLOCKED: bool = true;
 
 const UNBLOCKED: bool = false;
 
-// A row as the table has it: name, operation code, service action, class, unit attention, masks.
+// A row in the table's order: name, operation code, service action, class, unit attention, masks.
 macro_rules! row {
     ($name:ident, $opcode:literal, $action:expr, $class:ident, $is_blocked:ident, $masks:expr) => {
         Row {
@@ -79,7 +79,7 @@ const READ_WRITE_16: [u8; 16] = [
     0xFF, 0x1A, 0xFF, 0xFF, 0xFF, 0xFF, 0xFF, 0xFF, 0xFF, 0xFF, 0xFF, 0xFF, 0xFF, 0xFF, 0x1F, 0x00,
 ];
 
-// The commands of SPC-4, 6, and then those of SBC-3, 5 (READ(6) and WRITE(6) of SBC-2).
+// The commands of SPC-4, 6, and then the commands of SBC-3, 5 (READ(6) and WRITE(6) of SBC-2).
 pub(super) static TEST_UNIT_READY: Row = row! {
     TestUnitReady, 0x00, None, Always, BLOCKED,
     [0xFF, 0x00, 0x00, 0x00, 0x00, 0x00]
@@ -172,7 +172,7 @@ pub(super) static GET_LBA_STATUS: Row = row! {
     [0xFF, 0x1F, 0xFF, 0xFF, 0xFF, 0xFF, 0xFF, 0xFF, 0xFF, 0xFF, 0xFF, 0xFF, 0xFF, 0xFF, 0x00, 0x00]
 };
 
-/// What the table has for a CDB.
+/// The table's result for a CDB.
 pub(super) enum Found {
     Row(&'static Row),
     // The operation code is known, and its service action is not.
@@ -180,8 +180,8 @@ pub(super) enum Found {
     NoOpcode,
 }
 
-/// The row of a CDB: by its operation code, and by its service action where several commands share
-/// the code. A CDB that ends before its service action counts as one of service action 00h.
+/// The row of a CDB: by its operation code, and by its service action if several commands share the
+/// code. A CDB that ends before its service action counts as one of service action 00h.
 /// Inlined, so that each caller's match is one over the operation code.
 #[inline(always)]
 pub(super) fn row_of(cdb: &[u8]) -> Found
@@ -228,7 +228,7 @@ fn with_service_action(cdb: &[u8]) -> Found
     }
 }
 
-/// The SERVICE ACTION field (SPC-4, 4.2.5.2), zero where the CDB ends before it.
+/// The SERVICE ACTION field (SPC-4, 4.2.5.2), or zero if the CDB ends before it.
 pub(super) fn service_action(cdb: &[u8]) -> u8
     ensures { result ≡ service_action cdb.now }
 {

@@ -1,4 +1,4 @@
-// What the calls of both stores return, leave and count.
+// The results of the calls of both stores, the records that they leave, and their counts.
 use super::disk::Call::{Anchor, Fill, Need, Read, Status, Unmap, Write};
 use super::disk::{DONE, NOT_DONE, Step, first_wrong};
 use sg_block_map::BlockMap;
@@ -12,24 +12,24 @@ const ANY: [u64; 3] = [u64::MAX, u64::MAX, u64::MAX];
 /// A read of an empty disk counts nothing.
 const EMPTY: [Step; 1] = [(Read(0), 0, 256, DONE, NONE, NONE, NONE)];
 
-/// Of three records two are in the range, and the third shows its end. A search among three takes two
-/// probes, and a write searches for the end of its range as well.
+/// Two of three records are in the range, and the third shows its end. A search among three takes
+/// two probes, and a write searches for the end of its range as well.
 const THREE: [Step; 3] = [
     (Write(0xA1), 0, 3, DONE, [3, 3, 3], NONE, ANY),
     (Read(0xA1), 0, 2, DONE, [3, 3, 3], [3, 2, 0], [3, 2, 0]),
     (Write(0xA1), 0, 2, DONE, [3, 3, 3], [3, 4, 0], [3, 4, 0]),
 ];
 
-/// Among four records, the searches for both ends of the range that is unmapped take five probes, and its
-/// two records are visited. The status of all addresses visits the two that are left.
+/// Among four records, the searches for both ends of the range that is unmapped take five probes,
+/// and its two records are visited. The status of all addresses visits the two that are left.
 const FOUR: [Step; 3] = [
     (Write(0xA1), 10, 4, DONE, [4, 4, 4], NONE, ANY),
     (Unmap, 11, 2, DONE, [2, 2, 2], [2, 5, 0], [2, 5, 0]),
     (Status, 0, 0, DONE, [2, 2, 2], [2, 2, 0], [2, 2, 0]),
 ];
 
-/// Of the four blocks three are anchored. They read as zeros, and one of them is written: its record is
-/// there, and no block is taken. An anchoring that needs two more finds one.
+/// Three of the four blocks are anchored. They read as zeros. One of them is written: its record
+/// already exists, and no block is taken. An anchoring that needs two more finds one.
 const ANCHORED: [Step; 7] = [
     (Anchor, 0, 3, DONE, [3, 0, 3], NONE, ANY),
     (Read(0), 0, 3, DONE, [3, 0, 3], NONE, ANY),
@@ -106,7 +106,7 @@ const ANCHORED_RUN: [Step; 7] = [
     (Read(0xB2), 2, 1, DONE, [4, 1, 3], NONE, ANY),
 ];
 
-/// The status of a disk with one run visits that.
+/// The status of a disk with one run visits this run.
 const ONE_RUN: [Step; 2] = [
     (Write(0xA1), 2, 3, DONE, [3, 3, 1], NONE, ANY),
     (

@@ -17,25 +17,25 @@ pub(super) enum Call {
     Write(u8),
     /// Fills with blocks of one byte.
     Fill(u8),
-    /// Reads blocks, each byte of which has to be this one.
+    /// Reads blocks. Each byte of them has to be this one.
     Read(u8),
     Unmap,
     Anchor,
-    /// How many addresses have no block.
+    /// The number of addresses that have no block.
     Need,
     /// The provisioning status from the first address on, without room for data-in.
     Status,
 }
 
-/// What a call returns that has no number: that it was done, or not, as there was too little space or
-/// another byte was read.
+/// The result of a call that returns no number. It was done; or it was not, because there was too
+/// little space or another byte was read.
 pub(super) const DONE: u64 = 1;
 
 pub(super) const NOT_DONE: u64 = 0;
 
-/// A call over addresses from a first one on, and their count; what it returns; how many addresses
-/// have a block then, how many are mapped and how many records there are; and what it counts at
-/// least and at most: visits, probes and links.
+/// A call over addresses: the call, the first address and the number of addresses, and the call's
+/// result. Then come the numbers of addresses that have a block, of mapped addresses and of
+/// records. The last two are the least and the greatest counts of visits, probes and links.
 pub(super) type Step = (Call, u32, u32, u64, [u64; 3], [u64; 3], [u64; 3]);
 
 /// A store whose records are counted.
@@ -68,7 +68,7 @@ impl<S: Store> Disk<S> {
         Ok(Disk { alloc, store })
     }
 
-    /// Makes a call, which alone is counted.
+    /// Makes a call. Only this call is counted.
     fn call(&mut self, call: &Call, first: u32, count: u32) -> Result<u64, AllocError> {
         let lba = u64::from(first);
         match call {
@@ -142,7 +142,8 @@ impl<S: Store> Disk<S> {
 }
 
 impl<S: Records> Disk<S> {
-    /// Makes the call of a step. Whether it returns and leaves what it has to.
+    /// Makes the call of a step. Returns whether the call has the right result and leaves the right
+    /// records.
     fn takes(&mut self, step: &Step) -> Result<bool, AllocError> {
         let (call, lba, count, value, held, least, most) = step;
         let returned = self.call(call, *lba, *count)?;
@@ -165,8 +166,8 @@ fn is_within(counts: Counts, least: &[u64; 3], most: &[u64; 3]) -> bool {
     is_within
 }
 
-/// Makes the calls of steps in turn, on a new disk with a pool of `pool` blocks. The index of the
-/// first that returns or leaves something else, if there is one.
+/// Makes the calls of steps in turn, on a new disk with a pool of `pool` blocks. Returns the index
+/// of the first step with another result or other records, if there is one.
 pub(super) fn first_wrong<S: Records>(
     alloc: Global,
     pool: u32,

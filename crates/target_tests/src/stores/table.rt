@@ -1,4 +1,4 @@
-// What a table of records finds, and what it counts as read.
+// The records that a table finds, and the reads that it counts.
 use sg_table::{Kind, Run, RunTable};
 use std::test::Fail;
 

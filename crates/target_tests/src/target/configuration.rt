@@ -1,4 +1,4 @@
-// The smallest and the largest disk and pool, and those just past them.
+// The smallest and the largest disk and pool, and the sizes just past them.
 use sg_pages::Identity;
 use sg_target::{Config, ConfigFault};
 

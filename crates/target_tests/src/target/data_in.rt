@@ -1,10 +1,10 @@
-// The buffer of data-in, whose bytes behind it stay as they were.
+// The buffer of data-in. The bytes after data-in stay as they were.
 use super::*;
 
-/// CDBs, and the data-in that they return: of INQUIRY the first bytes of the standard data, in which
-/// VERSION is that of SPC-4 and RESPONSE DATA FORMAT is 2 (SPC-4, 6.6.2); the pages 00h and 80h of vital
-/// product data (SPC-4, 7.8), and 81h, which the disk does not have; and of PERSISTENT RESERVE IN READ
-/// KEYS without a registration (SPC-4, 5.13).
+/// CDBs, and the data-in that they return. INQUIRY returns the first bytes of the standard data:
+/// VERSION says SPC-4, and RESPONSE DATA FORMAT is 2 (SPC-4, 6.6.2). It returns the pages 00h and
+/// 80h of vital product data (SPC-4, 7.8), and no data-in for page 81h, which the disk does not
+/// have. PERSISTENT RESERVE IN, READ KEYS, lists no key without a registration (SPC-4, 5.13).
 const ANSWERS: [(&str, &[u8], &[u8]); 5] = [
     (
         "standard data",
@@ -30,7 +30,7 @@ const ANSWERS: [(&str, &[u8], &[u8]); 5] = [
 ];
 
 impl Disk {
-    /// Whether a command returns this data-in, and leaves the bytes behind it.
+    /// Whether a command returns this data-in, and leaves the bytes after it.
     fn returns(&mut self, cdb: &[u8], data_in: &[u8]) -> Result<bool, Fail> {
         let reply = self.execute(0, cdb, &[])?;
         let mut behind = self.buf.iter().skip(data_in.len());

@@ -1,4 +1,4 @@
-// A sink that keeps what it takes, up to a number of replies.
+// A sink that keeps the replies that it takes, up to a number of them.
 use sg_store::Counts;
 use sg_target::{Reply, Sink, Status};
 use std::alloc::{AllocError, Global};

@@ -12,10 +12,10 @@ const POWER: u8 = 0xFF;
 
 const POWER_CYCLE: Step = (POWER, &[], &[], Good, &[]);
 
-/// How a run ends, and what its sink has taken.
+/// The end of a run, and the entries that its sink has taken.
 type Ran = (Result<(), Refused>, Vec<Entry>);
 
-// Both calls by themselves, so that what they ensure has to be carried no further.
+// Each call is a function of its own, so that the prover carries its contract no further.
 impl Disk {
     fn run<A: Abort>(&mut self, calls: &[Call<'_>], log: &mut Log<'_, A>) -> Result<(), Refused> {
         self.target.run(calls, &mut self.buf, log)
@@ -82,7 +82,7 @@ fn run_events(
     Ok((ended, log.entries))
 }
 
-/// How many of the first commands of steps have their answers, one entry after another.
+/// The number of the first commands of steps that have their answers, one entry after another.
 fn count_answered(entries: &[Entry], steps: &[Step]) -> usize {
     let mut rest = entries.iter();
     let mut count: usize = 0;
@@ -180,7 +180,8 @@ const READY_BY_ALL: [Step; 8] = [
     (7, READY, &[], PowerOn, &[]),
 ];
 
-/// How many of the first initiators have sent TEST UNIT READY: no unit attention is pending for them.
+/// The number of the first initiators that have sent TEST UNIT READY: no unit attention is pending
+/// for them.
 fn count_sent(disk: &mut Disk) -> Result<usize, Fail> {
     let mut sent: usize = 0;
     for number in 0..8 {
@@ -192,8 +193,8 @@ fn count_sent(disk: &mut Disk) -> Result<usize, Fail> {
     Ok(sent)
 }
 
-/// Runs steps on a new disk, into a sink that takes at most `most` replies. Whether the next one ends the
-/// run, and no command is executed after it.
+/// Runs steps on a new disk, into a sink that takes at most `most` replies. Returns whether the
+/// next reply ends the run, and no command is executed after it.
 fn ends_after(rt: &(impl Abort + AllocGlobal), steps: &[Step], most: usize) -> Result<bool, Fail> {
     let mut disk = Disk::new(rt.alloc())?;
     let (ended, entries) = run(rt, &mut disk, steps, most)?;
@@ -220,7 +221,7 @@ const TWO_WRITES_AND_A_READ: [Step; 3] = [
     (0, &[0x28, 0, 0, 0, 0, 0, 0, 0, 3, 0], &[], Good, &[]),
 ];
 
-/// Whether entries have the counts that the commands of steps have where each is executed by itself.
+/// Whether each entry has the counts that its command has if it is executed by itself.
 fn have_own_counts(disk: &mut Disk, entries: &[Entry], steps: &[Step]) -> Result<bool, Fail> {
     let mut each = true;
     for (entry, step) in entries.iter().zip(steps) {
@@ -238,7 +239,8 @@ fn has_visited_two(entries: &[Entry]) -> bool {
     }
 }
 
-/// Whether the replies of a run have the counts of their commands, and the last one those of two records.
+/// Whether the replies of a run have the counts of their commands, and the last one visits two
+/// records.
 fn are_counted(rt: &(impl Abort + AllocGlobal), steps: &[Step]) -> Result<bool, Fail> {
     let mut disk = Disk::ready(rt.alloc())?;
     let (ended, entries) = run(rt, &mut disk, steps, usize::MAX)?;

@@ -3,8 +3,7 @@ use Rattle.std.specs.Slice.Iter.{chunks_rest, chunks_size}
 use Rattle.sg_decode.specs.HexPieces.{first_hex_lines_from}
 use Rattle.sg_decode.proofs.hex_lines.write_lines.Given as goal
 
--- the first lines are written, each of them whole while bytes are left, and the chunks go on after
--- them
+-- the first lines are written, each of them whole while bytes are left; the chunks go on after them
 abbrev pub invariant-loop-number : goal.invariant-loop-number
 invariant-loop-number l =
     let lines = l.number-iterator.count in

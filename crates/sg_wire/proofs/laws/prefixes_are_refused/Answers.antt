@@ -27,7 +27,7 @@ unfolding HasRow
 has_row command.TestUnitReady = refl
 has_row other = refl
 
--- a CDB is refused as cut where it is shorter than the first row of its operation code says
+-- a CDB is refused as cut if it is shorter than the first row of its operation code says
 cut-by_rows : (cdb : List ℕ) (opcode : ℕ) (rows : List Layout) → first_opcode rows ≡ Some opcode
     → length cdb < length_of opcode → command_by_rows cdb rows ≡ Err (Short (length cdb))
 cut-by_rows cdb opcode [] e h = cc

@@ -3,7 +3,7 @@ use Rattle.std.specs.List.{flat_map}
 use Rattle.sg_pages.specs.ModeSelect.{first_fault, pages_from, page_faults, values_after}
 use Rattle.sg_pages.proofs.mode_pages.mode_select.take_pages.Given as goal
 
--- what the rest of the list leads to is what the list leads to
+-- the result of the rest of the list is the result of the list
 abbrev pub invariant-loop-offset : goal.invariant-loop-offset
 invariant-loop-offset l = record {
   inside : l.offset ≤ length l.list;

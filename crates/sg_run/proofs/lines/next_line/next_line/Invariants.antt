@@ -3,7 +3,7 @@ use Rattle.sg_wire.specs.Watched.{has_failed}
 use Rattle.sg_run.specs.LineReading.{TakesPart, to_come}
 use Rattle.sg_run.proofs.lines.next_line.next_line.Given as goal
 
--- what was taken so far is part of a line
+-- the bytes that were taken so far are part of a line
 abbrev pub invariant-loop-read_ahead : goal.invariant-loop-read_ahead
 invariant-loop-read_ahead g l = record {
   part : TakesPart (to_come g.R.Read.remaining l.fn.read_ahead.ahead l.fn.reader)

@@ -1,4 +1,4 @@
-use Rattle.std.proofs.Common.{arith}
+use Rattle.std.proofs.Common.{ap, arith, length}
 use Rattle.sg_table.proofs.LeafListLemmas.{slots-none}
 use Rattle.sg_table.proofs.leaf_list.LeafList.new.Goals as goal
 
@@ -11,4 +11,5 @@ invariant_of-result c =
       omega (arith, slots.exact, order.capacity),
       omega (arith, slots.exact, free.capacity),
       omega (arith, slots.exact, c.requires),
+      λ k d lt. absurd (omega (arith, lt, ap length free.items)),
     )

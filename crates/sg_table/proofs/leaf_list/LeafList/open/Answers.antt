@@ -1,13 +1,8 @@
 use Rattle.std.proofs.Common.{◌≡◌, [], ap, ◌∙◌, sym, arith}
 use Rattle.std.specs.Prelude.{insert}
 use Rattle.sg_table.specs.LeafList.{LeafRow, AreSlots, leaves_in}
-use Rattle.sg_table.proofs.LeafListLemmas.{free-below, slots-insert, same-list}
+use Rattle.sg_table.proofs.LeafListLemmas.{slots-insert, same-list}
 use Rattle.sg_table.proofs.leaf_list.LeafList.open.Goals as goal
-
-pub take_slot-slot-requires-clause-free : goal.take_slot-slot-requires-clause-free
-take_slot-slot-requires-clause-free c = λ k d lt.
-    let p = c.self.inside in
-    free-below p.slots.items p.order.items p.free.items k d c.self.invariant.0 lt
 
 -- the slots with that of the new leaf
 abbrev opened : (c : goal.Else-prove)
@@ -30,6 +25,7 @@ invariant_of-self c =
       omega (arith, c.self.invariant.1, taken.capacity, c.insert-inserted.ensures.capacity),
       omega (arith, c.self.invariant.2, taken.capacity, taken.free_capacity),
       omega (arith, c.self.invariant.3, taken.capacity),
+      taken.empty,
     )
 
 pub returns : goal.returns

@@ -1,7 +1,8 @@
 use Rattle.std.proofs.Common.{◌≡◌, ap, ◌∙◌, arith, length, set}
 use Rattle.sg_table.specs.LeafList.{LeafRow}
 use Rattle.sg_table.specs.Leaves.{leaf_at}
-use Rattle.sg_table.proofs.LeafListLemmas.{count-leaves, order-below, leaf-in, slots-set, same-list}
+use Rattle.sg_table.proofs.LeafListLemmas.{count-leaves, empty-apart, order-below, leaf-in}
+use Rattle.sg_table.proofs.LeafListLemmas.{slots-set, same-list}
 use Rattle.sg_table.proofs.leaf_list.LeafList.splice.Goals as goal
 
 -- the leaf that is in the slot
@@ -34,13 +35,18 @@ splice-requires-clause-room c = omega (arith, c.requires.room, ap length (read c
 
 pub invariant_of-self : goal.invariant_of-self
 invariant_of-self c =
-    let p = c.self.inside in (
+    let p = c.self.inside in
+    let same = ap (λ (l : LeafRow). l.leaves) c.self.view_is in
+    let count = count-leaves p.slots.items p.order.items c.args.self.now.leaves same in (
       (slots-set p.slots.items p.order.items p.free.items c.args.self.now.leaves c.args.index
-          c.index.result.now c.splice.new.self c.self.invariant.0 (ap (λ (l : LeafRow). l.leaves)
-          c.self.view_is) c.requires.leaf c.index.ensures).0,
+          c.index.result.now c.splice.new.self c.self.invariant.0 same c.requires.leaf
+          c.index.ensures).0,
       c.self.invariant.1,
       c.self.invariant.2,
       c.self.invariant.3,
+      empty-apart p.slots.items p.order.items p.free.items c.args.index c.index.result.now
+          c.index.result.now c.splice.new.self c.self.invariant.0 c.self.invariant.4
+          (omega (arith, count, c.requires.leaf)) c.index.ensures,
     )
 
 pub returns : goal.returns

@@ -8,7 +8,7 @@ use Rattle.sg_tools.specs.GivenOptions.{given_options, is_refused}
 use Rattle.sg_tools.specs.declared.tool_fault.ToolFault.TheVariants.{Usage}
 use Rattle.sg_tools.proofs.given_options.GivenOptions.of_words.Goals as goal
 
--- where there is no fault, the rows are the answer
+-- if there is no fault, the rows are the answer
 given_options-ok : (a : App) (words : List Text) (rows : List Row)
     → fault_of a words ≡ [] → rows ≡ matches_of a words → given_options a words ≡ Ok rows
 unfolding given_options
@@ -18,7 +18,7 @@ refused : (kinds : Kinds) (k : ErrorKind) → IsAmong k kinds → is_refused kin
 refused [] k among = absurd among
 refused (x ∷ xs) k among = refl
 
--- where there is a fault, it is usage
+-- if there is a fault, it is usage
 given_options-err : (a : App) (words : List Text) (k : ErrorKind)
     → IsAmong k (fault_of a words) → given_options a words ≡ Err Usage
 unfolding given_options
