@@ -1,4 +1,4 @@
--- What a write of one block does to the contents.
+-- The effect of a write of one block on the contents.
 use Rattle.std.proofs.Common.{◌≡◌, ◌≢◌, ℕ, ◌<◌, ◌≤◌, zero, suc, List, [], ◌∷◌, length, get_or, set}
 use Rattle.std.proofs.Common.{arith, refl, sym, ap, ap₂, ◌∙◌, Some, cond, Bool, true, false, eq-eqb}
 use Rattle.std.proofs.Common.{get_or-set_other, get_or-set_same}
@@ -53,7 +53,7 @@ same_at q x = elim (nat_cmp q x) as (λ r. nat_cmp q x ≡ r → is_eq r ≡ tru
 both_at : (q x a : ℕ) → x ≢ a → eq_by_cmp nat_cmp q x ≡ true → eq_by_cmp nat_cmp q a ≡ true → ⊥
 both_at q x a ne p r = ne (sym (same_at q x p) ∙ same_at q a r)
 
--- What is seen of other slots is the same.
+-- Other slots show the same.
 abbrev pub AreSameBut : (s : ℕ) → Seen Mapping → Seen Mapping → Type 0
 AreSameBut s f g = (t : ℕ) (kind : Kind) → t ≢ s → g t kind ≡ f t kind
 
@@ -67,7 +67,7 @@ entries-same f g (r ∷ rs) s none same =
     ap₂ (λ x xs. (r.start, x) ∷ xs) (same r.first r.kind other)
     (entries-same f g rs s (omega arith) same)
 
--- record i has another kind, and something else is seen of its slot
+-- record i has another kind, and its slot shows something different
 pub find-changed : (f g : Seen Mapping) (rs : List Run) (i : ℕ) (r : Run) (kind : Kind) (q : ℕ)
     → IsSorted rs → i < length rs → r ≡ get_or rs i r → AreSameBut r.first f g
     → occurrences r.first (slots_of rs) ≤ 1
@@ -97,7 +97,7 @@ find-changed f g (x ∷ rs) (suc i) r kind q rises h e same once =
     (find-changed f g rs i r kind q (sorted_tail x rs rises) (omega arith) e same (omega arith))
     ∙ either _ _ _ _ _ (both_at q x.start r.start apart)
 
--- a record more, at an address that none had
+-- one more record, at an address that no record had
 pub find-added : {X : Type 0} (see : Seen X) (rs : List Run) (i : ℕ) (r : Run) (q : ℕ)
     → ((j : ℕ) → j < length rs → start_of rs j ≢ r.start)
     → find nat_cmp q (entries_by see (insert rs i r)) ≡
@@ -127,7 +127,7 @@ added f g rs i r none same free =
     ∙ ap (λ es. cond (eq_by_cmp nat_cmp q r.start) (Some (g r.first r.kind)) (find nat_cmp q es))
     (entries-same f g rs r.first free same))
 
--- only the block of one slot is another
+-- only the block of one slot changes
 pub seen-set : (bs : List (List ℕ)) (s : ℕ) (b : List ℕ)
     → AreSameBut s (mapping_in bs) (mapping_in (set bs s b))
 seen-set bs s b t DataKind other = ap Data (get_or-set_other bs s t b zero_block other)

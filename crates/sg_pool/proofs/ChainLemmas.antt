@@ -18,7 +18,7 @@ chain-first next first zero some = absurd (omega arith)
 chain-first next first (suc n) some = let e : suc n - 1 ≡ n = omega arith in
     ap (λ k. first ∷ chain next (slice_index next first) k) (sym e)
 
--- the first slot of a chain, and those after it
+-- the first slot of a chain, and the slots after it
 pub first-below : (next : List ℕ) (first n count : ℕ) → 0 < n → AreBelow count (chain next first n)
     → first < count
 unfolding chain AreBelow

@@ -20,13 +20,13 @@ use Rattle.sg_table.proofs.OccurrenceLemmas.{occurrences-insert, once-le, once-r
 use Rattle.sg_table.proofs.IndexLemmas.{sorted-insert}
 use Rattle.sg_pool.proofs.BlockLemmas.{added, changed, seen-set, data-set}
 
--- how often a slot occurs among those of the records and the free ones, of which one is taken
+-- the occurrences of a slot in the records and the free slots, if one free slot is taken
 pub parted : (t s : ℕ) (used free : List ℕ) → occurrences t (used ++ s ∷ free) ≡
     occurrences t used + (one_if_equal t s + occurrences t free)
 parted t s used free = occurrences-append t used (s ∷ free)
     ∙ ap (λ n. occurrences t used + n) (occurrences-more t s free)
 
--- a slot that is taken is among the slots, and no record has it
+-- a slot that is taken is among the slots, and belongs to no record
 pub taken_below : (count : ℕ) (used free : List ℕ) (s : ℕ) → IsEachOnce count (used ++ s ∷ free) → s < count
 taken_below count used free s once = let p = parted s s used free in let one = same_slot s in
     below_count count (used ++ s ∷ free) s once (omega arith)
@@ -62,7 +62,7 @@ have_slots rs bs free room consistent i r h e =
     let both = occurrences-append r.first (slots_of rs) free in
     below_count (length bs) (slots_of rs ++ free) r.first consistent.once (omega arith)
 
--- a record more
+-- one more record
 pub consistent-inserted : (rs : List Run) (bs : List (List ℕ)) (free : List ℕ) (room i : ℕ) (r : Run)
     → IsConsistent rs bs (r.first ∷ free) room → IsLowerBound rs i r.start
     → ((j : ℕ) → j < length rs → start_of rs j ≢ r.start)
@@ -95,7 +95,7 @@ consistent-over rs bs free room s b consistent = record {
   pool = rw length-set consistent.pool;
 }
 
--- a block more
+-- one more block
 pub consistent-added : (rs : List Run) (bs : List (List ℕ)) (free : List ℕ) (room i : ℕ) (r : Run)
     (b : List ℕ) → IsConsistent rs bs (r.first ∷ free) room → IsLowerBound rs i r.start
     → ((j : ℕ) → j < length rs → start_of rs j ≢ r.start)
@@ -142,7 +142,7 @@ consistent-kind rs bs free room i r kind consistent h e = record {
   pool = consistent.pool;
 }
 
--- as the block of its slot is, too: it is data then, whatever it was
+-- the block of its slot is set, too: it is data then, whatever it was
 pub contents-changed : (rs : List Run) (bs : List (List ℕ)) (free : List ℕ) (room i : ℕ) (r : Run)
     (b : List ℕ) → IsConsistent rs bs free room → i < length rs → r ≡ get_or rs i r
     → contents_of (set rs i (with_kind DataKind r)) (set bs r.first b)

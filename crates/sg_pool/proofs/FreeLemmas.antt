@@ -21,7 +21,7 @@ length-free next first given fresh le = omega (
   length-range_with_len fresh (length next - fresh),
 )
 
--- where none was given back, a free slot is one that was not taken
+-- if none was given back, a free slot is one that was not taken
 pub fresh-left : (next : List ℕ) (first given fresh : ℕ) → fresh ≤ length next → given ≡ 0
     → 0 < length (free_slots next first given fresh) → fresh < length next
 fresh-left next first given fresh le none some =
@@ -33,7 +33,7 @@ range-first first (suc n) some =
     let e : suc n - 1 ≡ n = omega arith in
     ap (λ k. first ∷ range_with_len (first + 1) k) (sym e)
 
--- where none was given back
+-- if none was given back
 pub free-fresh : (next : List ℕ) (first given fresh : ℕ) → given ≡ 0 → fresh < length next
     → free_slots next first given fresh ≡ fresh ∷ free_slots next first given (fresh + 1)
 unfolding chain
@@ -42,13 +42,13 @@ free-fresh next first given fresh none lt =
     rw none (range-first fresh (length next - fresh) (omega (arith, lt))
     ∙ ap (λ k. fresh ∷ range_with_len (fresh + 1) k) e)
 
--- where one was
+-- if one was
 pub free-given : (next : List ℕ) (first given fresh : ℕ) → 0 < given → free_slots next first given fresh ≡
     first ∷ free_slots next (slice_index next first) (given - 1) fresh
 free-given next first given fresh some =
     ap (λ xs. xs ++ range_with_len fresh (length next - fresh)) (chain-first next first given some)
 
--- the slots that were given back are none of which the free ones have none
+-- a slot that is not free was not given back
 pub given-none : (next : List ℕ) (first given fresh slot : ℕ)
     → occurrences slot (free_slots next first given fresh) ≡ 0
     → occurrences slot (chain next first given) ≡ 0
@@ -113,7 +113,7 @@ free-joined next first last count to given fresh is low once =
     (once-given next first last count to given fresh is once))
     ∙ append_assoc (chain next first count) (chain next to given) R
 
--- the same where links and free slots are those of a pool
+-- the same if links and free slots belong to a pool
 pub joined : (inner next free : List ℕ) (first last count to given fresh : ℕ) → inner ≡ next
     → free_slots inner to given fresh ≡ free → IsChain next first last count → last < length next
     → occurrences last (chain next first count ++ free) ≡ 1

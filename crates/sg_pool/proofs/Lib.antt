@@ -5,7 +5,7 @@ pub mod MappedLemmas
 pub mod EntryLemmas
 pub mod BlockLemmas
 pub mod ConsistencyLemmas
--- For the pool alone.
+-- For the pool only.
 pub mod PoolLemmas
 pub mod ChainLemmas
 pub mod FreeLemmas

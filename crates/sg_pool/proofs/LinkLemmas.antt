@@ -1,4 +1,4 @@
--- Links between slots: chains that are cut, joined, or left alone.
+-- Links between slots: chains that are cut, joined, or unchanged.
 use Rattle.std.proofs.Common.{◌≡◌, ◌≢◌, ℕ, ◌+◌, ◌-◌, ◌<◌, ◌≤◌, zero, suc, List, [], ◌∷◌, ◌++◌}
 use Rattle.std.proofs.Common.{length, get_or, set, arith, refl, sym, ap, ap₂, ◌∙◌}
 use Rattle.std.proofs.Common.{zero-add, cond, Bool, true, false, inl, inr}
@@ -130,7 +130,7 @@ unfolding AreBelow
 below-append count [] ys h k = k
 below-append count (x ∷ xs) ys h k = (h.0, below-append count xs ys h.1 k)
 
--- what is in a part of a list where each slot is once
+-- a slot in a part of a list where each slot occurs once
 pub below-part : (count : ℕ) (xs ys all : List ℕ) → IsEachOnce count all
     → ((t : ℕ) → occurrences t all ≡ occurrences t xs + occurrences t ys) → AreBelow count xs
 unfolding AreBelow occurrences
@@ -142,7 +142,7 @@ below-part count (x ∷ xs) ys all once parts =
       below-part count xs (x ∷ ys) all once (λ t. let e = parts t in omega arith),
     )
 
--- a chain before the one that its last slot is linked to
+-- a chain before the chain that its last slot is linked to
 pub chain-joined : (next : List ℕ) (first last count to m : ℕ) → IsChain next first last count
     → last < length next → occurrences last (chain next first count ++ chain next to m) ≡ 1
     → chain (set next last to) first (count + m) ≡ chain next first count ++ chain next to m

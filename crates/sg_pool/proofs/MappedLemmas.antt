@@ -1,4 +1,4 @@
--- What is found at an address, by the records.
+-- The slot and the kind at an address, by the records.
 use Rattle.std.proofs.Common.{◌≡◌, ◌≢◌, ℕ, ◌+◌, ◌<◌, zero, suc, List, [], ◌∷◌, length, get_or}
 use Rattle.std.proofs.Common.{arith, refl, sym, ap, ◌∙◌, Some, None, cond, Bool, true}
 use Rattle.std.proofs.Common.{false}
@@ -46,7 +46,7 @@ find-mapped see (x ∷ rs) (suc i) r rises h e =
     rw (eq_other r.start x.start (λ same. absurd (omega arith)))
     (find-mapped see rs i r (sorted_tail x rs rises) (omega arith) e)
 
--- what is seen of an address that no record has
+-- the view of an address that no record has
 pub get-unmapped : {X : Type 0} (see : Seen X) (rs : List Run) (q : ℕ)
     → ((i : ℕ) → i < length rs → start_of rs i ≢ q) → get (contents_by see rs) q ≡ None
 get-unmapped see rs q none =
@@ -59,7 +59,7 @@ pub get-mapped : {X : Type 0} (see : Seen X) (rs : List Run) (i : ℕ) (r : Run)
 get-mapped see rs i r rises h e =
     get-from_entries nat_cmp_total (entries_by see rs) r.start ∙ find-mapped see rs i r rises h e
 
--- records outside a range have what is outside the range
+-- records outside a range have the contents outside the range
 kept-first : {X : Type 0} (same out now : Bool) (v rest : Option X) → (same ≡ true → out ≡ now)
     → cond out (cond same v (cond now rest None)) (cond now rest None)
     ≡ cond now (cond same v rest) None

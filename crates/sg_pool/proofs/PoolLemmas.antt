@@ -1,4 +1,4 @@
--- Blocks of a pool, of which the first ones are given and the others are zeros.
+-- Blocks of a pool: the first ones are given, and the others are zeros.
 use Rattle.std.proofs.Common.{◌≡◌, ℕ, ◌+◌, ◌-◌, ◌<◌, ◌≤◌, List, ◌++◌, length, get_or, set, arith}
 use Rattle.std.proofs.Common.{sym, ap, refl, inl, inr, ◌∙◌, Bor, replicate, length-append}
 use Rattle.std.proofs.lemmas.List.{append_assoc, length-replicate, replicate-append-replicate}

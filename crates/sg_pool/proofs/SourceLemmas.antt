@@ -8,7 +8,7 @@ pub block-within : (bytes : List ℕ) (index : ℕ) → length (block_at bytes i
 block-within bytes index e = omega
     (arith, length-take 512 (drop (512 * index) bytes), length-drop (512 * index) bytes)
 
--- the blocks of so many bytes are whole
+-- the blocks of bytes of this length are whole
 pub blocks-whole : (bytes : List ℕ) (count : ℕ) → length bytes ≡ 512 * count → (index : ℕ)
     → index < count → length (block_at bytes index) ≡ 512
 blocks-whole bytes count e index lt =

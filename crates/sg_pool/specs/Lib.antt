@@ -1,5 +1,5 @@
--- What public contracts cite: slots and chains of them, where blocks come from, what the records of
--- a table map, and what a `Pool` is made of.
+-- The definitions that public contracts cite. They define slots and their chains, the source of
+-- blocks, what the records of a table map, and the parts of a `Pool`.
 pub mod Slots
 pub mod Chains
 pub mod Source

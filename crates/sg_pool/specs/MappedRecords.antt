@@ -1,4 +1,4 @@
--- What the records of a table map, with the blocks of their slots.
+-- The mappings that the records of a table make, with the blocks of their slots.
 use Rattle.std.specs.Prelude.{◌≡◌, ℕ, ◌+◌, List, [], ◌∷◌, ◌++◌, length, not, slice_index_or}
 use Rattle.std.specs.Prelude.{slice_set}
 use Rattle.std.specs.List.{filter}
@@ -15,11 +15,11 @@ use Rattle.sg_table.specs.declared.run.Kind.{Kind}
 use Rattle.sg_table.specs.declared.run.Kind.TheVariants.{Data as DataKind, Anchored as AnchoredKind}
 use Rattle.sg_table.specs.declared.run.Run.{Run}
 
--- What is seen of an address, by the slot and the kind of its record.
+-- A value seen at an address, by the slot and the kind of its record.
 abbrev pub Seen : Type 0 → Type 0
 Seen X = (slot : ℕ) → Kind → X
 
--- The address of each record, with what is seen of it.
+-- The address of each record, with the value seen there.
 abbrev pub entries_by : {X : Type 0} → Seen X → List Run → List (ℕ × X)
 entries_by seen [] = []
 entries_by seen (run ∷ records) = (run.start, seen run.first run.kind) ∷ entries_by seen records
@@ -27,12 +27,12 @@ entries_by seen (run ∷ records) = (run.start, seen run.first run.kind) ∷ ent
 abbrev pub contents_by : {X : Type 0} → Seen X → List Run → FinMap nat_cmp X
 contents_by seen records = from_entries (entries_by seen records)
 
--- What an address gets in a record of a kind: a block of data, or none.
+-- The mapping of an address in a record of a kind: a block of data, or none.
 abbrev pub mapping_as : Kind → (block : List ℕ) → Mapping
 mapping_as DataKind block = Data block
 mapping_as AnchoredKind block = Anchored
 
--- Data is the block of the slot. That of an anchored address is not seen.
+-- Data is the block of the slot. No reader sees the block of an anchored address.
 abbrev pub mapping_in : (blocks : List (List ℕ)) → Seen Mapping
 mapping_in blocks slot kind = mapping_as kind (slice_index_or blocks slot zero_block)
 
@@ -41,7 +41,7 @@ abbrev pub kind_of : Mapping → Kind
 kind_of (Data block) = DataKind
 kind_of Anchored = AnchoredKind
 
--- The blocks of the slots, with that of an address in its slot. An anchored address has none.
+-- The blocks of the slots, with the block of an address in its slot. An anchored address has none.
 abbrev pub filled_slot : (blocks : List (List ℕ)) → (slot : ℕ) → Mapping → List (List ℕ)
 filled_slot blocks slot (Data block) = slice_set blocks slot block
 filled_slot blocks slot Anchored = blocks
@@ -62,7 +62,7 @@ SlotNumbers = FinMap nat_cmp ℕ
 abbrev pub slot_number : Seen ℕ
 slot_number slot kind = slot
 
--- Those of the records.
+-- The slot numbers of the records.
 abbrev pub slot_numbers : List Run → SlotNumbers
 slot_numbers records = contents_by slot_number records
 

@@ -1,6 +1,6 @@
--- What a `Pool` is made of, in two ways: of two that agree in the listed parts, each is the other, and
--- each part is a field of the listed type, while there is no other field. So neither keeps anything
--- else. And where in its memory each block is.
+-- The parts of a `Pool`, in two ways. Two pools that agree in the listed parts are the same pool.
+-- Each part is a field of the listed type, and there is no other field. So a pool keeps nothing
+-- beside these parts. The last definition says where in its memory each block is.
 use Rattle.std.specs.Prelude.{◌≡◌, [], ◌∷◌, length}
 use Rattle.sg_store.specs.declared.store.TheConstants.{BLOCK_LENGTH}
 use Rattle.sg_table.specs.Fields.{HasOnly, vec_field}
@@ -33,7 +33,8 @@ PoolHasOnlyItsParts = HasOnly struct.parts (
     ∷ u64-field  -- links
     ∷ [])
 
--- The block of a slot is the item of `blocks` at the number of the slot. Past its end they are zeros.
+-- The block of a slot is the item of `blocks` at the number of the slot. Past the end of `blocks`
+-- each block is zeros.
 abbrev pub BlocksLieInOrder : Type 0
 BlocksLieInOrder = (pool : Inside)
     → (view pool).blocks ≡ zero_padded pool.blocks.items (length pool.next.items)

@@ -5,15 +5,15 @@ use Rattle.std.specs.List.{range_with_len}
 use Rattle.sg_pool.specs.Chains.{chain}
 use Rattle.sg_store.specs.Disk.{zero_block}
 
--- The blocks of the slots, the link of each slot to the next one of its chain, the slots that are
--- free, and the links that were followed since the last restart.
+-- The blocks of the slots, the link of each slot to the next one of its chain, and the free slots.
+-- `links` counts the links that were followed since the last restart.
 pub record Slots : Type 0 where
   pub blocks : List (List ℕ)
   pub next : List ℕ
   pub free : List ℕ
   pub links : ℕ
 
--- The blocks of `count` slots, of which the first ones are given. The others are zeros.
+-- The blocks of `count` slots: the first ones are given, and the others are zeros.
 abbrev pub zero_padded : List (List ℕ) → (count : ℕ) → List (List ℕ)
 zero_padded blocks count = blocks ++ replicate (count - length blocks) zero_block
 
@@ -21,7 +21,7 @@ zero_padded blocks count = blocks ++ replicate (count - length blocks) zero_bloc
 abbrev pub followed : Slots → (count : ℕ) → Slots
 followed slots count = record slots { links = slots.links + count }
 
--- The slots that are free: a chain of those that were given back, and then all from `fresh` on.
+-- The free slots: the chain of the slots that were given back, and then all slots from `fresh` on.
 abbrev pub free_slots : (next : List ℕ) → (first given fresh : ℕ) → List ℕ
 free_slots next first given fresh =
     chain next first given ++ range_with_len fresh (length next - fresh)

@@ -1,4 +1,4 @@
--- Where the blocks of a range come from.
+-- The source of the blocks of a range.
 use Rattle.std.specs.Prelude.{◌≡◌, ℕ, ◌<◌, List, length}
 use Rattle.sg_store.specs.Disk.{block_at, block_length}
 use Rattle.sg_pool.specs.declared.source.Source.{Source}

@@ -1,5 +1,5 @@
-// What is seen of addresses that have a record, by its kind: what GET LBA STATUS reports, and what is
-// read. It knows no table and no order.
+// The kind of a record decides the status that GET LBA STATUS reports for its addresses, and the
+// bytes that a read returns. This file knows no table and no order.
 ghost use Rattle.std.specs.Prelude.{◌≡◌, ◌<◌, length, Some};
 ghost use Rattle.sg_store.specs.Disk.{data_in};
 ghost use Rattle.sg_pool.specs.MappedRecords.{mapping_in, status_of_kind};
@@ -19,7 +19,7 @@ pub fn status_of(kind: Kind) -> ProvisioningStatus
     }
 }
 
-/// Reads the block of a record's first address: that of its slot, or zeros where it is anchored.
+/// Reads the block of a record's first address: the block of its slot, or zeros if it is anchored.
 pub fn read_first(pool: &Pool, run: Run, bytes: &mut [u8])
     requires slot { run.first < length pool.now.blocks }
     requires byte_count { length bytes.old ≡ BLOCK_LENGTH }

@@ -1,9 +1,9 @@
-//! What each [`Pool`](crate::Pool) is made of, and where its blocks are. Nothing is kept beside the
-//! parts that are listed.
+//! The parts of each [`Pool`](crate::Pool), and the place of its blocks. A pool keeps nothing
+//! beside the parts that are listed.
 ghost use Rattle.sg_pool.specs.Parts.{BlocksLieInOrder, PoolHasOnlyItsParts, PoolIsItsParts};
 
-/// A [`Pool`](crate::Pool) is made of its blocks, its links, three numbers that say which slots are
-/// free, and how many links were followed.
+/// A [`Pool`](crate::Pool) is made of its blocks, its links, three numbers for the free slots, and
+/// the number of followed links.
 pub fn a_pool_is_made_of_its_blocks_and_links()
     ensures { PoolIsItsParts }
 {}

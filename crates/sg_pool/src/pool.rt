@@ -1,5 +1,5 @@
-// The slots of 512 bytes and the links between them. It knows no address: which slot belongs to which
-// is in the table.
+// The slots of 512 bytes and the links between them. This file knows no address: the table says
+// which slot belongs to which address.
 ghost use Rattle.std.specs.Prelude.{◌≡◌, ◌<◌, ◌+◌, ◌-◌, ◌∷◌, ◌++◌, ◌≤◌, length, replicate, IfOk};
 ghost use Rattle.std.specs.Prelude.{slice_index, slice_index_or, slice_set, vec_capacity};
 ghost use Rattle.std.specs.List.{range_with_len};
@@ -15,8 +15,8 @@ use std::marker::Model;
 const ZERO_BLOCK: [u8; BLOCK_LENGTH] = [0; BLOCK_LENGTH];
 
 /// Slots of one block each, with a link from each slot to the next one of its chain. The free slots
-/// are a chain of those that were given back, and all from one slot on, which were not taken since
-/// each slot was free.
+/// are the chain of the slots that were given back, and all slots from one number on. No call has
+/// taken one of the latter since every slot was free.
 #[derive(Drop)]
 pub struct Pool {
     /// The blocks of the first slots, as far as one was set. The others are zeros.
@@ -52,7 +52,7 @@ impl Model for Pool {
         × (length p.next.items ≤ MAX_POOL) };
 }
 
-/// Appends blocks of zeros as far as that of a slot, unless it is there.
+/// Appends blocks of zeros up to the block of a slot, unless the slot has a block already.
 fn extend_to(blocks: &mut Vec<[u8; BLOCK_LENGTH]>, slot: u32)
     requires { slot < vec_capacity blocks.old }
     ensures blocks { blocks.new.items
@@ -72,7 +72,7 @@ impl Pool {
     /// `count` slots of zeros, each of them free.
     ///
     /// # Errors
-    /// Memory was refused.
+    /// The allocator refused memory.
     pub fn new(alloc: Global, count: u32) -> Result<Pool, AllocError>
         requires { count ≤ MAX_POOL }
         ensures blocks { IfOk result (λ pool. length pool.blocks ≡ count) }
@@ -99,7 +99,7 @@ impl Pool {
         self.blocks.get(slot as usize).unwrap_or(&ZERO_BLOCK)
     }
 
-    /// How many slots are free.
+    /// The number of free slots.
     pub fn free_count(&self) -> usize
         ensures { result ≡ length self.now.free }
     {
@@ -116,7 +116,7 @@ impl Pool {
         self.blocks[slot as usize].copy_from_slice(bytes);
     }
 
-    /// Takes a free slot. The link that is followed to the next one is not counted.
+    /// Takes a free slot. The pool does not count the link that it follows to the next free slot.
     pub fn take(&mut self) -> u32
         requires { 0 < length self.old.free }
         ensures free { self.old.free ≡ result ∷ self.new.free }
@@ -133,7 +133,7 @@ impl Pool {
         slot
     }
 
-    /// Has the slots taken in ascending order from now on, where each of them is free.
+    /// Makes `take` return the slots in ascending order from now on, if each of them is free.
     pub fn renew(&mut self)
         requires { length self.old.free ≡ length self.old.next }
         ensures { self.new ≡ record self.old { free = range_with_len 0 (length self.old.next) } }
@@ -142,7 +142,7 @@ impl Pool {
         self.fresh = 0;
     }
 
-    /// Frees a slot, which is taken again before the others that are free.
+    /// Frees a slot. `take` returns it before the other free slots.
     pub fn give(&mut self, slot: u32)
         requires slot { slot < length self.old.blocks }
         requires used { occurrences slot self.old.free ≡ 0 }
@@ -158,7 +158,7 @@ impl Pool {
         self.given_count += 1;
     }
 
-    /// Frees the slots of a chain, which are taken again before the others that are free.
+    /// Frees the slots of a chain. `take` returns them before the other free slots.
     pub fn give_chain(&mut self, first: u32, last: u32, count: u32)
         requires chain { IsChain self.old.next first last count }
         requires slots { AreBelow (length self.old.next) (chain self.old.next first count) }
@@ -196,21 +196,21 @@ impl Pool {
         self.next[slot as usize]
     }
 
-    /// How many slots there are.
+    /// The number of slots.
     pub fn count(&self) -> usize
         ensures { result ≡ length self.now.blocks }
     {
         self.next.len()
     }
 
-    /// How many links were followed since the last restart.
+    /// The number of links that were followed since the last restart.
     pub fn links(&self) -> u64
         ensures { result ≡ self.now.links }
     {
         self.links
     }
 
-    /// Counts from nothing.
+    /// Counts followed links from 0 again.
     pub fn restart_links(&mut self)
         ensures { self.new ≡ record self.old { links = 0 } }
     {

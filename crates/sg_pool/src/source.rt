@@ -1,11 +1,11 @@
-// The blocks that a range of addresses is to have, as one address after the other asks for its own. It
-// knows no slot.
+// The blocks that a range of addresses is to have: one address after the other asks for its own
+// block. This file knows no slot.
 ghost use Rattle.std.specs.Prelude.{◌≡◌, length};
 ghost use Rattle.sg_pool.specs.Source.{block_of};
 
 use sg_store::BLOCK_LENGTH;
 
-/// Where the blocks of a range come from.
+/// The source of the blocks of a range.
 #[derive(Drop)]
 pub enum Source<'a> {
     /// Blocks that are joined, one for each address.
