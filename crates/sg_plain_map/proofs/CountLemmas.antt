@@ -1,4 +1,4 @@
--- How many addresses have data, where each record has one.
+-- The number of addresses with data, if each record has one address.
 use Rattle.std.proofs.Common.{◌≡◌, ℕ, ◌+◌, ◌≤◌, List, [], ◌∷◌, length, arith, refl, sym}
 use Rattle.std.proofs.Common.{ap, ap₂, ◌∙◌, cond}
 use Rattle.std.proofs.lemmas.List.Elements.{All-head, All-tail}

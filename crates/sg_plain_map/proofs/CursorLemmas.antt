@@ -23,7 +23,7 @@ found rs (Some r) p lba run n e =
     let at = rw both.1 at n in
     (at.0, at.1, ap (λ (x : Run). x.start) (sym both.1) ∙ eqb-true r.start lba both.0)
 
--- there is no record, or that of another address
+-- there is no record, or the record of another address
 pub missed : (rs : List Run) (next : Option Run) (p lba : ℕ) → IsNext rs p next → run_at next lba ≡
     None → p < length rs → start_of rs p ≢ lba
 missed rs None p lba n e h same = absurd (omega arith)

@@ -185,7 +185,7 @@ module _ (rs : List Run) (capacity a k i : ℕ) (next : Option Run) (t : IsTable
       described (contents_of rs bs) capacity a k Deallocated (gap-here bs) (omega arith) (gap-none bs)
       (gap-stop capacity a k i rs bs next t at is low)
 
--- the visits to the records of the addresses so far, and to the one behind them
+-- the visits to the records of the addresses so far, and to the record after them
 pub visits-so_far : (rs : List Run) (bs : List (List ℕ)) (from a k : ℕ) (cursor : Cursor) (next : ℕ)
     (t now : Table) → IsSorted rs → IsLowerBound rs from a → IsAt rs cursor next → next ≡ a + k
     → now ≡ visited t (cursor.index - from + ahead cursor.next) → VisitsRange (contents_of rs bs) a k t now

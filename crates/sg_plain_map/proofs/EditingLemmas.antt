@@ -48,14 +48,14 @@ set-splice rs done from i r h lt =
     sym (rw (next, whole, n) (set-append_seam (p ++ done) (get_or rs i r) t r
     ∙ append_assoc p done (r ∷ t) ∙ ap (λ x. p ++ x) (sym (append_assoc done (r ∷ []) t))))
 
--- ---- What an address is to have
+-- ---- The new content of an address
 
 -- the kind of its record
 pub kind-of : (content : Content) (index : ℕ) → kind_for content ≡ kind_of (mapping_for content index)
 kind-of (Blocks source) index = refl
 kind-of Anchor index = refl
 
--- a record more, or one of another kind, with its block
+-- one more record, or a record of another kind, with its block
 consistent-filled : (rs : List Run) (bs : List (List ℕ)) (free : List ℕ) (room s : ℕ) (x : Mapping)
     → IsConsistent rs bs free room → IsConsistent rs (filled_slot bs s x) free room
 consistent-filled rs bs free room s (Data b) consistent = consistent-over rs bs free room s b consistent
@@ -80,14 +80,14 @@ filled-changed rs bs free room i r (Data b) consistent h e =
 filled-changed rs bs free room i r Anchored consistent h e =
     contents-anchored rs bs free room i r consistent h e
 
--- what has the kind already does not change
+-- a record that has the kind already does not change
 same-kind : (run : Run) (kind : Kind) → run.kind ≡ kind → with_kind kind run ≡ run
 same-kind run kind is = ap (λ k. with_kind k run) (sym is)
 
 abbrev edited_contents : List Run → Slots → Drafted → Cursor → Contents
 edited_contents rs slots draft cursor = contents_of (edited rs draft cursor) slots.blocks
 
--- An address was drafted with what it is to have.
+-- An address was drafted with its new content.
 pub record IsPut (rs : List Run) (room : ℕ) (slots slots' : Slots) (draft draft' : Drafted)
     (cursor cursor' : Cursor) (lba : ℕ) (x : Mapping) (kind : Kind) : Type 0 where
   pub contents : edited_contents rs slots' draft' cursor'

@@ -1,4 +1,4 @@
--- How many addresses of a range have a slot, by the indices of its records.
+-- The number of addresses of a range that have a slot, by the indices of its records.
 use Rattle.std.proofs.Common.{◌≡◌, ℕ, ◌+◌, ◌-◌, ◌<◌, ◌≤◌, zero, suc, List, [], ◌∷◌, length}
 use Rattle.std.proofs.Common.{get_or, arith, refl, sym, ap, ◌∙◌, inl, inr, cond, Bool, true}
 use Rattle.std.proofs.lemmas.Bool.{cases_lt}
@@ -20,7 +20,7 @@ use Rattle.sg_store.proofs.DiskLemmas.{len-remapped}
 use Rattle.sg_pool.proofs.MappedLemmas.{len-contents_by}
 use Rattle.sg_table.proofs.IndexLemmas.{index_unique}
 
--- how many addresses of a range are mapped
+-- the number of mapped addresses of a range
 pub get_or_any : (rs : List Run) (i : ℕ) (d e : Run) → i < length rs → get_or rs i d ≡ get_or rs i e
 get_or_any [] i d e h = absurd (omega arith)
 get_or_any (x ∷ rs) zero d e h = refl
@@ -39,7 +39,7 @@ used_start : (rs : List Run) (bs : List (List ℕ)) (i : ℕ) → IsSorted rs �
     → used_at (contents_of rs bs) (start_of rs i) ≡ 1
 used_start rs bs i rises h = ap (λ (b : Bool). cond b 1 0) (contains-start rs bs i rises h)
 
--- the index of an address, from that of the next one
+-- the index of an address, from the index of the next one
 index_before : (rs : List Run) (bs : List (List ℕ)) (j b : ℕ) → IsSorted rs
     → IsLowerBound rs j (b + 1) → (l : ℕ) × IsLowerBound rs l b
     × (l + used_at (contents_of rs bs) b ≡ j)
@@ -116,7 +116,7 @@ pub used_between : (rs : List Run) (bs : List (List ℕ)) (i j a k : ℕ) → Is
 used_between rs bs i j a k rises p q = let mapped =
     used_among-indices rs bs i a k j rises p q in omega arith
 
--- and how many it needs, where each record of the range has one
+-- and the number of slots that it needs, if each record of the range has one
 pub need_between : (rs : List Run) (bs : List (List ℕ)) (i j a k : ℕ) → IsSorted rs
     → IsLowerBound rs i a → IsLowerBound rs j (a + k)
     → (used_among (contents_of rs bs) a k ≡ j - i) × (need (contents_of rs bs) a k + (j - i) ≡ k)

@@ -64,7 +64,7 @@ consistent-removed rs bs free room i r within consistent = record {
   pool = consistent.pool;
 }
 
--- what may be said of the slot of a record
+-- facts about the slot of a record
 slot-used : (rs : List Run) (bs : List (List ℕ)) (free : List ℕ) (room i : ℕ) (r : Run)
     → i ≤ length rs → IsConsistent (insert rs i r) bs free room
     → (r.first < length bs) × (occurrences r.first free ≡ 0) × (length free < room)

@@ -1,4 +1,4 @@
--- What the addresses of a range are to have.
+-- The new mappings of the addresses of a range.
 use Rattle.std.specs.Prelude.{ℕ, ◌<◌}
 use Rattle.sg_store.specs.Disk.{HasBlockLength, Mapping}
 use Rattle.sg_store.specs.Disk.Mapping.{Data, Anchored}
@@ -8,12 +8,12 @@ use Rattle.sg_table.specs.declared.run.Kind.TheVariants.{Data as DataKind, Ancho
 use Rattle.sg_plain_map.specs.declared.content.Content.{Content}
 use Rattle.sg_plain_map.specs.declared.content.Content.TheVariants.{Blocks, Anchor}
 
--- What the address at an index of the range is to have.
+-- The new mapping of the address at an index of the range.
 abbrev pub mapping_for : Content → (index : ℕ) → Mapping
 mapping_for (Blocks source) index = Data (block_of source.now index)
 mapping_for Anchor index = Anchored
 
--- For each index below `count` it is a whole block, or none.
+-- For each index below `count` the mapping has a whole block, or none.
 abbrev pub HasMappings : Content → (count : ℕ) → Type 0
 HasMappings content count = (index : ℕ) → index < count → HasBlockLength (mapping_for content index)
 

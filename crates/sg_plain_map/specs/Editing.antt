@@ -19,24 +19,24 @@ use Rattle.sg_table.specs.declared.cursor.Cursor.{Cursor}
 abbrev pub stored : Table → Slots → Contents
 stored table slots = contents_of table.records slots.blocks
 
--- A record has one address, and so has each of some.
+-- A record has one address. In a list each record has one address.
 abbrev pub IsSingle : Run → Type 0
 IsSingle run = run.count ≡ 1
 
 abbrev pub AreSingle : List Run → Type 0
 AreSingle records = All IsSingle records
 
--- ---- Cited by private contracts alone
+-- ---- Cited only by private contracts
 
--- The cursor is at the first record that is not before the address, which was visited if there is
--- one.
+-- The cursor is at the first record that is not before the address. If there is such a record, it
+-- was visited.
 pub record IsAt (records : List Run) (cursor : Cursor) (lba : ℕ) : Type 0 where
   pub index : IsLowerBound records cursor.index lba
   pub next : IsNext records cursor.index cursor.next
 
--- A range can be gone over: it begins at the index `from` of the table, it lies on the largest
--- disk, each record has one address, table and pool are consistent and no larger than allowed, and
--- the visits can be counted.
+-- A call can go over a range. The range begins at the index `from` of the table, and it lies on the
+-- largest disk. Each record has one address. Table and pool are consistent and no larger than
+-- allowed, and the visits can be counted.
 pub record IsReady (table : Table) (slots : Slots) (from lba count : ℕ) : Type 0 where
   pub index : IsLowerBound table.records from lba
   pub range : lba + count ≤ max_capacity
@@ -52,8 +52,8 @@ pub record IsReadable (records : List Run) (slots : Slots) : Type 0 where
   pub have_slots : HaveSlots records (length slots.blocks)
   pub table_size : length records ≤ max_pool
 
--- The table has other records over the pool, each of one address, of which no more than `most_moves`
--- were moved, and visits were counted.
+-- The table has other records over the pool, each of one address. The call moved no more than
+-- `most_moves` records, and it counted visits.
 pub record ChangesRecords (most_moves : ℕ) (before after : Table) (slots : Slots) : Type 0 where
   pub single : AreSingle after.records
   pub consistent : IsConsistent after.records slots.blocks slots.free after.room
@@ -68,7 +68,7 @@ pub record VisitsRange (contents : Contents) (lba count : ℕ) (before after : T
   pub least : before.total + plain_least contents lba count ≤ after.total
   pub price : after.total ≤ before.total + plain_price contents lba count
 
--- The table with the drafted records in place of those up to the cursor.
+-- The table with the drafted records in place of the records up to the cursor.
 abbrev pub edited : List Run → Drafted → Cursor → List Run
 edited records draft cursor = splice records draft.from cursor.index draft.records
 
@@ -76,8 +76,8 @@ edited records draft cursor = splice records draft.from cursor.index draft.recor
 abbrev pub edited_contents : Table → Slots → Drafted → Cursor → Contents
 edited_contents table slots draft cursor = contents_of (edited table.records draft cursor) slots.blocks
 
--- The edited table has records of one address, it and the slots are consistent, and the next record to
--- be drafted is that of the address or one past it.
+-- The edited table has records of one address, and it and the slots are consistent. The next record
+-- to be drafted has the address or one past it.
 pub record IsEditing (records : List Run) (room : ℕ) (slots : Slots) (draft : Drafted) (cursor : Cursor)
     (lba : ℕ) : Type 0 where
   pub single : AreSingle (edited records draft cursor)
@@ -94,9 +94,9 @@ pub record HasRoom (table : Table) (slots : Slots) (draft : Drafted) (cursor : C
   pub free : 0 < length slots.free + used_at (edited_contents table slots draft cursor) lba
   pub table_size : length table.records ≤ max_pool
 
--- An address is passed, which has a slot or not, and its record drafted: the cursor goes past the
--- record that it has, and else a slot is taken. It is drafted with a kind, and stays as it is if it had
--- that.
+-- One step passes an address and drafts its record with a kind. If the address has a record, the
+-- cursor goes past it; otherwise the step takes a slot. A record that has the kind already stays as
+-- it is.
 pub record Drafts (records : List Run) (lba used : ℕ) (kind : Kind) (cursor cursor' : Cursor)
     (slots slots' : Slots) (draft draft' : Drafted) : Type 0 where
   pub index : cursor'.index ≡ cursor.index + used

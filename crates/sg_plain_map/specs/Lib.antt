@@ -1,8 +1,8 @@
--- What public contracts cite: what a `PlainMap` keeps, with the table by which that is defined, and
--- what its calls cost.
+-- The definitions that public contracts cite: the state of a `PlainMap`, the table that defines
+-- this state, and the price of its calls.
 pub mod State
 pub mod Editing
 pub mod PlainCost
--- What only private contracts cite: how the table is read and edited.
+-- The definitions that only private contracts cite: how the calls read and edit the table.
 pub mod Content
 pub mod Status

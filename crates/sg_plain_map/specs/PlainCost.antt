@@ -1,4 +1,5 @@
--- What a call over a range visits in a store that has a record for each mapped or anchored address.
+-- The visits of a call over a range, in a store that has a record for each mapped or anchored
+-- address.
 use Rattle.std.specs.Prelude.{◌≡◌, ℕ, ◌+◌, ◌-◌, ◌<◌, ◌≤◌, zero, suc, max}
 use Rattle.std.specs.List.{range_with_len}
 use Rattle.std.specs.FinMap.{contains_key}
@@ -9,7 +10,7 @@ use Rattle.std.proofs.lemmas.List.FromFn.{length-range_with_len}
 use Rattle.sg_store.specs.Disk.{Contents, used_among, used_at}
 use Rattle.sg_store.proofs.DiskLemmas.{used_among-none, used_among-more}
 
--- At least the record of each such address of the range is visited,
+-- A call visits at least the record of each such address of the range,
 abbrev pub plain_least : Contents → (lba count : ℕ) → ℕ
 plain_least contents lba count = used_among contents lba count
 
@@ -28,7 +29,7 @@ plain_price-within contents lba count =
     let at_most_all = count_by-le-length (contains_key contents) (range_with_len lba count) in
     omega (arith, at_most_all, length-range_with_len lba count)
 
--- Two ranges one behind the other have as many as the whole.
+-- Two ranges that follow one another have as many as the whole.
 used-append : (contents : Contents) (lba count more : ℕ)
     → used_among contents lba (count + more)
     ≡ used_among contents lba count + used_among contents (lba + count) more

@@ -1,4 +1,4 @@
--- What a `PlainMap` keeps, as its callers see it: a disk and a meter.
+-- The state of a `PlainMap`, as its callers see it: a disk and a meter.
 use Rattle.sg_store.specs.Disk.{Disk}
 use Rattle.sg_store.specs.Meter.{Meter}
 use Rattle.sg_plain_map.specs.Editing.{stored}
@@ -12,7 +12,7 @@ disk_of map = record {
   contents = stored map.table map.pool;
 }
 
--- What its calls cost so far. It follows no links.
+-- The cost of its calls so far. It follows no links.
 abbrev pub meter_of : PlainMap → Meter
 meter_of map = record {
   counts = record { visits = map.table.visits; probes = map.table.probes; links = 0 };

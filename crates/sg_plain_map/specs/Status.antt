@@ -6,7 +6,8 @@ use Rattle.sg_table.specs.declared.run.Kind.{Kind}
 use Rattle.sg_table.specs.declared.run.Run.{Run}
 use Rattle.sg_store.specs.Disk.{max_capacity, max_pool}
 
--- A sorted table of a disk, of which no record lies past the end. Both are no larger than allowed.
+-- A sorted table of a disk. No record lies past the end of the disk. Both are no larger than
+-- allowed.
 pub record IsTableOf (capacity : ℕ) (records : List Run) : Type 0 where
   pub sorted : IsSorted records
   pub within : (i : ℕ) → i < length records → start_of records i < capacity
@@ -18,8 +19,8 @@ abbrev pub of_kind : Kind → Option Run → Option Run
 of_kind kind None = None
 of_kind kind (Some run) = if same_kind run.kind kind then Some run else None
 
--- The records from one index to another are those of the addresses from one on, without a gap, and
--- each has the kind.
+-- The records from one index to another have the addresses from one on, without a gap, and each has
+-- the kind.
 abbrev pub AreInRow : List Run → (from to lba : ℕ) → Kind → Type 0
 AreInRow records from to lba kind = (i : ℕ) → from ≤ i → i < to
     → (run : Run) × (slice_index_or records i run ≡ run) × (run.start + from ≡ lba + i)

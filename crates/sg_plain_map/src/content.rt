@@ -1,4 +1,4 @@
-// What the addresses of a range are to have. It knows no address and no record.
+// The new content of the addresses of a range. This file knows no address and no record.
 ghost use Rattle.std.specs.Prelude.{◌≡◌, ◌<◌, length};
 ghost use Rattle.sg_store.specs.Disk.{HasBlockLength};
 ghost use Rattle.sg_pool.specs.MappedRecords.{filled_slot};
@@ -7,7 +7,7 @@ ghost use Rattle.sg_plain_map.specs.Content.{kind_for, mapping_for};
 use sg_pool::{Pool, Source};
 use sg_table::Kind;
 
-/// What the addresses of a range are to have.
+/// The new content of the addresses of a range.
 #[derive(Drop)]
 pub(crate) enum Content<'a> {
     /// The blocks of a source.
@@ -27,8 +27,8 @@ impl Content<'_> {
         }
     }
 
-    /// Puts the block for an index of the range into a slot. What the slot of an anchored address
-    /// holds stays there, and is not seen.
+    /// Puts the block for an index of the range into a slot. The slot of an anchored address keeps
+    /// its bytes, and no reader sees them.
     pub(crate) fn fill(&self, pool: &mut Pool, slot: u32, index: usize)
         requires slot { slot < length pool.old.blocks }
         requires whole { HasBlockLength (mapping_for self.now index) }

@@ -1,5 +1,5 @@
-// The record of an address, where it has a kind. By it the records of one status are passed, and a write
-// finds whether it changes any.
+// The record of an address, if it has a kind. With it, GET LBA STATUS goes past the records of one
+// status, and a write finds out whether it changes a record.
 ghost use Rattle.std.specs.Prelude.{◌≡◌};
 ghost use Rattle.sg_table.specs.Records.{run_at};
 ghost use Rattle.sg_plain_map.specs.Status.{of_kind};

@@ -1,5 +1,5 @@
-// Counting the addresses of a range that have a block of the pool: their records are visited, and
-// nothing changes.
+// Counting the addresses of a range that have a block of the pool. The count visits their records
+// and changes nothing.
 ghost use Rattle.std.specs.Prelude.{◌≡◌, ◌+◌, ◌-◌, ◌<◌, ◌≤◌, length};
 ghost use Rattle.sg_table.specs.Table.{visited};
 

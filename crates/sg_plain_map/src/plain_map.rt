@@ -1,5 +1,5 @@
-// The store itself: a record for each mapped or anchored address, in a table, and its block in a slot
-// of a pool. What its calls do to the records is in the other files.
+// The store itself: a record for each mapped or anchored address, in a table, and its block in a
+// slot of a pool. The other files say what its calls do to the records.
 ghost use Rattle.std.specs.Prelude.{◌≡◌, ◌+◌, ◌≤◌, ◌↔◌, IsErr, OnOk, OnErr};
 ghost use Rattle.sg_store.specs.Disk.{IsWellFormed, IsOverfull, disk_remapped};
 ghost use Rattle.sg_store.specs.DiskProps.{IsWellFormed-IsProp};
@@ -25,9 +25,9 @@ use sg_wire::Cut;
 use sg_wire::laws::{parts_are_put_in_turn, parts_are_replaced};
 use std::alloc::{AllocError, Global};
 
-/// A disk of which each mapped or anchored address has a record of its own (SBC-3, 4.7).
+/// A disk with a record of its own for each mapped or anchored address (SBC-3, 4.7).
 ///
-/// A call over a range visits the records of those addresses in it, and at most one more.
+/// A call over a range visits the records of the range's addresses, and at most one more.
 #[derive(Drop)]
 pub struct PlainMap {
     capacity: u64,
@@ -46,7 +46,7 @@ impl PlainMap {
     ghost use Rattle.sg_plain_map.specs.Content.{HasMappings, mapping_for};
     ghost use Rattle.sg_plain_map.specs.State.{disk_of, meter_of};
 
-    /// Gives the addresses from one on what they are to have.
+    /// Gives the addresses from one on their new content.
     ///
     /// # Errors
     /// More addresses would have a slot than the pool has. Nothing changes then.
@@ -63,7 +63,7 @@ impl PlainMap {
             (disk_of self.new ≡ disk_remapped (disk_of self.old) lba count (mapping_for content.now)) }
         ensures err { OnErr result (disk_of self.new ≡ disk_of self.old) }
 
-        // What the call costs, and between which bounds its visits lie.
+        // The cost of the call, and the bounds of its visits.
         ensures costs { ChargedOnOk result (disk_of self.old).pool
             (plain_price (disk_of self.old).contents lba count)
             (plain_least (disk_of self.old).contents lba count)
@@ -147,7 +147,8 @@ impl Store for PlainMap {
         cut.put(&status_header(0));
         let from = self.table.lower_bound(lba);
         let count = write_descriptors(&mut self.table, from, lba, self.capacity, cut);
-        // Their number is known only now. The header with it is written over the one that was put.
+        // The number of descriptors is known only now. The header with it replaces the first
+        // header.
         cut.replace(at, &status_header(count));
     }
 

@@ -1,5 +1,5 @@
-// Reading a range: the records are passed in the order of addresses, and where one is missing or
-// anchored the block is zeros.
+// Reading a range: the read goes past the records in the order of addresses. If a record is missing
+// or anchored, the block is zeros.
 ghost use Rattle.std.specs.Prelude.{◌≡◌, ◌+◌, ◌-◌, ◌*◌, ◌<◌, length};
 ghost use Rattle.sg_store.specs.Disk.{block, blocks, used_at};
 ghost use Rattle.sg_table.specs.Table.{visited};
@@ -10,8 +10,8 @@ use sg_pool::{Pool, read_first};
 use sg_store::BLOCK_LENGTH;
 use sg_table::{Cursor, RunTable, run_at};
 
-/// Reads the block at the cursor's address, and goes on to the next address. Each record that the
-/// cursor passes was visited, and the one where it is.
+/// Reads the block at the cursor's address, and goes on to the next address. The call has visited
+/// each record that the cursor passes, and the record where it ends.
 fn read_block(
     table: &mut RunTable,
     pool: &Pool,
@@ -19,7 +19,7 @@ fn read_block(
     lba: u64,
     bytes: &mut [u8],
 ) -> Cursor
-    // The cursor is at the address, in a table of which each record has a slot.
+    // The cursor is at the address, and each record of the table has a slot.
     requires cursor { IsAt table.old.records cursor lba }
     requires readable { IsReadable table.old.records pool.now }
 
@@ -30,8 +30,8 @@ fn read_block(
     // The block is read.
     ensures bytes { bytes.new ≡ block (stored table.old pool.now) lba }
 
-    // The cursor goes past the record of the address, if there is one, and only the visits on its
-    // way are counted.
+    // The cursor goes past the record of the address, if there is one, and the table counts only
+    // the visits on its way.
     ensures cursor { IsAt table.old.records result (lba + 1) }
     ensures index { result.index ≡ cursor.index + used_at (stored table.old pool.now) lba }
     ensures cost { visited table.new (passed cursor) ≡ visited table.old (passed result) }
@@ -44,7 +44,7 @@ fn read_block(
     Cursor::new(table, cursor.index + 1)
 }
 
-/// Reads the blocks from an address on, of which the records begin at an index.
+/// Reads the blocks from an address on. Their records begin at an index.
 pub(crate) fn read_blocks(
     table: &mut RunTable,
     pool: &Pool,
@@ -56,7 +56,7 @@ pub(crate) fn read_blocks(
     requires ready { IsReady table.old pool.now from lba count }
     requires byte_count { length bytes.old ≡ BLOCK_LENGTH * count }
 
-    // The blocks are read, and the table changes by visits alone.
+    // The blocks are read, and the table changes only by visits.
     ensures bytes { bytes.new ≡ blocks (stored table.old pool.now) lba count }
     ensures table { table.new ≡ visited table.old (table.new.total - table.old.total) }
     ensures visits { VisitsRange (stored table.old pool.now) lba count table.old table.new }

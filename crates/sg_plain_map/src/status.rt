@@ -1,5 +1,5 @@
 // The descriptors of GET LBA STATUS one by one: records of one kind with addresses in a row, and
-// the gaps between them. It knows no slot and no block.
+// the gaps between them. This file knows no slot and no block.
 ghost use Rattle.std.specs.Prelude.{◌≡◌, ℕ, ◌+◌, ◌-◌, ◌<◌, ◌≤◌, List, None};
 ghost use Rattle.sg_store.specs.LbaStatus.{covered, descriptor_at, descriptors_from};
 ghost use Rattle.sg_store.specs.LbaStatus.{PutsDescriptors};
@@ -19,20 +19,19 @@ use sg_table::{Cursor, Kind, RunTable, run_at};
 use sg_wire::Cut;
 use sg_wire::laws::parts_are_put_in_turn;
 
-/// Goes past the records of one kind with addresses in a row, of which the cursor's address is the
-/// first.
+/// Goes past the records of one kind with addresses in a row, from the cursor's address on.
 fn pass_alike(table: &mut RunTable, cursor: Cursor, lba: u64, kind: Kind) -> Cursor
     requires cursor { IsAt table.old.records cursor lba }
     requires table { IsTableOf MAX_CAPACITY table.old.records }
     requires headroom { table.old.visits + MAX_POOL < u64.MAX }
 
-    // Their addresses have no gap, and the one behind them has no record of that kind.
+    // Their addresses have no gap, and the address after them has no record of that kind.
     ensures order { cursor.index ≤ result.index }
     ensures row { AreInRow table.old.records cursor.index result.index lba kind }
     ensures cursor { IsAt table.old.records result (lba + (result.index - cursor.index)) }
     ensures end { of_kind kind (run_at result.next (lba + (result.index - cursor.index))) ≡ None }
 
-    // Only the visits on the way are counted.
+    // The table counts only the visits on the way.
     ensures cost { visited table.new (passed cursor) ≡ visited table.old (passed result) }
 {
     let mut end = cursor;
@@ -95,7 +94,7 @@ pub(crate) fn write_descriptors(
         (contents_of table.old.records blocks) capacity lba cut.old cut.new result }
     ensures at_most { result ≤ MAX_DESCRIPTORS }
 
-    // The table changes by visits alone.
+    // The table changes only by visits.
     ensures table { table.new ≡ visited table.old (table.new.total - table.old.total) }
     ensures visits { (blocks : List (List ℕ)) →
         let contents = contents_of table.old.records blocks in

@@ -1,5 +1,5 @@
-// Writing or anchoring a range: the records that it is to have are drafted, and put into the table at
-// once. That there are slots enough is for the store to know.
+// Writing or anchoring a range: the call drafts the records that the range is to have, and puts
+// them into the table at once. The store makes sure that there are enough slots.
 ghost use Rattle.std.specs.Prelude.{◌≡◌, ◌+◌, ◌<◌, ◌≤◌, is_some, length};
 ghost use Rattle.std.specs.FinMap.{insert};
 ghost use Rattle.sg_store.specs.Disk.{HasBlockLength, remapped, used_among};
@@ -18,7 +18,7 @@ use crate::kind::run_of_kind;
 use sg_pool::Pool;
 use sg_table::{Cursor, Draft, Kind, Run, RunTable, run_at};
 
-/// Whether an address has a record that stays as it is, since it has the kind that it is to have.
+/// Whether an address has a record that stays as it is, because it has the new kind already.
 fn keeps_record(cursor: Cursor, lba: u64, kind: Kind) -> bool
     ensures { result ≡ is_some (of_kind kind (run_at cursor.next lba)) }
 {
@@ -42,7 +42,7 @@ fn put_address(
     requires whole { HasBlockLength (mapping_for content.now index) }
     requires headroom { table.old.visits < u64.MAX }
 
-    // The address has what it is to have, and the edit comes to the next one.
+    // The address has its new content, and the edit comes to the next one.
     ensures contents { let before = edited_contents table.old pool.old draft.old cursor in
         edited_contents table.old pool.new draft.new result
         ≡ insert before lba (mapping_for content.now index) }
@@ -51,7 +51,7 @@ fn put_address(
         Drafts table.old.records lba (used_at before lba) (kind_for content.now) cursor result
         pool.old pool.new draft.old draft.new }
 
-    // Only the visits on the cursor's way are counted.
+    // The table counts only the visits on the cursor's way.
     ensures cost { visited table.new (passed cursor) ≡ visited table.old (passed result) }
 {
     let Some(run) = run_at(cursor.next, lba) else {
@@ -68,8 +68,8 @@ fn put_address(
     Cursor::new(table, cursor.index + 1)
 }
 
-/// Gives the addresses from one on what they are to have. Their records begin at an index. There have
-/// to be free slots for the addresses without one.
+/// Gives the addresses from one on their new content. Their records begin at an index. The
+/// addresses without a slot need free slots.
 pub(crate) fn put_range(
     table: &mut RunTable,
     pool: &mut Pool,
@@ -85,8 +85,8 @@ pub(crate) fn put_range(
         + used_among (stored table.old pool.old) lba count }
     requires room { (count ≤ draft.old.room) × (draft.old.room ≡ table.old.room) }
 
-    // The addresses are remapped, and the table changes by its records, their moves and its visits
-    // alone.
+    // The addresses are remapped, and only the records, their moves and the visits of the table
+    // change.
     ensures contents { stored table.new pool.new
         ≡ remapped (stored table.old pool.old) lba count (mapping_for content.now) }
     ensures changes { ChangesRecords (move_bound + count) table.old table.new pool.new }
@@ -102,7 +102,7 @@ pub(crate) fn put_range(
         same &= keeps_record(cursor, address, kind);
         cursor = put_address(table, pool, draft, cursor, address, content, i as usize);
     }
-    // Otherwise the drafted records are those of the table.
+    // Otherwise the table has the drafted records already.
     if !same {
         table.splice(draft.from(), cursor.index, draft.records());
     }

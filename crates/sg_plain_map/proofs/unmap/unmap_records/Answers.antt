@@ -14,7 +14,7 @@ use Rattle.sg_plain_map.proofs.RemovalLemmas.{unmapped-slot, unmapped-consistent
 use Rattle.sg_plain_map.proofs.RemovalLemmas.{contents-unmapped}
 use Rattle.sg_plain_map.proofs.unmap.unmap_records.Goals as goal
 
--- the record that was visited is that of the table before the loop
+-- the record that was visited is the same in the table before the loop
 read_of : (t u : Table) (n i : ℕ) (run : Run) → t ≡ visited u n → slice_index_or t.records i run ≡
     run → run ≡ get_or u.records i run
 read_of t u n i run e is = sym is ∙ ap (λ (x : Table). slice_index_or x.records i run) e

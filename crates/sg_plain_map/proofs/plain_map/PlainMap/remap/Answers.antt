@@ -35,7 +35,7 @@ returns-clause-space c =
     (mapping_for c.args.content.now) s.consistent c.lower_bound-from.ensures.index to in
     (λ wrong. cc, λ more. absurd (omega (arith, c.if-count-free_count.false, c.free_count.ensures, more)))
 
--- what is replaced is on the disk, and by whole blocks
+-- the replaced addresses are on the disk, and their blocks are whole
 pub invariant_of-self-2-clause-well_formed : goal.invariant_of-self-2-clause-well_formed
 invariant_of-self-2-clause-well_formed c =
     let map = c.args.self.now in

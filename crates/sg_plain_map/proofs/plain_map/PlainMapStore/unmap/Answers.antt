@@ -5,7 +5,7 @@ use Rattle.sg_pool.specs.MappedRecords.{contents_of}
 use Rattle.sg_table.specs.Table.{Table, probed}
 use Rattle.sg_plain_map.proofs.plain_map.PlainMapStore.unmap.Goals as goal
 
--- what stays mapped is on the disk, in whole blocks
+-- the addresses that stay mapped are on the disk, in whole blocks
 pub invariant_of-self-clause-well_formed : goal.invariant_of-self-clause-well_formed
 invariant_of-self-clause-well_formed c =
     let map = c.args.self.now in
