@@ -1,4 +1,4 @@
--- Which addresses runs have, and in which order the runs are.
+-- The addresses of runs, and the order of the runs.
 use Rattle.std.proofs.Common.{◌≡◌, ◌≢◌, ℕ, ◌+◌, ◌<◌, ◌≤◌, zero, suc, List, [], ◌∷◌, ◌++◌, length}
 use Rattle.std.proofs.Common.{arith, refl, ap, ◌∙◌, ◌⊎◌, inl}
 use Rattle.std.proofs.Common.{inr, cond, Bool, true, false, Option, Some, None}
@@ -54,7 +54,7 @@ apart-filled [] a b i h lt = absurd (omega arith)
 apart-filled (x ∷ rs) a b zero h lt = omega (arith, h.1)
 apart-filled (x ∷ rs) a b (suc i) h lt = apart-filled rs (end_of x) b i h.2 (omega arith)
 
--- where one begins right behind another, that one has another kind
+-- if one run begins right after another, they have different kinds
 other_kind : (k j : Kind) (n start : ℕ) → cond (same_kind j k) (n + 1) n ≤ start → start ≡ n → j ≢ k
 other_kind Data Data n start h e same = absurd (omega arith)
 other_kind Data Anchored n start h e same = cc
@@ -70,7 +70,7 @@ kinds-differ (x ∷ y ∷ rs) low high zero h lt e =
 kinds-differ (x ∷ y ∷ rs) low high (suc i) h lt e =
     kinds-differ (y ∷ rs) (behind x) high i h.2 (omega arith) e
 
--- ---- Which addresses they have
+-- ---- The addresses of runs
 
 left-some : (b : Bool) (u v : Mapping) (o p : Option Mapping) → (o ≡ Some v → p ≡ Some v)
     → cond b (Some u) o ≡ Some v → cond b (Some u) p ≡ Some v

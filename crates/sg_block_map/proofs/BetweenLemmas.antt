@@ -60,7 +60,7 @@ start_of-right (x ∷ xs) ys zero le = absurd (omega arith)
 start_of-right (x ∷ xs) ys (suc i) le = let e : suc i - suc (length xs) ≡ i - length xs =
     omega arith in rw e (start_of-right xs ys i (omega arith))
 
--- the index of an address is where those past it begin
+-- the addresses past an address begin at its index
 pub index-between : (xs ys : List Run) (a m n b : ℕ) → AreBetween a m xs → AreBetween n b ys → m ≤ n
     → IsLowerBound (xs ++ ys) (length xs) m
 index-between xs ys a m n b h k le =
@@ -122,7 +122,7 @@ pub apart-append : (xs ys : List Run) (a m b : ℕ) → AreApart a m xs → AreA
 apart-append [] ys a m b h k = apart-weaker ys m b a b h (omega arith) k
 apart-append (x ∷ xs) ys a m b h k = (h.0, h.1, apart-append xs ys (end_of x) m b h.2 k)
 
--- where the runs behind others begin
+-- the first address where the runs after others may begin
 abbrev pub end_of_all : (low : ℕ) → List Run → ℕ
 end_of_all low [] = low
 end_of_all low (run ∷ runs) = end_of_all (end_of run) runs

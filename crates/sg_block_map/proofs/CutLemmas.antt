@@ -1,4 +1,4 @@
--- Runs of which the addresses of a range are unmapped.
+-- Runs that lose the addresses of a range.
 use Rattle.std.proofs.Common.{◌≡◌, ℕ, ◌+◌, ◌≤◌, List, [], ◌∷◌, ◌++◌, length, set, arith, refl, sym}
 use Rattle.std.proofs.Common.{ap, ◌∙◌, append_assoc, length-append, Option, Some, None}
 use Rattle.std.proofs.lemmas.List.{append-nil}

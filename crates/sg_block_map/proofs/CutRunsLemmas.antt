@@ -1,4 +1,4 @@
--- A table of runs of which one is cut.
+-- A table of runs after a cut of one run.
 use Rattle.std.proofs.Common.{◌≡◌, ℕ, ◌+◌, ◌-◌, ◌<◌, ◌≤◌, suc, List, [], ◌∷◌, ◌++◌, length}
 use Rattle.std.proofs.Common.{arith, refl, sym, ap, ap₂, ◌∙◌, append_assoc}
 use Rattle.std.proofs.Common.{length-append, Option, Some, None}
@@ -142,7 +142,7 @@ module _ {old new : Slots} {kept kept' : List Run} {run : Run} {low high : ℕ}
       ∙ ap (λ zs. zs ++ t) (expanded-append old.next fs bs) ∙ append_assoc f b t)
       ∙ sym (append_assoc p f (b ++ t))
 
-  -- how often a slot occurs before and after
+  -- the occurrences of a slot before and after
   slots_was : (s : ℕ) → occurrences s (slots_of (expanded old.next was)) ≡
       occurrences s (slots_of (expanded old.next is)) + occurrences s
       (slots_of (expanded old.next gs))
@@ -242,7 +242,7 @@ module _ {old new : Slots} {kept kept' : List Run} {run : Run} {low high : ℕ}
           links = cut.links ∙ before.links;
         }
 
-    -- what lies outside the range
+    -- the addresses outside the range
     pub cut-outside : low ≤ high → outside_records (expanded new.next is) low (high - low)
         ≡ outside_records (expanded old.next was) low (high - low)
     cut-outside le =

@@ -1,4 +1,4 @@
--- How many addresses of runs have data.
+-- The number of addresses of runs that have data.
 use Rattle.std.proofs.Common.{◌≡◌, ℕ, ◌+◌, ◌≤◌, zero, suc, List, [], ◌∷◌, arith, refl, ap, ◌∙◌}
 use Rattle.std.proofs.Common.{cond}
 use Rattle.std.proofs.lemmas.List.Sums.{sum_by-cons}

@@ -1,4 +1,4 @@
--- The single addresses of runs: what splits, joins and links leave of them.
+-- The single addresses of runs, after splits, joins and links.
 use Rattle.std.proofs.Common.{◌≡◌, ◌≢◌, ℕ, ◌+◌, ◌-◌, ◌≤◌, zero, suc, List, [], ◌∷◌, ◌++◌, length}
 use Rattle.std.proofs.Common.{get_or, set, drop, arith, refl, sym, ap, ap₂, ◌∙◌, append_assoc}
 use Rattle.std.proofs.Common.{length-append}
@@ -96,7 +96,7 @@ pub slots-append : (xs ys : List Run) → slots_of (xs ++ ys) ≡ slots_of xs ++
 slots-append [] ys = refl
 slots-append (x ∷ xs) ys = ap (λ zs. x.first ∷ zs) (slots-append xs ys)
 
--- how often a slot occurs among those of a run and of the runs behind it
+-- the occurrences of a slot in a run and in the runs after it
 pub slots-more : (next : List ℕ) (t : ℕ) (run : Run) (runs : List Run)
     → occurrences t (slots_of (expanded next (run ∷ runs))) ≡
     occurrences t (chain next run.first run.count) + occurrences t (slots_of (expanded next runs))

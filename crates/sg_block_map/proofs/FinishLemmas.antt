@@ -53,7 +53,7 @@ front_end next [] more lba high front near t = let wrong = t.0 in cc
 front_end next (run ∷ runs) more lba high front near t = let f = t.1.before in
     omega (arith, f.1, near.0)
 
--- the kind of what is before the range decides
+-- the kind of the run before the range decides
 pub by_kind : (P : Option Run × Run → Type 0) (kind : Kind) (front : Run) (lba : ℕ)
     → (same_kind front.kind kind ≡ true → P (None, front))
     → (same_kind front.kind kind ≡ false → P (Some front, no_run lba kind))
@@ -111,7 +111,7 @@ module _ (before runs after more : List Run) (slots : Slots) (lba high room : �
   before_chained : AreChained slots.next before
   before_chained = chained-left slots.next before (runs ++ after) h.chained
 
-  -- the table to be, where a run without an address is put behind some others
+  -- the table to be, if a run without an address is put after some others
   none_put : (xs : List Run) → expanded slots.next (xs ++ no_run lba kind ∷ (more ++ after)) ≡
       expanded slots.next (xs ++ (more ++ after))
   none_put xs = expanded-append slots.next xs (no_run lba kind ∷ (more ++ after))
@@ -248,11 +248,11 @@ last-ahead runs after run at high h near = (
       (λ kind. omega (arith, h.0, h.1, behind-low run kind)) h.2 near.2,
 )
 
--- what is behind the range in the end
+-- the runs after the range in the end
 abbrev pub behind_it : (back : Option Run) (after : List Run) → List Run
 behind_it back after = option_to_list back ++ after
 
--- The table after the range, and what is seen of it.
+-- The table after the range, and its single addresses.
 pub record IsWritten (before after : List Run) (done : Run) (rest : List Run) (result : Run)
     (back : Option Run) (old new : Slots) (room : ℕ) : Type 0 where
   pub runs : AreRuns (before ++ result ∷ behind_it back after) new room
@@ -309,7 +309,7 @@ finished_by : (P : Bool → Type 0) (b : Bool) → (b ≡ true → P true) → (
 finished_by P true same other = same refl
 finished_by P false same other = other refl
 
--- the range is written, and what is behind it is joined or kept
+-- the range is written, and the run after it is joined or kept
 pub finished : (before after runs : List Run) (done result : Run) (run back : Option Run)
     (at high room : ℕ) (old new : Slots) → IsWriting before done
     (ahead_of runs run at ++ after) old high → AreNear 0 high (ahead_of runs run at)
@@ -343,13 +343,13 @@ finished before after runs done result (Some found) back at high room old new w 
     f refl in
     rw shape all
 
--- the table that is put, from what is kept before the range on
+-- the table that is put, from the part that is kept before the range on
 pub parts-shape : (before fs bs after : List Run) (run : Run)
     → before ++ ((fs ++ run ∷ bs) ++ after) ≡ (before ++ fs) ++ run ∷ (bs ++ after)
 parts-shape before fs bs after run = ap (λ xs. before ++ xs) (append_assoc fs (run ∷ bs) after)
     ∙ sym (append_assoc before fs (run ∷ (bs ++ after)))
 
--- a slot is free where one is needed
+-- a slot is free if one is needed
 pub free-there : (before after runs : List Run) (done : Run) (run : Option Run) (at lba i count : ℕ)
     (old now : Slots) (rs : List Run) (f : ℕ → Mapping)
     → IsWriting before done (ahead_of runs run at ++ after) now (lba + i)

@@ -55,7 +55,7 @@ count-begun rs index at high h le within =
     let b = h (index + i) (omega arith) (omega arith) in omega arith) (omega arith) in
     omega arith
 
--- one run more
+-- one more run
 pub near-more : (rs : List Run) (index at high start : ℕ)
     → ((i : ℕ) → index ≤ i → i < at → start_of rs i < high) → start ≡ start_of rs at → start ≤ high
     → (i : ℕ) → index ≤ i → i < at + 1 → start_of rs i ≤ high
@@ -109,7 +109,7 @@ maximal-step (x ∷ y ∷ rs) low high zero h lt = omega (arith, h.2.0, behind-l
 maximal-step (x ∷ y ∷ rs) low high (suc i) h lt = maximal-step (y ∷ rs) (behind x) high i h.2
     (omega arith)
 
--- the runs before an index, and those from it on
+-- the runs before an index, and the runs from it on
 pub maximal-take : (rs : List Run) (n : ℕ) (low bound : Bound) (high : ℕ) → AreMaximalIn low bound rs
     → n ≤ length rs → (n ≡ 0 → (kind : Kind) → low kind ≤ high)
     → ((m : ℕ) → n ≡ suc m → end_at rs m < high)
@@ -169,7 +169,7 @@ begun-one rs gathered run index low pos within e one read reach =
       before = λ wrong pos. absurd (omega arith);
     }
 
--- how the table is parted
+-- the parts of the table
 pub gathered-parts : (rs : List Run) (gathered : Drafted)
     → splice rs gathered.from (end_index gathered) gathered.records ≡ rs
     → rs ≡ take gathered.from rs ++ (gathered.records ++ drop (end_index gathered) rs)
@@ -233,7 +233,7 @@ all-gathered rs begun gathered index low high bound b p order from grows within 
           (λ lt. let a = after lt in omega arith);
     }
 
--- how many runs begin in the range
+-- the number of runs that begin in the range
 pub count-starts : (rs : List Run) (index low high : ℕ)
     → ((i : ℕ) → index ≤ i → i < length rs → low ≤ start_of rs i)
     → count_by (λ (run : Run). nat_lt run.start high) (drop index rs) ≤ count_by
@@ -264,7 +264,7 @@ end-within [] a b i d h lt = absurd (omega arith)
 end-within (x ∷ rs) a b zero d h lt = apart-le rs (end_of x) b h.2
 end-within (x ∷ rs) a b (suc i) d h lt = end-within rs (end_of x) b i d h.2 (omega arith)
 
--- what was gathered up to an index, and on from it
+-- the records that were gathered up to an index, and from it on
 pub gathered-on : (rs : List Run) (old now : Drafted) (index at high : ℕ) → now.from ≡ old.from
     → index ≤ at → end_index now ≡ at → at ≤ length rs
     → splice rs now.from at now.records ≡ rs

@@ -257,7 +257,7 @@ module _ (before : List Run) (done other : Run) (rest : List Run) (slots : Slots
             (λ pos. (last_there pos).0) once_there;
       }
 
-  -- what a link from the last slot needs
+  -- the premises of a link from the last slot
   pub link-slot : 0 < done.count → done.last < length slots.next
   link-slot pos = (last_there pos).0
 

@@ -27,7 +27,7 @@ use Rattle.sg_block_map.proofs.ExpandedLemmas.{expanded-more, expanded-none}
 use Rattle.sg_store.proofs.DiskLemmas.{count-more}
 use Rattle.sg_block_map.proofs.GatheringLemmas.{count-append}
 
--- what is seen of blocks shows the kinds
+-- the view of blocks shows the kinds
 blocks-show : (bs : List (List ℕ)) (slot : ℕ) (kind : Kind) → kind_of (mapping_in bs slot kind) ≡ kind
 blocks-show bs slot DataRun = refl
 blocks-show bs slot AnchoredRun = refl
@@ -221,7 +221,7 @@ none-after (run ∷ rs) a b lba count h le =
       count-more (meets lba count) (address_run run) (map address_run rs),
     )
 
--- the runs that meet a range are among those that were gathered
+-- the runs that meet a range are among the gathered runs
 pub meet-gathered : (next : List ℕ) (rs : List Run) (bs : List (List ℕ)) (gathered : Drafted)
     (lba count bound : ℕ) → AreMaximal 0 bound rs
     → AreGathered rs gathered lba (lba + count) bound

@@ -1,4 +1,4 @@
--- How many runs a range meets.
+-- The number of runs that a range meets.
 use Rattle.std.proofs.Common.{◌≡◌, ℕ, ◌+◌, ◌-◌, ◌<◌, ◌≤◌, zero, suc, List, [], ◌∷◌, length}
 use Rattle.std.proofs.Common.{arith, refl, ◌⊎◌, inl}
 use Rattle.std.proofs.Common.{inr, cond}
@@ -16,7 +16,7 @@ use Rattle.sg_block_map.specs.Status.{IsRunTable, AreMet, AreFrom, records_met}
 use Rattle.sg_store.proofs.DiskLemmas.{count-more}
 use Rattle.sg_block_map.proofs.MaximalLemmas.{ends_before, begins_past, none-meet, runs-addresses}
 
--- how many runs a range meets
+-- the number of runs that a range meets
 meets_one : (lba count start n : ℕ) → lba < start + n → start < lba + count → 0 < count → 0 < n
     → cond {A = ℕ} (nat_lt (max start lba) (min (start + n) (lba + count))) 1 0 ≡ 1
 meets_one lba count start n h k some any = grind (arith, nat_tests)
@@ -64,7 +64,7 @@ met-count rs capacity from to low count t le within before met (inl none) =
 met-count rs capacity from to low count t le within before met (inr some) =
     met-more rs from to low count t.filled le within before met some.0 some.1
 
--- how many maximal runs a range meets, by the records
+-- the number of maximal runs that a range meets, by the records
 pub meet-records : (rs : List Run) (slots : Slots) (room lba count : ℕ) → AreRuns rs slots room
     → meet (chained_contents rs slots) lba count ≡ records_met rs lba count
 unfolding meet

@@ -1,4 +1,4 @@
--- Runs between bounds, of which none could be joined to the next.
+-- Runs between bounds. None of them could be joined to the next.
 use Rattle.std.proofs.Common.{◌≡◌, ℕ, ◌+◌, ◌<◌, ◌≤◌, List, [], ◌∷◌, ◌++◌, cond}
 use Rattle.std.proofs.Common.{Bool, true, false, refl, arith, Option, Some, None}
 use Rattle.std.specs.Prelude.{option_to_list, IfSome}
@@ -26,7 +26,7 @@ behind-low run kind = one_more-low (same_kind kind run.kind) (end_of run)
 pub behind-high : (run : Run) (kind : Kind) → behind run kind ≤ end_of run + 1
 behind-high run kind = one_more-high (same_kind kind run.kind) (end_of run)
 
--- A bound is narrow if it is for no kind more than one past that for another.
+-- A bound is narrow if its address for one kind is at most one past its address for another.
 abbrev pub IsNarrow : Bound → Type 0
 IsNarrow low = (j k : Kind) → low j ≤ low k + 1
 
@@ -39,7 +39,7 @@ narrow-behind run j k = omega (arith, behind-high run j, behind-low run k)
 abbrev pub AtMost : Bound → Bound → Type 0
 AtMost low high = (kind : Kind) → low kind ≤ high kind
 
--- a bound reaches the one that a run begins at
+-- a bound reaches the bound that a run begins at
 pub begins-reach : (low : Bound) (kind : Kind) (lba : ℕ) → IsNarrow low → low kind ≤ lba
     → AtMost low (begins kind lba)
 begins-reach low kind lba narrow le other = at kind other (narrow other kind) le
@@ -74,7 +74,7 @@ behind-own run = at run.kind (end_of run)
     at Data n = refl
     at Anchored n = refl
 
--- behind runs that end at the same address, or earlier
+-- the bound after a run, and the bound after a run that ends there or later
 pub behind-at-most : (a b : Run) → a.kind ≡ b.kind → end_of a ≤ end_of b
     → AtMost (behind a) (behind b)
 behind-at-most a b same le kind = rw same (less (same_kind kind b.kind) (end_of a) (end_of b) le)
@@ -122,7 +122,7 @@ maximal-append [] ys low mid high h k = maximal-from ys mid high low h k
 maximal-append (x ∷ xs) ys low mid high h k =
     (h.0, h.1, maximal-append xs ys (behind x) mid high h.2 k)
 
--- where the runs behind others may begin
+-- the bound where the runs after others may begin
 abbrev pub behind_all : (low : Bound) → List Run → Bound
 behind_all low [] = low
 behind_all low (run ∷ runs) = behind_all (behind run) runs
@@ -179,7 +179,7 @@ maximal-before xs ys run low high narrow h =
     (begins-reach (behind_all low xs) run.kind run.start (narrow-all xs low narrow) right.0)
     (maximal-left xs (run ∷ ys) low high h)
 
--- a run of one kind, between what was before it and what is behind it
+-- a run of one kind, between the runs before it and the runs after it
 pub written-maximal : (xs ys : List Run) (run : Run) (low high : Bound) → 0 < run.count
     → AreMaximalIn low (begins run.kind run.start) xs → AreMaximalIn (behind run) high ys
     → AreMaximalIn low high (xs ++ run ∷ ys)
@@ -201,9 +201,9 @@ front-kept xs ys run front kind low high lba narrow h start same some ends other
       begins-reach (behind front) kind lba (narrow-behind front) (rw other (omega arith)),
     )
 
--- ---- What is left of a run
+-- ---- The rest of a run
 
--- A part of a run, of its kind, in front of a range or behind it.
+-- A part of a run, of its kind, before a range or after it.
 pub record IsPart (run : Run) (from to : ℕ) (part : Run) : Type 0 where
   pub kind : part.kind ≡ run.kind
   pub not_empty : 0 < part.count
@@ -238,7 +238,7 @@ with_back low high run (Some back) tail at narrow le some p h = (
   maximal-from tail (behind run) high (behind back) (part-behind run back at (end_of run) p) h,
 )
 
--- behind a front there is a gap before the back
+-- after a front there is a gap before the back
 behind_front : (end : Bound) (run front : Run) (back : Option Run) (tail : List Run)
     (from to : ℕ) → from < to → 0 < run.count → IsPart run 0 from front
     → IfSome back (IsPart run to (end_of run)) → AreMaximalIn (behind run) end tail

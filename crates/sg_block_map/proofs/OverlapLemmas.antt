@@ -1,4 +1,4 @@
--- How many addresses of a range are mapped, from the runs.
+-- The number of mapped addresses of a range, from the runs.
 use Rattle.std.proofs.Common.{◌≡◌, ℕ, ◌+◌, ◌-◌, ◌<◌, ◌≤◌, zero, suc, List, [], ◌∷◌, ◌++◌, take}
 use Rattle.std.proofs.Common.{drop, arith, refl, sym, ap, ap₂, ◌∙◌, inl, inr, cond, Bool, true}
 use Rattle.std.proofs.Common.{false, Some, Option}
@@ -47,7 +47,7 @@ empty_among f a (suc k) =
     let last = empty_at f (a + k) in
     rw e (omega arith)
 
--- one address more
+-- one more address
 at_insert : (m : Contents) (x q : ℕ) (v : Mapping)
     → used_at (map.insert m x v) q ≡ cond (eq_by_cmp nat_cmp q x) 1 (used_at m q)
 at_insert m x q v = ap (λ o. cond (is_some o) 1 0) (map.get-insert nat_cmp_total m x v q)
@@ -149,7 +149,7 @@ pub mapped-overlap : (next : List ℕ) (runs : List Run) (f : Seen Mapping) (low
 mapped-overlap next runs f low high a k h = among_count (expanded next runs) f low high a k
     (between-expanded next runs low high h) ∙ count_apart next a k runs
 
--- in the range the contents are those of the runs that were gathered
+-- in the range the gathered runs have all the contents
 pub get-gathered : (rs : List Run) (gathered : Drafted) (slots : Slots) (lba count bound q : ℕ)
     → AreGathered rs gathered lba (lba + count) bound → lba ≤ q → q < lba + count
     → map.get (chained_contents rs slots) q ≡ map.get (chained_contents gathered.records slots) q

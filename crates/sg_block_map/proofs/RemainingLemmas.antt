@@ -1,4 +1,4 @@
--- Single addresses without those of a range.
+-- Single addresses without the addresses of a range.
 use Rattle.std.proofs.Common.{◌≡◌, ℕ, ◌+◌, ◌-◌, ◌≤◌, List, [], ◌∷◌, ◌++◌, arith, refl, sym, ap}
 use Rattle.std.proofs.Common.{ap₂, ◌∙◌}
 use Rattle.std.proofs.lemmas.List.Elements.{filter-append}
@@ -19,7 +19,7 @@ pub outside-both : (xs ys : List Run) (a k : ℕ) → outside_records xs a k ≡
     → outside_records ys a k ≡ ys → outside_records (xs ++ ys) a k ≡ xs ++ ys
 outside-both xs ys a k one other = outside-append xs ys a k ∙ ap₂ (λ vs ws. vs ++ ws) one other
 
--- addresses before a range and behind it, and those of it
+-- addresses before a range and after it, and addresses of the range
 pub outside-before : (xs : List Run) (low high a k : ℕ) → high ≤ a → AreBetween low high xs
     → outside_records xs a k ≡ xs
 outside-before [] low high a k le h = refl

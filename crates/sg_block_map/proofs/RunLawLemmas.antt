@@ -34,7 +34,7 @@ abbrev Rise : Bound → List AddressRun → Type 0
 Rise low [] = Unit
 Rise low (run ∷ rs) = (low run.kind ≤ run.start) × (0 < run.count) × Rise (behind_it run) rs
 
--- a run that an address is not joined to begins behind it
+-- if an address is not joined to a run, the run begins after it
 past : (x start : ℕ) (j k : Kind) → x + 1 ≤ start → (start == x + 1 && same_kind j k) ≡ false
     → cond (same_kind k j) (x + 1 + 1) (x + 1) ≤ start
 past x start DataRun DataRun le e = apart (x + 1) start le e
@@ -110,9 +110,9 @@ module _ (d : AddressRun) where
 pub runs-rise : RunsRise
 runs-rise m i j d lt within = rise-order d (any_from 0) (runs m) i j (all-rise m) lt within
 
--- ---- What the list covers
+-- ---- The addresses that the list covers
 
--- whether a run has an address and is of a kind, and whether one of several is
+-- whether a run, or one of several runs, has an address and is of a kind
 abbrev has : Kind → ℕ → AddressRun → Bool
 has k a run = lies_in run.start run.count a && same_kind k run.kind
 
@@ -262,7 +262,7 @@ module _ (s n : ℕ) (k : Kind) where
           (above r.start r.count (s - 1)
           (omega (arith, le, own_behind r k (sym (alike k r.kind e)))))
 
-  -- ---- And each that is maximal is there
+  -- ---- And the list has each maximal run
 
   found : (low : Bound) (rs : List AddressRun) → IsNarrow low → Rise low rs → 0 < n
       → ((a : ℕ) → s ≤ a → a < s + n → covers k rs a ≡ true)

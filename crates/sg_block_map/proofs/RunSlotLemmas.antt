@@ -1,4 +1,4 @@
--- The runs of a table: their slots, their blocks, and those that were gathered.
+-- The runs of a table: their slots, their blocks, and the gathered runs.
 use Rattle.std.proofs.Common.{◌≡◌, ℕ, ◌+◌, ◌<◌, ◌≤◌, List, [], ◌∷◌, ◌++◌, length, take}
 use Rattle.std.proofs.Common.{drop, get_or, arith, sym, ap, ◌∙◌, length-append}
 use Rattle.std.proofs.lemmas.List.{drop_more, get_or-append-add, get_or_append_left}
@@ -23,7 +23,7 @@ use Rattle.sg_block_map.proofs.ExpandedLemmas.{expanded-append, expanded-more, e
 use Rattle.sg_block_map.proofs.ExpandedLemmas.{chained-left, chained-right}
 use Rattle.sg_block_map.proofs.ExpandedLemmas.{slots-both, slots-more, length-singles, runs-le}
 
--- a part of a list in which each slot occurs once
+-- a part of a list where each slot occurs once
 pub below-sub : (count : ℕ) (xs all : List ℕ) → IsEachOnce count all
     → ((t : ℕ) → occurrences t xs ≤ occurrences t all) → AreBelow count xs
 unfolding AreBelow
@@ -130,7 +130,7 @@ gathered-here rs kept gathered low high bound i d g lt =
     ap (λ zs. take gathered.from rs ++ (kept ++ zs))
     (gathered-next rs gathered low high bound i d g lt)
 
--- how many blocks runs have
+-- the number of blocks of runs
 pub length-expanded : (next : List ℕ) (runs : List Run)
     → length (expanded next runs) ≡ blocks_of runs
 length-expanded next [] = ap length (expanded-none next)

@@ -107,7 +107,7 @@ module _ (rs : List Run) (capacity lba : ℕ) (cursor : Cursor) (t : IsRunTable 
   over_kind : kind_at rs cursor.index ≡ run.kind
   over_kind = kind_at-read rs cursor.index run there.0 there.1
 
-  -- the next run, if there is one right behind, is of the other kind
+  -- the next run, if there is one right after it, is of the other kind
   over_stop : (next : List ℕ) (bs : List (List ℕ))
       → status_at (contents_of (expanded next rs) bs) (end_of run) ≢ status_of_kind run.kind
   over_stop next bs same = elim (cases_lt (suc cursor.index) (length rs)) [

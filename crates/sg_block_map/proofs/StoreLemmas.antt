@@ -1,4 +1,4 @@
--- A disk of maximal runs: what its calls rest on.
+-- A disk of maximal runs, and the facts that its calls rest on.
 use Rattle.std.proofs.Common.{◌≡◌, ℕ, ◌+◌, ◌-◌, ◌<◌, ◌≤◌, ◌^◌, List, [], ◌++◌, length, take}
 use Rattle.std.proofs.Common.{drop, arith, refl, sym, ap, ◌∙◌, subst, inl, inr}
 use Rattle.std.proofs.Math.Pow.{pow_mono}
@@ -63,7 +63,7 @@ no-runs slots room blocks free next = record {
   links = next;
 }
 
--- where no address is mapped, each slot is free
+-- if no address is mapped, each slot is free
 none-mapped : (slots : Slots) (room : ℕ) → AreRuns [] slots room → length slots.free ≡ room
 none-mapped slots room h = omega (arith, h.consistent.count, ap length (expanded-none slots.next))
 
@@ -85,12 +85,12 @@ no-contents capacity slots = rw (expanded-none slots.next) (well_formed-empty ca
 pub new-contents : (slots : Slots) → chained_contents [] slots ≡ map.empty
 new-contents slots = ap (λ xs. contents_of xs slots.blocks) (expanded-none slots.next)
 
--- what an address gets is a whole block, or none
+-- an address gets a whole block, or none
 pub whole-as : (kind : Kind) (block : List ℕ) → length block ≡ 512 → HasBlockLength (mapping_as kind block)
 whole-as Data block e = e
 whole-as Anchored block e = tt
 
--- how many addresses are mapped
+-- the number of mapped addresses
 pub size : (rs : List Run) (slots : Slots) (room : ℕ) → AreRuns rs slots room
     → map.len (chained_contents rs slots) + length slots.free ≡ room
 size rs slots room h = let all = len-contents_by (mapping_in slots.blocks)
@@ -145,7 +145,7 @@ searched probes count digits is lt = elim (cases_lt (digits + 1) probes) [
   | inr le ↦ le
 ]
 
--- what a call costs, by what gathering and going over the runs cost
+-- the cost of a call, by the cost of gathering the runs and going over them
 module _ (rs : List Run) (slots after_slots : Slots) (room lba count : ℕ) (before after : Table)
     (h : AreRuns rs slots room) (same : before.records ≡ rs)
     (table : after ≡ visited (probed before (after.probes - before.probes))
@@ -208,7 +208,7 @@ pub nothing-meets : (contents : Contents) (lba count : ℕ) → count ≡ 0 → 
 unfolding meet
 nothing-meets contents lba count e = none-meet (runs contents) lba count e
 
--- all that a call costs which gathers the runs near its range, and follows their links
+-- the whole cost of a call that gathers the runs near its range, and follows their links
 pub gathered-range : (before after : Table) (slots after_slots : Slots) (capacity lba count : ℕ)
     (gathered : Drafted) → AreRuns before.records slots before.room
     → AreGathered before.records gathered lba (lba + count) (max_capacity + 1)
@@ -246,7 +246,7 @@ gathered-range before after slots after_slots capacity lba count gathered h g sm
           total (omega (arith, near, links));
     }
 
--- what a call over no address costs
+-- the cost of a call over no address
 pub nothing-costs : (disk : Disk) (lba count : ℕ) (meter : Meter) → count ≡ 0
     → CostsRange disk lba count meter meter
 nothing-costs disk lba count meter e = record {

@@ -40,7 +40,7 @@ passed-by P next run more some f g = cond_both (run.count == 1) more (rest_of ne
     (λ e. f (eqb-true run.count 1 e))
     (λ e. let other = eqb-false run.count 1 e in g (omega arith))
 
--- what `pass` leaves where the run has more addresses
+-- the rest after `pass`, if the run has more addresses
 pub passed-rest : (next : List ℕ) (run : Run) (more : List Run) (first : ℕ) → run.count ≢ 1
     → first ≡ slice_index next run.first
     → record {
@@ -237,7 +237,7 @@ walk_from-apart next (run ∷ runs) lba high a b front more h le near t =
     rest_apart None after some = apart-weaker runs (end_of run) b lba b near.0 (omega arith) h.2
     rest_apart (Some rest) after some = (after.1, some, rw (sym after.2) at h.2)
 
--- what is ahead of the address is a part of all
+-- the runs ahead of the address are a part of all runs
 pub walk_from-ahead : (next : List ℕ) (count : ℕ) (runs : List Run) (lba high : ℕ)
     (front : Option Run) (more : List Run) → AreAhead next count 0 runs → AreNear lba high runs
     → lba ≤ max_capacity → IsWalkFrom next runs lba front more → AreAhead next count lba more
@@ -271,7 +271,7 @@ walk_from-between next (run ∷ runs) lba high (Some front) more t =
     (end_of front) 0 lba (omega arith) (omega (arith, f.1))
     (between-singles next front.start front.first front.count front.kind))
 
--- from the address on the contents are those of what is ahead
+-- from the address on the runs ahead have all the contents
 pub get-walk_from : (next : List ℕ) (runs : List Run) (lba high q : ℕ) (front : Option Run)
     (more : List Run) (f : Seen Mapping) → IsWalkFrom next runs lba front more → lba ≤ q
     → map.get (contents_by f (expanded next runs)) q ≡
@@ -287,7 +287,7 @@ get-walk_from next runs lba high q front more f t le =
     (walk_from-between next runs lba high front more t) le)
     ∙ sym (get-from_entries nat_cmp_total (entries_by f (expanded next more)) q)
 
--- the address is that of the run that is ahead first
+-- the first run ahead has the address
 module _ (next : List ℕ) (count lba at : ℕ) (runs : List Run) (run : Option Run) (found : Run)
     (h : AreAhead next count lba (ahead_of runs run at)) (is : run_at run lba ≡ Some found) where
   pub first-there : AreAhead next count lba (found ∷ drop at runs)
@@ -332,7 +332,7 @@ module _ (next : List ℕ) (count lba at : ℕ) (runs : List Run) (run : Option 
       let e = ap length (passed-expanded next found (drop at runs) first-there.chained.0.not_empty) in
       ap (λ o. length (expanded next (ahead_of runs o at))) t.0 ∙ omega arith
 
--- no run is there
+-- no run begins there
 pub skip-block : (next : List ℕ) (count lba at : ℕ) (runs : List Run) (run : Option Run)
     (f : Seen Mapping) → AreAhead next count lba (ahead_of runs run at) → lba < max_capacity
     → run_at run lba ≡ None

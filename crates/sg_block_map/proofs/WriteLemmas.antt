@@ -55,7 +55,7 @@ single-more : (next : List ℕ) (lba slot : ℕ) (kind : Kind) (rest : List Run)
 single-more next lba slot kind rest = expanded-more next (single lba slot kind) rest
     ∙ ap (λ xs. xs ++ expanded next rest) (singles-one next lba slot kind)
 
--- the table to be, in the part before the address and the one from it on
+-- the table to be, in the part before the address and the part from it on
 pub parted : (next : List ℕ) (before : List Run) (done : Run) (rest : List Run)
     → expanded next (before ++ done ∷ rest) ≡
     expanded next (before ++ done ∷ []) ++ expanded next rest
@@ -102,7 +102,7 @@ numbers-kind [] ys lba slot j k = refl
 numbers-kind (x ∷ xs) ys lba slot j k =
     ap (λ es. (x.start, slot_number x.first x.kind) ∷ es) (numbers-kind xs ys lba slot j k)
 
--- what is seen of the slot of an address that was put
+-- the view of the slot of an address that was put
 pub put-length : (kind : Kind) (slot : ℕ) (b : List ℕ) (bs : List (List ℕ))
     → length (filled_slot bs slot (mapping_as kind b)) ≡ length bs
 put-length DataRun slot b bs = length-set bs slot b
@@ -128,7 +128,7 @@ consistent-other rs bs bs' free room len h = record {
   pool = rw len h.pool;
 }
 
--- an address without a slot, that takes one that was free
+-- an address without a slot, which takes a free slot
 module _ (before : List Run) (done : Run) (rest : List Run) (slots : Slots) (lba slot : ℕ)
     (free : List ℕ) (bs : List (List ℕ)) (m : Mapping) (h : IsWriting before done rest slots lba)
     (taken : slots.free ≡ slot ∷ free) (len : length bs ≡ length slots.blocks)
@@ -219,7 +219,7 @@ module _ (before : List Run) (done : Run) (rest : List Run) (slots : Slots) (lba
   pub new-used : 0 < done.count → occurrences done.last free ≡ 0
   new-used = link-used before done new rest after_taken taken_together h.front
 
--- an address that has a slot, and keeps it
+-- an address that keeps its slot
 module _ (before : List Run) (done run : Run) (tail : List Run) (slots : Slots) (lba : ℕ)
     (bs : List (List ℕ)) (m : Mapping) (h : IsWriting before done (run ∷ tail) slots lba)
     (start : run.start ≡ lba) (len : length bs ≡ length slots.blocks)
@@ -337,7 +337,7 @@ module _ (before : List Run) (done run : Run) (tail : List Run) (slots : Slots) 
   pub over-used : 0 < done.count → occurrences done.last slots.free ≡ 0
   over-used = link-used before done new' rest' after_set over_together h.front
 
--- links that are followed change nothing else
+-- a call that follows links changes nothing beside their count
 pub writing-followed : (before : List Run) (done : Run) (rest : List Run) (slots now : Slots)
     (lba n : ℕ) → now ≡ followed slots n → IsWriting before done rest slots lba
     → IsWriting before done rest now lba

@@ -1,4 +1,4 @@
--- Runs of which the addresses of a range are unmapped.
+-- Runs that lose the addresses of a range.
 use Rattle.std.specs.Prelude.{◌≡◌, ℕ, ◌+◌, ◌≤◌, List, ◌++◌, length, Option, IfSome, option_to_list}
 use Rattle.sg_pool.specs.Chains.{chain, AreBelow, IsChain}
 use Rattle.sg_pool.specs.Slots.{Slots}
@@ -9,7 +9,7 @@ use Rattle.sg_store.specs.Disk.{max_pool}
 use Rattle.sg_block_map.specs.Runs.{end_of, singles_of, expanded, AreChained}
 use Rattle.sg_block_map.specs.Splitting.{IsFront}
 
--- No slot is in both lists, nor twice in one.
+-- No slot is in both lists, and none is twice in one list.
 abbrev pub AreDistinct : (slots others : List ℕ) → Type 0
 AreDistinct slots others = (slot : ℕ) → occurrences slot slots + occurrences slot others ≤ 1
 
@@ -20,13 +20,13 @@ pub record HasOwnSlots (slots : Slots) (run : Run) : Type 0 where
   pub distinct : AreDistinct (chain slots.next run.first run.count) slots.free
   pub fits : run.count + length slots.free ≤ max_pool
 
--- Links other than those of some slots stay: runs over other slots are as they were.
+-- The links of all slots except some stay: runs over other slots are as they were.
 abbrev pub StaysBut : (next next' : List ℕ) → (slots : List ℕ) → Type 0
 StaysBut next next' slots = (runs : List Run) → AreDistinct (slots_of (expanded next runs)) slots
     → (expanded next' runs ≡ expanded next runs) × (AreChained next runs → AreChained next' runs)
 
--- A run of which the addresses of a range are gone: their slots are free, and the parts before and
--- behind them are kept.
+-- A run that has lost the addresses of a range: their slots are free, and it keeps the parts before
+-- and after them.
 pub record IsCut (old new : Slots) (kept kept' : List Run) (run : Run) (low high : ℕ) : Type 0 where
   pub front : Option Run
   pub gone : Option Run

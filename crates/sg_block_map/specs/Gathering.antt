@@ -1,4 +1,4 @@
--- The runs near a range: those that meet it or touch one of its ends.
+-- The runs near a range: each of them meets the range or touches one of its ends.
 use Rattle.std.specs.Prelude.{◌≡◌, ℕ, ◌+◌, ◌-◌, ◌<◌, ◌≤◌, zero, suc, List, [], ◌∷◌, Bool}
 use Rattle.std.specs.Prelude.{nat_le, nat_lt, ◌&&◌, min, max, length, take, drop}
 use Rattle.std.specs.List.{splice}
@@ -24,7 +24,7 @@ AreNear low high (run ∷ runs) = (low ≤ end_of run) × (run.start ≤ high) �
 abbrev pub starts_in : (low high : ℕ) → Run → Bool
 starts_in low high run = nat_le low run.start && nat_lt run.start high
 
--- The index behind the runs that were gathered.
+-- The index after the runs that were gathered.
 abbrev pub end_index : Drafted → ℕ
 end_index gathered = gathered.from + length gathered.records
 
@@ -56,7 +56,7 @@ pub record AreGatheredTo (records : List Run) (gathered : Drafted) (index : ℕ)
   pub within : index ≤ length records
   pub same : splice records gathered.from index gathered.records ≡ records
 
--- From an index on, the records that begin no later than an address were gathered besides.
+-- The records from an index on that begin no later than an address were gathered, too.
 pub record AreGatheredOn (records : List Run) (old new : Drafted) (index high : ℕ) : Type 0 where
   pub from : new.from ≡ old.from
   pub order : index ≤ end_index new
@@ -65,6 +65,6 @@ pub record AreGatheredOn (records : List Run) (old new : Drafted) (index high : 
   pub near : (i : ℕ) → index ≤ i → i < end_index new → start_of records i ≤ high
   pub after : end_index new < length records → high < start_of records (end_index new)
 
--- How many addresses of a run lie between two others.
+-- The number of addresses of a run that lie between two others.
 abbrev pub overlap : (low high : ℕ) → Run → ℕ
 overlap low high run = min (end_of run) high - max run.start low

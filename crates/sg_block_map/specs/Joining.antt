@@ -1,4 +1,4 @@
--- A run to which others of its kind are joined.
+-- A run that takes up others of its kind.
 use Rattle.std.specs.Prelude.{◌≡◌, ℕ, ◌+◌, ◌<◌, ◌≤◌, List, ◌∷◌, ◌++◌, length, slice_set}
 use Rattle.std.specs.Prelude.{if◌then◌else◌, ◌==◌, Bool, true, false, Option, Some, None}
 use Rattle.std.specs.FinMap.{insert}
@@ -32,12 +32,12 @@ joined done other = record {
   kind = done.kind;
 }
 
--- The links with one from the last slot of a run to another, if the run has an address.
+-- The links, with a link from the last slot of a run to another slot if the run has an address.
 abbrev pub linked : (next : List ℕ) → Run → (to : ℕ) → List ℕ
 linked next done to = if done.count == 0 then next else slice_set next done.last to
 
--- The runs before a range, the run that takes up the range, as far as an address, and the runs from
--- there on. Together they are the table to be, of which the pool has the slots.
+-- The runs before a range, the run that takes up the range up to an address, and the runs from
+-- there on. Together they are the table to be. The pool has their slots.
 pub record IsWriting (before : List Run) (done : Run) (rest : List Run) (slots : Slots) (lba : ℕ) :
     Type 0 where
   pub consistent : IsConsistent (expanded slots.next (before ++ done ∷ rest)) slots.blocks
@@ -55,8 +55,8 @@ abbrev pub KeepSlots : (next : List ℕ) → List Run → (next' : List ℕ) →
 KeepSlots next runs next' runs' =
     Keeps (slot_numbers (expanded next runs)) (slot_numbers (expanded next' runs'))
 
--- An address was put, whatever runs are before and after: the run has come to the next address, the
--- contents have the mapping, and each address that had a slot has it.
+-- An address was put, whatever runs are before and after. The run has come to the next address, and
+-- the contents have the mapping. Each address that had a slot keeps it.
 pub record IsPut (before : List Run) (done done' : Run) (rest rest' : List Run) (old new : Slots)
     (lba : ℕ) (mapping : Mapping) : Type 0 where
   pub writing : IsWriting before done' rest' new (lba + 1)
@@ -71,7 +71,8 @@ PutsAddress done done' ahead ahead' old new lba mapping = (before after : List R
     → AreMaximal (lba + 1) (max_capacity + 1) after
     → IsPut before done done' (ahead ++ after) (ahead' ++ after) old new lba mapping
 
--- The run that takes up the range has one address more of its kind, and the runs ahead are as near as before.
+-- The run that takes up the range has one more address of its kind, and the runs ahead are as near
+-- as before.
 pub record GoesOn (done done' : Run) (ahead ahead' : List Run) (old new : Slots) (lba : ℕ) : Type 0
   where
     pub start : done'.start ≡ done.start
@@ -80,8 +81,8 @@ pub record GoesOn (done done' : Run) (ahead ahead' : List Run) (old new : Slots)
     pub near : (high : ℕ) → lba < high → AreNear 0 high ahead → AreNear 0 high ahead'
     pub slots : length new.next ≡ length old.next
 
--- A table of runs over a pool, no larger than allowed, with the runs near a range gathered. The links
--- of those can be counted.
+-- A table of runs over a pool, no larger than allowed, with the runs near a range gathered. The
+-- links of the gathered runs can be counted.
 pub record IsReadyFor (table : Table) (slots : Slots) (gathered : Drafted) (low high : ℕ) : Type 0
   where
     pub runs : AreRuns table.records slots table.room
@@ -95,8 +96,8 @@ pub record ChangesRuns (most_moves : ℕ) (before after : Table) (slots : Slots)
   pub table : after ≡ record before { records = after.records; moved = after.moved }
   pub moves : after.moved ≤ before.moved + most_moves
 
--- A range that is not empty can be remapped to what a source has for it: the runs near it were
--- gathered, and there are free slots for its addresses that have none.
+-- A call can remap a range to the blocks that a source has for it. The range is not empty, and the
+-- runs near it were gathered. There are free slots for its addresses that have none.
 pub record CanRemap (table : Table) (slots : Slots) (gathered : Drafted) (lba count : ℕ)
     (source : Source) : Type 0 where
   pub ready : IsReadyFor table slots gathered lba (lba + count)
@@ -105,8 +106,8 @@ pub record CanRemap (table : Table) (slots : Slots) (gathered : Drafted) (lba co
   pub free : count ≤ length slots.free
       + used_among (chained_contents table.records slots) lba count
 
--- A range is remapped, each address that has a slot keeps it, and at most as many links are followed
--- as the gathered runs have blocks.
+-- A range is remapped, and each address that has a slot keeps it. The call follows at most as many
+-- links as the gathered runs have blocks.
 pub record RemapsRange (before after : Table) (old new : Slots) (gathered : Drafted) (lba count : ℕ)
     (mapping : ℕ → Mapping) : Type 0 where
   pub contents : chained_contents after.records new
@@ -119,17 +120,18 @@ pub record RemapsRange (before after : Table) (old new : Slots) (gathered : Draf
 abbrev pub no_run : (lba : ℕ) → Kind → Run
 no_run lba kind = record { start = lba; count = 0; first = 0; last = 0; kind = kind }
 
--- The range is joined to the part of a run before it that is of its kind. Any other is kept apart.
+-- The range is joined to the part of a run before it that is of its kind. A part of the other kind
+-- is kept apart.
 abbrev pub begun_by : (alike : Bool) → Kind → (front : Run) → (lba : ℕ) → Option Run × Run
 begun_by true kind front lba = (None, front)
 begun_by false kind front lba = (Some front, no_run lba kind)
 
--- What is kept before a range, and the run that is to take up the range.
+-- The part that is kept before a range, and the run that is to take up the range.
 abbrev pub begun : Kind → (front : Option Run) → (lba : ℕ) → Option Run × Run
 begun kind None lba = (None, no_run lba kind)
 begun kind (Some front) lba = begun_by (same_kind front.kind kind) kind front lba
 
--- The run behind a range is joined if it is of its kind, and is kept apart if not.
+-- The run after a range is joined if it is of its kind. Otherwise it is kept apart.
 abbrev pub IsFinishedBy : (alike : Bool) → (old new : Slots) → (done run result : Run)
     → (back : Option Run) → Type 0
 IsFinishedBy true old new done run result back = (result ≡ joined done run) × (back ≡ None)
@@ -137,7 +139,7 @@ IsFinishedBy true old new done run result back = (result ≡ joined done run) ×
 IsFinishedBy false old new done run result back =
     (result ≡ done) × (back ≡ Some run) × (new ≡ old)
 
--- So is the run ahead, if there is one.
+-- The same for the run ahead, if there is one.
 abbrev pub IsFinished : (old new : Slots) → (done : Run) → Option Run → Run → (back : Option Run)
     → Type 0
 IsFinished old new done None result back = (result ≡ done) × (back ≡ None) × (new ≡ old)

@@ -1,5 +1,5 @@
--- What public contracts cite: the maximal runs, what a call costs by them, what a `BlockMap` keeps,
--- and the runs over chains of slots by which that is defined.
+-- The definitions that public contracts cite: the maximal runs, the cost of a call by them, and the
+-- state of a `BlockMap`. Runs over chains of slots define this state.
 pub mod MaximalRuns
 pub mod RunLaws
 pub mod RunCost
@@ -7,8 +7,8 @@ pub mod RunCostLaws
 pub mod State
 pub mod Parts
 pub mod Runs
--- What only private contracts cite: how runs are gathered, split, walked over, cut, joined and written
--- over, and what each step counts.
+-- The definitions that only private contracts cite: how the calls gather, split, walk over, cut,
+-- join and overwrite runs, and the counts of each step.
 pub mod Metering
 pub mod RunsProps
 pub mod Gathering

@@ -1,4 +1,4 @@
--- The maximal runs of addresses that have data, or are anchored, and which of them a range meets.
+-- The maximal runs of addresses that have data, or are anchored, and the runs that a range meets.
 use Rattle.std.specs.Prelude.{ℕ, ◌+◌, List, [], ◌∷◌, Bool, nat_lt, nat_le, ◌&&◌, ◌==◌}
 use Rattle.std.specs.Prelude.{if◌then◌else◌, min, max}
 use Rattle.std.specs.List.{count_by, sum_by}
@@ -8,7 +8,7 @@ use Rattle.sg_pool.specs.MappedRecords.{kind_of}
 use Rattle.sg_table.specs.Records.{same_kind}
 use Rattle.sg_table.specs.declared.run.Kind.{Kind}
 
--- Addresses in a row that are of one kind: the first one, how many they are, and their kind.
+-- Addresses in a row that are of one kind: the first address, their number, and their kind.
 pub record AddressRun : Type 0 where
   pub start : ℕ
   pub count : ℕ
@@ -21,8 +21,8 @@ run_from start count kind = record { start = start; count = count; kind = kind }
 abbrev pub run_end : AddressRun → ℕ
 run_end run = run.start + run.count
 
--- Runs with an address before them: joined to the first run if that begins right behind it and is of
--- its kind, and a run of its own if not.
+-- Runs with an address before them. If the first run begins right after the address and is of its
+-- kind, the address is joined to that run. Otherwise the address is a run of its own.
 abbrev pub with_address : (lba : ℕ) → Kind → List AddressRun → List AddressRun
 with_address lba kind [] = run_from lba 1 kind ∷ []
 with_address lba kind (run ∷ runs) =
@@ -42,15 +42,15 @@ runs contents = runs_of (entries contents)
 abbrev pub meets : (lba count : ℕ) → AddressRun → Bool
 meets lba count run = nat_lt (max run.start lba) (min (run_end run) (lba + count))
 
--- How many of the maximal runs, of both kinds, have an address in common with a range.
+-- The number of maximal runs, of both kinds, that have an address in common with a range.
 unfoldable pub meet : Contents → (lba count : ℕ) → ℕ
 meet contents lba count = count_by (meets lba count) (runs contents)
 
--- How many blocks a run has, if it meets a range or touches one of its ends.
+-- The number of blocks of a run, if it meets a range or touches one of its ends.
 abbrev pub blocks_if_near : (lba count : ℕ) → AddressRun → ℕ
 blocks_if_near lba count run =
     if nat_le lba (run_end run) && nat_le run.start (lba + count) then run.count else 0
 
--- How many blocks the maximal runs have that meet a range or touch one of its ends.
+-- The number of blocks of the maximal runs that meet a range or touch one of its ends.
 unfoldable pub blocks_near : Contents → (lba count : ℕ) → ℕ
 blocks_near contents lba count = sum_by (blocks_if_near lba count) (runs contents)

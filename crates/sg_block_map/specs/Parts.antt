@@ -1,4 +1,4 @@
--- What a `BlockMap` is made of: it is the `BlockMap` of the listed parts, each part is a field of the
+-- The parts of a `BlockMap`. It is the `BlockMap` of the listed parts. Each part is a field of the
 -- listed type, and there is no other field.
 use Rattle.std.specs.Prelude.{◌≡◌, ℕ, ◌≤◌, [], ◌∷◌}
 use Rattle.std.proofs.Common.{refl}
@@ -22,8 +22,8 @@ pub record FitTogether (capacity : ℕ) (table : Table) (pool : Slots) : Type 0 
   pub well_formed : IsWellFormed capacity (chained_contents table.records pool)
   pub runs : AreRuns table.records pool table.room
 
--- The `BlockMap` of these alone: its lists of gathered and remaining runs are empty, and it keeps
--- nothing else.
+-- The `BlockMap` of only these parts: its lists of gathered and remaining runs are empty, and it
+-- has no other part.
 abbrev pub parts : (capacity : ℕ) (table : Table) (pool : Slots) → FitTogether capacity table pool
     → BlockMap
 parts capacity table pool fit = record {
@@ -40,7 +40,7 @@ parts capacity table pool fit = record {
   runs = fit.runs;
 }
 
--- Those of a `BlockMap` fit together,
+-- The parts of a `BlockMap` fit together,
 abbrev pub fit_of : (map : BlockMap) → FitTogether map.capacity map.table map.pool
 fit_of map = record {
   capacity_fits = map.capacity_fits;

@@ -1,4 +1,4 @@
--- The laws of what a store with a record for each maximal run may visit.
+-- The laws of the visits of a store with a record for each maximal run.
 use Rattle.std.specs.Prelude.{◌≡◌, ℕ, ◌+◌, ◌-◌, ◌<◌, ◌≤◌, suc, List, [], ◌∷◌, Bool, true, false}
 use Rattle.std.specs.Prelude.{cond, T, ◌==◌, ◌&&◌, zero, max, is_some, Option, Some}
 use Rattle.std.specs.Prelude.{None}
@@ -32,7 +32,8 @@ alone_meets : (lba count a : ℕ) (k : Kind) → cond {A = ℕ} (meets lba count
     ≤ cond (lies_in lba count a) 1 0
 alone_meets lba count a k = grind (arith, nat_tests)
 
--- What holds of runs with an address before them: by whether the first of them is joined to it.
+-- A law of runs with an address before them, in two cases: the address is joined to the first run,
+-- or it is not.
 pub by_joining : (P : List AddressRun → Type 0) (a : ℕ) (k : Kind) (run : AddressRun)
     (rs : List AddressRun)
     → (run.start ≡ a + 1 → same_kind k run.kind ≡ true → P (run_from a (run.count + 1) k ∷ rs))
@@ -133,7 +134,7 @@ rising low (e ∷ f ∷ es) h first =
           (λ g more same. let is = ap (λ xs. head_or xs e.0) same in omega arith),
     )
 
--- No call over a range visits more records than two more than it has addresses.
+-- A call over a range visits at most two records more than the range has addresses.
 pub block_price-within : (contents : Contents) (lba count : ℕ)
     → block_price contents lba count ≤ count + 2
 unfolding meet runs
@@ -143,7 +144,7 @@ block_price-within contents lba count =
     (rising 0 (entries contents) (entries_sorted contents) (λ e more same. omega arith)) in
     omega arith
 
--- at least one where an address of the range has a slot
+-- at least one if an address of the range has a slot
 
 first_meets : (lba count a n : ℕ) (k : Kind) → lies_in lba count a ≡ true
     → cond {A = ℕ} (meets lba count (run_from a (n + 1) k)) 1 0 ≡ 1
@@ -229,12 +230,12 @@ used-meets contents lba count (suc n) le some =
           (ap is_some (sym (get-entries contents (lba + n))) ∙ here)
     ]
 
--- Where an address of the range has a slot, at least one record is visited.
+-- If an address of the range has a slot, the call visits at least one record.
 pub block_least-positive : (contents : Contents) (lba count : ℕ)
     → 0 < used_among contents lba count → 0 < block_least contents lba count
 block_least-positive contents lba count some = used-meets contents lba count count (omega arith) some
 
--- What passes one test passes one of two others.
+-- An item that passes one test passes one of two others.
 count-two : {X : Type 0} (p q r : X → Bool) (xs : List X)
     → ((x : X) → cond {A = ℕ} (p x) 1 0 ≤ cond (q x) 1 0 + cond (r x) 1 0)
     → count_by p xs ≤ count_by q xs + count_by r xs
@@ -253,7 +254,7 @@ joined_range : (a n offset more : ℕ) → offset ≤ n → (run : AddressRun)
     ≤ cond (meets a n run) 1 0 + cond (meets (a + offset) more run) 1 0
 joined_range a n offset more le run = grind (arith, nat_tests)
 
--- Two ranges that overlap or touch cost at most as much joined as they cost together.
+-- If two ranges overlap or touch, the joined range costs at most as much as both together.
 pub block_price-joined : (contents : Contents) (lba count offset more : ℕ) → offset ≤ count
     → block_price contents lba (max count (offset + more))
     ≤ block_price contents lba count + block_price contents (lba + offset) more

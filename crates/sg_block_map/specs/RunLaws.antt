@@ -1,4 +1,4 @@
--- What the maximal runs are, address by address.
+-- The maximal runs, address by address.
 use Rattle.std.specs.Prelude.{◌≡◌, ℕ, ◌-◌, ◌<◌, ◌≤◌, ◌↔◌, Bool, false, true, Option, Some, None}
 use Rattle.std.specs.List.{AllPairs, Contains}
 use Rattle.std.specs.FinMap.{get}
@@ -16,7 +16,7 @@ is_kind kind (Some mapping) = same_kind kind (kind_of mapping)
 abbrev pub has_kind : Contents → Kind → (address : ℕ) → Bool
 has_kind contents kind address = is_kind kind (get contents address)
 
--- A run of one address at least, which all are of its kind while neither neighbour is.
+-- A run of at least one address. All its addresses are of its kind, and neither neighbour is.
 pub record IsMaximalRun (contents : Contents) (run : AddressRun) : Type 0 where
   pub not_empty : 0 < run.count
   pub alike : (address : ℕ) → run.start ≤ address → address < run_end run
@@ -29,7 +29,7 @@ abbrev pub HasExactlyTheMaximalRuns : Type 0
 HasExactlyTheMaximalRuns = (contents : Contents) (run : AddressRun)
     → Contains (runs contents) run ↔ IsMaximalRun contents run
 
--- and each begins at the end of those before it or past it: they rise, and each is there once.
+-- and each begins at the end of the runs before it or past it: they rise, and each occurs once.
 abbrev pub RunsRise : Type 0
 RunsRise = (contents : Contents)
     → AllPairs (λ (run later : AddressRun). run_end run ≤ later.start) (runs contents)

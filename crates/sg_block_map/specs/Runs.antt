@@ -35,12 +35,12 @@ unfoldable pub expanded : (next : List ℕ) → List Run → List Run
 expanded next [] = []
 expanded next (run ∷ runs) = singles_of next run ++ expanded next runs
 
--- The slots of each run are a chain, of which it has the first and the last.
+-- The slots of each run are a chain, and the run has the first and the last slot of the chain.
 abbrev pub AreChained : (next : List ℕ) → List Run → Type 0
 AreChained next [] = Unit
 AreChained next (run ∷ runs) = IsChain next run.first run.last run.count × AreChained next runs
 
--- From which address on a run of each kind may begin.
+-- The first address where a run of each kind may begin.
 abbrev pub Bound : Type 0
 Bound = Kind → ℕ
 
@@ -48,8 +48,8 @@ Bound = Kind → ℕ
 abbrev pub any_from : ℕ → Bound
 any_from lba kind = lba
 
--- Right behind a run one of the other kind may begin. One of its own would be a part of it, so there
--- is an address between them.
+-- A run of the other kind may begin right after a run. A run of the same kind would be a part of
+-- it, so there is an address between the two.
 abbrev pub behind : Run → Bound
 behind run kind = if same_kind kind run.kind then end_of run + 1 else end_of run
 
@@ -63,11 +63,11 @@ AreMaximalIn low high (run ∷ runs) =
 abbrev pub AreMaximal : (low high : ℕ) → List Run → Type 0
 AreMaximal low high runs = AreMaximalIn (any_from low) (any_from high) runs
 
--- The contents of a disk with these runs and slots: those of the single addresses.
+-- The contents of a disk with these runs and slots: the contents of their single addresses.
 abbrev pub chained_contents : List Run → Slots → Contents
 chained_contents records slots = contents_of (expanded slots.next records) slots.blocks
 
--- The addresses of runs are those of a disk, and their data is whole blocks.
+-- The addresses of the runs are on a disk, and their data is whole blocks.
 abbrev pub AreOnDisk : (capacity : ℕ) → List Run → Slots → Type 0
 AreOnDisk capacity records slots = IsWellFormed capacity (chained_contents records slots)
 
@@ -78,7 +78,7 @@ pub record AreRuns (records : List Run) (slots : Slots) (room : ℕ) : Type 0 wh
   pub consistent : IsConsistent (expanded slots.next records) slots.blocks slots.free room
   pub links : length slots.next ≡ room
 
--- ---- Cited by private contracts alone
+-- ---- Cited only by private contracts
 
 -- The runs rise, from one address to another. None is empty, and no two have an address in common.
 abbrev pub AreApart : (low high : ℕ) → List Run → Type 0
@@ -86,7 +86,8 @@ AreApart low high [] = low ≤ high
 AreApart low high (run ∷ runs) =
     (low ≤ run.start) × (0 < run.count) × AreApart (end_of run) high runs
 
--- Runs before one of a kind that begins at an address do not reach it if they are of its kind.
+-- The bound of the runs before a run of a kind that begins at an address. Runs of the same kind do
+-- not reach the address.
 abbrev pub begins : Kind → ℕ → Bound
 begins kind lba other = if same_kind other kind then lba else lba + 1
 
@@ -95,6 +96,6 @@ abbrev pub AreBetween : (low high : ℕ) → List Run → Type 0
 AreBetween low high [] = low ≤ high
 AreBetween low high (run ∷ runs) = (low ≤ run.start) × AreBetween (run.start + 1) high runs
 
--- How many addresses runs have.
+-- The number of addresses of the runs.
 abbrev pub blocks_of : List Run → ℕ
 blocks_of runs = sum_by (λ (run : Run). run.count) runs

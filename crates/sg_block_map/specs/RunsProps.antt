@@ -1,4 +1,4 @@
--- That runs are maximal and chained holds in at most one way.
+-- Runs are maximal and chained in at most one way.
 use Rattle.std.specs.Prelude.{ℕ, List, [], ◌∷◌}
 use Rattle.std.proofs.Props.{props}
 use Rattle.sg_block_map.specs.Runs.{Bound, behind, AreMaximalIn, AreChained, AreRuns}

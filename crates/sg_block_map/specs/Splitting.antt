@@ -15,7 +15,7 @@ front_of next run count = record {
   kind = run.kind;
 }
 
--- and those behind them.
+-- and the addresses after them.
 abbrev pub rest_of : (next : List ℕ) → Run → (count : ℕ) → Run
 rest_of next run count = record {
   start = run.start + count;
@@ -36,7 +36,7 @@ abbrev pub IsRest : (run : Run) (lba : ℕ) → Run → Type 0
 IsRest run lba rest = (run.start ≤ rest.start) × (lba ≤ rest.start)
     × (end_of rest ≡ end_of run) × (rest.start ≤ max run.start lba) × (rest.kind ≡ run.kind)
 
--- The addresses of a run before an address, and those from it on, each with its slot.
+-- The addresses of a run before an address, and the addresses from it on, each with its slot.
 pub record IsSplit (next : List ℕ) (run : Run) (lba : ℕ) (front rest : Option Run) : Type 0 where
   pub parts : expanded next (option_to_list front ++ option_to_list rest) ≡ singles_of next run
   pub chained : AreChained next (option_to_list front ++ option_to_list rest)

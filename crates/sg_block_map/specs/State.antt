@@ -1,4 +1,4 @@
--- What a `BlockMap` keeps, as its callers see it: a disk, records, slots and a meter.
+-- The state of a `BlockMap`, as its callers see it: a disk, records, slots and a meter.
 use Rattle.std.specs.Prelude.{◌≡◌, ℕ, List, Some, map}
 use Rattle.std.specs.FinMap.{get}
 use Rattle.sg_store.specs.Disk.{Disk}
@@ -21,7 +21,7 @@ disk_at capacity table slots = record {
 abbrev pub disk_of : BlockMap → Disk
 disk_of map = disk_at map.capacity map.table map.pool
 
--- What its calls cost so far.
+-- The cost of its calls so far.
 abbrev pub meter_at : Table → Slots → Meter
 meter_at table slots = record {
   counts = record { visits = table.visits; probes = table.probes; links = slots.links };

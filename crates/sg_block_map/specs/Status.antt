@@ -10,8 +10,8 @@ use Rattle.sg_block_map.specs.Gathering.{end_at}
 use Rattle.sg_block_map.specs.MaximalRuns.{meets}
 use Rattle.sg_block_map.specs.Runs.{AreMaximal, address_run}
 
--- The table of a disk: its runs are maximal, each has an address, and none has more than the largest
--- pool has blocks. None lies past the end of the disk.
+-- The table of a disk: its runs are maximal, and each has an address. No run has more addresses
+-- than the largest pool has blocks, and none lies past the end of the disk.
 pub record IsRunTable (capacity : ℕ) (records : List Run) : Type 0 where
   pub maximal : AreMaximal 0 (capacity + 1) records
   pub filled : (i : ℕ) → i < length records → start_of records i < end_at records i
@@ -19,8 +19,8 @@ pub record IsRunTable (capacity : ℕ) (records : List Run) : Type 0 where
   pub table_size : length records ≤ max_pool
   pub capacity_fits : capacity ≤ max_capacity
 
--- The cursor is at the first run that has the address or one past it, which was visited if there is
--- one.
+-- The cursor is at the first run that has the address or one past it. If there is such a run, it
+-- was visited.
 pub record IsOver (records : List Run) (cursor : Cursor) (lba : ℕ) : Type 0 where
   pub within : cursor.index ≤ length records
   pub next : IsNext records cursor.index cursor.next
@@ -41,14 +41,14 @@ AreMet records from to low high = (i : ℕ) → from ≤ i → i < to
 abbrev pub AreFrom : List Run → (from lba : ℕ) → Type 0
 AreFrom records from lba = (i : ℕ) → from ≤ i → i < length records → lba ≤ start_of records i
 
--- The runs from one index to another have addresses of a range, which is not empty, and those behind
--- them have none.
+-- The runs from one index to another have addresses of a range, and the runs after them have none.
+-- The range is not empty.
 pub record MeetsRange (records : List Run) (from to lba count : ℕ) : Type 0 where
   pub not_empty : 0 < count
   pub order : from ≤ to
   pub met : AreMet records from to lba (lba + count)
   pub rest : AreFrom records to (lba + count)
 
--- How many runs have an address in common with a range.
+-- The number of runs that have an address in common with a range.
 abbrev pub records_met : List Run → (lba count : ℕ) → ℕ
 records_met records lba count = count_by (meets lba count) (map address_run records)

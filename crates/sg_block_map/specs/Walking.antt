@@ -15,7 +15,7 @@ abbrev pub ahead_of : List Run → Option Run → (at : ℕ) → List Run
 ahead_of runs None at = []
 ahead_of runs (Some run) at = run ∷ drop at runs
 
--- What is left of a run and more runs when the first address is passed.
+-- The rest of a run and more runs, after the walk passes the first address.
 abbrev pub passed : (next : List ℕ) → Run → List Run → List Run
 passed next run more = if run.count == 1 then more else rest_of next run 1 ∷ more
 
@@ -25,7 +25,8 @@ pub record AreAhead (next : List ℕ) (count lba : ℕ) (runs : List Run) : Type
   pub chained : AreChained next runs
   pub below : AreBelow count (slots_of (expanded next runs))
 
--- An address is passed: the runs from the next one on are ahead, with the blocks that they had.
+-- The walk passes an address: the runs from the next address on are ahead, with the blocks that
+-- they had.
 pub record GoesPast (slots : Slots) (ahead ahead' : List Run) (lba : ℕ) : Type 0 where
   pub still_ahead : AreAhead slots.next (length slots.next) (lba + 1) ahead'
   pub later : (address : ℕ) → lba + 1 ≤ address

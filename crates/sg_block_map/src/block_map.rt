@@ -1,5 +1,5 @@
-// The store itself: a record for each maximal run of addresses of one kind, in a table, and the
-// blocks of a run in a chain of slots. What its calls do to the runs is in the other files.
+// The store itself. Its table has a record for each maximal run of addresses of one kind. The
+// blocks of a run are in a chain of slots. The other files say what its calls do to the runs.
 ghost use Rattle.std.specs.Prelude.{◌≡◌, ◌+◌, ◌*◌, ◌<◌, ◌≤◌, ◌↔◌, length};
 ghost use Rattle.std.specs.Prelude.{IsErr, OnOk, OnErr};
 ghost use Rattle.std.specs.FinMap.{len};
@@ -33,8 +33,9 @@ use sg_wire::Cut;
 use sg_wire::laws::{parts_are_put_in_turn, parts_are_replaced};
 use std::alloc::{AllocError, Global};
 
-/// A disk of which each maximal run of addresses that are mapped, or are anchored, has one record
-/// (SBC-3, 4.7). The slots of a run are a chain, and no block is moved when runs are joined or cut.
+/// A disk with one record for each maximal run of addresses that are mapped, or are anchored
+/// (SBC-3, 4.7). The slots of a run are a chain, and no block moves when the disk joins or cuts
+/// runs.
 ///
 /// A call over a range visits the records of the runs that the range meets, and at most two more.
 #[derive(Drop)]
@@ -42,7 +43,7 @@ pub struct BlockMap {
     capacity: u64,
     table: RunTable,
     pool: Pool,
-    /// The runs near a range, and what remains of them. Both are empty between calls.
+    /// The runs near a range, and their remaining parts. Both are empty between calls.
     gathered: Gathered,
     remaining: Draft,
     ghost capacity_fits: { capacity ≤ MAX_CAPACITY },
@@ -59,8 +60,8 @@ impl BlockMap {
     ghost use Rattle.sg_block_map.specs.State.{disk_of, meter_of, records_of};
     ghost use Rattle.sg_block_map.specs.State.{slots_by_address, Keeps};
 
-    /// How many maximal runs of addresses of one kind there are. Each has one record, and the table
-    /// has no others.
+    /// The number of maximal runs of addresses of one kind. Each has one record, and the table has
+    /// no others.
     pub fn run_count(&self) -> usize
         ensures records { records_of self.now ≡ runs (disk_of self.now).contents }
         ensures count { result ≡ length (runs (disk_of self.now).contents) }
@@ -71,7 +72,7 @@ impl BlockMap {
     /// Makes the addresses from one on data, with the blocks of a source, or anchors them.
     ///
     /// # Errors
-    /// More addresses would have a block of the pool than it has. Nothing is changed then.
+    /// More addresses would have a block of the pool than it has. Nothing changes then.
     fn remap(&mut self, lba: u64, count: u32, kind: Kind, source: &Source) -> Result<(), Space>
         requires range { lba + count ≤ (disk_of self.old).capacity }
         requires blocks { HasBlocks source.now count }
@@ -88,7 +89,7 @@ impl BlockMap {
         // Each address that has a slot keeps it.
         ensures keeps { Keeps (slots_by_address self.old) (slots_by_address self.new) }
 
-        // What the call costs.
+        // The cost of the call.
         ensures costs { CostsRange (disk_of self.old) lba count
             (meter_of self.old) (meter_of self.new) }
     {
@@ -143,12 +144,12 @@ impl Store for BlockMap {
         requires byte_count { length bytes.old ≡ BLOCK_LENGTH * count }
         requires headroom { HasHeadroom (meter_of self.old).counts }
 
-        // The blocks are those of the disk, which stays as it is.
+        // The bytes are the blocks of the disk, and the disk stays as it is.
         ensures bytes { bytes.new ≡ blocks (disk_of self.old).contents lba count }
         ensures disk { disk_of self.new ≡ disk_of self.old }
         ensures keeps { slots_by_address self.new ≡ slots_by_address self.old }
 
-        // What the call costs.
+        // The cost of the call.
         ensures costs { CostsRange (disk_of self.old) lba count
             (meter_of self.old) (meter_of self.new) }
     {
@@ -173,7 +174,7 @@ impl Store for BlockMap {
         // Each address that has a slot keeps it.
         ensures keeps { Keeps (slots_by_address self.old) (slots_by_address self.new) }
 
-        // What the call costs.
+        // The cost of the call.
         ensures costs { CostsRange (disk_of self.old) lba count
             (meter_of self.old) (meter_of self.new) }
     {
@@ -195,7 +196,7 @@ impl Store for BlockMap {
         // Each address that has a slot keeps it.
         ensures keeps { Keeps (slots_by_address self.old) (slots_by_address self.new) }
 
-        // What the call costs.
+        // The cost of the call.
         ensures costs { CostsRange (disk_of self.old) lba count
             (meter_of self.old) (meter_of self.new) }
     {
@@ -211,7 +212,7 @@ impl Store for BlockMap {
         ensures keeps { slots_by_address self.new
             ≡ outside_range (slots_by_address self.old) lba count }
 
-        // What the call costs.
+        // The cost of the call.
         ensures costs { CostsRange (disk_of self.old) lba count
             (meter_of self.old) (meter_of self.new) }
     {
@@ -245,7 +246,7 @@ impl Store for BlockMap {
         // Each address that has a slot keeps it.
         ensures keeps { Keeps (slots_by_address self.old) (slots_by_address self.new) }
 
-        // What the call costs.
+        // The cost of the call.
         ensures costs { CostsRange (disk_of self.old) lba count
             (meter_of self.old) (meter_of self.new) }
     {
@@ -265,7 +266,7 @@ impl Store for BlockMap {
         ensures disk { disk_of self.new ≡ disk_of self.old }
         ensures keeps { slots_by_address self.new ≡ slots_by_address self.old }
 
-        // What the call costs.
+        // The cost of the call.
         ensures costs { CostsRange (disk_of self.old) lba count
             (meter_of self.old) (meter_of self.new) }
     {
@@ -280,12 +281,12 @@ impl Store for BlockMap {
         requires address { lba < (disk_of self.old).capacity }
         requires headroom { HasHeadroom (meter_of self.old).counts }
 
-        // All of it is put, and the disk stays as it is.
+        // The call puts all of the data, and the disk stays as it is.
         ensures data { Puts cut.old cut.new (status_data (lba_status (disk_of self.old) lba)) }
         ensures disk { disk_of self.new ≡ disk_of self.old }
         ensures keeps { slots_by_address self.new ≡ slots_by_address self.old }
 
-        // What the call costs, over the addresses that the descriptors cover.
+        // The cost of the call, over the addresses that the descriptors cover.
         ensures costs { let count = covered (lba_status (disk_of self.old) lba) in
             CostsRange (disk_of self.old) lba count (meter_of self.old) (meter_of self.new) }
     {
@@ -295,7 +296,7 @@ impl Store for BlockMap {
         cut.put(&status_header(0));
         let cursor = cursor_over(&mut self.table, lba);
         let count = write_descriptors(&mut self.table, cursor, lba, self.capacity, cut);
-        // The length is known only now. It is written over the one that was put first.
+        // The length is known only now. It replaces the length that was put first.
         cut.replace(at, &status_header(count));
     }
 

@@ -1,5 +1,6 @@
-// Gathering the runs near a range from the table: no other file visits records for a command over a
-// range, and for GET LBA STATUS `status` does. It knows neither slots nor blocks.
+// Gathering the runs near a range from the table. Only this file visits records for a command over
+// a range. For GET LBA STATUS the file `status` visits records. This file knows no slot and no
+// block.
 ghost use Rattle.std.specs.Prelude.{◌≡◌, ◌+◌, ◌-◌, ◌≤◌, length, drop, nat_lt};
 ghost use Rattle.std.specs.List.{count_by, sum_by};
 ghost use Rattle.sg_table.specs.Records.{IsLowerBound};
@@ -11,8 +12,8 @@ ghost use Rattle.sg_block_map.specs.Runs.{AreApart, AreMaximal, blocks_of};
 use sg_store::{MAX_CAPACITY, MAX_COUNT, MAX_POOL};
 use sg_table::{Draft, Run, RunTable};
 
-/// The runs near a range as the table has them, with the index of the first. Nothing is changed by
-/// changing these.
+/// The runs near a range as the table has them, with the index of the first. A change of these runs
+/// changes nothing in the table.
 pub(crate) type Gathered = Draft;
 
 /// Begins at the index of an address, with the run before it if that reaches the address.
@@ -25,7 +26,7 @@ fn gather_before(table: &mut RunTable, gathered: &mut Gathered, index: usize, lo
     ensures gathered { AreBegun table.old.records gathered.new index low }
     ensures room { gathered.new.room ≡ gathered.old.room }
 
-    // The record before the index is visited, if there is one.
+    // The call visits the record before the index, if there is one.
     ensures visits { Visits (length gathered.new.records) 1 table.old table.new }
 {
     gathered.begin(index);
@@ -49,7 +50,7 @@ fn gather_from(table: &mut RunTable, gathered: &mut Gathered, index: usize, high
     ensures gathered { AreGatheredOn table.old.records gathered.old gathered.new index high }
     ensures room { gathered.new.room ≡ gathered.old.room }
 
-    // The gathered records are visited, and at most one more.
+    // The call visits the gathered records, and at most one more.
     ensures visits { Visits (end_index gathered.new - index)
         (count_by (λ run. nat_lt run.start high) (drop index table.old.records) + 1)
         table.old table.new }
@@ -77,7 +78,8 @@ pub(crate) fn gather_between(table: &mut RunTable, gathered: &mut Gathered, low:
     ensures gathered { AreGathered table.old.records gathered.new low high (MAX_CAPACITY + 1) }
     ensures room { gathered.new.room ≡ gathered.old.room }
 
-    // The gathered records are visited, and at most two more than the runs that begin in the range.
+    // The call visits the gathered records, and at most two more than the runs that begin in the
+    // range.
     ensures visits { SearchesAndVisits (length gathered.new.records)
         (count_by (starts_in low high) table.old.records + 2) table.old table.new }
 {
@@ -97,14 +99,15 @@ pub(crate) fn gather(table: &mut RunTable, gathered: &mut Gathered, lba: u64, co
         (MAX_CAPACITY + 1) }
     ensures room { gathered.new.room ≡ gathered.old.room }
 
-    // The gathered records are visited, and at most two more than the runs that begin in the range.
+    // The call visits the gathered records, and at most two more than the runs that begin in the
+    // range.
     ensures visits { SearchesAndVisits (length gathered.new.records)
         (count_by (starts_in lba (lba + count)) table.old.records + 2) table.old table.new }
 {
     gather_between(table, gathered, lba, lba + u64::from(count));
 }
 
-/// How many of the addresses from one to another the runs have.
+/// The number of addresses from one to another that the runs have.
 pub(crate) fn used_between(runs: &[Run], low: u64, high: u64) -> u64
     requires fits { blocks_of runs.now ≤ MAX_POOL }
     requires runs { AreApart 0 MAX_CAPACITY runs.now }

@@ -1,9 +1,9 @@
-//! What holds of every [`BlockMap`](crate::BlockMap).
+//! The laws of every [`BlockMap`](crate::BlockMap).
 ghost use Rattle.sg_block_map.specs.Parts.{HasOnlyItsParts, IsMadeOfParts};
 ghost use Rattle.sg_block_map.specs.RunLaws.{HasExactlyTheMaximalRuns, RunsRise};
 
 /// A [`BlockMap`](crate::BlockMap) is made of its capacity, its table and its pool. So it keeps no
-/// record but those of the table, which are counted when they are read.
+/// record outside the table, and the table counts a record when a call reads it.
 pub fn a_block_map_is_made_of_its_parts()
     ensures { IsMadeOfParts }
 {}
@@ -14,14 +14,14 @@ pub fn a_block_map_has_only_its_parts()
     ensures { HasOnlyItsParts }
 {}
 
-/// A run of addresses is one of the maximal runs, which the records of a
-/// [`BlockMap`](crate::BlockMap) are, exactly where it has one address at least, all of its kind,
-/// while neither the address before it nor the one behind it is.
+/// The records of a [`BlockMap`](crate::BlockMap) are the maximal runs. A run of addresses is
+/// maximal if and only if two rules hold. It has at least one address, and all its addresses have
+/// its kind. The address before it and the address after it do not have its kind.
 pub fn the_runs_are_those_that_no_address_of_their_kind_touches()
     ensures { HasExactlyTheMaximalRuns }
 {}
 
-/// The maximal runs rise, and each of them is there once.
+/// The maximal runs rise, and the list has each of them once.
 pub fn the_runs_rise()
     ensures { RunsRise }
 {}

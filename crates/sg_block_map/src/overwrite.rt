@@ -1,5 +1,5 @@
-// Writing a range that lies inside one run: each block goes to the slot that its address has. It knows
-// no table, as no record changes.
+// Writing a range that lies inside one run: each block goes to the slot that its address has. This
+// file knows no table, because no record changes.
 ghost use Rattle.std.specs.Prelude.{◌≡◌, ◌+◌, ◌≤◌, ◌++◌, ◌∷◌, List, length, drop, IfSome};
 ghost use Rattle.sg_pool.specs.Chains.{chain, AreBelow};
 ghost use Rattle.sg_store.specs.Disk.{replaced};
@@ -15,7 +15,8 @@ use sg_pool::{Pool, Source};
 use sg_store::MAX_CAPACITY;
 use sg_table::{Kind, Run};
 
-/// The first of some runs, if it has all addresses of a range that is to be data, and is data.
+/// The first of some runs, if the range is to be data, and if the run is data and has all addresses
+/// of the range.
 pub(crate) fn covering(runs: &[Run], lba: u64, count: u32, kind: Kind) -> Option<Run>
     requires range { lba + count ≤ MAX_CAPACITY }
     ensures kind { IfSome result (λ run. (kind ≡ Data) × (run.kind ≡ Data)) }
@@ -31,7 +32,7 @@ pub(crate) fn covering(runs: &[Run], lba: u64, count: u32, kind: Kind) -> Option
     }
 }
 
-/// Replaces the blocks of addresses that a run has. No slot is taken, and no link is changed.
+/// Replaces the blocks of addresses that a run has. It takes no slot and changes no link.
 pub(crate) fn overwrite(pool: &mut Pool, run: Run, lba: u64, count: u32, source: &Source)
     requires range { LiesInRun run lba count }
     requires below { AreBelow (length pool.old.next) (chain pool.old.next run.first run.count) }
@@ -48,7 +49,7 @@ pub(crate) fn overwrite(pool: &mut Pool, run: Run, lba: u64, count: u32, source:
         (block_of source.now) }
     ensures pool { ChangesBlocks pool.old pool.new }
 
-    // At most as many links are followed as the run has blocks.
+    // The call follows at most as many links as the run has blocks.
     ensures links { FollowsLinks run.count pool.old pool.new }
 {
     let mut slot = follow(pool, run.first, (lba - run.start) as u32);

@@ -1,5 +1,5 @@
-// Putting runs in the place of the gathered ones: the only place that changes records. Which addresses
-// and slots they have is for its callers to know.
+// Putting runs in the place of the gathered ones. Only this file changes records. The callers
+// decide which addresses and slots the runs have.
 ghost use Rattle.std.specs.Prelude.{◌≡◌, ◌+◌, ◌≤◌, ◌++◌, ◌∷◌, length, option_to_list};
 ghost use Rattle.std.specs.List.{splice};
 ghost use Rattle.sg_table.specs.Leaves.{move_bound};
@@ -11,7 +11,7 @@ use sg_store::MAX_POOL;
 use sg_table::{Run, RunTable};
 
 /// Replaces the gathered runs in the table by others.
-// A table that has these already is left alone: a splice costs far more than to compare them.
+// A table that has these runs already stays as it is: a splice costs far more than a comparison.
 pub(crate) fn put_runs(table: &mut RunTable, gathered: &Gathered, runs: &[Run])
     requires table_size { length table.old.records ≤ MAX_POOL }
     requires within { end_index gathered.now ≤ length table.old.records }
@@ -34,7 +34,8 @@ pub(crate) fn put_runs(table: &mut RunTable, gathered: &Gathered, runs: &[Run])
     table.splice(from, from + old.len(), runs);
 }
 
-/// Replaces the gathered runs in the table by one, and by what is kept before it and behind it.
+/// Replaces the gathered runs in the table by one run, with the parts that are kept before and
+/// after it.
 pub(crate) fn put_parts(
     table: &mut RunTable,
     gathered: &Gathered,

@@ -1,4 +1,4 @@
-// Reading a range from the runs near it. It follows links of the pool and knows no table.
+// Reading a range from the runs near it. This file follows links of the pool and knows no table.
 ghost use Rattle.std.specs.Prelude.{◌≡◌, ◌+◌, ◌*◌, ◌<◌, ◌≤◌, length};
 ghost use Rattle.sg_store.specs.Disk.{block, blocks};
 ghost use Rattle.sg_block_map.specs.Gathering.{AreNear};
@@ -26,7 +26,7 @@ fn read_address(pool: &mut Pool, runs: &[Run], walk: Walk, lba: u64, bytes: &mut
     ensures goes_past { GoesPast pool.old (ahead_of runs.now walk.run walk.at)
         (ahead_of runs.now result.run result.at) lba }
 
-    // A link is followed only where an address is passed.
+    // The read follows a link only if it passes an address.
     ensures links { OnlyFollowsPassed
         (length (expanded pool.old.next (ahead_of runs.now walk.run walk.at)))
         (length (expanded pool.old.next (ahead_of runs.now result.run result.at)))
@@ -40,7 +40,7 @@ fn read_address(pool: &mut Pool, runs: &[Run], walk: Walk, lba: u64, bytes: &mut
     walk.pass(pool, runs, run)
 }
 
-/// Reads the blocks from an address on. The runs are those that meet or touch the range.
+/// Reads the blocks from an address on. The runs meet or touch the range, and no other run does.
 pub(crate) fn read_runs(pool: &mut Pool, runs: &[Run], lba: u64, count: u32, bytes: &mut [u8])
     requires ahead { AreAhead pool.old.next (length pool.old.next) 0 runs.now }
     requires near { AreNear lba (lba + count) runs.now }
@@ -50,7 +50,7 @@ pub(crate) fn read_runs(pool: &mut Pool, runs: &[Run], lba: u64, count: u32, byt
     requires headroom { pool.old.links + length (expanded pool.old.next runs.now) < u64.MAX }
     ensures bytes { bytes.new ≡ blocks (chained_contents runs.now pool.old) lba count }
 
-    // At most as many links are followed as the runs have blocks.
+    // The call follows at most as many links as the runs have blocks.
     ensures links { OnlyFollows (length (expanded pool.old.next runs.now)) pool.old pool.new }
 {
     let (_before, mut walk) = walk_from(pool, runs, lba);

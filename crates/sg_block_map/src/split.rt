@@ -1,5 +1,5 @@
-// Splitting a run in two, by following its chain. No block is moved and no link is changed: the parts
-// share the chain.
+// Splitting a run in two, by following its chain. A split moves no block and changes no link: the
+// parts share the chain.
 ghost use Rattle.std.specs.Prelude.{◌≡◌, ◌+◌, ◌-◌, ◌<◌, ◌≤◌, length, option_to_list};
 ghost use Rattle.sg_pool.specs.Chains.{chain, slot_after, AreBelow, IsChain};
 ghost use Rattle.sg_pool.specs.Slots.{followed};
@@ -25,7 +25,7 @@ pub(crate) fn follow(pool: &mut Pool, first: u32, count: u32) -> u32
     slot
 }
 
-/// The first `count` addresses of a run, and those behind them.
+/// The first `count` addresses of a run, and the addresses after them.
 fn split(pool: &mut Pool, run: Run, count: u32) -> (Run, Run)
     requires within { (0 < count) × (count < run.count) }
     requires below { AreBelow (length pool.old.next) (chain pool.old.next run.first count) }
@@ -62,7 +62,7 @@ pub(crate) fn split_at(pool: &mut Pool, run: Run, lba: u64) -> (Option<Run>, Opt
     requires headroom { pool.old.links + run.count ≤ u64.MAX }
     ensures split { IsSplit pool.old.next run lba result.0 result.1 }
 
-    // At most as many links are followed as the part before the address has blocks.
+    // The call follows at most as many links as the part before the address has blocks.
     ensures links { OnlyFollows (length (expanded pool.old.next (option_to_list result.0)))
         pool.old pool.new }
 {

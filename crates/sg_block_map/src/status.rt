@@ -1,5 +1,5 @@
-// GET LBA STATUS over a table of runs: where the runs of a range begin, and the descriptors one by
-// one. It knows no slot and no block: the status of addresses is in the table.
+// GET LBA STATUS over a table of runs: the first run of a range, and the descriptors one by one.
+// This file knows no slot and no block: the status of addresses is in the table.
 ghost use Rattle.std.specs.Prelude.{◌≡◌, ◌+◌, ◌-◌, ◌<◌, ◌≤◌, ℕ, length};
 ghost use Rattle.sg_store.specs.LbaStatus.{covered, descriptor_at, descriptors_from};
 ghost use Rattle.sg_store.specs.LbaStatus.{PutsDescriptors};
@@ -25,7 +25,7 @@ pub(crate) fn cursor_over(table: &mut RunTable, lba: u64) -> Cursor
     requires headroom { (table.old.probes ≤ MAX_COUNT) × (table.old.visits ≤ MAX_COUNT) }
     ensures cursor { IsOver table.old.records result lba }
 
-    // The run is visited, and at most one more.
+    // The call visits the run, and at most one more.
     ensures visits { SearchesAndVisits (ahead result.next) (ahead result.next + 1)
         table.old table.new }
 {
@@ -69,7 +69,7 @@ fn describe(
         result.0 ≡ descriptor_at (chained_contents table.old.records slots) capacity lba }
     ensures cursor { IsOver table.old.records result.1 (lba + result.0.count) }
 
-    // The runs that the cursor goes past have addresses of the descriptor, and no others have.
+    // The runs that the cursor goes past have addresses of the descriptor, and no other runs have.
     ensures met { MeetsRange table.old.records cursor.index result.1.index lba result.0.count }
     ensures cost { visited table.new (passed cursor) ≡ visited table.old (passed result.1) }
 {
@@ -101,8 +101,8 @@ pub(crate) fn write_descriptors(
         (chained_contents table.old.records slots) capacity lba cut.old cut.new result }
     ensures at_most { result ≤ MAX_DESCRIPTORS }
 
-    // The runs that have addresses of the descriptors are visited, and at most one more. The one at
-    // the cursor was visited before.
+    // The call visits the runs that have addresses of the descriptors, and at most one more. An
+    // earlier call has visited the run at the cursor.
     ensures table { table.new ≡ visited table.old (table.new.total - table.old.total) }
     ensures visits { (slots : Slots) →
         let contents = chained_contents table.old.records slots in

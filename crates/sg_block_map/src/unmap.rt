@@ -1,5 +1,5 @@
-// Unmapping a range: the slots of its addresses are freed chain by chain, and the parts of runs before
-// and behind it remain. No block is touched.
+// Unmapping a range: the call frees the slots of its addresses chain by chain. The parts of runs
+// before and after the range remain. The call touches no block.
 ghost use Rattle.std.specs.Prelude.{◌≡◌, ◌+◌, ◌-◌, ◌<◌, ◌≤◌, ◌++◌, length};
 ghost use Rattle.std.specs.Prelude.{option_to_list, IfSome};
 ghost use Rattle.sg_pool.specs.Chains.{AreBelow, IsChain};
@@ -63,7 +63,7 @@ fn unmap_run(pool: &mut Pool, remaining: &mut Draft, run: Run, low: u64, high: u
     ensures cut { IsCut pool.old pool.new remaining.old.records remaining.new.records run low high }
     ensures draft { remaining.new ≡ record remaining.old { records = remaining.new.records } }
 
-    // At most as many links are followed as the run has blocks.
+    // The call follows at most as many links as the run has blocks.
     ensures links { FollowsLinks run.count pool.old pool.new }
 {
     let (front, rest) = split_at(pool, run, low);
@@ -77,7 +77,7 @@ fn unmap_run(pool: &mut Pool, remaining: &mut Draft, run: Run, low: u64, high: u
 }
 
 /// Unmaps the addresses from one to another in the runs that were gathered, and replaces these in
-/// the table by what remains of them.
+/// the table by their remaining parts.
 pub(crate) fn unmap_runs(
     table: &mut RunTable,
     pool: &mut Pool,
@@ -98,7 +98,7 @@ pub(crate) fn unmap_runs(
     ensures blocks { pool.new.blocks ≡ pool.old.blocks }
     ensures draft { remaining.new.room ≡ remaining.old.room }
 
-    // At most as many links are followed as the gathered runs have blocks.
+    // The call follows at most as many links as the gathered runs have blocks.
     ensures links { FollowsLinks (blocks_of gathered.now.records) pool.old pool.new }
 {
     let runs = gathered.records();
@@ -113,8 +113,9 @@ pub(crate) fn unmap_runs(
     put_runs(table, gathered, remaining.records());
 }
 
-/// Has the slots taken in ascending order again where no address has one: what was written and
-/// unmapped before has scattered them, and the blocks of a range lie side by side no more.
+/// Makes the pool return its slots in ascending order again, if no address has one. Earlier writes
+/// and unmaps have scattered the free slots. Without this call the blocks of a range would no
+/// longer lie side by side.
 pub(crate) fn renew_slots(table: &RunTable, pool: &mut Pool)
     requires { AreRuns table.now.records pool.old table.now.room }
     ensures runs { AreRuns table.now.records pool.new table.now.room }

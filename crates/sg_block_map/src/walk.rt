@@ -1,5 +1,5 @@
-// Going over the addresses of runs in a row, one link of the pool for each. It knows a list of runs, and
-// not the table.
+// Going over the addresses of runs in a row, one link of the pool for each. This file knows a list
+// of runs, and not the table.
 ghost use Rattle.std.specs.Prelude.{◌≡◌, ◌+◌, ◌<◌, ◌≤◌, length, drop, option_to_list};
 ghost use Rattle.sg_block_map.specs.Metering.{OnlyFollows};
 ghost use Rattle.sg_block_map.specs.Runs.{expanded};
@@ -13,7 +13,8 @@ use sg_table::Run;
 /// The addresses that are ahead in a list of runs.
 #[derive(Clone, Copy)]
 pub(crate) struct Walk {
-    /// Those of a run of which the first ones may have been passed. None at the end of the list.
+    /// The addresses of a run that are ahead: the walk may have passed the first ones. None at the
+    /// end of the list.
     pub(crate) run: Option<Run>,
     /// The index of the next run.
     pub(crate) at: usize,
@@ -42,7 +43,7 @@ impl Walk {
         ensures ahead { ahead_of runs.now result.run result.at
             ≡ passed pool.old.next run (drop self.at runs.now) }
 
-        // At most one link is followed.
+        // The walk follows at most one link.
         ensures links { OnlyFollows 1 pool.old pool.new }
     {
         if run.count == 1 {
@@ -70,7 +71,7 @@ pub(crate) fn walk_from(pool: &mut Pool, runs: &[Run], lba: u64) -> (Option<Run>
     ensures walk { IsWalkFrom pool.old.next runs.now lba result.0
         (ahead_of runs.now result.1.run result.1.at) }
 
-    // At most as many links are followed as the part before the address has blocks.
+    // The call follows at most as many links as the part before the address has blocks.
     ensures links { OnlyFollows (length (expanded pool.old.next (option_to_list result.0)))
         pool.old pool.new }
 {

@@ -1,5 +1,5 @@
-// Writing a range: the runs near it and its addresses become one run. That there are slots enough is for
-// the store to know, and which runs are near is for `gather`.
+// Writing a range: the runs near it and its addresses become one run. The store makes sure that
+// there are enough slots, and `gather` finds the runs that are near.
 ghost use Rattle.std.specs.Prelude.{◌≡◌, ◌+◌, ◌-◌, ◌^◌, ◌<◌, ◌≤◌, ◌++◌, List, length};
 ghost use Rattle.std.specs.Prelude.{None, Option, option_to_list, IfSome};
 ghost use Rattle.sg_table.specs.Records.{run_at};
@@ -22,13 +22,13 @@ use sg_pool::{Pool, Source};
 use sg_store::{BLOCK_LENGTH, MAX_CAPACITY};
 use sg_table::{Kind, Run, RunTable, run_at};
 
-/// How far a range is written.
+/// The state of a write of a range.
 #[derive(Clone, Copy)]
 struct Progress {
-    // The run of the addresses that are written, with the data right before the range. At
-    // first it may have none.
+    // The run of the written addresses, with the data right before the range. At first it may have
+    // no address.
     done: Run,
-    // The addresses from the next one on that have a slot.
+    // The addresses with a slot, from the next address on.
     walk: Walk,
 }
 
@@ -57,7 +57,7 @@ fn join(pool: &mut Pool, done: Run, other: Run) -> Run
     }
 }
 
-/// Puts a block into a slot, if it is for a run of data. No block is touched for one that is anchored.
+/// Puts a block into a slot, if it is for a run of data. For an anchored run it touches no block.
 fn set_block(pool: &mut Pool, slot: u32, kind: Kind, bytes: &[u8])
     requires slot { slot < length pool.old.blocks }
     requires byte_count { length bytes.now ≡ BLOCK_LENGTH }
@@ -72,8 +72,8 @@ fn set_block(pool: &mut Pool, slot: u32, kind: Kind, bytes: &[u8])
     }
 }
 
-/// Puts the address where the run ends, and joins the address to the run. One that has a slot keeps
-/// it, and any other takes a free one. A run of data gets the block there.
+/// Puts the address where the run ends, and joins the address to the run. An address that has a
+/// slot keeps it, and any other address takes a free slot. A run of data gets the block there.
 fn put_address(
     pool: &mut Pool,
     runs: &[Run],
@@ -122,8 +122,8 @@ fn put_address(
     Progress { done, walk }
 }
 
-/// Splits the runs at the first address of a range. The part before it is to be joined if it is of the
-/// range's kind, and is kept apart if not.
+/// Splits the runs at the first address of a range. The part before it is to be joined if it is of
+/// the range's kind. Otherwise the part is kept apart.
 fn begin(pool: &mut Pool, runs: &[Run], lba: u64, kind: Kind) -> (Option<Run>, Progress)
     requires ahead { AreAhead pool.old.next (length pool.old.next) 0 runs.now }
     requires headroom { pool.old.links + length (expanded pool.old.next runs.now) ≤ u64.MAX }
@@ -153,8 +153,8 @@ fn begin(pool: &mut Pool, runs: &[Run], lba: u64, kind: Kind) -> (Option<Run>, P
     (front, Progress { done: none, walk })
 }
 
-/// Joins the run that is ahead, which meets or touches the end of the range, if it is of the range's
-/// kind. Any other is kept apart.
+/// Joins the run that is ahead, which meets or touches the end of the range, if it is of the
+/// range's kind. Otherwise it keeps the run apart.
 fn finish(pool: &mut Pool, progress: Progress) -> (Run, Option<Run>)
     requires slot { 0 < progress.done.count → progress.done.last < length pool.old.next }
     requires used { 0 < progress.done.count → occurrences progress.done.last pool.old.free ≡ 0 }
@@ -170,9 +170,9 @@ fn finish(pool: &mut Pool, progress: Progress) -> (Run, Option<Run>)
     (progress.done, Some(run))
 }
 
-/// Puts the addresses from one on into a run of a kind, with the blocks of a source if it is data. The
-/// runs of this kind near the range and its addresses become one run of the table. There have to be
-/// free slots for the addresses that have none.
+/// Puts the addresses from one on into a run of a kind, with the blocks of a source if it is data.
+/// The runs of this kind near the range and its addresses become one run of the table. The
+/// addresses that have no slot need free slots.
 fn put_range(
     table: &mut RunTable,
     pool: &mut Pool,
@@ -196,8 +196,8 @@ fn put_range(
     put_parts(table, gathered, front, run, back);
 }
 
-/// Makes the addresses from one on data, with the blocks of a source, or anchors them. There have to be
-/// free slots for the addresses that have none.
+/// Makes the addresses from one on data, with the blocks of a source, or anchors them. The
+/// addresses that have no slot need free slots.
 pub(crate) fn write_runs(
     table: &mut RunTable,
     pool: &mut Pool,

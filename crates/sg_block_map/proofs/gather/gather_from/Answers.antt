@@ -17,7 +17,7 @@ use Rattle.sg_block_map.proofs.GatheringLemmas.{count-begun, near-more, begun-mo
 use Rattle.sg_block_map.proofs.GatheringLemmas.{gathered-on, visits-of}
 use Rattle.sg_block_map.proofs.gather.gather_from.Goals as goal
 
--- the run that is visited is the one at the index
+-- the visited run is the run at the index
 start_here : (rs now : List Run) (at : ℕ) (run : Run) → now ≡ rs → at < length rs
     → slice_index_or now at run ≡ run → run.start ≡ start_of rs at
 start_here rs now at run same low e = start_of-read rs at run low (sym e

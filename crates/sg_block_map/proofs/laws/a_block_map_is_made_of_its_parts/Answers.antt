@@ -5,7 +5,7 @@ use Rattle.sg_table.specs.Draft.{Drafted, empty_draft}
 use Rattle.sg_block_map.specs.Parts.{IsMadeOfParts}
 use Rattle.sg_block_map.proofs.laws.a_block_map_is_made_of_its_parts.Goals as goal
 
--- the lists are empty, and that they are holds in one way
+-- the lists are empty, and this holds in only one way
 made-of : IsMadeOfParts
 made-of map =
     let none = empty_draft map.table.room in

@@ -7,7 +7,7 @@ use Rattle.sg_table.specs.declared.run.Run.{Run}
 use Rattle.sg_block_map.specs.Runs.{expanded, chained_contents}
 use Rattle.sg_block_map.proofs.overwrite.overwrite.Given as goal
 
--- the blocks so far are written, and the slot is that of the next address
+-- the blocks so far are written, and the slot belongs to the next address
 abbrev pub invariant-loop-i : goal.invariant-loop-i
 invariant-loop-i l =
     let old = l.fn.pool in

@@ -10,14 +10,14 @@ use Rattle.sg_table.specs.declared.run.Run.{Run}
 use Rattle.sg_block_map.specs.Gathering.{end_index}
 use Rattle.sg_block_map.proofs.put.put_runs.Goals as goal
 
--- two kinds are equal where they have one name
+-- two kinds are equal if they have one name
 kind-Decides : (j k : Kind) → Decides (eq-value.it j k) (j ≡ k)
 kind-Decides Data Data = (λ t. refl, λ e. refl)
 kind-Decides Data Anchored = (λ t. let wrong = t in cc, λ e. cc)
 kind-Decides Anchored Data = (λ t. let wrong = t in cc, λ e. cc)
 kind-Decides Anchored Anchored = (λ t. refl, λ e. refl)
 
--- two runs are equal where each of their fields is
+-- two runs are equal if each of their fields is
 run-Decides : (a b : Run)
     → Decides (a.start == b.start && (a.count == b.count && (a.first == b.first
     && (a.last == b.last && eq-value.it a.kind b.kind)))) (a ≡ b)

@@ -6,7 +6,7 @@ use Rattle.sg_block_map.specs.Runs.{expanded, chained_contents}
 use Rattle.sg_block_map.specs.Walking.{ahead_of, AreAhead}
 use Rattle.sg_block_map.proofs.read.read_runs.Given as goal
 
--- the blocks so far are read, and the others are those of the runs ahead
+-- the blocks so far are read, and the runs ahead have the others
 abbrev pub invariant-loop-i : goal.invariant-loop-i
 invariant-loop-i l =
     let slots = l.fn.pool in

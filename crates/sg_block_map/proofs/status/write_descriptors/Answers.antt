@@ -60,7 +60,7 @@ loop-next-preserved c =
           (passed c.loop-next.cursor) (passed c.describe.result.1) e.cost inv.table;
     }
 
--- what the cursor passes is visited
+-- the runs that the cursor passes are visited
 only-more : (rs : List Run) (from to : ℕ) (next next' : Option Run) → IsNext rs from next
     → from ≤ length rs → IsNext rs to next' → to ≤ length rs → from ≤ to
     → from + ahead next ≤ to + ahead next'

@@ -27,7 +27,7 @@ use Rattle.sg_block_map.proofs.unmap.unmap_runs.Goals as goal
 abbrev no_run : Run
 no_run = record { start = 0; count = 0; first = 0; last = 0; kind = Data }
 
--- the table with the runs so far cut, where another run follows
+-- the table with the runs so far cut, if another run follows
 here : (rs kept runs : List Run) (gathered : Drafted) (slots : Slots)
     (room low high bound from i : ℕ) → AreGathered rs gathered low high bound
     → runs ≡ gathered.records → from ≡ gathered.from → i < length runs

@@ -4,7 +4,7 @@ use Rattle.sg_pool.specs.MappedRecords.{outside_records}
 use Rattle.sg_block_map.specs.Runs.{expanded, AreRuns, blocks_of}
 use Rattle.sg_block_map.proofs.unmap.unmap_runs.Given as goal
 
--- the runs so far are cut: the range's addresses are gone from them, and all others are there
+-- the runs so far are cut: they have lost the range's addresses, and they keep all others
 abbrev pub invariant-loop-i : goal.invariant-loop-i
 invariant-loop-i l =
     let rs = l.fn.table.records in
