@@ -1,4 +1,4 @@
--- Records are appended to a leaf, and to new leaves behind it.
+-- Records are appended to a leaf, and to new leaves after it.
 use Rattle.std.proofs.Common.{◌≡◌, ℕ, zero, suc, ◌+◌, ◌-◌, ◌<◌, ◌≤◌, List, [], ◌∷◌, ◌++◌, length, set}
 use Rattle.std.proofs.Common.{take, drop, sym, ap, ap₂, ◌∙◌, arith, refl, append_assoc}
 use Rattle.std.proofs.Common.{length-append}
@@ -41,7 +41,7 @@ count-without ls a b le =
       ap (λ x. length (joined x)) rest,
     )
 
--- one more leaf is removed behind another
+-- one more leaf is removed after another
 pub removed-behind : (ls : List (List Run)) (n m : ℕ) → n ≤ length ls
     → remove (take n ls ++ drop m ls) n ≡ take n ls ++ drop (m + 1) ls
 removed-behind ls n m le =
@@ -55,7 +55,7 @@ filled-more ls k lt before le =
     All-same IsFilled (take (k + 1) ls) (take k ls ++ leaf_at ls k ∷ []) (take_more ls k [] lt)
     (All-append IsFilled (take k ls) (leaf_at ls k ∷ []) before (filled-one (leaf_at ls k) le))
 
--- a new leaf comes behind one that is full
+-- a new leaf comes after one that is full
 pub opened-behind : (t u : LeafTable) (k : ℕ) → k < length t.leaves → AreFilledBut t.leaves k
     → min_leaf ≤ length (leaf_at t.leaves k) → u ≡ record t { leaves = insert t.leaves (k + 1) [] }
     → IsAppended t u k (k + 1) []
@@ -144,7 +144,7 @@ appended-more t u v k l m runs more a b =
       moves = omega (arith, a.moves, b.moves, length-append runs more);
     }
 
--- all records, those behind the leaves in work included
+-- all records, with the records after the leaves in work
 pub appended-all : (t u : LeafTable) (k last : ℕ) (runs : List Run) → IsAppended t u k last runs
     → joined u.leaves ≡ (joined (take (k + 1) t.leaves) ++ runs) ++ joined (drop (k + 1) t.leaves)
 appended-all t u k last runs a =
@@ -167,7 +167,7 @@ appended-count t u k last runs a =
       length-append (joined (take (k + 1) t.leaves)) (joined (drop (k + 1) t.leaves)),
     )
 
--- the records up to one index are those up to another, and those between
+-- the records up to one index are the records up to another, and the records between
 pub take-part : (xs : List Run) (n m : ℕ) → n ≤ m → m ≤ length xs
     → take m xs ≡ take n xs ++ take (m - n) (drop n xs)
 take-part xs n m le within =

@@ -85,7 +85,7 @@ joined-halved-at ls k n all lt e =
     take-append-drop n all ∙ e ∙ ap (λ i. leaf_at ls k ++ leaf_at ls i) one in
     rw two (joined-levelled ls k (take n all) (drop n all) (omega arith) whole)
 
--- the leaves around those that were replaced have enough records
+-- the leaves around the replaced leaves have enough records
 pub filled-around : (before after middle : List (List Run)) → All IsFilled before → All IsFilled middle
     → All IsFilled after → All IsFilled (before ++ (middle ++ after))
 filled-around before after middle p q r =
@@ -99,7 +99,7 @@ pub list-split : (ls : List (List Run)) (k : ℕ) → k < length ls
 list-split ls k lt =
     sym (take-append-drop k ls) ∙ ap (λ x. take k ls ++ x) (drop_more ls k [] lt)
 
--- all leaves have enough records where the one in work has
+-- all leaves have enough records if the leaf in work has
 pub filled-all : (ls : List (List Run)) (k : ℕ) → k < length ls → AreFilledBut ls k
     → min_leaf ≤ length (leaf_at ls k) → All IsFilled ls
 filled-all ls k lt but le =

@@ -13,7 +13,7 @@ use Rattle.sg_table.specs.declared.run.Run.{Run}
 use Rattle.sg_table.proofs.AppendLemmas.{appended-all}
 use Rattle.sg_table.proofs.LeavesLemmas.{joined-append}
 
--- the leaves behind one up to another are gone
+-- the leaves after one up to another are gone
 abbrev pub without : List (List Run) → (k m : ℕ) → List (List Run)
 without ls k m = take (k + 1) ls ++ drop m ls
 
@@ -71,7 +71,7 @@ cut-joined t u from to cut =
     ∙ joined-append (take (from.leaf + 1) u.leaves) (drop (from.leaf + 1) u.leaves)
     ∙ ap₂ (λ x y. x ++ y) cut.front (ap joined cut.behind)
 
--- the records that are left, the new ones and those behind them
+-- the records that are left, the new ones and the records after them
 pub cut-count : (t u : LeafTable) (from to : Place) (runs rest : List Run) → IsCut t u from to
     → rest ≡ drop to.offset (leaf_at t.leaves to.leaf)
     → length (joined u.leaves) + length runs + length rest ≡ length (replaced t.leaves from to runs)

@@ -1,4 +1,4 @@
--- How many addresses of records have data, record by record and leaf by leaf.
+-- The number of addresses of records that have data, record by record and leaf by leaf.
 use Rattle.std.proofs.Common.{◌≡◌, ℕ, zero, suc, ◌+◌, ◌-◌, ◌*◌, ◌^◌, ◌<◌, ◌≤◌, List, [], ◌∷◌, ◌++◌}
 use Rattle.std.proofs.Common.{length, set, arith, ap, ◌∙◌, take, drop, get_or, length-append}
 use Rattle.std.proofs.Common.{drop-drop, take-append-drop}
@@ -16,7 +16,7 @@ pub data-append : (xs ys : List Run) → data_in (xs ++ ys) ≡ data_in xs + dat
 data-append [] ys = omega arith
 data-append (x ∷ xs) ys = let rest = data-append xs ys in omega arith
 
--- one record more
+-- one more record
 pub data-more : (rs : List Run) (i : ℕ) (d : Run) → i < length rs
     → data_in (take (i + 1) rs) ≡ data_in (take i rs)
     + count_if_data (get_or rs i d).kind (get_or rs i d).count

@@ -1,4 +1,4 @@
--- What a ghost number owns at run time: nothing.
+-- A ghost number owns nothing at run time.
 use Rattle.std.proofs.Common.{List, [], ◌∷◌, refl}
 use seplogic.Ra.Ura.{Ura}
 use mir.Val.{Val, vstruct, vnil}

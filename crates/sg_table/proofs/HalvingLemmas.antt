@@ -1,4 +1,4 @@
--- What halving costs.
+-- The cost of halving.
 use Rattle.std.proofs.Common.{◌≡◌, ℕ, ◌+◌, ◌*◌, ◌^◌, ◌≤◌, ◌<◌, arith, add-one, inl, inr}
 use Rattle.std.proofs.Math.Nat.{mul-le-mul_left, pow-succ'}
 use Rattle.std.proofs.Math.Pow.{pow_mono}
@@ -12,7 +12,7 @@ use Rattle.sg_table.specs.declared.table.TheConstants.{MAX_RECORDS}
 twice : (s : ℕ) → 2 ^ (s + 1) ≡ 2 * 2 ^ s
 twice s = rw (add-one) (pow-succ' 2 s)
 
--- one more probe, where what is left is at most half
+-- one more probe, if at most half is left
 pub halved-more : (s n m c : ℕ) → 2 ^ s * n ≤ c → 0 < n → 2 * m ≤ n → 2 ^ (s + 1) * m ≤ c
 halved-more s n m c h pos half = rw (twice s) (omega (arith, mul-le-mul_left (2 ^ s) half))
 
@@ -20,7 +20,7 @@ pub cost-more : (s n c : ℕ) → 2 ^ s * n ≤ c → 0 < n → 2 ^ (s + 1) ≤ 
 cost-more s n c h pos = let one : 1 ≤ n = omega arith in
     rw (twice s) (omega (arith, mul-le-mul_left (2 ^ s) one))
 
--- and where it is at least half, but for what is compared
+-- and if at least half is left, except for the address that is compared
 pub halved-less : (s n m c : ℕ) → c + 2 ≤ 2 ^ s * (n + 2) → n ≤ 2 * m + 2 → c + 2 ≤ 2 ^ (s + 1) * (m + 2)
 halved-less s n m c h half =
     let more : 2 ^ s * (n + 2) ≤ 2 ^ s * (2 * (m + 2)) = mul-le-mul_left (2 ^ s) (omega arith) in
@@ -32,7 +32,7 @@ pub probes-le : (s c : ℕ) → 2 ^ s ≤ 4 * c + 1 → c ≤ MAX_RECORDS → s 
 probes-le s c h small = elim (cases_lt s 19)
     [ inl lt ↦ omega arith | inr ge ↦ let p : 2 ^ 19 ≤ 2 ^ s = pow_mono ge in absurd (omega arith) ]
 
--- and one of any list can be counted
+-- and a search of any list can be counted
 pub halvings-fit : (s c : ℕ) → 2 ^ s ≤ 2 * c + 1 → c < 2 ^ 64 → s ≤ 65
 halvings-fit s c h small = elim (cases_lt s 66)
     [ inl lt ↦ omega arith | inr ge ↦ let p : 2 ^ 66 ≤ 2 ^ s = pow_mono ge in absurd (omega arith) ]

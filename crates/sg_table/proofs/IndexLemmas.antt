@@ -1,4 +1,4 @@
--- Indices of records, and the table with a record more.
+-- Indices of records, and the table with one more record.
 use Rattle.std.proofs.Common.{◌≡◌, ◌≢◌, ℕ, ◌+◌, ◌-◌, ◌<◌, ◌≤◌, zero, suc, List, [], ◌∷◌, length}
 use Rattle.std.proofs.Common.{arith, refl, inl, inr}
 use Rattle.std.proofs.lemmas.List.Edits.{length-insert}
@@ -7,7 +7,7 @@ use Rattle.std.specs.Prelude.{insert}
 use Rattle.sg_table.specs.Records.{start_of, IsSorted, IsLowerBound}
 use Rattle.sg_table.specs.declared.run.Run.{Run}
 
--- the addresses with a record more
+-- the addresses with one more record
 pub start_of-insert_below : (rs : List Run) (i : ℕ) (r : Run) (j : ℕ) → j < i → i ≤ length rs
     → start_of (insert rs i r) j ≡ start_of rs j
 start_of-insert_below rs zero r j lt le = absurd (omega arith)
@@ -41,7 +41,7 @@ index_unique rs i j a p q = elim (cases_lt i j) [
   ]
 ]
 
--- the table with a record more, at its index
+-- the table with one more record, at its index
 pub sorted-insert : (rs : List Run) (i : ℕ) (r : Run) → IsSorted rs → IsLowerBound rs i r.start
     → ((j : ℕ) → j < length rs → start_of rs j ≢ r.start) → IsSorted (insert rs i r)
 sorted-insert rs i r rises p none x y lt below =

@@ -46,7 +46,7 @@ occurs : (xs : List ℕ) (k d : ℕ) → k < length xs → 1 ≤ occurrences (ge
 occurs xs k d lt =
     omega (arith, occurrences-remove (get_or xs k d) xs k d lt, same_slot (get_or xs k d))
 
--- a slot that is in the order is there once, and is one of the slots
+-- a slot of the order occurs once in it, and is one of the slots
 below : (slots : List (List Run)) (order free : List ℕ) (t : ℕ) → AreSlots slots order free
     → 1 ≤ occurrences t order → t < length slots
 below slots order free t are some =
@@ -68,7 +68,7 @@ pub count-leaves : (slots : List (List Run)) (order : List ℕ) (ls : List (List
     → leaves_in slots order ≡ ls → length order ≡ length ls
 count-leaves slots order ls same = sym (length-map order (leaf_at slots)) ∙ ap length same
 
--- what a read of a leaf gives
+-- the result of a read of a leaf
 pub leaf-in : (slots : List (List Run)) (order free : List ℕ) (ls : List (List Run)) (k s : ℕ)
     (x : List Run) → AreSlots slots order free → leaves_in slots order ≡ ls → k < length ls
     → s ≡ get_or order k s → x ≡ get_or slots s x → x ≡ leaf_at ls k
@@ -183,7 +183,7 @@ slots-remove slots order free ls k s are same lt' at = let lt : k < length order
       map-remove (leaf_at slots) order k ∙ ap (λ l. remove l k) same,
     )
 
--- the leaf in a free slot is not that of a slot in the order
+-- the leaf in a free slot is in no slot of the order
 pub empty-apart : (slots : List (List Run)) (order free : List ℕ) (k s d : ℕ) (leaf : List Run)
     → AreSlots slots order free → AreEmpty slots free → k < length order → s ≡ get_or order k d
     → AreEmpty (set slots s leaf) free

@@ -21,7 +21,7 @@ use Rattle.sg_table.proofs.LeavesLemmas.{count_before-all, count_before-more, co
 use Rattle.sg_table.proofs.PlaceLemmas.{record-place}
 use Rattle.sg_table.proofs.RecordLemmas.{no_run, start_of-at}
 
--- what holds of each element, with one more or one less
+-- a fact of each element, with one more or one less
 pub all-insert : {X : Type 0} (P : X → Type 0) (xs : List X) (k : ℕ) (x : X) → k ≤ length xs → P x
     → All P xs → All P (insert xs k x)
 all-insert P xs zero x le p all = All-cons P x xs p all
@@ -98,7 +98,7 @@ module _ (ls : List (List Run)) (sorted : IsSorted (joined ls)) (balanced : AreB
         ),
       )
 
-  -- the address of the first record of a leaf but the first one
+  -- the address of the first record of a leaf that is not the first one
   first-at : (i k : ℕ) → k ≡ 1 + i → k < length ls
       → address_at (drop 1 (first_addresses ls)) i ≡ start_of (joined ls) (count_before ls k)
   first-at i k e lt =
@@ -151,7 +151,7 @@ module _ (ls : List (List Run)) (sorted : IsSorted (joined ls)) (balanced : AreB
         start_of-leaf ls k j (before + j) within (omega arith) (omega arith),
       )
 
-  -- the record that is looked for is the one of its leaf, as the next leaf begins behind it
+  -- the search of a leaf finds the index among all records, because the next leaf begins after it
   pub leaf-bound : (k offset address : ℕ) → IsFirstFrom (drop 1 (first_addresses ls)) k address
       → IsFirstFrom (addresses (leaf_at ls k)) offset address
       → IsLowerBound (joined ls) (count_before ls k + offset) address
@@ -211,7 +211,7 @@ module _ (ls : List (List Run)) (sorted : IsSorted (joined ls)) (balanced : AreB
         ];
       }
 
-  -- what both searches cost
+  -- the cost of both searches
   pub leaf-cost : (k q p address : ℕ) → IsFirstFrom (drop 1 (first_addresses ls)) k address → All FitsLeaf ls
       → CostsHalving (length (drop 1 (first_addresses ls))) q
       → CostsHalving (length (addresses (leaf_at ls k))) p → CostsSearch (length (joined ls)) (q + p)

@@ -1,4 +1,4 @@
--- The records of leaves in a row, and where each leaf begins.
+-- The records of leaves in a row, and the start of each leaf.
 use Rattle.std.proofs.Common.{◌≡◌, ℕ, zero, suc, ◌+◌, ◌-◌, ◌<◌, ◌≤◌, List, [], ◌∷◌, ◌++◌, length, get_or, set}
 use Rattle.std.proofs.Common.{take, drop, map, sym, ap, ap₂, ◌∙◌, arith, refl, add-one, add-zero}
 use Rattle.std.proofs.Common.{zero-add, ⊎_elim}
@@ -19,7 +19,7 @@ joined-append [] b = refl
 joined-append (leaf ∷ a) b =
     ap (λ x. leaf ++ x) (joined-append a b) ∙ sym (append_assoc leaf (joined a) (joined b))
 
--- the records before a leaf, those of the leaf, and those behind it
+-- the records before a leaf, the records of the leaf, and the records after it
 pub joined-split : (ls : List (List Run)) (k : ℕ) → k < length ls
     → joined ls ≡ joined (take k ls) ++ (leaf_at ls k ++ joined (drop (suc k) ls))
 joined-split [] k lt = absurd (omega arith)
@@ -114,7 +114,7 @@ starts_of-remove (leaf ∷ ls) n zero lt =
 starts_of-remove (leaf ∷ ls) n (suc k) lt =
     ap (λ x. n ∷ x) (starts_of-remove ls (n + length leaf) k (omega arith))
 
--- the starts behind a leaf are between its length and the number of records
+-- the starts after a leaf are between its length and the number of records
 pub starts_of-bounds : (ls : List (List Run)) (n : ℕ)
     → All (λ s. (n ≤ s) × (s ≤ n + length (joined ls))) (starts_of n ls)
 starts_of-bounds [] n zero d lt = (omega arith, omega arith)
@@ -157,7 +157,7 @@ directory-last leaves starts k d dir e =
     directory-at leaves starts k d dir (omega (arith, dir.count))
     ∙ ap (count_before leaves) last ∙ count_before-all leaves
 
--- what a read of the directory gives
+-- the result of a read of the directory
 pub start-read : (leaves : List (List Run)) (starts : List ℕ) (ls : List (List Run)) (k x : ℕ)
     → IsDirectory leaves starts → leaves ≡ ls → k ≤ length ls
     → x ≡ get_or starts k x → x ≡ count_before ls k
@@ -166,7 +166,7 @@ start-read leaves starts ls k x dir same le read =
     (omega (arith, dir.count, ap length same))
     ∙ ap (λ l. count_before l k) same
 
--- a leaf with records behind it is not the last one
+-- a leaf with records after it is not the last one
 pub not-last : (ls : List (List Run)) (k : ℕ) → k ≤ length ls → count_before ls k < length (joined ls)
     → k < length ls
 not-last ls k le lt =
@@ -199,7 +199,7 @@ shift-none xs from n m e all =
     sym (take-append-drop from xs) ∙ ap (λ x. take from xs ++ x) (shift-same (drop from xs) n all
     ∙ ap (λ k. map (λ s. s - n + k) (drop from xs)) e)
 
--- the directory's numbers behind a leaf
+-- the directory's numbers after a leaf
 pub directory-behind : (leaves : List (List Run)) (starts : List ℕ) (ls : List (List Run)) (k : ℕ)
     → IsDirectory leaves starts → leaves ≡ ls → k < length ls
     → All (λ s. (length (leaf_at ls k) ≤ s) × (s ≤ length (joined ls))) (drop (k + 1) starts)
@@ -263,7 +263,7 @@ directory-remove leaves starts k less starts' dir lt others le e =
     directory-of (remove leaves k) starts' (omega (arith, length-remove leaves k lt))
     (e ∙ rw (le, add-one k, dir.each) (sym (starts_of-remove leaves 0 k lt)))
 
--- how many records there are when a leaf gets others
+-- the number of records when a leaf gets others
 pub count-set : (ls : List (List Run)) (k : ℕ) (new : List Run) → k < length ls
     → length (joined (set ls k new)) + length (leaf_at ls k) ≡ length (joined ls) + length new
 count-set [] k new lt = absurd (omega arith)

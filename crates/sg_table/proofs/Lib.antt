@@ -1,4 +1,4 @@
--- For stores: records and their order, lists of slots, and what is counted.
+-- For stores: records and their order, lists of slots, and counts.
 pub mod RecordLemmas
 pub mod IndexLemmas
 pub mod OccurrenceLemmas
@@ -6,7 +6,7 @@ pub mod SpliceLemmas
 pub mod TableLemmas
 pub mod HalvingLemmas
 pub mod DataLemmas
--- For the table alone: its leaves, and the search of them.
+-- For the table only: its leaves, and the search of them.
 pub mod GhostNumberSteps
 pub mod LeafListLemmas
 pub mod LeavesLemmas

@@ -1,4 +1,4 @@
--- How often slots occur in lists.
+-- The occurrences of slots in lists.
 use Rattle.std.proofs.Common.{◌≡◌, ◌≢◌, ℕ, ◌+◌, ◌<◌, ◌≤◌, zero, suc, List, [], ◌∷◌, ◌++◌, arith}
 use Rattle.std.proofs.Common.{sym, ap, ◌∙◌, cond, Bool, true, false, eq-eqb, refl, length, get_or}
 use Rattle.std.proofs.lemmas.Bool.Decides.{nat_tests}
@@ -38,7 +38,7 @@ at_most_once false n e = omega arith
 pub once-le : (count : ℕ) (xs : List ℕ) (t : ℕ) → IsEachOnce count xs → occurrences t xs ≤ 1
 once-le count xs t once = at_most_once _ _ (once.each t)
 
--- what occurs in the list is below the count
+-- a number that occurs in the list is below the count
 pub below_count : (count : ℕ) (xs : List ℕ) (t : ℕ) → IsEachOnce count xs → 1 ≤ occurrences t xs → t < count
 below_count count xs t once h = let e = once.each t in grind (arith, nat_tests)
 
@@ -59,7 +59,7 @@ once-more n xs once = record {
       ∙ once_step t n (occurrences t xs) (once.each t);
 }
 
--- one number more
+-- one more number
 range-more : (n : ℕ) → range_with_len 0 (n + 1) ≡ range_with_len 0 n ++ n ∷ []
 range-more n = sym (map-id (range_with_len 0 (n + 1)))
     ∙ map-range_with_len_more (λ x. x) 0 n n (omega arith)

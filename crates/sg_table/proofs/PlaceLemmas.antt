@@ -23,7 +23,7 @@ take-place ls index p is =
     ∙ take-append-add before (leaf ++ behind) p.offset
     ∙ ap (λ x. before ++ x) (take-append-le p.offset leaf behind is.offset)
 
--- the records behind a place
+-- the records after a place
 pub drop-place : (ls : List (List Run)) (index : ℕ) (p : Place) → IsPlace ls index p
     → drop index (joined ls) ≡ drop p.offset (leaf_at ls p.leaf) ++ joined (drop (p.leaf + 1) ls)
 drop-place ls index p is =

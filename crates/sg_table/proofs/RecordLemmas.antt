@@ -15,7 +15,7 @@ start_of-read [] i r h e = absurd (omega arith)
 start_of-read (x ∷ rs) zero r h e = ap (λ (y : Run). y.start) e
 start_of-read (x ∷ rs) (suc i) r h e = start_of-read rs i r (omega arith) e
 
--- what a list of records gives behind its end
+-- the item that a list of records gives past its end
 abbrev pub no_run : Run
 no_run = record { start = 0; count = 0; first = 0; last = 0; kind = Data }
 

@@ -5,8 +5,8 @@ use Rattle.std.proofs.lemmas.Bool.{cases_lt}
 use Rattle.sg_table.specs.Search.{AreRising, ProbedStarts, address_at}
 use Rattle.sg_table.proofs.HalvingLemmas.{halved-more, halved-less, cost-more}
 
--- The first address that is not before `address` has an index from `low` to `high`, and each of `probes`
--- steps of a search halved what lies between.
+-- The first address that is not before `address` has an index from `low` to `high`. Each of
+-- `probes` steps of a search halved the addresses between them.
 pub record IsWindow (starts : List ℕ) (address low high probes : ℕ) : Type 0 where
   pub ordered : low ≤ high
   pub within : high ≤ length starts
@@ -16,7 +16,7 @@ pub record IsWindow (starts : List ℕ) (address low high probes : ℕ) : Type 0
   pub cost : 2 ^ probes ≤ 2 * length starts + 1
   pub least : length starts + 2 ≤ 2 ^ probes * (high - low + 2)
 
--- a step whose address is before the one that is looked for
+-- a step whose address is before the address that is looked for
 window-behind : (starts : List ℕ) (address low high probes : ℕ) → AreRising starts
     → IsWindow starts address low high probes → low < high
     → address_at starts (low + (high - low) / 2) < address
@@ -38,7 +38,7 @@ window-behind starts address low high probes rising is lt less =
       least = halved-less probes n _ (length starts) is.least (omega arith);
     }
 
--- and one whose address is not
+-- and a step whose address is not
 window-before : (starts : List ℕ) (address low high probes : ℕ) → AreRising starts
     → IsWindow starts address low high probes → low < high
     → address ≤ address_at starts (low + (high - low) / 2)
@@ -60,7 +60,7 @@ window-before starts address low high probes rising is lt past =
       least = halved-less probes n _ (length starts) is.least (omega arith);
     }
 
--- What a search left of the addresses that it began with.
+-- The addresses that a search left, of the addresses that it began with.
 pub record IsSearched (old now : ProbedStarts) (address low high : ℕ) : Type 0 where
   pub starts : now.starts ≡ old.starts
   pub window : IsWindow old.starts address low high now.probes

@@ -12,7 +12,7 @@ use Rattle.std.specs.Prelude.{insert}
 use Rattle.sg_table.specs.Records.{IsNext}
 use Rattle.sg_table.specs.declared.run.Run.{Run}
 
--- what is so where a call succeeds
+-- a fact that holds if a call succeeds
 pub on_success : {T E P : Type 0} (r : Result T E) → is_ok r ≡ true → OnOk r P → P
 on_success (Ok x) e p = p
 on_success (Err x) e p = absurd (true≢false (sym e))
@@ -37,7 +37,7 @@ cut-left rs from to left le within e =
     rw (same, n) (take-append-add p (b ++ take (to - from) (drop from rs)) (length b)
     ∙ ap (λ x. p ++ x) (take-append_seam b (take (to - from) (drop from rs))))
 
--- what was appended goes to its index
+-- the appended records go to their index
 pub turned-right : (p b runs : List Run) (from n left : ℕ) → from ≡ length p → n ≡
     length p + length b → left ≡ length b
     → take from ((p ++ b) ++ runs) ++
@@ -50,7 +50,7 @@ turned-right p b runs from n left e f g =
     rw (append_assoc, e) (drop-append_seam p (b ++ runs)) in
     rw (front, mid, rest) (ap (λ x. p ++ (runs ++ x)) (written_back left b runs g))
 
--- what is so of each record, and of those that replace some
+-- a fact of each record, and of the records that replace some
 pub all-splice : (P : Run → Type 0) (rs runs : List Run) (from to : ℕ) → All P rs → All P runs
     → All P (splice rs from to runs)
 all-splice P rs runs from to each others =

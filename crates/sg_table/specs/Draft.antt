@@ -2,7 +2,8 @@
 use Rattle.std.specs.Prelude.{ℕ, List, [], ◌∷◌, ◌++◌}
 use Rattle.sg_table.specs.declared.run.Run.{Run}
 
--- Records that are to replace those from an index on, and for how many there is room.
+-- Records that are to replace the records of a table from an index on, and the number of records
+-- that there is room for.
 pub record Drafted : Type 0 where
   pub from : ℕ
   pub records : List Run
@@ -12,6 +13,6 @@ pub record Drafted : Type 0 where
 abbrev pub empty_draft : (room : ℕ) → Drafted
 empty_draft room = record { from = 0; records = []; room = room }
 
--- One more record is drafted, behind the others.
+-- One more record is drafted, after the others.
 abbrev pub pushed : Drafted → Run → Drafted
 pushed draft run = record draft { records = draft.records ++ run ∷ [] }

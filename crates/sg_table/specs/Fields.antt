@@ -1,5 +1,5 @@
--- The fields that a type declares, with their types. A law about the values of a type says nothing of
--- a field that they leave out. A law about its fields does.
+-- The fields that a type declares, with their types. A law about the values of a type says nothing
+-- about a field that the values leave out. A law about the fields of the type does.
 use Rattle.std.specs.Prelude.{◌≡◌, List, [], ◌∷◌}
 use Rattle.std.specs.contracts.alloc.Global.{the_row as global}
 use Rattle.std.specs.contracts.impls.GlobalAllocator.TheImpl.{ghosts}
@@ -13,11 +13,11 @@ abbrev pub types_of : List Field → List Written
 types_of [] = []
 types_of (field ∷ fields) = field.row.written ∷ types_of fields
 
--- The declared fields have the types of the listed ones, in their order, and there are no others.
+-- The declared fields have the types of the listed fields, in their order, and there are no others.
 abbrev pub HasOnly : (declared listed : List Field) → Type 0
 HasOnly declared listed = types_of declared ≡ types_of listed
 
--- The same of each variant of an enum, in turn.
+-- The same for each variant of an enum, in turn.
 abbrev pub variants_of : List (List Field) → List (List Written)
 variants_of [] = []
 variants_of (fields ∷ variants) = types_of fields ∷ variants_of variants

@@ -5,12 +5,12 @@ use Rattle.sg_table.specs.Leaves.{leaf_at}
 use Rattle.sg_table.specs.Occurrences.{IsEachOnce}
 use Rattle.sg_table.specs.declared.run.Run.{Run}
 
--- The records of each leaf, in order, and for how many leaves there is room.
+-- The records of each leaf, in order, and the number of leaves that there is room for.
 pub record LeafRow : Type 0 where
   pub leaves : List (List Run)
   pub capacity : ℕ
 
--- The leaves in some of the slots, in the order of those.
+-- The leaves in some of the slots, in the order of these slots.
 abbrev pub leaves_in : (slots : List (List Run)) → (order : List ℕ) → List (List Run)
 leaves_in slots order = map (leaf_at slots) order
 
@@ -23,7 +23,7 @@ pub record AreSlots (slots : List (List Run)) (order free : List ℕ) : Type 0 w
 abbrev pub AreEmpty : (slots : List (List Run)) (free : List ℕ) → Type 0
 AreEmpty slots free = All (λ slot. leaf_at slots slot ≡ []) free
 
--- ---- Cited by private contracts alone
+-- ---- Cited only by private contracts
 
 -- A slot is no longer free, or is new. Its leaf has no records, and the others are as they were.
 pub record IsTaken (old new : List (List Run)) (free free' : List ℕ) (slot : ℕ) : Type 0 where

@@ -1,4 +1,5 @@
--- The records of a table in leaves: which has which, and how many move where some are replaced.
+-- The records of a table in leaves: the records of each leaf, and the number of records that move
+-- if a call replaces some.
 use Rattle.std.specs.Prelude.{◌≡◌, ℕ, ◌+◌, ◌-◌, ◌*◌, ◌<◌, ◌≤◌, List, [], ◌∷◌, ◌++◌, length, take, drop}
 use Rattle.std.specs.Prelude.{map, slice_index_or, ◌⊎◌}
 use Rattle.std.specs.List.{All}
@@ -7,15 +8,15 @@ use Rattle.sg_table.specs.declared.leaves.Place.{Place}
 use Rattle.sg_table.specs.declared.leaves.Span.{Span}
 use Rattle.sg_table.specs.declared.run.Run.{Run}
 
--- The most records of a leaf, and the fewest of one that is not the only one.
+-- The most records of a leaf, and the fewest records of a leaf that is not the only one.
 abbrev pub max_leaf : ℕ
 max_leaf = 255
 
 abbrev pub min_leaf : ℕ
 min_leaf = 128
 
--- The records of each leaf, in order; for how many leaves there is room; and how many records were
--- moved.
+-- The records of each leaf, in order; the number of leaves that there is room for; and the number
+-- of moved records.
 pub record LeafTable : Type 0 where
   pub leaves : List (List Run)
   pub capacity : ℕ
@@ -30,7 +31,7 @@ joined (leaf ∷ leaves) = leaf ++ joined leaves
 abbrev pub leaf_at : List (List Run) → ℕ → List Run
 leaf_at leaves index = slice_index_or leaves index []
 
--- How many records are before a leaf.
+-- The number of records before a leaf.
 abbrev pub count_before : List (List Run) → (leaf : ℕ) → ℕ
 count_before leaves leaf = length (joined (take leaf leaves))
 
@@ -56,30 +57,30 @@ pub record IsSpan (leaves : List (List Run)) (span : Span) : Type 0 where
 abbrev pub first_addresses : List (List Run) → List ℕ
 first_addresses leaves = map (λ leaf. start_of leaf 0) leaves
 
--- The index of the first record of each leaf, and the number of records, where `count` records are
+-- The index of the first record of each leaf, and the number of records, if `count` records are
 -- before the leaves.
 abbrev pub starts_of : (count : ℕ) → List (List Run) → List ℕ
 starts_of count [] = count ∷ []
 starts_of count (leaf ∷ leaves) = count ∷ starts_of (count + length leaf) leaves
 
--- The directory has the index of the first record of each leaf, of which there is at least one, and
--- the number of records.
+-- The directory has the index of the first record of each leaf, and the number of records. There is
+-- at least one leaf.
 pub record IsDirectory (leaves : List (List Run)) (starts : List ℕ) : Type 0 where
   pub not_empty : 1 ≤ length leaves
   pub count : length starts ≡ length leaves + 1
   pub each : starts ≡ starts_of 0 leaves
 
--- At most how many records are moved when others replace some of them, beside those others.
+-- The most records that move when new records replace some of them. The new records do not count.
 abbrev pub move_bound : ℕ
 move_bound = 9 * max_leaf
 
--- ---- Cited by private contracts alone
+-- ---- Cited only by private contracts
 
 -- The records of two neighbours.
 abbrev pub pair_at : List (List Run) → ℕ → List Run
 pair_at leaves index = leaf_at leaves index ++ leaf_at leaves (index + 1)
 
--- Each leaf but one has enough records.
+-- Each leaf except one has enough records.
 pub record AreFilledBut (leaves : List (List Run)) (leaf : ℕ) : Type 0 where
   pub before : All IsFilled (take leaf leaves)
   pub after : All IsFilled (drop (leaf + 1) leaves)
@@ -101,14 +102,14 @@ pub record IsPlace (leaves : List (List Run)) (index : ℕ) (place : Place) : Ty
   pub offset : place.offset ≤ length (leaf_at leaves place.leaf)
   pub sum : count_before leaves place.leaf + place.offset ≡ index
 
--- Two places among the leaves, the first one in no leaf behind the other's.
+-- Two places among the leaves. The leaf of the first place is not after the leaf of the other.
 pub record ArePlaces (leaves : List (List Run)) (from to : Place) : Type 0 where
   pub in_order : from.leaf ≤ to.leaf
   pub within : to.leaf < length leaves
   pub from_offset : from.offset ≤ length (leaf_at leaves from.leaf)
   pub to_offset : to.offset ≤ length (leaf_at leaves to.leaf)
 
--- The records with others in place of those from one place to another.
+-- The records, with others in place of the records from one place to another.
 abbrev pub replaced : List (List Run) → (from to : Place) → List Run → List Run
 replaced leaves from to runs =
     joined (take from.leaf leaves) ++ (take from.offset (leaf_at leaves from.leaf)
@@ -129,7 +130,7 @@ pub record IsCut (before after : LeafTable) (from to : Place) : Type 0 where
   pub behind : drop (from.leaf + 1) after.leaves ≡ drop (to.leaf + 1) before.leaves
   pub moves : MovesAtMost before after (2 * max_leaf)
 
--- Records were appended to a leaf, and to new leaves behind it, of which `last` is the last one.
+-- Records were appended to a leaf, and to new leaves after it. `last` is the last of these leaves.
 pub record IsAppended (before after : LeafTable) (leaf last : ℕ) (runs : List Run) : Type 0 where
   pub within : last < length after.leaves
   pub filled : AreFilledBut after.leaves last
@@ -138,7 +139,7 @@ pub record IsAppended (before after : LeafTable) (leaf last : ℕ) (runs : List 
   pub capacity : after.capacity ≡ before.capacity
   pub moves : after.moved ≡ before.moved + length runs
 
--- At most how many records are moved between two neighbours.
+-- The most records that move between two neighbours.
 abbrev pub level_bound : ℕ
 level_bound = 6 * max_leaf
 

@@ -1,6 +1,7 @@
--- What public contracts cite: the records in their order, the table, records that are prepared for it,
--- how often a slot occurs, the leaves and their slots, what a search of them costs, the fields of a
--- type, and what the laws say that a table is made of.
+-- The definitions that public contracts cite. They define the records in their order, the table,
+-- and the records that are prepared for it. They define the leaves, their slots, the occurrences of
+-- a slot, and the cost of a search. They also define the fields of a type, and the parts of a
+-- table.
 pub mod Records
 pub mod Table
 pub mod Draft

@@ -1,6 +1,6 @@
--- What a `RunTable` is made of, level by level, in two ways. Of two that agree in the listed parts, each
--- is the other. And each part is a field of the listed type, down to the types of the standard library,
--- while there is no other field. So neither keeps anything else.
+-- The parts of a `RunTable`, level by level, in two ways. Two tables that agree in the listed parts
+-- are the same table. Each part is a field of the listed type, down to the types of the standard
+-- library, and there is no other field. So a table keeps nothing beside these parts.
 use Rattle.std.specs.Prelude.{◌≡◌, ◌<◌, [], ◌∷◌}
 use Rattle.arrayvec.specs.contracts.array_vec.ArrayVec as array_vec
 use Rattle.sg_table.specs.Fields.{HasOnly, VariantsHaveOnly, vec_field}
@@ -86,8 +86,7 @@ SpanHasOnlyItsParts = HasOnly span.struct.parts (
     ∷ usize-field  -- end
     ∷ [])
 
--- The directory, the span and the number are those of the records in the leaves: nothing else decides
--- on them.
+-- The directory, the span and the number follow from the records in the leaves, and only from them.
 pub record FollowFromRecords (leaves : LeavesInside) : Type 0 where
   pub starts : leaves.starts.items ≡ starts_of 0 leaves.leaves.leaves
   pub firsts : leaves.firsts.items ≡ first_addresses leaves.leaves.leaves
@@ -97,7 +96,7 @@ pub record FollowFromRecords (leaves : LeavesInside) : Type 0 where
 abbrev pub DirectoryFollows : Type 0
 DirectoryFollows = (leaves : LeavesInside) → leaves_invariant leaves → FollowFromRecords leaves
 
--- The same slots, with their leaves, the same of them in order, and the same free.
+-- The same slots with their leaves, the same order, and the same free slots.
 pub record IsSameList (list other : LeafListInside) : Type 0 where
   pub slots : list.slots ≡ other.slots
   pub order : list.order ≡ other.order
@@ -113,7 +112,7 @@ LeafListHasOnlyItsParts = HasOnly leaf_list_inside.parts (
     ∷ vec_field u16  -- free
     ∷ [])
 
--- Each slot is that of one leaf of the table, or is free.
+-- Each slot belongs to one leaf of the table, or is free.
 abbrev pub EachSlotHasOneLeaf : Type 0
 EachSlotHasOneLeaf = (list : LeafListInside) → leaf_list_invariant list
     → AreSlots list.slots.items list.order.items list.free.items
@@ -128,13 +127,13 @@ abbrev pub LeafIsItsRecords : Type 0
 LeafIsItsRecords = (leaf other : LeafInside) → leaf.records.items ≡ other.records.items
     → leaf ≡ other
 
--- They are in one array in it, which has room for the most records of a leaf.
+-- The records are in one array in the leaf. The array has room for the most records of a leaf.
 abbrev pub LeafHasOnlyItsRecords : Type 0
 LeafHasOnlyItsRecords = HasOnly leaf_inside.parts (
     array_vec.the_field run.the_row (number max_leaf) unit  -- records
     ∷ [])
 
--- A record is four numbers and a kind, which is one of two and no more.
+-- A record is four numbers and a kind. There are two kinds and no more.
 pub record RunHasOnlyItsParts : Type 0 where
   pub run : HasOnly run.struct.parts (
       u64-field  -- start

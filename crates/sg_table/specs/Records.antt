@@ -19,12 +19,12 @@ abbrev pub single : (start slot : ℕ) → Kind → Run
 single start slot kind =
     record { start = start; count = 1; first = slot; last = slot; kind = kind }
 
--- A record whose slots hold something else.
+-- A record with another kind.
 abbrev pub with_kind : Kind → Run → Run
 with_kind kind run = record run { kind = kind }
 
--- How many addresses of a record have data, by its kind and its count, and how many those of
--- records.
+-- The number of addresses of a record that have data, by its kind and its count. Then the same
+-- number for records.
 abbrev pub count_if_data : Kind → (count : ℕ) → ℕ
 count_if_data Data count = count
 count_if_data Anchored count = 0
@@ -33,7 +33,7 @@ abbrev pub data_in : List Run → ℕ
 data_in [] = 0
 data_in (run ∷ records) = count_if_data run.kind run.count + data_in records
 
--- A record has fewer than 2^32 addresses with data, and so has each of some.
+-- A record has fewer than 2^32 addresses with data. In a list each record has fewer.
 abbrev pub FitsCount : Run → Type 0
 FitsCount run = count_if_data run.kind run.count < 2 ^ 32
 
@@ -71,21 +71,21 @@ abbrev pub IsNext : List Run → (index : ℕ) → Option Run → Type 0
 IsNext records index None = length records ≤ index
 IsNext records index (Some run) = (index < length records) × (slice_index_or records index run ≡ run)
 
--- The record, if it is that of the address.
+-- The record, if it begins at the address.
 abbrev pub run_at : Option Run → (address : ℕ) → Option Run
 run_at None address = None
 run_at (Some run) address = if run.start == address then Some run else None
 
--- Where the addresses end that have no record: at the next record, or at a bound.
+-- The end of the addresses without a record: at the next record, or at a bound.
 abbrev pub end_of_gap : (next : Option Run) → (bound : ℕ) → ℕ
 end_of_gap None bound = bound
 end_of_gap (Some run) bound = run.start
 
--- One where a record was visited before its address is reached.
+-- One if a record was visited before the caller reaches its address.
 abbrev pub ahead : Option Run → ℕ
 ahead None = 0
 ahead (Some run) = 1
 
--- How many records of the table were visited up to the cursor.
+-- The number of records of the table that were visited up to the cursor.
 abbrev pub passed : Cursor → ℕ
 passed cursor = cursor.index + ahead cursor.next

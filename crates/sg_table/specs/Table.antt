@@ -1,10 +1,11 @@
--- A table is its records and what was counted and moved.
+-- A table is its records and its counts of visits, probes and moves.
 use Rattle.std.specs.Prelude.{ℕ, ◌+◌, List, []}
 use Rattle.std.specs.List.{splice}
 use Rattle.sg_table.specs.declared.run.Run.{Run}
 
--- The records, for how many there is room, the visits and probes that were counted since the last
--- restart, all visits, the number of restarts, and how many records were moved so far.
+-- The records, and the number of records that there is room for. `visits` and `probes` count from
+-- the last restart on. `total` counts all visits, `restarts` the restarts, and `moved` the records
+-- that were moved so far.
 pub record Table : Type 0 where
   pub records : List Run
   pub room : ℕ
@@ -34,14 +35,14 @@ visited table count = record table { visits = table.visits + count; total = tabl
 abbrev pub probed : Table → (count : ℕ) → Table
 probed table count = record table { probes = table.probes + count }
 
--- At most how many addresses a binary search of the largest table compares.
+-- The most addresses that a binary search of the largest table compares.
 abbrev pub search_bound : ℕ
 search_bound = 18
 
--- Counting begins anew.
+-- The counts of visits and probes begin again.
 abbrev pub restarted_table : Table → Table
 restarted_table table = record table { visits = 0; probes = 0; restarts = table.restarts + 1 }
 
--- Other records replace those from one index to another.
+-- Other records replace the records from one index to another.
 abbrev pub spliced : Table → (from to : ℕ) → List Run → Table
 spliced table from to runs = record table { records = splice table.records from to runs }

@@ -1,4 +1,5 @@
-// Going through the table from an index on, one visit for each record. It knows addresses, and no slots.
+// Going through the table from an index on, one visit for each record. This file knows addresses,
+// and no slots.
 ghost use Rattle.std.specs.Prelude.{◌≡◌, ◌-◌, ◌<◌, ◌≤◌, length, min};
 ghost use Rattle.sg_table.specs.Records.{IsNext, ahead, end_of_gap};
 ghost use Rattle.sg_table.specs.Table.{visited};
@@ -30,8 +31,8 @@ impl Cursor {
         Cursor { index, next }
     }
 
-    /// How many addresses from one on have no record, up to the cursor's or to a bound, and `limit` at
-    /// most.
+    /// The number of addresses from one on that have no record, up to the cursor's or to a bound,
+    /// and at most `limit`.
     pub fn count_unmapped(self, address: u64, bound: u64, limit: u32) -> u32
         requires { address ≤ end_of_gap self.next bound }
         ensures { result ≡ min limit (end_of_gap self.next bound - address) }

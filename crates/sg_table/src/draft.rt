@@ -1,5 +1,5 @@
-// A list of records beside the table, with the index where they belong. It visits no record and changes
-// no table.
+// A list of records beside the table, with the index where they belong. This file visits no record
+// and changes no table.
 ghost use Rattle.std.specs.Prelude.{◌≡◌, ◌<◌, [], length, IfOk};
 ghost use Rattle.sg_table.specs.Draft.{empty_draft, pushed};
 
@@ -8,8 +8,8 @@ use crate::run::Run;
 use std::alloc::{AllocError, Global};
 use std::marker::Model;
 
-/// Records beside the table, with an index of it: those that were gathered from there on, or those
-/// that are to be put there.
+/// Records beside the table, with an index of it. The records were gathered from the index on, or
+/// are to be put there.
 #[derive(Drop)]
 pub struct Draft {
     from: usize,
@@ -29,10 +29,10 @@ impl Model for Draft {
 }
 
 impl Draft {
-    /// A draft without records, which has room for `room` of them.
+    /// A draft without records, with room for `room` records.
     ///
     /// # Errors
-    /// Memory was refused.
+    /// The allocator refused memory.
     pub fn new(alloc: Global, room: u32) -> Result<Draft, AllocError>
         ensures { IfOk result (λ draft. draft ≡ empty_draft room) }
     {

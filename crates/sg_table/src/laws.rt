@@ -1,5 +1,6 @@
-//! What each [`RunTable`](crate::RunTable) is made of, down to its records. Nothing is kept beside
-//! the parts that are listed, so there is no second copy of a record that is read without counting.
+//! The parts of each [`RunTable`](crate::RunTable), down to its records. A table keeps nothing
+//! beside the listed parts. So there is no second copy of a record that a call could read without
+//! counting.
 ghost use Rattle.sg_table.specs.Parts.{DirectoryFollows, DraftHasOnlyItsParts, DraftIsItsParts};
 ghost use Rattle.sg_table.specs.Parts.{EachSlotHasOneLeaf, FreeSlotsAreEmpty};
 ghost use Rattle.sg_table.specs.Parts.{GhostNumberHasNoField};
@@ -9,7 +10,7 @@ ghost use Rattle.sg_table.specs.Parts.{LeavesAreTheirParts, LeavesHaveOnlyTheirP
 ghost use Rattle.sg_table.specs.Parts.{RunHasOnlyItsParts, SpanHasOnlyItsParts};
 ghost use Rattle.sg_table.specs.Parts.{TableHasOnlyItsParts, TableIsItsParts};
 
-/// A [`RunTable`](crate::RunTable) is made of its leaves, its room and what was counted.
+/// A [`RunTable`](crate::RunTable) is made of its leaves, its room and its counts.
 pub fn a_table_is_made_of_its_leaves_and_counts()
     ensures { TableIsItsParts }
 {}
@@ -24,8 +25,8 @@ pub fn a_ghost_number_has_no_field()
     ensures { GhostNumberHasNoField }
 {}
 
-/// Its leaves are made of a list of leaves, a directory of two lists, the span of the leaf that was
-/// found last, the number of addresses with data, and the number of moves.
+/// Its leaves are made of a list of leaves, a directory of two lists, and the span of the leaf that
+/// was found last. They also have the number of addresses with data, and the number of moves.
 pub fn the_leaves_are_made_of_a_list_and_a_directory()
     ensures { LeavesAreTheirParts }
 {}
@@ -40,13 +41,14 @@ pub fn a_span_has_only_its_parts()
     ensures { SpanHasOnlyItsParts }
 {}
 
-/// The directory, the span and the number follow from the records: they are the index and the first
-/// address of each leaf, the indexes of one leaf, and how many addresses have data.
+/// The directory, the span and the number follow from the records. The directory has the index and
+/// the first address of each leaf. The span has the indexes of one leaf. The number counts the
+/// addresses with data.
 pub fn the_directory_follows_from_the_records()
     ensures { DirectoryFollows }
 {}
 
-/// The list of leaves is made of slots, the order of those in use, and those that are free.
+/// The list of leaves is made of slots, the order of the slots in use, and the free slots.
 pub fn a_list_of_leaves_is_made_of_its_slots()
     ensures { LeafListIsItsParts }
 {}
@@ -56,7 +58,7 @@ pub fn a_list_of_leaves_has_only_its_parts()
     ensures { LeafListHasOnlyItsParts }
 {}
 
-/// Each slot is that of one leaf of the table, or is free.
+/// Each slot belongs to one leaf of the table, or is free.
 pub fn each_slot_has_one_leaf_or_is_free()
     ensures { EachSlotHasOneLeaf }
 {}

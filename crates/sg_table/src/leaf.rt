@@ -1,4 +1,4 @@
-// A few records in a row, which are moved as one. A leaf knows no other, and nothing is counted.
+// A few records in a row, which move together. A leaf knows no other leaf, and it counts nothing.
 ghost use Rattle.std.specs.Prelude.{◌≡◌, ◌+◌, ◌-◌, ◌<◌, ◌≤◌, [], length, slice_index_or};
 ghost use Rattle.std.specs.List.{splice};
 ghost use Rattle.sg_table.specs.Leaves.{rotated_left, rotated_right};
@@ -36,7 +36,7 @@ impl Leaf {
         }
     }
 
-    /// How many records there are.
+    /// The number of records.
     pub(crate) fn len(&self) -> usize
         ensures value { result ≡ length self.now }
         ensures fits { result ≤ MAX_LEAF }
@@ -60,7 +60,7 @@ impl Leaf {
         self.records.as_slice()[offset]
     }
 
-    /// The address of the first record, or 0 where there is none.
+    /// The address of the first record, or 0 if there is no record.
     pub(crate) fn start(&self) -> u64
         ensures { result ≡ start_of self.now 0 }
     {

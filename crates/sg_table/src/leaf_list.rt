@@ -1,5 +1,5 @@
-// The memory of the leaves: which slot each leaf has, and which slots are free. It knows nothing of the
-// order or the number of their records.
+// The memory of the leaves: which slot each leaf has, and which slots are free. This file knows
+// nothing of the order or the number of their records.
 ghost use Rattle.std.specs.Prelude.{◌≡◌, ◌+◌, ◌-◌, ◌<◌, ◌≤◌, [], length, slice_set, insert, remove};
 ghost use Rattle.std.specs.Prelude.{vec_capacity, IfOk};
 ghost use Rattle.std.specs.List.{splice as splice_list};
@@ -13,7 +13,7 @@ use std::alloc::{AllocError, Global};
 use std::marker::Model;
 
 /// The leaves of a table, in slots of memory that is taken at once. A leaf keeps its slot while
-/// others are added before it or removed, and a slot is not touched before a leaf needs it.
+/// others are added before it or removed. No call touches a slot before a leaf needs it.
 #[derive(Drop)]
 pub(crate) struct LeafList {
     /// A leaf for each slot that has been in use.
@@ -43,7 +43,7 @@ impl Model for LeafList {
         × AreEmpty l.slots.items l.free.items };
 }
 
-/// Takes a free slot, or a new one where none is free. Its leaf has no records.
+/// Takes a free slot, or a new one if none is free. Its leaf has no records.
 fn take_slot(slots: &mut Vec<Leaf>, free: &mut Vec<u16>) -> u16
     requires empty { AreEmpty slots.old.items free.old.items }
     requires room { length slots.old.items < vec_capacity slots.old + length free.old.items }
@@ -65,7 +65,7 @@ impl LeafList {
     /// No leaves, with room for `count` of them.
     ///
     /// # Errors
-    /// Memory was refused.
+    /// The allocator refused memory.
     pub(crate) fn new(alloc: Global, count: usize) -> Result<LeafList, AllocError>
         requires { count ≤ MAX_LEAVES }
         ensures { IfOk result (λ list. list ≡ record { leaves = []; capacity = count }) }

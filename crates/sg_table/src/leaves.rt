@@ -1,5 +1,5 @@
-// The records of a table in leaves, by index and by address, how many of their addresses have data, and
-// how many records were moved. Visits and probes are for the table to count.
+// The records of a table in leaves, by index and by address. The leaves know how many addresses
+// have data, and how many records were moved. The table counts visits and probes.
 mod probed;
 mod searching;
 mod splicing;
@@ -40,7 +40,8 @@ pub(crate) struct Place {
     pub(crate) offset: usize,
 }
 
-/// A leaf, with the indexes from that of its first record to the one behind its last.
+/// A leaf, with the indexes of its records: from its first record to the index after its last
+/// record.
 #[derive(Clone, Copy)]
 pub(crate) struct Span {
     pub(crate) leaf: usize,
@@ -48,7 +49,7 @@ pub(crate) struct Span {
     pub(crate) end: usize,
 }
 
-/// No index is in it.
+/// A span without an index.
 const NO_SPAN: Span = Span {
     leaf: 0,
     start: 0,
@@ -68,7 +69,7 @@ impl Span {
     }
 }
 
-/// The records of a table in leaves, with a directory of where each leaf begins.
+/// The records of a table in leaves, with a directory of the first record of each leaf.
 #[derive(Drop)]
 pub(crate) struct Leaves {
     leaves: LeafList,
@@ -78,7 +79,7 @@ pub(crate) struct Leaves {
     firsts: Vec<u64>,
     /// The leaf that was found last.
     recent: Span,
-    /// How many addresses of the records have data.
+    /// The number of addresses of the records that have data.
     data_count: u64,
     moved: GhostNumber,
 }
@@ -143,7 +144,7 @@ impl Leaves {
     /// One leaf without records, with room for `count` leaves.
     ///
     /// # Errors
-    /// Memory was refused.
+    /// The allocator refused memory.
     pub(crate) fn new(alloc: Global, count: usize) -> Result<Leaves, AllocError>
         requires { (1 ≤ count) × (count ≤ MAX_LEAVES) }
         ensures { IfOk result (λ l. l ≡ record { leaves = [] ∷ []; capacity = count; moved = 0 }) }
@@ -163,21 +164,21 @@ impl Leaves {
         })
     }
 
-    /// How many records there are.
+    /// The number of records.
     pub(crate) fn count(&self) -> usize
         ensures { result ≡ length (joined self.now.leaves) }
     {
         self.starts[self.starts.len() - 1] as usize
     }
 
-    /// How many addresses of all records have data.
+    /// The number of addresses of all records that have data.
     pub(crate) fn data_count(&self) -> u64
         ensures { result ≡ data_in (joined self.now.leaves) }
     {
         self.data_count
     }
 
-    /// How many leaves there are.
+    /// The number of leaves.
     pub(crate) fn used(&self) -> usize
         ensures value { result ≡ length self.now.leaves }
         ensures not_empty { 0 < result }
@@ -186,7 +187,7 @@ impl Leaves {
         self.starts.len() - 1
     }
 
-    /// How many records a leaf has.
+    /// The number of records of a leaf.
     pub(crate) fn len(&self, leaf: usize) -> usize
         requires { leaf < length self.now.leaves }
         ensures value { result ≡ length (leaf_at self.now.leaves leaf) }
@@ -196,7 +197,7 @@ impl Leaves {
         self.leaves.leaf(leaf).len()
     }
 
-    /// The first addresses of all leaves but the first, for a search.
+    /// The first addresses of all leaves except the first one, for a search.
     fn other_firsts(&self) -> Probed<'_, u64>
         ensures starts { result.starts ≡ drop 1 (first_addresses self.now.leaves) }
         ensures fresh { result.probes ≡ 0 }
@@ -254,7 +255,7 @@ impl Leaves {
         }
     }
 
-    /// A leaf with its indexes. The calls that follow will mostly look for records of it.
+    /// A leaf with its indexes. Later calls will mostly look for records of this leaf.
     fn enter(&mut self, leaf: usize) -> Span
         requires { leaf < length self.old.leaves }
         ensures span { IsSpan self.old.leaves result }
@@ -281,7 +282,8 @@ impl Leaves {
         self.enter(leaf).place(index)
     }
 
-    /// The place of an index, where a record may end, in the first leaf from one on where it can be.
+    /// The place of an index where a record may end. It is in the first leaf from one on that has
+    /// this place.
     pub(crate) fn locate_end(&self, leaf: usize, index: usize) -> Place
         requires leaf { leaf < length self.now.leaves }
         requires start { count_before self.now.leaves leaf ≤ index }

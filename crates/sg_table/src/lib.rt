@@ -1,5 +1,5 @@
-//! A table of records that is sorted by their addresses and kept in leaves, and counts what is read
-//! of it. It knows nothing of blocks.
+//! A table of records that is sorted by their addresses and kept in leaves. The table counts the
+//! records and addresses that calls read. This crate knows nothing of blocks.
 #![tactic(auto)]
 
 mod cursor;

@@ -1,15 +1,15 @@
-// A record of the table: addresses in a row. It knows no order, and of its slots no more than their
-// numbers.
+// A record of the table: addresses in a row. This file knows no order, and it knows only the
+// numbers of the slots.
 ghost use Rattle.std.specs.Prelude.{◌≡◌, ◌^◌, ◌<◌, ◌≤◌, length};
 ghost use Rattle.sg_table.specs.Records.{FitCounts, count_if_data, data_in, run_at, single};
 
-/// What the addresses of a run have in their slots.
+/// The kind of a run: data in the slots of its addresses, or none.
 #[derive(Clone, Copy, Default, PartialEq)]
 pub enum Kind {
     /// Data.
     #[default]
     Data,
-    /// No data: whatever a slot holds is not read.
+    /// No data: no call reads the bytes of the slots.
     Anchored,
 }
 
@@ -24,7 +24,7 @@ pub struct Run {
     pub first: u32,
     /// The slot of the last address.
     pub last: u32,
-    /// What the slots hold.
+    /// The kind of its addresses.
     pub kind: Kind,
 }
 
@@ -42,7 +42,7 @@ impl Run {
         }
     }
 
-    /// How many of its addresses have data.
+    /// The number of its addresses that have data.
     fn data_count(self) -> u64
         ensures value { result ≡ count_if_data self.kind self.count }
         ensures fits { result ≤ u32.MAX }
@@ -62,7 +62,7 @@ pub fn run_at(next: Option<Run>, start: u64) -> Option<Run>
     if run.start == start { Some(run) } else { None }
 }
 
-/// How many addresses of records have data.
+/// The number of addresses of records that have data.
 pub(crate) fn data_count(records: &[Run]) -> u64
     requires { length records.now < 2 ^ 32 }
     ensures value { result ≡ data_in records.now }

@@ -1,5 +1,5 @@
-// The table of records: what is read of it is counted here, and nowhere else. Where its records lie is
-// for the leaves to know.
+// The table of records. Only this file counts the records and addresses that calls read. The leaves
+// know where the records lie.
 ghost use Rattle.std.specs.Prelude.{◌≡◌, ◌+◌, ◌-◌, ◌<◌, ◌≤◌, length, slice_index_or, IfOk};
 ghost use Rattle.sg_table.specs.Records.{data_in, start_of, IsSorted, IsLowerBound};
 ghost use Rattle.sg_table.specs.Search.{CostsSearch};
@@ -16,8 +16,7 @@ use std::marker::Model;
 /// The most records that a table has room for.
 pub const MAX_RECORDS: u32 = 65_536;
 
-/// The records of the map, sorted by their addresses. No record is returned but by calls that count
-/// it.
+/// The records of the map, sorted by their addresses. Only the calls that count a record return it.
 #[derive(Drop)]
 pub struct RunTable {
     leaves: Leaves,
@@ -55,10 +54,10 @@ impl Model for RunTable {
 }
 
 impl RunTable {
-    /// A table without records, which has room for `room` of them.
+    /// A table without records, with room for `room` records.
     ///
     /// # Errors
-    /// Memory was refused.
+    /// The allocator refused memory.
     pub fn new(alloc: Global, room: u32) -> Result<RunTable, AllocError>
         requires { room ≤ MAX_RECORDS }
         ensures { IfOk result (λ table. table ≡ new_table room) }
@@ -73,7 +72,7 @@ impl RunTable {
         })
     }
 
-    /// How many records there are.
+    /// The number of records.
     pub fn count(&self) -> usize
         ensures value { result ≡ length self.now.records }
         ensures room { result ≤ self.now.room }
@@ -82,28 +81,28 @@ impl RunTable {
         self.leaves.count()
     }
 
-    /// How many visits were counted since the last restart.
+    /// The number of visits since the last restart.
     pub fn visits(&self) -> u64
         ensures { result ≡ self.now.visits }
     {
         self.visits
     }
 
-    /// How many probes were counted since the last restart.
+    /// The number of probes since the last restart.
     pub fn probes(&self) -> u64
         ensures { result ≡ self.now.probes }
     {
         self.probes
     }
 
-    /// How many addresses of the records have data.
+    /// The number of addresses of the records that have data.
     pub fn data_count(&self) -> u64
         ensures { result ≡ data_in self.now.records }
     {
         self.leaves.data_count()
     }
 
-    /// Counts from nothing.
+    /// Counts visits and probes from 0 again.
     pub fn restart_counts(&mut self)
         ensures { self.new ≡ restarted_table self.old }
     {
@@ -151,7 +150,7 @@ impl RunTable {
         requires headroom { self.old.probes + search_bound ≤ u64.MAX }
         ensures index { IsLowerBound self.old.records result address }
 
-        // Only probes are counted, as many as a binary search takes.
+        // The call counts only probes, as many as a binary search takes.
         ensures table { self.new ≡ probed self.old (self.new.probes - self.old.probes) }
         ensures probes_rise { self.old.probes ≤ self.new.probes }
         ensures probe_count { self.new.probes ≤ self.old.probes + search_bound }
@@ -168,7 +167,7 @@ impl RunTable {
         requires room { length self.old.records + length runs.now ≤ self.old.room + (to - from) }
         ensures table { self.new ≡ record (spliced self.old from to runs.now) { moved = self.new.moved } }
 
-        // How many records move does not depend on the size of the table.
+        // The bound of the moves does not depend on the size of the table.
         ensures moves_rise { self.old.moved ≤ self.new.moved }
         ensures moves { self.new.moved ≤ self.old.moved + move_bound + length runs.now }
     {

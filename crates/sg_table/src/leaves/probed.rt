@@ -1,11 +1,11 @@
-// Addresses that can be compared only by a call that counts it. It knows neither leaf nor table.
+// Addresses that only a counting call can compare. This file knows no leaf and no table.
 ghost use Rattle.std.specs.Prelude.{◌≡◌, ℕ, ◌+◌, ◌<◌, length, map};
 ghost use Rattle.sg_table.specs.Search.{address_at};
 
 use crate::run::Run;
 use std::marker::Model;
 
-/// What begins at an address.
+/// An item that begins at an address.
 pub(crate) trait HasStart {
     ghost start_of: { Self → ℕ };
 
@@ -31,8 +31,8 @@ impl HasStart for u64 {
     }
 }
 
-/// Starts in a row for a search, with how many of them it compared. `Probed::start` alone reads
-/// one.
+/// Starts in a row for a search, and the number of starts that it compared. Only `Probed::start`
+/// reads one.
 #[derive(Drop)]
 pub(crate) struct Probed<'a, T: HasStart> {
     items: &'a [T],
@@ -49,21 +49,21 @@ impl<'a, T: HasStart> Model for Probed<'a, T> {
 }
 
 impl<'a, T: HasStart> Probed<'a, T> {
-    /// Starts of which none was compared.
+    /// Starts before the first comparison.
     pub(crate) fn new(items: &'a [T]) -> Probed<'a, T>
         ensures { result ≡ record { starts = map T.start_of items.now; probes = 0 } }
     {
         Probed { items, probes: 0 }
     }
 
-    /// How many starts there are.
+    /// The number of starts.
     pub(crate) fn len(&self) -> usize
         ensures { result ≡ length self.now.starts }
     {
         self.items.len()
     }
 
-    /// How many starts were compared.
+    /// The number of starts that were compared.
     pub(crate) fn probes(&self) -> u64
         ensures { result ≡ self.now.probes }
     {

@@ -1,5 +1,5 @@
-// The search for an address: by the first addresses for its leaf, and then in the leaf. It reads
-// addresses through `Probed` alone.
+// The search for an address: by the first addresses for its leaf, and then in the leaf. The search
+// reads addresses only through `Probed`.
 ghost use Rattle.std.specs.Prelude.{◌≡◌, ◌≤◌, length};
 ghost use Rattle.sg_table.specs.Leaves.{AreBalanced, joined};
 ghost use Rattle.sg_table.specs.Records.{IsSorted, IsLowerBound};
@@ -9,7 +9,7 @@ use crate::leaves::Leaves;
 use crate::leaves::probed::{HasStart, Probed};
 use crate::table::MAX_RECORDS;
 
-/// Where a search ended, and how many addresses it compared.
+/// The end of a search, and the number of addresses that it compared.
 #[derive(Clone, Copy)]
 pub(crate) struct Found {
     pub(crate) index: usize,

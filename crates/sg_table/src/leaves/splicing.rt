@@ -1,5 +1,5 @@
-// Replacing records: leaves are cut, filled and balanced. It moves few records, whatever the size of
-// the table, and knows nothing of addresses.
+// Replacing records: leaves are cut, filled and balanced. A call moves few records, whatever the
+// size of the table. This file knows nothing of addresses.
 ghost use Rattle.std.specs.Prelude.{◌≡◌, ◌+◌, ◌-◌, ◌*◌, ◌/◌, ◌<◌, ◌≤◌, ◌++◌, [], ◌∷◌, length, take, drop};
 ghost use Rattle.std.specs.List.{All};
 ghost use Rattle.std.specs.List.{splice as splice_list};
@@ -57,8 +57,8 @@ fn replace(leaves: &mut Leaves, from: Place, to: Place, runs: &[Run])
     balance(leaves, last);
 }
 
-/// Removes the records from a place on to the end of a leaf. Those of that leaf that are behind
-/// another place are copied to a list first.
+/// Removes the records from a place on to the end of a leaf. It first copies the records after
+/// another place in that leaf to a list.
 fn cut(leaves: &mut Leaves, from: Place, to: Place, rest: &mut ArrayVec<Run, TWO_LEAVES>)
     requires places { ArePlaces leaves.old.leaves from to }
     requires empty { rest.old.items ≡ [] }
@@ -75,7 +75,7 @@ fn cut(leaves: &mut Leaves, from: Place, to: Place, rest: &mut ArrayVec<Run, TWO
     leaves.edit(from.leaf, from.offset, len, &[]);
 }
 
-/// Removes the leaves behind one up to another.
+/// Removes the leaves after one up to another.
 fn close_behind(leaves: &mut Leaves, first: usize, last: usize)
     requires leaves { (first ≤ last) × (last < length leaves.old.leaves) }
     requires count { length (joined leaves.old.leaves) ≤ MAX_RECORDS }
@@ -88,8 +88,8 @@ fn close_behind(leaves: &mut Leaves, first: usize, last: usize)
     }
 }
 
-/// Appends records to a leaf, and to new leaves behind it where it is full. The last leaf that was
-/// written is returned.
+/// Appends records to a leaf, and to new leaves after it if it is full. Returns the last leaf that
+/// was written.
 fn append(leaves: &mut Leaves, leaf: usize, runs: &[Run]) -> usize
     requires leaf { leaf < length leaves.old.leaves }
     requires filled { AreFilledBut leaves.old.leaves leaf }
@@ -110,7 +110,7 @@ fn append(leaves: &mut Leaves, leaf: usize, runs: &[Run]) -> usize
     last
 }
 
-/// A leaf, or a new one behind it where it is full.
+/// A leaf, or a new one after it if the leaf is full.
 fn with_room(leaves: &mut Leaves, leaf: usize) -> usize
     requires leaf { leaf < length leaves.old.leaves }
     requires filled { AreFilledBut leaves.old.leaves leaf }
@@ -125,7 +125,7 @@ fn with_room(leaves: &mut Leaves, leaf: usize) -> usize
     leaf + 1
 }
 
-/// Takes a leaf together with its neighbour where it has too few records.
+/// Takes a leaf together with its neighbour if the leaf has too few records.
 fn balance(leaves: &mut Leaves, leaf: usize)
     requires leaf { leaf < length leaves.old.leaves }
     requires filled { AreFilledBut leaves.old.leaves leaf }
@@ -143,7 +143,7 @@ fn balance(leaves: &mut Leaves, leaf: usize)
     level(leaves, leaf.saturating_sub(1));
 }
 
-/// Gives all records of two neighbours to the first one, or half of them where they are too many.
+/// Gives all records of two neighbours to the first one, or half of them if they are too many.
 fn level(leaves: &mut Leaves, leaf: usize)
     requires leaf { leaf + 1 < length leaves.old.leaves }
     requires pair { MIN_LEAF
@@ -152,7 +152,7 @@ fn level(leaves: &mut Leaves, leaf: usize)
     requires behind { All IsFilled (drop (leaf + 2) leaves.old.leaves) }
     requires count { length (joined leaves.old.leaves) ≤ MAX_RECORDS }
 
-    // All records are there still, and each leaf has enough of them.
+    // The leaves keep all records, and each leaf has enough of them.
     ensures records { joined leaves.new.leaves ≡ joined leaves.old.leaves }
     ensures filled { All IsFilled leaves.new.leaves }
     ensures moves { MovesAtMost leaves.old leaves.new level_bound }
@@ -179,7 +179,7 @@ fn gather(leaves: &mut Leaves, leaf: usize, records: &mut ArrayVec<Run, TWO_LEAV
     leaves.copy(leaf + 1, 0, records);
 }
 
-/// Makes one leaf of two neighbours, whose records are given.
+/// Makes one leaf of two neighbours. The caller passes their records.
 fn merge(leaves: &mut Leaves, leaf: usize, records: &[Run])
     requires leaf { leaf + 1 < length leaves.old.leaves }
     requires records { records.now ≡ pair_at leaves.old.leaves leaf }
@@ -194,7 +194,7 @@ fn merge(leaves: &mut Leaves, leaf: usize, records: &[Run])
     leaves.close(leaf + 1);
 }
 
-/// Gives half of the records of two neighbours to each of them. The records are given.
+/// Gives half of the records of two neighbours to each of them. The caller passes the records.
 fn halve(leaves: &mut Leaves, leaf: usize, records: &[Run])
     requires leaf { leaf + 1 < length leaves.old.leaves }
     requires records { records.now ≡ pair_at leaves.old.leaves leaf }

@@ -1,7 +1,7 @@
 use Rattle.std.proofs.Common.{◌≡◌, ◌+◌, ◌-◌, ◌++◌, ◌≤◌, length, map, take, drop}
 use Rattle.sg_table.proofs.leaves.shift.Given as goal
 
--- those before the index are shifted, and the others are as they were
+-- the numbers before the index are shifted, and the others are as they were
 abbrev pub invariant-loop-start : goal.invariant-loop-start
 invariant-loop-start l = record {
   within : l.start-index ≤ length l.initial.start-items;

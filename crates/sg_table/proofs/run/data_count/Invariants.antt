@@ -2,7 +2,7 @@ use Rattle.std.proofs.Common.{◌≡◌, ◌≤◌, ◌*◌, ◌^◌, take}
 use Rattle.sg_table.specs.Records.{FitCounts, data_in}
 use Rattle.sg_table.proofs.run.data_count.Given as goal
 
--- those of the records so far
+-- the count of the records so far
 abbrev pub invariant-loop-run : goal.invariant-loop-run
 invariant-loop-run l = record {
   value : l.count ≡ data_in (take l.run-index l.records);

@@ -17,7 +17,7 @@ index_mut-requires c =
           c.self.invariant.0 (omega (arith, count)),
     )
 
--- the slots without that of the leaf, which is cleared
+-- the slots without the slot of the leaf, which is cleared
 abbrev closed : (c : goal.After-push_reserved)
     → let slots = set c.self.inside.slots.items c.remove-slot.result [] in
     let order = c.remove-slot.new.self.items in

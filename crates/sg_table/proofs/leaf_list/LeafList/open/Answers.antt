@@ -4,7 +4,7 @@ use Rattle.sg_table.specs.LeafList.{LeafRow, AreSlots, leaves_in}
 use Rattle.sg_table.proofs.LeafListLemmas.{slots-insert, same-list}
 use Rattle.sg_table.proofs.leaf_list.LeafList.open.Goals as goal
 
--- the slots with that of the new leaf
+-- the slots with the slot of the new leaf
 abbrev opened : (c : goal.Else-prove)
     → let slots = c.take_slot-slot.new.slots.items in
     let order = c.insert-inserted.new.self.items in

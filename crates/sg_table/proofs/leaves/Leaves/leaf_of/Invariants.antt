@@ -2,7 +2,7 @@ use Rattle.std.proofs.Common.{◌+◌, ◌<◌, ◌≤◌, length}
 use Rattle.sg_table.specs.Leaves.{count_before, joined}
 use Rattle.sg_table.proofs.leaves.Leaves.leaf_of.Given as goal
 
--- the leaf is one of those from low on
+-- the leaf is at `low` or after it
 abbrev pub invariant-loop-count : goal.invariant-loop-count
 invariant-loop-count l =
     let ls = l.self.leaves in

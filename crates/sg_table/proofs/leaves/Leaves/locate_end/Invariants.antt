@@ -2,7 +2,7 @@ use Rattle.std.proofs.Common.{◌-◌, ◌<◌, ◌≤◌, length}
 use Rattle.sg_table.specs.Leaves.{count_before}
 use Rattle.sg_table.proofs.leaves.Leaves.locate_end.Given as goal
 
--- no leaf after the first one begins behind the index
+-- no leaf after the first one begins past the index
 abbrev pub invariant-loop-last : goal.invariant-loop-last
 invariant-loop-last l =
     let ls = l.self.leaves in

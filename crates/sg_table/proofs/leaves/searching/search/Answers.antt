@@ -11,7 +11,7 @@ start-requires-clause-headroom g c =
           (omega (arith, c.len-high.ensures, c.len-high.type_inv)),
     )
 
--- what a step leaves
+-- the addresses that a step leaves
 pub loop-low-preserved-then-start-address : goal.loop-low-preserved-then-start-address
 loop-low-preserved-then-start-address g c =
     searched-behind _ _ _ _ c.loop-low.low c.loop-low.high _ c.requires.rising c.loop-low.invariant

@@ -1,7 +1,7 @@
 use Rattle.std.proofs.Common.{◌≡◌, ◌+◌, ◌++◌, take, drop}
 use Rattle.sg_table.proofs.leaves.splicing.close_behind.Given as goal
 
--- the leaves behind the first one are closed up to the counter
+-- the leaves after the first one are closed up to the counter
 abbrev pub invariant-loop : goal.invariant-loop
 invariant-loop l =
     let ls = l.initial.leaves.leaves in
