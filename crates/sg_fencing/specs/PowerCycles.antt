@@ -85,9 +85,9 @@ NoneCountsFrom index state events =
     (n : ℕ) (call : Call) (list : OutList) → index ≤ n → slice_get events n ≡ Some (event.Call call)
     → Counts (state_after_events state (take n events)) call list → ⊥
 
--- After commands and power cycles in any order, registrations and reservation persist through a power
--- loss exactly if the last command that counts set APTPL (SPC-4, 6.16.3). If none counts, they persist
--- exactly if they did before.
+-- Commands and power cycles happen in any order. Afterwards registrations and reservation persist through
+-- a power loss exactly if the last command that counts set APTPL (SPC-4, 6.16.3). If none counts, they
+-- persist exactly if they did before.
 pub record TheLastRegisterDecides : Type 0 where
   pub last : (state : State) (events : List Event) (n : ℕ) (call : Call) (list : OutList)
       → slice_get events n ≡ Some (event.Call call)
@@ -97,9 +97,9 @@ pub record TheLastRegisterDecides : Type 0 where
   pub none : (state : State) (events : List Event) → NoneCountsFrom 0 state events
       → persists (state_after_events state events) ≡ persists state
 
--- An initiator was not registered, and the disk has granted it no registration since. Then, after
--- commands and power cycles in any order, it writes nothing while a reservation is held: none of its
--- commands that write ends with GOOD. So a node that was fenced off stays so, whoever loses power, and
+-- An initiator was not registered, and the disk has granted it no registration since, whatever commands
+-- and power cycles happened. Then it writes nothing while a reservation is held: none of its commands
+-- that write ends with GOOD. So a node that was fenced off stays so, whoever loses power, and
 -- however often it tries to register.
 abbrev pub FencedOffThroughPowerCycles : Type 0
 FencedOffThroughPowerCycles =

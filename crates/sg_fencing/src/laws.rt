@@ -23,14 +23,14 @@ use sg_target::laws::limits_are_kept;
 use sg_units::laws::{one_key_each, others_are_refused};
 use sg_wire::laws::commands_have_their_class;
 
-/// An operation that does not write to the medium leaves the blocks as they are, so that write
+/// An operation that does not write to the medium leaves the blocks as they are. So write
 /// protection need not stop a command that asks for it.
 pub fn only_writes_change_blocks()
     ensures { OnlyWritesChangeBlocks }
 {}
 
 /// A command that does not end with GOOD changes no block, mode page, registration or reservation,
-/// nor PRGENERATION. It may clear the unit attention that it reports.
+/// and not PRGENERATION. It may clear the unit attention that it reports.
 pub fn refused_changes_nothing()
     ensures { RefusedChangesNothing }
 {}
@@ -45,15 +45,15 @@ pub fn conflict_changes_nothing()
     ensures { ConflictChangesNothing }
 {}
 
-/// Where no unit attention is pending for an initiator, each of its commands of a class that the
-/// reservation does not allow it ends with RESERVATION CONFLICT.
+/// If no unit attention is pending for an initiator, each of its commands that the reservation does
+/// not allow ends with RESERVATION CONFLICT.
 pub fn refused_by_reservation()
     ensures { RefusedByReservation }
 {}
 
-/// Fencing. A command of another initiator leaves the view of an initiator that holds a write
-/// exclusive or an exclusive access reservation before it and after it: the blocks, the mode pages,
-/// its unit attentions, its reservation key and the reservation.
+/// Fencing. An initiator holds a write exclusive or an exclusive access reservation before and
+/// after a command of another initiator. Then that command leaves the view of the holder: the
+/// blocks, the mode pages, its unit attentions, its reservation key and the reservation.
 pub fn others_leave_the_view_of_a_holder()
     ensures { OthersLeaveTheView }
 {
@@ -68,25 +68,25 @@ pub fn only_preemption_ends_a_reservation()
     ensures { OnlyPreemptionEnds }
 {}
 
-/// Where an initiator that holds such a reservation has equal views in two states of one disk, a
-/// command of it ends with equal views in both, and with equal answers, but to PERSISTENT RESERVE IN
-/// and PERSISTENT RESERVE OUT.
+/// An initiator that holds such a reservation has equal views in two states of one disk. Then a
+/// command of it ends with equal views in both. The answers are equal too, except to PERSISTENT
+/// RESERVE IN and PERSISTENT RESERVE OUT.
 pub fn equal_views_of_a_holder_end_alike()
     ensures { EqualViewsEndAlike }
 {
     one_key_each();
 }
 
-/// Where such a reservation is held, no command of another initiator that writes ends with GOOD, and
-/// under exclusive access none that reads.
+/// While such a reservation is held, no command of another initiator that writes ends with GOOD.
+/// Under exclusive access no command of another initiator that reads ends with GOOD either.
 pub fn others_are_shut_out()
     ensures { OthersAreShutOut }
 {
     others_are_refused();
 }
 
-/// Where an initiator holds an exclusive access reservation, the answer to a command of another is
-/// the same whatever the blocks are, and whichever are mapped.
+/// If an initiator holds an exclusive access reservation, the answer to another initiator is the
+/// same whatever the blocks are, and whichever are mapped.
 pub fn others_see_no_block()
     ensures { OthersSeeNoBlock }
 {
@@ -94,9 +94,9 @@ pub fn others_see_no_block()
     commands_have_their_class();
 }
 
-/// Over a list of commands, where an initiator holds such a reservation before and after each: its
-/// view in the end, and the answers to its commands, but to PERSISTENT RESERVE IN and PERSISTENT
-/// RESERVE OUT, are those of a run of its own commands alone.
+/// An initiator holds such a reservation before and after each command of a list. Then its view in
+/// the end is the view after its own commands only. So are the answers to its commands, except to
+/// PERSISTENT RESERVE IN and PERSISTENT RESERVE OUT.
 pub fn a_holder_is_served_as_if_alone()
     ensures { HolderIsAsIfAlone }
 {
@@ -115,9 +115,9 @@ pub fn others_read_nothing()
     others_are_refused();
 }
 
-/// Fencing by registration. While a reservation of any type is held, no command of an initiator
-/// that is not registered ends with GOOD where it writes, nor where it reads, under the exclusive
-/// access types.
+/// Fencing by registration. While a reservation of any type is held, no command that writes ends
+/// with GOOD if its initiator is not registered. Under the exclusive access types no command that
+/// reads does.
 pub fn the_unregistered_are_kept_out()
     ensures { FencedOffAreKeptOut }
 {
@@ -133,8 +133,8 @@ pub fn the_unregistered_leave_every_view()
     commands_have_their_class();
 }
 
-/// While a reservation of an exclusive access type is held, the answer to an initiator that is not
-/// registered is the same whatever the blocks are.
+/// While a reservation of an exclusive access type is held, an initiator that is not registered
+/// gets the same answer whatever the blocks are.
 pub fn the_unregistered_see_no_block()
     ensures { FencedOffSeeNoBlock }
 {
@@ -143,37 +143,39 @@ pub fn the_unregistered_see_no_block()
 }
 
 /// An initiator that is not registered becomes registered only by its own REGISTER or REGISTER AND
-/// IGNORE EXISTING KEY, with a key other than zero, that ends with GOOD.
+/// IGNORE EXISTING KEY. That command has a key other than zero, and ends with GOOD.
 pub fn nobody_registers_another()
     ensures { OnlyRegisteringRegisters }
 {}
 
-/// An initiator that is not registered stays unregistered over a list of commands if none of its
+/// An initiator that is not registered stays unregistered over a list of commands, if none of its
 /// commands that ask to register it ends with GOOD. It may send REGISTER with the key that it had,
 /// or with the key zero, as often as it likes.
 pub fn the_refused_stay_unregistered()
     ensures { TheRefusedStayUnregistered }
 {}
 
-/// Over a list of commands, no command that writes ends with GOOD if in the state before it a
-/// reservation of any type is held and its initiator is not registered.
+/// Over a list of commands: a reservation of any type is held in the state before a command that
+/// writes, and its initiator is not registered in that state. Then the command does not end with
+/// GOOD.
 pub fn the_unregistered_write_nothing()
     ensures { FencedOffWriteNothing }
 {
     others_are_refused();
 }
 
-/// Over a list of commands, no command that reads ends with GOOD if in the state before it a
-/// reservation of an exclusive access type is held and its initiator is not registered.
+/// Over a list of commands: a reservation of an exclusive access type is held in the state before a
+/// command that reads, and its initiator is not registered in that state. Then the command does not
+/// end with GOOD.
 pub fn the_unregistered_read_nothing()
     ensures { FencedOffReadNothing }
 {
     others_are_refused();
 }
 
-/// Over a list of commands, if an initiator stays unregistered, and a reservation of an exclusive
-/// access type is held whenever it sends a command: the answers to it are the same whatever the blocks
-/// were before.
+/// An initiator stays unregistered over a list of commands. Whenever it sends a command, a
+/// reservation of an exclusive access type is held. Then the answers to it are the same whatever
+/// the blocks were before the list.
 pub fn the_unregistered_see_no_block_over_a_list()
     ensures { NoBlockIsSeenOverAList }
 {
@@ -182,8 +184,8 @@ pub fn the_unregistered_see_no_block_over_a_list()
     commands_have_their_class();
 }
 
-/// While a reservation of any type is held, a list of commands of initiators that stay unregistered
-/// leaves the view of every initiator that sends none of them.
+/// A reservation of any type is held, and each sender of a list of commands stays unregistered.
+/// Then the list leaves the view of every initiator that sends none of them.
 pub fn the_unregistered_change_nothing()
     ensures { OutsidersChangeNothing }
 {
@@ -192,30 +194,31 @@ pub fn the_unregistered_change_nothing()
     commands_have_their_class();
 }
 
-/// If a group sees the same in two states of one disk, and the same unit attentions are pending for an
-/// initiator, then each command of it ends with equal answers in both, and the group sees the same
-/// afterwards.
+/// A group sees the same in two states of one disk, and the same unit attentions are pending for an
+/// initiator. Then each command of that initiator ends with equal answers in both, and the group
+/// sees the same afterwards.
 pub fn equal_views_of_a_group_end_alike()
     ensures { EqualGroupViewsEndAlike }
 {}
 
-/// Over a list of commands, if a group sees the same in two states of one disk, and the same unit
-/// attentions are pending for each sender: the answers are equal, and the group sees the same in the
-/// end.
+/// A group sees the same in two states of one disk, and the same unit attentions are pending for
+/// each sender of a list of commands. Then the answers are equal in both, and the group sees the
+/// same in the end.
 pub fn equal_views_of_a_group_run_alike()
     ensures { EqualGroupViewsRunAlike }
 {}
 
-/// Where an initiator becomes registered, what the registrants see together is as it was but for its
+/// If a command registers an initiator that was not registered, the group sees three changes: its
 /// registration, the next PRGENERATION, and APTPL of its parameter list. Nothing that another
 /// initiator sees for itself has changed.
 pub fn a_new_registration_is_seen()
     ensures { NewcomersAreSeen }
 {}
 
-/// Over a list of commands of registrants and others, the commands of any initiators that stay
-/// unregistered may be left out, if a reservation of any type is held whenever one of these sends a
-/// command: the answers to all others, and what they see in the end, are those of a run without.
+/// Some initiators stay unregistered over a list of commands of registrants and others. Whenever
+/// one of them sends a command, a reservation of any type is held. Then their commands may be left
+/// out: without these, the answers to all others are the same, and so is what the others see in the
+/// end.
 pub fn outsiders_may_be_left_out()
     ensures { OutsidersMayBeLeftOut }
 {
@@ -232,9 +235,8 @@ pub fn preemption_unregisters()
     one_key_each();
 }
 
-/// After a PREEMPT or a PREEMPT AND ABORT, over a list of commands, while a reservation of any type is
-/// held, no command that writes of such an initiator ends with GOOD until the disk grants it a
-/// registration again.
+/// After a PREEMPT or a PREEMPT AND ABORT of its key, an initiator writes nothing over a list of
+/// commands while a reservation of any type is held, until the disk grants it a registration again.
 pub fn the_preempted_write_nothing()
     ensures { PreemptedWriteNothing }
 {
@@ -247,20 +249,22 @@ pub fn blocks_and_saved_pages_outlive_power()
     ensures { BlocksAndSavedPagesStay }
 {}
 
-/// Where registrations and reservation persist through a power loss, they are as they were after a
-/// power cycle, and persist through the next one too. PRGENERATION is 0 (SPC-4, 6.15.2).
+/// If registrations and reservation persist through a power loss, a power cycle leaves them as they
+/// were, and they persist through the next one too. PRGENERATION is 0 (SPC-4, 6.15.2).
 pub fn persistent_reservations_outlive_power()
     ensures { PersistentOnesStay }
 {}
 
-/// Where registrations and reservation do not persist through a power loss, nobody is registered and
-/// no reservation is held after a power cycle, as on a new disk.
+/// If registrations and reservation do not persist through a power loss, a power cycle leaves
+/// nobody registered and no reservation held, as on a new disk.
 pub fn other_reservations_end_with_power()
     ensures { OthersAreGone }
 {}
 
-/// After commands and power cycles in any order, registrations and reservation persist through a power
-/// loss exactly if the last REGISTER or REGISTER AND IGNORE EXISTING KEY that counts set APTPL.
+/// Commands and power cycles happen in any order. Afterwards registrations and reservation persist
+/// through a power loss exactly if the last command that counts set APTPL. REGISTER and REGISTER
+/// AND IGNORE EXISTING KEY count if they register an initiator, or change or remove its
+/// registration.
 pub fn the_last_register_decides()
     ensures { TheLastRegisterDecides }
 {
@@ -278,19 +282,19 @@ pub fn two_power_cycles_are_one()
     ensures { TwoAreOne }
 {}
 
-/// Over a list of commands and power cycles, while a reservation is held, no command that writes of
-/// an initiator that is not registered ends with GOOD until the disk grants it a registration.
+/// Over a list of commands and power cycles, an initiator that is not registered writes nothing
+/// while a reservation is held, until the disk grants it a registration.
 pub fn the_unregistered_write_nothing_through_power_cycles()
     ensures { FencedOffThroughPowerCycles }
 {
     others_are_refused();
 }
 
-/// Over a list of commands and power cycles, where an initiator holds a reservation that nobody
-/// shares before and after each, and registrations persist at each power cycle of a run of its own
-/// commands and the power cycles alone: its view in the end, and the answers to its commands, but to
-/// PERSISTENT RESERVE IN and PERSISTENT RESERVE OUT, are those of that run. So of a power cycle a
-/// holder sees nothing but what it would see alone: POWER ON, and the saved mode pages.
+/// An initiator holds a reservation that nobody shares before and after each command and power
+/// cycle of a list. Registrations persist at each power cycle of a run of only its own commands and
+/// the power cycles. Then its view in the end is the view after that run. So are the answers to its
+/// commands, except to PERSISTENT RESERVE IN and PERSISTENT RESERVE OUT. So at a power cycle a
+/// holder sees POWER ON and the saved mode pages, and nothing more.
 pub fn a_holder_is_served_as_if_alone_through_power_cycles()
     ensures { HolderIsAsIfAloneThroughPowerCycles }
 {

@@ -14,9 +14,9 @@ pub fn limits_are_kept()
     sg_store::laws::disks_stay_well_formed();
 }
 
-/// After an UNMAP without ANCHOR, each address that lies in some extent of its list is deallocated
-/// and is read as zeros, and every other address is as it was. Neither the order of the extents
-/// matters nor whether they overlap.
+/// The effect of unmapping a list of extents deallocates each address that lies in some extent,
+/// which is read as zeros then. Every other address is as it was. The order of the extents does not
+/// matter, and they may overlap.
 pub fn an_unmap_deallocates_each_extent()
     ensures { UnmapsEachExtent }
 {
@@ -24,9 +24,9 @@ pub fn an_unmap_deallocates_each_extent()
     sg_store::laws::an_unmap_zeroes_the_blocks_of_its_range();
 }
 
-/// After an anchoring command for which the pool has room, each address that lies in some extent of
-/// its list is anchored, so that it has a block of the pool and is read as zeros, and every other
-/// address is as it was. Neither the order of the extents matters nor whether they overlap.
+/// The effect of anchoring a list of extents anchors each address that lies in some extent: it has
+/// a block of the pool, and is read as zeros. Every other address is as it was. The order of the
+/// extents does not matter, and they may overlap.
 pub fn an_anchoring_anchors_each_extent()
     ensures { AnchorsEachExtent }
 {
@@ -39,8 +39,8 @@ pub fn reads_return_their_blocks()
     ensures { ReadsReturnTheirBlocks }
 {}
 
-/// After a WRITE that ends with GOOD each of its blocks has its bytes of the data-out and is mapped.
-/// All else is as it was.
+/// After a WRITE that ends with GOOD each of its blocks has its bytes of the data-out and is
+/// mapped. Nothing more has changed.
 pub fn writes_leave_their_data()
     ensures { WritesLeaveTheirData }
 {
@@ -56,9 +56,9 @@ pub fn writes_over_used_addresses_have_space()
     sg_store::laws::remapping_takes_what_is_needed();
 }
 
-/// After an UNMAP that ends with GOOD each address that lies in some extent of its parameter list is
-/// read as zeros. Without ANCHOR the address is deallocated, and with ANCHOR it is anchored. All else
-/// is as it was.
+/// After an UNMAP that ends with GOOD each address that lies in some extent of its parameter list
+/// is read as zeros. Without ANCHOR the address is deallocated, and with ANCHOR it is anchored.
+/// Nothing more has changed.
 pub fn unmaps_follow_their_lists()
     ensures { UnmapsFollowTheirLists }
 {
@@ -66,9 +66,9 @@ pub fn unmaps_follow_their_lists()
     an_anchoring_anchors_each_extent();
 }
 
-/// After a WRITE SAME that ends with GOOD each of its addresses is read as the block of the data-out.
-/// With UNMAP 1 and a block of zeros the address is deallocated, or with ANCHOR anchored, and
-/// otherwise it is mapped. All else is as it was.
+/// After a WRITE SAME that ends with GOOD each of its addresses is read as the block of the
+/// data-out. With UNMAP 1 and a block of zeros the address is deallocated, or with ANCHOR anchored.
+/// Otherwise it is mapped. Nothing more has changed.
 pub fn write_sames_leave_their_block()
     ensures { WriteSamesLeaveTheirBlock }
 {
