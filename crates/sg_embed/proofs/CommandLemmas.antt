@@ -1,4 +1,4 @@
--- What is planned for a tool.
+-- The command that is planned for a tool.
 use Rattle.std.proofs.Common.{◌≡◌, ℕ, List, Result, Ok, ◌∙◌, sym, inl, inr}
 use Rattle.sg_tools.specs.declared.tool.Tool.{Tool}
 use Rattle.sg_run.specs.ToolText.{IsReadUnlessOutOfMemory, tool_of_text}

@@ -1,4 +1,4 @@
--- What is stored of an array of bytes and of a flag.
+-- The bytes that are stored for an array of bytes and for a flag.
 use Rattle.std.proofs.Common.{◌≡◌, ℕ, zero, suc, List, [], ◌∷◌, Bool, true, false, length, refl, ap}
 use Rattle.std.proofs.Common.{arith, ◌%◌}
 use Rattle.std.specs.Prelude.{map, if◌then◌else◌}

@@ -59,7 +59,7 @@ pub bare_typed : (h : Val) → Fits E.al h → T (has_ty (box_ty E) (bare_word h
 bare_typed h fits = (and_tt (has_ty (α E.al) h) fits.0, (record { fits = lit< tt }, (fits.1, tt)))
 
 module _ {M : Type 1} {𝓤 : Ura M} (𝓛 : Logic 𝓤) where
-  -- What may be freed may be compared with null.
+  -- A pointer that may be freed may be compared with null.
   pub tested : (a : Global) (p : Ptr) → ent 𝓤 (sem 𝓛 (ghosts.dealloc_token a (bare (τ E)) p))
       (guard 𝓤 (Testable p) (sem 𝓛 (ghosts.dealloc_token a (bare (τ E)) p)))
   tested a p = fact_use 𝓤 (Testable p) (dealloc_token-Testable 𝓛 a (bare (τ E)) p) (guard_i 𝓤

@@ -1,4 +1,4 @@
--- What the calls over a disk do to it.
+-- The effects of the calls on a disk.
 use Rattle.std.specs.Prelude.{◌≡◌, ℕ, List, Option, Some}
 use Rattle.sg_pages.specs.Identity.{IdentityFields}
 use Rattle.sg_store.specs.Meter.{new_meter}
@@ -14,7 +14,7 @@ use Rattle.sg_embed.specs.declared.kept.Kept.{Kept}
 use Rattle.sg_embed.specs.Records.{Shows}
 use Rattle.sg_embed.specs.declared.record.ReplyRecord.{ReplyRecord}
 
--- What a disk is made with.
+-- The configuration that a disk is made with.
 abbrev pub disk_config : (blocks pool : ℕ) → IdentityFields → ConfigFields
 disk_config blocks pool identity = record { blocks = blocks; pool = pool; identity = identity }
 
@@ -22,7 +22,7 @@ disk_config blocks pool identity = record { blocks = blocks; pool = pool; identi
 abbrev pub new_disk : ConfigFields → Kept
 new_disk config = record { target = record { state = new_state config; meter = new_meter } }
 
--- Something happens to the target of the disk that was there.
+-- There was a disk, and something happens to its target.
 pub record HappensToDisk (event : (old new : TargetFields) → Type 0) (old new : Option Kept) : Type 0
   where
     pub disk : Kept
@@ -31,7 +31,7 @@ pub record HappensToDisk (event : (old new : TargetFields) → Type 0) (old new 
     pub is : new ≡ Some left
     pub happened : event disk.target left.target
 
--- It has lost power and has it again.
+-- The disk has lost power, and power is on again.
 abbrev pub IsPowerCycled : (old new : Option Kept) → Type 0
 IsPowerCycled = HappensToDisk CyclesPower
 

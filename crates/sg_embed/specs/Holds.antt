@@ -1,4 +1,4 @@
--- What the slot of a disk owns.
+-- The memory that the slot of a disk owns.
 use Rattle.std.specs.Prelude.{Option, None, Some}
 use base.Fml.{Fml, feq}
 use denote.RattleType.{RattleType}

@@ -1,4 +1,4 @@
--- How a record lies in memory: the bytes in which the toolchain's machine stores its values.
+-- The layout of a record in memory: the bytes that the toolchain's machine stores for its values.
 use Rattle.std.specs.Prelude.{◌≡◌, ℕ, zero, suc, List, [], ◌∷◌, ◌++◌, Bool, if◌then◌else◌, drop, slice_index}
 use denote.Laws.{Is}
 use denote.Memory.{lone}

@@ -1,4 +1,4 @@
--- What a slot ends as, once a `&mut` to its disk has ended.
+-- The slot after a `&mut` to its disk has ended.
 use Rattle.std.specs.Prelude.{Option, Some}
 use Rattle.std.specs.Borrow.{Fml, MutBor, LendsIf}
 use Rattle.sg_embed.specs.contracts.kept.Kept as kept
@@ -10,6 +10,6 @@ use Rattle.sg_embed.specs.declared.slot.Slot.{Slot}
 abbrev pub with_kept : Slot → Kept → Slot
 with_kept s disk = record { at = s.at; alloc = s.alloc; held = Some disk }
 
--- The disk is what was left behind the `&mut`; without one the slot is as it was.
+-- The slot has the disk that the `&mut` left. Without a `&mut` the slot is as it was.
 abbrev pub lends_kept : MutBor Slot → Option (MutBor Kept) → Fml
 lends_kept s disk = LendsIf slot.the_row kept.the_row s disk (with_kept s.now) s.now

@@ -1,4 +1,4 @@
--- What public contracts cite, in the order in which it is read best.
+-- Modules that public contracts cite. Read them in this order.
 pub mod Holds
 pub mod Outcome
 pub mod Executed
@@ -8,5 +8,5 @@ pub mod Structs
 pub mod Kinds
 pub mod Planned
 pub mod Text
--- What only private contracts cite.
+-- Modules that only private contracts cite.
 pub mod Lends

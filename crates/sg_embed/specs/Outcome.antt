@@ -1,4 +1,4 @@
--- How each call ends, by the number that the header has for C.
+-- The outcome of each call, by the number that the header has for C.
 use Rattle.std.specs.Prelude.{◌≡◌, ◌⊎◌, ℕ, List, Option, None, Some, Result, Ok, Err, Bool, true, false}
 use Rattle.std.specs.Prelude.{if◌then◌else◌, not, nat_le, nat_lt}
 use Rattle.sg_pages.specs.declared.identity.IdentityFault.{IdentityFault}
@@ -26,7 +26,7 @@ use Rattle.sg_embed.specs.declared.outcome.Outcome.TheVariants.{UnknownInitiator
 use Rattle.sg_embed.specs.declared.outcome.Outcome.TheVariants.{BadByte, TooManyWords, UnknownTool}
 use Rattle.sg_embed.specs.declared.outcome.Outcome.TheVariants.{Usage, Exclusive, Number}
 
--- The numbers of the header. 10 is MDL_NULL_POINTER there: the functions that test C's pointers
+-- The numbers of the header. Number 10 is MDL_NULL_POINTER: the functions that test C's pointers
 -- return it before any call that is defined here.
 abbrev pub outcome_code : Outcome → ℕ
 outcome_code Done = 0
@@ -47,7 +47,7 @@ outcome_code Usage = 15
 outcome_code Exclusive = 16
 outcome_code Number = 17
 
--- Whether memory is asked for before a call ends so.
+-- A call asks for memory before it ends with this outcome.
 abbrev pub has_asked : Outcome → Bool
 has_asked Done = true
 has_asked OutOfMemory = true
@@ -56,12 +56,12 @@ has_asked Exclusive = true
 has_asked Number = true
 has_asked outcome = false
 
--- A call ends as is expected where memory is there; or memory was refused, where it is asked for.
+-- A call ends as expected; or memory was refused, if a call that ends as expected asks for memory.
 abbrev pub IsUnlessOutOfMemory : (expected outcome : Outcome) → Type 0
 IsUnlessOutOfMemory expected outcome =
     (outcome ≡ expected) ⊎ ((outcome ≡ OutOfMemory) × (has_asked expected ≡ true))
 
--- The same of the outcome with a number.
+-- The same, for the number of an outcome.
 abbrev pub IsCodeUnlessOutOfMemory : (expected : Outcome) → (code : ℕ) → Type 0
 IsCodeUnlessOutOfMemory expected code =
     (code ≡ outcome_code expected)
@@ -79,7 +79,7 @@ abbrev checked_outcome : Result ConfigFields ConfigFault → Outcome
 checked_outcome (Ok config) = Done
 checked_outcome (Err fault) = config_outcome fault
 
--- How making a disk ends where memory is there.
+-- The outcome of making a disk, unless memory is refused.
 abbrev pub make_outcome : Option Kept → ConfigFields → Outcome
 make_outcome (Some disk) config = DiskExists
 make_outcome None config = checked_outcome (checked_config config)
@@ -88,8 +88,8 @@ abbrev disk_outcome : Option Kept → Outcome
 disk_outcome (Some disk) = Done
 disk_outcome None = NoDisk
 
--- How a command ends for an initiator, with a buffer for data-in of a length. Each is checked before
--- anything is executed.
+-- The outcome of a command for an initiator, with a buffer for data-in of some length. Each is
+-- checked before anything is executed.
 abbrev pub execute_outcome : Option Kept → (initiator room : ℕ) → Outcome
 execute_outcome held initiator room =
     if not (nat_lt initiator initiator_count) then UnknownInitiator else
@@ -98,7 +98,7 @@ execute_outcome held initiator room =
 abbrev pub power_cycle_outcome : Option Kept → Outcome
 power_cycle_outcome = disk_outcome
 
--- The same with an identity, which is looked at first.
+-- The outcome of making a disk with an identity, which is checked first.
 abbrev pub make_as_outcome : Option Kept → (blocks pool : ℕ) → Result IdentityFields IdentityFault → Outcome
 make_as_outcome held blocks pool (Ok identity) = make_outcome held (disk_config blocks pool identity)
 make_as_outcome held blocks pool (Err fault) = identity_outcome fault
@@ -119,13 +119,13 @@ abbrev pub asked_outcome : Result Tool TextFault → Outcome
 asked_outcome (Ok tool) = Done
 asked_outcome (Err fault) = text_outcome fault
 
--- How planning a tool's command ends where memory is there, for a text and a buffer for data-out of
--- a length. The buffer is checked first.
+-- The outcome of planning a tool's command, unless memory is refused, for a text and a buffer for
+-- data-out of some length. The buffer is checked first.
 abbrev pub plan_outcome : (text : List ℕ) → (room : ℕ) → Outcome
 plan_outcome text room =
     if not (nat_le max_data_out room) then BufferTooShort else asked_outcome (tool_of_text text)
 
--- How a call ended that returns a value, or why it is refused.
+-- The outcome of a call that returns a value, or the reason why it is refused.
 abbrev pub outcome_of : {T : Type 0} → Result T Outcome → Outcome
 outcome_of (Ok value) = Done
 outcome_of (Err outcome) = outcome

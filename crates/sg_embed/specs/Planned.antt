@@ -1,4 +1,4 @@
--- What is planned for the words of a tool.
+-- The command that is planned for the words of a tool.
 use Rattle.std.specs.Prelude.{◌≡◌, ℕ, List, Some, Ok, length, replicate}
 use Rattle.sg_wire.specs.CutAnswer.{overwritten}
 use Rattle.sg_wire.specs.Layout.{cdb_of}
@@ -13,12 +13,12 @@ use Rattle.sg_embed.specs.declared.command.CommandRecord.{CommandRecord}
 abbrev pub cdb_room : ℕ
 cdb_room = 16
 
--- A CDB with zeros behind it.
+-- A CDB with zeros after it.
 abbrev pub padded : List ℕ → List ℕ
 padded cdb = overwritten cdb (replicate cdb_room 0)
 
--- The words of a text ask a tool for a command, which a record and the buffer for data-out have. The
--- bytes after data-out are as they were.
+-- The words of a text ask a tool for a command, which a record and the buffer for data-out have.
+-- The bytes after data-out are as they were.
 pub record IsPlanned (text before after : List ℕ) (shown : CommandRecord) : Type 0 where
   pub tool : Tool
   pub asked : tool_of_text text ≡ Ok tool

@@ -1,4 +1,4 @@
--- What the records of the header contain.
+-- The contents of the header's records.
 use Rattle.std.specs.Prelude.{◌≡◌, ℕ, Bool, true, false, Option, Some, None, Result, length, replicate}
 use Rattle.sg_pages.specs.Identity.{IdentityFields, checked_identity, identity_fields}
 use Rattle.sg_pages.specs.declared.identity.IdentityFault.{IdentityFault}
@@ -45,7 +45,7 @@ abbrev pointed_byte : Option Pointer → ℕ
 pointed_byte (Some pointer) = pointer.byte
 pointed_byte None = 0
 
--- The record of the fields of sense data. A field that is not there is zero.
+-- The record of the fields of sense data. An absent field is zero.
 abbrev pub sense_record : SenseFields → SenseRecord
 sense_record fields = record {
   key = fields.key;

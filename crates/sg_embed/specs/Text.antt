@@ -1,10 +1,10 @@
--- Texts as C takes them: cut to a buffer, with a zero behind.
+-- Texts as C takes them: cut to a buffer, with a zero after the text.
 use Rattle.std.specs.Prelude.{◌≡◌, ◌⊎◌, ℕ, List, [], ◌∷◌, ◌++◌, MatchOption, codes, length, take}
 use Rattle.sg_wire.specs.CutAnswer.{overwritten}
 use Rattle.sg_run.specs.AnswerText.{answer_text}
 use Rattle.sg_embed.specs.Kinds.{kind_numbered}
 
--- A buffer with a text at its beginning, cut to it, and a zero behind the text.
+-- A buffer with a text at its beginning, cut to the buffer, and a zero after the text.
 abbrev pub text_in : List ℕ → List ℕ → List ℕ
 text_in text [] = []
 text_in text (byte ∷ rest) = overwritten (take (length rest) text ++ 0 ∷ []) (byte ∷ rest)
@@ -13,7 +13,7 @@ text_in text (byte ∷ rest) = overwritten (take (length rest) text ++ 0 ∷ [])
 abbrev pub version_text : List ℕ
 version_text = codes "mehdalung 1.0.0, proved in Rattle's logic dac8208d650f15bf"
 
--- What is returned where there is no text: the largest number of 64 bits.
+-- The result if there is no text: the largest number of 64 bits.
 abbrev pub no_text : ℕ
 no_text = 18446744073709551615
 
@@ -25,8 +25,8 @@ IsUntouched before after result = (result ≡ no_text) × (after ≡ before)
 abbrev pub IsText : (text before after : List ℕ) → (result : ℕ) → Type 0
 IsText text before after result = (result ≡ length text) × (after ≡ text_in text before)
 
--- The text of an answer of the kind with a number is returned so, or memory was refused and the buffer
--- is as it was. No kind has another number.
+-- The text of an answer of the kind with a number is returned so, or memory was refused and the
+-- buffer is as it was. No kind has another number.
 abbrev pub IsDecoded : (kind : ℕ) → (data_in before after : List ℕ) → (result : ℕ) → Type 0
 IsDecoded kind data_in before after result =
     MatchOption (kind_numbered kind) (IsUntouched before after result)

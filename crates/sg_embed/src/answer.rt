@@ -1,4 +1,4 @@
-// The texts of answers, in memory of the caller's.
+// The texts of answers, in the caller's memory.
 ghost use Rattle.std.specs.Prelude.{◌≡◌, IfSome};
 ghost use Rattle.sg_run.specs.AnswerText.{answer_text};
 ghost use Rattle.sg_embed.specs.Text.{IsDecoded};
@@ -10,14 +10,14 @@ use sg_tools::Show;
 use sg_wire::Watched;
 use std::alloc::Global;
 
-/// What [`decode`] returns where there is no text.
+/// The result of [`decode`] if there is no text.
 pub const NO_TEXT: usize = usize::MAX;
 
-/// Writes the text of an answer of a kind to the beginning of a buffer, cut to it, and a zero behind
-/// it. Returns the length of the whole text without the zero, as snprintf(3) does. The text is made
-/// in memory of its own first, which is given back.
+/// Writes the text of an answer of a kind to the beginning of a buffer, cut to the buffer, and a
+/// zero after the text. Returns the length of the whole text without the zero, as snprintf(3) does.
+/// It makes the text in memory of its own first, and gives that memory back.
 ///
-/// Where no kind has the number, or memory was refused, it returns [`NO_TEXT`], and the buffer is as
+/// If no kind has the number, or memory was refused, it returns [`NO_TEXT`], and the buffer is as
 /// it was.
 pub fn decode(alloc: Global, kind: u32, data_in: &[u8], text: &mut [u8]) -> usize
     ensures { IsDecoded kind data_in.now text.old text.new result }
@@ -31,7 +31,7 @@ pub fn decode(alloc: Global, kind: u32, data_in: &[u8], text: &mut [u8]) -> usiz
     }
 }
 
-/// The text of an answer. None where memory was refused.
+/// The text of an answer. None if memory was refused.
 fn print(alloc: Global, show: Show, data_in: &[u8]) -> Option<Vec<u8>>
     ensures { IfSome result (λ text. text.items ≡ answer_text show data_in.now) }
 {

@@ -10,11 +10,11 @@ use sg_tools::{MAX_DATA_OUT, Plan};
 use sg_wire::MAX_CDB_LENGTH;
 use std::alloc::Global;
 
-/// What C declares as `mdl_command`.
+/// The record that C declares as `mdl_command`.
 #[repr(C)]
 #[derive(Drop)]
 pub struct CommandRecord {
-    /// The CDB, and zeros behind it.
+    /// The CDB, and zeros after it.
     pub cdb: [u8; MAX_CDB_LENGTH],
     /// The length of the CDB, in bytes.
     pub cdb_length: u8,
@@ -42,12 +42,12 @@ impl CommandRecord {
     }
 }
 
-/// The command that the words of a text ask a tool for. Its data-out is written to the first bytes of
-/// the buffer, which has [`MAX_DATA_OUT`] bytes at least; those after it stay as they were.
+/// The command that the words of a text ask a tool for. Its data-out is written to the first bytes
+/// of the buffer, which has [`MAX_DATA_OUT`] bytes at least; those after it stay as they were.
 ///
 /// # Errors
 /// The first outcome that applies of a buffer that is too short and the faults of
-/// [`TextFault`](sg_run::TextFault). The buffer is as it was then.
+/// [`TextFault`](sg_run::TextFault). The buffer is then as it was.
 pub fn plan_tool(alloc: Global, text: &[u8], data_out: &mut [u8]) -> Result<CommandRecord, Outcome>
     ensures outcome { IsUnlessOutOfMemory (plan_outcome text.now (length data_out.old))
         (outcome_of result) }

@@ -1,4 +1,4 @@
-// The disk as it is kept behind a slot's pointer.
+// The disk that a slot keeps at its pointer.
 ghost use Rattle.std.specs.Prelude.{◌≡◌, IfOk};
 ghost use Rattle.sg_embed.specs.Executed.{new_disk};
 

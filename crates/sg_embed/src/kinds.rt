@@ -31,6 +31,6 @@ pub(crate) fn kind_numbered(number: u32) -> Option<Show>
 pub(crate) fn kind_number(show: Show) -> u32
     ensures { kind_numbered result ≡ Some show }
 {
-    // Its place in `Show` is that in `KINDS`.
+    // It has the same place in `Show` as in `KINDS`.
     show as u32
 }

@@ -1,4 +1,4 @@
-//! How the records of C lie in memory. Each law is the contract of a function that does nothing.
+//! The layout of C's records in memory. Each law is the contract of a function that does nothing.
 ghost use Rattle.sg_embed.specs.InMemory.{LiesAs};
 ghost use Rattle.sg_embed.specs.Structs.{mdl_command, mdl_identity, mdl_reply, mdl_sense};
 ghost use Rattle.sg_embed.specs.contracts.command.CommandRecord.{the_row as command_record};

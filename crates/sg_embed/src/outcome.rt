@@ -4,7 +4,7 @@ use sg_run::TextFault;
 use sg_target::ConfigFault;
 use sg_tools::ToolFault;
 
-/// How a call ends: as it should, or refused with nothing changed.
+/// The outcome of a call: it ends as it should, or is refused and changes nothing.
 #[derive(Clone, Copy, Debug, PartialEq, Eq)]
 pub enum Outcome {
     /// The call has done what it is for.
@@ -27,7 +27,7 @@ pub enum Outcome {
     UnknownInitiator = 8,
     /// The buffer for data-in or for data-out is too short.
     BufferTooShort = 9,
-    /// Sense data can't be read. Number 10 is that of a null pointer, which C tests.
+    /// Sense data can't be read. Number 10 stands for a null pointer, which C tests.
     Unreadable = 11,
     /// A byte of a tool's text is neither printable ASCII nor a tab.
     BadByte = 12,
@@ -35,7 +35,7 @@ pub enum Outcome {
     TooManyWords = 13,
     /// There is no word, or the first is not the name of a tool.
     UnknownTool = 14,
-    /// The words are not those of the tool.
+    /// The words do not fit the tool.
     Usage = 15,
     /// Two options exclude one another.
     Exclusive = 16,
@@ -48,7 +48,7 @@ ghost use Rattle.sg_embed.specs.Outcome.{config_outcome, identity_outcome, outco
 ghost use Rattle.sg_embed.specs.Outcome.{text_outcome, tool_fault_outcome};
 
 impl Outcome {
-    /// Its number, as C has it.
+    /// Its number in C.
     pub fn code(self) -> u32
         ensures value { result ≡ outcome_code self }
         ensures zero { result ≡ 0 → self ≡ Outcome.Done }
@@ -56,7 +56,7 @@ impl Outcome {
         self as u32
     }
 
-    /// That an identity is refused.
+    /// The outcome of a refused identity.
     pub fn of_identity(fault: IdentityFault) -> Outcome
         ensures { result ≡ identity_outcome fault }
     {
@@ -66,7 +66,7 @@ impl Outcome {
         }
     }
 
-    /// That a configuration is refused.
+    /// The outcome of a refused configuration.
     pub(crate) fn of_config(fault: ConfigFault) -> Outcome
         ensures { result ≡ config_outcome fault }
     {
@@ -76,7 +76,7 @@ impl Outcome {
         }
     }
 
-    /// That a text asks a tool for nothing.
+    /// The outcome of a text that asks a tool for nothing.
     pub(crate) fn of_text(fault: TextFault) -> Outcome
         ensures { result ≡ text_outcome fault }
     {

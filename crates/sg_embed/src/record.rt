@@ -8,7 +8,7 @@ use sg_pages::{Identity, IdentityFault};
 use sg_target::{Reply, SENSE_LENGTH};
 use sg_wire::Sense;
 
-/// What C declares as `mdl_reply`.
+/// The record that C declares as `mdl_reply`.
 #[repr(C)]
 #[derive(Drop)]
 pub struct ReplyRecord {
@@ -16,7 +16,7 @@ pub struct ReplyRecord {
     pub status: u8,
     /// The length of the sense data, in bytes.
     pub sense_length: u8,
-    /// The sense data, and zeros behind it.
+    /// The sense data, and zeros after it.
     pub sense: [u8; SENSE_LENGTH],
     /// The length of data-in, in bytes from the beginning of the buffer.
     pub data_in_length: usize,
@@ -52,8 +52,8 @@ impl ReplyRecord {
     }
 }
 
-/// What C declares as `mdl_identity`: texts padded with spaces, and the 60 bits of a locally assigned
-/// identifier.
+/// The record that C declares as `mdl_identity`: texts padded with spaces, and the 60 bits of a
+/// locally assigned identifier.
 #[repr(C)]
 #[derive(Drop)]
 pub struct IdentityRecord {
@@ -89,7 +89,7 @@ impl IdentityRecord {
     }
 }
 
-/// What C declares as `mdl_sense`.
+/// The record that C declares as `mdl_sense`.
 #[repr(C)]
 #[derive(Drop)]
 pub struct SenseRecord {
@@ -114,7 +114,7 @@ pub struct SenseRecord {
 const _: () = prove!(size_of::<SenseRecord>() == 16);
 
 impl SenseRecord {
-    /// The fields of sense data, in either format. None where it can't be read.
+    /// The fields of sense data, in either format. None if they can't be read.
     pub fn read(bytes: &[u8]) -> Option<SenseRecord>
         ensures { result ≡ option_map sense_record (read_sense bytes.now) }
     {

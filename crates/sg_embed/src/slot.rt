@@ -1,4 +1,4 @@
-// The disk that C holds by a pointer. What lies behind the pointer belongs to the slot alone.
+// The disk that C holds by a pointer. Only the slot owns the memory at the pointer.
 ghost use Rattle.std.specs.Coded.{coded_option};
 ghost use Rattle.std.specs.Prelude.{◌≡◌, Option, None, Some, option_map};
 ghost use Rattle.sg_embed.specs.Holds.{holds};
@@ -17,7 +17,7 @@ use std::marker::Model;
 use std::mem::{forget, replace};
 use std::ptr::null_mut;
 
-/// What C declares as `mdl_disk`: the address of a disk, or null.
+/// The record that C declares as `mdl_disk`: the address of a disk, or null.
 #[repr(C)]
 pub struct Slot {
     at: *mut u8,
@@ -31,7 +31,7 @@ impl Model for Slot {
     ghost also_owns = { λ s. holds the_row s.alloc s.at s.held };
 }
 
-// What lies behind its pointer is a slot's alone: the thread that has the slot has the disk.
+// Only the slot owns the memory at its pointer: the thread that has the slot has the disk.
 unsafe impl Send for Slot {}
 
 impl Slot {
@@ -114,9 +114,9 @@ impl Slot {
     ghost use Rattle.sg_embed.specs.Outcome.{IsUnlessOutOfMemory, execute_outcome, make_outcome};
     ghost use Rattle.sg_embed.specs.Outcome.{power_cycle_outcome};
 
-    /// Makes a disk as it is after power on, of `blocks` logical blocks, of which `pool` can be
-    /// mapped at once. All memory is taken here. The disk stays as it was where another outcome than
-    /// `Done` is returned.
+    /// Makes a disk as it is after power on, with `blocks` logical blocks. At most `pool` of them
+    /// can be mapped at once. All memory is taken here. The disk stays as it was if the call
+    /// returns another outcome than `Done`.
     pub fn make(&mut self, alloc: Global, blocks: u64, pool: u32, identity: Identity) -> Outcome
         ensures outcome { IsUnlessOutOfMemory
             (make_outcome self.old.held (disk_config blocks pool identity)) result }
@@ -143,7 +143,8 @@ impl Slot {
     /// data-in is the first bytes of it, and those after it stay as they were.
     ///
     /// The outcome is the first that applies of an initiator that is not 0 to 7, a buffer that is
-    /// too short and no disk. Nothing is executed then, and disk, buffer and reply are as they were.
+    /// too short and no disk. With these outcomes nothing is executed, and disk, buffer and reply
+    /// are as they were.
     pub fn execute(
         &mut self,
         initiator: u32,
@@ -156,7 +157,7 @@ impl Slot {
         ensures executed { result ≡ Outcome.Done → IsAnswered initiator cdb.now data_out.now
             self.old.held self.new.held data_in.old data_in.new reply.new }
 
-        // Refused, it changes nothing.
+        // If it is refused, it changes nothing.
         ensures kept { result ≢ Outcome.Done → self.new.held ≡ self.old.held }
         ensures untouched { result ≢ Outcome.Done → data_in.new ≡ data_in.old }
         ensures silent { result ≢ Outcome.Done → reply.new ≡ reply.old }
@@ -175,7 +176,7 @@ impl Slot {
         Outcome::Done
     }
 
-    /// A power cycle. The disk stays as it was where another outcome than `Done` is returned.
+    /// A power cycle. The disk stays as it was if the call returns another outcome than `Done`.
     pub fn power_cycle(&mut self) -> Outcome
         ensures outcome { result ≡ power_cycle_outcome self.old.held }
         ensures cycled { result ≡ Outcome.Done → IsPowerCycled self.old.held self.new.held }
@@ -188,7 +189,8 @@ impl Slot {
         Outcome::Done
     }
 
-    /// Puts a disk into a slot without one. There is nothing to drop, which the compiler doesn't know.
+    /// Puts a disk into a slot without one. There is nothing to drop, which the compiler doesn't
+    /// know.
     fn put(&mut self, kept: Box<Kept>)
         requires { self.old.held ≡ None }
         ensures { self.new.held ≡ Some kept.value }

@@ -1,4 +1,4 @@
-// Texts as C takes them: cut to a buffer, with a zero behind.
+// Texts as C takes them: cut to a buffer, with a zero after the text.
 ghost use Rattle.std.specs.Prelude.{◌≡◌, length};
 ghost use Rattle.sg_embed.specs.Text.{text_in, version_text};
 
@@ -13,8 +13,8 @@ pub fn copy_version(out: &mut [u8]) -> usize
     copy_text(VERSION, out)
 }
 
-/// Writes a text to the beginning of a buffer, cut to it, and a zero behind it. Returns the length of
-/// the whole text without the zero, as snprintf(3) does.
+/// Writes a text to the beginning of a buffer, cut to the buffer, and a zero after the text.
+/// Returns the length of the whole text without the zero, as snprintf(3) does.
 pub fn copy_text(text: &[u8], out: &mut [u8]) -> usize
     ensures length { result ≡ length text.now }
     ensures text { out.new ≡ text_in text.now out.old }

@@ -1,4 +1,5 @@
--- `into_box` hands pointer and handle to `from_raw`, with what the parts owned: the box owns it again.
+-- `into_box` hands pointer and handle to `from_raw`, with what the parts owned: the box owns it
+-- again.
 use mathlib.Core.Path.{◌≡◌, refl, sym, subst, ap}
 use mathlib.Core.List.{List, [], ◌∷◌, ◌++◌}
 use lib.Dec.{T}

@@ -1,4 +1,4 @@
--- A disk may go to another thread: a slot owns its box, and nobody else has a part of it.
+-- A disk may go to another thread: a slot owns its box, and no other value has a part of the box.
 use Rattle.std.proofs.Crossing.{frees}
 use mir.Raw.{raw}
 use base.Shift.{Keyless}
