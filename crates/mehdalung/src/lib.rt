@@ -80,7 +80,7 @@ pub extern "C" fn mehdalung_execute(
     ensures executed { result ≡ 0 → IsAnswered initiator cdb.now data_out.now
         disk.old.held disk.new.held data_in.old data_in.new reply.new }
 
-    // Refused, it changes nothing.
+    // If it is refused, it changes nothing.
     ensures kept { result ≢ 0 → disk.new.held ≡ disk.old.held }
     ensures untouched { result ≢ 0 → data_in.new ≡ data_in.old }
     ensures silent { result ≢ 0 → reply.new ≡ reply.old }
@@ -110,7 +110,7 @@ pub extern "C" fn mehdalung_tool(
     ensures outcome { IsCodeUnlessOutOfMemory (plan_outcome text.now (length data_out.old)) result }
     ensures planned { result ≡ 0 → IsPlanned text.now data_out.old data_out.new command.new }
 
-    // Refused, it changes nothing.
+    // If it is refused, it changes nothing.
     ensures untouched { result ≢ 0 → data_out.new ≡ data_out.old }
     ensures silent { result ≢ 0 → command.new ≡ command.old }
 {
@@ -123,7 +123,7 @@ pub extern "C" fn mehdalung_tool(
     }
 }
 
-/// Reads the fields of sense data. They stay as they were where it can't be read.
+/// Reads the fields of sense data. The fields stay as they were if the sense data can't be read.
 #[unsafe(no_mangle)]
 pub extern "C" fn mehdalung_sense(sense: &[u8], fields: &mut SenseRecord) -> u32
     ensures { MatchOption (read_sense sense.now)
