@@ -39,7 +39,7 @@ module _ (state : State) (j : ℕ) where
       (short_cdb (command_of cdb)) (bad_field (command_of cdb)) passed
       (conflict cdb class is not_allowed)
 
-  -- nor is the operation that it asks for one of a class that is not
+  -- it does not ask for an operation of a class that is not allowed
   pub asked-is-allowed : CommandsHaveTheirClass → (cdb data_out : List ℕ) (operation : Operation)
       (class : Class) → Asked state j cdb data_out operation → allows state.reservations j class ≡ false
       → class_for operation ≡ Some class → ⊥

@@ -1,4 +1,5 @@
--- A command ends with the same answer in two states that are the same but for unit attentions of others.
+-- A command ends with the same answer in two states that are the same except for unit attentions of
+-- others.
 use Rattle.std.proofs.Common.{◌≡◌, ℕ, false, List, refl}
 use Rattle.sg_units.specs.Attentions.{Pending, pending_for}
 use Rattle.sg_units.specs.ReserveOut.{raised_by}

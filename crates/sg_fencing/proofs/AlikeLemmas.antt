@@ -1,5 +1,6 @@
--- A command ends alike in two states that are the same but for unit attentions of other initiators, and
--- for what is registered and reserved, as far as this is related in some way.
+-- A command ends alike in two states that are the same except for unit attentions of other
+-- initiators, registrations and reservation. The registrations and reservations of both are related
+-- in some way.
 use Rattle.std.proofs.Common.{◌≡◌, ◌<◌, ◌≤◌, ◌⊎◌, inl, inr, ℕ, Bool, true, false, cond, List, [], ◌∷◌}
 use Rattle.std.proofs.Common.{get_or, drop, Option, Some, None, Result, Ok, Err, refl, sym, ap, ◌∙◌}
 use Rattle.std.proofs.Common.{subst, arith}
@@ -55,7 +56,8 @@ use Rattle.sg_fencing.proofs.OperationLemmas.{shows}
 
 -- ---- Queues
 
--- whose queue is the same in two tables has the same in what becomes of them
+-- an initiator whose queue is the same in two tables has the same queue in the tables that these
+-- become
 abbrev pub StayEqual : (p q p' q' : Pending) → Type 0
 StayEqual p q p' q' =
     (k : ℕ) → pending_for p k ≡ pending_for q k → pending_for p' k ≡ pending_for q' k
@@ -90,8 +92,8 @@ raised-equal p q conditions k e = by-case (cases_lt k 8)
 
 -- ---- Words
 
--- Two states of one disk, with the same blocks and mode pages: the second has other unit attentions,
--- registrations and reservation.
+-- Two states of one disk, with the same blocks and mode pages: the second has other unit
+-- attentions, registrations and reservation.
 abbrev pub with_others : State → Pending → ReservationState → State
 with_others state attentions reservations =
     record state { attentions = attentions; reservations = reservations }
@@ -106,7 +108,7 @@ module _ (Related : ReservationState → ReservationState → Type 0) (shows_oth
     pub reservations : Related first.state.reservations second.state.reservations
     pub answer : shows_others ≡ false → first.answer ≡ second.answer
 
-  -- Two effects do.
+  -- The same for two effects.
   pub record EffectsAgree (first second : Effect) : Type 0 where
     pub rest : with_others first.after second.after.attentions second.after.reservations ≡ second.after
     pub queues : StayEqual p q first.after.attentions second.after.attentions
@@ -213,7 +215,7 @@ module _ (Related : ReservationState → ReservationState → Type 0) (s : State
     answer = λ _. refl;
   }
 
-  -- PERSISTENT RESERVE IN, whose answers differ where the reservations do
+  -- PERSISTENT RESERVE IN, whose answers differ if the reservations do
   pub reporting-agree : (shown : Bool) (action : InAction) (n : ℕ)
       → (shown ≡ false → (executed (reporting s action n)).answer ≡ (executed (reporting t action n)).answer)
       → Steps shown (step_by s i (ReturnReservations action n)) (step_by t i (ReturnReservations action n))

@@ -1,4 +1,4 @@
--- Commands in two states in which a group sees the same.
+-- Commands in two states that look alike to a group.
 use Rattle.std.proofs.Common.{◌≡◌, false, [], ◌∷◌, refl, ap, ◌∙◌, subst}
 use Rattle.std.specs.List.{list_any}
 use Rattle.std.proofs.lemmas.Bool.{eq-eqb, or_left, or_right}

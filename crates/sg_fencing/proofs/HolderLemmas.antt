@@ -38,7 +38,7 @@ pub record HoldsAlone (state : ReservationState) (i : ℕ) : Type 0 where
   pub registered : is_registered state.registrations i ≡ true
   pub unshared : is_shared kind ≡ false
 
--- the same of a reservation in parts
+-- the same for a reservation in parts
 record Held (kind : ReservationType) (holder : Option ℕ) (registered : Bool) (i : ℕ) : Type 0 where
   named : holder ≡ Some i
   here : registered ≡ true

@@ -1,5 +1,5 @@
--- Lists of commands of registrants and others while a reservation is held: those of initiators that are
--- not registered may be left out.
+-- Lists of commands of registrants and others. While a reservation is held, the commands of
+-- initiators that are not registered may be left out.
 use Rattle.std.proofs.Common.{◌≡◌, ℕ, suc, Bool, true, false, cond, not, List, [], ◌∷◌}
 use Rattle.std.proofs.Common.{filter, Result, Ok, Err, refl, sym, ap, ◌∙◌, subst, arith}
 use Rattle.std.specs.List.{zip}
@@ -74,7 +74,7 @@ module _ (state : State) (j : ℕ) (unknown : is_registrant state j ≡ false) w
       step-stands Same state j (λ _. refl) any_action reserving-stays cdb data_out
       (of-any-kind (command_of cdb))
 
--- nothing has changed but unit attentions of j
+-- nothing has changed except unit attentions of j
 record LeavesOthers (j : ℕ) (before after : State) : Type 0 where
   rest : with_attentions before after.attentions ≡ after
   queues : (k : ℕ) → (j ≡ k → ⊥) → pending_for after.attentions k ≡ pending_for before.attentions k
@@ -111,7 +111,7 @@ idle refuses classes state j h w cdb data_out gone =
 
 module _ (limits : LimitsAreKept) (refuses : OthersAreRefused) (classes : CommandsHaveTheirClass)
     (outside : ℕ → Bool) where
-  -- two states that are the same but for unit attentions of those outside
+  -- two states that are the same except for unit attentions of initiators outside
   record LookSame (s t : State) : Type 0 where
     rest : with_attentions s t.attentions ≡ t
     queues : (k : ℕ) → outside k ≡ false → pending_for s.attentions k ≡ pending_for t.attentions k

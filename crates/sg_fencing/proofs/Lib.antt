@@ -1,6 +1,6 @@
 -- Reservations of one holder.
 mod HolderLemmas
--- What PERSISTENT RESERVE OUT leaves of a reservation.
+-- The effect of PERSISTENT RESERVE OUT on a reservation.
 mod ReserveOutLemmas
 mod OwnReserveOutLemmas
 -- From a command to its operation.

@@ -1,4 +1,4 @@
--- Where an initiator becomes registered, the group sees its registration and no other change.
+-- If an initiator becomes registered, the group sees its registration and no other change.
 use Rattle.std.proofs.Common.{◌≡◌, ◌==◌, ℕ, true, false, not, List, length, Option, Some}
 use Rattle.std.proofs.Common.{None, Result, Ok, Err, refl, sym, ap, ◌∙◌, subst}
 use Rattle.std.specs.Prelude.{unwrap_or}
@@ -48,7 +48,7 @@ use Rattle.sg_fencing.proofs.RegistrationLemmas.{not_so, outcome-leaves}
 
 -- ---- The outcome
 
--- there is one registration more, PRGENERATION is incremented, and APTPL is that of the list
+-- there is one registration more, PRGENERATION is incremented, and APTPL becomes the list's value
 pub record Adds (state : ReservationState) (j : ℕ) (list : OutList) (change : ReservationChange)
     : Type 0 where
   pub registrations : change.registrations
@@ -60,7 +60,7 @@ pub record Adds (state : ReservationState) (j : ℕ) (list : OutList) (change : 
 
 module _ (state : ReservationState) (j : ℕ) (unknown : is_registered state.registrations j ≡ false)
     (list : OutList) where
-  -- j's command does so where j is registered afterwards
+  -- j's command does so if j is registered afterwards
   abbrev pub AddsIf : ReservationChange → Type 0
   AddsIf change = is_registered change.registrations j ≡ true → Adds state j list change
 
@@ -93,8 +93,8 @@ module _ (state : ReservationState) (j : ℕ) (unknown : is_registered state.reg
 
 -- ---- The command
 
--- What is true of each refusal, and of each REGISTER and REGISTER AND IGNORE EXISTING KEY with a list, is
--- true of the command with that list.
+-- A fact about each refusal, and about each REGISTER and REGISTER AND IGNORE EXISTING KEY with a
+-- list, holds for the command with that list.
 module _ (state : State) (j : ℕ) (list : OutList) (P : Step → Type 0)
     (refusing : (refusal : Refusal) → P (refused_step state j refusal))
     (registering : (action : OutAction) (scope_type : ℕ) → is_registering action ≡ true
@@ -119,8 +119,8 @@ module _ (state : State) (j : ℕ) (list : OutList) (P : Step → Type 0)
       (λ operation k. by-command k.command data_out operation k.operation_is
       (sym (ap (λ (p : Result Command CdbFault). registering_list p data_out) k.command_is) ∙ h))
 
--- What is true after each change that adds the registration of j is true after j's command, if j is
--- registered then.
+-- A fact that holds after each change that adds the registration of j holds after j's command, if j
+-- is registered then.
 module _ (state : State) (j : ℕ) (unknown : is_registrant state j ≡ false) (list : OutList)
     (Follows : State → Type 0) where
   abbrev IfKnown : State → Type 0

@@ -1,5 +1,5 @@
--- What the operation that a command asks for shows of the command. Of the laws' modules this one alone
--- knows commands, and only those have a case whose operation looks at more than their fields.
+-- The facts about a command that its operation shows. Of the laws' modules only this one knows
+-- commands. A command has a case only if its operation looks at more than its fields.
 use Rattle.std.proofs.Common.{◌≡◌, ℕ, Bool, true, false, List, Option, Some, None, Result, Ok, Err}
 use Rattle.std.proofs.Common.{refl, subst, cond}
 use Rattle.std.specs.Prelude.{if◌then◌else◌}
@@ -27,7 +27,8 @@ use Rattle.sg_target.specs.declared.operation.Operation.TheVariants.{ChangeReser
 use Rattle.sg_target.specs.declared.refusal.Refusal.{Refusal}
 use Rattle.sg_fencing.specs.Fencing.{shows_others}
 
--- the class of the commands that ask for it, where it looks at blocks or changes blocks or modes
+-- the class of the commands that ask for an operation, if it looks at blocks or changes blocks or
+-- modes
 abbrev pub class_for : Operation → Option Class
 class_for (Read extent) = Some Reads
 class_for (ReturnLbaStatus start n) = Some Reads
@@ -40,7 +41,7 @@ class_for (AnchorExtent extent) = Some Writes
 class_for (ChangeModes ten sp list) = Some Writes
 class_for _ = None
 
--- another command than PERSISTENT RESERVE OUT, or that with an action of a kind
+-- another command than PERSISTENT RESERVE OUT, or PERSISTENT RESERVE OUT with an action of a kind
 abbrev pub is_of_kind : (OutAction → Bool) → Result Command CdbFault → Bool
 is_of_kind kind (Ok (command.PersistentReserveOut c)) = kind c.action
 is_of_kind kind _ = true
@@ -54,7 +55,8 @@ shows (ReturnReservations action n) = true
 shows (ChangeReservations action scope_type list) = true
 shows _ = false
 
--- the command is of that class, of each kind that the operation is of, and shows others where it does
+-- the command is of the operation's class and of each of its kinds, and shows others if the
+-- operation does
 pub record Suits (command : Command) (operation : Operation) : Type 0 where
   pub class : (class : Class) → class_for operation ≡ Some class → (layout command).class ≡ class
   pub of_kind : (kind : OutAction → Bool) → is_of_kind kind (Ok command) ≡ true

@@ -1,4 +1,4 @@
--- What the commands of others leave of the holder's view.
+-- The effect of others' commands on the holder's view.
 use Rattle.std.proofs.Common.{◌≡◌, ℕ, true, false, List}
 use Rattle.std.proofs.Common.{Option, Some, None, Result, Ok, Err, refl, sym, ◌∙◌, subst}
 use Rattle.std.specs.Result.{result_map_both}
@@ -79,8 +79,9 @@ changed-keeps state i j w change key reservation unraised =
 
 -- ---- The command
 
--- A command of another initiator j, which the reservation does not allow to write. What PERSISTENT
--- RESERVE OUT does is known to keep them, where a condition holds of the state afterwards.
+-- A command of another initiator j, which the reservation does not allow to write. PERSISTENT
+-- RESERVE OUT is known to keep the view and the identity if a condition holds of the state
+-- afterwards.
 module _ (Where : State → Type 0) (state : State) (i j : ℕ) (other : j ≡ i → ⊥) where
   abbrev pub KeepsWhere : State → Type 0
   KeepsWhere after = Where after → Keeps state after i

@@ -1,4 +1,4 @@
--- What a command of an initiator that is not registered leaves of a disk that is reserved.
+-- The effect of an unregistered initiator's command on a disk that is reserved.
 use Rattle.std.proofs.Common.{◌≡◌, ◌==◌, ℕ, Bool, true, false, not, ◌&&◌, List}
 use Rattle.std.proofs.Common.{Option, Some, None, Result, Ok, Err, refl, sym, ap, ◌∙◌}
 use Rattle.std.specs.Prelude.{is_some}

@@ -1,4 +1,4 @@
--- Lists of commands while a reservation is held: those of initiators that are not registered.
+-- Lists of commands while a reservation is held: the commands of unregistered initiators.
 use Rattle.std.proofs.Common.{◌≡◌, ℕ, zero, suc, Bool, true, false, List}
 use Rattle.std.proofs.Common.{[], ◌∷◌, Option, Some, None, refl, sym, ap, ◌∙◌}
 use Rattle.std.specs.Prelude.{is_some}

@@ -1,4 +1,4 @@
--- The holder's own commands end alike where its views are equal.
+-- The holder's own commands end alike if its views are equal.
 use Rattle.std.proofs.Common.{◌≡◌, ℕ, Bool, true, false, not, ◌||◌, List}
 use Rattle.std.proofs.Common.{get_or, Option, Some, None, Ok, Err, refl, sym, ap}
 use Rattle.std.proofs.Common.{◌∙◌}
@@ -229,7 +229,7 @@ module _ (one : OneKeyEach) (s : State) (a : Pending) (r : ReservationState) (i 
       ∙ (asked-suits s.disk.capacity k.command data_out operation k.operation_is).shown))
       (by-operation operation))
 
--- a command of the holder in two states of one disk where its views are equal
+-- a command of the holder in two states of one disk with equal views
 pub own-alike : OneKeyEach → (first second : State) (i : ℕ) (cdb data_out : List ℕ)
     → IsWithinLimits first → IsWithinLimits second → first.identity ≡ second.identity
     → view_of first i ≡ view_of second i → holds_alone first i ≡ true

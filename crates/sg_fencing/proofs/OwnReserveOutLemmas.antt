@@ -1,5 +1,5 @@
--- What the holder's own PERSISTENT RESERVE OUT leaves of its key and of the reservation depends on
--- these alone.
+-- The effect of the holder's own PERSISTENT RESERVE OUT on its key and on the reservation depends
+-- only on these.
 use Rattle.std.proofs.Common.{◌≡◌, ◌==◌, ℕ, Bool, true, false, cond, not, ◌&&◌, ◌||◌}
 use Rattle.std.proofs.Common.{List}
 use Rattle.std.proofs.Common.{[], ◌∷◌, length, Option, Some, None, Ok, Err, refl, sym, ap, ◌∙◌}
@@ -48,7 +48,7 @@ same-test k key false f g =
     let no = λ (e : k ≡ key). false≢true (g e) in
     grind (arith, nat_tests)
 
--- an initiator is registered under its key alone
+-- an initiator is registered only under its key
 abbrev pub IsUnderAlone : List Registration → (initiator key : ℕ) → Type 0
 IsUnderAlone rs i k = (key : ℕ) → is_registered_under rs i key ≡ (k == key)
 
@@ -311,7 +311,7 @@ module _ (all : List Registration) (kind : ReservationType) (before : Reservatio
       (ap (λ b. left_or b not_own left) no ∙ ap (λ b. left_or false b left) (sym is_own ∙ accepted))
       (action_leaves action (type_of scope_type) list.service_action_key list.aptpl one key)))
 
--- So it leaves the same of two tables in which i has the same key.
+-- So its effect on two tables that have the same key for i is the same.
 pub own_agrees : (all rest : List Registration) (kind : ReservationType)
     (first second : ReservationState) (i k : ℕ) (action : OutAction) (scope_type : ℕ) (list : OutList)
     → IsUnderAlone all i k → key_of all i ≡ Some k
@@ -326,7 +326,7 @@ own_agrees all rest kind first second i k action scope_type list one key one' ke
 
 -- ---- Access
 
--- What i is allowed follows from whether it is registered and from the reservation.
+-- The reservation, and whether i is registered, decide what i is allowed.
 standing-by : (held : Option Reservation) (all rest : List Registration) (first second : ReservationState)
     (i : ℕ)
     → is_registered all i ≡ is_registered rest i

@@ -1,4 +1,4 @@
--- Which commands decide whether registrations and reservation persist through a power loss.
+-- The commands that decide whether registrations and reservation persist through a power loss.
 use Rattle.std.proofs.Common.{◌≡◌, ◌==◌, ℕ, zero, suc, ◌+◌, Bool, true, false, not, ◌&&◌, ◌||◌}
 use Rattle.std.proofs.Common.{List, [], ◌∷◌, Option, Some, None, Result}
 use Rattle.std.proofs.Common.{Ok, Err, refl, sym, ap, ◌∙◌, cond, take}

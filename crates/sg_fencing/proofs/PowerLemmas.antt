@@ -1,4 +1,4 @@
--- Power cycles, alone and among commands.
+-- Power cycles, by themselves and among commands.
 use Rattle.std.proofs.Common.{◌≡◌, ◌<◌, ℕ, suc, Bool, true, false, List, [], ◌∷◌, Option, Some}
 use Rattle.std.proofs.Common.{refl, ap, ◌∙◌}
 use Rattle.std.specs.Prelude.{if◌then◌else◌}

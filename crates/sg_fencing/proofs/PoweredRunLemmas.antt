@@ -1,5 +1,5 @@
--- Over a list of commands and power cycles the holder's view and its answers are those of its commands
--- and the power cycles alone.
+-- Over a list of commands and power cycles the holder's view and its answers depend only on its
+-- commands and the power cycles.
 use Rattle.std.proofs.Common.{◌≡◌, ℕ, suc, Bool, true, false, cond, ◌&&◌, List, [], ◌∷◌, Some}
 use Rattle.std.proofs.Common.{filter, take, refl, sym, ap, ◌∙◌, zero}
 use Rattle.std.specs.List.{zip}

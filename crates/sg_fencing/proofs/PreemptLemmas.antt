@@ -67,7 +67,7 @@ module _ (keep : Registration → Bool) (i key : ℕ)
       → is_registered_under (r ∷ rs) i r.key ≡ true
   under-own r rs is = grind (arith, nat_tests)
 
-  -- it is removed where i is registered under the key alone
+  -- it is removed if i is registered only under the key
   removed : (rs : List Registration)
       → ((k : ℕ) → is_registered_under rs i k ≡ true → key ≡ k)
       → is_registered (filter keep rs) i ≡ false

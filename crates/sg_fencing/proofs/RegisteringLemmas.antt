@@ -1,4 +1,4 @@
--- Who becomes registered: an initiator by its own command that asks for it and ends with GOOD.
+-- An initiator becomes registered only by its own command that asks for it and ends with GOOD.
 use Rattle.std.proofs.Common.{◌≡◌, ◌==◌, ℕ, zero, suc, Bool, true, false, cond, not, List, [], ◌∷◌}
 use Rattle.std.proofs.Common.{Option, Some, None, Result, Ok, Err, refl, sym, ap, ◌∙◌, subst}
 use Rattle.std.specs.Option.{option_map_or}

@@ -1,5 +1,5 @@
--- What PERSISTENT RESERVE OUT does where an initiator is not registered: its own command leaves all
--- but its own registration, and nobody else's registers it.
+-- The effect of PERSISTENT RESERVE OUT if an initiator is not registered. Its own command leaves
+-- all except its own registration, and no other initiator's command registers it.
 use Rattle.std.proofs.Common.{◌≡◌, ◌==◌, ℕ, Bool, true, false, cond, not, ◌&&◌, ◌||◌, List}
 use Rattle.std.proofs.Common.{[], ◌∷◌, filter, Option, None, Ok, refl, sym, ap, ◌∙◌}
 use Rattle.std.specs.Prelude.{if◌then◌else◌, is_some}

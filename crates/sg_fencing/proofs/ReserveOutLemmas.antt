@@ -1,5 +1,5 @@
--- What PERSISTENT RESERVE OUT leaves of the one holder of a reservation: its key, the reservation,
--- and its unit attentions.
+-- The effect of PERSISTENT RESERVE OUT on the one holder of a reservation: on its key, the
+-- reservation, and its unit attentions.
 use Rattle.std.proofs.Common.{◌≡◌, ◌==◌, ℕ, Bool, true, false, cond, not, ◌&&◌, ◌||◌, List}
 use Rattle.std.proofs.Common.{[], ◌∷◌, filter, Option, Some, None, Ok, refl, sym, ap, ◌∙◌, arith}
 use Rattle.std.specs.Prelude.{find, if◌then◌else◌, is_some, option_map}
@@ -52,7 +52,7 @@ key_of-push (r ∷ rs) i j key h =
     key_of-cons r (with_registration rs j key) i
     ∙ (ap (cond (is_of i r) (Some r.key)) (key_of-push rs i j key h) ∙ sym (key_of-cons r rs i))
 
--- a filter that keeps what is i's
+-- a filter that keeps i's registrations
 filter_key : (r : Registration) (i : ℕ) (b : Bool) (ys : List Registration) (was : Option ℕ)
     → (is_of i r ≡ true → b ≡ true) → key_of ys i ≡ was
     → key_of (cond b (r ∷ ys) ys) i ≡ cond (is_of i r) (Some r.key) was
@@ -163,7 +163,7 @@ is_one_holder held i =
     option_map_or (λ (r : Reservation). option_map_or (λ holder. holder == i) r.holder false) held
     false
 
--- the other fields are those of a state
+-- the other fields are as in a state
 abbrev pub alone_in : List Registration → ReservationType → (holder : ℕ) → ReservationState
     → ReservationState
 alone_in all kind i state =
@@ -186,7 +186,7 @@ pub record IsLeft (all : List Registration) (held : Option Reservation) (i j : �
   pub reservation : change.reservation ≡ held
   pub unraised : raised_for all j change i ≡ None
 
--- they are so where i is the one holder afterwards
+-- they are so if i is the one holder afterwards
 abbrev pub IsLeftIfHolder : List Registration → Option Reservation → (i j : ℕ) → ReservationChange
     → Type 0
 IsLeftIfHolder all held i j change =

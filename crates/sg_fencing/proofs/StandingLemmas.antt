@@ -1,5 +1,5 @@
--- What commands leave of registrations and reservation: those of others, but CLEAR and PREEMPT, leave
--- a reservation as it was.
+-- The effect of commands on registrations and reservation. Commands of others, except CLEAR and
+-- PREEMPT, leave a reservation as it was.
 use Rattle.std.proofs.Common.{◌≡◌, ℕ, Bool, true, false, not, List, ◌&&◌, ◌||◌}
 use Rattle.std.proofs.Common.{Option, Some, None, Result, Ok, Err, refl, sym, ap, ◌∙◌, subst}
 use Rattle.std.proofs.lemmas.Bool.{ne_eqb, not-true}
@@ -41,8 +41,8 @@ use Rattle.sg_fencing.specs.Fencing.{can_end_for_others, holds_alone}
 use Rattle.sg_fencing.proofs.HolderLemmas.{HoldsAlone}
 use Rattle.sg_fencing.proofs.OperationLemmas.{asked-suits, fits, is_of_kind}
 
--- What is true of the reservations, and of them after each PERSISTENT RESERVE OUT of some kind, is
--- true after each command, but for PERSISTENT RESERVE OUT of another kind.
+-- Suppose that a fact holds of the reservations, and of them after each PERSISTENT RESERVE OUT of
+-- some kind. Then it holds after each command, except PERSISTENT RESERVE OUT of another kind.
 module _ (Stands : ReservationState → Type 0) (state : State) (j : ℕ)
     (same : Stands state.reservations) where
   abbrev pub EffectStands : Result Effect Refusal → Type 0

@@ -1,5 +1,5 @@
--- Over lists of commands what the blocks are shows in nothing else, nor in the answers to an initiator
--- that may neither read nor write.
+-- Over lists of commands, the blocks have no effect on the rest of the state. They have none on the
+-- answers to an initiator that may neither read nor write.
 use Rattle.std.proofs.Common.{◌≡◌, ◌≤◌, ℕ, suc, Bool, true, false, cond, List, [], ◌∷◌}
 use Rattle.std.proofs.Common.{filter, Option, Some, None, Result, Ok, Err, refl, sym, ap, ◌∙◌}
 use Rattle.std.proofs.Common.{subst}
@@ -49,7 +49,7 @@ use Rattle.sg_fencing.proofs.UnseenLemmas.{fits, parse-same, unseen}
 
 -- ---- One command
 
--- two states are the same but for the blocks
+-- two states are the same except for the blocks
 abbrev DifferInBlocks : State → State → Type 0
 DifferInBlocks a b = with_contents a b.disk.contents ≡ b
 
@@ -85,7 +85,7 @@ module _ (s : State) (x : Contents) (i : ℕ) (fit : len s.disk.contents ≤ s.d
   second-like second f true = refl
   second-like second f false = f
 
-  -- effects that change blocks alone, whether there is space for them or not
+  -- effects that change only blocks, whether there is space for them or not
   changing : (first second : Effect) → IsLike first.after → IsLike second.after
       → StepsDiffer (outcome s i (Ok first)) (outcome t i (Ok second))
   unfolding no_space

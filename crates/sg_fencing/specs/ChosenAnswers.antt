@@ -14,13 +14,13 @@ calls_among [] = []
 calls_among (event.Call call ∷ events) = call ∷ calls_among events
 calls_among (event.Power ∷ events) = calls_among events
 
--- The answers to those that are chosen, in order.
+-- The answers to the chosen commands, in order.
 abbrev pub answers_among : (chosen : Call → Bool) → State → List Event → List Answer
 answers_among chosen state events =
     map (λ (exchange : Call × Answer). exchange.1)
     (filter (λ (exchange : Call × Answer). chosen exchange.0)
     (zip (calls_among events) (answers_to_events state events)))
 
--- So it is for commands alone.
+-- The same over a list of only commands.
 abbrev pub answers_where : (chosen : Call → Bool) → State → List Call → List Answer
 answers_where chosen state calls = answers_among chosen state (all_calls calls)

@@ -30,8 +30,8 @@ use Rattle.sg_fencing.specs.ChosenAnswers.{answers_where}
 
 -- ---- Words
 
--- What an initiator sees of the disk: the blocks, the mode pages, the unit attentions that are
--- pending for it, its reservation key, and the reservation.
+-- The view that an initiator has of the disk: the blocks, the mode pages, its pending unit
+-- attentions, its reservation key, and the reservation.
 pub record View : Type 0 where
   pub disk : Disk
   pub modes : ModeState
@@ -75,8 +75,9 @@ OthersLeaveTheView =
     → holds_alone (step state other cdb data_out).state holder ≡ true
     → view_of (step state other cdb data_out).state holder ≡ view_of state holder
 
--- A command of the holder ends with equal views in two states of one disk where its views are
--- equal, and with equal answers, but to PERSISTENT RESERVE IN and PERSISTENT RESERVE OUT.
+-- Suppose that the holder has equal views in two states of one disk. Then its command ends with
+-- equal views in both, and with equal answers, except to PERSISTENT RESERVE IN and PERSISTENT
+-- RESERVE OUT.
 pub record EndAlike (holder : ℕ) (cdb : List ℕ) (first second : Step) : Type 0 where
   pub view : view_of first.state holder ≡ view_of second.state holder
   pub answer : shows_others (command_of cdb) ≡ false → first.answer ≡ second.answer
@@ -88,8 +89,8 @@ EqualViewsEndAlike =
     → view_of first holder ≡ view_of second holder → holds_alone first holder ≡ true
     → EndAlike holder cdb (step first holder cdb data_out) (step second holder cdb data_out)
 
--- No command of another initiator that writes ends with GOOD, and under exclusive access none that
--- reads, such as READ.
+-- No command of another initiator that writes ends with GOOD. Under exclusive access, no command
+-- that reads, such as READ, does either.
 pub record IsShutOut (state : State) (holder other : ℕ) (cdb data_out : List ℕ) : Type 0 where
   pub writes : class_of cdb ≡ Some Writes
       → (step state other cdb data_out).answer.status ≡ Good → ⊥
@@ -116,7 +117,7 @@ OnlyPreemptionEnds =
     → holds_alone (step state other cdb data_out).state holder ≡ true
 
 -- Under exclusive access the answer to a command of another initiator is the same whatever the
--- blocks are, and whichever are mapped. So it is for each command, of whichever class.
+-- blocks are, and whichever are mapped. This holds for each command, of whichever class.
 abbrev pub OthersSeeNoBlock : Type 0
 OthersSeeNoBlock =
     (state : State) (contents : Contents) (holder other : ℕ) (cdb data_out : List ℕ)
@@ -134,29 +135,29 @@ is_from initiator call = call.initiator == initiator
 abbrev pub calls_of : (initiator : ℕ) → List Call → List Call
 calls_of initiator calls = filter (is_from initiator) calls
 
--- Those of them whose answers are compared: all but PERSISTENT RESERVE IN and PERSISTENT RESERVE
--- OUT.
+-- The calls of the initiator whose answers are compared: all except PERSISTENT RESERVE IN and
+-- PERSISTENT RESERVE OUT.
 abbrev pub is_compared : (initiator : ℕ) → Call → Bool
 is_compared initiator call =
     is_from initiator call && not (shows_others (command_of call.cdb.now))
 
--- The view of an initiator in the end, and the answers that are compared, are those after its calls
--- alone.
+-- The view of an initiator in the end, and the answers that are compared, are the same as in a run
+-- of only its calls.
 pub record IsAsIfAlone (state : State) (initiator : ℕ) (calls : List Call) : Type 0 where
   pub view : view_of (state_after_all state calls) initiator
       ≡ view_of (state_after_all state (calls_of initiator calls)) initiator
   pub answers : answers_where (is_compared initiator) state calls
       ≡ answers_where (is_compared initiator) state (calls_of initiator calls)
 
--- So it is where the initiator holds such a reservation before and after each call.
+-- This holds if the initiator holds such a reservation before and after each call.
 abbrev pub HolderIsAsIfAlone : Type 0
 HolderIsAsIfAlone =
     (state : State) (holder : ℕ) (calls : List Call) → IsWithinLimits state
     → ((n : ℕ) → holds_alone (state_after_all state (take n calls)) holder ≡ true)
     → IsAsIfAlone state holder calls
 
--- While an initiator holds a reservation for exclusive access, no command of another that reads, such
--- as READ, ends with GOOD.
+-- While an initiator holds a reservation for exclusive access, no command of another that reads,
+-- such as READ, ends with GOOD.
 abbrev pub OthersReadNothing : Type 0
 OthersReadNothing =
     (state : State) (holder : ℕ) (calls : List Call) (n : ℕ) (call : Call) (answer : Answer)

@@ -1,5 +1,5 @@
--- The group of a disk. Its registrants see a view together, and nothing else. A new registration changes
--- that view in one place. The commands of those outside may be left out.
+-- The group of a disk. Its registrants see a view together, and nothing more. A new registration
+-- changes that view in one place. The commands of initiators outside may be left out.
 use Rattle.std.specs.Prelude.{◌≡◌, ℕ, ◌+◌, ◌%◌, ◌^◌, Bool, true, false, not, List, filter}
 use Rattle.std.specs.Prelude.{slice_get, take, Option, Some}
 use Rattle.std.specs.List.{list_any}
@@ -23,10 +23,10 @@ use Rattle.sg_fencing.specs.Registrants.{registering_list}
 -- ---- What a group sees
 
 -- The registrants of a disk see these together (SPC-4, 6.15):
--- - the blocks and the mode pages
--- - by READ KEYS and READ FULL STATUS, who is registered under which key, in the order of registration,
---   and PRGENERATION
--- - by READ RESERVATION, the reservation
+-- - the blocks and the mode pages.
+-- - by READ KEYS and READ FULL STATUS, who is registered under which key, in the order of
+--   registration, and PRGENERATION.
+-- - by READ RESERVATION, the reservation.
 -- - by REPORT CAPABILITIES, whether these persist through a power loss.
 -- Unit attentions are not among them: each initiator has its own.
 pub record GroupView : Type 0 where
@@ -47,8 +47,8 @@ group_view state = record {
   persists = state.reservations.persists_through_power_loss;
 }
 
--- A command of an initiator ends alike in two states: with equal answers, and the group sees the same
--- afterwards. Each initiator that had equal unit attentions in both has equal ones again.
+-- A command of an initiator ends alike in two states: with equal answers, and the group sees the
+-- same afterwards. Each initiator that had equal unit attentions in both has equal ones again.
 pub record EndAlikeForGroup (before before' : State) (done done' : Step) : Type 0 where
   pub answer : done.answer ≡ done'.answer
   pub group : group_view done.state ≡ group_view done'.state
@@ -57,9 +57,9 @@ pub record EndAlikeForGroup (before before' : State) (done done' : Step) : Type 
       → pending_for before.attentions other ≡ pending_for before'.attentions other
       → pending_for done.state.attentions other ≡ pending_for done'.state.attentions other
 
--- So it is if the group sees the same in both states of one disk, and the same unit attentions are
--- pending for the initiator. So no answer shows more than that, and no command depends on more, not even
--- PERSISTENT RESERVE IN and PERSISTENT RESERVE OUT.
+-- This holds if the group sees the same in both states of one disk, and the same unit attentions
+-- are pending for the initiator. So no answer shows more than that, and no command depends on more,
+-- not even PERSISTENT RESERVE IN and PERSISTENT RESERVE OUT.
 abbrev pub EqualGroupViewsEndAlike : Type 0
 EqualGroupViewsEndAlike =
     (first second : State) (initiator : ℕ) (cdb data_out : List ℕ)
@@ -68,14 +68,14 @@ EqualGroupViewsEndAlike =
     → EndAlikeForGroup first second (step first initiator cdb data_out)
     (step second initiator cdb data_out)
 
--- Over a list of commands of some initiators the answers are equal, and the group sees the same in the
--- end.
+-- Over a list of commands of some initiators the answers are equal, and the group sees the same in
+-- the end.
 pub record RunAlikeForGroup (first second : State) (calls : List Call) : Type 0 where
   pub answers : answers first calls ≡ answers second calls
   pub group : group_view (state_after_all first calls) ≡ group_view (state_after_all second calls)
 
--- So it is if at first the group sees the same, and the same unit attentions are pending for each of
--- these initiators.
+-- This holds if at first the group sees the same, and the same unit attentions are pending for each
+-- of these initiators.
 abbrev pub EqualGroupViewsRunAlike : Type 0
 EqualGroupViewsRunAlike =
     (first second : State) (calls : List Call)
@@ -86,8 +86,8 @@ EqualGroupViewsRunAlike =
 
 -- ---- A new registration
 
--- There is one registration more, at the end; PRGENERATION, which has 32 bits, is incremented; and APTPL
--- is that of the parameter list (SPC-4, 5.13, registering).
+-- There is one registration more, at the end. PRGENERATION, which has 32 bits, is incremented.
+-- APTPL becomes the value in the parameter list (SPC-4, 5.13, registering).
 abbrev pub with_newcomer : GroupView → (initiator : ℕ) → OutList → GroupView
 with_newcomer view initiator list = record view {
   registrations = with_registration view.registrations initiator list.service_action_key;
@@ -95,13 +95,13 @@ with_newcomer view initiator list = record view {
   persists = list.aptpl;
 }
 
--- The group sees no other change, and no other initiator sees one in its own view: no unit attention
--- is established for it.
+-- The group sees no other change, and no other initiator sees one in its own view: no unit
+-- attention is established for it.
 pub record IsSeen (before after : State) (initiator : ℕ) (list : OutList) : Type 0 where
   pub group : group_view after ≡ with_newcomer (group_view before) initiator list
   pub others : (other : ℕ) → (initiator ≡ other → ⊥) → view_of after other ≡ view_of before other
 
--- So it is where an initiator that was not registered is so after a command of its own.
+-- This holds if an initiator that was not registered is registered after a command of its own.
 abbrev pub NewcomersAreSeen : Type 0
 NewcomersAreSeen =
     (state : State) (initiator : ℕ) (cdb data_out : List ℕ) (list : OutList) → IsWithinLimits state
@@ -122,9 +122,9 @@ calls_inside outside calls = filter (is_from_inside outside) calls
 abbrev pub answers_inside : (outside : ℕ → Bool) → State → List Call → List Answer
 answers_inside outside state calls = answers_where (is_from_inside outside) state calls
 
--- The calls from outside may be left out: the answers to all others are the same without them, also
--- to PERSISTENT RESERVE IN and PERSISTENT RESERVE OUT, and in the end so are what the group sees and
--- the view of each of the others.
+-- The calls from outside may be left out. Without them the answers to all others are the same, even
+-- to PERSISTENT RESERVE IN and PERSISTENT RESERVE OUT. In the end the group sees the same, and each
+-- of the others has the same view.
 pub record IsAsIfInsideAlone (outside : ℕ → Bool) (state : State) (calls : List Call) : Type 0 where
   pub answers : answers_inside outside state calls ≡ answers state (calls_inside outside calls)
   pub group : group_view (state_after_all state calls)
@@ -139,8 +139,8 @@ IsReservedFrom outside state calls =
     (n : ℕ) (call : Call) → slice_get calls n ≡ Some call → outside call.initiator ≡ true
     → is_reserved (state_after_all state (take n calls)) ≡ true
 
--- So it is over each list of commands, of registrants and others in any order, for any initiators that
--- stay unregistered.
+-- This holds over each list of commands, of registrants and others in any order, for any initiators
+-- that stay unregistered.
 abbrev pub OutsidersMayBeLeftOut : Type 0
 OutsidersMayBeLeftOut =
     (outside : ℕ → Bool) (state : State) (calls : List Call) → IsWithinLimits state

@@ -20,7 +20,7 @@ OnlyWritesChangeBlocks =
     → effect_of state initiator operation ≡ Ok effect
     → effect.after.disk ≡ state.disk
 
--- Nothing has changed, but that the oldest unit attention of an initiator may have been cleared.
+-- Nothing has changed, except that the oldest unit attention of an initiator may have been cleared.
 -- The reservations of a state are its registrations, its reservation, PRGENERATION and APTPL.
 pub record IsKept (before after : State) (initiator : ℕ) : Type 0 where
   pub identity : after.identity ≡ before.identity
@@ -30,15 +30,15 @@ pub record IsKept (before after : State) (initiator : ℕ) : Type 0 where
   pub attentions : (after.attentions ≡ before.attentions)
       ⊎ (after.attentions ≡ without_oldest before.attentions initiator)
 
--- A command that does not end with GOOD changes no block, mode page, registration or reservation,
--- nor PRGENERATION.
+-- A command that does not end with GOOD leaves blocks, mode pages, registrations, reservation and
+-- PRGENERATION as they are.
 abbrev pub RefusedChangesNothing : Type 0
 RefusedChangesNothing =
     (state : State) (initiator : ℕ) (cdb data_out : List ℕ)
     → ((step state initiator cdb data_out).answer.status ≡ Good → ⊥)
     → IsKept state (step state initiator cdb data_out).state initiator
 
--- It returns no data-in either.
+-- Such a command returns no data-in either.
 abbrev pub RefusedReturnsNothing : Type 0
 RefusedReturnsNothing =
     (state : State) (initiator : ℕ) (cdb data_out : List ℕ)
@@ -52,8 +52,8 @@ ConflictChangesNothing =
     → (step state initiator cdb data_out).answer.status ≡ ReservationConflict
     → (step state initiator cdb data_out).state ≡ state
 
--- Where no unit attention is pending for an initiator, each of its commands of a class that the
--- reservation does not allow it ends with RESERVATION CONFLICT, whatever else is wrong with it.
+-- A command of a class that the reservation forbids its initiator ends with RESERVATION CONFLICT,
+-- unless a unit attention is pending for the initiator. Other faults of the command do not matter.
 abbrev pub RefusedByReservation : Type 0
 RefusedByReservation =
     (state : State) (initiator : ℕ) (cdb data_out : List ℕ) (class : Class)

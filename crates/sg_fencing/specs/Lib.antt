@@ -1,4 +1,4 @@
--- What the laws cite, in the order in which it is read best.
+-- Modules that the laws cite. Read them in this order.
 pub mod Laws
 pub mod ChosenAnswers
 pub mod Fencing

@@ -26,7 +26,8 @@ use Rattle.sg_fencing.specs.Registrants.{registering_list}
 abbrev pub persists : State → Bool
 persists state = state.reservations.persists_through_power_loss
 
--- The blocks are as they were, and the saved mode pages are the current ones and still the saved ones.
+-- The blocks are as they were, and the saved mode pages are the current ones and still the saved
+-- ones.
 pub record KeepsBlocksAndSavedPages (before after : State) : Type 0 where
   pub blocks : after.disk ≡ before.disk
   pub current : after.modes.current ≡ before.modes.saved
@@ -36,8 +37,8 @@ abbrev pub BlocksAndSavedPagesStay : Type 0
 BlocksAndSavedPagesStay =
     (state : State) → KeepsBlocksAndSavedPages state (after_power_cycle state)
 
--- Where they persist, the registrations are as they were, and the reservation is, and they persist
--- through the next power loss too. PRGENERATION begins again (SPC-4, 6.15.2).
+-- If they persist, the registrations and the reservation are as they were, and persist through the
+-- next power loss too. PRGENERATION begins again (SPC-4, 6.15.2).
 pub record KeepsReservations (before after : State) : Type 0 where
   pub registrations : after.reservations.registrations ≡ before.reservations.registrations
   pub reservation : after.reservations.reservation ≡ before.reservations.reservation
@@ -48,7 +49,7 @@ abbrev pub PersistentOnesStay : Type 0
 PersistentOnesStay =
     (state : State) → persists state ≡ true → KeepsReservations state (after_power_cycle state)
 
--- And else there are none, as on a new disk.
+-- Otherwise there are none, as on a new disk.
 pub record HasNoReservations (state : State) : Type 0 where
   pub registrations : state.reservations.registrations ≡ []
   pub reservation : state.reservations.reservation ≡ None
@@ -65,15 +66,15 @@ PowerOnIsPendingForEach =
     (state : State) (initiator : ℕ) → initiator < initiator_count
     → pending_for (after_power_cycle state).attentions initiator ≡ PowerOn ∷ []
 
--- Two in a row are as one.
+-- Two power cycles in a row are as one.
 abbrev pub TwoAreOne : Type 0
 TwoAreOne =
     (state : State) → after_power_cycle (after_power_cycle state) ≡ after_power_cycle state
 
 -- ---- Lists of events
 
--- A REGISTER or a REGISTER AND IGNORE EXISTING KEY counts if it ends with GOOD, and increments PRGENERATION
--- then. It does not count if its initiator is not registered and sends the key zero.
+-- A REGISTER or a REGISTER AND IGNORE EXISTING KEY counts if it ends with GOOD, and increments
+-- PRGENERATION then. It does not count if its initiator is not registered and sends the key zero.
 pub record Counts (state : State) (call : Call) (list : OutList) : Type 0 where
   pub sent : registering_list (command_of call.cdb.now) call.data_out.now ≡ Some list
   pub good : (step_of state call).answer.status ≡ Good
@@ -85,9 +86,9 @@ NoneCountsFrom index state events =
     (n : ℕ) (call : Call) (list : OutList) → index ≤ n → slice_get events n ≡ Some (event.Call call)
     → Counts (state_after_events state (take n events)) call list → ⊥
 
--- Commands and power cycles happen in any order. Afterwards registrations and reservation persist through
--- a power loss exactly if the last command that counts set APTPL (SPC-4, 6.16.3). If none counts, they
--- persist exactly if they did before.
+-- Commands and power cycles happen in any order. Afterwards registrations and reservation persist
+-- through a power loss exactly if the last command that counts set APTPL (SPC-4, 6.16.3). If none
+-- counts, they persist exactly if they did before.
 pub record TheLastRegisterDecides : Type 0 where
   pub last : (state : State) (events : List Event) (n : ℕ) (call : Call) (list : OutList)
       → slice_get events n ≡ Some (event.Call call)
@@ -97,10 +98,10 @@ pub record TheLastRegisterDecides : Type 0 where
   pub none : (state : State) (events : List Event) → NoneCountsFrom 0 state events
       → persists (state_after_events state events) ≡ persists state
 
--- An initiator was not registered, and the disk has granted it no registration since, whatever commands
--- and power cycles happened. Then it writes nothing while a reservation is held: none of its commands
--- that write ends with GOOD. So a node that was fenced off stays so, whoever loses power, and
--- however often it tries to register.
+-- An initiator was not registered, and the disk has granted it no registration since, whatever
+-- commands and power cycles happened. Then it writes nothing while a reservation is held: none of
+-- its commands that write ends with GOOD. So a node that was fenced off stays so, whoever loses
+-- power, and however often it tries to register.
 abbrev pub FencedOffThroughPowerCycles : Type 0
 FencedOffThroughPowerCycles =
     (state : State) (initiator : ℕ) (events : List Event) (call : Call)
@@ -123,17 +124,18 @@ PersistAtPowerCycles state events =
     (n : ℕ) → slice_get events n ≡ Some event.Power
     → persists (state_after_events state (take n events)) ≡ true
 
--- The view of an initiator in the end, and the answers that are compared, are those after its
--- commands and the power cycles alone.
+-- The view of an initiator in the end, and the compared answers, are the same as after only its
+-- commands and the power cycles.
 pub record IsAsIfAloneAmong (state : State) (initiator : ℕ) (events : List Event) : Type 0 where
   pub view : view_of (state_after_events state events) initiator
       ≡ view_of (state_after_events state (events_of initiator events)) initiator
   pub answers : answers_among (is_compared initiator) state events
       ≡ answers_among (is_compared initiator) state (events_of initiator events)
 
--- So it is where the initiator holds a reservation of a type that nobody shares before and after each
--- event, and where its own commands alone would have left it one that persists at each power cycle. The
--- first does not say the second: a REGISTER of another initiator sets APTPL for all.
+-- This holds under two conditions. The initiator holds a reservation of a type that nobody shares
+-- before and after each event. In a run of only its own commands and the power cycles,
+-- registrations and reservation persist at each power cycle. The first condition does not imply the
+-- second: a REGISTER of another initiator sets APTPL for all.
 abbrev pub HolderIsAsIfAloneThroughPowerCycles : Type 0
 HolderIsAsIfAloneThroughPowerCycles =
     (state : State) (holder : ℕ) (events : List Event) → IsWithinLimits state

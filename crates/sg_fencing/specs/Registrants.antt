@@ -1,6 +1,6 @@
 -- Fencing by registration: what an initiator that is not registered can do while a reservation is
--- held. So a cluster fences a node off under the types registrants only and all registrants, whose
--- registrants all may write: another node removes its registration by PREEMPT.
+-- held. Under the types registrants only and all registrants, all registrants may write. So a
+-- cluster fences a node off under these types: another node removes its registration by PREEMPT.
 use Rattle.std.specs.Prelude.{◌≡◌, ◌≤◌, ◌==◌, ℕ, Bool, true, false, ◌&&◌, not, List, Option, Some}
 use Rattle.std.specs.Prelude.{Result, Ok, None, if◌then◌else◌}
 use Rattle.std.specs.Prelude.{is_some, slice_get, take}
@@ -65,8 +65,8 @@ registering_list (Ok (PersistentReserveOut c)) data_out =
     if is_registering c.action then Some (out_list (first_bytes c.list_length data_out)) else None
 registering_list _ data_out = None
 
--- Such a command asks to register its initiator if its key is not zero. With the key zero it asks to
--- unregister its initiator (SPC-4, 5.13, registering and unregistering).
+-- Such a command asks to register its initiator if its key is not zero. With the key zero it asks
+-- to unregister its initiator (SPC-4, 5.13, registering and unregistering).
 abbrev pub asks_to_register : Result Command CdbFault → (data_out : List ℕ) → Bool
 asks_to_register command data_out =
     option_map_or (λ (list : OutList). not (list.service_action_key == 0))
@@ -87,8 +87,8 @@ preempted_key _ data_out = None
 
 -- ---- One command
 
--- No command of an initiator that is fenced off ends with GOOD where it writes, nor under exclusive
--- access where it reads, such as READ.
+-- No command that writes of an initiator that is fenced off ends with GOOD. Under exclusive access,
+-- no command that reads, such as READ, does either.
 pub record IsKeptOut (state : State) (initiator : ℕ) (cdb data_out : List ℕ) : Type 0 where
   pub writes : class_of cdb ≡ Some Writes
       → (step state initiator cdb data_out).answer.status ≡ Good → ⊥
@@ -101,7 +101,7 @@ FencedOffAreKeptOut =
     (state : State) (initiator : ℕ) (cdb data_out : List ℕ)
     → is_fenced_off state initiator ≡ true → IsKeptOut state initiator cdb data_out
 
--- Its command leaves the view of every other initiator, registered or not.
+-- Its command leaves the view of every other initiator, registered or not, as it was.
 abbrev pub FencedOffLeaveTheView : Type 0
 FencedOffLeaveTheView =
     (state : State) (initiator other : ℕ) (cdb data_out : List ℕ) → IsWithinLimits state
@@ -146,8 +146,8 @@ PreemptedAreUnregistered =
 
 -- ---- Who stays unregistered
 
--- An initiator stays unregistered in a list: before each of its own commands it is not registered, and
--- after each it is not either. It may send REGISTER, which the disk refuses.
+-- An initiator stays unregistered in a list: before each of its own commands it is not registered,
+-- and after each it is not either. It may send REGISTER, which the disk refuses.
 abbrev pub StaysUnregistered : (initiator : ℕ) → State → List Call → Type 0
 StaysUnregistered initiator state calls =
     (n : ℕ) (call : Call) → slice_get calls n ≡ Some call → call.initiator ≡ initiator →
@@ -155,8 +155,8 @@ StaysUnregistered initiator state calls =
     (is_registrant before initiator ≡ false)
     × (is_registrant (step_of before call).state initiator ≡ false))
 
--- The disk grants an initiator no registration: of its own commands that ask to register it, none ends
--- with GOOD.
+-- The disk grants an initiator no registration: of its own commands that ask to register it, none
+-- ends with GOOD.
 abbrev pub IsNeverGranted : (initiator : ℕ) → State → List Event → Type 0
 IsNeverGranted initiator state events =
     (n : ℕ) (call : Call) → slice_get events n ≡ Some (event.Call call)
@@ -164,8 +164,9 @@ IsNeverGranted initiator state events =
     → asks_to_register (command_of call.cdb.now) call.data_out.now ≡ true
     → (step_of (state_after_events state (take n events)) call).answer.status ≡ Good → ⊥
 
--- Then an initiator that is not registered stays unregistered. It may send REGISTER with the key that it
--- had, which the disk refuses. It may also send the key zero, which ends with GOOD and registers nobody.
+-- Then an initiator that is not registered stays unregistered. It may send REGISTER with the key
+-- that it had, which the disk refuses. It may also send the key zero, which ends with GOOD and
+-- registers nobody.
 abbrev pub TheRefusedStayUnregistered : Type 0
 TheRefusedStayUnregistered =
     (state : State) (initiator : ℕ) (calls : List Call) → is_registrant state initiator ≡ false
@@ -174,8 +175,8 @@ TheRefusedStayUnregistered =
 
 -- ---- Lists of commands
 
--- A command of a class does not end with GOOD if the state before it meets a condition and its initiator
--- is not registered in that state. So it is for each command of a list.
+-- A command of a class does not end with GOOD if the state before it meets a condition and its
+-- initiator is unregistered there. This holds for each command of a list.
 abbrev pub NoneIsServed : Class → (condition : State → Bool) → Type 0
 NoneIsServed class condition =
     (state : State) (calls : List Call) (n : ℕ) (call : Call) (answer : Answer)
@@ -200,8 +201,8 @@ ExcludesReadingFrom initiator state calls =
     (n : ℕ) (call : Call) → slice_get calls n ≡ Some call → call.initiator ≡ initiator
     → excludes_reading (state_after_all state (take n calls)).reservations.reservation ≡ true
 
--- Then an initiator that stays unregistered sees no block, whatever the others write. The answers to it
--- are the same whatever the blocks were before the list, and whichever were mapped.
+-- Then an initiator that stays unregistered sees no block, whatever the others write. The answers
+-- to it are the same whatever the blocks were before the list, and whichever were mapped.
 abbrev pub NoBlockIsSeenOverAList : Type 0
 NoBlockIsSeenOverAList =
     (state : State) (contents : Contents) (initiator : ℕ) (calls : List Call)
@@ -210,8 +211,8 @@ NoBlockIsSeenOverAList =
     → answers_where (is_from initiator) (with_contents state contents) calls
     ≡ answers_where (is_from initiator) state calls
 
--- So after a PREEMPT or a PREEMPT AND ABORT of its key an initiator writes nothing while a reservation
--- is held, until the disk grants it a registration again.
+-- So after a PREEMPT or a PREEMPT AND ABORT of its key an initiator writes nothing while a
+-- reservation is held. This lasts until the disk grants it a registration again.
 abbrev pub PreemptedWriteNothing : Type 0
 PreemptedWriteNothing =
     (state : State) (preempt : Call) (initiator key : ℕ) (calls : List Call) (n : ℕ) (call : Call)
@@ -227,9 +228,9 @@ PreemptedWriteNothing =
     → is_reserved (state_after_all after (take n calls)) ≡ true
     → answer.status ≡ Good → ⊥)
 
--- A reservation is held, and each sender of a list of commands stays unregistered. Then the list leaves
--- the view of every initiator that sends none of them: the blocks, the mode pages, its unit attentions,
--- its key and the reservation.
+-- A reservation is held, and each sender of a list of commands stays unregistered. Then the list
+-- leaves the view of every other initiator as it was: the blocks, the mode pages, unit attentions,
+-- key and reservation.
 abbrev pub OutsidersChangeNothing : Type 0
 OutsidersChangeNothing =
     (state : State) (initiator : ℕ) (calls : List Call) → IsWithinLimits state

@@ -1,5 +1,5 @@
-//! Laws of the definitions: each is the contract of a function that does nothing, or calls those whose
-//! laws it follows from.
+//! Laws of the definitions: each is the contract of a function that does nothing, or calls those
+//! whose laws it follows from.
 ghost use Rattle.sg_fencing.specs.Fencing.{EqualViewsEndAlike, HolderIsAsIfAlone};
 ghost use Rattle.sg_fencing.specs.Fencing.{OthersAreShutOut, OthersLeaveTheView, OthersReadNothing};
 ghost use Rattle.sg_fencing.specs.Fencing.{OnlyPreemptionEnds, OthersSeeNoBlock};
@@ -52,7 +52,7 @@ pub fn refused_by_reservation()
 {}
 
 /// Fencing. An initiator holds a write exclusive or an exclusive access reservation before and
-/// after a command of another initiator. Then that command leaves the view of the holder: the
+/// after a command of another initiator. Then that command leaves the holder's view as it was: the
 /// blocks, the mode pages, its unit attentions, its reservation key and the reservation.
 pub fn others_leave_the_view_of_a_holder()
     ensures { OthersLeaveTheView }
@@ -124,8 +124,8 @@ pub fn the_unregistered_are_kept_out()
     others_are_refused();
 }
 
-/// While a reservation of any type is held, a command of an initiator that is not registered leaves
-/// the view of every other initiator.
+/// While a reservation of any type is held, an unregistered initiator's command leaves the view of
+/// every other initiator as it was.
 pub fn the_unregistered_leave_every_view()
     ensures { FencedOffLeaveTheView }
 {
@@ -143,30 +143,28 @@ pub fn the_unregistered_see_no_block()
 }
 
 /// An initiator that is not registered becomes registered only by its own REGISTER or REGISTER AND
-/// IGNORE EXISTING KEY. That command has a key other than zero, and ends with GOOD.
+/// IGNORE EXISTING KEY. The command has a key other than zero, and ends with GOOD.
 pub fn nobody_registers_another()
     ensures { OnlyRegisteringRegisters }
 {}
 
-/// An initiator that is not registered stays unregistered over a list of commands, if none of its
-/// commands that ask to register it ends with GOOD. It may send REGISTER with the key that it had,
-/// or with the key zero, as often as it likes.
+/// An unregistered initiator stays unregistered over a list of commands if none of its commands
+/// that ask to register it ends with GOOD. It may send REGISTER with the key that it had, or with
+/// the key zero, as often as it likes.
 pub fn the_refused_stay_unregistered()
     ensures { TheRefusedStayUnregistered }
 {}
 
-/// Over a list of commands: a reservation of any type is held in the state before a command that
-/// writes, and its initiator is not registered in that state. Then the command does not end with
-/// GOOD.
+/// Over a list of commands, none that writes ends with GOOD if it finds a reservation of any type
+/// and its initiator unregistered.
 pub fn the_unregistered_write_nothing()
     ensures { FencedOffWriteNothing }
 {
     others_are_refused();
 }
 
-/// Over a list of commands: a reservation of an exclusive access type is held in the state before a
-/// command that reads, and its initiator is not registered in that state. Then the command does not
-/// end with GOOD.
+/// Over a list of commands, none that reads ends with GOOD if it finds a reservation of an
+/// exclusive access type and its initiator unregistered.
 pub fn the_unregistered_read_nothing()
     ensures { FencedOffReadNothing }
 {
@@ -185,7 +183,7 @@ pub fn the_unregistered_see_no_block_over_a_list()
 }
 
 /// A reservation of any type is held, and each sender of a list of commands stays unregistered.
-/// Then the list leaves the view of every initiator that sends none of them.
+/// Then the list leaves the view of every initiator that sends none of them as it was.
 pub fn the_unregistered_change_nothing()
     ensures { OutsidersChangeNothing }
 {
@@ -201,14 +199,14 @@ pub fn equal_views_of_a_group_end_alike()
     ensures { EqualGroupViewsEndAlike }
 {}
 
-/// A group sees the same in two states of one disk, and the same unit attentions are pending for
-/// each sender of a list of commands. Then the answers are equal in both, and the group sees the
-/// same in the end.
+/// A group sees the same in two states of one disk. The same unit attentions are pending for each
+/// sender of a list of commands. Then the answers are equal in both, and the group sees the same in
+/// the end.
 pub fn equal_views_of_a_group_run_alike()
     ensures { EqualGroupViewsRunAlike }
 {}
 
-/// If a command registers an initiator that was not registered, the group sees three changes: its
+/// If a command registers an unregistered initiator, the group sees three changes: its
 /// registration, the next PRGENERATION, and APTPL of its parameter list. Nothing that another
 /// initiator sees for itself has changed.
 pub fn a_new_registration_is_seen()
@@ -217,7 +215,7 @@ pub fn a_new_registration_is_seen()
 
 /// Some initiators stay unregistered over a list of commands of registrants and others. Whenever
 /// one of them sends a command, a reservation of any type is held. Then their commands may be left
-/// out: without these, the answers to all others are the same, and so is what the others see in the
+/// out. Without these, the answers to all others are the same, and so is what the others see in the
 /// end.
 pub fn outsiders_may_be_left_out()
     ensures { OutsidersMayBeLeftOut }
@@ -235,8 +233,9 @@ pub fn preemption_unregisters()
     one_key_each();
 }
 
-/// After a PREEMPT or a PREEMPT AND ABORT of its key, an initiator writes nothing over a list of
-/// commands while a reservation of any type is held, until the disk grants it a registration again.
+/// After a PREEMPT or a PREEMPT AND ABORT of its key, an initiator writes nothing while a
+/// reservation of any type is held. Over a list of commands, this lasts until the disk grants it a
+/// registration again.
 pub fn the_preempted_write_nothing()
     ensures { PreemptedWriteNothing }
 {
@@ -255,8 +254,8 @@ pub fn persistent_reservations_outlive_power()
     ensures { PersistentOnesStay }
 {}
 
-/// If registrations and reservation do not persist through a power loss, a power cycle leaves
-/// nobody registered and no reservation held, as on a new disk.
+/// If registrations and reservation do not persist through a power loss, a power cycle leaves no
+/// registration and no reservation, as on a new disk.
 pub fn other_reservations_end_with_power()
     ensures { OthersAreGone }
 {}
@@ -271,8 +270,8 @@ pub fn the_last_register_decides()
     refused_changes_nothing();
 }
 
-/// After a power cycle one unit attention is pending for each initiator, POWER ON, and none that was
-/// pending before.
+/// After a power cycle one unit attention is pending for each initiator, POWER ON, and none that
+/// was pending before.
 pub fn power_on_is_pending_for_each_initiator()
     ensures { PowerOnIsPendingForEach }
 {}
@@ -282,8 +281,8 @@ pub fn two_power_cycles_are_one()
     ensures { TwoAreOne }
 {}
 
-/// Over a list of commands and power cycles, an initiator that is not registered writes nothing
-/// while a reservation is held, until the disk grants it a registration.
+/// Over a list of commands and power cycles, an unregistered initiator writes nothing while a
+/// reservation is held. This lasts until the disk grants it a registration.
 pub fn the_unregistered_write_nothing_through_power_cycles()
     ensures { FencedOffThroughPowerCycles }
 {

@@ -1,5 +1,5 @@
 //! Laws of the target's definitions: what a refused command leaves, and what others can do to the
-//! initiator that holds a persistent reservation (SPC-4, 5.13). Nothing here runs.
+//! holder of a persistent reservation (SPC-4, 5.13). Nothing here runs.
 #![tactic(auto)]
 
 pub mod laws;

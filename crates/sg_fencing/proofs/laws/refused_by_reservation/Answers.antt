@@ -20,7 +20,7 @@ use Rattle.sg_target.specs.declared.refusal.Refusal.{Refusal}
 use Rattle.sg_target.specs.declared.refusal.Refusal.TheVariants.{Conflict}
 use Rattle.sg_fencing.proofs.laws.refused_by_reservation.Goals as goal
 
--- neither no byte nor an unknown operation code
+-- the CDB has a byte, and its operation code is known
 record IsKnown (parse : Result Command CdbFault) : Type 0 where
   has_byte : empty_cdb parse ≡ None
   has_opcode : unknown_opcode parse ≡ None
