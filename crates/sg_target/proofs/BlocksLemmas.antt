@@ -156,7 +156,7 @@ on_disk capacity (one ∷ rest) e =
     (map (past_capacity capacity) rest) (nat_lt capacity (one.lba + one.count)) refl e in
     (h.0, on_disk capacity rest h.1)
 
--- what an operation brings, and where its blocks lie
+-- the operation's data is sound, and its blocks are on the disk
 pub record IsReady (state : State) (o : Operation) : Type 0 where
   pub sound : IsSound o
   pub on_disk : AreOnDisk state.disk.capacity (medium_use o).extents

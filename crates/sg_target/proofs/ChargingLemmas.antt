@@ -1,4 +1,4 @@
--- What ranges cost, one after the other.
+-- The cost of ranges, one after the other.
 use Rattle.std.proofs.Common.{◌≡◌, ◌≤◌, ◌<◌, ℕ, ◌+◌, ◌*◌, List, [], ◌∷◌, ◌++◌, length}
 use Rattle.std.proofs.Common.{length-append, refl, sym, subst, ap, ◌∙◌, arith, append_assoc, true, false}
 use Rattle.std.proofs.Common.{Bool, cond, take, get_or}
@@ -64,7 +64,7 @@ pub counted-ranges-more : (m : Contents) (ranges : List AddressRange) (last : Ad
     → counted_ranges m (ranges ++ last ∷ []) ≡ counted_ranges m ranges ++ counted m last ∷ []
 counted-ranges-more m ranges last = map-append (counted m) ranges (last ∷ [])
 
--- the next range, of which the slots are counted
+-- the next range, whose slots are counted
 pub counted-next : (bounds : CostBounds) (disk now : Disk) (ranges : List AddressRange) (i : ℕ)
     (d : AddressRange) → i < length ranges → (before mid after : Meter) → now ≡ disk
     → IsCounted bounds disk.pool (counted_ranges disk.contents (take i ranges)) before mid
@@ -167,7 +167,7 @@ module _ (bounds : CostBounds) (pool : ℕ) (m : Contents) (extents : List Exten
     j.count,
   )
 
-  -- what was counted over others is within the price where these cost no more and are no longer
+  -- the counts over others are within the price if these cost no more and are no more
   within : (over : List Range) → sum_over bounds.price over ≤ sum_over bounds.price (sent ++ turn)
       → length over ≤ length (sent ++ turn) → IsWithinPrice bounds pool over before after
       → IsWithinPrice bounds pool (anchoring_ranges m extents) before after
@@ -182,7 +182,7 @@ module _ (bounds : CostBounds) (pool : ℕ) (m : Contents) (extents : List Exten
         restarts = c.restarts;
       }
 
-  -- where there is no room, nothing but the count was done
+  -- without room, only the count was done
   pub counted-charged : IsCounted bounds pool (counted_ranges m joined) before after
       → IsWithinPrice bounds pool (anchoring_ranges m extents) before after
   counted-charged c =
@@ -190,7 +190,7 @@ module _ (bounds : CostBounds) (pool : ℕ) (m : Contents) (extents : List Exten
       let count = length-append sent turn in
       within (counted_ranges m joined) (omega (arith, cheaper)) (omega (arith, shorter)) c.charge
 
-  -- and else each range was gone over again
+  -- otherwise each range was gone over again
   pub all-charged : IsCounted bounds pool (counted_ranges m joined ++ turn) before after
       → IsWithinPrice bounds pool (anchoring_ranges m extents) before after
   all-charged c =

@@ -13,8 +13,8 @@ use Rattle.sg_target.proofs.AddressRangeLemmas.{within-left, within-append, disj
 use Rattle.sg_target.proofs.AddressRangeLemmas.{apart-covers, both-covers, both-within}
 use Rattle.sg_target.proofs.AddressRangeLemmas.{both-cheaper, either_true, both_false, or_left}
 
--- A range has grown by those of a list that were near it. The others are set apart as far as the
--- list was gone through, and `rest` is what is left of it.
+-- A range has grown by the ranges of a list that were near it. The others are set apart as far as
+-- the list was gone through, and `rest` is the rest of the list.
 pub record IsGrown (range : AddressRange) (ranges : List AddressRange) (grown : AddressRange)
     (apart rest : List AddressRange) : Type 0 where
   pub disjoint : AreDisjoint (apart ++ rest)

@@ -16,7 +16,7 @@ mod CommandLemmas
 mod JoiningLemmas
 mod NeedLemmas
 pub mod Space
--- What ranges cost.
+-- The cost of ranges.
 pub mod RangeLemmas
 mod AddressRangeLemmas
 mod ChargingLemmas

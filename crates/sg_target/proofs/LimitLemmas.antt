@@ -63,7 +63,7 @@ module _ (reservations : ReservationsStayConsistent) (queues : QueuesKeepTheirLi
   refused-within state i (CheckCondition (Attention condition)) h = without-oldest-within state i h
   refused-within state i _ h = h
 
-  -- the tables but that of the mapped blocks, which the check for space keeps
+  -- the tables except the mapped blocks, which the check for space keeps
   abbrev KeepsOthers : State → Type 0
   KeepsOthers state = ArePending state.attentions × IsConsistent state.reservations
 

@@ -1,4 +1,4 @@
--- What joined ranges need is what the ranges as they were sent need.
+-- Joined ranges need as many blocks as the ranges as they were sent.
 use Rattle.std.proofs.Common.{◌≡◌, ℕ, ◌+◌, ◌≤◌, ◌<◌, zero, suc, List, [], ◌∷◌, ◌++◌, sym, refl, ap}
 use Rattle.std.proofs.Common.{ap₂, ◌∙◌, arith, cond, Bool, true, false, Some, is_some}
 use Rattle.std.proofs.lemmas.Bool.Decides.{nat_tests}
@@ -35,7 +35,7 @@ over-same law =
     same covers (λ m r. anchored m r.lba r.count) anchored_over (λ m. refl) (λ m r rs. refl)
     (Some Anchored) (λ m r. law.found m r.lba r.count (λ index. Anchored))
 
--- a range needs as much where the same of its addresses have a slot
+-- a range needs as much if the same addresses in it have a slot
 need-alike : (m n : Contents) (a k : ℕ)
     → ((i : ℕ) → i < k → map.contains_key m (a + i) ≡ map.contains_key n (a + i))
     → need m a k ≡ need n a k
@@ -49,7 +49,7 @@ need-alike m n a (suc k) h =
 inside : (a k i : ℕ) → i < k → lies_in a k (a + i) ≡ true
 inside a k i lt = grind (arith, nat_tests)
 
--- what is anchored elsewhere does not matter
+-- addresses that are anchored elsewhere do not matter
 need-elsewhere : RemappingTakesWhatIsNeeded → (m : Contents) (r : AddressRange) (rs : List AddressRange)
     → ((q : ℕ) → covers q r ≡ true → lies_in_some rs q ≡ false)
     → need_of (anchored m r.lba r.count) rs ≡ need_of m rs
@@ -77,7 +77,7 @@ len-over law m (r ∷ rs) h =
     let same = need-elsewhere law m r rs h.0 in
     omega arith
 
--- what joined ranges need is what anchoring the extents takes
+-- joined ranges need as many blocks as anchoring the extents takes
 pub used-after : RemappingTakesWhatIsNeeded
     → (m : Contents) (extents : List Extent) (joined : List AddressRange)
     → AreJoined (map range_of extents) joined
@@ -100,7 +100,7 @@ len-grows law m (e ∷ es) =
     let one = law.taken m e.lba e.count (λ index. Anchored) in
     omega arith
 
--- as far as an extent there is room where there is room for all
+-- there is room up to each extent if there is room for all
 pub room-first : RemappingTakesWhatIsNeeded → (m : Contents) (xs ys : List Extent)
     → map.len (changed_in_turn anchored m xs) ≤ map.len (changed_in_turn anchored m (xs ++ ys))
 room-first law m xs ys = let more = len-grows law (changed_in_turn anchored m xs) ys in

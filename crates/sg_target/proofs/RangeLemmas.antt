@@ -1,4 +1,4 @@
--- What ranges cost together.
+-- The cost of ranges together.
 use Rattle.std.proofs.Common.{ℕ, ◌+◌, ◌≤◌, List, [], ◌∷◌, arith}
 use Rattle.sg_store.specs.Disk.{Contents}
 use Rattle.sg_target.specs.Effect.{Range}

@@ -130,7 +130,7 @@ module _ (bounds : CostBounds) where
     charged = charged-power state events so_far.delivered meter meter' so_far.charged;
   }
 
--- what holds anyhow holds on an error
+-- a fact that is always true is true on an error
 pub on-err : {T E : Type 0} (r : Result T E) (P : Type 0) → P → OnErr r P
 on-err (Ok x) P p = tt
 on-err (Err e) P p = p
@@ -169,7 +169,7 @@ answer-carried answer reply before after t =
     ∙ take-append_seam answer.data_in (drop (length answer.data_in) before) in
     λ i. record { status = t.status i; sense = t.sense i; data_in = data_in i }
 
--- and it is as long as the reply has it
+-- and it is as long as the reply says
 pub size-carried : (answer : Answer) (reply : Reply) (before after : List ℕ)
     → Carries answer reply before after → reply.data_in ≡ length (take reply.data_in after)
 size-carried answer reply before after t = t.size

@@ -10,7 +10,7 @@ use Rattle.sg_target.specs.Step.{Step, outcome, step}
 use Rattle.sg_target.specs.declared.operation.Operation.{Operation}
 use Rattle.sg_target.specs.declared.refusal.Refusal.{Refusal}
 
--- a check alone
+-- a single check
 pub first_some-one : {A : Type 0} (check : Option A) → first_some (check ∷ []) ≡ check
 first_some-one None = refl
 first_some-one (Some x) = refl
@@ -18,7 +18,7 @@ first_some-one (Some x) = refl
 pub ruleset alone = (first_some-one)
 
 module _ (state : State) (i : ℕ) (cdb data_out : List ℕ) where
-  -- what the checks come to decides the step
+  -- the result of the checks decides the step
   pub step-checked : (checked : Result Operation Refusal) → checked_cdb state i cdb data_out ≡ checked
       → step state i cdb data_out ≡ outcome state i (checked_next checked (effect_of state i))
   step-checked checked e =
@@ -30,7 +30,7 @@ module _ (state : State) (i : ℕ) (cdb data_out : List ℕ) where
   ranges-checked checked e =
       ap (λ (r : Result Operation Refusal). ranges_in (checked_next r (effect_of state i))) e
 
-  -- so what holds of it holds of the outcome
+  -- so a fact about it holds of the outcome
   pub within-checked : (checked : Result Operation Refusal) (after : State)
       → checked_cdb state i cdb data_out ≡ checked
       → after ≡ (outcome state i (checked_next checked (effect_of state i))).state

@@ -1,4 +1,4 @@
--- What anchoring extents takes, as the store counts it.
+-- The cost of anchoring extents, as the store counts it.
 use Rattle.std.specs.Prelude.{ℕ, ◌*◌, ◌^◌, ◌≤◌, List, map, true, Result, OnOk}
 use Rattle.sg_wire.specs.UnmapList.{maximum_unmap_descriptors}
 use Rattle.sg_store.specs.Disk.{Contents, Disk, max_capacity, max_pool, need}
@@ -9,11 +9,11 @@ use Rattle.sg_target.specs.Joining.{cost_of}
 use Rattle.sg_target.specs.Ranges.{CostBounds, IsWithinPrice, least_over}
 use Rattle.sg_target.specs.declared.joining.AddressRange.{AddressRange}
 
--- How many blocks of the pool ranges need, if they have no address in common.
+-- The number of blocks of the pool that ranges need, if they have no address in common.
 abbrev pub need_of : Contents → List AddressRange → ℕ
 need_of contents ranges = cost_of (need contents) ranges
 
--- Ranges of which only the blocks that they need are counted.
+-- Ranges over which the store only counts the blocks that they need.
 abbrev pub counted : Contents → AddressRange → Range
 counted contents addresses =
     record { contents = contents; lba = addresses.lba; count = addresses.count; counted = true }
@@ -26,7 +26,7 @@ pub record HasAllowedSize (disk : Disk) : Type 0 where
   pub capacity : disk.capacity ≤ max_capacity
   pub pool : disk.pool ≤ max_pool
 
--- At most how many records are visited over the ranges of a parameter list, each of which has at most
+-- The most records that are visited over the ranges of a parameter list. Each range has at most
 -- `max_capacity` addresses.
 abbrev pub visits_of_list : ℕ
 visits_of_list = maximum_unmap_descriptors * 2 ^ 41
@@ -37,8 +37,8 @@ pub record AreOfOneList (counts : Counts) : Type 0 where
   pub probes : counts.probes ≤ probe_bound * maximum_unmap_descriptors
   pub links : counts.links ≤ max_pool * maximum_unmap_descriptors
 
--- A call that can fail has counted no more than ranges may cost, since a restart, and no less than they
--- cost at least if it succeeds.
+-- A call that can fail has counted no more than ranges may cost, since a restart. If it succeeds,
+-- it has counted no less than they cost at least.
 pub record CostsOnOk {T E : Type 0} (result : Result T E) (bounds : CostBounds) (pool : ℕ)
     (over : List Range) (before after : Meter) : Type 0 where
   pub charge : IsWithinPrice bounds pool over before after

@@ -15,11 +15,11 @@ reading state extent =
     record (returning state (blocks state.disk.contents extent.lba extent.count))
     { ranges = range state.disk.contents extent ∷ [] }
 
--- How many bytes the blocks of an extent have.
+-- The number of bytes of an extent's blocks.
 abbrev pub bytes_of : Extent → ℕ
 bytes_of extent = logical_block_length * extent.count
 
--- The longest data-in, in bytes: that of a READ of the most blocks.
+-- The longest data-in, in bytes: the data-in of a READ of the most blocks.
 abbrev pub longest_data_in : ℕ
 longest_data_in = logical_block_length * maximum_transfer_length
 

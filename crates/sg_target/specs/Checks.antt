@@ -49,8 +49,9 @@ abbrev pub unknown_opcode : Result Command CdbFault → Option Refusal
 unknown_opcode (Err Opcode) = Some (refusal_for Opcode)
 unknown_opcode _ = None
 
--- The reservation that is held does not allow the command to the initiator, by its class. That shows
--- in the operation code and the service action, so it comes before what is wrong with other fields.
+-- The reservation that is held does not allow the command to the initiator, by its class. The class
+-- follows from the operation code and the service action, so this check comes before the checks of
+-- other fields.
 abbrev pub reservation_conflict : State → (initiator : ℕ) → List ℕ → Option Refusal
 reservation_conflict state initiator cdb =
     option_and_then
@@ -93,8 +94,8 @@ short_data_out None data_out = None
 short_data_out (Some n) data_out =
     if nat_lt (length data_out) n then Some (CheckCondition DataPhaseError) else None
 
--- What a command asks for, or the first refusal: of a value, for want of data-out, or of the page or
--- the parameter list that it names.
+-- The operation that a command asks for, or the first refusal. A value, too little data-out, or the
+-- named page or parameter list can be the reason.
 abbrev pub requested : Demands → (data_out : List ℕ) → Result Operation Refusal
 requested d data_out =
     unless_refused
@@ -133,7 +134,7 @@ abbrev pub checked_operation : State → Operation → Result Operation Refusal
 checked_operation state operation =
     unless_refused (first_some (medium_checks state (medium_use operation))) (Ok operation)
 
--- ---- All of them, but that for space
+-- ---- All checks except the check for space
 
 -- The operation that a command asks for, or the first refusal.
 -- Choice (SAM-5, 5.3.3): these checks may come in another order.
@@ -153,8 +154,8 @@ checked_cdb state initiator cdb data_out =
     unless_refused (first_some (cdb_checks state initiator cdb))
     (checked_parse state (command_of cdb) data_out)
 
--- Its effect. What MODE SENSE, MODE SELECT and PERSISTENT RESERVE OUT ask of the disk is checked
--- last, against the state.
+-- Its effect. The requests of MODE SENSE, MODE SELECT and PERSISTENT RESERVE OUT are checked last,
+-- against the state.
 abbrev pub checked_effect : State → (initiator : ℕ) → (cdb data_out : List ℕ) → Result Effect Refusal
 checked_effect state initiator cdb data_out =
     checked_next (checked_cdb state initiator cdb data_out) (effect_of state initiator)

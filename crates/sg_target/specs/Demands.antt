@@ -1,5 +1,5 @@
--- What each command demands of its fields and its data-out, and which operation it asks for. Of the
--- disk they look only at its number of blocks, which never changes.
+-- Each command's demands on its fields and its data-out, and the operation that it asks for. The
+-- demands depend on the disk only by its number of blocks, which never changes.
 use Rattle.std.specs.Prelude.{ℕ, List, Bool, true, false, ◌&&◌, not, Option, Some, None, Result, Ok}
 use Rattle.std.specs.Prelude.{nat_le, nat_lt, if◌then◌else◌}
 use Rattle.sg_wire.specs.declared.command.Command.{Command}
@@ -33,7 +33,8 @@ pub record Demands : Type 0 where
   pub unsupported : Option ℕ
   -- the number of bytes of data-out that the command needs, if it takes any
   pub data_out_length : Option ℕ
-  -- what it asks for, or what is wrong with the page or the parameter list that it names
+  -- the operation that it asks for, or what is wrong with the page or the parameter list that it
+  -- names
   pub operation : Result Operation Refusal
 
 -- A command without data-out.
@@ -45,7 +46,7 @@ abbrev pub takes : (bytes : ℕ) → (unsupported : Option ℕ) → Result Opera
 takes bytes unsupported operation =
     record { unsupported = unsupported; data_out_length = Some bytes; operation = operation }
 
--- All of whose values are supported.
+-- The demands of a command whose values are all supported.
 abbrev pub asks : Operation → Demands
 asks operation = takes_no_data None (Ok operation)
 
@@ -126,7 +127,8 @@ abbrev pub bad_count : (count byte : ℕ) → Option ℕ
 bad_count count byte =
     if nat_le 1 count && nat_le count maximum_write_same_length then None else Some byte
 
--- It takes one block, by which it replaces each of its blocks, or unmaps or anchors them.
+-- WRITE SAME takes one block. It replaces each of its blocks by that block, or unmaps or anchors
+-- them.
 abbrev pub unmap_extent : (anchor : Bool) → Extent → Operation
 unmap_extent anchor extent =
     if anchor then operation.AnchorExtent extent else operation.UnmapExtent extent

@@ -1,12 +1,12 @@
--- What commands do.
+-- The effects of commands.
 use Rattle.std.specs.Prelude.{ℕ, Bool, true, false, List, [], Option, Some, None}
 use Rattle.sg_wire.specs.declared.extent.Extent.{Extent}
 use Rattle.sg_store.specs.Disk.{Contents}
 use Rattle.sg_units.specs.Attentions.{without_oldest}
 use Rattle.sg_target.specs.State.{State}
 
--- A range of blocks that the store is asked for, with the mapped blocks that it meets: those that
--- the ranges before it have left.
+-- A range of blocks that the store is asked for, with the mapped blocks that it meets, as the
+-- ranges before it have left them.
 pub record Range : Type 0 where
   pub contents : Contents
   pub lba : ℕ
@@ -21,7 +21,7 @@ range contents blocks =
 abbrev pub counted_range : Contents → Extent → Range
 counted_range contents blocks = record (range contents blocks) { counted = true }
 
--- What a command does where no check refuses it.
+-- The effect of a command that no check refuses.
 pub record Effect : Type 0 where
   -- all of its data-in
   pub data_in : List ℕ

@@ -1,4 +1,4 @@
--- How a target executes a command: by a step, which its reply shows and its store is charged for.
+-- A target executes a command by a step. The reply shows the step, and the store is charged for it.
 use Rattle.std.specs.Prelude.{◌≡◌, ◌≤◌, ℕ, List}
 use Rattle.sg_target.specs.Effect.{Range}
 use Rattle.sg_target.specs.Ranges.{CostBounds, IsCharged, ranges, visit_bound}

@@ -12,7 +12,7 @@ range_of extent = record { lba = extent.lba; count = extent.count }
 abbrev pub end_of : AddressRange → ℕ
 end_of range = range.lba + range.count
 
--- Whether an address lies in a range, and whether it lies in one of several.
+-- An address lies in a range, or in one of several.
 abbrev pub covers : (address : ℕ) → AddressRange → Bool
 covers address range = lies_in range.lba range.count address
 
@@ -30,8 +30,8 @@ AreDisjoint (range ∷ ranges) =
     ((address : ℕ) → covers address range ≡ true → lies_in_some ranges address ≡ false)
     × AreDisjoint ranges
 
--- A cost of ranges, by their first address and their count, that two ranges which overlap or touch
--- have at most together where they are joined.
+-- A cost of ranges, by their first address and their count. Two ranges that overlap or touch cost
+-- no more together if they are joined.
 abbrev pub Cost : Type 0
 Cost = ℕ → ℕ → ℕ
 
@@ -53,7 +53,7 @@ joined_if_near range other =
     if nat_lt (end_of range) other.lba || nat_lt (end_of other) range.lba
     then None else Some (both range other)
 
--- The same addresses, each in one range alone. No cost of that kind has risen.
+-- The same addresses, each in only one range. No cost of that kind has risen.
 pub record AreJoined (ranges joined : List AddressRange) : Type 0 where
   pub same : (address : ℕ) → lies_in_some joined address ≡ lies_in_some ranges address
   pub disjoint : AreDisjoint joined

@@ -12,7 +12,7 @@ use Rattle.sg_target.specs.ProvisioningCommands.{anchoring, unmapping}
 use Rattle.sg_target.specs.State.{IsWithinLimits, State}
 use Rattle.sg_target.specs.Step.{step}
 
--- A state within its limits is so after a command, and after a power cycle.
+-- A state within its limits stays within them after a command, and after a power cycle.
 pub record LimitsAreKept : Type 0 where
   pub command : (state : State) (initiator : ℕ) (cdb data_out : List ℕ) → IsWithinLimits state
       → IsWithinLimits (step state initiator cdb data_out).state
@@ -20,7 +20,7 @@ pub record LimitsAreKept : Type 0 where
 
 -- ---- Lists of extents
 
--- Whether an address lies in some extent of a list.
+-- An address lies in some extent of a list.
 abbrev pub lies_in_any : List Extent → (address : ℕ) → Bool
 lies_in_any extents address =
     list_any (λ (extent : Extent). lies_in extent.lba extent.count address) extents
@@ -31,8 +31,8 @@ HaveTheSameAddresses extents others =
     (address : ℕ) → lies_in_any extents address ≡ lies_in_any others address
 
 -- After a command on a list of extents, each address that lies in some extent has one status and is
--- read as zeros, and every other address is as it was. So the order of the extents does not matter,
--- nor whether they overlap.
+-- read as zeros. Every other address is as it was. So neither the order of the extents nor their
+-- overlaps matter.
 pub record ZeroesEachExtent (command : State → List Extent → Effect)
     (status : ProvisioningStatus) : Type 0 where
   pub statuses : (state : State) (extents : List Extent) (address : ℕ)

@@ -1,4 +1,4 @@
--- What public contracts cite, in the order in which it is read best.
+-- Modules that public contracts cite. Read them in this order.
 pub mod Config
 pub mod State
 pub mod Effect
@@ -22,7 +22,7 @@ pub mod PowerCycle
 pub mod Runs
 pub mod Laws
 pub mod CommandLaws
--- What private contracts cite alone.
+-- Modules that only private contracts cite.
 pub mod DataIn
 pub mod Extents
 pub mod Joining

@@ -30,7 +30,7 @@ page_control_of pc =
     if pc == 0 then Current
     else (if pc == 1 then Changeable else (if pc == 2 then Default else Saved))
 
--- A page or a subpage that the disk does not have is an invalid field: PAGE CODE is in byte 2, and
+-- A page or a subpage that the disk does not have is an invalid field. PAGE CODE is in byte 2, and
 -- SUBPAGE CODE is byte 3.
 abbrev pub sense_refusal : ModeSenseFault → Refusal
 sense_refusal Page = CheckCondition (InvalidFieldInCdb 2)
@@ -52,8 +52,7 @@ unfoldable pub selected_modes : State → (ten sp : Bool) → (list : List ℕ) 
 selected_modes state ten sp list =
     or_refused select_refusal (mode_select state.modes list ten sp state.disk.capacity)
 
--- Where a current value has changed, MODE PARAMETERS CHANGED is established for every other
--- initiator.
+-- If a current value has changed, MODE PARAMETERS CHANGED is established for every other initiator.
 abbrev pub attentions_after : Pending → (initiator : ℕ) → (changed : Bool) → Pending
 attentions_after attentions initiator changed =
     if changed then raised_for_each attentions (raised_for_others initiator ModeParametersChanged)

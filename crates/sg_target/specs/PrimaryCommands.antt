@@ -26,7 +26,7 @@ returning_sense state initiator format n =
     record (returning_up_to state n sense) { after = without_attention state initiator }
 
 -- INQUIRY returns a page of vital product data with EVPD, and without it the standard INQUIRY data,
--- where PAGE CODE is zero.
+-- if PAGE CODE is zero.
 abbrev pub inquiry_page : (evpd : Bool) (page_code : ℕ) → Option InquiryPage
 inquiry_page true page_code = option_map VitalProductData (page_with_code page_code)
 inquiry_page false page_code = if page_code == 0 then Some Standard else None

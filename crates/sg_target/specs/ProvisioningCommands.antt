@@ -20,7 +20,7 @@ use Rattle.sg_target.specs.declared.refusal.Refusal.TheVariants.{CheckCondition}
 
 -- ---- Lists of extents
 
--- What becomes of the contents as a range of addresses is changed.
+-- A change of the contents over a range of addresses.
 abbrev pub Change : Type 0
 Change = Contents → (lba count : ℕ) → Contents
 
@@ -30,7 +30,7 @@ changed_in_turn change contents [] = contents
 changed_in_turn change contents (extent ∷ rest) =
     changed_in_turn change (change contents extent.lba extent.count) rest
 
--- The ranges of that: each meets the mapped blocks that those before it have left.
+-- The ranges of these extents: each meets the mapped blocks that the ranges before it have left.
 abbrev pub ranges_in_turn : Change → Contents → List Extent → List Range
 ranges_in_turn change contents [] = []
 ranges_in_turn change contents (extent ∷ rest) =
@@ -47,8 +47,8 @@ unmapping state extents = let contents = state.disk.contents in record (no_effec
 
 -- ---- Anchoring
 
--- Each extent is gone over twice: all of them once, as the blocks that they need are counted before
--- anything changes, and then all again.
+-- Each extent is gone over twice. The store first counts the blocks that all of them need, before
+-- anything changes, and then goes over all again.
 abbrev pub anchoring_ranges : Contents → List Extent → List Range
 anchoring_ranges contents extents =
     map (counted_range contents) extents ++ ranges_in_turn anchored contents extents
@@ -85,7 +85,7 @@ filling state extent block = let contents = state.disk.contents in record (no_ef
 abbrev pub block_out : (data_out : List ℕ) → List ℕ
 block_out data_out = first_bytes logical_block_length data_out
 
--- With UNMAP 1, blocks are unmapped in place of being written with zeros, as which they are read
+-- With UNMAP 1, blocks are unmapped in place of being written with zeros. They are read as zeros
 -- then.
 -- Choice (SBC-3, 5.43): WRITE SAME with UNMAP 1 may write the zeros.
 unfoldable pub unmaps : (unmap : Bool) (block : List ℕ) → Bool
@@ -93,8 +93,8 @@ unmaps unmap block = unmap && list_all (λ byte. byte == 0) block
 
 -- ---- GET LBA STATUS
 
--- It returns which blocks are mapped, from an address on, and goes over those that its descriptors
--- cover.
+-- It returns which blocks are mapped, from an address on, and goes over the blocks that its
+-- descriptors cover.
 abbrev pub reporting_status : State → (start allocation_length : ℕ) → Effect
 reporting_status state start n = let found = lba_status state.disk start in
     record (returning_up_to state n (status_data found)) {

@@ -1,4 +1,4 @@
--- The ranges of blocks that a command goes over, and what that costs.
+-- The ranges of blocks that a command goes over, and their cost.
 use Rattle.std.specs.Prelude.{◌≡◌, ℕ, ◌+◌, ◌*◌, ◌<◌, ◌≤◌, List, [], ◌∷◌, length, Result, Ok, Err}
 use Rattle.std.specs.Prelude.{if◌then◌else◌}
 use Rattle.sg_store.specs.Disk.{Contents}
@@ -10,7 +10,8 @@ use Rattle.sg_target.specs.declared.refusal.Refusal.{Refusal}
 use Rattle.sg_target.specs.declared.reply.Reply.{Reply}
 use Rattle.sg_target.specs.declared.reply.Status.TheVariants.{Good}
 
--- A refused command goes over none, but where there is no space, which shows on the way.
+-- A refused command goes over none, unless it is refused because there is no space, which shows on
+-- the way.
 abbrev pub ranges_in : Result Effect Refusal → List Range
 ranges_in (Ok effect) = effect.ranges
 ranges_in (Err refusal) = []
@@ -19,12 +20,12 @@ ranges_in (Err refusal) = []
 abbrev pub ranges : State → (initiator : ℕ) → (cdb data_out : List ℕ) → List Range
 ranges state initiator cdb data_out = ranges_in (checked_effect state initiator cdb data_out)
 
--- What a call of a store over a range may visit, or has to, by the mapped blocks, the address and
--- the count.
+-- The visits that a call of a store over a range may or must make, by the mapped blocks, the
+-- address and the count.
 abbrev pub Cost : Type 0
 Cost = Contents → ℕ → ℕ → ℕ
 
--- At most, and at least where the call succeeds.
+-- The most visits, and the least if the call succeeds.
 pub record CostBounds : Type 0 where
   pub price : Cost
   pub least : Cost
@@ -37,7 +38,7 @@ abbrev pub sum_over : Cost → List Range → ℕ
 sum_over cost [] = 0
 sum_over cost (range ∷ rest) = cost range.contents range.lba range.count + sum_over cost rest
 
--- The same but for those that are only counted: where they overlap, one visit may serve several.
+-- The same without the ranges that are only counted: if these overlap, one visit may serve several.
 abbrev pub least_over : Cost → List Range → ℕ
 least_over cost [] = 0
 least_over cost (range ∷ rest) =
@@ -48,7 +49,7 @@ abbrev pub visit_bound : List Range → ℕ
 visit_bound [] = 0
 visit_bound (range ∷ rest) = range.count + 2 + visit_bound rest
 
--- The counts are restarted once for a command that goes over a range, and for no other.
+-- The counts are restarted once for a command that goes over a range, and for no other command.
 abbrev pub restarts_for : List Range → ℕ
 restarts_for [] = 0
 restarts_for (range ∷ rest) = 1
@@ -81,7 +82,7 @@ pub record IsWithinPrice (bounds : CostBounds) (pool : ℕ) (over : List Range)
   pub visited : after.total ≡ before.total + after.counts.visits
   pub restarts : after.restarts ≡ before.restarts
 
--- It has gone over them in turn: it has counted no less than they cost at least, too.
+-- The store has gone over ranges in turn: it has also counted no less than they cost at least.
 pub record IsCounted (bounds : CostBounds) (pool : ℕ) (over : List Range)
     (before after : Meter) : Type 0 where
   pub charge : IsWithinPrice bounds pool over before after

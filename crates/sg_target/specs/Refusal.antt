@@ -23,14 +23,14 @@ use Rattle.sg_target.specs.declared.refusal.Reason.TheVariants.{SoftwareWritePro
 use Rattle.sg_target.specs.declared.refusal.Refusal.{Refusal}
 use Rattle.sg_target.specs.declared.refusal.Refusal.TheVariants.{CheckCondition}
 
--- A sense key with an additional sense code and its qualifier (SPC-4, annex on numeric order codes),
--- without INFORMATION and field pointer.
+-- A sense key with an additional sense code and its qualifier (SPC-4, annex on numeric order
+-- codes), without INFORMATION and field pointer.
 abbrev pub plain_sense : (key asc ascq : ℕ) → SenseFields
 plain_sense key asc ascq =
     record { key = key; asc = asc; ascq = ascq; information = None; pointer = None }
 
--- An invalid field has a pointer to its byte in the CDB or in the parameter list (SPC-4, 4.5.2.4.2),
--- and a logical block address out of range is INFORMATION (SPC-4, 4.5.2.2).
+-- An invalid field has a pointer to its byte in the CDB or in the parameter list (SPC-4,
+-- 4.5.2.4.2). A logical block address out of range is INFORMATION (SPC-4, 4.5.2.2).
 -- Departure (SPC-4, 7.5): 27h/00h, WRITE PROTECTED, there.
 -- Choice (SPC-4, 4.5.2.2): INFORMATION may be left out.
 abbrev pub sense_of : Reason → SenseFields
@@ -55,7 +55,7 @@ abbrev pub pending_sense : Option UnitAttention → SenseFields
 pending_sense None = plain_sense no_sense 0x00 0x00
 pending_sense (Some condition) = sense_of (Attention condition)
 
--- A CDB that is no command: the pointer is to the byte in error, and where the CDB ends early to
+-- A CDB that is no command: the pointer is to the byte in error. If the CDB ends early, it is to
 -- the first byte that is missing.
 abbrev pub reason_for : CdbFault → Reason
 reason_for Empty = InvalidFieldInCdb 0
@@ -82,18 +82,18 @@ unless_refused (Some refusal) result = Err refusal
 abbrev pub or_refused : {A F : Type 0} → (F → Refusal) → Result A F → Result A Refusal
 or_refused refusal found = result_map_both (λ value. value) refusal found
 
--- What becomes of a value that was found sound, and the refusal where it was not.
+-- The result made of a value that was found sound, or the refusal if it was not.
 abbrev pub when_sound : {A B : Type 0} → Result A Refusal → (A → B) → Result B Refusal
 when_sound (Ok value) becomes = Ok (becomes value)
 when_sound (Err refusal) becomes = Err refusal
 
--- The same where what comes next can refuse it too.
+-- The same, if the next check can refuse the value too.
 abbrev pub checked_next : {A B : Type 0} → Result A Refusal → (A → Result B Refusal)
     → Result B Refusal
 checked_next (Ok value) next = next value
 checked_next (Err refusal) next = Err refusal
 
--- What the disk does not support is an invalid field, at its byte in the CDB.
+-- A value that the disk does not support is an invalid field, at its byte in the CDB.
 abbrev pub if_supported : {A : Type 0} → (byte : ℕ) → Option A → Result A Refusal
 if_supported byte (Some value) = Ok value
 if_supported byte None = Err (CheckCondition (InvalidFieldInCdb byte))

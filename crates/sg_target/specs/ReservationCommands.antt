@@ -31,7 +31,7 @@ use Rattle.sg_target.specs.declared.refusal.Refusal.TheVariants.{Conflict, Check
 
 -- ---- PERSISTENT RESERVE IN
 
--- What a service action returns.
+-- The data that a service action returns.
 abbrev pub reserve_in_data : ReservationState → InAction → List ℕ
 reserve_in_data reservations ReadKeys = keys_data reservations
 reserve_in_data reservations ReadReservation = reservation_data reservations
@@ -43,7 +43,7 @@ reporting state action n = returning_up_to state n (reserve_in_data state.reserv
 
 -- ---- PERSISTENT RESERVE OUT
 
--- RESERVE and RELEASE need a valid scope and type, in byte 2. PREEMPT needs one where it takes the
+-- RESERVE and RELEASE need a valid scope and type, in byte 2. PREEMPT needs one if it takes the
 -- reservation, and no other service action looks at them.
 abbrev pub always_needs_type : OutAction → Bool
 always_needs_type Reserve = true
@@ -72,7 +72,7 @@ fields_out list =
     then Ok (out_list list)
     else Err (CheckCondition ParameterListLengthError)
 
--- What they ask for, or the refusal.
+-- The change that they ask for, or the refusal.
 unfoldable pub reservation_change : State → (initiator : ℕ) → OutAction → (scope_type : ℕ)
     → OutList → Result ReservationChange Refusal
 reservation_change state initiator action scope_type list =

@@ -1,4 +1,4 @@
--- What a list of events does: one after another.
+-- The effect of a list of events, one after another.
 use Rattle.std.specs.Prelude.{◌≡◌, ◌<◌, ℕ, ◌+◌, List, [], ◌∷◌, ◌++◌, length, map, take}
 use Rattle.std.specs.Prelude.{Result, OnOk, OnErr}
 use Rattle.sg_store.specs.Meter.{Meter}
@@ -39,7 +39,7 @@ answers_to_events state (event.Call call ∷ events) =
 answers_to_events state (event.Power ∷ events) =
     answers_to_events (after_power_cycle state) events
 
--- ---- Commands alone
+-- ---- Only commands
 
 abbrev pub all_calls : List Call → List Event
 all_calls calls = map (λ call. event.Call call) calls
@@ -60,13 +60,13 @@ pub record Exchange : Type 0 where
 abbrev pub exchange : Reply → List ℕ → Exchange
 exchange reply data_in = record { reply = reply; data_in = data_in }
 
--- Its answer, the counts apart.
+-- Its answer, without the counts.
 abbrev pub answer_in : Exchange → Answer
 answer_in e = record { status = e.reply.status; sense = e.reply.sense; data_in = e.data_in }
 
--- Each reply is charged for its command's ranges, from the meter that the one before it left: so
--- the store counts nothing but what replies contain, and its counts are restarted for a command
--- alone. A power cycle has no reply and leaves the meter.
+-- Each reply is charged for its command's ranges, from the meter that the reply before it left. So
+-- the store counts only what replies contain, and its counts are restarted only for a command. A
+-- power cycle has no reply and leaves the meter.
 abbrev pub AreCharged : CostBounds → State → List Event → List Exchange → (before after : Meter) → Type 0
 AreCharged bounds state [] [] before after = after ≡ before
 AreCharged bounds state [] (e ∷ rest) before after = ⊥
@@ -93,9 +93,9 @@ pub record Exchanged (bounds : CostBounds) (state : State) (events : List Event)
   pub sizes : HaveSizes delivered
   pub charged : AreCharged bounds state events delivered meter meter'
 
--- A sink has refused the reply to the event at an index. It has taken those to the events before;
--- with the refused one it would have taken those up to that event, and the state is the one after
--- it.
+-- A sink has refused the reply to the event at an index. It has taken the replies to the events
+-- before. With the refused reply it would have taken the replies up to that event, and the state is
+-- the state after that event.
 pub record Stopped (bounds : CostBounds) (state : State) (events : List Event)
     (before after : List Exchange) (meter meter' : Meter) (state' : State) : Type 0 where
   pub index : ℕ
@@ -114,13 +114,13 @@ pub record Stopped (bounds : CostBounds) (state : State) (events : List Event)
 pub record RunsEvents {T E : Type 0} (bounds : CostBounds) (events : List Event)
     (old new : TargetFields) (taken taken' : List Exchange) (refused refused' : ℕ)
     (result : Result T E) : Type 0 where
-  -- Where none is refused, the sink has taken the replies to all commands, each charged to the store,
+  -- If none is refused, the sink has taken the replies to all commands, each charged to the store,
   pub took : OnOk result (Exchanged bounds old.state events taken taken' old.meter new.meter)
   -- the state is the one after the events,
   pub state : OnOk result (new.state ≡ state_after_events old.state events)
   -- and no refusal is counted.
   pub sound : OnOk result (refused' ≡ refused)
-  -- Where one is refused, the events up to that one have happened, and none after it,
+  -- If one is refused, the events up to that one have happened, and none after it,
   pub stopped : OnErr result
       (Stopped bounds old.state events taken taken' old.meter new.meter new.state)
   -- and one refusal is counted.

@@ -1,4 +1,4 @@
--- What each operation does: the blocks that it names, and its effect.
+-- The meaning of each operation: the blocks that it names, and its effect.
 use Rattle.std.specs.Prelude.{ℕ, List, [], ◌∷◌, Bool, true, false, Result, Ok}
 use Rattle.sg_wire.specs.declared.extent.Extent.{Extent}
 use Rattle.sg_target.specs.BlockCommands.{read_capacity_10, read_capacity_16, reading, writing}
@@ -24,8 +24,8 @@ use Rattle.sg_target.specs.declared.refusal.Refusal.{Refusal}
 
 -- ---- The medium
 
--- The blocks that have to be on the disk, in the order in which they are checked, and whether the
--- operation writes to the medium.
+-- The blocks that have to be on the disk, in the order of their checks, and whether the operation
+-- writes to the medium.
 pub record MediumUse : Type 0 where
   pub extents : List Extent
   pub writes : Bool
@@ -63,8 +63,8 @@ medium_use (ChangeReservations action scope_type list) = uses_no_block
 
 -- ---- The effect
 
--- What an operation of an initiator does, or what is wrong with its page or its parameter list on a
--- disk in this state. SYNCHRONIZE CACHE does nothing, as there is no cache.
+-- The effect of an initiator's operation, or what is wrong with its page or its parameter list on a
+-- disk in this state. SYNCHRONIZE CACHE does nothing, because there is no cache.
 abbrev pub effect_of : State → (initiator : ℕ) → Operation → Result Effect Refusal
 effect_of state i Nothing = Ok (no_effect state)
 effect_of state i (ReturnSense format n) = Ok (returning_sense state i format n)

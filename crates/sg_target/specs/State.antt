@@ -16,8 +16,9 @@ pub record State : Type 0 where
   pub attentions : Pending
   pub reservations : ReservationState
 
--- On a new disk no block is mapped, the mode pages have their default values, POWER ON is pending for
--- each initiator, and none is registered. `PowerCycle` has what a disk is like after power on.
+-- On a new disk no block is mapped, and the mode pages have their default values. POWER ON is
+-- pending for each initiator, and none is registered. `PowerCycle` defines the disk after a power
+-- cycle.
 abbrev pub new_state : ConfigFields → State
 new_state config = record {
   identity = config.identity;
@@ -27,10 +28,10 @@ new_state config = record {
   reservations = empty_state;
 }
 
--- No table of the disk is past its limit: no more addresses are used than the pool has blocks,
--- each of the eight initiators has a queue of at most five pending conditions, all distinct, and at
--- most six initiators are registered, none twice and none under the key 0. A reservation has the
--- holders of its type. Each used address is below the capacity, and data is blocks of 512 bytes.
+-- No table of the disk is past its limit. No more addresses are used than the pool has blocks. Each
+-- of the eight initiators has a queue of at most five pending conditions, all distinct. At most six
+-- initiators are registered, none twice and none under the key 0. A reservation has the holders of
+-- its type. Each used address is below the capacity, and data is blocks of 512 bytes.
 pub record IsWithinLimits (state : State) : Type 0 where
   pub used : len state.disk.contents ≤ state.disk.pool
   pub pending : ArePending state.attentions

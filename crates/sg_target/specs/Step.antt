@@ -1,4 +1,4 @@
--- What a command does: the answer to it, and the state after it.
+-- The step of a command: the answer to it, and the state after it.
 use Rattle.std.specs.Prelude.{ℕ, List, [], Option, Some, None, Result, Ok, Err}
 use Rattle.sg_wire.specs.CutAnswer.{first_bytes}
 use Rattle.sg_wire.specs.SenseData.{sense_data}
@@ -29,18 +29,18 @@ pub record Step : Type 0 where
 
 -- ---- Refused
 
--- The format of the sense data of a refused command: descriptor format where D_SENSE is set (SPC-4,
--- Control mode page). REQUEST SENSE asks for one by its own bit DESC.
+-- The format of the sense data of a refused command: descriptor format if D_SENSE is set (SPC-4,
+-- Control mode page). REQUEST SENSE asks for a format by its own bit DESC.
 abbrev pub sense_format : State → Format
 sense_format state = format_of (descriptor_sense state.modes)
 
--- A conflict has a status of its own, and all else CHECK CONDITION with sense data.
+-- A conflict has a status of its own. All other refusals have CHECK CONDITION with sense data.
 abbrev pub refusal_answer : Format → Refusal → Answer
 refusal_answer format Conflict = record { status = ReservationConflict; sense = []; data_in = [] }
 refusal_answer format (CheckCondition reason) =
     record { status = CheckCondition; sense = sense_data format (sense_of reason); data_in = [] }
 
--- A refused command changes nothing, but for the unit attention that it reports, which is cleared.
+-- A refused command changes nothing, except that it clears the unit attention that it reports.
 abbrev pub after_refusal : State → (initiator : ℕ) → Refusal → State
 after_refusal state initiator (CheckCondition (Attention condition)) =
     without_attention state initiator
@@ -55,7 +55,7 @@ refused state initiator refusal =
 
 -- ---- Executed
 
--- Full data-in, or its first bytes where there is an allocation length.
+-- Full data-in, or its first bytes if there is an allocation length.
 abbrev pub cut : (allocation_length : Option ℕ) → List ℕ → List ℕ
 cut None data_in = data_in
 cut (Some n) data_in = first_bytes n data_in
@@ -80,17 +80,17 @@ abbrev pub executed_or_refused : State → (initiator : ℕ) → Effect → Step
 executed_or_refused state initiator effect =
     unless_no_space state initiator effect (no_space effect.after.disk)
 
--- What is left where the checks before that for space have passed a command, or refused it.
+-- The step of a command that the checks before the check for space have passed, or refused.
 abbrev pub outcome : State → (initiator : ℕ) → Result Effect Refusal → Step
 outcome state initiator (Ok effect) = executed_or_refused state initiator effect
 outcome state initiator (Err refusal) = refused state initiator refusal
 
--- What a CDB does with its data-out.
+-- The step of a CDB with its data-out.
 abbrev pub step : State → (initiator : ℕ) → (cdb data_out : List ℕ) → Step
 step state initiator cdb data_out = outcome state initiator (checked_effect state initiator cdb data_out)
 
 -- ---- Cited by private contracts alone
 
--- What an operation that has passed the checks of its command does.
+-- The step of an operation that has passed the checks of its command.
 abbrev pub step_by : State → (initiator : ℕ) → Operation → Step
 step_by state initiator operation = outcome state initiator (effect_of state initiator operation)

@@ -1,5 +1,5 @@
-// Anchoring the extents of a command: the blocks that they need are counted first, and then they are
-// anchored in turn, as they were sent.
+// Anchoring the extents of a command: the blocks that they need are counted first, and then they
+// are anchored in turn, as they were sent.
 ghost use Rattle.std.specs.Prelude.{◌≡◌, ◌+◌, ◌≤◌, ◌++◌, ◌↔◌, List, length};
 ghost use Rattle.std.specs.Prelude.{IsErr, OnOk, OnErr};
 ghost use Rattle.std.specs.FinMap.{len};
@@ -20,7 +20,7 @@ use sg_store::laws::remapping_takes_what_is_needed;
 use sg_store::{Space, Store};
 use sg_wire::Extent;
 
-/// How many blocks of the pool ranges need, of a store that has counted nothing.
+/// The number of blocks of the pool that ranges need, of a store that has counted nothing.
 fn count_needed<S: Store>(store: &mut S, ranges: &[AddressRange]) -> u64
     requires at_most { length ranges.now ≤ maximum_unmap_descriptors }
     requires fits { AreWithin (S.disk store.old).capacity ranges.now }
@@ -89,7 +89,7 @@ fn anchor_in_turn<S: Store>(store: &mut S, extents: &[Extent])
     }
 }
 
-/// Anchors extents in turn, where a pool of `pool` blocks has enough for them, of a store that has
+/// Anchors extents in turn, if a pool of `pool` blocks has enough for them, of a store that has
 /// counted nothing.
 ///
 /// # Errors

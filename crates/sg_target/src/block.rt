@@ -1,5 +1,5 @@
 // READ, WRITE and READ CAPACITY (SBC-3, 5). SYNCHRONIZE CACHE has its blocks checked and nothing to
-// do, as there is no cache.
+// do, because there is no cache.
 ghost use Rattle.std.specs.Prelude.{◌≡◌, ◌≤◌, ◌+◌, ◌∷◌, [], length, Some, None, OnOk, OnErr};
 ghost use Rattle.std.specs.Prelude.{IfOk, IfErr};
 ghost use Rattle.sg_pages.specs.ProvisioningPages.{maximum_transfer_length};
@@ -99,8 +99,7 @@ impl<S: Store> Target<S> {
 
 // ---- WRITE
 
-/// Blocks that a WRITE replaces, no more than the disk moves at once, and their bytes where they lie
-/// in data-out.
+/// Blocks that a WRITE replaces, no more than the disk moves at once, and their bytes in data-out.
 #[derive(Drop)]
 pub struct BlocksOut<'a> {
     pub(crate) extent: Extent,

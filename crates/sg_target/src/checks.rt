@@ -15,8 +15,8 @@ use sg_units::UnitAttention;
 use sg_wire::{CdbFault, Command, Initiator};
 
 impl<S: Store> Target<S> {
-    /// Makes the checks of a CDB, its command and its operation. Returns the operation. What it asks of
-    /// the disk's pages and reservations, and of its space, is checked as it is executed.
+    /// Makes the checks of a CDB, its command and its operation. Returns the operation. Its
+    /// execution checks what it asks of the disk's pages and reservations, and of its space.
     #[tactic(auto, unfolding(crate::specs::Checks::checked_cdb))]
     pub(crate) fn check_command<'a>(
         &self,
@@ -72,8 +72,8 @@ impl<S: Store> Target<S> {
         }
     }
 
-    /// Checks how an operation uses the medium: whether the disk has its blocks, and whether it writes
-    /// while SWP is set.
+    /// Checks how an operation uses the medium: whether the disk has its blocks, and whether it
+    /// writes while SWP is set.
     #[tactic(auto, unfolding(crate::specs::Checks::write_protection))]
     fn check_operation<'a>(&self, operation: Operation<'a>) -> Result<Operation<'a>, Refusal>
         ensures checked { result ≡ checked_operation self.now.state operation.entry }

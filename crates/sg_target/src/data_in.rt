@@ -27,7 +27,7 @@ pub(crate) enum DataIn {
         format: Format,
     },
     Inquiry(InquiryPage),
-    /// What a service action of PERSISTENT RESERVE IN returns.
+    /// The data that a service action of PERSISTENT RESERVE IN returns.
     Reservations(InAction),
     Capacity10,
     Capacity16,

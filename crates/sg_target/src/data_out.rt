@@ -5,7 +5,7 @@ ghost use Rattle.sg_target.specs.Checks.{short_data_out};
 
 use crate::refusal::{Reason, Refusal};
 
-/// The first bytes of data-out, all of which have to be there. More is ignored.
+/// The first `count` bytes of data-out, which must have them all. More bytes are ignored.
 pub(crate) fn needed_data_out(data_out: &[u8], count: usize) -> Result<&[u8], Refusal>
     ensures refused { IfErr result (λ refusal.
         short_data_out (Some count) data_out.now ≡ Some refusal) }

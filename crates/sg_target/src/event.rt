@@ -1,9 +1,9 @@
-// What happens to a disk, in a list.
+// Events that happen to a disk, in a list.
 ghost use Rattle.std.specs.Prelude.{◌≡◌};
 
 use crate::call::Call;
 
-/// What happens to a disk.
+/// An event that happens to a disk.
 #[derive(Clone, Copy)]
 pub enum Event<'a> {
     /// An initiator sends a command.
@@ -39,7 +39,8 @@ impl ToEvent for Call<'_> {
     ghost event = { λ call. Event.Call call };
 
     fn to_event(&self) -> Event<'_> {
-        // Field by field, as rt's borrow checker does not cover `*self` where a field is a reference.
+        // Field by field, because rt's borrow checker does not cover `*self` if a field is a
+        // reference.
         Event::Call(Call {
             initiator: self.initiator,
             cdb: self.cdb,

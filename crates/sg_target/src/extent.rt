@@ -1,4 +1,4 @@
-// Whether the disk has the logical blocks that a command names.
+// The check that the disk has the logical blocks that a command names.
 ghost use Rattle.std.specs.Prelude.{◌≡◌, ◌≤◌, ◌+◌, IfNone};
 ghost use Rattle.sg_target.specs.BlockCommands.{bytes_of};
 ghost use Rattle.sg_target.specs.Checks.{out_of_range, past_capacity};
@@ -15,7 +15,7 @@ pub(crate) fn byte_length(extent: Extent) -> u64
     BLOCK_LENGTH as u64 * u64::from(extent.count)
 }
 
-/// The refusal of blocks of which some is past the last one of a disk.
+/// The refusal of blocks if one is past the last block of a disk.
 pub(crate) fn past_capacity(extent: Extent, capacity: u64) -> Option<Refusal>
     requires { capacity ≤ MAX_CAPACITY }
     ensures value { result ≡ past_capacity capacity extent }
@@ -30,7 +30,7 @@ pub(crate) fn past_capacity(extent: Extent, capacity: u64) -> Option<Refusal>
     }))
 }
 
-/// The refusal of the first of some extents of which some block is past the last one of a disk.
+/// The refusal of the first extent with a block past the last block of a disk.
 #[tactic(auto, unfolding(crate::specs::Checks::out_of_range))]
 pub(crate) fn first_past_capacity(extents: &[Extent], capacity: u64) -> Option<Refusal>
     requires { capacity ≤ MAX_CAPACITY }

@@ -1,4 +1,5 @@
-// The addresses of a command's extents, in ranges that have no address in common. It knows no store.
+// The addresses of a command's extents, in ranges that have no address in common. It knows no
+// store.
 ghost use Rattle.std.specs.Prelude.{◌≡◌, ◌<◌, ◌≤◌, ◌∷◌, length, map};
 ghost use Rattle.sg_target.specs.Joining.{AreDisjoint, AreJoined, AreWithin, end_of};
 ghost use Rattle.sg_target.specs.Joining.{joined_if_near, range_of};
@@ -8,7 +9,8 @@ use arrayvec::ArrayVec;
 use sg_store::MAX_CAPACITY;
 use sg_wire::{Extent, MAXIMUM_UNMAP_DESCRIPTORS};
 
-/// Addresses from one on. Extents that overlap may have more together than one can name.
+/// Addresses from one on. Extents that overlap may have more addresses together than one extent can
+/// name.
 #[derive(Clone, Copy, Default)]
 pub(crate) struct AddressRange {
     pub(crate) lba: u64,
@@ -25,7 +27,7 @@ impl AddressRange {
         }
     }
 
-    /// Both as one, where they overlap or one begins where the other ends.
+    /// Both as one, if they overlap or one begins at the other's end.
     fn joined(self, other: AddressRange) -> Option<AddressRange>
         requires fits { (end_of self ≤ MAX_CAPACITY) × (end_of other ≤ MAX_CAPACITY) }
         ensures { result ≡ joined_if_near self other }
@@ -45,7 +47,7 @@ impl AddressRange {
 /// Ranges of addresses, as many as a command names at most.
 pub(crate) type RangeList = ArrayVec<AddressRange, MAXIMUM_UNMAP_DESCRIPTORS>;
 
-/// Ranges without an address in common, and one more: those that are near it are joined to it.
+/// Ranges without an address in common, and one more: the ranges that are near it are joined to it.
 fn with_range(ranges: &[AddressRange], range: AddressRange) -> RangeList
     requires disjoint { AreDisjoint ranges.now }
     requires fits { AreWithin MAX_CAPACITY (range ∷ ranges.now) }

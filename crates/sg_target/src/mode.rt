@@ -140,8 +140,7 @@ impl<S: Store> Target<S> {
 
 // ---- MODE SELECT
 
-/// The parameter list of a MODE SELECT, where it lies in data-out. Its length is a field of two bytes
-/// at most.
+/// The parameter list of a MODE SELECT, in data-out. Its length is a field of two bytes at most.
 #[derive(Drop)]
 pub struct ModeList<'a> {
     bytes: &'a [u8],
@@ -201,8 +200,8 @@ fn check_mode_select(
 }
 
 impl<S: Store> Target<S> {
-    /// The mode pages become those of a parameter list, unless something is wrong with it. Room for them
-    /// would else be made for every command.
+    /// Sets the mode pages to a parameter list's pages, unless something is wrong with the list. If
+    /// this were inlined, every command would make room for the pages.
     #[inline(never)]
     #[tactic(auto, using(crate::proofs::Space::room), unfolding(crate::specs::ModeCommands::selected_modes))]
     pub(crate) fn change_modes(
@@ -236,7 +235,7 @@ impl<S: Store> Target<S> {
         )
     }
 
-    /// Where a current value has changed, the other initiators get a unit attention.
+    /// If a current value has changed, the other initiators get a unit attention.
     fn report_changed_modes(&mut self, initiator: Initiator, changed: bool)
         ensures state { self.new.state ≡ record self.old.state {
           attentions = attentions_after self.old.state.attentions initiator changed;

@@ -1,4 +1,4 @@
-// What a command comes to: the operation that it asks for, and its execution.
+// The operation that a command asks for, and its execution.
 ghost use Rattle.std.specs.Prelude.{◌≡◌, ◌≤◌, ◌∷◌, [], length, IfNone};
 ghost use Rattle.sg_target.specs.Checks.{out_of_range, requested};
 ghost use Rattle.sg_target.specs.Demands.{demands};
@@ -31,9 +31,10 @@ use sg_store::{MAX_CAPACITY, Store};
 use sg_units::OutList;
 use sg_wire::{Command, Extent, Format, InAction, Initiator, ListedExtents, OutAction};
 
-/// What a command asks for, with all that it takes: its fields and its data-out are sound. Blocks past
-/// the last one and want of space can still refuse it. So can the disk's mode pages and reservations,
-/// which MODE SENSE, MODE SELECT and PERSISTENT RESERVE OUT are checked against as they are executed.
+/// The operation that a command asks for, with all that it takes: its fields and its data-out are
+/// sound. Blocks past the last one and a lack of space can still refuse it. The disk's mode pages
+/// and reservations can, too. MODE SENSE, MODE SELECT and PERSISTENT RESERVE OUT are checked
+/// against them as they are executed.
 #[derive(Drop)]
 pub enum Operation<'a> {
     /// Nothing more than the checks: TEST UNIT READY.
@@ -56,9 +57,9 @@ pub enum Operation<'a> {
         /// In bytes.
         allocation_length: u16,
     },
-    /// The mode pages become those of a list.
+    /// Sets the mode pages to a list's pages.
     ChangeModes {
-        /// Whether the list is that of MODE SELECT(10), with its longer header.
+        /// Whether the list has the longer header of MODE SELECT(10).
         ten: bool,
         /// Whether all pages are saved.
         sp: bool,
@@ -108,7 +109,7 @@ pub enum Operation<'a> {
     },
 }
 
-/// How an operation uses the medium.
+/// An operation's use of the medium.
 #[derive(Drop)]
 pub(crate) struct MediumUse {
     /// Why its blocks can't all be reached.
@@ -118,7 +119,7 @@ pub(crate) struct MediumUse {
 }
 
 impl<'a> Operation<'a> {
-    /// How it uses the medium of a disk of `capacity` blocks.
+    /// Its use of the medium of a disk of `capacity` blocks.
     #[tactic(auto, using(crate::proofs::StepLemmas::alone), unfolding(crate::specs::Checks::out_of_range))]
     pub(crate) fn medium_use(&self, capacity: u64) -> MediumUse
         requires { capacity ≤ MAX_CAPACITY }
@@ -161,8 +162,8 @@ impl<'a> Operation<'a> {
     }
 }
 
-/// What a command asks for on a disk of `blocks` blocks, where nothing is wrong with its values, its
-/// data-out and the page or the parameter list that it names.
+/// The operation that a command asks for on a disk of `blocks` blocks. This checks the command's
+/// values, its data-out, and the page or the parameter list that it names.
 pub(crate) fn operation_of<'a>(
     blocks: u64,
     command: &Command,

@@ -66,7 +66,7 @@ pub enum InquiryPage {
 }
 
 impl InquiryPage {
-    /// The page that EVPD and PAGE CODE name, if the disk has it.
+    /// The page that EVPD and PAGE CODE name, if the disk has such a page.
     fn named(evpd: bool, page_code: u8) -> Option<InquiryPage>
         ensures { result ≡ inquiry_page evpd page_code }
     {

@@ -67,8 +67,8 @@ pub(crate) fn check_unmap(fields: Unmap, data_out: &[u8]) -> Result<Operation<'_
     }
 }
 
-/// Why the extents of a parameter list can't all be reached, on a disk of `capacity` blocks. Room for
-/// their table would else be made for every command.
+/// The reason why the extents of a parameter list can't all be reached, on a disk of `capacity`
+/// blocks. If this were inlined, every command would make room for their table.
 #[inline(never)]
 pub(crate) fn listed_out_of_range(listed: &ListedExtents<'_>, capacity: u64) -> Option<Refusal>
     requires { capacity ≤ MAX_CAPACITY }
@@ -80,8 +80,8 @@ pub(crate) fn listed_out_of_range(listed: &ListedExtents<'_>, capacity: u64) -> 
 }
 
 impl<S: Store> Target<S> {
-    /// Unmaps the extents of a parameter list. Room for their table would else be made for every
-    /// command.
+    /// Unmaps the extents of a parameter list. If this were inlined, every command would make room
+    /// for their table.
     #[inline(never)]
     pub(crate) fn unmap_listed(&mut self, listed: &ListedExtents<'_>, buf: &[u8]) -> Reply
         requires on_disk { AreOnDisk self.old.state.disk.capacity listed.now }
@@ -136,8 +136,8 @@ fn unmap_in_turn<S: Store>(store: &mut S, extents: &[Extent])
 // ---- Anchoring
 
 impl<S: Store> Target<S> {
-    /// Anchors the extents of a parameter list. Room for their table would else be made for every
-    /// command.
+    /// Anchors the extents of a parameter list. If this were inlined, every command would make room
+    /// for their table.
     #[inline(never)]
     pub(crate) fn anchor_listed(
         &mut self,
@@ -183,7 +183,7 @@ const NUMBER_OF_BLOCKS_10: u16 = 7;
 
 const NUMBER_OF_BLOCKS_16: u16 = 10;
 
-/// A logical block, where it lies in data-out.
+/// A logical block in data-out.
 #[derive(Drop)]
 pub struct BlockOut<'a> {
     bytes: &'a [u8],
@@ -277,7 +277,7 @@ fn check_write_same_length(extent: Extent, byte: u16) -> Result<(), Refusal>
     Ok(())
 }
 
-/// Whether WRITE SAME unmaps its blocks, which are read as zeros then.
+/// Returns `true` if WRITE SAME unmaps its blocks, which are read as zeros then.
 #[tactic(auto, unfolding(crate::specs::ProvisioningCommands::unmaps))]
 fn unmaps(unmap: bool, block: &[u8]) -> bool
     ensures { result ≡ unmaps unmap block.now }

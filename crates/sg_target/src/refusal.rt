@@ -2,7 +2,7 @@
 use sg_units::UnitAttention;
 use sg_wire::{CdbFault, Pointer, Sense};
 
-/// How a command is refused.
+/// The refusal of a command.
 #[derive(Clone, Copy)]
 pub enum Refusal {
     /// RESERVATION CONFLICT, a status without sense data.
@@ -26,7 +26,7 @@ pub enum Reason {
     ParameterListLengthError,
     /// INVALID FIELD IN PARAMETER LIST, at this byte.
     InvalidFieldInParameterList { byte: u16 },
-    /// INVALID RELEASE OF PERSISTENT RESERVATION: the one that is held has another type.
+    /// INVALID RELEASE OF PERSISTENT RESERVATION: the held reservation has another type.
     InvalidRelease,
     /// INSUFFICIENT REGISTRATION RESOURCES: there is no room for another registration.
     InsufficientRegistrationResources,
@@ -99,7 +99,7 @@ impl From<CdbFault> for Refusal {
     }
 }
 
-/// The sense of REQUEST SENSE: a pending unit attention, or that there is none.
+/// The sense of REQUEST SENSE: a pending unit attention, or NO SENSE.
 pub(crate) fn pending_sense(condition: Option<UnitAttention>) -> Sense
     ensures { fields_of result ≡ pending_sense condition }
 {

@@ -40,7 +40,8 @@ pub(crate) fn write_reserve_in_data(action: InAction, reservations: &Reservation
     }
 }
 
-/// What PERSISTENT RESERVE IN asks for: the disk supports each of its service actions.
+/// The operation that PERSISTENT RESERVE IN asks for: the disk supports each of its service
+/// actions.
 pub(crate) fn check_reserve_in(fields: PersistentReserveIn) -> Operation<'static>
     ensures { result ≡ Operation.ReturnReservations fields.action fields.allocation_length }
 {
@@ -91,7 +92,7 @@ impl From<OutFault> for Refusal {
     }
 }
 
-/// Whether a service action is refused without a valid scope and type.
+/// Returns `true` if a service action is refused without a valid scope and type.
 fn always_needs_type(action: OutAction) -> bool
     ensures { result ≡ always_needs_type action }
 {
@@ -127,8 +128,9 @@ pub(crate) fn check_reserve_out(
 }
 
 impl<S: Store> Target<S> {
-    /// Registrations and reservation change, unless something is wrong with the parameter list. Other
-    /// initiators get unit attentions. Room for the change would else be made for every command.
+    /// Registrations and reservation change, unless something is wrong with the parameter list.
+    /// Other initiators get unit attentions. If this were inlined, every command would make room
+    /// for the change.
     #[inline(never)]
     #[tactic(auto, unfolding(crate::specs::ReservationCommands::reservation_change))]
     pub(crate) fn change_reservations(

@@ -20,7 +20,7 @@ pub trait Sink {
     /// The replies that were taken, with their data-in.
     ghost taken: { Self → List Exchange };
 
-    /// How many were refused.
+    /// The number of refused replies.
     ghost faults: { Self → ℕ };
 
     /// Takes a reply, with its data-in.
@@ -36,8 +36,8 @@ pub trait Sink {
 
 impl<S: Store> Target<S> {
     /// Executes commands in turn, and delivers their replies to a sink. The buffer has
-    /// [`BUFFER_LENGTH`](crate::BUFFER_LENGTH) bytes at least; data-in is at its beginning while the
-    /// sink takes the reply.
+    /// [`BUFFER_LENGTH`](crate::BUFFER_LENGTH) bytes at least; data-in is at its beginning while
+    /// the sink takes the reply.
     ///
     /// # Errors
     /// The sink refused a reply. The commands up to that one were executed, and none after it.
@@ -50,7 +50,8 @@ impl<S: Store> Target<S> {
         requires { longest_data_in ≤ length buf.old }
 
         // The sink has taken the replies to all calls, each charged to the store, and the state is
-        // the one after them. Or it has refused one. No table passes its limit on the way.
+        // the state after all calls. Or the sink has refused one. No table passes its limit on the
+        // way.
         ensures { RunsEvents (cost_bounds S.price S.least) (all_calls calls.now)
             self.old self.new (K.taken sink.old) (K.taken sink.new)
             (K.faults sink.old) (K.faults sink.new) result }
@@ -77,7 +78,7 @@ impl<S: Store> Target<S> {
         self.run_list(events, buf, sink)
     }
 
-    /// Lets the events of a list happen in turn, whether it has calls alone or events.
+    /// Lets the events of a list happen in turn, whether it is a list of calls or of events.
     fn run_list<E: ToEvent, K: Sink>(
         &mut self,
         list: &[E],
@@ -89,8 +90,8 @@ impl<S: Store> Target<S> {
             self.old self.new (K.taken sink.old) (K.taken sink.new)
             (K.faults sink.old) (K.faults sink.new) result }
     {
-        // The store's contract says that its blocks are well formed, and the type's invariant, which is
-        // known where a field is used, that the tables are within their limits.
+        // The store's contract says that its blocks are well formed. The type's invariant, which is
+        // known where a field is used, says that the tables are within their limits.
         let _ = self.store.used();
         limits_are_kept();
         for item in list {

@@ -10,7 +10,7 @@ use sg_wire::{Format, Initiator};
 use std::alloc::{AllocError, Global};
 use std::marker::Model;
 
-/// The least length of the buffer for data-in, in bytes: that of the most blocks that a READ
+/// The least length of the buffer for data-in, in bytes: the length of the most blocks that a READ
 /// returns.
 pub const BUFFER_LENGTH: usize = MAXIMUM_TRANSFER_LENGTH as usize * BLOCK_LENGTH;
 
@@ -68,9 +68,9 @@ ghost use Rattle.sg_target.specs.State.{new_state};
 ghost use Rattle.sg_target.specs.Step.{after_refusal, sense_format};
 
 impl<S: Store> Target<S> {
-    /// A target as it is after power on: no block is mapped, the mode pages have their default
-    /// values, a unit attention, POWER ON, is pending for each initiator, and none is registered. All
-    /// memory is taken here.
+    /// A target as it is after power on. No block is mapped, and the mode pages have their default
+    /// values. A unit attention, POWER ON, is pending for each initiator, and none is registered.
+    /// All memory is taken here.
     ///
     /// # Errors
     /// Memory was refused.
@@ -99,7 +99,7 @@ impl<S: Store> Target<S> {
     ) -> Reply
         requires { longest_data_in ≤ length buf.old }
 
-        // The answer and the state after it are those of the definition's step. No table passes its
+        // The answer and the state after it are as in the definition's step. No table passes its
         // limit, and what the store did is charged for the command's ranges.
         ensures { IsExecuted (cost_bounds S.price S.least) initiator cdb.now data_out.now
             self.old self.new result buf.old buf.new }
@@ -112,8 +112,8 @@ impl<S: Store> Target<S> {
     }
 
     /// A power cycle. The blocks are as they were, and the saved mode pages are the current ones.
-    /// Registrations and reservation are as they were where they persist through a power loss, and
-    /// gone where not; PRGENERATION is 0. POWER ON alone is pending for each initiator.
+    /// Registrations and reservation are as they were if they persist through a power loss, and
+    /// gone if not; PRGENERATION is 0. Only POWER ON is pending for each initiator.
     pub fn power_cycle(&mut self)
         ensures { CyclesPower self.old self.new }
     {

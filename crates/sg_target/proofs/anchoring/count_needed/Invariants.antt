@@ -4,7 +4,7 @@ use Rattle.sg_target.specs.Anchoring.{counted_ranges}
 use Rattle.sg_target.specs.Ranges.{IsCounted, cost_bounds}
 use Rattle.sg_target.proofs.anchoring.count_needed.Given as goal
 
--- what those so far need
+-- the blocks that the ranges so far need
 abbrev pub invariant-loop-range : goal.invariant-loop-range
 invariant-loop-range g l =
     let before = g.S.Store.disk l.fn.store in
