@@ -28,7 +28,7 @@ pub record IsPlanned (text before after : List ℕ) (shown : CommandRecord) : Ty
   pub data_out_length : shown.data_out_length ≡ length (parameter_list tool.parameters)
   pub data_out : after ≡ overwritten (parameter_list tool.parameters) before
 
--- ---- Cited by private contracts alone
+-- ---- Cited only by private contracts
 
 -- A record shows the bytes that a tool sends.
 pub record ShowsPlan (shown : CommandRecord) (plan : Plan) : Type 0 where

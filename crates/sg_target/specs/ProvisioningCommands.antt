@@ -108,7 +108,7 @@ reporting_status state start n = let found = lba_status state.disk start in
           ∷ [];
     }
 
--- ---- Cited by private contracts alone
+-- ---- Cited only by private contracts
 
 abbrev pub disk_changed_in_turn : Change → Disk → List Extent → Disk
 disk_changed_in_turn change disk extents =

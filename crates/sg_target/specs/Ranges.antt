@@ -71,7 +71,7 @@ pub record IsCharged (bounds : CostBounds) (pool : ℕ) (over : List Range)
   -- without a range the store counts nothing
   pub idle : over ≡ [] → after ≡ before
 
--- ---- Cited by private contracts alone
+-- ---- Cited only by private contracts
 
 -- A store has counted no more than ranges may cost, since a restart.
 pub record IsWithinPrice (bounds : CostBounds) (pool : ℕ) (over : List Range)

@@ -89,7 +89,7 @@ outcome state initiator (Err refusal) = refused state initiator refusal
 abbrev pub step : State → (initiator : ℕ) → (cdb data_out : List ℕ) → Step
 step state initiator cdb data_out = outcome state initiator (checked_effect state initiator cdb data_out)
 
--- ---- Cited by private contracts alone
+-- ---- Cited only by private contracts
 
 -- The step of an operation that has passed the checks of its command.
 abbrev pub step_by : State → (initiator : ℕ) → Operation → Step
