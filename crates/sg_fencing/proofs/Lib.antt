@@ -19,6 +19,7 @@ mod RegistrationLemmas
 mod OutsiderLemmas
 mod NewcomerLemmas
 mod RegisteringLemmas
+mod OldKeyLemmas
 mod PreemptLemmas
 -- Registrants and others.
 mod AgreeLemmas

@@ -59,11 +59,16 @@ is_registering Register = true
 is_registering RegisterAndIgnoreExistingKey = true
 is_registering _ = false
 
--- The parameter list of a REGISTER or a REGISTER AND IGNORE EXISTING KEY (SPC-4, 6.16.3).
+-- The parameter list of a PERSISTENT RESERVE OUT with a service action of some kind (SPC-4, 6.16.3).
+abbrev pub list_of : (kind : OutAction → Bool) → Result Command CdbFault → (data_out : List ℕ)
+    → Option OutList
+list_of kind (Ok (PersistentReserveOut c)) data_out =
+    if kind c.action then Some (out_list (first_bytes c.list_length data_out)) else None
+list_of kind _ data_out = None
+
+-- The parameter list of a REGISTER or a REGISTER AND IGNORE EXISTING KEY.
 abbrev pub registering_list : Result Command CdbFault → (data_out : List ℕ) → Option OutList
-registering_list (Ok (PersistentReserveOut c)) data_out =
-    if is_registering c.action then Some (out_list (first_bytes c.list_length data_out)) else None
-registering_list _ data_out = None
+registering_list command data_out = list_of is_registering command data_out
 
 -- Such a command asks to register its initiator if its key is not zero. With the key zero it asks
 -- to unregister its initiator (SPC-4, 5.13, registering and unregistering).
@@ -172,6 +177,20 @@ TheRefusedStayUnregistered =
     (state : State) (initiator : ℕ) (calls : List Call) → is_registrant state initiator ≡ false
     → IsNeverGranted initiator state (all_calls calls)
     → StaysUnregistered initiator state calls
+
+abbrev pub is_register : OutAction → Bool
+is_register Register = true
+is_register _ = false
+
+-- An initiator that is not registered may send REGISTER with the key that it had, or with any other key
+-- than zero. The disk refuses it (SPC-4, 5.13, registering).
+abbrev pub OldKeysAreRefused : Type 0
+OldKeysAreRefused =
+    (state : State) (initiator : ℕ) (cdb data_out : List ℕ) (list : OutList)
+    → is_registrant state initiator ≡ false
+    → list_of is_register (command_of cdb) data_out ≡ Some list
+    → (list.reservation_key ≡ 0 → ⊥)
+    → (step state initiator cdb data_out).answer.status ≡ Good → ⊥
 
 -- ---- Lists of commands
 

@@ -15,6 +15,7 @@ ghost use Rattle.sg_fencing.specs.PowerCycles.{TheLastRegisterDecides};
 ghost use Rattle.sg_fencing.specs.Registrants.{FencedOffAreKeptOut, FencedOffLeaveTheView};
 ghost use Rattle.sg_fencing.specs.Registrants.{FencedOffReadNothing, FencedOffSeeNoBlock};
 ghost use Rattle.sg_fencing.specs.Registrants.{FencedOffWriteNothing, NoBlockIsSeenOverAList};
+ghost use Rattle.sg_fencing.specs.Registrants.{OldKeysAreRefused};
 ghost use Rattle.sg_fencing.specs.Registrants.{OnlyRegisteringRegisters, OutsidersChangeNothing};
 ghost use Rattle.sg_fencing.specs.Registrants.{PreemptedAreUnregistered, PreemptedWriteNothing};
 ghost use Rattle.sg_fencing.specs.Registrants.{TheRefusedStayUnregistered};
@@ -153,6 +154,12 @@ pub fn nobody_registers_another()
 /// the key zero, as often as it likes.
 pub fn the_refused_stay_unregistered()
     ensures { TheRefusedStayUnregistered }
+{}
+
+/// An initiator that is not registered may send REGISTER with the key that it had before. The disk
+/// refuses that, and any other RESERVATION KEY than zero.
+pub fn old_keys_are_refused()
+    ensures { OldKeysAreRefused }
 {}
 
 /// Over a list of commands, none that writes ends with GOOD if it finds a reservation of any type
