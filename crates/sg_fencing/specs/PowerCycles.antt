@@ -100,8 +100,8 @@ pub record TheLastRegisterDecides : Type 0 where
 
 -- An initiator was not registered, and the disk has granted it no registration since, whatever
 -- commands and power cycles happened. Then it writes nothing while a reservation is held: none of
--- its commands that write ends with GOOD. So a node that was fenced off stays so, whoever loses
--- power, and however often it tries to register.
+-- its commands that write ends with GOOD. So such a node stays fenced off while a reservation is
+-- held, through power cycles of the disk, and however often it tries to register without success.
 abbrev pub FencedOffThroughPowerCycles : Type 0
 FencedOffThroughPowerCycles =
     (state : State) (initiator : ℕ) (events : List Event) (call : Call)

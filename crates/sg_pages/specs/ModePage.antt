@@ -39,6 +39,7 @@ row code page_length defaults changeable = record {
 }
 
 -- Byte 2: AWRE is bit 7, ARRE is bit 6. Bytes 3 and 8: READ RETRY COUNT and WRITE RETRY COUNT.
+-- Choice (SBC-3, 6.4): AWRE and ARRE may be 0.
 abbrev error_recovery_row : PageRow
 error_recovery_row =
     row 0x01 0x0A ((2, 0xC0) ∷ (3, 0x08) ∷ (8, 0x08) ∷ []) ((2, 0xC0) ∷ (3, 0xFF) ∷ (8, 0xFF) ∷ [])

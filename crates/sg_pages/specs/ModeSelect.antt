@@ -96,6 +96,7 @@ part_faults expected ignored p = differences p.offset expected ignored p.bytes +
 
 -- The ignored bits of the header before BLOCK DESCRIPTOR LENGTH: MODE DATA LENGTH, DEVICE-SPECIFIC
 -- PARAMETER and LONGLBA. MEDIUM TYPE and the reserved bits have to be zero.
+-- Choice (SPC-4, 6.11): a reserved bit among them may be refused.
 abbrev pub ignored_header_bits : (ten : Bool) → List ℕ
 ignored_header_bits ten =
     if ten then 0xFF ∷ 0xFF ∷ 0x00 ∷ 0xFF ∷ 0x01 ∷ 0x00 ∷ [] else 0xFF ∷ 0x00 ∷ 0xFF ∷ []

@@ -89,6 +89,7 @@ unsupported_value unsupported =
 
 -- There is less data-out than the command needs. More is ignored.
 -- Choice (SAM-5, data-out): data-out of another length has no answer there.
+-- Departure (SAM-5, 5.3.3): a conflict of PERSISTENT RESERVE OUT comes first there.
 abbrev pub short_data_out : (data_out_length : Option ℕ) → List ℕ → Option Refusal
 short_data_out None data_out = None
 short_data_out (Some n) data_out =

@@ -32,13 +32,14 @@ abbrev pub without_oldest : Pending → (initiator : ℕ) → Pending
 without_oldest pending initiator =
     slice_set pending initiator (drop 1 (pending_for pending initiator))
 
--- A condition becomes the newest, unless it is pending already.
+-- Two conditions are the same.
 abbrev pub is_condition : UnitAttention → UnitAttention → Bool
 is_condition condition other = number_of other == number_of condition
 
 abbrev pub is_pending : List UnitAttention → UnitAttention → Bool
 is_pending queue condition = list_any (is_condition condition) queue
 
+-- A condition becomes the newest, unless it is pending already.
 abbrev pub with_condition : List UnitAttention → UnitAttention → List UnitAttention
 with_condition queue condition =
     if is_pending queue condition then queue else queue ++ condition ∷ []

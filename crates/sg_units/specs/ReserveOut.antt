@@ -116,8 +116,7 @@ released_unless_type held type = if has_type held type then None else Some Reser
 -- ---- The service actions. SARK is the SERVICE ACTION RESERVATION KEY
 
 -- REGISTER and REGISTER AND IGNORE EXISTING KEY (SPC-4, 5.13, registering and unregistering).
--- Departure (SPC-4, 6.15.2): PRGENERATION is incremented in the first case there.
--- Departure (SPC-4, 5.13, power loss): APTPL is taken in the first case there.
+-- Choice (SPC-4, 5.13, registering): the first case may count, with PRGENERATION and APTPL.
 unfoldable pub register_cases : ReservationState → (caller sark : ℕ) → (aptpl : Bool) → List Case
 register_cases state caller sark aptpl =
     let all = state.registrations in

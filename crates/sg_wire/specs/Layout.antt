@@ -275,7 +275,7 @@ abbrev pub rows_of : ℕ → List Layout
 rows_of opcode = filter (λ l. l.opcode == opcode) table
 
 -- The length of a CDB follows from the group code, the top three bits of the operation code (SPC-4,
--- 4.2.5.1). The groups here are 0, 1, 2, 4 and 5. The table has no row of another group.
+-- 4.2.5.1). The table has rows of groups 0, 1, 2 and 4. A CDB of group 5 would have 12 bytes.
 abbrev pub length_of : ℕ → ℕ
 length_of opcode =
     let group = opcode / 32 in
@@ -354,6 +354,7 @@ abbrev pub masks : Layout → List ℕ
 masks l = map (mask_of l) (range_with_len 0 (length_of l.opcode))
 
 -- The first byte, counted from k, that has a bit outside its mask.
+-- Departure (SPC-4, 4.5.2.4.2): the pointer is to the first byte of an obsolete field there.
 abbrev pub first_bad : ℕ → List ℕ → List ℕ → Option ℕ
 first_bad k [] cdb = None
 first_bad k (mask ∷ masks) [] = None
