@@ -5,6 +5,7 @@ mod ReserveOutLemmas
 mod OwnReserveOutLemmas
 -- From a command to its operation.
 mod OperationLemmas
+mod DiskLemmas
 -- Commands of others.
 mod AccessLemmas
 mod OthersLemmas

@@ -1,7 +1,10 @@
 -- Laws of the definitions, in the subject's words.
-use Rattle.std.specs.Prelude.{◌≡◌, ◌⊎◌, ℕ, List, [], false, Some, None, Ok}
-use Rattle.sg_wire.specs.Layout.{class_of}
+use Rattle.std.specs.Prelude.{◌≡◌, ◌⊎◌, ℕ, List, [], Bool, true, false, Some, None, Result, Ok}
+use Rattle.sg_wire.specs.Layout.{class_of, command_of}
+use Rattle.sg_wire.specs.declared.command.CdbFault.{CdbFault}
 use Rattle.sg_wire.specs.declared.command.Class.{Class}
+use Rattle.sg_wire.specs.declared.command.Command.{Command}
+use Rattle.sg_wire.specs.declared.command.Command.TheVariants as command
 use Rattle.sg_units.specs.Access.{allows}
 use Rattle.sg_units.specs.Attentions.{oldest, without_oldest}
 use Rattle.sg_target.specs.Effect.{Effect}
@@ -19,6 +22,26 @@ OnlyWritesChangeBlocks =
     → (medium_use operation).writes ≡ false
     → effect_of state initiator operation ≡ Ok effect
     → effect.after.disk ≡ state.disk
+
+-- The commands that may change blocks: WRITE(6), WRITE(10), WRITE(16), WRITE SAME(10), WRITE SAME(16)
+-- and UNMAP.
+abbrev pub may_change_blocks : Result Command CdbFault → Bool
+may_change_blocks (Ok (command.Write6 c)) = true
+may_change_blocks (Ok (command.Write10 c)) = true
+may_change_blocks (Ok (command.Write16 c)) = true
+may_change_blocks (Ok (command.WriteSame10 c)) = true
+may_change_blocks (Ok (command.WriteSame16 c)) = true
+may_change_blocks (Ok (command.Unmap c)) = true
+may_change_blocks _ = false
+
+-- Every other command leaves the disk as it was, whatever its answer is: the capacity, the pool, and
+-- each block with its provisioning status. SYNCHRONIZE CACHE does so too, although a reservation
+-- treats it as a command that writes.
+abbrev pub OnlyThreeCommandsChangeTheDisk : Type 0
+OnlyThreeCommandsChangeTheDisk =
+    (state : State) (initiator : ℕ) (cdb data_out : List ℕ)
+    → may_change_blocks (command_of cdb) ≡ false
+    → (step state initiator cdb data_out).state.disk ≡ state.disk
 
 -- Nothing has changed, except that the oldest unit attention of an initiator may have been cleared.
 -- The reservations of a state are its registrations, its reservation, PRGENERATION and APTPL.

@@ -6,8 +6,8 @@ ghost use Rattle.sg_fencing.specs.Fencing.{OnlyPreemptionEnds, OthersSeeNoBlock}
 ghost use Rattle.sg_fencing.specs.Group.{EqualGroupViewsEndAlike, EqualGroupViewsRunAlike};
 ghost use Rattle.sg_fencing.specs.Group.{NewcomersAreSeen, OutsidersMayBeLeftOut};
 ghost use Rattle.sg_fencing.specs.Laws.{ConflictChangesNothing, OnlyWritesChangeBlocks};
-ghost use Rattle.sg_fencing.specs.Laws.{RefusedByReservation, RefusedChangesNothing};
-ghost use Rattle.sg_fencing.specs.Laws.{RefusedReturnsNothing};
+ghost use Rattle.sg_fencing.specs.Laws.{OnlyThreeCommandsChangeTheDisk, RefusedByReservation};
+ghost use Rattle.sg_fencing.specs.Laws.{RefusedChangesNothing, RefusedReturnsNothing};
 ghost use Rattle.sg_fencing.specs.PowerCycles.{BlocksAndSavedPagesStay, FencedOffThroughPowerCycles};
 ghost use Rattle.sg_fencing.specs.PowerCycles.{HolderIsAsIfAloneThroughPowerCycles, OthersAreGone};
 ghost use Rattle.sg_fencing.specs.PowerCycles.{PersistentOnesStay, PowerOnIsPendingForEach, TwoAreOne};
@@ -28,6 +28,13 @@ use sg_wire::laws::commands_have_their_class;
 /// protection need not stop a command that asks for it.
 pub fn only_writes_change_blocks()
     ensures { OnlyWritesChangeBlocks }
+{}
+
+/// Only WRITE, WRITE SAME and UNMAP change blocks. Every other command leaves the disk as it was,
+/// whatever its answer is. SYNCHRONIZE CACHE does so too, although a reservation treats it as a
+/// command that writes.
+pub fn only_three_commands_change_the_disk()
+    ensures { OnlyThreeCommandsChangeTheDisk }
 {}
 
 /// A command that does not end with GOOD changes no block, mode page, registration or reservation,
