@@ -18,6 +18,7 @@ ghost use Rattle.sg_fencing.specs.Registrants.{FencedOffWriteNothing, NoBlockIsS
 ghost use Rattle.sg_fencing.specs.Registrants.{OldKeysAreRefused};
 ghost use Rattle.sg_fencing.specs.Registrants.{OnlyRegisteringRegisters, OutsidersChangeNothing};
 ghost use Rattle.sg_fencing.specs.Registrants.{PreemptedAreUnregistered, PreemptedWriteNothing};
+ghost use Rattle.sg_fencing.specs.Registrants.{PreemptionKeepsAReservation};
 ghost use Rattle.sg_fencing.specs.Registrants.{TheRefusedStayUnregistered};
 
 use sg_target::laws::limits_are_kept;
@@ -246,6 +247,13 @@ pub fn preemption_unregisters()
 {
     one_key_each();
 }
+
+/// A PREEMPT or a PREEMPT AND ABORT ends with GOOD while a reservation is held. If any initiator is
+/// registered after it, a reservation is held after it too. So an initiator that has lost its
+/// registration is fenced off.
+pub fn preemption_keeps_a_reservation()
+    ensures { PreemptionKeepsAReservation }
+{}
 
 /// After a PREEMPT or a PREEMPT AND ABORT of its key, an initiator writes nothing while a
 /// reservation of any type is held. Over a list of commands, this lasts until the disk grants it a
