@@ -1,5 +1,6 @@
 -- Operations and commands that leave the disk as it is.
-use Rattle.std.proofs.Common.{◌≡◌, ℕ, Option, Some, None, Result, Ok, Err, false, refl, sym, ap, ◌∙◌}
+use Rattle.std.proofs.Common.{◌≡◌, ℕ, Option, Some, None, Result, Ok, Err, false, refl, sym, ap}
+use Rattle.std.proofs.Common.{◌∙◌}
 use Rattle.sg_store.specs.Disk.{Disk}
 use Rattle.sg_target.specs.Effect.{Effect, returning_up_to}
 use Rattle.sg_target.specs.ModeCommands.{changing_modes, mode_parameters, selected_modes}
@@ -12,7 +13,7 @@ use Rattle.sg_target.specs.declared.operation.Operation.TheVariants.{ReturnModes
 use Rattle.sg_target.specs.declared.operation.Operation.TheVariants.{ChangeReservations}
 use Rattle.sg_target.specs.declared.refusal.Refusal.{Refusal}
 use Rattle.sg_target.specs.Checks.{no_space}
-use Rattle.sg_target.specs.Step.{Step, outcome, refused, step, unless_no_space}
+use Rattle.sg_target.specs.Step.{Step, outcome, refused, unless_no_space}
 use Rattle.sg_target.specs.declared.refusal.Reason.TheVariants.{UnitAttention as Attention}
 use Rattle.sg_target.specs.declared.refusal.Refusal.TheVariants.{CheckCondition}
 use Rattle.sg_target.proofs.LiftLemmas.{lifted}

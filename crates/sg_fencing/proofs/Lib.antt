@@ -6,6 +6,7 @@ mod OwnReserveOutLemmas
 -- From a command to its operation.
 mod OperationLemmas
 mod DiskLemmas
+mod SpaceLemmas
 -- Commands of others.
 mod AccessLemmas
 mod OthersLemmas

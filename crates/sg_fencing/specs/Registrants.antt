@@ -150,9 +150,9 @@ PreemptedAreUnregistered =
     → is_registrant (step state caller cdb data_out).state initiator ≡ false
 
 -- A PREEMPT or a PREEMPT AND ABORT ends with GOOD while a reservation is held. If any initiator is
--- registered after it, a reservation is held after it too (SPC-4, 5.13, preempting). So an initiator
--- that has lost its registration is fenced off. The reservation ends only if all registrants held it
--- and the command has removed them all, and its sender with them.
+-- registered after it, a reservation is held after it too (SPC-4, 5.13, preempting). So an
+-- initiator that has lost its registration is fenced off. If nobody is registered, nobody can hold
+-- a reservation. So an all registrants reservation ends if a registrant preempts the key of all.
 abbrev pub PreemptionKeepsAReservation : Type 0
 PreemptionKeepsAReservation =
     (state : State) (caller registrant key : ℕ) (cdb data_out : List ℕ) → IsWithinLimits state

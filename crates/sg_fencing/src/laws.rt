@@ -8,6 +8,7 @@ ghost use Rattle.sg_fencing.specs.Group.{NewcomersAreSeen, OutsidersMayBeLeftOut
 ghost use Rattle.sg_fencing.specs.Laws.{ConflictChangesNothing, OnlyWritesChangeBlocks};
 ghost use Rattle.sg_fencing.specs.Laws.{OnlyThreeCommandsChangeTheDisk, RefusedByReservation};
 ghost use Rattle.sg_fencing.specs.Laws.{RefusedChangesNothing, RefusedReturnsNothing};
+ghost use Rattle.sg_fencing.specs.Laws.{WritesOverUsedAddressesAreNeverRefusedForSpace};
 ghost use Rattle.sg_fencing.specs.PowerCycles.{BlocksAndSavedPagesStay, FencedOffThroughPowerCycles};
 ghost use Rattle.sg_fencing.specs.PowerCycles.{HolderIsAsIfAloneThroughPowerCycles, OthersAreGone};
 ghost use Rattle.sg_fencing.specs.PowerCycles.{PersistentOnesStay, PowerOnIsPendingForEach, TwoAreOne};
@@ -21,7 +22,7 @@ ghost use Rattle.sg_fencing.specs.Registrants.{PreemptedAreUnregistered, Preempt
 ghost use Rattle.sg_fencing.specs.Registrants.{PreemptionKeepsAReservation};
 ghost use Rattle.sg_fencing.specs.Registrants.{TheRefusedStayUnregistered};
 
-use sg_target::laws::limits_are_kept;
+use sg_target::laws::{limits_are_kept, writes_over_used_addresses_have_space};
 use sg_units::laws::{one_key_each, others_are_refused};
 use sg_wire::laws::commands_have_their_class;
 
@@ -37,6 +38,14 @@ pub fn only_writes_change_blocks()
 pub fn only_three_commands_change_the_disk()
     ensures { OnlyThreeCommandsChangeTheDisk }
 {}
+
+/// A WRITE whose addresses are all mapped or anchored takes no more of the pool. So no check
+/// refuses it for space: its answer is not SPACE ALLOCATION FAILED WRITE PROTECT.
+pub fn writes_over_used_addresses_are_never_refused_for_space()
+    ensures { WritesOverUsedAddressesAreNeverRefusedForSpace }
+{
+    writes_over_used_addresses_have_space();
+}
 
 /// A command that does not end with GOOD changes no block, mode page, registration or reservation,
 /// and not PRGENERATION. It may clear the unit attention that it reports.
