@@ -5,6 +5,8 @@ mod ReserveOutLemmas
 mod OwnReserveOutLemmas
 -- From a command to its operation.
 mod OperationLemmas
+mod DiskLemmas
+mod SpaceLemmas
 -- Commands of others.
 mod AccessLemmas
 mod OthersLemmas

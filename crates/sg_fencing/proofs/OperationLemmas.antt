@@ -1,7 +1,8 @@
 -- The facts about a command that its operation shows. Of the laws' modules only this one knows
 -- commands. A command has a case only if its operation looks at more than its fields.
 use Rattle.std.proofs.Common.{◌≡◌, ℕ, Bool, true, false, List, Option, Some, None, Result, Ok, Err}
-use Rattle.std.proofs.Common.{refl, subst, cond}
+use Rattle.std.proofs.Common.{refl, subst, cond, sym, ◌∙◌}
+use Rattle.std.proofs.lemmas.Bool.{false≢true}
 use Rattle.std.specs.Prelude.{if◌then◌else◌}
 use Rattle.sg_wire.specs.CutAnswer.{first_bytes}
 use Rattle.sg_wire.specs.Layout.{layout}
@@ -25,7 +26,9 @@ use Rattle.sg_target.specs.declared.operation.Operation.TheVariants.{ReturnInqui
 use Rattle.sg_target.specs.declared.operation.Operation.TheVariants.{ReturnReservations}
 use Rattle.sg_target.specs.declared.operation.Operation.TheVariants.{ChangeReservations}
 use Rattle.sg_target.specs.declared.refusal.Refusal.{Refusal}
+use Rattle.sg_target.specs.Semantics.{medium_use}
 use Rattle.sg_fencing.specs.Fencing.{shows_others}
+use Rattle.sg_fencing.specs.Laws.{may_change_blocks}
 
 -- the class of the commands that ask for an operation, if it looks at blocks or changes blocks or
 -- modes
@@ -130,3 +133,59 @@ pub listed : (action : OutAction) (scope_type : ℕ) (is_whole : Bool) (list : O
     → ChangeReservations action scope_type list ≡ operation
 listed action scope_type true list short operation e = cc
 listed action scope_type false list short operation e = cc
+
+-- ---- Commands that change no block
+
+-- the command may change blocks if the operation writes
+pub record ReadsIf (command : Command) (operation : Operation) : Type 0 where
+  pub reads : may_change_blocks (Ok command) ≡ false → (medium_use operation).writes ≡ false
+
+abbrev ReadsIfAsked : Command → Result Operation Refusal → Type 0
+ReadsIfAsked command (Ok operation) = ReadsIf command operation
+ReadsIfAsked command (Err refusal) = Unit {0}
+
+changing-reads : (command : Command) (asked : Result Operation Refusal)
+    → may_change_blocks (Ok command) ≡ true → ReadsIfAsked command asked
+changing-reads command (Ok operation) h =
+    record { reads = λ no. absurd (false≢true (sym no ∙ h)) }
+changing-reads command (Err refusal) h = tt
+
+sound-reads : {A : Type 0} (command : Command) (sound : Result A Refusal) (becomes : A → Operation)
+    → ((value : A) → (medium_use (becomes value)).writes ≡ false)
+    → ReadsIfAsked command (when_sound sound becomes)
+sound-reads command (Ok value) becomes h = record { reads = λ no. h value }
+sound-reads command (Err refusal) becomes h = tt
+
+reads-if : (blocks : ℕ) (command : Command) (data_out : List ℕ)
+    → ReadsIfAsked command (demands blocks command data_out).operation
+reads-if blocks (command.Write6 c) data_out =
+    changing-reads (command.Write6 c) (demands blocks (command.Write6 c) data_out).operation refl
+reads-if blocks (command.Write10 c) data_out =
+    changing-reads (command.Write10 c) (demands blocks (command.Write10 c) data_out).operation refl
+reads-if blocks (command.Write16 c) data_out =
+    changing-reads (command.Write16 c) (demands blocks (command.Write16 c) data_out).operation refl
+reads-if blocks (command.WriteSame10 c) data_out =
+    changing-reads (command.WriteSame10 c)
+    (demands blocks (command.WriteSame10 c) data_out).operation refl
+reads-if blocks (command.WriteSame16 c) data_out =
+    changing-reads (command.WriteSame16 c)
+    (demands blocks (command.WriteSame16 c) data_out).operation refl
+reads-if blocks (command.Unmap c) data_out =
+    changing-reads (command.Unmap c) (demands blocks (command.Unmap c) data_out).operation refl
+reads-if blocks (command.Inquiry c) data_out =
+    sound-reads (command.Inquiry c) (if_supported 2 (inquiry_page c.evpd c.page_code))
+    (λ page. ReturnInquiry page c.allocation_length) (λ page. refl)
+reads-if blocks (command.PersistentReserveOut c) data_out =
+    sound-reads (command.PersistentReserveOut c)
+    (fields_out (first_bytes c.list_length data_out)) (ChangeReservations c.action c.scope_type)
+    (λ list. refl)
+reads-if blocks other data_out = record { reads = λ no. refl }
+
+reads-at-ok : (command : Command) (asked : Result Operation Refusal) (operation : Operation)
+    → ReadsIfAsked command asked → asked ≡ Ok operation → ReadsIf command operation
+reads-at-ok command asked operation h e = subst (ReadsIfAsked command) e h
+
+pub asked-reads : (blocks : ℕ) (command : Command) (data_out : List ℕ) (operation : Operation)
+    → (demands blocks command data_out).operation ≡ Ok operation → ReadsIf command operation
+asked-reads blocks command data_out operation e =
+    reads-at-ok command _ operation (reads-if blocks command data_out) e

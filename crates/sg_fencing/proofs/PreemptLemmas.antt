@@ -2,6 +2,8 @@
 use Rattle.std.proofs.Common.{◌≡◌, ◌==◌, ℕ, Bool, true, false, cond, not, ◌&&◌, ◌||◌, List}
 use Rattle.std.proofs.Common.{[], ◌∷◌, filter, length, Option, Some, None, Result, Ok, Err}
 use Rattle.std.proofs.Common.{refl, sym, ap, ◌∙◌, subst, arith}
+use Rattle.std.proofs.Common.{is_some}
+use Rattle.std.specs.Option.{option_map_or}
 use Rattle.std.specs.Result.{result_map_both}
 use Rattle.std.proofs.lemmas.Bool.{false≢true, ne_eqb, not_from_true, or_from, or_right}
 use Rattle.std.proofs.lemmas.Bool.Decides.{nat_tests}
@@ -15,15 +17,18 @@ use Rattle.sg_wire.specs.declared.command.out_action.OutAction.{OutAction}
 use Rattle.sg_wire.specs.declared.command.out_action.OutAction.TheVariants.{Preempt, PreemptAndAbort}
 use Rattle.sg_wire.specs.OutList.{list_length, out_list}
 use Rattle.sg_units.specs.Laws.{OneKeyEach}
-use Rattle.sg_units.specs.Registrations.{is_of, is_registered, is_registered_under, is_under, key_of}
+use Rattle.sg_units.specs.Registrations.{is_of, is_registered, is_registered_under, is_under}
+use Rattle.sg_units.specs.Registrations.{without_key}
+use Rattle.sg_units.specs.Reservations.{has_holder, is_held_if_any, while_held}
 use Rattle.sg_units.specs.ReservationType.{type_of}
 use Rattle.sg_units.specs.ReserveOut.{Outcome, action_outcome, outcome, preempt_cases}
 use Rattle.sg_wire.specs.declared.out_list.OutList.{OutList}
 use Rattle.sg_units.specs.declared.registrations.Registration.{Registration}
+use Rattle.sg_units.specs.declared.reservation.Reservation.{Reservation}
 use Rattle.sg_units.specs.declared.reservation_change.ReservationChange.{ReservationChange}
 use Rattle.sg_units.specs.declared.reservation_state.ReservationState.{ReservationState}
 use Rattle.sg_units.specs.declared.types.ReservationType.{ReservationType}
-use Rattle.sg_fencing.proofs.ReserveOutLemmas.{only-key_of}
+use Rattle.sg_fencing.proofs.ReserveOutLemmas.{key_of-without_key, only-key_of, stays_registered}
 use Rattle.sg_units.proofs.OutcomeLemmas.{EffectIs, FirstIs, case_or, if-accepted, effective, last_case}
 use Rattle.sg_units.proofs.OutcomeLemmas.{refused, taking}
 use Rattle.sg_target.specs.Checks.{no_space}
@@ -33,7 +38,7 @@ use Rattle.sg_target.specs.Refusal.{when_sound}
 use Rattle.sg_target.specs.ReservationCommands.{changing_reservations, out_refusal}
 use Rattle.sg_target.specs.ReservationCommands.{reservation_change}
 use Rattle.sg_target.specs.Semantics.{effect_of}
-use Rattle.sg_target.specs.State.{IsWithinLimits, State}
+use Rattle.sg_target.specs.State.{State}
 use Rattle.sg_target.specs.Step.{Step, outcome as step_outcome, step, unless_no_space}
 use Rattle.sg_target.specs.declared.operation.Operation.{Operation}
 use Rattle.sg_target.specs.declared.operation.Operation.TheVariants.{ChangeReservations}
@@ -43,6 +48,7 @@ use Rattle.sg_target.specs.declared.refusal.Refusal.TheVariants.{CheckCondition}
 use Rattle.sg_target.specs.declared.reply.Status.TheVariants.{Good}
 use Rattle.sg_target.proofs.LiftLemmas.{lifted, not_good}
 use Rattle.sg_fencing.proofs.OperationLemmas.{listed}
+use Rattle.sg_fencing.specs.Registrants.{PreemptedAreUnregistered, PreemptionKeepsAReservation}
 use Rattle.sg_fencing.specs.Registrants.{is_preempting, preempted_key}
 use Rattle.sg_fencing.proofs.RegistrationLemmas.{none-kept}
 
@@ -126,68 +132,155 @@ module _ (state : ReservationState) (i j : ℕ) (other : (j == i) ≡ false) (li
       if-accepted IsRemoved state j action scope_type list
       (λ _. action-removes action (type_of scope_type) list.aptpl h)
 
+-- ---- The reservation that somebody is left to hold
+
+some-if : (b : Bool) (held : Reservation) → b ≡ true → is_some (cond b (Some held) None) ≡ true
+some-if true held h = refl
+some-if false held h = absurd (false≢true h)
+
+any-holds : (kind : ReservationType) (rs : List Registration) (r : ℕ) → is_registered rs r ≡ true
+    → has_holder (record { kind = kind; holder = None }) rs ≡ true
+any-holds kind [] r h = absurd (false≢true h)
+any-holds kind (first ∷ rs) r h = refl
+
+-- a holder that is not registered under the key stays registered
+still-held : (kind : ReservationType) (holder : Option ℕ) (all : List Registration) (sark r : ℕ)
+    → has_holder (record { kind = kind; holder = holder }) all ≡ true
+    → option_map_or (λ holder. is_registered_under all holder sark) holder false ≡ false
+    → is_registered (without_key all sark) r ≡ true
+    → has_holder (record { kind = kind; holder = holder }) (without_key all sark) ≡ true
+still-held kind None all sark r held absent here = any-holds kind (without_key all sark) r here
+still-held kind (Some holder) all sark r held absent here =
+    stays_registered all (without_key all sark) holder (key_of-without_key all holder sark absent) held
+
+held-while : (reservation : Option Reservation) (all : List Registration) (sark r : ℕ)
+    → is_some reservation ≡ true → is_held_if_any reservation all ≡ true
+    → option_map_or
+    (λ (r : Reservation). option_map_or (λ holder. is_registered_under all holder sark) r.holder false)
+    reservation false ≡ false
+    → is_registered (without_key all sark) r ≡ true
+    → is_some (while_held reservation (without_key all sark)) ≡ true
+held-while None all sark r some held absent here = some
+held-while (Some reservation) all sark r some held absent here =
+    some-if (has_holder reservation (without_key all sark)) reservation
+    (still-held reservation.kind reservation.holder all sark r held absent here)
+
+module _ (state : ReservationState) (j r : ℕ) (some : is_some state.reservation ≡ true)
+    (held : is_held_if_any state.reservation state.registrations ≡ true) where
+  abbrev pub IsHeldStill : ReservationChange → Type 0
+  IsHeldStill change =
+      is_registered change.registrations r ≡ true → is_some change.reservation ≡ true
+
+  preempt-holds : (type : Option ReservationType) (sark : ℕ)
+      → FirstIs (EffectIs IsHeldStill) (preempt_cases state j type sark)
+  unfolding preempt_cases
+  preempt-holds type sark =
+      case_or (EffectIs IsHeldStill) _ _ (λ _. refused IsHeldStill _)
+      (λ _. case_or (EffectIs IsHeldStill) _ _
+      (λ _. taking IsHeldStill state.reservation j type _
+      (λ type. effective IsHeldStill _ (λ here. refl)))
+      (λ absent. case_or (EffectIs IsHeldStill) _ _
+      (λ _. taking IsHeldStill state.reservation j type _
+      (λ type. effective IsHeldStill _ (λ here. refl)))
+      (λ _. case_or (EffectIs IsHeldStill) _ _ (λ _. refused IsHeldStill _)
+      (λ _. last_case (EffectIs IsHeldStill) _ _ refl
+      (effective IsHeldStill _
+      (held-while state.reservation state.registrations sark r some held absent))))))
+
+  action-holds : (action : OutAction) (type : Option ReservationType) (sark : ℕ) (aptpl : Bool)
+      → is_preempting action ≡ true
+      → EffectIs IsHeldStill (action_outcome state j action type sark aptpl)
+  action-holds Preempt type sark aptpl h = (preempt-holds type sark).first
+  action-holds PreemptAndAbort type sark aptpl h = (preempt-holds type sark).first
+  action-holds _ type sark aptpl h = absurd (false≢true h)
+
+  outcome-holds : (action : OutAction) (scope_type : ℕ) (list : OutList)
+      → is_preempting action ≡ true
+      → EffectIs IsHeldStill (outcome state j action scope_type list)
+  outcome-holds action scope_type list h =
+      if-accepted IsHeldStill state j action scope_type list
+      (λ _. action-holds action (type_of scope_type) list.service_action_key list.aptpl h)
+
 -- ---- The command
 
-module _ (one : OneKeyEach) (state : State) (i j : ℕ) where
-  abbrev IsGone : State → Type 0
-  IsGone after = is_registered after.reservations.registrations i ≡ false
+-- what is true of the change of each preemption is true of its step
+module _ (state : State) (j : ℕ) (P : List Registration → Option Reservation → Type 0) where
+  abbrev IsLeft : State → Type 0
+  IsLeft after = P after.reservations.registrations after.reservations.reservation
 
-  abbrev EffectRemoves : Result Effect Refusal → Type 0
-  EffectRemoves (Ok effect) = IsGone effect.after
-  EffectRemoves (Err refusal) = Unit {0}
+  abbrev EffectLeaves : Result Effect Refusal → Type 0
+  EffectLeaves (Ok effect) = IsLeft effect.after
+  EffectLeaves (Err refusal) = Unit {0}
 
-  by-space : (effect : Effect) (refusal : Option Refusal) → IsGone effect.after
+  abbrev Changes : ReservationChange → Type 0
+  Changes change = P change.registrations change.reservation
+
+  by-space : (effect : Effect) (refusal : Option Refusal) → IsLeft effect.after
       → (unless_no_space state j effect refusal).answer.status ≡ Good
-      → IsGone (unless_no_space state j effect refusal).state
+      → IsLeft (unless_no_space state j effect refusal).state
   by-space effect None h good = h
   by-space effect (Some refusal) h good = absurd (not_good state j refusal good)
 
-  where-good : (effect : Result Effect Refusal) → EffectRemoves effect
-      → (step_outcome state j effect).answer.status ≡ Good → IsGone (step_outcome state j effect).state
+  where-good : (effect : Result Effect Refusal) → EffectLeaves effect
+      → (step_outcome state j effect).answer.status ≡ Good → IsLeft (step_outcome state j effect).state
   where-good (Ok effect) h good = by-space effect (no_space effect.after.disk) h good
   where-good (Err refusal) h good = absurd (not_good state j refusal good)
 
-  changing-removes : (o : Outcome)
-      → EffectIs (λ (change : ReservationChange). is_registered change.registrations i ≡ false) o
-      → EffectRemoves (when_sound (result_map_both (λ change. change) out_refusal o)
+  changing-leaves : (o : Outcome) → EffectIs Changes o
+      → EffectLeaves (when_sound (result_map_both (λ change. change) out_refusal o)
       (changing_reservations state j))
-  changing-removes (Ok change) k = k.shown change refl
-  changing-removes (Err fault) k = tt
+  changing-leaves (Ok change) k = k.shown change refl
+  changing-leaves (Err fault) k = tt
 
-  module _ (w : IsWithinLimits state) (other : j ≡ i → ⊥) where
-    reserving-removes : (action : OutAction) (scope_type : ℕ) (list : OutList)
-        → is_preempting action ≡ true
-        → key_of state.reservations.registrations i ≡ Some list.service_action_key
-        → EffectRemoves (effect_of state j (ChangeReservations action scope_type list))
-    unfolding reservation_change
-    reserving-removes action scope_type list h here =
-        changing-removes (outcome state.reservations j action scope_type list)
-        (outcome-removes state.reservations i j (ne_eqb j i other) list
-        (only-key_of one state.reservations i list.service_action_key w.registered here) action scope_type
-        h)
+  reserving-leaves : (action : OutAction) (scope_type : ℕ) (list : OutList)
+      → EffectIs Changes (outcome state.reservations j action scope_type list)
+      → EffectLeaves (effect_of state j (ChangeReservations action scope_type list))
+  unfolding reservation_change
+  reserving-leaves action scope_type list h =
+      changing-leaves (outcome state.reservations j action scope_type list) h
 
-    command-removes : (command : Command) (data_out : List ℕ) (operation : Operation) (key : ℕ)
+  module _ (key : ℕ)
+      (leaves : (action : OutAction) (scope_type : ℕ) (list : OutList) → is_preempting action ≡ true
+      → list.service_action_key ≡ key
+      → EffectIs Changes (outcome state.reservations j action scope_type list)) where
+    command-leaves : (command : Command) (data_out : List ℕ) (operation : Operation)
         → (demands state.disk.capacity command data_out).operation ≡ Ok operation
         → preempted_key (Ok command) data_out ≡ Some key
-        → key_of state.reservations.registrations i ≡ Some key
-        → EffectRemoves (effect_of state j operation)
-    command-removes (PersistentReserveOut c) data_out operation key e h here =
+        → EffectLeaves (effect_of state j operation)
+    command-leaves (PersistentReserveOut c) data_out operation e h =
         let list = first_bytes c.list_length data_out in
         let parts = cond_some (is_preempting c.action) (out_list list).service_action_key key h in
-        subst (λ (o : Operation). EffectRemoves (effect_of state j o))
+        subst (λ (o : Operation). EffectLeaves (effect_of state j o))
         (listed c.action c.scope_type (length list == list_length) (out_list list)
         (CheckCondition ParameterListLengthError) operation e)
-        (reserving-removes c.action c.scope_type (out_list list) parts.0
-        (here ∙ ap Some (sym parts.1)))
-    command-removes _ data_out operation key e h here = cc
+        (reserving-leaves c.action c.scope_type (out_list list)
+        (leaves c.action c.scope_type (out_list list) parts.0 parts.1))
+    command-leaves _ data_out operation e h = cc
 
-    pub preempt-unregisters : (cdb data_out : List ℕ) (key : ℕ)
-        → preempted_key (command_of cdb) data_out ≡ Some key
-        → key_of state.reservations.registrations i ≡ Some key
-        → (step state j cdb data_out).answer.status ≡ Good → IsGone (step state j cdb data_out).state
-    preempt-unregisters cdb data_out key h here =
-        lifted state j cdb data_out (λ (done : Step). done.answer.status ≡ Good → IsGone done.state)
+    preempt-leaves : (cdb data_out : List ℕ) → preempted_key (command_of cdb) data_out ≡ Some key
+        → (step state j cdb data_out).answer.status ≡ Good → IsLeft (step state j cdb data_out).state
+    preempt-leaves cdb data_out h =
+        lifted state j cdb data_out (λ (done : Step). done.answer.status ≡ Good → IsLeft done.state)
         (λ refusal good. absurd (not_good state j refusal good))
         (λ operation k. where-good (effect_of state j operation)
-        (command-removes k.command data_out operation key k.operation_is
-        (sym (ap (λ (p : Result Command CdbFault). preempted_key p data_out) k.command_is) ∙ h) here))
+        (command-leaves k.command data_out operation k.operation_is
+        (sym (ap (λ (p : Result Command CdbFault). preempted_key p data_out) k.command_is) ∙ h)))
+
+pub preempt-unregisters : OneKeyEach → PreemptedAreUnregistered
+preempt-unregisters one state i j key cdb data_out w other is here =
+    preempt-leaves state j (λ registrations reservation. is_registered registrations i ≡ false) key
+    (λ action scope_type list h under.
+    outcome-removes state.reservations i j (ne_eqb j i other) list
+    (only-key_of one state.reservations i list.service_action_key w.registered
+    (here ∙ ap Some (sym under)))
+    action scope_type h)
+    cdb data_out is
+
+pub preempt-keeps : PreemptionKeepsAReservation
+preempt-keeps state j r key cdb data_out w some is good here =
+    preempt-leaves state j
+    (λ registrations reservation. is_registered registrations r ≡ true → is_some reservation ≡ true)
+    key
+    (λ action scope_type list h under.
+    outcome-holds state.reservations j r some w.registered.held action scope_type list h)
+    cdb data_out is good here

@@ -1,14 +1,25 @@
 -- Laws of the definitions, in the subject's words.
-use Rattle.std.specs.Prelude.{◌≡◌, ◌⊎◌, ℕ, List, [], false, Some, None, Ok}
-use Rattle.sg_wire.specs.Layout.{class_of}
+use Rattle.std.specs.Prelude.{◌≡◌, ◌⊎◌, ℕ, List, [], Bool, true, false, Some, None, Result, Ok}
+use Rattle.sg_wire.specs.Layout.{class_of, command_of}
+use Rattle.sg_wire.specs.declared.command.CdbFault.{CdbFault}
 use Rattle.sg_wire.specs.declared.command.Class.{Class}
+use Rattle.sg_wire.specs.declared.command.Command.{Command}
+use Rattle.sg_wire.specs.declared.command.Command.TheVariants as command
+use Rattle.sg_wire.specs.declared.extent.Extent.{Extent}
+use Rattle.sg_wire.specs.declared.sense.Format.{Format}
+use Rattle.sg_store.specs.Disk.{lies_in}
+use Rattle.sg_store.specs.LbaStatus.{status_at}
+use Rattle.sg_store.specs.declared.lba_status.ProvisioningStatus.TheVariants.{Deallocated}
 use Rattle.sg_units.specs.Access.{allows}
 use Rattle.sg_units.specs.Attentions.{oldest, without_oldest}
+use Rattle.sg_target.specs.CommandLaws.{blocks_to_write}
 use Rattle.sg_target.specs.Effect.{Effect}
 use Rattle.sg_target.specs.Semantics.{effect_of, medium_use}
-use Rattle.sg_target.specs.State.{State}
-use Rattle.sg_target.specs.Step.{step}
+use Rattle.sg_target.specs.State.{IsWithinLimits, State}
+use Rattle.sg_target.specs.Step.{refusal_answer, step}
 use Rattle.sg_target.specs.declared.operation.Operation.{Operation}
+use Rattle.sg_target.specs.declared.refusal.Reason.TheVariants.{SpaceAllocationFailed}
+use Rattle.sg_target.specs.declared.refusal.Refusal.TheVariants.{CheckCondition}
 use Rattle.sg_target.specs.declared.reply.Status.TheVariants.{Good, ReservationConflict}
 
 -- An operation that does not write to the medium leaves the blocks as they are, whichever command
@@ -19,6 +30,42 @@ OnlyWritesChangeBlocks =
     → (medium_use operation).writes ≡ false
     → effect_of state initiator operation ≡ Ok effect
     → effect.after.disk ≡ state.disk
+
+-- The commands that may change blocks: WRITE(6), WRITE(10), WRITE(16), WRITE SAME(10),
+-- WRITE SAME(16) and UNMAP.
+abbrev pub may_change_blocks : Result Command CdbFault → Bool
+may_change_blocks (Ok (command.Write6 c)) = true
+may_change_blocks (Ok (command.Write10 c)) = true
+may_change_blocks (Ok (command.Write16 c)) = true
+may_change_blocks (Ok (command.WriteSame10 c)) = true
+may_change_blocks (Ok (command.WriteSame16 c)) = true
+may_change_blocks (Ok (command.Unmap c)) = true
+may_change_blocks _ = false
+
+-- Every other command leaves the disk as it was, whatever its answer is: the capacity, the pool,
+-- and each block with its provisioning status. SYNCHRONIZE CACHE does so too, although a
+-- reservation treats it as a command that writes.
+abbrev pub OnlyThreeCommandsChangeTheDisk : Type 0
+OnlyThreeCommandsChangeTheDisk =
+    (state : State) (initiator : ℕ) (cdb data_out : List ℕ)
+    → may_change_blocks (command_of cdb) ≡ false
+    → (step state initiator cdb data_out).state.disk ≡ state.disk
+
+-- Each address of an extent has a block of the pool: it is mapped or anchored.
+abbrev pub AreUsed : State → Extent → Type 0
+AreUsed state extent =
+    (address : ℕ) → lies_in extent.lba extent.count address ≡ true
+    → status_at state.disk.contents address ≡ Deallocated → ⊥
+
+-- A WRITE over such addresses takes no more of the pool (SBC-3, 4.7.4). So no check refuses it for
+-- space: its answer is not SPACE ALLOCATION FAILED WRITE PROTECT, in either format of sense data.
+abbrev pub WritesOverUsedAddressesAreNeverRefusedForSpace : Type 0
+WritesOverUsedAddressesAreNeverRefusedForSpace =
+    (state : State) (initiator : ℕ) (cdb data_out : List ℕ) (out : Extent) (format : Format)
+    → IsWithinLimits state → blocks_to_write (command_of cdb) ≡ Some out → AreUsed state out
+    → (step state initiator cdb data_out).answer
+    ≡ refusal_answer format (CheckCondition SpaceAllocationFailed)
+    → ⊥
 
 -- Nothing has changed, except that the oldest unit attention of an initiator may have been cleared.
 -- The reservations of a state are its registrations, its reservation, PRGENERATION and APTPL.

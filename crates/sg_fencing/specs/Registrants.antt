@@ -149,6 +149,18 @@ PreemptedAreUnregistered =
     → (step state caller cdb data_out).answer.status ≡ Good
     → is_registrant (step state caller cdb data_out).state initiator ≡ false
 
+-- A PREEMPT or a PREEMPT AND ABORT ends with GOOD while a reservation is held. If any initiator is
+-- registered after it, a reservation is held after it too (SPC-4, 5.13, preempting). So an
+-- initiator that has lost its registration is fenced off. If nobody is registered, nobody can hold
+-- a reservation. So an all registrants reservation ends if a registrant preempts the key of all.
+abbrev pub PreemptionKeepsAReservation : Type 0
+PreemptionKeepsAReservation =
+    (state : State) (caller registrant key : ℕ) (cdb data_out : List ℕ) → IsWithinLimits state
+    → is_reserved state ≡ true → preempted_key (command_of cdb) data_out ≡ Some key
+    → (step state caller cdb data_out).answer.status ≡ Good
+    → is_registrant (step state caller cdb data_out).state registrant ≡ true
+    → is_reserved (step state caller cdb data_out).state ≡ true
+
 -- ---- Who stays unregistered
 
 -- An initiator stays unregistered in a list: before each of its own commands it is not registered,

@@ -6,8 +6,9 @@ ghost use Rattle.sg_fencing.specs.Fencing.{OnlyPreemptionEnds, OthersSeeNoBlock}
 ghost use Rattle.sg_fencing.specs.Group.{EqualGroupViewsEndAlike, EqualGroupViewsRunAlike};
 ghost use Rattle.sg_fencing.specs.Group.{NewcomersAreSeen, OutsidersMayBeLeftOut};
 ghost use Rattle.sg_fencing.specs.Laws.{ConflictChangesNothing, OnlyWritesChangeBlocks};
-ghost use Rattle.sg_fencing.specs.Laws.{RefusedByReservation, RefusedChangesNothing};
-ghost use Rattle.sg_fencing.specs.Laws.{RefusedReturnsNothing};
+ghost use Rattle.sg_fencing.specs.Laws.{OnlyThreeCommandsChangeTheDisk, RefusedByReservation};
+ghost use Rattle.sg_fencing.specs.Laws.{RefusedChangesNothing, RefusedReturnsNothing};
+ghost use Rattle.sg_fencing.specs.Laws.{WritesOverUsedAddressesAreNeverRefusedForSpace};
 ghost use Rattle.sg_fencing.specs.PowerCycles.{BlocksAndSavedPagesStay, FencedOffThroughPowerCycles};
 ghost use Rattle.sg_fencing.specs.PowerCycles.{HolderIsAsIfAloneThroughPowerCycles, OthersAreGone};
 ghost use Rattle.sg_fencing.specs.PowerCycles.{PersistentOnesStay, PowerOnIsPendingForEach, TwoAreOne};
@@ -18,9 +19,10 @@ ghost use Rattle.sg_fencing.specs.Registrants.{FencedOffWriteNothing, NoBlockIsS
 ghost use Rattle.sg_fencing.specs.Registrants.{OldKeysAreRefused};
 ghost use Rattle.sg_fencing.specs.Registrants.{OnlyRegisteringRegisters, OutsidersChangeNothing};
 ghost use Rattle.sg_fencing.specs.Registrants.{PreemptedAreUnregistered, PreemptedWriteNothing};
+ghost use Rattle.sg_fencing.specs.Registrants.{PreemptionKeepsAReservation};
 ghost use Rattle.sg_fencing.specs.Registrants.{TheRefusedStayUnregistered};
 
-use sg_target::laws::limits_are_kept;
+use sg_target::laws::{limits_are_kept, writes_over_used_addresses_have_space};
 use sg_units::laws::{one_key_each, others_are_refused};
 use sg_wire::laws::commands_have_their_class;
 
@@ -29,6 +31,21 @@ use sg_wire::laws::commands_have_their_class;
 pub fn only_writes_change_blocks()
     ensures { OnlyWritesChangeBlocks }
 {}
+
+/// Only WRITE, WRITE SAME and UNMAP change blocks. Every other command leaves the disk as it was,
+/// whatever its answer is. SYNCHRONIZE CACHE does so too, although a reservation treats it as a
+/// command that writes.
+pub fn only_three_commands_change_the_disk()
+    ensures { OnlyThreeCommandsChangeTheDisk }
+{}
+
+/// A WRITE whose addresses are all mapped or anchored takes no more of the pool. So no check
+/// refuses it for space: its answer is not SPACE ALLOCATION FAILED WRITE PROTECT.
+pub fn writes_over_used_addresses_are_never_refused_for_space()
+    ensures { WritesOverUsedAddressesAreNeverRefusedForSpace }
+{
+    writes_over_used_addresses_have_space();
+}
 
 /// A command that does not end with GOOD changes no block, mode page, registration or reservation,
 /// and not PRGENERATION. It may clear the unit attention that it reports.
@@ -239,6 +256,13 @@ pub fn preemption_unregisters()
 {
     one_key_each();
 }
+
+/// A PREEMPT or a PREEMPT AND ABORT ends with GOOD while a reservation is held. If any initiator is
+/// registered after it, a reservation is held after it too. So an initiator that has lost its
+/// registration is fenced off.
+pub fn preemption_keeps_a_reservation()
+    ensures { PreemptionKeepsAReservation }
+{}
 
 /// After a PREEMPT or a PREEMPT AND ABORT of its key, an initiator writes nothing while a
 /// reservation of any type is held. Over a list of commands, this lasts until the disk grants it a

@@ -11,8 +11,8 @@ pub returns : goal.returns
 returns c state preempt initiator key calls n call answer w other preempts here good refused e f from =
     let after = (step_of state preempt).state in
     let unknown = unknown-still after initiator (all_calls (take n calls))
-    (preempt-unregisters c.one_key_each.ensures state initiator preempt.initiator w other
-    preempt.cdb.now preempt.data_out.now key preempts here good)
+    (preempt-unregisters c.one_key_each.ensures state initiator preempt.initiator key
+    preempt.cdb.now preempt.data_out.now w other preempts here good)
     refused in
     λ writes.
     not-served is_reserved Writes (writes-refused c.others_are_refused.ensures) after calls n call answer
