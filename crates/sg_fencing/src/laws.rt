@@ -19,6 +19,7 @@ ghost use Rattle.sg_fencing.specs.Registrants.{FencedOffWriteNothing, NoBlockIsS
 ghost use Rattle.sg_fencing.specs.Registrants.{OldKeysAreRefused};
 ghost use Rattle.sg_fencing.specs.Registrants.{OnlyRegisteringRegisters, OutsidersChangeNothing};
 ghost use Rattle.sg_fencing.specs.Registrants.{PreemptedAreUnregistered, PreemptedWriteNothing};
+ghost use Rattle.sg_fencing.specs.Registrants.{PreemptingSendersStayRegistered};
 ghost use Rattle.sg_fencing.specs.Registrants.{PreemptionKeepsAReservation};
 ghost use Rattle.sg_fencing.specs.Registrants.{TheRefusedStayUnregistered};
 
@@ -263,6 +264,14 @@ pub fn preemption_unregisters()
 pub fn preemption_keeps_a_reservation()
     ensures { PreemptionKeepsAReservation }
 {}
+
+/// The sender of a PREEMPT or a PREEMPT AND ABORT that ends with GOOD stays registered, unless the
+/// key is its own. So if a reservation is held, a PREEMPT of another key leaves a reservation held.
+pub fn preempting_senders_stay_registered()
+    ensures { PreemptingSendersStayRegistered }
+{
+    one_key_each();
+}
 
 /// After a PREEMPT or a PREEMPT AND ABORT of its key, an initiator writes nothing while a
 /// reservation of any type is held. Over a list of commands, this lasts until the disk grants it a
