@@ -9,6 +9,7 @@ ghost use Rattle.sg_fencing.specs.Laws.{ConflictChangesNothing, OnlyWritesChange
 ghost use Rattle.sg_fencing.specs.Laws.{OnlyThreeCommandsChangeTheDisk, RefusedByReservation};
 ghost use Rattle.sg_fencing.specs.Laws.{RefusedChangesNothing, RefusedReturnsNothing};
 ghost use Rattle.sg_fencing.specs.Laws.{WritesOverUsedAddressesAreNeverRefusedForSpace};
+ghost use Rattle.sg_fencing.specs.Laws.{WritesThatNothingForbidsEndWithGood};
 ghost use Rattle.sg_fencing.specs.PowerCycles.{BlocksAndSavedPagesStay, FencedOffThroughPowerCycles};
 ghost use Rattle.sg_fencing.specs.PowerCycles.{HolderIsAsIfAloneThroughPowerCycles, OthersAreGone};
 ghost use Rattle.sg_fencing.specs.PowerCycles.{PersistentOnesStay, PowerOnIsPendingForEach, TwoAreOne};
@@ -45,6 +46,17 @@ pub fn only_three_commands_change_the_disk()
 pub fn writes_over_used_addresses_are_never_refused_for_space()
     ensures { WritesOverUsedAddressesAreNeverRefusedForSpace }
 {
+    writes_over_used_addresses_have_space();
+}
+
+/// A WRITE ends with GOOD if nothing forbids it. No unit attention is pending for its initiator, and
+/// the reservation, if there is one, lets it write. The blocks are on the disk, the page Block
+/// Limits allows their number, and the data-out has their bytes. SWP is not set. Each address is
+/// mapped or anchored.
+pub fn writes_that_nothing_forbids_end_with_good()
+    ensures { WritesThatNothingForbidsEndWithGood }
+{
+    commands_have_their_class();
     writes_over_used_addresses_have_space();
 }
 
