@@ -72,10 +72,10 @@ WritesOverUsedAddressesAreNeverRefusedForSpace =
     ≡ refusal_answer format (CheckCondition SpaceAllocationFailed)
     → ⊥
 
--- Nothing forbids an initiator a WRITE of these blocks. No unit attention is pending for it, and the
--- reservation, if there is one, lets it write. The blocks are on the disk, and the page Block Limits
--- allows their number. The data-out has their bytes. SWP is not set. Each address has a block of the
--- pool.
+-- Nothing forbids an initiator a WRITE of some blocks. No unit attention is pending for it, and
+-- the reservation, if there is one, lets it write. The blocks are on the disk, and the page Block
+-- Limits allows their number. The data-out has their bytes. SWP is not set. Each address has a
+-- block of the pool.
 pub record NothingForbids (state : State) (initiator : ℕ) (data_out : List ℕ) (out : Extent)
     : Type 0 where
   pub attention : oldest state.attentions initiator ≡ None

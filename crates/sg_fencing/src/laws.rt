@@ -49,10 +49,10 @@ pub fn writes_over_used_addresses_are_never_refused_for_space()
     writes_over_used_addresses_have_space();
 }
 
-/// A WRITE ends with GOOD if nothing forbids it. No unit attention is pending for its initiator, and
-/// the reservation, if there is one, lets it write. The blocks are on the disk, the page Block
-/// Limits allows their number, and the data-out has their bytes. SWP is not set. Each address is
-/// mapped or anchored.
+/// A WRITE ends with GOOD if nothing forbids it. No unit attention is pending for its initiator,
+/// and the reservation, if there is one, lets the initiator write. The blocks are on the disk, and
+/// the page Block Limits allows their number. The data-out has their bytes. SWP is not set. Each
+/// address is mapped or anchored.
 pub fn writes_that_nothing_forbids_end_with_good()
     ensures { WritesThatNothingForbidsEndWithGood }
 {
