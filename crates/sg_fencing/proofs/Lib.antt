@@ -7,6 +7,7 @@ mod OwnReserveOutLemmas
 mod OperationLemmas
 mod DiskLemmas
 mod SpaceLemmas
+mod WriteLemmas
 -- Commands of others.
 mod AccessLemmas
 mod OthersLemmas

@@ -1,10 +1,11 @@
--- PREEMPT and PREEMPT AND ABORT remove the registrations of others under their key.
+-- PREEMPT and PREEMPT AND ABORT remove the registrations of others under their key, leave a
+-- reservation held, and keep their sender.
 use Rattle.std.proofs.Common.{◌≡◌, ◌==◌, ℕ, Bool, true, false, cond, not, ◌&&◌, ◌||◌, List}
 use Rattle.std.proofs.Common.{[], ◌∷◌, filter, length, Option, Some, None, Result, Ok, Err}
-use Rattle.std.proofs.Common.{refl, sym, ap, ◌∙◌, subst, arith}
-use Rattle.std.proofs.Common.{is_some}
+use Rattle.std.proofs.Common.{is_some, refl, sym, ap, ◌∙◌, subst, arith}
 use Rattle.std.specs.Option.{option_map_or}
 use Rattle.std.specs.Result.{result_map_both}
+use Rattle.std.proofs.lemmas.Bool.{false_from_ne_true, or_left}
 use Rattle.std.proofs.lemmas.Bool.{false≢true, ne_eqb, not_from_true, or_from, or_right}
 use Rattle.std.proofs.lemmas.Bool.Decides.{nat_tests}
 use Rattle.std.proofs.lemmas.Option.{cond_some}
@@ -18,16 +19,18 @@ use Rattle.sg_wire.specs.declared.command.out_action.OutAction.TheVariants.{Pree
 use Rattle.sg_wire.specs.OutList.{list_length, out_list}
 use Rattle.sg_units.specs.Laws.{OneKeyEach}
 use Rattle.sg_units.specs.Registrations.{is_of, is_registered, is_registered_under, is_under}
-use Rattle.sg_units.specs.Registrations.{without_key}
-use Rattle.sg_units.specs.Reservations.{has_holder, is_held_if_any, while_held}
+use Rattle.sg_units.specs.Registrations.{key_of, without_key}
+use Rattle.sg_units.specs.Reservations.{IsConsistent, has_holder, is_held_if_any, while_held}
 use Rattle.sg_units.specs.ReservationType.{type_of}
-use Rattle.sg_units.specs.ReserveOut.{Outcome, action_outcome, outcome, preempt_cases}
+use Rattle.sg_units.specs.ReserveOut.{Outcome, accepts_key, action_outcome, outcome, preempt_cases}
 use Rattle.sg_wire.specs.declared.out_list.OutList.{OutList}
 use Rattle.sg_units.specs.declared.registrations.Registration.{Registration}
 use Rattle.sg_units.specs.declared.reservation.Reservation.{Reservation}
 use Rattle.sg_units.specs.declared.reservation_change.ReservationChange.{ReservationChange}
 use Rattle.sg_units.specs.declared.reservation_state.ReservationState.{ReservationState}
 use Rattle.sg_units.specs.declared.types.ReservationType.{ReservationType}
+use Rattle.sg_units.proofs.ConsistencyLemmas.{is_registered-under}
+use Rattle.sg_fencing.proofs.ReserveOutLemmas.{is_registered-key_of, key_of-filter}
 use Rattle.sg_fencing.proofs.ReserveOutLemmas.{key_of-without_key, only-key_of, stays_registered}
 use Rattle.sg_units.proofs.OutcomeLemmas.{EffectIs, FirstIs, case_or, if-accepted, effective, last_case}
 use Rattle.sg_units.proofs.OutcomeLemmas.{refused, taking}
@@ -49,6 +52,7 @@ use Rattle.sg_target.specs.declared.reply.Status.TheVariants.{Good}
 use Rattle.sg_target.proofs.LiftLemmas.{lifted, not_good}
 use Rattle.sg_fencing.proofs.OperationLemmas.{listed}
 use Rattle.sg_fencing.specs.Registrants.{PreemptedAreUnregistered, PreemptionKeepsAReservation}
+use Rattle.sg_fencing.specs.Registrants.{PreemptingSendersStayRegistered}
 use Rattle.sg_fencing.specs.Registrants.{is_preempting, preempted_key}
 use Rattle.sg_fencing.proofs.RegistrationLemmas.{none-kept}
 
@@ -201,6 +205,55 @@ module _ (state : ReservationState) (j r : ℕ) (some : is_some state.reservatio
       if-accepted IsHeldStill state j action scope_type list
       (λ _. action-holds action (type_of scope_type) list.service_action_key list.aptpl h)
 
+-- ---- The sender, if it is registered under another key
+
+module _ (state : ReservationState) (j : ℕ) (list : OutList)
+    (absent : is_registered_under state.registrations j list.service_action_key ≡ false) where
+  abbrev all : List Registration
+  all = state.registrations
+
+  abbrev pub IsHere : ReservationChange → Type 0
+  IsHere change = is_registered change.registrations j ≡ true
+
+  kept : (keep : Registration → Bool) → ((r : Registration) → is_of j r ≡ true → keep r ≡ true)
+      → is_registered all j ≡ true → is_registered (filter keep all) j ≡ true
+  kept keep stays here = stays_registered all (filter keep all) j (key_of-filter keep j stays all) here
+
+  preempt-stays : (type : Option ReservationType) → is_registered all j ≡ true
+      → FirstIs (EffectIs IsHere) (preempt_cases state j type list.service_action_key)
+  unfolding preempt_cases
+  preempt-stays type here =
+      let sark = list.service_action_key in
+      case_or (EffectIs IsHere) _ _ (λ _. refused IsHere _)
+      (λ _. case_or (EffectIs IsHere) _ _
+      (λ _. taking IsHere state.reservation j type _
+      (λ type. effective IsHere _
+      (kept (λ r. is_of j r || not (is_under sark r))
+      (λ r e. or_left (is_of j r) (not (is_under sark r)) e) here)))
+      (λ _. case_or (EffectIs IsHere) _ _
+      (λ _. taking IsHere state.reservation j type _
+      (λ type. effective IsHere _ (kept (is_of j) (λ r e. e) here)))
+      (λ _. case_or (EffectIs IsHere) _ _ (λ _. refused IsHere _)
+      (λ _. last_case (EffectIs IsHere) _ _ refl
+      (effective IsHere _
+      (stays_registered all (without_key all sark) j (key_of-without_key all j sark absent) here))))))
+
+  action-stays : (action : OutAction) (type : Option ReservationType) (aptpl : Bool)
+      → is_preempting action ≡ true
+      → accepts_key all j action list.reservation_key ≡ true
+      → EffectIs IsHere (action_outcome state j action type list.service_action_key aptpl)
+  action-stays Preempt type aptpl h accepted =
+      (preempt-stays type (is_registered-under all j list.reservation_key accepted)).first
+  action-stays PreemptAndAbort type aptpl h accepted =
+      (preempt-stays type (is_registered-under all j list.reservation_key accepted)).first
+  action-stays _ type aptpl h accepted = absurd (false≢true h)
+
+  outcome-stays : (action : OutAction) (scope_type : ℕ) → is_preempting action ≡ true
+      → EffectIs IsHere (outcome state j action scope_type list)
+  outcome-stays action scope_type h =
+      if-accepted IsHere state j action scope_type list
+      (λ accepted. action-stays action (type_of scope_type) list.aptpl h accepted)
+
 -- ---- The command
 
 -- what is true of the change of each preemption is true of its step
@@ -284,3 +337,26 @@ preempt-keeps state j r key cdb data_out w some is good here =
     (λ action scope_type list h under.
     outcome-holds state.reservations j r some w.registered.held action scope_type list h)
     cdb data_out is good here
+
+-- an initiator is not registered under a key that is not its own
+not-under : OneKeyEach → (state : ReservationState) (i key : ℕ) → IsConsistent state
+    → (key_of state.registrations i ≡ Some key → ⊥) → (found : Option ℕ)
+    → key_of state.registrations i ≡ found → is_registered_under state.registrations i key ≡ false
+not-under one state i key w other (Some k) e =
+    false_from_ne_true _
+    (λ under. other (e ∙ ap Some (only-key_of one state i k w e key under)))
+not-under one state i key w other None e =
+    false_from_ne_true _
+    (λ under. false≢true (
+    sym (is_registered-key_of state.registrations i ∙ ap is_some e)
+    ∙ is_registered-under state.registrations i key under))
+
+pub sender-stays : OneKeyEach → PreemptingSendersStayRegistered
+sender-stays one state j key cdb data_out w is other =
+    preempt-leaves state j (λ registrations reservation. is_registered registrations j ≡ true) key
+    (λ action scope_type list h under.
+    outcome-stays state.reservations j list
+    (not-under one state.reservations j list.service_action_key w.registered
+    (λ e. other (e ∙ ap Some under)) _ refl)
+    action scope_type h)
+    cdb data_out is

@@ -1,8 +1,10 @@
 -- Laws of the definitions, in the subject's words.
-use Rattle.std.specs.Prelude.{◌≡◌, ◌⊎◌, ℕ, List, [], Bool, true, false, Some, None, Result, Ok}
+use Rattle.std.specs.Prelude.{◌≡◌, ◌≤◌, ◌⊎◌, ℕ, ◌+◌, List, [], length, Bool, true, false}
+use Rattle.std.specs.Prelude.{Some, None, Result, Ok}
 use Rattle.sg_wire.specs.Layout.{class_of, command_of}
 use Rattle.sg_wire.specs.declared.command.CdbFault.{CdbFault}
 use Rattle.sg_wire.specs.declared.command.Class.{Class}
+use Rattle.sg_wire.specs.declared.command.Class.TheVariants.{Writes}
 use Rattle.sg_wire.specs.declared.command.Command.{Command}
 use Rattle.sg_wire.specs.declared.command.Command.TheVariants as command
 use Rattle.sg_wire.specs.declared.extent.Extent.{Extent}
@@ -10,8 +12,11 @@ use Rattle.sg_wire.specs.declared.sense.Format.{Format}
 use Rattle.sg_store.specs.Disk.{lies_in}
 use Rattle.sg_store.specs.LbaStatus.{status_at}
 use Rattle.sg_store.specs.declared.lba_status.ProvisioningStatus.TheVariants.{Deallocated}
+use Rattle.sg_pages.specs.ModePage.{write_protected}
+use Rattle.sg_pages.specs.ProvisioningPages.{maximum_transfer_length}
 use Rattle.sg_units.specs.Access.{allows}
 use Rattle.sg_units.specs.Attentions.{oldest, without_oldest}
+use Rattle.sg_target.specs.BlockCommands.{bytes_of}
 use Rattle.sg_target.specs.CommandLaws.{blocks_to_write}
 use Rattle.sg_target.specs.Effect.{Effect}
 use Rattle.sg_target.specs.Semantics.{effect_of, medium_use}
@@ -66,6 +71,28 @@ WritesOverUsedAddressesAreNeverRefusedForSpace =
     → (step state initiator cdb data_out).answer
     ≡ refusal_answer format (CheckCondition SpaceAllocationFailed)
     → ⊥
+
+-- Nothing forbids an initiator a WRITE of some blocks. No unit attention is pending for it, and
+-- the reservation, if there is one, lets it write. The blocks are on the disk, and the page Block
+-- Limits allows their number. The data-out has their bytes. SWP is not set. Each address has a
+-- block of the pool.
+pub record NothingForbids (state : State) (initiator : ℕ) (data_out : List ℕ) (out : Extent)
+    : Type 0 where
+  pub attention : oldest state.attentions initiator ≡ None
+  pub reservation : allows state.reservations initiator Writes ≡ true
+  pub on_disk : out.lba + out.count ≤ state.disk.capacity
+  pub not_too_long : out.count ≤ maximum_transfer_length
+  pub has_data : bytes_of out ≤ length data_out
+  pub unprotected : write_protected state.modes ≡ false
+  pub used : AreUsed state out
+
+-- Such a WRITE ends with GOOD.
+abbrev pub WritesThatNothingForbidsEndWithGood : Type 0
+WritesThatNothingForbidsEndWithGood =
+    (state : State) (initiator : ℕ) (cdb data_out : List ℕ) (out : Extent)
+    → IsWithinLimits state → blocks_to_write (command_of cdb) ≡ Some out
+    → NothingForbids state initiator data_out out
+    → (step state initiator cdb data_out).answer.status ≡ Good
 
 -- Nothing has changed, except that the oldest unit attention of an initiator may have been cleared.
 -- The reservations of a state are its registrations, its reservation, PRGENERATION and APTPL.

@@ -161,6 +161,16 @@ PreemptionKeepsAReservation =
     → is_registrant (step state caller cdb data_out).state registrant ≡ true
     → is_reserved (step state caller cdb data_out).state ≡ true
 
+-- The sender of such a command stays registered, unless the key is its own. So if a reservation is
+-- held, a PREEMPT of another key leaves a reservation held.
+abbrev pub PreemptingSendersStayRegistered : Type 0
+PreemptingSendersStayRegistered =
+    (state : State) (caller key : ℕ) (cdb data_out : List ℕ) → IsWithinLimits state
+    → preempted_key (command_of cdb) data_out ≡ Some key
+    → (key_of state.reservations.registrations caller ≡ Some key → ⊥)
+    → (step state caller cdb data_out).answer.status ≡ Good
+    → is_registrant (step state caller cdb data_out).state caller ≡ true
+
 -- ---- Who stays unregistered
 
 -- An initiator stays unregistered in a list: before each of its own commands it is not registered,

@@ -9,6 +9,7 @@ ghost use Rattle.sg_fencing.specs.Laws.{ConflictChangesNothing, OnlyWritesChange
 ghost use Rattle.sg_fencing.specs.Laws.{OnlyThreeCommandsChangeTheDisk, RefusedByReservation};
 ghost use Rattle.sg_fencing.specs.Laws.{RefusedChangesNothing, RefusedReturnsNothing};
 ghost use Rattle.sg_fencing.specs.Laws.{WritesOverUsedAddressesAreNeverRefusedForSpace};
+ghost use Rattle.sg_fencing.specs.Laws.{WritesThatNothingForbidsEndWithGood};
 ghost use Rattle.sg_fencing.specs.PowerCycles.{BlocksAndSavedPagesStay, FencedOffThroughPowerCycles};
 ghost use Rattle.sg_fencing.specs.PowerCycles.{HolderIsAsIfAloneThroughPowerCycles, OthersAreGone};
 ghost use Rattle.sg_fencing.specs.PowerCycles.{PersistentOnesStay, PowerOnIsPendingForEach, TwoAreOne};
@@ -19,6 +20,7 @@ ghost use Rattle.sg_fencing.specs.Registrants.{FencedOffWriteNothing, NoBlockIsS
 ghost use Rattle.sg_fencing.specs.Registrants.{OldKeysAreRefused};
 ghost use Rattle.sg_fencing.specs.Registrants.{OnlyRegisteringRegisters, OutsidersChangeNothing};
 ghost use Rattle.sg_fencing.specs.Registrants.{PreemptedAreUnregistered, PreemptedWriteNothing};
+ghost use Rattle.sg_fencing.specs.Registrants.{PreemptingSendersStayRegistered};
 ghost use Rattle.sg_fencing.specs.Registrants.{PreemptionKeepsAReservation};
 ghost use Rattle.sg_fencing.specs.Registrants.{TheRefusedStayUnregistered};
 
@@ -44,6 +46,17 @@ pub fn only_three_commands_change_the_disk()
 pub fn writes_over_used_addresses_are_never_refused_for_space()
     ensures { WritesOverUsedAddressesAreNeverRefusedForSpace }
 {
+    writes_over_used_addresses_have_space();
+}
+
+/// A WRITE ends with GOOD if nothing forbids it. No unit attention is pending for its initiator,
+/// and the reservation, if there is one, lets the initiator write. The blocks are on the disk, and
+/// the page Block Limits allows their number. The data-out has their bytes. SWP is not set. Each
+/// address is mapped or anchored.
+pub fn writes_that_nothing_forbids_end_with_good()
+    ensures { WritesThatNothingForbidsEndWithGood }
+{
+    commands_have_their_class();
     writes_over_used_addresses_have_space();
 }
 
@@ -263,6 +276,14 @@ pub fn preemption_unregisters()
 pub fn preemption_keeps_a_reservation()
     ensures { PreemptionKeepsAReservation }
 {}
+
+/// The sender of a PREEMPT or a PREEMPT AND ABORT that ends with GOOD stays registered, unless the
+/// key is its own. So if a reservation is held, a PREEMPT of another key leaves a reservation held.
+pub fn preempting_senders_stay_registered()
+    ensures { PreemptingSendersStayRegistered }
+{
+    one_key_each();
+}
 
 /// After a PREEMPT or a PREEMPT AND ABORT of its key, an initiator writes nothing while a
 /// reservation of any type is held. Over a list of commands, this lasts until the disk grants it a

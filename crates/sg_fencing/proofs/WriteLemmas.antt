@@ -1,0 +1,205 @@
+-- A WRITE that nothing forbids passes each check.
+use Rattle.std.proofs.Common.{◌≡◌, ◌≤◌, ℕ, List, [], ◌∷◌, Bool, true, false, Option, Some, None}
+use Rattle.std.proofs.Common.{Result, Ok, Err, refl, subst, sym, ap, ◌∙◌, length, ◌+◌, ◌&&◌, arith}
+use Rattle.std.specs.Prelude.{if◌then◌else◌, nat_lt, option_and_then}
+use Rattle.std.specs.Option.{option_map}
+use Rattle.std.proofs.lemmas.Bool.Decides.{nat_tests}
+use Rattle.sg_wire.specs.Laws.{CommandsHaveTheirClass}
+use Rattle.sg_wire.specs.Layout.{class_of, command_of, is_blocked_by_attention, layout}
+use Rattle.sg_wire.specs.declared.command.CdbFault.{CdbFault}
+use Rattle.sg_wire.specs.declared.command.Class.{Class}
+use Rattle.sg_wire.specs.declared.command.Class.TheVariants.{Writes}
+use Rattle.sg_wire.specs.declared.command.Command.{Command}
+use Rattle.sg_wire.specs.declared.command.Command.TheVariants as command
+use Rattle.sg_wire.specs.declared.extent.Extent.{Extent}
+use Rattle.sg_pages.specs.ModePage.{ModeState, write_protected}
+use Rattle.sg_pages.specs.ProvisioningPages.{maximum_transfer_length}
+use Rattle.sg_units.specs.Access.{allows}
+use Rattle.sg_units.specs.Attentions.{oldest}
+use Rattle.sg_target.specs.BlockCommands.{blocks_out, bytes_of, writing}
+use Rattle.sg_target.specs.Checks.{bad_field, cdb_checks, checked_cdb, checked_effect}
+use Rattle.sg_target.specs.Checks.{checked_operation, checked_parse, empty_cdb, medium_checks}
+use Rattle.sg_target.specs.Checks.{out_of_range, past_capacity, pending_attention, requested}
+use Rattle.sg_target.specs.Checks.{reservation_conflict, short_cdb, short_data_out, unknown_opcode}
+use Rattle.sg_target.specs.Checks.{unsupported_value, write_protection}
+use Rattle.sg_target.specs.CommandLaws.{WritesOverUsedAddressesHaveSpace, blocks_to_write}
+use Rattle.sg_target.specs.Demands.{extent, too_long, write}
+use Rattle.sg_target.specs.Effect.{Effect}
+use Rattle.sg_target.specs.Refusal.{checked_next, first_some, unless_refused}
+use Rattle.sg_target.specs.Semantics.{effect_of, medium_use}
+use Rattle.sg_target.specs.State.{State}
+use Rattle.sg_target.specs.declared.operation.Operation.{Operation}
+use Rattle.sg_target.specs.declared.operation.Operation.TheVariants as operation
+use Rattle.sg_target.specs.declared.refusal.Refusal.{Refusal}
+use Rattle.sg_target.specs.declared.refusal.Refusal.TheVariants.{Conflict}
+use Rattle.sg_fencing.specs.Laws.{NothingForbids, WritesThatNothingForbidsEndWithGood}
+
+-- ---- Checks that do not refuse
+
+first-none : (check : Option Refusal) (checks : List (Option Refusal)) → check ≡ None
+    → first_some checks ≡ None → first_some (check ∷ checks) ≡ None
+first-none None checks h rest = rest
+first-none (Some refusal) checks h rest = cc
+
+if-none : {A : Type 0} (b : Bool) (check : Option A) → b ≡ false → (if b then check else None) ≡ None
+if-none true check h = cc
+if-none false check h = refl
+
+none-if : (b : Bool) (check : Option Refusal) → check ≡ None → (if b then check else None) ≡ None
+none-if true check h = h
+none-if false check h = refl
+
+at-most : (a b : ℕ) → a ≤ b → nat_lt b a ≡ false
+at-most a b h = grind (arith, nat_tests)
+
+conflict-none : (state : State) (i : ℕ) (class : Option Class) → class ≡ Some Writes
+    → allows state.reservations i Writes ≡ true
+    → option_and_then (λ class. if allows state.reservations i class then None else Some Conflict) class
+    ≡ None
+conflict-none state i class is allowed = rw (is, allowed) refl
+
+-- the checks of the CDB of a command
+parsed-none : (parse : Result Command CdbFault) (c : Command) → parse ≡ Ok c
+    → (empty_cdb parse ≡ None) × ((unknown_opcode parse ≡ None)
+    × ((short_cdb parse ≡ None) × (bad_field parse ≡ None)))
+parsed-none (Ok command) c is = (refl, (refl, (refl, refl)))
+parsed-none (Err fault) c is = cc
+
+cdb-none : (state : State) (i : ℕ) (cdb : List ℕ) (c : Command) → command_of cdb ≡ Ok c
+    → class_of cdb ≡ Some Writes → oldest state.attentions i ≡ None
+    → allows state.reservations i Writes ≡ true → first_some (cdb_checks state i cdb) ≡ None
+cdb-none state i cdb c is class none allowed =
+    let parse = command_of cdb in
+    let passed = parsed-none parse c is in
+    first-none (empty_cdb parse) _ passed.0
+    (first-none (pending_attention state i cdb) _
+    (none-if (is_blocked_by_attention cdb) _ (ap (option_map _) none))
+    (first-none (unknown_opcode parse) _ passed.1.0
+    (first-none (reservation_conflict state i cdb) _ (conflict-none state i (class_of cdb) class allowed)
+    (first-none (short_cdb parse) _ passed.1.1.0
+    (first-none (bad_field parse) [] passed.1.1.1 refl)))))
+
+range-none : (capacity : ℕ) (out : Extent) → out.lba + out.count ≤ capacity
+    → out_of_range capacity (out ∷ []) ≡ None
+unfolding out_of_range
+range-none capacity out h =
+    first-none (past_capacity capacity out) []
+    (if-none (nat_lt capacity (out.lba + out.count)) _ (at-most (out.lba + out.count) capacity h)) refl
+
+protection-none : (modes : ModeState) (writes : Bool) → write_protected modes ≡ false
+    → write_protection modes writes ≡ None
+unfolding write_protection
+protection-none modes writes h = if-none (write_protected modes && writes) _ (ap (λ b. b && writes) h)
+
+-- ---- The command
+
+module _ (state : State) (i : ℕ) (data_out : List ℕ) (out : Extent)
+    (free : NothingForbids state i data_out out) where
+  abbrev asked : Operation
+  asked = operation.Write (blocks_out out data_out)
+
+  abbrev IsItsEffect : Result Effect Refusal → Type 0
+  IsItsEffect found = found ≡ Ok (writing state (blocks_out out data_out))
+
+  by-medium : (first : Option Refusal) → first ≡ None
+      → IsItsEffect (checked_next (unless_refused first (Ok asked)) (effect_of state i))
+  by-medium None h = refl
+  by-medium (Some refusal) h = cc
+
+  by-request : (first : Option Refusal) → first ≡ None
+      → IsItsEffect
+      (checked_next (checked_next (unless_refused first (Ok asked)) (checked_operation state))
+      (effect_of state i))
+  by-request None h =
+      by-medium (first_some (medium_checks state (medium_use asked)))
+      (first-none (out_of_range state.disk.capacity (out ∷ [])) _
+      (range-none state.disk.capacity out free.on_disk)
+      (first-none (write_protection state.modes true) []
+      (protection-none state.modes true free.unprotected) refl))
+  by-request (Some refusal) h = cc
+
+  write-effect : (unsupported : Option ℕ) → unsupported ≡ None
+      → IsItsEffect
+      (checked_next
+      (checked_next (requested (write out unsupported data_out) data_out) (checked_operation state))
+      (effect_of state i))
+  write-effect unsupported h =
+      by-request
+      (first_some
+      (unsupported_value unsupported ∷ short_data_out (Some (bytes_of out)) data_out ∷ []))
+      (first-none (unsupported_value unsupported) _ (ap unsupported_value h)
+      (first-none (short_data_out (Some (bytes_of out)) data_out) []
+      (if-none (nat_lt (length data_out) (bytes_of out)) _
+      (at-most (bytes_of out) (length data_out) free.has_data)) refl))
+
+  allowed-length : (byte : ℕ) → too_long out.count byte ≡ None
+  allowed-length byte =
+      if-none (nat_lt maximum_transfer_length out.count) _
+      (at-most out.count maximum_transfer_length free.not_too_long)
+
+  at-extent : (named : Extent) → named ≡ out → (unsupported : Option ℕ) → unsupported ≡ None
+      → IsItsEffect
+      (checked_next
+      (checked_next (requested (write named unsupported data_out) data_out) (checked_operation state))
+      (effect_of state i))
+  at-extent named is unsupported h =
+      subst
+      (λ (e : Extent). IsItsEffect
+      (checked_next
+      (checked_next (requested (write e unsupported data_out) data_out) (checked_operation state))
+      (effect_of state i)))
+      (sym is) (write-effect unsupported h)
+
+  by-command : (parse : Result Command CdbFault) → blocks_to_write parse ≡ Some out
+      → IsItsEffect (checked_next (checked_parse state parse data_out) (effect_of state i))
+  by-command (Ok (command.Write6 c)) is =
+      let e : extent c.0 c.1 ≡ out = cc in at-extent (extent c.0 c.1) e None refl
+  by-command (Ok (command.Write10 c)) is =
+      let e : extent c.lba c.count ≡ out = cc in
+      at-extent (extent c.lba c.count) e (too_long c.count 7)
+      (ap (λ (e : Extent). too_long e.count 7) e ∙ allowed-length 7)
+  by-command (Ok (command.Write16 c)) is =
+      let e : extent c.lba c.count ≡ out = cc in
+      at-extent (extent c.lba c.count) e (too_long c.count 10)
+      (ap (λ (e : Extent). too_long e.count 10) e ∙ allowed-length 10)
+  by-command _ is = cc
+
+  by-cdb : (first : Option Refusal) → first ≡ None → (parse : Result Command CdbFault)
+      → blocks_to_write parse ≡ Some out
+      → IsItsEffect
+      (checked_next (unless_refused first (checked_parse state parse data_out)) (effect_of state i))
+  by-cdb None h parse is = by-command parse is
+  by-cdb (Some refusal) h parse is = cc
+
+-- it is a command of the class that writes
+record IsWrite (parse : Result Command CdbFault) : Type 0 where
+  command : Command
+  is : parse ≡ Ok command
+  class : (layout command).class ≡ Writes
+
+is-write : (parse : Result Command CdbFault) (out : Extent) → blocks_to_write parse ≡ Some out
+    → IsWrite parse
+is-write (Ok (command.Write6 c)) out is =
+    record { command = command.Write6 c; is = refl; class = refl }
+is-write (Ok (command.Write10 c)) out is =
+    record { command = command.Write10 c; is = refl; class = refl }
+is-write (Ok (command.Write16 c)) out is =
+    record { command = command.Write16 c; is = refl; class = refl }
+is-write _ out is = cc
+
+effect-is : CommandsHaveTheirClass → (state : State) (i : ℕ) (cdb data_out : List ℕ) (out : Extent)
+    → blocks_to_write (command_of cdb) ≡ Some out → NothingForbids state i data_out out
+    → checked_effect state i cdb data_out ≡ Ok (writing state (blocks_out out data_out))
+unfolding checked_cdb
+effect-is classes state i cdb data_out out is free =
+    let w = is-write (command_of cdb) out is in
+    by-cdb state i data_out out free (first_some (cdb_checks state i cdb))
+    (cdb-none state i cdb w.command w.is (classes cdb w.command w.is ∙ ap Some w.class)
+    free.attention free.reservation)
+    (command_of cdb) is
+
+pub free-writes : CommandsHaveTheirClass → WritesOverUsedAddressesHaveSpace
+    → WritesThatNothingForbidsEndWithGood
+free-writes classes law state i cdb data_out out w is free =
+    law state i cdb data_out out (writing state (blocks_out out data_out)) w is free.used
+    (effect-is classes state i cdb data_out out is free)
