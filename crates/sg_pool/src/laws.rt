@@ -14,7 +14,7 @@ pub fn a_pool_has_only_its_parts()
 {}
 
 /// The blocks lie in one vector, each at the number of its slot. So a block stays at its place in
-/// memory for as long as its address keeps its slot.
+/// the vector for as long as its address keeps its slot.
 pub fn the_blocks_lie_in_the_order_of_their_slots()
     ensures { BlocksLieInOrder }
 {}
