@@ -3,12 +3,11 @@
 use Rattle.std.proofs.Common.{◌≡◌, ◌==◌, ℕ, Bool, true, false, cond, not, ◌&&◌, ◌||◌, List}
 use Rattle.std.proofs.Common.{[], ◌∷◌, filter, length, Option, Some, None, Result, Ok, Err}
 use Rattle.std.proofs.Common.{is_some, refl, sym, ap, ◌∙◌, subst, arith}
-use Rattle.std.specs.Option.{option_map_or}
+use Rattle.std.specs.Option.{option_map, option_map_or}
 use Rattle.std.specs.Result.{result_map_both}
 use Rattle.std.proofs.lemmas.Bool.{false_from_ne_true, or_left}
 use Rattle.std.proofs.lemmas.Bool.{false≢true, ne_eqb, not_from_true, or_from, or_right}
 use Rattle.std.proofs.lemmas.Bool.Decides.{nat_tests}
-use Rattle.std.proofs.lemmas.Option.{cond_some}
 use Rattle.sg_wire.specs.CutAnswer.{first_bytes}
 use Rattle.sg_wire.specs.Layout.{command_of}
 use Rattle.sg_wire.specs.declared.command.CdbFault.{CdbFault}
@@ -292,6 +291,12 @@ module _ (state : State) (j : ℕ) (P : List Registration → Option Reservation
   reserving-leaves action scope_type list h =
       changing-leaves (outcome state.reservations j action scope_type list) h
 
+  key-sent : (preempts : Bool) (list : OutList) (key : ℕ)
+      → option_map (λ (l : OutList). l.service_action_key) (cond preempts (Some list) None) ≡ Some key
+      → (preempts ≡ true) × (list.service_action_key ≡ key)
+  key-sent true list key h = (refl, cc)
+  key-sent false list key h = cc
+
   module _ (key : ℕ)
       (leaves : (action : OutAction) (scope_type : ℕ) (list : OutList) → is_preempting action ≡ true
       → list.service_action_key ≡ key
@@ -302,7 +307,7 @@ module _ (state : State) (j : ℕ) (P : List Registration → Option Reservation
         → EffectLeaves (effect_of state j operation)
     command-leaves (PersistentReserveOut c) data_out operation e h =
         let list = first_bytes c.list_length data_out in
-        let parts = cond_some (is_preempting c.action) (out_list list).service_action_key key h in
+        let parts = key-sent (is_preempting c.action) (out_list list) key h in
         subst (λ (o : Operation). EffectLeaves (effect_of state j o))
         (listed c.action c.scope_type (length list == list_length) (out_list list)
         (CheckCondition ParameterListLengthError) operation e)

@@ -9,15 +9,12 @@ use Rattle.sg_wire.specs.declared.command.Command.{Command}
 use Rattle.sg_wire.specs.declared.command.Command.TheVariants as command
 use Rattle.sg_wire.specs.declared.extent.Extent.{Extent}
 use Rattle.sg_wire.specs.declared.sense.Format.{Format}
-use Rattle.sg_store.specs.Disk.{lies_in}
-use Rattle.sg_store.specs.LbaStatus.{status_at}
-use Rattle.sg_store.specs.declared.lba_status.ProvisioningStatus.TheVariants.{Deallocated}
 use Rattle.sg_pages.specs.ModePage.{write_protected}
 use Rattle.sg_pages.specs.ProvisioningPages.{maximum_transfer_length}
 use Rattle.sg_units.specs.Access.{allows}
 use Rattle.sg_units.specs.Attentions.{oldest, without_oldest}
 use Rattle.sg_target.specs.BlockCommands.{bytes_of}
-use Rattle.sg_target.specs.CommandLaws.{blocks_to_write}
+use Rattle.sg_target.specs.CommandLaws.{AreUsed, blocks_to_write}
 use Rattle.sg_target.specs.Effect.{Effect}
 use Rattle.sg_target.specs.Semantics.{effect_of, medium_use}
 use Rattle.sg_target.specs.State.{IsWithinLimits, State}
@@ -56,14 +53,9 @@ OnlyThreeCommandsChangeTheDisk =
     → may_change_blocks (command_of cdb) ≡ false
     → (step state initiator cdb data_out).state.disk ≡ state.disk
 
--- Each address of an extent has a block of the pool: it is mapped or anchored.
-abbrev pub AreUsed : State → Extent → Type 0
-AreUsed state extent =
-    (address : ℕ) → lies_in extent.lba extent.count address ≡ true
-    → status_at state.disk.contents address ≡ Deallocated → ⊥
-
--- A WRITE over such addresses takes no more of the pool (SBC-3, 4.7.4). So no check refuses it for
--- space: its answer is not SPACE ALLOCATION FAILED WRITE PROTECT, in either format of sense data.
+-- A WRITE over addresses that are all mapped or anchored takes no more of the pool (SBC-3, 4.7.4).
+-- So no check refuses it for space: its answer is not SPACE ALLOCATION FAILED WRITE PROTECT, in
+-- either format of sense data.
 abbrev pub WritesOverUsedAddressesAreNeverRefusedForSpace : Type 0
 WritesOverUsedAddressesAreNeverRefusedForSpace =
     (state : State) (initiator : ℕ) (cdb data_out : List ℕ) (out : Extent) (format : Format)

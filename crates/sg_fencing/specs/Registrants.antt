@@ -6,7 +6,7 @@ use Rattle.std.specs.Prelude.{Result, Ok, None, if◌then◌else◌}
 use Rattle.std.specs.Prelude.{is_some, slice_get, take}
 use Rattle.std.specs.List.{list_any}
 use Rattle.std.specs.FinMap.{len}
-use Rattle.std.specs.Option.{option_map_or}
+use Rattle.std.specs.Option.{option_map, option_map_or}
 use Rattle.sg_wire.specs.CutAnswer.{first_bytes}
 use Rattle.sg_wire.specs.Layout.{class_of, command_of}
 use Rattle.sg_wire.specs.declared.command.CdbFault.{CdbFault}
@@ -84,11 +84,9 @@ is_preempting PreemptAndAbort = true
 is_preempting _ = false
 
 abbrev pub preempted_key : Result Command CdbFault → (data_out : List ℕ) → Option ℕ
-preempted_key (Ok (PersistentReserveOut c)) data_out =
-    if is_preempting c.action
-    then Some (out_list (first_bytes c.list_length data_out)).service_action_key
-    else None
-preempted_key _ data_out = None
+preempted_key command data_out =
+    option_map (λ (list : OutList). list.service_action_key)
+    (list_of is_preempting command data_out)
 
 -- ---- One command
 

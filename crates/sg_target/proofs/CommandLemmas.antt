@@ -1,10 +1,11 @@
 -- Commands on blocks that end with GOOD.
-use Rattle.std.proofs.Common.{◌≡◌, ◌≤◌, ◌<◌, ℕ, ◌+◌, ◌-◌, ◌*◌, ◌==◌, ◌&&◌, List, [], ◌∷◌, length, take, drop}
+use Rattle.std.proofs.Common.{◌≡◌, ◌≤◌, ◌<◌, ℕ, ◌+◌, ◌-◌, ◌*◌, ◌==◌, List, [], ◌∷◌, length, take, drop}
 use Rattle.std.proofs.Common.{Bool, true, false, cond, Option, Some, None, Result, Ok, Err, replicate}
 use Rattle.std.proofs.Common.{refl, sym, ap, ◌∙◌, subst, arith, length-take}
 use Rattle.std.proofs.lemmas.Bool.{and_parts, eqb-true}
 use Rattle.std.proofs.lemmas.Bool.Decides.{nat_tests}
 use Rattle.std.proofs.lemmas.List.{drop-take, take-take}
+use Rattle.std.specs.List.{list_all}
 use Rattle.sg_wire.specs.CutAnswer.{first_bytes}
 use Rattle.sg_wire.specs.Layout.{command_of}
 use Rattle.sg_wire.specs.UnmapList.{unmap_list}
@@ -38,10 +39,10 @@ use Rattle.sg_store.specs.declared.lba_status.ProvisioningStatus.TheVariants.{An
 use Rattle.sg_target.specs.BlockCommands.{blocks_out, bytes_of, reading, writing}
 use Rattle.sg_target.specs.Checks.{no_space}
 use Rattle.sg_target.specs.CommandLaws.{Changes, EndsWithGood, ReadsReturnTheirBlocks, ReturnsBlocks}
-use Rattle.sg_target.specs.CommandLaws.{SameFields, UnmapsFollowTheirLists}
+use Rattle.sg_target.specs.CommandLaws.{UnmapsFollowTheirLists, WriteSameFields}
 use Rattle.sg_target.specs.CommandLaws.{WriteSamesLeaveTheirBlock, WritesLeaveTheirData}
-use Rattle.sg_target.specs.CommandLaws.{blocks_to_read, blocks_to_write, is_zero_block, same_fields}
-use Rattle.sg_target.specs.CommandLaws.{status_of_same, unmapped_status}
+use Rattle.sg_target.specs.CommandLaws.{blocks_to_read, blocks_to_write, status_of_same}
+use Rattle.sg_target.specs.CommandLaws.{unmapped_status, write_same_fields}
 use Rattle.sg_target.specs.Demands.{bad_count, demands, extent, unless_anchor_alone, unmap_extent}
 use Rattle.sg_target.specs.Demands.{unmap_extents, unmap_or_fill}
 use Rattle.sg_target.specs.Effect.{Effect, with_contents}
@@ -311,22 +312,22 @@ unmaps-follow unmaps anchors state i cdb data_out c is good =
 
 -- ---- WRITE SAME
 
-same-asked : (capacity : ℕ) (k : Command) (data_out : List ℕ) (o : Operation) (c : SameFields)
-    → (demands capacity k data_out).operation ≡ Ok o → same_fields (Ok k) ≡ Some c
+same-asked : (capacity : ℕ) (k : Command) (data_out : List ℕ) (o : Operation) (c : WriteSameFields)
+    → (demands capacity k data_out).operation ≡ Ok o → write_same_fields (Ok k) ≡ Some c
     → unmap_or_fill c.anchor c.unmap c.extent (block_out data_out) ≡ o
 same-asked capacity (command.WriteSame10 w) data_out o c e h =
     let same : record { extent = extent w.lba w.count; anchor = w.anchor; unmap = w.unmap } ≡ c = cc in
     let is : unmap_or_fill w.anchor w.unmap (extent w.lba w.count) (block_out data_out) ≡ o = cc in
-    ap (λ (f : SameFields). unmap_or_fill f.anchor f.unmap f.extent (block_out data_out)) (sym same) ∙ is
+    ap (λ (f : WriteSameFields). unmap_or_fill f.anchor f.unmap f.extent (block_out data_out)) (sym same) ∙ is
 same-asked capacity (command.WriteSame16 w) data_out o c e h =
     let same : record { extent = extent w.lba w.count; anchor = w.anchor; unmap = w.unmap } ≡ c = cc in
     let is : unmap_or_fill w.anchor w.unmap (extent w.lba w.count) (block_out data_out) ≡ o = cc in
-    ap (λ (f : SameFields). unmap_or_fill f.anchor f.unmap f.extent (block_out data_out)) (sym same) ∙ is
+    ap (λ (f : WriteSameFields). unmap_or_fill f.anchor f.unmap f.extent (block_out data_out)) (sym same) ∙ is
 same-asked capacity _ data_out o c e h = cc
 
-same-long : (capacity : ℕ) (k : Command) (data_out : List ℕ) (c : SameFields)
+same-long : (capacity : ℕ) (k : Command) (data_out : List ℕ) (c : WriteSameFields)
     → first_some (request_checks (demands capacity k data_out) data_out) ≡ None
-    → same_fields (Ok k) ≡ Some c → 512 ≤ length data_out
+    → write_same_fields (Ok k) ≡ Some c → 512 ≤ length data_out
 same-long capacity (command.WriteSame10 w) data_out c e h =
     long_enough (unless_anchor_alone w.anchor w.unmap (bad_count w.count 7)) 512 data_out e
 same-long capacity (command.WriteSame16 w) data_out c e h =
@@ -334,15 +335,19 @@ same-long capacity (command.WriteSame16 w) data_out c e h =
 same-long capacity _ data_out c e h = cc
 
 -- a block of zeros is the block of zeros
-all-zero : (bytes : List ℕ) → is_zero_block bytes ≡ true → bytes ≡ replicate (length bytes) 0
+all-zero : (bytes : List ℕ) → list_all (λ byte. byte == 0) bytes ≡ true
+    → bytes ≡ replicate (length bytes) 0
 all-zero [] h = refl
 all-zero (byte ∷ bytes) h =
-    let parts = and_parts (byte == 0) (is_zero_block bytes) h in
+    let parts = and_parts (byte == 0) (list_all (λ byte. byte == 0) bytes) h in
     λ d. eqb-true byte 0 parts.0 d ∷ all-zero bytes parts.1 d
 
-zero-is : (bytes : List ℕ) → length bytes ≡ 512 → is_zero_block bytes ≡ true → zero_block ≡ bytes
-unfolding zero_block
-zero-is bytes h z = sym (all-zero bytes z ∙ ap (λ n. replicate n 0) h)
+zero-is : (unmap : Bool) (bytes : List ℕ) → length bytes ≡ 512 → unmaps unmap bytes ≡ true
+    → zero_block ≡ bytes
+unfolding zero_block unmaps
+zero-is unmap bytes h z =
+    sym (all-zero bytes (and_parts unmap (list_all (λ byte. byte == 0) bytes) z).1
+    ∙ ap (λ n. replicate n 0) h)
 
 whole-block : (data_out : List ℕ) → 512 ≤ length data_out → length (block_out data_out) ≡ 512
 whole-block data_out h = omega (arith, length-take 512 data_out)
@@ -398,19 +403,17 @@ module _ (fills : FillMapsEachAddress) (puts : FillsEachBlock) (unmapped : Unmap
     };
   }
 
-  by-fields : (state : State) (i : ℕ) (c : SameFields) (given : List ℕ) → length given ≡ 512
+  by-fields : (state : State) (i : ℕ) (c : WriteSameFields) (given : List ℕ) → length given ≡ 512
       → SameEffect state i (unmap_or_fill c.anchor c.unmap c.extent given) c.extent
       (status_of_same c given) given
-  unfolding unmaps
   by-fields state i c given h =
-      by-flags state i c.anchor (c.unmap && is_zero_block given) c.extent given
-      (λ both. zero-is given h (and_parts c.unmap (is_zero_block given) both).1)
+      by-flags state i c.anchor (unmaps c.unmap given) c.extent given (zero-is c.unmap given h)
 
   pub write-sames-leave : WriteSamesLeaveTheirBlock
   write-sames-leave state i cdb data_out c is good =
       let d = done-well state i cdb data_out good in
-      let fields : same_fields (Ok d.asked.command) ≡ Some c =
-      ap same_fields (sym d.asked.command_is) ∙ is in
+      let fields : write_same_fields (Ok d.asked.command) ≡ Some c =
+      ap write_same_fields (sym d.asked.command_is) ∙ is in
       let known = same-asked state.disk.capacity d.asked.command data_out d.operation c
       d.asked.operation_is fields in
       let long = same-long state.disk.capacity d.asked.command data_out c d.asked.accepted fields in

@@ -1,7 +1,6 @@
 -- Laws of the commands on blocks: what `step` returns and leaves if one of them ends with GOOD.
-use Rattle.std.specs.Prelude.{◌≡◌, ℕ, ◌-◌, ◌==◌, ◌&&◌, List, Bool, true, if◌then◌else◌}
+use Rattle.std.specs.Prelude.{◌≡◌, ℕ, ◌-◌, List, Bool, true, if◌then◌else◌}
 use Rattle.std.specs.Prelude.{Option, Some, None, Result, Ok}
-use Rattle.std.specs.List.{list_all}
 use Rattle.sg_wire.specs.CutAnswer.{first_bytes}
 use Rattle.sg_wire.specs.Layout.{command_of}
 use Rattle.sg_wire.specs.UnmapList.{unmap_list}
@@ -10,7 +9,7 @@ use Rattle.sg_wire.specs.declared.command.Command.{Command}
 use Rattle.sg_wire.specs.declared.command.Command.TheVariants as command
 use Rattle.sg_wire.specs.declared.command.provisioning.Unmap.{Unmap}
 use Rattle.sg_wire.specs.declared.extent.Extent.{Extent}
-use Rattle.sg_store.specs.Disk.{block, block_at, block_length, blocks, lies_in, zero_block}
+use Rattle.sg_store.specs.Disk.{block, block_at, blocks, lies_in, zero_block}
 use Rattle.sg_store.specs.LbaStatus.{status_at}
 use Rattle.sg_store.specs.declared.lba_status.ProvisioningStatus.{ProvisioningStatus}
 use Rattle.sg_store.specs.declared.lba_status.ProvisioningStatus.TheVariants.{Mapped, Deallocated}
@@ -19,6 +18,7 @@ use Rattle.sg_target.specs.Checks.{checked_effect}
 use Rattle.sg_target.specs.Demands.{extent}
 use Rattle.sg_target.specs.Effect.{Effect, with_contents}
 use Rattle.sg_target.specs.Laws.{lies_in_any}
+use Rattle.sg_target.specs.ProvisioningCommands.{block_out, unmaps}
 use Rattle.sg_target.specs.State.{IsWithinLimits, State}
 use Rattle.sg_target.specs.Step.{Step, step}
 use Rattle.sg_target.specs.declared.reply.Status.TheVariants.{Good}
@@ -77,14 +77,18 @@ WritesLeaveTheirData =
     → Changes state (step state initiator cdb data_out).state (lies_in out.lba out.count) Mapped
     (λ address. block_at data_out (address - out.lba))
 
--- A WRITE whose addresses all have a block of the pool, mapped or anchored, takes no more of the pool
--- (SBC-3, 4.7.4). So it ends with GOOD if it passes the checks before the check for space.
+-- Each address of an extent has a block of the pool: it is mapped or anchored.
+abbrev pub AreUsed : State → Extent → Type 0
+AreUsed state extent =
+    (address : ℕ) → lies_in extent.lba extent.count address ≡ true
+    → status_at state.disk.contents address ≡ Deallocated → ⊥
+
+-- A WRITE over such addresses takes no more of the pool (SBC-3, 4.7.4). So it ends with GOOD if it
+-- passes the checks before the check for space.
 abbrev pub WritesOverUsedAddressesHaveSpace : Type 0
 WritesOverUsedAddressesHaveSpace =
     (state : State) (initiator : ℕ) (cdb data_out : List ℕ) (out : Extent) (effect : Effect)
-    → IsWithinLimits state → blocks_to_write (command_of cdb) ≡ Some out
-    → ((address : ℕ) → lies_in out.lba out.count address ≡ true
-    → status_at state.disk.contents address ≡ Deallocated → ⊥)
+    → IsWithinLimits state → blocks_to_write (command_of cdb) ≡ Some out → AreUsed state out
     → checked_effect state initiator cdb data_out ≡ Ok effect
     → EndsWithGood state initiator cdb data_out
 
@@ -111,37 +115,27 @@ UnmapsFollowTheirLists =
 -- ---- WRITE SAME (SBC-3, 5.43 and 5.44)
 
 -- The fields of a WRITE SAME(10) or WRITE SAME(16).
-pub record SameFields : Type 0 where
+pub record WriteSameFields : Type 0 where
   pub extent : Extent
   pub anchor : Bool
   pub unmap : Bool
 
-abbrev pub same_fields : Result Command CdbFault → Option SameFields
-same_fields (Ok (command.WriteSame10 c)) = Some (record {
-  extent = extent c.lba c.count;
-  anchor = c.anchor;
-  unmap = c.unmap;
-})
-same_fields (Ok (command.WriteSame16 c)) = Some (record {
-  extent = extent c.lba c.count;
-  anchor = c.anchor;
-  unmap = c.unmap;
-})
-same_fields _ = None
+abbrev pub fields_of : (anchor unmap : Bool) → Extent → Option WriteSameFields
+fields_of anchor unmap extent = Some (record { extent = extent; anchor = anchor; unmap = unmap })
+
+abbrev pub write_same_fields : Result Command CdbFault → Option WriteSameFields
+write_same_fields (Ok (command.WriteSame10 c)) = fields_of c.anchor c.unmap (extent c.lba c.count)
+write_same_fields (Ok (command.WriteSame16 c)) = fields_of c.anchor c.unmap (extent c.lba c.count)
+write_same_fields _ = None
 
 -- With UNMAP 1 and a block of zeros the addresses are unmapped, and otherwise they are mapped.
-abbrev pub is_zero_block : List ℕ → Bool
-is_zero_block block = list_all (λ byte. byte == 0) block
+abbrev pub status_of_same : WriteSameFields → (block : List ℕ) → ProvisioningStatus
+status_of_same c block = if unmaps c.unmap block then unmapped_status c.anchor else Mapped
 
-abbrev pub status_of_same : SameFields → (block : List ℕ) → ProvisioningStatus
-status_of_same c block =
-    if c.unmap && is_zero_block block then unmapped_status c.anchor else Mapped
-
--- Each address has that status, and is read as the block of the data-out: also if it is unmapped.
+-- Each address has that status, and is read as the block of the data-out, even if it is unmapped.
 abbrev pub WriteSamesLeaveTheirBlock : Type 0
 WriteSamesLeaveTheirBlock =
-    (state : State) (initiator : ℕ) (cdb data_out : List ℕ) (c : SameFields)
-    → same_fields (command_of cdb) ≡ Some c → EndsWithGood state initiator cdb data_out →
-    (let block = first_bytes block_length data_out in
-    Changes state (step state initiator cdb data_out).state (lies_in c.extent.lba c.extent.count)
-    (status_of_same c block) (λ address. block))
+    (state : State) (initiator : ℕ) (cdb data_out : List ℕ) (c : WriteSameFields)
+    → write_same_fields (command_of cdb) ≡ Some c → EndsWithGood state initiator cdb data_out
+    → Changes state (step state initiator cdb data_out).state (lies_in c.extent.lba c.extent.count)
+    (status_of_same c (block_out data_out)) (λ address. block_out data_out)
