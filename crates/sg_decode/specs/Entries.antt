@@ -2,7 +2,7 @@
 use Rattle.std.specs.Prelude.{ℕ, List, [], ◌∷◌, length, drop, filter, codes, slice_index}
 use Rattle.std.specs.Prelude.{Bool, nat_le, ◌==◌, if◌then◌else◌}
 use Rattle.byteorder.specs.Endian.{big_number}
-use Rattle.sg_wire.specs.Layout.{bits_of, has_bit}
+use Rattle.sg_wire.specs.Bits.{bits_of, has_bit}
 use Rattle.sg_decode.specs.Lines.{Line, part, line_end}
 use Rattle.sg_decode.specs.Items.{Entry}
 use Rattle.sg_decode.specs.declared.value.Value.TheVariants.{Bits, Code, Number, Address}

@@ -2,7 +2,7 @@
 use Rattle.std.specs.Prelude.{ℕ, ◌+◌, List, [], ◌∷◌, ◌++◌, drop, codes, slice_index, Bool, false}
 use Rattle.std.specs.Prelude.{◌==◌, ◌&&◌, not, if◌then◌else◌}
 use Rattle.byteorder.specs.Endian.{big_number}
-use Rattle.sg_wire.specs.Layout.{has_bit}
+use Rattle.sg_wire.specs.Bits.{has_bit}
 use Rattle.sg_decode.specs.Lines.{Line, part, line_text}
 use Rattle.sg_decode.specs.Items.{Decoder, Item, item, line_items, entries_from}
 use Rattle.sg_decode.specs.Entries.{entry_of}

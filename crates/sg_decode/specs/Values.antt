@@ -6,7 +6,7 @@ use Rattle.std.specs.List.{flat_map}
 use Rattle.byteorder.specs.Endian.{big_number}
 use Rattle.hex.specs.Hex.{encode_lower}
 use Rattle.sg_wire.specs.Ascii.{is_printable}
-use Rattle.sg_wire.specs.Layout.{bits_of, has_bit}
+use Rattle.sg_wire.specs.Bits.{bits_of, has_bit}
 use Rattle.sg_decode.specs.HexText.{upper_hex_byte}
 use Rattle.sg_decode.specs.declared.value.Value.{Value}
 use Rattle.sg_decode.specs.declared.value.Value.TheVariants.{Bits, Code, Number, Address}

@@ -4,7 +4,7 @@ ghost use Rattle.std.specs.Prelude.{option_map, true, if◌then◌else◌};
 ghost use Rattle.byteorder.specs.Endian.{big_number};
 ghost use Rattle.hex.specs.Hex.{encode_lower};
 ghost use Rattle.sg_wire.specs.Printer.{PrintsText};
-ghost use Rattle.sg_wire.specs.Layout.{bits_of, has_bit};
+ghost use Rattle.sg_wire.specs.Bits.{bits_of, has_bit};
 ghost use Rattle.sg_decode.specs.Values.{value_text, value_end, is_sound};
 ghost use Rattle.sg_decode.specs.Values.{provisioning_name, provisioning_text, type_names};
 

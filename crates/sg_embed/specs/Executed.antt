@@ -3,12 +3,13 @@ use Rattle.std.specs.Prelude.{◌≡◌, ℕ, List, Option, Some}
 use Rattle.sg_pages.specs.Identity.{IdentityFields}
 use Rattle.sg_store.specs.Meter.{new_meter}
 use Rattle.sg_block_map.specs.RunCost.{block_price, block_least}
+use Rattle.sg_target.specs.Charge.{ChargesCommand, cost_bounds}
 use Rattle.sg_target.specs.Config.{ConfigFields}
 use Rattle.sg_target.specs.Execution.{IsExecuted}
-use Rattle.sg_target.specs.PowerCycle.{CyclesPower}
-use Rattle.sg_target.specs.Ranges.{cost_bounds}
+use Rattle.sg_target.specs.Happenings.{Happens}
 use Rattle.sg_target.specs.State.{new_state}
 use Rattle.sg_target.specs.Target.{TargetFields}
+use Rattle.sg_target.specs.declared.happening.Happening.TheVariants.{Power}
 use Rattle.sg_target.specs.declared.reply.Reply.{Reply}
 use Rattle.sg_embed.specs.declared.kept.Kept.{Kept}
 use Rattle.sg_embed.specs.Records.{Shows}
@@ -33,12 +34,17 @@ pub record HappensToDisk (event : (old new : TargetFields) → Type 0) (old new 
 
 -- The disk has lost power, and power is on again.
 abbrev pub IsPowerCycled : (old new : Option Kept) → Type 0
-IsPowerCycled = HappensToDisk CyclesPower
+IsPowerCycled = HappensToDisk (Happens Power)
+
+-- A target executes a command, and its store is charged for it.
+pub record ExecutesCommand (initiator : ℕ) (cdb data_out : List ℕ) (reply : Reply)
+    (before after : List ℕ) (old new : TargetFields) : Type 0 where
+  pub executed : IsExecuted initiator cdb data_out old new reply before after
+  pub charged : ChargesCommand (cost_bounds block_price block_least) initiator cdb data_out old new reply
 
 -- A command is executed, and a record shows the reply.
 pub record IsAnswered (initiator : ℕ) (cdb data_out : List ℕ) (old new : Option Kept)
     (before after : List ℕ) (shown : ReplyRecord) : Type 0 where
   pub reply : Reply
-  pub executed : HappensToDisk (λ target target'. IsExecuted (cost_bounds block_price block_least)
-      initiator cdb data_out target target' reply before after) old new
+  pub executed : HappensToDisk (ExecutesCommand initiator cdb data_out reply before after) old new
   pub shows : Shows shown reply

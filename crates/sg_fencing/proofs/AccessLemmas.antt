@@ -1,13 +1,15 @@
 -- A command of a class that the reservation does not allow does not end with GOOD.
-use Rattle.std.proofs.Common.{◌≡◌, ℕ, false, List, [], ◌∷◌, Option, Some, None, refl, ap, ◌∙◌}
+use Rattle.std.proofs.Common.{◌≡◌, ℕ, false, List, [], ◌∷◌, Option, Some, None, refl, ap, sym, ◌∙◌}
 use Rattle.sg_wire.specs.Laws.{CommandsHaveTheirClass}
-use Rattle.sg_wire.specs.Layout.{class_of, command_of}
+use Rattle.sg_wire.specs.CdbDecoding.{class_in, class_of, command_in}
 use Rattle.sg_wire.specs.declared.command.Class.{Class}
+use Rattle.sg_wire.specs.declared.profile.Profile.TheVariants.{Extended}
+use Rattle.sg_wire.proofs.ClassLemmas.{class-of_command}
 use Rattle.sg_units.specs.Access.{allows}
 use Rattle.sg_target.specs.Checks.{bad_field, cdb_checks, empty_cdb, pending_attention}
 use Rattle.sg_target.specs.Checks.{reservation_conflict, short_cdb, unknown_opcode}
 use Rattle.sg_target.specs.Refusal.{first_some}
-use Rattle.sg_target.specs.State.{State}
+use Rattle.sg_target.specs.State.{State, profile_of}
 use Rattle.sg_target.specs.Step.{Step, step}
 use Rattle.sg_target.specs.declared.operation.Operation.{Operation}
 use Rattle.sg_target.specs.declared.refusal.Refusal.{Refusal}
@@ -17,7 +19,7 @@ use Rattle.sg_target.proofs.LiftLemmas.{Asked, lifted, not_good}
 use Rattle.sg_fencing.proofs.OperationLemmas.{asked-suits, class_for}
 
 module _ (state : State) (j : ℕ) where
-  conflict : (cdb : List ℕ) (class : Class) → class_of cdb ≡ Some class
+  conflict : (cdb : List ℕ) (class : Class) → class_in (profile_of state) cdb ≡ Some class
       → allows state.reservations j class ≡ false
       → reservation_conflict state j cdb ≡ Some Conflict
   conflict cdb class is not_allowed = rw (is, not_allowed) refl
@@ -32,11 +34,11 @@ module _ (state : State) (j : ℕ) where
 
   -- a command that has passed the checks of its CDB is of a class that is allowed
   pub passed-is-allowed : (cdb : List ℕ) (class : Class) → first_some (cdb_checks state j cdb) ≡ None
-      → class_of cdb ≡ Some class → allows state.reservations j class ≡ false → ⊥
+      → class_in (profile_of state) cdb ≡ Some class → allows state.reservations j class ≡ false → ⊥
   passed-is-allowed cdb class passed is not_allowed =
-      no_conflict (empty_cdb (command_of cdb)) (pending_attention state j cdb)
-      (unknown_opcode (command_of cdb)) (reservation_conflict state j cdb)
-      (short_cdb (command_of cdb)) (bad_field (command_of cdb)) passed
+      let command = command_in (profile_of state) cdb in
+      no_conflict (empty_cdb command) (pending_attention state j cdb) (unknown_opcode command)
+      (reservation_conflict state j cdb) (short_cdb command) (bad_field command) passed
       (conflict cdb class is not_allowed)
 
   -- it does not ask for an operation of a class that is not allowed
@@ -47,7 +49,15 @@ module _ (state : State) (j : ℕ) where
       let of_class =
       (asked-suits state.disk.capacity k.command data_out operation k.operation_is).class class is in
       passed-is-allowed cdb class k.passed
-      (classes cdb k.command k.command_is ∙ ap Some of_class) not_allowed
+      (classes (profile_of state) cdb k.command k.read_as ∙ ap Some of_class) not_allowed
+
+  -- the class of a command is its class on the disk
+  on-disk : (cdb data_out : List ℕ) (class : Class) (operation : Operation)
+      → Asked state j cdb data_out operation → class_of cdb ≡ Some class
+      → class_in (profile_of state) cdb ≡ Some class
+  on-disk cdb data_out class operation k is =
+      class-of_command (profile_of state) cdb k.command k.read_as
+      ∙ sym (class-of_command Extended cdb k.command k.command_is) ∙ is
 
   -- a command of a class that is not allowed does not end with GOOD
   pub shut-out : (cdb data_out : List ℕ) (class : Class) → class_of cdb ≡ Some class
@@ -55,4 +65,5 @@ module _ (state : State) (j : ℕ) where
       → (step state j cdb data_out).answer.status ≡ Good → ⊥
   shut-out cdb data_out class is not_allowed =
       lifted state j cdb data_out (λ (done : Step). done.answer.status ≡ Good → ⊥) (not_good state j)
-      (λ operation k e. passed-is-allowed cdb class k.passed is not_allowed)
+      (λ operation k e. passed-is-allowed cdb class k.passed
+      (on-disk cdb data_out class operation k is) not_allowed)

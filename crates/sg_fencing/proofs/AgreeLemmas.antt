@@ -50,7 +50,7 @@ module _ (s : State) (q : Pending) (i : ℕ) (own : pending_for s.attentions i �
 
   pub steps-agree : (cdb data_out : List ℕ) → Agree (step s i cdb data_out) (step t i cdb data_out)
   steps-agree cdb data_out =
-      lifted-both s t i cdb data_out
+      lifted-both s t i cdb data_out refl
       (checks-same AreSame s q s.reservations i own refl (λ class. refl) cdb)
       (parse-same AreSame s q s.reservations i own refl data_out) Agree
       (refused-agree AreSame s q s.reservations i own refl false) (λ operation k. by-operation operation)

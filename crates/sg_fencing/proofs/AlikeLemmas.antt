@@ -10,7 +10,7 @@ use Rattle.std.specs.Option.{option_map}
 use Rattle.std.proofs.lemmas.Bool.{cases_eq, cases_lt}
 use Rattle.std.proofs.lemmas.List.{get_or_past}
 use Rattle.std.proofs.lemmas.List.FromFn.{get_or-map-range_with_len, length-map-range_with_len}
-use Rattle.sg_wire.specs.Layout.{class_of, command_of, is_blocked_by_attention}
+use Rattle.sg_wire.specs.CdbDecoding.{class_in, command_in, is_blocked_in}
 use Rattle.sg_wire.specs.SenseData.{sense_data}
 use Rattle.sg_wire.specs.declared.command.CdbFault.{CdbFault}
 use Rattle.sg_wire.specs.declared.command.Class.{Class}
@@ -36,7 +36,7 @@ use Rattle.sg_target.specs.PrimaryCommands.{returning_page, returning_sense}
 use Rattle.sg_target.specs.ProvisioningCommands.{anchoring, filling, reporting_status, unmapping}
 use Rattle.sg_target.specs.Refusal.{first_some, pending_sense, when_sound}
 use Rattle.sg_target.specs.ReservationCommands.{reporting}
-use Rattle.sg_target.specs.State.{State}
+use Rattle.sg_target.specs.State.{State, profile_of}
 use Rattle.sg_target.specs.Step.{Step, cut, executed, good, outcome, refused, step_by, unless_no_space}
 use Rattle.sg_target.specs.declared.operation.Operation.{Operation}
 use Rattle.sg_target.specs.declared.operation.Operation.TheVariants.{Nothing, ReturnSense}
@@ -272,14 +272,14 @@ module _ (Related : ReservationState → ReservationState → Type 0) (s : State
     pub checks-same : (cdb : List ℕ)
         → first_some (cdb_checks s i cdb) ≡ first_some (cdb_checks t i cdb)
     checks-same cdb =
-        let command = command_of cdb in
+        let command = command_in (profile_of s) cdb in
         let pending : pending_attention s i cdb ≡ pending_attention t i cdb =
         ap
         (λ (queue : List UnitAttention).
-        cond {A = Option Refusal} (is_blocked_by_attention cdb)
+        cond {A = Option Refusal} (is_blocked_in (profile_of s) cdb)
         (option_map (λ condition. CheckCondition (Attention condition)) (slice_get queue 0)) None) own in
         let conflict : reservation_conflict s i cdb ≡ reservation_conflict t i cdb =
-        conflict-same (class_of cdb) in
+        conflict-same (class_in (profile_of s) cdb) in
         λ d. first_some (
         empty_cdb command ∷ pending d ∷ unknown_opcode command ∷ conflict d ∷ short_cdb command
         ∷ bad_field command ∷ [])

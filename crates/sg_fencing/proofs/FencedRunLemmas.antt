@@ -2,7 +2,7 @@
 use Rattle.std.proofs.Common.{◌≡◌, ℕ, Bool, true, false, cond, not, ◌&&◌, List, ◌∷◌}
 use Rattle.std.proofs.Common.{map}
 use Rattle.std.proofs.Common.{refl, sym, subst}
-use Rattle.sg_wire.specs.Layout.{command_of}
+use Rattle.sg_wire.specs.CdbDecoding.{command_of}
 use Rattle.sg_units.specs.Laws.{OneKeyEach}
 use Rattle.sg_fencing.specs.Fencing.{holds_alone}
 use Rattle.sg_fencing.specs.Fencing.{shows_others}

@@ -6,7 +6,7 @@ use Rattle.std.specs.List.{zip}
 use Rattle.std.specs.Result.{result_map_both}
 use Rattle.std.proofs.lemmas.Bool.{false≢true}
 use Rattle.sg_wire.specs.Laws.{CommandsHaveTheirClass}
-use Rattle.sg_wire.specs.Layout.{command_of}
+use Rattle.sg_wire.specs.CdbDecoding.{command_of}
 use Rattle.sg_wire.specs.declared.command.CdbFault.{CdbFault}
 use Rattle.sg_wire.specs.declared.command.Command.{Command}
 use Rattle.sg_wire.specs.declared.command.Command.TheVariants.{PersistentReserveOut}

@@ -5,7 +5,7 @@ use Rattle.std.specs.Prelude.{is_some}
 use Rattle.std.specs.Result.{result_map_both}
 use Rattle.std.proofs.lemmas.Bool.{and_left, eqb-true, false≢true, ne_eqb}
 use Rattle.sg_wire.specs.Laws.{CommandsHaveTheirClass}
-use Rattle.sg_wire.specs.Layout.{command_of}
+use Rattle.sg_wire.specs.CdbDecoding.{command_of}
 use Rattle.sg_wire.specs.declared.command.CdbFault.{CdbFault}
 use Rattle.sg_wire.specs.declared.command.Class.TheVariants.{Reads, Writes}
 use Rattle.sg_wire.specs.declared.command.Command.{Command}

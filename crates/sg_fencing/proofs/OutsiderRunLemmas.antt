@@ -5,7 +5,7 @@ use Rattle.std.specs.Prelude.{is_some}
 use Rattle.std.specs.List.{list_any}
 use Rattle.std.proofs.lemmas.Bool.{eqb-false, or_parts}
 use Rattle.sg_wire.specs.Laws.{CommandsHaveTheirClass}
-use Rattle.sg_wire.specs.Layout.{class_of}
+use Rattle.sg_wire.specs.CdbDecoding.{class_of}
 use Rattle.sg_wire.specs.declared.command.Class.{Class}
 use Rattle.sg_wire.specs.declared.command.Class.TheVariants.{Reads, Writes}
 use Rattle.sg_units.specs.Access.{allows}

@@ -7,7 +7,7 @@ use Rattle.std.specs.Prelude.{if◌then◌else◌, is_some}
 use Rattle.std.specs.Result.{result_map_both}
 use Rattle.std.proofs.lemmas.Bool.{eq-eqb, false≢true}
 use Rattle.std.proofs.lemmas.Bool.Decides.{nat_tests}
-use Rattle.sg_wire.specs.Layout.{command_of}
+use Rattle.sg_wire.specs.CdbDecoding.{command_of}
 use Rattle.sg_wire.specs.declared.command.out_action.OutAction.{OutAction}
 use Rattle.sg_units.specs.Attentions.{Pending, pending_for}
 use Rattle.sg_units.specs.Laws.{OneKeyEach}
@@ -217,7 +217,7 @@ module _ (one : OneKeyEach) (s : State) (a : Pending) (r : ReservationState) (i 
   step-alike cdb data_out =
       let shown = shows_others (command_of cdb) in
       let related : SeenAlike s.reservations r = (key, reservation) in
-      lifted-both s other i cdb data_out
+      lifted-both s other i cdb data_out refl
       (checks-same SeenAlike s a r i attentions related
       (λ class. allows-same s.reservations r i class key reservation) cdb)
       (parse-same SeenAlike s a r i attentions related data_out)

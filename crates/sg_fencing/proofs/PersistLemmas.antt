@@ -6,7 +6,7 @@ use Rattle.std.proofs.Common.{arith}
 use Rattle.std.specs.Prelude.{slice_get, unwrap_or}
 use Rattle.std.specs.Result.{result_map_both}
 use Rattle.std.proofs.lemmas.Bool.{false≢true}
-use Rattle.sg_wire.specs.Layout.{command_of}
+use Rattle.sg_wire.specs.CdbDecoding.{command_of}
 use Rattle.sg_wire.specs.declared.command.CdbFault.{CdbFault}
 use Rattle.sg_wire.specs.declared.command.Command.{Command}
 use Rattle.sg_wire.specs.declared.command.Command.TheVariants.{PersistentReserveOut}
@@ -27,7 +27,10 @@ use Rattle.sg_units.proofs.OutcomeLemmas.{EffectIs, FirstIs, case_or, effective,
 use Rattle.sg_units.proofs.OutcomeLemmas.{refused, taking, typed}
 use Rattle.sg_target.specs.Checks.{no_space}
 use Rattle.sg_target.specs.Effect.{Effect}
+use Rattle.sg_target.specs.Happenings.{after_happening}
 use Rattle.sg_target.specs.PowerCycle.{after_power_cycle}
+use Rattle.sg_target.specs.declared.happening.Happening.{Happening}
+use Rattle.sg_target.specs.declared.happening.Happening.TheVariants.{Power}
 use Rattle.sg_target.specs.Refusal.{when_sound}
 use Rattle.sg_target.specs.ReservationCommands.{changing_reservations, out_refusal}
 use Rattle.sg_target.specs.ReservationCommands.{reservation_change}
@@ -296,6 +299,10 @@ module _ (keeps_refused : RefusedChangesNothing) where
   power-leaves state true e = (keeps state e).persist ∙ sym e
   power-leaves state false e = (drops state e).persist ∙ sym e
 
+  happening-leaves : (happening : Happening) (state : State)
+      → persists (after_happening happening state) ≡ persists state
+  happening-leaves Power state = power-leaves state (persists state) refl
+
   none-decides : (state : State) (events : List Event) → NoneCountsFrom 0 state events
       → persists (state_after_events state events) ≡ persists state
   none-decides state [] none = refl
@@ -305,10 +312,10 @@ module _ (keeps_refused : RefusedChangesNothing) where
       ∙ by-list state first
       (registering_list (command_of first.cdb.now) first.data_out.now) refl
       (λ list. none 0 first list (omega arith) refl)
-  none-decides state (event.Power ∷ events) none =
-      none-decides (after_power_cycle state) events
+  none-decides state (event.Happen happening ∷ events) none =
+      none-decides (after_happening happening state) events
       (λ n call list from at. none (suc n) call list (omega arith) at)
-      ∙ power-leaves state (persists state) refl
+      ∙ happening-leaves happening state
 
   last-decides : (state : State) (events : List Event) (n : ℕ) (call : Call) (list : OutList)
       → slice_get events n ≡ Some (event.Call call)
@@ -316,7 +323,7 @@ module _ (keeps_refused : RefusedChangesNothing) where
       → NoneCountsFrom (n + 1) state events
       → persists (state_after_events state events) ≡ list.aptpl
   last-decides state [] n call list e k none = cc
-  last-decides state (event.Power ∷ events) zero call list e k none = cc
+  last-decides state (event.Happen happening ∷ events) zero call list e k none = cc
   last-decides state (event.Call first ∷ events) zero call list e k none =
       let same : first ≡ call = cc in
       none-decides (step_of state first).state events
@@ -325,8 +332,8 @@ module _ (keeps_refused : RefusedChangesNothing) where
   last-decides state (event.Call first ∷ events) (suc n) call list e k none =
       last-decides (step_of state first).state events n call list e k
       (λ m other l from at. none (suc m) other l (omega arith) at)
-  last-decides state (event.Power ∷ events) (suc n) call list e k none =
-      last-decides (after_power_cycle state) events n call list e k
+  last-decides state (event.Happen happening ∷ events) (suc n) call list e k none =
+      last-decides (after_happening happening state) events n call list e k
       (λ m other l from at. none (suc m) other l (omega arith) at)
 
   pub the-last-decides : TheLastRegisterDecides

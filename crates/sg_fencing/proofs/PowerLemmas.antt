@@ -3,7 +3,7 @@ use Rattle.std.proofs.Common.{◌≡◌, ◌<◌, ℕ, suc, Bool, true, false, L
 use Rattle.std.proofs.Common.{refl, ap, ◌∙◌}
 use Rattle.std.specs.Prelude.{if◌then◌else◌}
 use Rattle.std.proofs.lemmas.List.{get_or-replicate}
-use Rattle.sg_wire.specs.Layout.{class_of}
+use Rattle.sg_wire.specs.CdbDecoding.{class_of}
 use Rattle.sg_wire.specs.declared.command.Class.TheVariants.{Writes}
 use Rattle.sg_wire.specs.Initiator.{initiator_count}
 use Rattle.sg_units.specs.Attentions.{pending_for}
@@ -15,7 +15,10 @@ use Rattle.sg_units.specs.declared.registrations.Registration.{Registration}
 use Rattle.sg_units.specs.declared.reservation.Reservation.{Reservation}
 use Rattle.sg_units.specs.declared.reservation_state.ReservationState.{ReservationState}
 use Rattle.sg_units.specs.declared.unit_attention.UnitAttention.TheVariants.{PowerOn}
+use Rattle.sg_target.specs.Happenings.{after_happening}
 use Rattle.sg_target.specs.PowerCycle.{after_power_cycle}
+use Rattle.sg_target.specs.declared.happening.Happening.{Happening}
+use Rattle.sg_target.specs.declared.happening.Happening.TheVariants.{Power}
 use Rattle.sg_target.specs.Runs.{state_after_events, step_of}
 use Rattle.sg_target.specs.State.{State}
 use Rattle.sg_target.specs.declared.call.Call.{Call}
@@ -75,10 +78,10 @@ twice state =
 
 -- ---- Among commands
 
--- a power cycle registers nobody
-unknown-after : (state : State) (i : ℕ) → is_registrant state i ≡ false
-    → is_registrant (after_power_cycle state) i ≡ false
-unknown-after state i unknown = split (persists state)
+-- a happening registers nobody
+unknown-after : (happening : Happening) (state : State) (i : ℕ) → is_registrant state i ≡ false
+    → is_registrant (after_happening happening state) i ≡ false
+unknown-after Power state i unknown = split (persists state)
   where
     split : (b : Bool) → is_registered (left b state.reservations).registrations i ≡ false
     split true = unknown
@@ -91,8 +94,8 @@ unknown-still state i (event.Call first ∷ events) unknown refused =
     unknown-still (step_of state first).state i events
     (unknown-after-call state i first unknown (refused 0 first refl))
     (λ n call at. refused (suc n) call at)
-unknown-still state i (event.Power ∷ events) unknown refused =
-    unknown-still (after_power_cycle state) i events (unknown-after state i unknown)
+unknown-still state i (event.Happen happening ∷ events) unknown refused =
+    unknown-still (after_happening happening state) i events (unknown-after happening state i unknown)
     (λ n call at. refused (suc n) call at)
 
 pub stays-fenced-off : OthersAreRefused → (state : State) (i : ℕ) (events : List Event)

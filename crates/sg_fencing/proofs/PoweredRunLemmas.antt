@@ -6,7 +6,7 @@ use Rattle.std.specs.List.{zip}
 use Rattle.std.proofs.lemmas.Bool.{eqb-false, eqb-true}
 use Rattle.std.proofs.lemmas.List.{take-map}
 use Rattle.sg_wire.specs.Laws.{CommandsHaveTheirClass}
-use Rattle.sg_wire.specs.Layout.{command_of}
+use Rattle.sg_wire.specs.CdbDecoding.{command_of}
 use Rattle.std.specs.Prelude.{if◌then◌else◌, ◌||◌, slice_get}
 use Rattle.sg_pages.specs.ModePage.{after_power_on as pages_after_power_on}
 use Rattle.sg_units.specs.Attentions.{power_on_pending, pending_for}
@@ -22,6 +22,7 @@ use Rattle.sg_fencing.specs.ChosenAnswers.{answers_among, calls_among}
 use Rattle.sg_fencing.specs.PowerCycles.{events_of, persists}
 use Rattle.sg_fencing.specs.PowerCycles.{PersistAtPowerCycles}
 use Rattle.sg_target.specs.PowerCycle.{after_power_cycle}
+use Rattle.sg_target.specs.declared.happening.Happening.TheVariants.{Power}
 use Rattle.sg_target.specs.Runs.{all_calls, answers_to_events, state_after_all}
 use Rattle.sg_target.specs.Runs.{state_after_events, step_of}
 use Rattle.sg_target.specs.State.{IsWithinLimits, State}
@@ -87,8 +88,8 @@ module _ (limits : LimitsAreKept) (refuses : OthersAreRefused) (one : OneKeyEach
   cycle-alike : (first second : State) → LookAlike first second i → persists first ≡ true
       → persists second ≡ true → LookAlike (after_power_cycle first) (after_power_cycle second) i
   cycle-alike first second h p q = record {
-    first_within = limits.power_cycle first h.first_within;
-    second_within = limits.power_cycle second h.second_within;
+    first_within = limits.happening Power first h.first_within;
+    second_within = limits.happening Power second h.second_within;
     identity = h.identity;
     view = view-powered first p ∙ ap powered h.view ∙ sym (view-powered second q);
   }
@@ -167,7 +168,7 @@ module _ (limits : LimitsAreKept) (refuses : OthersAreRefused) (one : OneKeyEach
   events-alike (event.Call call ∷ events) first second a held persist =
       by-caller call events (events_of i events) (is_from i call) refl (events-alike events) first second
       a held persist
-  events-alike (event.Power ∷ events) first second a held persist =
+  events-alike (event.Happen Power ∷ events) first second a held persist =
       let next = cycle-alike first second a (persisted first (held 1)) (persist 0 refl) in
       let rest = events-alike events (after_power_cycle first) (after_power_cycle second) next
       (λ n. held (suc n)) (λ n at. persist (suc n) at) in
@@ -187,7 +188,7 @@ module _ (limits : LimitsAreKept) (refuses : OthersAreRefused) (one : OneKeyEach
       one-of call (is_from i call) (events_of i (all_calls calls)) (calls_of i calls)
       (events-of-all calls)
 
-  no-power : (calls : List Call) (n : ℕ) → slice_get (all_calls calls) n ≡ Some event.Power → ⊥
+  no-power : (calls : List Call) (n : ℕ) → slice_get (all_calls calls) n ≡ Some (event.Happen Power) → ⊥
   no-power [] n e = cc
   no-power (call ∷ calls) zero e = cc
   no-power (call ∷ calls) (suc n) e = no-power calls n e

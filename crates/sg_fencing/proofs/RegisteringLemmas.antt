@@ -4,7 +4,7 @@ use Rattle.std.proofs.Common.{Option, Some, None, Result, Ok, Err, refl, sym, ap
 use Rattle.std.specs.Option.{option_map_or}
 use Rattle.std.proofs.lemmas.Bool.{eqb-false, eqb-true, false≢true}
 use Rattle.sg_wire.specs.CutAnswer.{first_bytes}
-use Rattle.sg_wire.specs.Layout.{command_of}
+use Rattle.sg_wire.specs.CdbDecoding.{command_of}
 use Rattle.sg_wire.specs.OutList.{out_list}
 use Rattle.sg_wire.specs.declared.command.CdbFault.{CdbFault}
 use Rattle.sg_wire.specs.declared.command.Command.{Command}

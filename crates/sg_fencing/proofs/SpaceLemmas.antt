@@ -5,7 +5,7 @@ use Rattle.std.proofs.lemmas.Bool.{false≢true}
 use Rattle.std.specs.Prelude.{◌==◌, if◌then◌else◌, ◌+◌, ◌^◌, ◌&&◌, nat_lt, length}
 use Rattle.std.specs.Prelude.{option_and_then, slice_index}
 use Rattle.std.specs.Option.{option_map}
-use Rattle.sg_wire.specs.Layout.{class_of, command_of, is_blocked_by_attention}
+use Rattle.sg_wire.specs.CdbDecoding.{class_in, command_in, command_of, is_blocked_in}
 use Rattle.sg_wire.specs.SenseData.{SenseFields, fixed_data, sense_data}
 use Rattle.sg_wire.specs.declared.command.CdbFault.{CdbFault}
 use Rattle.sg_wire.specs.declared.command.CdbFault.TheVariants.{Empty, Opcode, Short, Field}
@@ -19,6 +19,7 @@ use Rattle.sg_pages.specs.ModePage.{ModeState, write_protected}
 use Rattle.sg_units.specs.Access.{allows}
 use Rattle.sg_units.specs.Attentions.{oldest}
 use Rattle.sg_target.specs.BlockCommands.{blocks_out}
+use Rattle.sg_wire.proofs.ProfileLemmas.{read-any}
 use Rattle.sg_target.specs.Checks.{bad_field, cdb_checks, checked_cdb, checked_effect}
 use Rattle.sg_target.specs.Checks.{checked_operation, checked_parse, empty_cdb, medium_checks}
 use Rattle.sg_target.specs.Checks.{out_of_range, past_capacity, pending_attention, requested}
@@ -27,9 +28,9 @@ use Rattle.sg_target.specs.Checks.{unsupported_value, write_protection}
 use Rattle.sg_target.specs.CommandLaws.{WritesOverUsedAddressesHaveSpace, blocks_to_write}
 use Rattle.sg_target.specs.Demands.{extent, too_long, write}
 use Rattle.sg_target.specs.Effect.{Effect}
-use Rattle.sg_target.specs.Refusal.{checked_next, first_some, sense_of, unless_refused}
+use Rattle.sg_target.specs.Refusal.{checked_next, first_some, refusal_for, sense_of, unless_refused}
 use Rattle.sg_target.specs.Semantics.{effect_of, medium_use}
-use Rattle.sg_target.specs.State.{State}
+use Rattle.sg_target.specs.State.{State, profile_of}
 use Rattle.sg_target.specs.Step.{Answer, outcome, refusal_answer, sense_format}
 use Rattle.sg_target.specs.declared.operation.Operation.TheVariants as operation
 use Rattle.sg_target.specs.declared.refusal.Reason.{Reason}
@@ -158,6 +159,10 @@ field-other : (parse : Result Command CdbFault) → IsOtherIfAny (bad_field pars
 field-other (Err (Field byte)) = refl
 field-other _ = tt
 
+fault-other : (fault : CdbFault) → IsOther (refusal_for fault)
+fault-other Empty = refl
+fault-other fault = refl
+
 class-other : (state : State) (i : ℕ) (class : Option Class)
     → IsOtherIfAny (option_and_then
     (λ class. if allows state.reservations i class then None else Some Conflict) class)
@@ -180,13 +185,13 @@ protection-other modes writes = if-other (write_protected modes && writes) _ ref
 
 cdb-other : (state : State) (i : ℕ) (cdb : List ℕ) → IsOtherIfAny (first_some (cdb_checks state i cdb))
 cdb-other state i cdb =
-    let c = command_of cdb in
+    let c = command_in (profile_of state) cdb in
     first-other (empty_cdb c) _ (empty-other c)
     (first-other (pending_attention state i cdb) _
-    (if-other (is_blocked_by_attention cdb) _
+    (if-other (is_blocked_in (profile_of state) cdb) _
     (mapped-other (oldest state.attentions i) _ (λ condition. refl)))
     (first-other (unknown_opcode c) _ (unknown-other c)
-    (first-other (reservation_conflict state i cdb) _ (class-other state i (class_of cdb))
+    (first-other (reservation_conflict state i cdb) _ (class-other state i (class_in (profile_of state) cdb))
     (first-other (short_cdb c) _ (short-other c) (first-other (bad_field c) [] (field-other c) tt)))))
 
 -- ---- The command
@@ -228,7 +233,8 @@ module _ (state : State) (i : ℕ) (data_out : List ℕ) where
       (data-other d.data_out_length data_out) tt))
 
   by-cdb : (first : Option Refusal) (parse : Result Command CdbFault) (out : Extent)
-      → IsOtherIfAny first → blocks_to_write parse ≡ Some out
+      → IsOtherIfAny first
+      → ((c : Command) → parse ≡ Ok c → blocks_to_write (Ok c) ≡ Some out)
       → IsOtherIfRefused
       (checked_next (unless_refused first (checked_parse state parse data_out)) (effect_of state i))
   by-cdb (Some refusal) parse out h is = h
@@ -237,15 +243,17 @@ module _ (state : State) (i : ℕ) (data_out : List ℕ) where
       write-other (extent c.lba c.count) (too_long c.count 7)
   by-cdb None (Ok (command.Write16 c)) out h is =
       write-other (extent c.lba c.count) (too_long c.count 10)
-  by-cdb None _ out h is = cc
+  by-cdb None (Err fault) out h is = fault-other fault
+  by-cdb None (Ok c) out h is = let none : blocks_to_write (Ok c) ≡ Some out = is c refl in cc
 
 effect-other : (state : State) (i : ℕ) (cdb data_out : List ℕ) (out : Extent)
     → blocks_to_write (command_of cdb) ≡ Some out
     → IsOtherIfRefused (checked_effect state i cdb data_out)
 unfolding checked_cdb
 effect-other state i cdb data_out out is =
-    by-cdb state i data_out (first_some (cdb_checks state i cdb)) (command_of cdb) out
-    (cdb-other state i cdb) is
+    by-cdb state i data_out (first_some (cdb_checks state i cdb)) (command_in (profile_of state) cdb) out
+    (cdb-other state i cdb)
+    (λ c e. sym (ap blocks_to_write (read-any (profile_of state) cdb c e)) ∙ is)
 
 -- an effect ends with GOOD, and every other refusal has another answer
 outcome-apart : (state : State) (i : ℕ) (checked : Result Effect Refusal) (format : Format)

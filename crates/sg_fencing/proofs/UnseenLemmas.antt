@@ -129,7 +129,7 @@ module _ (s : State) (x : Contents) (j : ℕ) (fit : len s.disk.contents ≤ s.d
       → class_for operation ≡ Some Writes → ⊥)
       → (step s j cdb data_out).answer ≡ (step t j cdb data_out).answer
   step-alike cdb data_out r w =
-      lifted-both s t j cdb data_out refl (parse-same data_out)
+      lifted-both s t j cdb data_out refl refl (parse-same data_out)
       (λ (first second : Step). first.answer ≡ second.answer) (λ refusal. refl)
       (λ operation k. operation-alike operation (r operation k) (w operation k))
 

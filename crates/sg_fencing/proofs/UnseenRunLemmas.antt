@@ -152,7 +152,8 @@ module _ (s : State) (x : Contents) (i : ℕ) (fit : len s.disk.contents ≤ s.d
 
   steps-differ : (cdb data_out : List ℕ) → StepsDiffer (step s i cdb data_out) (step t i cdb data_out)
   steps-differ cdb data_out =
-      lifted-both s t i cdb data_out refl (parse-same s x i fit fit' data_out) StepsDiffer refused-differ
+      lifted-both s t i cdb data_out refl refl (parse-same s x i fit fit' data_out) StepsDiffer
+      refused-differ
       (λ operation k. operation-differs operation)
 
 -- ---- Lists of commands

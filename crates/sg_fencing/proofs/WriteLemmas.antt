@@ -5,7 +5,8 @@ use Rattle.std.specs.Prelude.{if◌then◌else◌, nat_lt, option_and_then}
 use Rattle.std.specs.Option.{option_map}
 use Rattle.std.proofs.lemmas.Bool.Decides.{nat_tests}
 use Rattle.sg_wire.specs.Laws.{CommandsHaveTheirClass}
-use Rattle.sg_wire.specs.Layout.{class_of, command_of, is_blocked_by_attention, layout}
+use Rattle.sg_wire.specs.CdbDecoding.{class_in, command_in, command_of, is_blocked_in}
+use Rattle.sg_wire.specs.Layout.{layout}
 use Rattle.sg_wire.specs.declared.command.CdbFault.{CdbFault}
 use Rattle.sg_wire.specs.declared.command.Class.{Class}
 use Rattle.sg_wire.specs.declared.command.Class.TheVariants.{Writes}
@@ -17,6 +18,7 @@ use Rattle.sg_pages.specs.ProvisioningPages.{maximum_transfer_length}
 use Rattle.sg_units.specs.Access.{allows}
 use Rattle.sg_units.specs.Attentions.{oldest}
 use Rattle.sg_target.specs.BlockCommands.{blocks_out, bytes_of, writing}
+use Rattle.sg_wire.proofs.ProfileLemmas.{read-any}
 use Rattle.sg_target.specs.Checks.{bad_field, cdb_checks, checked_cdb, checked_effect}
 use Rattle.sg_target.specs.Checks.{checked_operation, checked_parse, empty_cdb, medium_checks}
 use Rattle.sg_target.specs.Checks.{out_of_range, past_capacity, pending_attention, requested}
@@ -27,7 +29,7 @@ use Rattle.sg_target.specs.Demands.{extent, too_long, write}
 use Rattle.sg_target.specs.Effect.{Effect}
 use Rattle.sg_target.specs.Refusal.{checked_next, first_some, unless_refused}
 use Rattle.sg_target.specs.Semantics.{effect_of, medium_use}
-use Rattle.sg_target.specs.State.{State}
+use Rattle.sg_target.specs.State.{State, profile_of}
 use Rattle.sg_target.specs.declared.operation.Operation.{Operation}
 use Rattle.sg_target.specs.declared.operation.Operation.TheVariants as operation
 use Rattle.sg_target.specs.declared.refusal.Refusal.{Refusal}
@@ -65,17 +67,19 @@ parsed-none : (parse : Result Command CdbFault) (c : Command) → parse ≡ Ok c
 parsed-none (Ok command) c is = (refl, (refl, (refl, refl)))
 parsed-none (Err fault) c is = cc
 
-cdb-none : (state : State) (i : ℕ) (cdb : List ℕ) (c : Command) → command_of cdb ≡ Ok c
-    → class_of cdb ≡ Some Writes → oldest state.attentions i ≡ None
+cdb-none : (state : State) (i : ℕ) (cdb : List ℕ) (c : Command)
+    → command_in (profile_of state) cdb ≡ Ok c
+    → class_in (profile_of state) cdb ≡ Some Writes → oldest state.attentions i ≡ None
     → allows state.reservations i Writes ≡ true → first_some (cdb_checks state i cdb) ≡ None
 cdb-none state i cdb c is class none allowed =
-    let parse = command_of cdb in
+    let parse = command_in (profile_of state) cdb in
     let passed = parsed-none parse c is in
     first-none (empty_cdb parse) _ passed.0
     (first-none (pending_attention state i cdb) _
-    (none-if (is_blocked_by_attention cdb) _ (ap (option_map _) none))
+    (none-if (is_blocked_in (profile_of state) cdb) _ (ap (option_map _) none))
     (first-none (unknown_opcode parse) _ passed.1.0
-    (first-none (reservation_conflict state i cdb) _ (conflict-none state i (class_of cdb) class allowed)
+    (first-none (reservation_conflict state i cdb) _
+    (conflict-none state i (class_in (profile_of state) cdb) class allowed)
     (first-none (short_cdb parse) _ passed.1.1.0
     (first-none (bad_field parse) [] passed.1.1.1 refl)))))
 
@@ -188,18 +192,24 @@ is-write (Ok (command.Write16 c)) out is =
 is-write _ out is = cc
 
 effect-is : CommandsHaveTheirClass → (state : State) (i : ℕ) (cdb data_out : List ℕ) (out : Extent)
-    → blocks_to_write (command_of cdb) ≡ Some out → NothingForbids state i data_out out
+    → blocks_to_write (command_in (profile_of state) cdb) ≡ Some out
+    → NothingForbids state i data_out out
     → checked_effect state i cdb data_out ≡ Ok (writing state (blocks_out out data_out))
 unfolding checked_cdb
 effect-is classes state i cdb data_out out is free =
-    let w = is-write (command_of cdb) out is in
+    let parse = command_in (profile_of state) cdb in
+    let w = is-write parse out is in
     by-cdb state i data_out out free (first_some (cdb_checks state i cdb))
-    (cdb-none state i cdb w.command w.is (classes cdb w.command w.is ∙ ap Some w.class)
-    free.attention free.reservation)
-    (command_of cdb) is
+    (cdb-none state i cdb w.command w.is
+    (classes (profile_of state) cdb w.command w.is ∙ ap Some w.class) free.attention free.reservation)
+    parse is
 
 pub free-writes : CommandsHaveTheirClass → WritesOverUsedAddressesHaveSpace
     → WritesThatNothingForbidsEndWithGood
 free-writes classes law state i cdb data_out out w is free =
-    law state i cdb data_out out (writing state (blocks_out out data_out)) w is free.used
+    let written = is-write (command_in (profile_of state) cdb) out is in
+    let same : blocks_to_write (command_of cdb) ≡ Some out =
+    ap blocks_to_write (read-any (profile_of state) cdb written.command written.is ∙ sym written.is)
+    ∙ is in
+    law state i cdb data_out out (writing state (blocks_out out data_out)) w same free.used
     (effect-is classes state i cdb data_out out is free)

@@ -12,7 +12,7 @@ use Rattle.sg_target.specs.declared.event.Event.TheVariants as event
 abbrev pub calls_among : List Event → List Call
 calls_among [] = []
 calls_among (event.Call call ∷ events) = call ∷ calls_among events
-calls_among (event.Power ∷ events) = calls_among events
+calls_among (event.Happen happening ∷ events) = calls_among events
 
 -- The answers to the chosen commands, in order.
 abbrev pub answers_among : (chosen : Call → Bool) → State → List Event → List Answer

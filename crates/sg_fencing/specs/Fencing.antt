@@ -3,7 +3,7 @@
 use Rattle.std.specs.Prelude.{◌≡◌, ◌≤◌, ℕ, ◌==◌, Bool, true, false, ◌&&◌, ◌||◌, not, List, filter}
 use Rattle.std.specs.Prelude.{slice_get, take, Option, Some, Result, Ok}
 use Rattle.std.specs.FinMap.{len}
-use Rattle.sg_wire.specs.Layout.{class_of, command_of}
+use Rattle.sg_wire.specs.CdbDecoding.{class_of, command_of}
 use Rattle.sg_wire.specs.declared.command.CdbFault.{CdbFault}
 use Rattle.sg_wire.specs.declared.command.Class.TheVariants.{Reads, Writes}
 use Rattle.sg_wire.specs.declared.command.Command.{Command}

@@ -3,7 +3,7 @@
 use Rattle.std.specs.Prelude.{◌≡◌, ℕ, ◌+◌, ◌%◌, ◌^◌, Bool, true, false, not, List, filter}
 use Rattle.std.specs.Prelude.{slice_get, take, Option, Some}
 use Rattle.std.specs.List.{list_any}
-use Rattle.sg_wire.specs.Layout.{command_of}
+use Rattle.sg_wire.specs.CdbDecoding.{command_of}
 use Rattle.sg_wire.specs.declared.out_list.OutList.{OutList}
 use Rattle.sg_store.specs.Disk.{Disk}
 use Rattle.sg_pages.specs.ModePage.{ModeState}

@@ -1,7 +1,7 @@
 -- Laws of the definitions, in the subject's words.
 use Rattle.std.specs.Prelude.{◌≡◌, ◌≤◌, ◌⊎◌, ℕ, ◌+◌, List, [], length, Bool, true, false}
 use Rattle.std.specs.Prelude.{Some, None, Result, Ok}
-use Rattle.sg_wire.specs.Layout.{class_of, command_of}
+use Rattle.sg_wire.specs.CdbDecoding.{class_in, command_in, command_of}
 use Rattle.sg_wire.specs.declared.command.CdbFault.{CdbFault}
 use Rattle.sg_wire.specs.declared.command.Class.{Class}
 use Rattle.sg_wire.specs.declared.command.Class.TheVariants.{Writes}
@@ -17,7 +17,7 @@ use Rattle.sg_target.specs.BlockCommands.{bytes_of}
 use Rattle.sg_target.specs.CommandLaws.{AreUsed, blocks_to_write}
 use Rattle.sg_target.specs.Effect.{Effect}
 use Rattle.sg_target.specs.Semantics.{effect_of, medium_use}
-use Rattle.sg_target.specs.State.{IsWithinLimits, State}
+use Rattle.sg_target.specs.State.{IsWithinLimits, State, profile_of}
 use Rattle.sg_target.specs.Step.{refusal_answer, step}
 use Rattle.sg_target.specs.declared.operation.Operation.{Operation}
 use Rattle.sg_target.specs.declared.refusal.Reason.TheVariants.{SpaceAllocationFailed}
@@ -78,11 +78,11 @@ pub record NothingForbids (state : State) (initiator : ℕ) (data_out : List ℕ
   pub unprotected : write_protected state.modes ≡ false
   pub used : AreUsed state out
 
--- Such a WRITE ends with GOOD.
+-- Such a WRITE ends with GOOD, if it is a command of the disk's profile.
 abbrev pub WritesThatNothingForbidsEndWithGood : Type 0
 WritesThatNothingForbidsEndWithGood =
     (state : State) (initiator : ℕ) (cdb data_out : List ℕ) (out : Extent)
-    → IsWithinLimits state → blocks_to_write (command_of cdb) ≡ Some out
+    → IsWithinLimits state → blocks_to_write (command_in (profile_of state) cdb) ≡ Some out
     → NothingForbids state initiator data_out out
     → (step state initiator cdb data_out).answer.status ≡ Good
 
@@ -123,7 +123,7 @@ ConflictChangesNothing =
 abbrev pub RefusedByReservation : Type 0
 RefusedByReservation =
     (state : State) (initiator : ℕ) (cdb data_out : List ℕ) (class : Class)
-    → class_of cdb ≡ Some class
+    → class_in (profile_of state) cdb ≡ Some class
     → allows state.reservations initiator class ≡ false
     → oldest state.attentions initiator ≡ None
     → (step state initiator cdb data_out).answer.status ≡ ReservationConflict

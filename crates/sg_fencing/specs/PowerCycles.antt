@@ -2,7 +2,7 @@
 use Rattle.std.specs.Prelude.{◌≡◌, ◌<◌, ◌≤◌, ◌==◌, ℕ, ◌+◌, Bool, true, false, not, ◌||◌}
 use Rattle.std.specs.Prelude.{List, [], ◌∷◌, Some, None}
 use Rattle.std.specs.Prelude.{filter, slice_get, take}
-use Rattle.sg_wire.specs.Layout.{class_of, command_of}
+use Rattle.sg_wire.specs.CdbDecoding.{class_of, command_of}
 use Rattle.sg_wire.specs.declared.command.Class.TheVariants.{Writes}
 use Rattle.sg_wire.specs.Initiator.{initiator_count}
 use Rattle.sg_wire.specs.declared.out_list.OutList.{OutList}
@@ -14,6 +14,7 @@ use Rattle.sg_target.specs.State.{IsWithinLimits, State}
 use Rattle.sg_target.specs.declared.call.Call.{Call}
 use Rattle.sg_target.specs.declared.event.Event.{Event}
 use Rattle.sg_target.specs.declared.event.Event.TheVariants as event
+use Rattle.sg_target.specs.declared.happening.Happening.TheVariants.{Power}
 use Rattle.sg_target.specs.declared.reply.Status.TheVariants.{Good}
 use Rattle.sg_fencing.specs.ChosenAnswers.{answers_among}
 use Rattle.sg_fencing.specs.Fencing.{holds_alone, is_compared, is_from, view_of}
@@ -110,10 +111,10 @@ FencedOffThroughPowerCycles =
     → is_reserved (state_after_events state events) ≡ true
     → (step_of (state_after_events state events) call).answer.status ≡ Good → ⊥
 
--- The commands of an initiator and all power cycles, in order.
+-- The commands of an initiator and all happenings, in order.
 abbrev pub happens_to : (initiator : ℕ) → Event → Bool
 happens_to initiator (event.Call call) = is_from initiator call
-happens_to initiator event.Power = true
+happens_to initiator (event.Happen happening) = true
 
 abbrev pub events_of : (initiator : ℕ) → List Event → List Event
 events_of initiator events = filter (happens_to initiator) events
@@ -121,7 +122,7 @@ events_of initiator events = filter (happens_to initiator) events
 -- Registrations and reservation persist at each power cycle among the events.
 abbrev pub PersistAtPowerCycles : State → List Event → Type 0
 PersistAtPowerCycles state events =
-    (n : ℕ) → slice_get events n ≡ Some event.Power
+    (n : ℕ) → slice_get events n ≡ Some (event.Happen Power)
     → persists (state_after_events state (take n events)) ≡ true
 
 -- The view of an initiator in the end, and the compared answers, are the same as after only its

@@ -3,7 +3,7 @@ use Rattle.std.specs.Prelude.{ℕ, ◌+◌, ◌==◌, Option, Bool, if◌then◌
 use Rattle.std.specs.Prelude.{List, [], ◌∷◌, length, slice_index, map, find}
 use Rattle.std.specs.List.{range_with_len}
 use Rattle.std.specs.Option.{option_map_or}
-use Rattle.sg_wire.specs.Layout.{has_bit}
+use Rattle.sg_wire.specs.Bits.{has_bit}
 use Rattle.sg_pages.specs.declared.mode_pages.mode_page.ModePage.{ModePage}
 use Rattle.sg_pages.specs.declared.mode_pages.mode_page.ModePage.TheVariants.{ReadWriteErrorRecovery}
 use Rattle.sg_pages.specs.declared.mode_pages.mode_page.ModePage.TheVariants.{Caching}

@@ -18,7 +18,7 @@ use Rattle.sg_store.specs.declared.lba_status.ProvisioningStatus.TheVariants.{Ma
 use Rattle.sg_store.specs.declared.lba_status.StatusDescriptor.{StatusDescriptor}
 use Rattle.sg_decode.specs.LbaStatus.{descriptor, descriptor_of, reported_end, whole_count}
 use Rattle.sg_decode.specs.LbaStatus.{whole_descriptors}
-use Rattle.sg_wire.specs.Layout.{bits_of}
+use Rattle.sg_wire.specs.Bits.{bits_of}
 use Rattle.sg_run.specs.Walk.{fields_of}
 
 -- ---- The whole answer

@@ -1,13 +1,15 @@
 -- A line and the state before it have an outcome: a text, an exit status and the state after it.
 use Rattle.std.specs.Prelude.{ℕ, ◌*◌, List, [], ◌∷◌, ◌++◌, replicate, Option, codes, Ok, Err, Bool}
 use Rattle.std.specs.Prelude.{if◌then◌else◌}
-use Rattle.sg_wire.specs.Layout.{cdb_of}
+use Rattle.sg_wire.specs.CdbEncoding.{cdb_of}
 use Rattle.sg_wire.specs.SenseData.{read_sense}
 use Rattle.sg_decode.specs.SenseText.{sense_line}
 use Rattle.sg_wire.specs.Commands.{write_16}
 use Rattle.sg_tools.specs.ExitStatus.{exit_status}
 use Rattle.sg_pages.specs.BlockDescriptor.{logical_block_length}
-use Rattle.sg_target.specs.PowerCycle.{after_power_cycle}
+use Rattle.sg_target.specs.Happenings.{after_happening}
+use Rattle.sg_target.specs.declared.happening.Happening.{Happening}
+use Rattle.sg_target.specs.declared.happening.Happening.TheVariants.{Power}
 use Rattle.sg_target.specs.State.{State}
 use Rattle.sg_target.specs.Status.{status_code}
 use Rattle.sg_target.specs.Step.{Step, step}
@@ -21,7 +23,7 @@ use Rattle.sg_tools.specs.declared.tool.Tool.{Tool}
 use Rattle.sg_run.specs.AnswerText.{answer_text}
 use Rattle.sg_run.specs.LineFault.{fault_message, fault_of_tool, fault_status}
 use Rattle.sg_run.specs.LineText.{line_header}
-use Rattle.sg_run.specs.Request.{LineRequest, cycle_power, nothing, faulty, send, fill, run_tool}
+use Rattle.sg_run.specs.Request.{LineRequest, happen, nothing, faulty, send, fill, run_tool}
 use Rattle.sg_run.specs.Request.{request_of, show_answer}
 use Rattle.sg_run.specs.declared.request.line_fault.LineFault.{LineFault}
 use Rattle.sg_run.specs.declared.request.line_fault.LineFault.TheVariants.{OutOfMemory}
@@ -79,12 +81,16 @@ shown_outcome number state kind bytes = record {
   state = state;
 }
 
--- Power is lost, and is on again.
-abbrev pub power_outcome : (number : ℕ) → State → Outcome
-power_outcome number state = record {
-  text = line_header number (codes "POWER");
+-- The name of a happening in a transcript.
+abbrev pub happening_name : Happening → List ℕ
+happening_name Power = codes "POWER"
+
+-- Something happens to the disk.
+abbrev pub happening_outcome : (number : ℕ) → State → Happening → Outcome
+happening_outcome number state happening = record {
+  text = line_header number (happening_name happening);
   status = 0;
-  state = after_power_cycle state;
+  state = after_happening happening state;
 }
 
 -- `fill` is WRITE(16) (SBC-3, 5.35) of blocks of one byte.
@@ -111,7 +117,8 @@ by_request number out_of_memory state (fill initiator lba count byte) =
     reply_outcome number Nothing (fill_step state initiator lba count byte)
 by_request number out_of_memory state (show_answer kind bytes) =
     shown_outcome number state kind bytes
-by_request number out_of_memory state cycle_power = power_outcome number state
+by_request number out_of_memory state (happen happening) =
+    happening_outcome number state happening
 by_request number out_of_memory state (run_tool initiator request) =
     if out_of_memory then fault_outcome number state OutOfMemory
     else tool_outcome number state initiator request

@@ -6,7 +6,7 @@ use Rattle.std.specs.Prelude.{Ok}
 use Rattle.std.specs.List.{flat_map, last_or}
 use Rattle.std.specs.Option.{option_map_or}
 use Rattle.sg_wire.specs.CutAnswer.{first_bytes}
-use Rattle.sg_wire.specs.Layout.{command_of}
+use Rattle.sg_wire.specs.CdbDecoding.{command_of}
 use Rattle.sg_wire.specs.declared.command.Command.TheVariants as command
 use Rattle.sg_wire.specs.declared.command.provisioning.GetLbaStatus.{GetLbaStatus}
 use Rattle.sg_store.specs.Disk.{Disk, lies_in}

@@ -11,8 +11,8 @@ ghost use Rattle.sg_run.specs.AnswerText.{answer_text};
 ghost use Rattle.sg_run.specs.Limits.{longest_line};
 ghost use Rattle.sg_run.specs.LineFault.{fault_message, fault_status};
 ghost use Rattle.sg_run.specs.LineText.{line_header};
-ghost use Rattle.sg_run.specs.Outcome.{by_request, fill_step, outcome, power_outcome};
-ghost use Rattle.sg_run.specs.Outcome.{reply_outcome};
+ghost use Rattle.sg_run.specs.Outcome.{by_request, fill_step, happening_name, happening_outcome};
+ghost use Rattle.sg_run.specs.Outcome.{outcome, reply_outcome};
 ghost use Rattle.sg_tools.specs.declared.show.Show.TheVariants.{Nothing};
 ghost use Rattle.sg_run.specs.Printed.{ExecutesLine, HasOutcome, HasOutcomeUnlessOutOfMemory};
 ghost use Rattle.sg_run.specs.RequestLines.{line_request, tool_request};
@@ -23,7 +23,7 @@ use crate::text::answer::put_answer;
 use crate::text::header::put_line_header;
 use crate::text::reply::put_reply;
 use sg_store::{BLOCK_LENGTH, Store};
-use sg_target::{BUFFER_LENGTH, Call, Target};
+use sg_target::{BUFFER_LENGTH, Call, Happening, Target};
 use sg_tools::{Show, exit_status};
 use sg_wire::{Printer, Sense, Watched};
 use std::alloc::Global;
@@ -81,7 +81,7 @@ fn execute_request<W: Write, S: Store>(
         Request::Send(call) => send(number, call, Show::Hex, buffer, target, out),
         Request::Fill(blocks) => fill_blocks(number, blocks, data_out, buffer, target, out),
         Request::Show(show, bytes) => put_shown(number, *show, bytes, buffer, out),
-        Request::Power => cycle_power(number, target, out),
+        Request::Happen(happening) => happen(number, *happening, target, out),
         Request::Tool(line) => run_tool(alloc, number, line, data_out, buffer, target, out),
     }
 }
@@ -115,18 +115,28 @@ fn put_shown<W: Write>(
     0
 }
 
-/// Takes the disk through a power cycle, and returns the exit status.
-fn cycle_power<W: Write, S: Store>(
+/// Lets something happen to the disk, and returns the exit status.
+fn happen<W: Write, S: Store>(
     number: u64,
+    happening: Happening,
     target: &mut Target<S>,
     out: &mut Printer<'_, W>,
 ) -> u8
     ensures { HasOutcome W.contents out.old out.new target.new.state result
-        (power_outcome number target.old.state) }
+        (happening_outcome number target.old.state happening) }
 {
-    target.power_cycle();
-    put_line_header(number, b"POWER", out);
+    target.happen(happening);
+    put_line_header(number, happening_name(happening), out);
     0
+}
+
+/// The name of a happening in a transcript.
+fn happening_name(happening: Happening) -> &'static [u8]
+    ensures { result.now ≡ happening_name happening }
+{
+    match happening {
+        Happening::Power => b"POWER",
+    }
 }
 
 /// Fills blocks with a byte, by WRITE(16), prints the reply and returns its exit status.

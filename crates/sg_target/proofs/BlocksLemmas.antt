@@ -13,7 +13,7 @@ use Rattle.sg_wire.specs.declared.command.Command.{Command}
 use Rattle.sg_wire.specs.declared.command.Command.TheVariants as command
 use Rattle.sg_wire.specs.declared.command.CdbFault.{CdbFault}
 use Rattle.sg_wire.specs.declared.extent.Extent.{Extent}
-use Rattle.sg_wire.specs.Layout.{command_of}
+use Rattle.sg_wire.specs.CdbDecoding.{command_in}
 use Rattle.sg_store.specs.Disk.{Contents, IsWellFormed, anchored, block_at, unmapped}
 use Rattle.sg_store.specs.Disk.Mapping.{Data, Anchored}
 use Rattle.sg_store.specs.Laws.{DisksStayWellFormed}
@@ -27,11 +27,10 @@ use Rattle.sg_target.specs.Demands.{too_long, unless_anchor_alone, unmap_extent,
 use Rattle.sg_target.specs.Demands.{unmap_or_fill}
 use Rattle.sg_target.specs.Effect.{Effect}
 use Rattle.sg_target.specs.Extents.{AreOnDisk}
-use Rattle.sg_target.specs.ProvisioningCommands.{block_out, changed_in_turn, listed_extents}
-use Rattle.sg_target.specs.ProvisioningCommands.{unmaps}
+use Rattle.sg_target.specs.ProvisioningCommands.{block_out, changed_in_turn, listed_extents, unmaps}
 use Rattle.sg_target.specs.Refusal.{checked_next, first_some, if_supported, unless_refused, when_sound}
 use Rattle.sg_target.specs.Semantics.{effect_of, medium_use}
-use Rattle.sg_target.specs.State.{State}
+use Rattle.sg_target.specs.State.{State, profile_of}
 use Rattle.sg_target.specs.declared.operation.Operation.{Operation}
 use Rattle.sg_target.specs.declared.operation.Operation.TheVariants as operation
 use Rattle.sg_target.specs.declared.refusal.Refusal.{Refusal}
@@ -200,8 +199,9 @@ cdb-ready : (state : State) (i : ℕ) (cdb data_out : List ℕ)
     → Ready state (checked_cdb state i cdb data_out)
 unfolding checked_cdb
 cdb-ready state i cdb data_out =
-    unless-ready state (first_some (cdb_checks state i cdb)) (checked_parse state (command_of cdb) data_out)
-    (parse-ready state (command_of cdb) data_out)
+    let command = command_in (profile_of state) cdb in
+    unless-ready state (first_some (cdb_checks state i cdb)) (checked_parse state command data_out)
+    (parse-ready state command data_out)
 
 -- ---- what is done then
 

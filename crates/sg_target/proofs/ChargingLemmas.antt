@@ -9,11 +9,10 @@ use Rattle.std.specs.Prelude.{map}
 use Rattle.sg_store.specs.Meter.{Costs, Meter, restarted}
 use Rattle.sg_store.specs.declared.store.Counts.{Counts}
 use Rattle.sg_target.specs.Anchoring.{counted, counted_ranges}
-use Rattle.sg_target.specs.Effect.{Range, range, counted_range}
-use Rattle.sg_target.specs.ProvisioningCommands.{Change, anchoring_ranges, changed_in_turn}
-use Rattle.sg_target.specs.ProvisioningCommands.{ranges_in_turn}
-use Rattle.sg_target.specs.Ranges.{Cost, CostBounds, IsCharged, IsCounted, IsWithinPrice}
-use Rattle.sg_target.specs.Ranges.{sum_over, least_over}
+use Rattle.sg_target.specs.Charge.{Cost, CostBounds, IsCharged, IsCounted, IsWithinPrice}
+use Rattle.sg_target.specs.Charge.{least_over, sum_over}
+use Rattle.sg_target.specs.ProvisioningCommands.{Change, changed_in_turn}
+use Rattle.sg_target.specs.Ranges.{Range, anchoring_ranges, counted_range, range, ranges_in_turn}
 use Rattle.sg_target.specs.declared.reply.Reply.{Reply}
 use Rattle.sg_target.specs.declared.reply.Status.TheVariants.{Good}
 use Rattle.sg_store.specs.Disk.{Contents, Disk, anchored}

@@ -6,8 +6,8 @@ use Rattle.std.specs.FinMap.{get, same_map, nat_cmp-IsAntisymmetric}
 use Rattle.std.specs.List.{list_any}
 use Rattle.std.specs.Prelude.{◌||◌}
 use Rattle.sg_store.specs.Disk.{Contents, Mapping}
-use Rattle.sg_target.specs.Effect.{Range, range}
-use Rattle.sg_target.specs.ProvisioningCommands.{Change, changed_in_turn, ranges_in_turn}
+use Rattle.sg_target.specs.Ranges.{Range, range, ranges_in_turn}
+use Rattle.sg_target.specs.ProvisioningCommands.{Change, changed_in_turn}
 use Rattle.sg_wire.specs.declared.extent.Extent.{Extent}
 
 -- ---- one more extent

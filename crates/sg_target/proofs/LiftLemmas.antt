@@ -1,15 +1,17 @@
 -- From the operation that a command asks for to its step.
-use Rattle.std.proofs.Common.{◌≡◌, ℕ, List, [], ◌∷◌, Option, Some, None, Result, Ok, Err, refl, subst}
-use Rattle.sg_wire.specs.Layout.{command_of}
+use Rattle.std.proofs.Common.{◌≡◌, ℕ, List, [], ◌∷◌, Option, Some, None, Result, Ok, Err}
+use Rattle.std.proofs.Common.{refl, ap, subst, ◌∙◌}
+use Rattle.sg_wire.specs.CdbDecoding.{command_in, command_of}
 use Rattle.sg_wire.specs.declared.command.CdbFault.{CdbFault}
 use Rattle.sg_wire.specs.declared.command.Command.{Command}
+use Rattle.sg_wire.proofs.ProfileLemmas.{read-any}
 use Rattle.sg_target.specs.Checks.{cdb_checks, checked_cdb, checked_operation, checked_parse, requested}
 use Rattle.sg_target.specs.Checks.{medium_checks}
 use Rattle.sg_target.specs.Checks.{short_data_out, unsupported_value}
 use Rattle.sg_target.specs.Demands.{Demands, demands}
 use Rattle.sg_target.specs.Refusal.{checked_next, first_some, unless_refused}
 use Rattle.sg_target.specs.Semantics.{effect_of, medium_use}
-use Rattle.sg_target.specs.State.{State}
+use Rattle.sg_target.specs.State.{State, profile_of}
 use Rattle.sg_target.specs.Step.{Step, outcome, refused, step, step_by}
 use Rattle.sg_target.specs.declared.operation.Operation.{Operation}
 use Rattle.sg_target.specs.declared.refusal.Refusal.{Refusal}
@@ -31,6 +33,7 @@ request_checks d data_out =
 pub record Asked (state : State) (i : ℕ) (cdb data_out : List ℕ) (operation : Operation) : Type 0 where
   pub passed : first_some (cdb_checks state i cdb) ≡ None
   pub command : Command
+  pub read_as : command_in (profile_of state) cdb ≡ Ok command
   pub command_is : command_of cdb ≡ Ok command
   pub accepted : first_some
       (request_checks (demands state.disk.capacity command data_out) data_out) ≡ None
@@ -76,11 +79,12 @@ module _ (state : State) (i : ℕ) (cdb data_out : List ℕ) where
   unfolding checked_cdb
   asked operation e =
       let passed = unless-ok (first_some (cdb_checks state i cdb)) _ operation e in
-      let parsed = parsed-ok state (command_of cdb) data_out operation passed.is in
+      let parsed = parsed-ok state (command_in (profile_of state) cdb) data_out operation passed.is in
       record {
         passed = passed.none;
         command = parsed.command;
-        command_is = parsed.is;
+        read_as = parsed.is;
+        command_is = read-any (profile_of state) cdb parsed.command parsed.is;
         accepted = parsed.accepted;
         operation_is = parsed.asks;
       }
@@ -99,13 +103,15 @@ module _ (state : State) (i : ℕ) (cdb data_out : List ℕ) where
   lifted P r o = by-checked P r o (checked_cdb state i cdb data_out) refl
 
 -- so it is of a relation of two steps of states whose checks come to the same
-module _ (s t : State) (i : ℕ) (cdb data_out : List ℕ)
+module _ (s t : State) (i : ℕ) (cdb data_out : List ℕ) (profiles : profile_of s ≡ profile_of t)
     (same : first_some (cdb_checks s i cdb) ≡ first_some (cdb_checks t i cdb))
     (alike : (parsed : Result Command CdbFault)
     → checked_parse s parsed data_out ≡ checked_parse t parsed data_out) where
   checked-same : checked_cdb s i cdb data_out ≡ checked_cdb t i cdb data_out
   unfolding checked_cdb
-  checked-same = λ d. unless_refused (same d) (alike (command_of cdb) d)
+  checked-same = λ d. unless_refused (same d)
+      ((alike (command_in (profile_of s) cdb)
+      ∙ ap (λ p. checked_parse t (command_in p cdb) data_out) profiles) d)
 
   by-both : (R : Step → Step → Type 0)
       → ((refusal : Refusal) → R (refused s i refusal) (refused t i refusal))

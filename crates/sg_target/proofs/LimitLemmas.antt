@@ -20,13 +20,15 @@ use Rattle.sg_target.specs.Checks.{checked_cdb, checked_effect, no_space}
 use Rattle.sg_target.specs.Effect.{Effect, returning_up_to}
 use Rattle.sg_target.specs.ModeCommands.{attentions_after, changing_modes, mode_parameters}
 use Rattle.sg_target.specs.ModeCommands.{selected_modes}
-use Rattle.sg_target.specs.PowerCycle.{after_power_cycle}
+use Rattle.sg_target.specs.Happenings.{after_happening}
 use Rattle.sg_target.specs.Refusal.{checked_next, or_refused, when_sound}
 use Rattle.sg_target.specs.ReservationCommands.{changing_reservations, out_refusal}
 use Rattle.sg_target.specs.ReservationCommands.{reservation_change}
 use Rattle.sg_target.specs.Semantics.{effect_of}
 use Rattle.sg_target.specs.State.{IsWithinLimits, State}
 use Rattle.sg_target.specs.Step.{outcome as step_outcome, refused, step, unless_no_space}
+use Rattle.sg_target.specs.declared.happening.Happening.{Happening}
+use Rattle.sg_target.specs.declared.happening.Happening.TheVariants.{Power}
 use Rattle.sg_target.specs.declared.operation.Operation.{Operation}
 use Rattle.sg_target.specs.declared.operation.Operation.TheVariants.{ReturnSense, ReturnModes}
 use Rattle.sg_target.specs.declared.operation.Operation.TheVariants.{ChangeModes, ChangeReservations}
@@ -138,8 +140,9 @@ module _ (reservations : ReservationsStayConsistent) (queues : QueuesKeepTheirLi
       (checked-keeps state i (checked_cdb state i cdb data_out) (others state h))
       (keeps-blocks disks state i cdb data_out h.blocks)
 
-  pub cycle-within : (state : State) → IsWithinLimits state → IsWithinLimits (after_power_cycle state)
-  cycle-within state h = record {
+  pub happening-within : (happening : Happening) (state : State) → IsWithinLimits state
+      → IsWithinLimits (after_happening happening state)
+  happening-within Power state h = record {
     used = h.used;
     pending = queues.power_cycle;
     registered = reservations.power_cycle state.reservations h.registered;

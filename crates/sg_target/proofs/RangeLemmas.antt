@@ -1,8 +1,8 @@
 -- The cost of ranges together.
 use Rattle.std.proofs.Common.{ℕ, ◌+◌, ◌≤◌, List, [], ◌∷◌, arith}
 use Rattle.sg_store.specs.Disk.{Contents}
-use Rattle.sg_target.specs.Effect.{Range}
-use Rattle.sg_target.specs.Ranges.{sum_over, visit_bound}
+use Rattle.sg_target.specs.Charge.{sum_over, visit_bound}
+use Rattle.sg_target.specs.Ranges.{Range}
 
 -- no kind of store visits more than two more than the blocks of each
 pub price-within : (price : Contents → ℕ → ℕ → ℕ)

@@ -10,8 +10,8 @@ use Rattle.sg_store.specs.Disk.{IsWellFormed}
 use Rattle.sg_store.specs.Meter.{Meter}
 use Rattle.sg_units.specs.Attentions.{ArePending}
 use Rattle.sg_units.specs.Reservations.{IsConsistent}
-use Rattle.sg_target.specs.PowerCycle.{after_power_cycle}
-use Rattle.sg_target.specs.Ranges.{CostBounds, IsCharged}
+use Rattle.sg_target.specs.Happenings.{after_happening}
+use Rattle.sg_target.specs.Charge.{CostBounds, IsCharged}
 use Rattle.sg_target.specs.Reply.{Carries}
 use Rattle.sg_target.specs.Runs.{step_of, ranges_of_call, state_after_event, state_after_events}
 use Rattle.sg_target.specs.Runs.{answers_to_events, Exchange}
@@ -22,6 +22,7 @@ use Rattle.sg_target.specs.Target.{TargetFields}
 use Rattle.sg_target.specs.declared.call.Call.{Call}
 use Rattle.sg_target.specs.declared.event.Event.{Event}
 use Rattle.sg_target.specs.declared.event.Event.TheVariants as event
+use Rattle.sg_target.specs.declared.happening.Happening.{Happening}
 use Rattle.sg_target.specs.declared.reply.Reply.{Reply}
 use Rattle.sg_target.specs.Laws.{LimitsAreKept}
 
@@ -38,15 +39,17 @@ answers-more state [] call = refl
 answers-more state (event.Call first ∷ events) call =
     ap (λ (xs : List Answer). (step_of state first).answer ∷ xs)
     (answers-more (step_of state first).state events call)
-answers-more state (event.Power ∷ events) call = answers-more (after_power_cycle state) events call
+answers-more state (event.Happen happening ∷ events) call =
+    answers-more (after_happening happening state) events call
 
-answers-power : (state : State) (events : List Event)
-    → answers_to_events state (events ++ event.Power ∷ []) ≡ answers_to_events state events
-answers-power state [] = refl
-answers-power state (event.Call first ∷ events) =
+answers-happening : (state : State) (events : List Event) (last : Happening)
+    → answers_to_events state (events ++ event.Happen last ∷ []) ≡ answers_to_events state events
+answers-happening state [] last = refl
+answers-happening state (event.Call first ∷ events) last =
     ap (λ (xs : List Answer). (step_of state first).answer ∷ xs)
-    (answers-power (step_of state first).state events)
-answers-power state (event.Power ∷ events) = answers-power (after_power_cycle state) events
+    (answers-happening (step_of state first).state events last)
+answers-happening state (event.Happen happening ∷ events) last =
+    answers-happening (after_happening happening state) events last
 
 -- the events of a list, one item further
 pub events-more : {X : Type 0} (f : X → Event) (xs : List X) (i : ℕ) (x : X) (last : Event)
@@ -83,22 +86,25 @@ module _ (bounds : CostBounds) where
         charged-more (step_of state first).state events delivered call last
             so_far.0 between after so_far.2 h,
       )
-  charged-more state (event.Power ∷ events) delivered call last before between after so_far h =
-      charged-more (after_power_cycle state) events delivered call last before between after so_far h
+  charged-more state (event.Happen happening ∷ events) delivered call last before between after
+      so_far h =
+      charged-more (after_happening happening state) events delivered call last before between after
+      so_far h
 
-  charged-power : (state : State) (events : List Event) (delivered : List Exchange)
-      (before after : Meter) → AreCharged bounds state events delivered before after
-      → AreCharged bounds state (events ++ event.Power ∷ []) delivered before after
-  charged-power state [] [] before after so_far = so_far
-  charged-power state [] (u ∷ delivered) before after so_far = absurd so_far
-  charged-power state (event.Call first ∷ events) [] before after so_far = absurd so_far
-  charged-power state (event.Call first ∷ events) (u ∷ delivered) before after so_far = (
+  charged-happening : (state : State) (events : List Event) (delivered : List Exchange)
+      (last : Happening) (before after : Meter)
+      → AreCharged bounds state events delivered before after
+      → AreCharged bounds state (events ++ event.Happen last ∷ []) delivered before after
+  charged-happening state [] [] last before after so_far = so_far
+  charged-happening state [] (u ∷ delivered) last before after so_far = absurd so_far
+  charged-happening state (event.Call first ∷ events) [] last before after so_far = absurd so_far
+  charged-happening state (event.Call first ∷ events) (u ∷ delivered) last before after so_far = (
     so_far.0,
     so_far.1,
-    charged-power (step_of state first).state events delivered so_far.0 after so_far.2,
+    charged-happening (step_of state first).state events delivered last so_far.0 after so_far.2,
   )
-  charged-power state (event.Power ∷ events) delivered before after so_far =
-      charged-power (after_power_cycle state) events delivered before after so_far
+  charged-happening state (event.Happen happening ∷ events) delivered last before after so_far =
+      charged-happening (after_happening happening state) events delivered last before after so_far
 
   pub exchanged-more : (state : State) (events : List Event) (before after : List Exchange)
       (meter meter' meter'' : Meter) (call : Call) (last : Exchange)
@@ -119,15 +125,16 @@ module _ (bounds : CostBounds) where
     charged = charged-more state events so_far.delivered call last meter meter' meter'' so_far.charged h;
   }
 
-  pub exchanged-power : (state : State) (events : List Event) (before after : List Exchange)
-      (meter meter' : Meter) → Exchanged bounds state events before after meter meter'
-      → Exchanged bounds state (events ++ event.Power ∷ []) before after meter meter'
-  exchanged-power state events before after meter meter' so_far = record {
+  pub exchanged-happening : (state : State) (events : List Event) (before after : List Exchange)
+      (meter meter' : Meter) (last : Happening)
+      → Exchanged bounds state events before after meter meter'
+      → Exchanged bounds state (events ++ event.Happen last ∷ []) before after meter meter'
+  exchanged-happening state events before after meter meter' last so_far = record {
     delivered = so_far.delivered;
     adds = so_far.adds;
-    answered = so_far.answered ∙ sym (answers-power state events);
+    answered = so_far.answered ∙ sym (answers-happening state events last);
     sizes = so_far.sizes;
-    charged = charged-power state events so_far.delivered meter meter' so_far.charged;
+    charged = charged-happening state events so_far.delivered last meter meter' so_far.charged;
   }
 
 -- a fact that is always true is true on an error
@@ -156,8 +163,8 @@ all-within limits state [] (suc n) h = h
 all-within limits state (event.Call call ∷ events) (suc n) h =
     all-within limits (step_of state call).state events n
     (limits.command state call.initiator call.cdb.now call.data_out.now h)
-all-within limits state (event.Power ∷ events) (suc n) h =
-    all-within limits (after_power_cycle state) events n (limits.power_cycle state h)
+all-within limits state (event.Happen happening ∷ events) (suc n) h =
+    all-within limits (after_happening happening state) events n (limits.happening happening state h)
 
 -- the data-in of a reply is at the beginning of the buffer
 pub answer-carried : (answer : Answer) (reply : Reply) (before after : List ℕ)

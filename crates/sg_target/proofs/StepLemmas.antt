@@ -2,7 +2,7 @@
 use Rattle.std.proofs.Common.{◌≡◌, ℕ, List, [], ◌∷◌, Option, Some, None, Result}
 use Rattle.std.proofs.Common.{refl, ap, sym, subst, ◌∙◌}
 use Rattle.sg_target.specs.Checks.{checked_cdb}
-use Rattle.sg_target.specs.Ranges.{ranges, ranges_in}
+use Rattle.sg_target.specs.Ranges.{ranges, ranges_if_passed}
 use Rattle.sg_target.specs.Refusal.{checked_next, first_some}
 use Rattle.sg_target.specs.Semantics.{effect_of}
 use Rattle.sg_target.specs.State.{IsWithinLimits, State}
@@ -26,9 +26,8 @@ module _ (state : State) (i : ℕ) (cdb data_out : List ℕ) where
 
   pub ranges-checked : (checked : Result Operation Refusal)
       → checked_cdb state i cdb data_out ≡ checked
-      → ranges state i cdb data_out ≡ ranges_in (checked_next checked (effect_of state i))
-  ranges-checked checked e =
-      ap (λ (r : Result Operation Refusal). ranges_in (checked_next r (effect_of state i))) e
+      → ranges state i cdb data_out ≡ ranges_if_passed state checked
+  ranges-checked checked e = ap (ranges_if_passed state) e
 
   -- so a fact about it holds of the outcome
   pub within-checked : (checked : Result Operation Refusal) (after : State)

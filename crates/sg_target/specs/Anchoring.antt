@@ -4,9 +4,9 @@ use Rattle.sg_wire.specs.UnmapList.{maximum_unmap_descriptors}
 use Rattle.sg_store.specs.Disk.{Contents, Disk, max_capacity, max_pool, need}
 use Rattle.sg_store.specs.Meter.{Meter, probe_bound}
 use Rattle.sg_store.specs.declared.store.Counts.{Counts}
-use Rattle.sg_target.specs.Effect.{Range}
+use Rattle.sg_target.specs.Charge.{CostBounds, IsWithinPrice, least_over}
 use Rattle.sg_target.specs.Joining.{cost_of}
-use Rattle.sg_target.specs.Ranges.{CostBounds, IsWithinPrice, least_over}
+use Rattle.sg_target.specs.Ranges.{Range}
 use Rattle.sg_target.specs.declared.joining.AddressRange.{AddressRange}
 
 -- The number of blocks of the pool that ranges need, if they have no address in common.

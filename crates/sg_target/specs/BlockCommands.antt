@@ -1,19 +1,17 @@
 -- The effects of the block commands (SBC-3, 5).
-use Rattle.std.specs.Prelude.{ℕ, ◌*◌, List, [], ◌∷◌}
+use Rattle.std.specs.Prelude.{ℕ, ◌*◌, List}
 use Rattle.sg_wire.specs.CutAnswer.{first_bytes}
 use Rattle.sg_wire.specs.declared.extent.Extent.{Extent}
 use Rattle.sg_store.specs.Disk.{blocks, written}
 use Rattle.sg_pages.specs.BlockDescriptor.{logical_block_length}
 use Rattle.sg_pages.specs.ProvisioningPages.{maximum_transfer_length}
 use Rattle.sg_target.specs.CapacityData.{capacity_10, capacity_16}
-use Rattle.sg_target.specs.Effect.{Effect, no_effect, range, returning, returning_up_to, with_contents}
+use Rattle.sg_target.specs.Effect.{Effect, no_effect, returning, returning_up_to, with_contents}
 use Rattle.sg_target.specs.State.{State}
 
 -- READ returns the bytes of its blocks.
 abbrev pub reading : State → Extent → Effect
-reading state extent =
-    record (returning state (blocks state.disk.contents extent.lba extent.count))
-    { ranges = range state.disk.contents extent ∷ [] }
+reading state extent = returning state (blocks state.disk.contents extent.lba extent.count)
 
 -- The number of bytes of an extent's blocks.
 abbrev pub bytes_of : Extent → ℕ
@@ -35,9 +33,10 @@ blocks_out extent data_out =
 
 -- WRITE replaces its blocks by these bytes.
 abbrev pub writing : State → BlocksOutFields → Effect
-writing state out = let contents = state.disk.contents in record (no_effect state) {
-  ranges = range contents out.extent ∷ [];
-  after = with_contents state (written contents out.extent.lba out.extent.count out.bytes);
+writing state out = record (no_effect state) {
+  after =
+      with_contents state
+      (written state.disk.contents out.extent.lba out.extent.count out.bytes);
 }
 
 -- READ CAPACITY (10) and (16).

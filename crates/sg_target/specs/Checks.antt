@@ -6,7 +6,7 @@ use Rattle.std.specs.Prelude.{Ok, Err, nat_lt, if◌then◌else◌}
 use Rattle.std.specs.Option.{option_map}
 use Rattle.std.specs.Prelude.{option_and_then}
 use Rattle.std.specs.FinMap.{len}
-use Rattle.sg_wire.specs.Layout.{class_of, command_of, is_blocked_by_attention}
+use Rattle.sg_wire.specs.CdbDecoding.{class_in, command_in, is_blocked_in}
 use Rattle.sg_wire.specs.declared.command.Command.{Command}
 use Rattle.sg_wire.specs.declared.command.CdbFault.{CdbFault}
 use Rattle.sg_wire.specs.declared.command.CdbFault.TheVariants.{Empty, Opcode, Short, Field}
@@ -19,7 +19,7 @@ use Rattle.sg_target.specs.Effect.{Effect}
 use Rattle.sg_target.specs.Demands.{Demands, demands}
 use Rattle.sg_target.specs.Refusal.{checked_next, first_some, refusal_for, unless_refused}
 use Rattle.sg_target.specs.Semantics.{MediumUse, effect_of, medium_use}
-use Rattle.sg_target.specs.State.{State}
+use Rattle.sg_target.specs.State.{State, profile_of}
 use Rattle.sg_target.specs.declared.operation.Operation.{Operation}
 use Rattle.sg_target.specs.declared.refusal.Reason.TheVariants.{InvalidFieldInCdb}
 use Rattle.sg_target.specs.declared.refusal.Reason.TheVariants.{UnitAttention as Attention}
@@ -40,7 +40,7 @@ empty_cdb _ = None
 -- A unit attention is pending for the initiator, and is reported in place of the command.
 abbrev pub pending_attention : State → (initiator : ℕ) → List ℕ → Option Refusal
 pending_attention state initiator cdb =
-    if is_blocked_by_attention cdb
+    if is_blocked_in (profile_of state) cdb
     then option_map (λ condition. CheckCondition (Attention condition))
     (oldest state.attentions initiator)
     else None
@@ -56,7 +56,7 @@ abbrev pub reservation_conflict : State → (initiator : ℕ) → List ℕ → O
 reservation_conflict state initiator cdb =
     option_and_then
     (λ class. if allows state.reservations initiator class then None else Some Conflict)
-    (class_of cdb)
+    (class_in (profile_of state) cdb)
 
 -- It ends early.
 -- Choice (SAM-5, 5.2): a CDB that ends early has no answer there.
@@ -72,7 +72,7 @@ bad_field _ = None
 -- Departure (SAM-5, 5.3.3): a conflict comes before attentions other than 29h there.
 -- Choice (SAM-5, 5.3.3): a fault of the CDB may come before a conflict.
 abbrev pub cdb_checks : State → (initiator : ℕ) → List ℕ → List (Option Refusal)
-cdb_checks state initiator cdb = let command = command_of cdb in
+cdb_checks state initiator cdb = let command = command_in (profile_of state) cdb in
     empty_cdb command
     ∷ pending_attention state initiator cdb
     ∷ unknown_opcode command
@@ -153,7 +153,7 @@ unfoldable pub checked_cdb : State → (initiator : ℕ) → (cdb data_out : Lis
     → Result Operation Refusal
 checked_cdb state initiator cdb data_out =
     unless_refused (first_some (cdb_checks state initiator cdb))
-    (checked_parse state (command_of cdb) data_out)
+    (checked_parse state (command_in (profile_of state) cdb) data_out)
 
 -- Its effect. The requests of MODE SENSE, MODE SELECT and PERSISTENT RESERVE OUT are checked last,
 -- against the state.

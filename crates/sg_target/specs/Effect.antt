@@ -1,25 +1,8 @@
 -- The effects of commands.
-use Rattle.std.specs.Prelude.{ℕ, Bool, true, false, List, [], Option, Some, None}
-use Rattle.sg_wire.specs.declared.extent.Extent.{Extent}
+use Rattle.std.specs.Prelude.{ℕ, List, [], Option, Some, None}
 use Rattle.sg_store.specs.Disk.{Contents}
 use Rattle.sg_units.specs.Attentions.{without_oldest}
 use Rattle.sg_target.specs.State.{State}
-
--- A range of blocks that the store is asked for, with the mapped blocks that it meets, as the
--- ranges before it have left them.
-pub record Range : Type 0 where
-  pub contents : Contents
-  pub lba : ℕ
-  pub count : ℕ
-  -- whether only the blocks of the pool that it needs are counted
-  pub counted : Bool
-
-abbrev pub range : Contents → Extent → Range
-range contents blocks =
-    record { contents = contents; lba = blocks.lba; count = blocks.count; counted = false }
-
-abbrev pub counted_range : Contents → Extent → Range
-counted_range contents blocks = record (range contents blocks) { counted = true }
 
 -- The effect of a command that no check refuses.
 pub record Effect : Type 0 where
@@ -27,12 +10,10 @@ pub record Effect : Type 0 where
   pub data_in : List ℕ
   -- the allocation length that cuts it, if the command has one
   pub allocation_length : Option ℕ
-  -- the ranges that it goes over, in order
-  pub ranges : List Range
   pub after : State
 
 abbrev pub no_effect : State → Effect
-no_effect state = record { data_in = []; allocation_length = None; ranges = []; after = state }
+no_effect state = record { data_in = []; allocation_length = None; after = state }
 
 -- Data-in is returned whole, or cut at an allocation length (SPC-4, 4.2.5.6).
 abbrev pub returning : State → List ℕ → Effect

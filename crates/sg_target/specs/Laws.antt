@@ -7,16 +7,18 @@ use Rattle.sg_store.specs.LbaStatus.{status_at}
 use Rattle.sg_store.specs.declared.lba_status.ProvisioningStatus.{ProvisioningStatus}
 use Rattle.sg_store.specs.declared.lba_status.ProvisioningStatus.TheVariants.{Deallocated, Anchored}
 use Rattle.sg_target.specs.Effect.{Effect}
-use Rattle.sg_target.specs.PowerCycle.{after_power_cycle}
+use Rattle.sg_target.specs.Happenings.{after_happening}
 use Rattle.sg_target.specs.ProvisioningCommands.{anchoring, unmapping}
 use Rattle.sg_target.specs.State.{IsWithinLimits, State}
 use Rattle.sg_target.specs.Step.{step}
+use Rattle.sg_target.specs.declared.happening.Happening.{Happening}
 
--- A state within its limits stays within them after a command, and after a power cycle.
+-- A state within its limits stays within them after a command, and after a happening.
 pub record LimitsAreKept : Type 0 where
   pub command : (state : State) (initiator : ℕ) (cdb data_out : List ℕ) → IsWithinLimits state
       → IsWithinLimits (step state initiator cdb data_out).state
-  pub power_cycle : (state : State) → IsWithinLimits state → IsWithinLimits (after_power_cycle state)
+  pub happening : (happening : Happening) (state : State) → IsWithinLimits state
+      → IsWithinLimits (after_happening happening state)
 
 -- ---- Lists of extents
 

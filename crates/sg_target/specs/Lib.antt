@@ -18,7 +18,9 @@ pub mod Reply
 pub mod Ranges
 pub mod Target
 pub mod Execution
+pub mod Charge
 pub mod PowerCycle
+pub mod Happenings
 pub mod Runs
 pub mod Laws
 pub mod CommandLaws

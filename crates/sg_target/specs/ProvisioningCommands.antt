@@ -1,5 +1,5 @@
 -- The effects of the commands of logical block provisioning (SBC-3, 4.7 and 5).
-use Rattle.std.specs.Prelude.{ℕ, ◌==◌, ◌&&◌, List, [], ◌∷◌, ◌++◌, map, Bool, false, Result}
+use Rattle.std.specs.Prelude.{ℕ, ◌==◌, ◌&&◌, List, [], ◌∷◌, Bool, Result}
 use Rattle.std.specs.List.{list_all}
 use Rattle.sg_wire.specs.CutAnswer.{first_bytes}
 use Rattle.sg_wire.specs.UnmapList.{descriptor_data_length_at, unmap_list}
@@ -7,10 +7,9 @@ use Rattle.sg_wire.specs.declared.unmap_list.UnmapListFault.{UnmapListFault}
 use Rattle.sg_wire.specs.declared.unmap_list.UnmapListFault.TheVariants.{Short, TooManyDescriptors}
 use Rattle.sg_wire.specs.declared.extent.Extent.{Extent}
 use Rattle.sg_store.specs.Disk.{Contents, Disk, anchored, filled, unmapped}
-use Rattle.sg_store.specs.LbaStatus.{covered, lba_status, status_data}
+use Rattle.sg_store.specs.LbaStatus.{lba_status, status_data}
 use Rattle.sg_pages.specs.BlockDescriptor.{logical_block_length}
-use Rattle.sg_target.specs.Effect.{Effect, Range, no_effect, range, counted_range}
-use Rattle.sg_target.specs.Effect.{returning_up_to, with_contents}
+use Rattle.sg_target.specs.Effect.{Effect, no_effect, returning_up_to, with_contents}
 use Rattle.sg_target.specs.Refusal.{or_refused}
 use Rattle.sg_target.specs.State.{State}
 use Rattle.sg_target.specs.declared.refusal.Reason.TheVariants.{ParameterListLengthError}
@@ -30,33 +29,19 @@ changed_in_turn change contents [] = contents
 changed_in_turn change contents (extent ∷ rest) =
     changed_in_turn change (change contents extent.lba extent.count) rest
 
--- The ranges of these extents: each meets the mapped blocks that the ranges before it have left.
-abbrev pub ranges_in_turn : Change → Contents → List Extent → List Range
-ranges_in_turn change contents [] = []
-ranges_in_turn change contents (extent ∷ rest) =
-    range contents extent ∷ ranges_in_turn change (change contents extent.lba extent.count) rest
-
 -- ---- Unmapping
 
 -- Choice (SBC-3, 5.28): UNMAP may leave blocks mapped, or anchor them.
 abbrev pub unmapping : State → List Extent → Effect
-unmapping state extents = let contents = state.disk.contents in record (no_effect state) {
-  ranges = ranges_in_turn unmapped contents extents;
-  after = with_contents state (changed_in_turn unmapped contents extents);
+unmapping state extents = record (no_effect state) {
+  after = with_contents state (changed_in_turn unmapped state.disk.contents extents);
 }
 
 -- ---- Anchoring
 
--- Each extent is gone over twice. The store first counts the blocks that all of them need, before
--- anything changes, and then goes over all again.
-abbrev pub anchoring_ranges : Contents → List Extent → List Range
-anchoring_ranges contents extents =
-    map (counted_range contents) extents ++ ranges_in_turn anchored contents extents
-
 abbrev pub anchoring : State → List Extent → Effect
-anchoring state extents = let contents = state.disk.contents in record (no_effect state) {
-  ranges = anchoring_ranges contents extents;
-  after = with_contents state (changed_in_turn anchored contents extents);
+anchoring state extents = record (no_effect state) {
+  after = with_contents state (changed_in_turn anchored state.disk.contents extents);
 }
 
 -- ---- The parameter list of UNMAP
@@ -76,9 +61,8 @@ listed_extents list = or_refused unmap_list_refusal (unmap_list list)
 
 -- Each block of an extent is replaced by one block.
 abbrev pub filling : State → Extent → (block : List ℕ) → Effect
-filling state extent block = let contents = state.disk.contents in record (no_effect state) {
-  ranges = range contents extent ∷ [];
-  after = with_contents state (filled contents extent.lba extent.count block);
+filling state extent block = record (no_effect state) {
+  after = with_contents state (filled state.disk.contents extent.lba extent.count block);
 }
 
 -- The block is the first of data-out.
@@ -93,20 +77,9 @@ unmaps unmap block = unmap && list_all (λ byte. byte == 0) block
 
 -- ---- GET LBA STATUS
 
--- It returns which blocks are mapped, from an address on, and goes over the blocks that its
--- descriptors cover.
+-- It returns which blocks are mapped, from an address on.
 abbrev pub reporting_status : State → (start allocation_length : ℕ) → Effect
-reporting_status state start n = let found = lba_status state.disk start in
-    record (returning_up_to state n (status_data found)) {
-      ranges =
-          record {
-            contents = state.disk.contents;
-            lba = start;
-            count = covered found;
-            counted = false;
-          }
-          ∷ [];
-    }
+reporting_status state start n = returning_up_to state n (status_data (lba_status state.disk start))
 
 -- ---- Cited only by private contracts
 

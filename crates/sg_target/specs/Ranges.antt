@@ -1,89 +1,76 @@
--- The ranges of blocks that a command goes over, and their cost.
-use Rattle.std.specs.Prelude.{◌≡◌, ℕ, ◌+◌, ◌*◌, ◌<◌, ◌≤◌, List, [], ◌∷◌, length, Result, Ok, Err}
-use Rattle.std.specs.Prelude.{if◌then◌else◌}
-use Rattle.sg_store.specs.Disk.{Contents}
-use Rattle.sg_store.specs.Meter.{Meter, probe_bound}
-use Rattle.sg_target.specs.Checks.{checked_effect}
-use Rattle.sg_target.specs.Effect.{Effect, Range}
+-- The ranges of blocks that a command goes over. They say what it costs, and not what it means.
+use Rattle.std.specs.Prelude.{ℕ, List, [], ◌∷◌, ◌++◌, Bool, false, true, map, Result, Ok, Err}
+use Rattle.sg_wire.specs.declared.extent.Extent.{Extent}
+use Rattle.sg_store.specs.Disk.{Contents, Disk, anchored, unmapped}
+use Rattle.sg_store.specs.LbaStatus.{covered, lba_status}
+use Rattle.sg_target.specs.Checks.{checked_cdb}
+use Rattle.sg_target.specs.ProvisioningCommands.{Change}
 use Rattle.sg_target.specs.State.{State}
+use Rattle.sg_target.specs.declared.operation.Operation.{Operation}
+use Rattle.sg_target.specs.declared.operation.Operation.TheVariants.{Anchor, AnchorExtent, Fill, Read}
+use Rattle.sg_target.specs.declared.operation.Operation.TheVariants.{ReturnLbaStatus, Unmap}
+use Rattle.sg_target.specs.declared.operation.Operation.TheVariants.{UnmapExtent, Write}
 use Rattle.sg_target.specs.declared.refusal.Refusal.{Refusal}
-use Rattle.sg_target.specs.declared.reply.Reply.{Reply}
-use Rattle.sg_target.specs.declared.reply.Status.TheVariants.{Good}
 
--- A refused command goes over none, unless it is refused because there is no space, which shows on
--- the way.
-abbrev pub ranges_in : Result Effect Refusal → List Range
-ranges_in (Ok effect) = effect.ranges
-ranges_in (Err refusal) = []
+-- A range of blocks that the store is asked for, with the mapped blocks that it meets, as the
+-- ranges before it have left them.
+pub record Range : Type 0 where
+  pub contents : Contents
+  pub lba : ℕ
+  pub count : ℕ
+  -- whether only the blocks of the pool that it needs are counted
+  pub counted : Bool
+
+abbrev pub range : Contents → Extent → Range
+range contents blocks =
+    record { contents = contents; lba = blocks.lba; count = blocks.count; counted = false }
+
+abbrev pub counted_range : Contents → Extent → Range
+counted_range contents blocks = record (range contents blocks) { counted = true }
+
+-- The ranges of extents that are changed one after the other: each meets the mapped blocks that the
+-- ranges before it have left.
+abbrev pub ranges_in_turn : Change → Contents → List Extent → List Range
+ranges_in_turn change contents [] = []
+ranges_in_turn change contents (extent ∷ rest) =
+    range contents extent ∷ ranges_in_turn change (change contents extent.lba extent.count) rest
+
+-- Extents that are anchored are gone over twice. The store first counts the blocks that all of them
+-- need, before anything changes, and then goes over all again.
+abbrev pub anchoring_ranges : Contents → List Extent → List Range
+anchoring_ranges contents extents =
+    map (counted_range contents) extents ++ ranges_in_turn anchored contents extents
+
+-- GET LBA STATUS goes over the blocks that its descriptors cover.
+abbrev pub status_ranges : Disk → (start : ℕ) → List Range
+status_ranges disk start =
+    record {
+      contents = disk.contents;
+      lba = start;
+      count = covered (lba_status disk start);
+      counted = false;
+    }
+    ∷ []
+
+-- The ranges of an operation, in order. An operation that is not named here goes over none.
+abbrev pub ranges_of : State → Operation → List Range
+ranges_of state (Read extent) = range state.disk.contents extent ∷ []
+ranges_of state (Write out) = range state.disk.contents out.extent ∷ []
+ranges_of state (Fill extent block) = range state.disk.contents extent ∷ []
+ranges_of state (Unmap extents) = ranges_in_turn unmapped state.disk.contents extents
+ranges_of state (UnmapExtent extent) = ranges_in_turn unmapped state.disk.contents (extent ∷ [])
+ranges_of state (Anchor extents) = anchoring_ranges state.disk.contents extents
+ranges_of state (AnchorExtent extent) = anchoring_ranges state.disk.contents (extent ∷ [])
+ranges_of state (ReturnLbaStatus start n) = status_ranges state.disk start
+ranges_of state _ = []
+
+-- A command that is refused before it asks for its operation goes over no range. Want of space shows
+-- on the way.
+abbrev pub ranges_if_passed : State → Result Operation Refusal → List Range
+ranges_if_passed state (Ok operation) = ranges_of state operation
+ranges_if_passed state (Err refusal) = []
 
 -- The ranges that a CDB goes over with its data-out.
 abbrev pub ranges : State → (initiator : ℕ) → (cdb data_out : List ℕ) → List Range
-ranges state initiator cdb data_out = ranges_in (checked_effect state initiator cdb data_out)
-
--- The visits that a call of a store over a range may or must make, by the mapped blocks, the
--- address and the count.
-abbrev pub Cost : Type 0
-Cost = Contents → ℕ → ℕ → ℕ
-
--- The most visits, and the least if the call succeeds.
-pub record CostBounds : Type 0 where
-  pub price : Cost
-  pub least : Cost
-
-abbrev pub cost_bounds : (price least : Cost) → CostBounds
-cost_bounds price least = record { price = price; least = least }
-
--- The costs of ranges, together.
-abbrev pub sum_over : Cost → List Range → ℕ
-sum_over cost [] = 0
-sum_over cost (range ∷ rest) = cost range.contents range.lba range.count + sum_over cost rest
-
--- The same without the ranges that are only counted: if these overlap, one visit may serve several.
-abbrev pub least_over : Cost → List Range → ℕ
-least_over cost [] = 0
-least_over cost (range ∷ rest) =
-    (if range.counted then 0 else cost range.contents range.lba range.count) + least_over cost rest
-
--- Two more than the blocks of each range, together.
-abbrev pub visit_bound : List Range → ℕ
-visit_bound [] = 0
-visit_bound (range ∷ rest) = range.count + 2 + visit_bound rest
-
--- The counts are restarted once for a command that goes over a range, and for no other command.
-abbrev pub restarts_for : List Range → ℕ
-restarts_for [] = 0
-restarts_for (range ∷ rest) = 1
-
--- A command over these ranges is charged from meter to meter, by the counts of its reply.
-pub record IsCharged (bounds : CostBounds) (pool : ℕ) (over : List Range)
-    (before after : Meter) (reply : Reply) : Type 0 where
-  -- at most what its ranges may cost, so nothing without a range
-  pub visits : reply.counts.visits ≤ sum_over bounds.price over
-  pub probes : reply.counts.probes ≤ probe_bound * length over
-  pub links : reply.counts.links ≤ pool * length over
-  -- at least what they cost a command that ends GOOD
-  pub least : reply.status ≡ Good → least_over bounds.least over ≤ reply.counts.visits
-  -- just what the store's total, which no restart lowers, has risen by
-  pub visited : after.total ≡ before.total + reply.counts.visits
-  -- the store's counts as the command ends, since its one restart
-  pub counted : 0 < length over → reply.counts ≡ after.counts
-  pub restarts : after.restarts ≡ before.restarts + restarts_for over
-  -- without a range the store counts nothing
-  pub idle : over ≡ [] → after ≡ before
-
--- ---- Cited only by private contracts
-
--- A store has counted no more than ranges may cost, since a restart.
-pub record IsWithinPrice (bounds : CostBounds) (pool : ℕ) (over : List Range)
-    (before after : Meter) : Type 0 where
-  pub visits : after.counts.visits ≤ sum_over bounds.price over
-  pub probes : after.counts.probes ≤ probe_bound * length over
-  pub links : after.counts.links ≤ pool * length over
-  pub visited : after.total ≡ before.total + after.counts.visits
-  pub restarts : after.restarts ≡ before.restarts
-
--- The store has gone over ranges in turn: it has also counted no less than they cost at least.
-pub record IsCounted (bounds : CostBounds) (pool : ℕ) (over : List Range)
-    (before after : Meter) : Type 0 where
-  pub charge : IsWithinPrice bounds pool over before after
-  pub least : least_over bounds.least over ≤ after.counts.visits
+ranges state initiator cdb data_out =
+    ranges_if_passed state (checked_cdb state initiator cdb data_out)

@@ -2,9 +2,9 @@
 use Rattle.std.specs.Prelude.{◌≡◌, ◌<◌, ℕ, ◌+◌, List, [], ◌∷◌, ◌++◌, length, map, take}
 use Rattle.std.specs.Prelude.{Result, OnOk, OnErr}
 use Rattle.sg_store.specs.Meter.{Meter}
-use Rattle.sg_target.specs.Effect.{Range}
-use Rattle.sg_target.specs.PowerCycle.{after_power_cycle}
-use Rattle.sg_target.specs.Ranges.{CostBounds, IsCharged, ranges}
+use Rattle.sg_target.specs.Charge.{CostBounds, IsCharged}
+use Rattle.sg_target.specs.Happenings.{after_happening}
+use Rattle.sg_target.specs.Ranges.{Range, ranges}
 use Rattle.sg_target.specs.State.{IsWithinLimits, State}
 use Rattle.sg_target.specs.Step.{Answer, Step, step}
 use Rattle.sg_target.specs.Target.{TargetFields}
@@ -23,7 +23,7 @@ ranges_of_call state call = ranges state call.initiator call.cdb.now call.data_o
 
 abbrev pub state_after_event : State → Event → State
 state_after_event state (event.Call call) = (step_of state call).state
-state_after_event state event.Power = after_power_cycle state
+state_after_event state (event.Happen happening) = after_happening happening state
 
 -- The state after all of them.
 abbrev pub state_after_events : State → List Event → State
@@ -36,8 +36,8 @@ abbrev pub answers_to_events : State → List Event → List Answer
 answers_to_events state [] = []
 answers_to_events state (event.Call call ∷ events) =
     (step_of state call).answer ∷ answers_to_events (step_of state call).state events
-answers_to_events state (event.Power ∷ events) =
-    answers_to_events (after_power_cycle state) events
+answers_to_events state (event.Happen happening ∷ events) =
+    answers_to_events (after_happening happening state) events
 
 -- ---- Only commands
 
@@ -66,7 +66,7 @@ answer_in e = record { status = e.reply.status; sense = e.reply.sense; data_in =
 
 -- Each reply is charged for its command's ranges, from the meter that the reply before it left. So
 -- the store counts only what replies contain, and its counts are restarted only for a command. A
--- power cycle has no reply and leaves the meter.
+-- happening has no reply and leaves the meter.
 abbrev pub AreCharged : CostBounds → State → List Event → List Exchange → (before after : Meter) → Type 0
 AreCharged bounds state [] [] before after = after ≡ before
 AreCharged bounds state [] (e ∷ rest) before after = ⊥
@@ -75,8 +75,8 @@ AreCharged bounds state (event.Call call ∷ events) (e ∷ rest) before after =
     × IsCharged bounds state.disk.pool (ranges_of_call state call) before between e.reply
     × AreCharged bounds (step_of state call).state events rest between after
 AreCharged bounds state (event.Call call ∷ events) [] before after = ⊥
-AreCharged bounds state (event.Power ∷ events) delivered before after =
-    AreCharged bounds (after_power_cycle state) events delivered before after
+AreCharged bounds state (event.Happen happening ∷ events) delivered before after =
+    AreCharged bounds (after_happening happening state) events delivered before after
 
 -- Each reply has the number of bytes of data-in that it is delivered with.
 abbrev pub HaveSizes : List Exchange → Type 0
@@ -109,21 +109,26 @@ pub record Stopped (bounds : CostBounds) (state : State) (events : List Event)
 
 -- ---- Runs
 
--- A target lets events happen in turn, and delivers the replies to a sink, which has taken and
--- refused some before and afterwards.
+-- A sink of replies: the replies that it has taken, with their data-in, and the number of replies
+-- that it has refused.
+pub record SinkFields : Type 0 where
+  pub taken : List Exchange
+  pub refused : ℕ
+
+-- A target lets events happen in turn, and delivers the replies to a sink.
 pub record RunsEvents {T E : Type 0} (bounds : CostBounds) (events : List Event)
-    (old new : TargetFields) (taken taken' : List Exchange) (refused refused' : ℕ)
-    (result : Result T E) : Type 0 where
+    (old new : TargetFields) (sink sink' : SinkFields) (result : Result T E) : Type 0 where
   -- If none is refused, the sink has taken the replies to all commands, each charged to the store,
-  pub took : OnOk result (Exchanged bounds old.state events taken taken' old.meter new.meter)
+  pub took : OnOk result
+      (Exchanged bounds old.state events sink.taken sink'.taken old.meter new.meter)
   -- the state is the one after the events,
   pub state : OnOk result (new.state ≡ state_after_events old.state events)
   -- and no refusal is counted.
-  pub sound : OnOk result (refused' ≡ refused)
+  pub sound : OnOk result (sink'.refused ≡ sink.refused)
   -- If one is refused, the events up to that one have happened, and none after it,
   pub stopped : OnErr result
-      (Stopped bounds old.state events taken taken' old.meter new.meter new.state)
+      (Stopped bounds old.state events sink.taken sink'.taken old.meter new.meter new.state)
   -- and one refusal is counted.
-  pub fault : OnErr result (refused' ≡ refused + 1)
+  pub fault : OnErr result (sink'.refused ≡ sink.refused + 1)
   -- No table passes its limit on the way.
   pub limits : (n : ℕ) → IsWithinLimits (state_after_events old.state (take n events))

@@ -1,6 +1,7 @@
 -- The state of the disk between two commands.
 use Rattle.std.specs.Prelude.{◌≤◌}
 use Rattle.std.specs.FinMap.{len}
+use Rattle.sg_wire.specs.declared.profile.Profile.{Profile}
 use Rattle.sg_store.specs.Disk.{Disk, IsWellFormed, empty_disk}
 use Rattle.sg_pages.specs.Identity.{IdentityFields}
 use Rattle.sg_pages.specs.ModePage.{ModeState, initial_state}
@@ -15,6 +16,10 @@ pub record State : Type 0 where
   pub modes : ModeState
   pub attentions : Pending
   pub reservations : ReservationState
+
+-- The profile of the disk, which no command changes.
+abbrev pub profile_of : State → Profile
+profile_of state = state.identity.profile
 
 -- On a new disk no block is mapped, and the mode pages have their default values. POWER ON is
 -- pending for each initiator, and none is registered. `PowerCycle` defines the disk after a power

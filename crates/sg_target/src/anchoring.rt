@@ -8,12 +8,11 @@ ghost use Rattle.sg_store.specs.Disk.{IsOverfull, anchored, disk_anchored};
 ghost use Rattle.sg_store.specs.Meter.{Charged, HasHeadroom, Meter, no_counts};
 ghost use Rattle.sg_target.specs.Anchoring.{AreOfOneList, CostsOnOk, HasAllowedSize, counted_ranges};
 ghost use Rattle.sg_target.specs.Anchoring.{need_of, visits_of_list};
-ghost use Rattle.sg_target.specs.Effect.{Range};
+ghost use Rattle.sg_target.specs.Charge.{IsCounted, cost_bounds};
 ghost use Rattle.sg_target.specs.Extents.{AreOnDisk};
 ghost use Rattle.sg_target.specs.Joining.{AreWithin};
-ghost use Rattle.sg_target.specs.ProvisioningCommands.{anchoring_ranges, changed_in_turn};
-ghost use Rattle.sg_target.specs.ProvisioningCommands.{disk_changed_in_turn, ranges_in_turn};
-ghost use Rattle.sg_target.specs.Ranges.{IsCounted, cost_bounds};
+ghost use Rattle.sg_target.specs.ProvisioningCommands.{changed_in_turn, disk_changed_in_turn};
+ghost use Rattle.sg_target.specs.Ranges.{Range, anchoring_ranges, ranges_in_turn};
 
 use crate::joining::{AddressRange, joined};
 use sg_store::laws::remapping_takes_what_is_needed;

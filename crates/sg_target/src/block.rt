@@ -8,8 +8,8 @@ ghost use Rattle.sg_target.specs.BlockCommands.{bytes_of, reading, writing};
 ghost use Rattle.sg_target.specs.CapacityData.{capacity_10, capacity_16};
 ghost use Rattle.sg_target.specs.Checks.{requested, unsupported_value};
 ghost use Rattle.sg_target.specs.Demands.{read, too_long, write};
-ghost use Rattle.sg_target.specs.Execution.{TakesStep};
-ghost use Rattle.sg_target.specs.Ranges.{cost_bounds};
+ghost use Rattle.sg_target.specs.Charge.{TakesStep, cost_bounds};
+ghost use Rattle.sg_target.specs.Ranges.{range};
 ghost use Rattle.sg_target.specs.Reply.{ReturnsData, executed_reply, refused_reply};
 ghost use Rattle.sg_target.specs.Step.{executed, executed_or_refused, sense_format};
 
@@ -85,8 +85,9 @@ impl<S: Store> Target<S> {
     pub(crate) fn read(&mut self, blocks: &BlocksIn, buf: &mut [u8]) -> Reply
         requires on_disk { blocks.now.lba + blocks.now.count ≤ self.old.state.disk.capacity }
         requires room { BUFFER_LENGTH ≤ length buf.old }
-        ensures { let effect = reading self.old.state blocks.now in
-            TakesStep (cost_bounds S.price S.least) (executed effect) effect.ranges
+        ensures { TakesStep (cost_bounds S.price S.least)
+            (executed (reading self.old.state blocks.now))
+            (range self.old.state.disk.contents blocks.now ∷ [])
             self.old self.new result buf.old buf.new }
     {
         let extent = blocks.extent;
@@ -160,9 +161,9 @@ impl<S: Store> Target<S> {
     ) -> Reply
         requires on_disk { blocks.now.extent.lba + blocks.now.extent.count
             ≤ self.old.state.disk.capacity }
-        ensures { let effect = writing self.old.state blocks.now in
-            TakesStep (cost_bounds S.price S.least)
-            (executed_or_refused self.old.state initiator effect) effect.ranges
+        ensures { TakesStep (cost_bounds S.price S.least)
+            (executed_or_refused self.old.state initiator (writing self.old.state blocks.now))
+            (range self.old.state.disk.contents blocks.now.extent ∷ [])
             self.old self.new result buf.now buf.now }
     {
         let extent = blocks.extent;

@@ -1,18 +1,20 @@
 // The order of the checks that a command passes before it is executed.
-ghost use Rattle.std.specs.Prelude.{◌≡◌, None, IfOk, if◌then◌else◌};
-ghost use Rattle.sg_wire.specs.Layout.{is_blocked_by_attention};
+ghost use Rattle.std.specs.Prelude.{◌≡◌, Some, None, Ok, IfErr, IfOk, if◌then◌else◌};
+ghost use Rattle.sg_wire.specs.CdbDecoding.{command_in, is_blocked_in};
 ghost use Rattle.sg_units.specs.Attentions.{oldest};
-ghost use Rattle.sg_target.specs.Checks.{checked_cdb, checked_operation, reservation_conflict};
+ghost use Rattle.sg_target.specs.Checks.{cdb_checks, checked_cdb, checked_operation};
+ghost use Rattle.sg_target.specs.Checks.{reservation_conflict};
 ghost use Rattle.sg_target.specs.Extents.{AreOnDisk};
+ghost use Rattle.sg_target.specs.Refusal.{first_some};
 ghost use Rattle.sg_target.specs.Semantics.{medium_use};
-ghost use Rattle.sg_target.specs.State.{IsWithinLimits};
+ghost use Rattle.sg_target.specs.State.{IsWithinLimits, profile_of};
 
 use crate::operation::{Operation, operation_of};
 use crate::refusal::{Reason, Refusal};
 use crate::target::Target;
 use sg_store::Store;
 use sg_units::UnitAttention;
-use sg_wire::{CdbFault, Command, Initiator};
+use sg_wire::{CdbFault, Command, Initiator, Profile};
 
 impl<S: Store> Target<S> {
     /// Makes the checks of a CDB, its command and its operation. Returns the operation. Its
@@ -31,8 +33,21 @@ impl<S: Store> Target<S> {
     {
         // Its contract says that the blocks are well formed.
         let _ = self.store.used();
-        let blocks = self.config.blocks();
-        let command = Command::read(cdb);
+        let command = self.check_cdb(initiator, cdb)?;
+        let operation = operation_of(self.config.blocks(), &command, data_out)?;
+        self.check_operation(operation)
+    }
+
+    /// Makes the checks of a CDB. Returns its command.
+    fn check_cdb(&self, initiator: Initiator, cdb: &[u8]) -> Result<Command, Refusal>
+        ensures refused { IfErr result (λ refusal.
+            first_some (cdb_checks self.now.state initiator cdb.now) ≡ Some refusal) }
+        ensures passed { IfOk result (λ _.
+            first_some (cdb_checks self.now.state initiator cdb.now) ≡ None) }
+        ensures command { IfOk result (λ command.
+            command_in (profile_of self.now.state) cdb.now ≡ Ok command) }
+    {
+        let command = Command::read_in(self.profile(), cdb);
         if let Err(CdbFault::Empty) = command {
             return Err(Refusal::from(CdbFault::Empty));
         }
@@ -45,17 +60,22 @@ impl<S: Store> Target<S> {
         if let Some(conflict) = self.reservation_conflict(initiator, cdb) {
             return Err(conflict);
         }
-        let command = command?;
-        let operation = operation_of(blocks, &command, data_out)?;
-        self.check_operation(operation)
+        Ok(command?)
+    }
+
+    /// The profile of the disk.
+    fn profile(&self) -> Profile
+        ensures { result ≡ profile_of self.now.state }
+    {
+        self.config.identity().profile()
     }
 
     /// The unit attention condition that is reported in place of a command.
     fn blocking_attention(&self, initiator: Initiator, cdb: &[u8]) -> Option<UnitAttention>
-        ensures { result ≡ (if is_blocked_by_attention cdb.now
+        ensures { result ≡ (if is_blocked_in (profile_of self.now.state) cdb.now
             then oldest self.now.state.attentions initiator else None) }
     {
-        if Command::is_blocked_by_attention(cdb) {
+        if Command::is_blocked_in(self.profile(), cdb) {
             self.attentions.oldest(initiator)
         } else {
             None
@@ -66,7 +86,7 @@ impl<S: Store> Target<S> {
     fn reservation_conflict(&self, initiator: Initiator, cdb: &[u8]) -> Option<Refusal>
         ensures { result ≡ reservation_conflict self.now.state initiator cdb.now }
     {
-        match Command::class_of(cdb) {
+        match Command::class_in(self.profile(), cdb) {
             Some(class) if !self.reservations.allows(initiator, class) => Some(Refusal::Conflict),
             _ => None,
         }

@@ -2,14 +2,15 @@
 ghost use Rattle.std.specs.Prelude.{◌≡◌};
 
 use crate::call::Call;
+use crate::happening::Happening;
 
 /// An event that happens to a disk.
 #[derive(Clone, Copy)]
 pub enum Event<'a> {
     /// An initiator sends a command.
     Call(Call<'a>),
-    /// Power is lost, and is on again.
-    Power,
+    /// Something happens that no initiator sends.
+    Happen(Happening),
 }
 
 /// An item of a list that is run: a call is an event, too.
@@ -28,7 +29,7 @@ impl ToEvent for Event<'_> {
     fn to_event(&self) -> Event<'_> {
         match self {
             Event::Call(call) => call.to_event(),
-            Event::Power => Event::Power,
+            Event::Happen(happening) => Event::Happen(*happening),
         }
     }
 }

@@ -5,7 +5,7 @@ ghost use Rattle.sg_target.specs.CommandLaws.{WriteSamesLeaveTheirBlock, WritesL
 ghost use Rattle.sg_target.specs.CommandLaws.{WritesOverUsedAddressesHaveSpace};
 ghost use Rattle.sg_target.specs.Laws.{AnchorsEachExtent, LimitsAreKept, UnmapsEachExtent};
 
-/// No command and no power cycle takes a table of the disk past its limit.
+/// No command and no happening takes a table of the disk past its limit.
 pub fn limits_are_kept()
     ensures { LimitsAreKept }
 {

@@ -1,13 +1,11 @@
 // MODE SENSE and MODE SELECT (SPC-4, 6).
-ghost use Rattle.std.specs.Prelude.{◌≡◌, ◌≤◌, ◌<◌, ◌^◌, length};
+ghost use Rattle.std.specs.Prelude.{◌≡◌, ◌≤◌, ◌<◌, ◌^◌, [], length};
 ghost use Rattle.sg_target.specs.Checks.{requested};
 ghost use Rattle.sg_target.specs.Demands.{mode_select, mode_select_6, mode_select_10};
 ghost use Rattle.sg_target.specs.Demands.{mode_sense_6, mode_sense_10};
-ghost use Rattle.sg_target.specs.Execution.{TakesStep};
+ghost use Rattle.sg_target.specs.Charge.{TakesStep, cost_bounds};
 ghost use Rattle.sg_target.specs.ModeCommands.{attentions_after, page_control_of};
 ghost use Rattle.sg_target.specs.ModeCommands.{select_refusal, sense_refusal};
-ghost use Rattle.sg_target.specs.Ranges.{cost_bounds, ranges_in};
-ghost use Rattle.sg_target.specs.Semantics.{effect_of};
 ghost use Rattle.sg_target.specs.State.{IsWithinLimits};
 ghost use Rattle.sg_target.specs.Step.{step_by};
 
@@ -125,8 +123,7 @@ impl<S: Store> Target<S> {
         requires room { BUFFER_LENGTH ≤ length buf.old }
         ensures { let operation = Operation.ReturnModes requested.now allocation_length in
             TakesStep (cost_bounds S.price S.least) (step_by self.old.state initiator operation)
-            (ranges_in (effect_of self.old.state initiator operation))
-            self.old self.new result buf.old buf.new }
+            [] self.old self.new result buf.old buf.new }
     {
         answers_are_in_their_buffers();
         parts_are_put_in_turn();
@@ -215,8 +212,7 @@ impl<S: Store> Target<S> {
         requires limits { IsWithinLimits self.old.state }
         ensures { let operation = Operation.ChangeModes ten sp list.now in
             TakesStep (cost_bounds S.price S.least) (step_by self.old.state initiator operation)
-            (ranges_in (effect_of self.old.state initiator operation))
-            self.old self.new result buf.now buf.now }
+            [] self.old self.new result buf.now buf.now }
     {
         let reason = match self.modes.select(list.bytes, ten, sp, self.config.blocks()) {
             Ok(Changed(changed)) => {

@@ -2,10 +2,10 @@
 ghost use Rattle.std.specs.Prelude.{◌≡◌, ◌≤◌, ◌∷◌, [], length, IfNone};
 ghost use Rattle.sg_target.specs.Checks.{out_of_range, requested};
 ghost use Rattle.sg_target.specs.Demands.{demands};
-ghost use Rattle.sg_target.specs.Execution.{TakesStep};
+ghost use Rattle.sg_target.specs.Charge.{TakesStep, cost_bounds};
 ghost use Rattle.sg_target.specs.Extents.{AreOnDisk};
-ghost use Rattle.sg_target.specs.Ranges.{cost_bounds, ranges_in};
-ghost use Rattle.sg_target.specs.Semantics.{effect_of, medium_use};
+ghost use Rattle.sg_target.specs.Ranges.{ranges_of};
+ghost use Rattle.sg_target.specs.Semantics.{medium_use};
 ghost use Rattle.sg_target.specs.State.{IsWithinLimits};
 ghost use Rattle.sg_target.specs.Step.{step_by};
 
@@ -216,7 +216,7 @@ impl<S: Store> Target<S> {
         requires room { BUFFER_LENGTH ≤ length buf.old }
         ensures { TakesStep (cost_bounds S.price S.least)
             (step_by self.old.state initiator operation.entry)
-            (ranges_in (effect_of self.old.state initiator operation.entry))
+            (ranges_of self.old.state operation.entry)
             self.old self.new result buf.old buf.new }
     {
         match operation {

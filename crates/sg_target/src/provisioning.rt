@@ -1,5 +1,5 @@
 // UNMAP, WRITE SAME and GET LBA STATUS: logical block provisioning (SBC-3, 4.7 and 5).
-ghost use Rattle.std.specs.Prelude.{◌≡◌, ◌+◌, ◌≤◌, length};
+ghost use Rattle.std.specs.Prelude.{◌≡◌, ◌+◌, ◌≤◌, [], ◌∷◌, length};
 ghost use Rattle.std.specs.Prelude.{Some, None, IfOk, IfErr, IfNone};
 ghost use Rattle.std.specs.FinMap.{len};
 ghost use Rattle.sg_wire.specs.UnmapList.{maximum_unmap_descriptors};
@@ -9,13 +9,12 @@ ghost use Rattle.sg_target.specs.Anchoring.{HasAllowedSize};
 ghost use Rattle.sg_target.specs.Checks.{out_of_range, requested, unsupported_value};
 ghost use Rattle.sg_target.specs.Demands.{bad_count, unmap as demands_of_unmap, write_same};
 ghost use Rattle.sg_target.specs.Demands.{write_same_10, write_same_16};
-ghost use Rattle.sg_target.specs.Execution.{TakesStep};
+ghost use Rattle.sg_target.specs.Charge.{IsCounted, TakesStep, cost_bounds};
 ghost use Rattle.sg_target.specs.Extents.{AreOnDisk};
 ghost use Rattle.sg_target.specs.ProvisioningCommands.{anchoring, disk_changed_in_turn, filling};
-ghost use Rattle.sg_target.specs.ProvisioningCommands.{ranges_in_turn, reporting_status};
-ghost use Rattle.sg_target.specs.ProvisioningCommands.{unmap_list_refusal};
+ghost use Rattle.sg_target.specs.ProvisioningCommands.{reporting_status, unmap_list_refusal};
 ghost use Rattle.sg_target.specs.ProvisioningCommands.{unmapping, unmaps};
-ghost use Rattle.sg_target.specs.Ranges.{IsCounted, cost_bounds};
+ghost use Rattle.sg_target.specs.Ranges.{anchoring_ranges, range, ranges_in_turn, status_ranges};
 ghost use Rattle.sg_target.specs.State.{IsWithinLimits};
 ghost use Rattle.sg_target.specs.Step.{executed, executed_or_refused};
 
@@ -86,8 +85,9 @@ impl<S: Store> Target<S> {
     pub(crate) fn unmap_listed(&mut self, listed: &ListedExtents<'_>, buf: &[u8]) -> Reply
         requires on_disk { AreOnDisk self.old.state.disk.capacity listed.now }
         requires limits { IsWithinLimits self.old.state }
-        ensures done { let effect = unmapping self.old.state listed.now in
-            TakesStep (cost_bounds S.price S.least) (executed effect) effect.ranges
+        ensures done { TakesStep (cost_bounds S.price S.least)
+            (executed (unmapping self.old.state listed.now))
+            (ranges_in_turn unmapped self.old.state.disk.contents listed.now)
             self.old self.new result buf.now buf.now }
         ensures mapped { len self.new.state.disk.contents ≤ self.new.state.disk.pool }
     {
@@ -100,8 +100,9 @@ impl<S: Store> Target<S> {
         requires on_disk { AreOnDisk self.old.state.disk.capacity extents.now }
         requires at_most { length extents.now ≤ maximum_unmap_descriptors }
         requires limits { IsWithinLimits self.old.state }
-        ensures done { let effect = unmapping self.old.state extents.now in
-            TakesStep (cost_bounds S.price S.least) (executed effect) effect.ranges
+        ensures done { TakesStep (cost_bounds S.price S.least)
+            (executed (unmapping self.old.state extents.now))
+            (ranges_in_turn unmapped self.old.state.disk.contents extents.now)
             self.old self.new result buf.now buf.now }
         ensures mapped { len self.new.state.disk.contents ≤ self.new.state.disk.pool }
     {
@@ -147,9 +148,9 @@ impl<S: Store> Target<S> {
     ) -> Reply
         requires on_disk { AreOnDisk self.old.state.disk.capacity listed.now }
         requires limits { IsWithinLimits self.old.state }
-        ensures { let effect = anchoring self.old.state listed.now in
-            TakesStep (cost_bounds S.price S.least)
-            (executed_or_refused self.old.state initiator effect) effect.ranges
+        ensures { TakesStep (cost_bounds S.price S.least)
+            (executed_or_refused self.old.state initiator (anchoring self.old.state listed.now))
+            (anchoring_ranges self.old.state.disk.contents listed.now)
             self.old self.new result buf.now buf.now }
     {
         let extents = listed.to_list();
@@ -162,9 +163,9 @@ impl<S: Store> Target<S> {
         requires on_disk { AreOnDisk self.old.state.disk.capacity extents.now }
         requires at_most { length extents.now ≤ maximum_unmap_descriptors }
         requires limits { IsWithinLimits self.old.state }
-        ensures { let effect = anchoring self.old.state extents.now in
-            TakesStep (cost_bounds S.price S.least)
-            (executed_or_refused self.old.state initiator effect) effect.ranges
+        ensures { TakesStep (cost_bounds S.price S.least)
+            (executed_or_refused self.old.state initiator (anchoring self.old.state extents.now))
+            (anchoring_ranges self.old.state.disk.contents extents.now)
             self.old self.new result buf.now buf.now }
     {
         if extents.is_empty() {
@@ -296,9 +297,10 @@ impl<S: Store> Target<S> {
         buf: &[u8],
     ) -> Reply
         requires on_disk { extent.lba + extent.count ≤ self.old.state.disk.capacity }
-        ensures { let effect = filling self.old.state extent block.now in
-            TakesStep (cost_bounds S.price S.least)
-            (executed_or_refused self.old.state initiator effect) effect.ranges
+        ensures { TakesStep (cost_bounds S.price S.least)
+            (executed_or_refused self.old.state initiator
+            (filling self.old.state extent block.now))
+            (range self.old.state.disk.contents extent ∷ [])
             self.old self.new result buf.now buf.now }
     {
         let mut bytes = [0; BLOCK_LENGTH];
@@ -321,8 +323,9 @@ impl<S: Store> Target<S> {
     ) -> Reply
         requires on_disk { start + 1 ≤ self.old.state.disk.capacity }
         requires room { BUFFER_LENGTH ≤ length buf.old }
-        ensures { let effect = reporting_status self.old.state start allocation_length in
-            TakesStep (cost_bounds S.price S.least) (executed effect) effect.ranges
+        ensures { TakesStep (cost_bounds S.price S.least)
+            (executed (reporting_status self.old.state start allocation_length))
+            (status_ranges self.old.state.disk start)
             self.old self.new result buf.old buf.new }
     {
         let limit = BUFFER_LENGTH.min(allocation_length as usize);

@@ -1,15 +1,13 @@
 // PERSISTENT RESERVE IN and PERSISTENT RESERVE OUT (SPC-4, 5.13).
-ghost use Rattle.std.specs.Prelude.{◌≡◌, ◌≤◌, length};
+ghost use Rattle.std.specs.Prelude.{◌≡◌, ◌≤◌, [], length};
 ghost use Rattle.sg_wire.specs.Cut.{Puts};
 ghost use Rattle.sg_wire.specs.CutAnswer.{first_bytes};
 ghost use Rattle.sg_target.specs.Checks.{requested};
 ghost use Rattle.sg_target.specs.Demands.{reserve_out};
-ghost use Rattle.sg_target.specs.Execution.{TakesStep};
-ghost use Rattle.sg_target.specs.Ranges.{cost_bounds, ranges_in};
+ghost use Rattle.sg_target.specs.Charge.{TakesStep, cost_bounds};
 ghost use Rattle.sg_target.specs.Reply.{ReturnsData};
 ghost use Rattle.sg_target.specs.ReservationCommands.{always_needs_type, out_refusal};
 ghost use Rattle.sg_target.specs.ReservationCommands.{reserve_in_data};
-ghost use Rattle.sg_target.specs.Semantics.{effect_of};
 ghost use Rattle.sg_target.specs.State.{IsWithinLimits};
 ghost use Rattle.sg_target.specs.Step.{step_by};
 
@@ -144,8 +142,7 @@ impl<S: Store> Target<S> {
         requires limits { IsWithinLimits self.old.state }
         ensures { let operation = Operation.ChangeReservations action scope_type list.now in
             TakesStep (cost_bounds S.price S.least) (step_by self.old.state initiator operation)
-            (ranges_in (effect_of self.old.state initiator operation))
-            self.old self.new result buf.now buf.now }
+            [] self.old self.new result buf.now buf.now }
     {
         match self.reservations.out(initiator, action, scope_type, list) {
             Ok(raised) => {

@@ -1,9 +1,9 @@
-// Executes lists of commands, with power cycles among them.
-ghost use Rattle.std.specs.Prelude.{◌≡◌, ℕ, ◌+◌, ◌≤◌, List, [], ◌∷◌, ◌++◌, length, map};
+// Executes lists of commands, with happenings among them.
+ghost use Rattle.std.specs.Prelude.{◌≡◌, ◌+◌, ◌≤◌, [], ◌∷◌, ◌++◌, length, map};
 ghost use Rattle.std.specs.Prelude.{OnOk, OnErr};
 ghost use Rattle.sg_target.specs.BlockCommands.{longest_data_in};
-ghost use Rattle.sg_target.specs.Ranges.{cost_bounds};
-ghost use Rattle.sg_target.specs.Runs.{Exchange, RunsEvents, all_calls, exchange};
+ghost use Rattle.sg_target.specs.Charge.{cost_bounds};
+ghost use Rattle.sg_target.specs.Runs.{RunsEvents, SinkFields, all_calls, exchange};
 
 use crate::call::Call;
 use crate::event::{Event, ToEvent};
@@ -17,21 +17,19 @@ pub trait Sink {
     /// Why a reply is refused.
     type Fault;
 
-    /// The replies that were taken, with their data-in.
-    ghost taken: { Self → List Exchange };
-
-    /// The number of refused replies.
-    ghost faults: { Self → ℕ };
+    /// The replies that were taken, with their data-in, and the number of refused replies.
+    ghost fields: { Self → SinkFields };
 
     /// Takes a reply, with its data-in.
     ///
     /// # Errors
     /// The reply was refused, and is not taken.
     fn take(&mut self, reply: &Reply, data_in: &[u8]) -> Result<(), Self::Fault>
-        ensures taken { OnOk result (taken self.new ≡ taken self.old ++ exchange reply.now data_in.now ∷ []) }
-        ensures sound { OnOk result (faults self.new ≡ faults self.old) }
-        ensures refused { OnErr result (taken self.new ≡ taken self.old) }
-        ensures fault { OnErr result (faults self.new ≡ faults self.old + 1) };
+        ensures taken { OnOk result ((fields self.new).taken
+            ≡ (fields self.old).taken ++ exchange reply.now data_in.now ∷ []) }
+        ensures sound { OnOk result ((fields self.new).refused ≡ (fields self.old).refused) }
+        ensures refused { OnErr result ((fields self.new).taken ≡ (fields self.old).taken) }
+        ensures fault { OnErr result ((fields self.new).refused ≡ (fields self.old).refused + 1) };
 }
 
 impl<S: Store> Target<S> {
@@ -53,14 +51,13 @@ impl<S: Store> Target<S> {
         // the state after all calls. Or the sink has refused one. No table passes its limit on the
         // way.
         ensures { RunsEvents (cost_bounds S.price S.least) (all_calls calls.now)
-            self.old self.new (K.taken sink.old) (K.taken sink.new)
-            (K.faults sink.old) (K.faults sink.new) result }
+            self.old self.new (K.fields sink.old) (K.fields sink.new) result }
     {
         self.run_list(calls, buf, sink)
     }
 
-    /// Lets events happen in turn: executes commands as [`Target::run`] does, and power cycles
-    /// between them. A power cycle delivers nothing to the sink.
+    /// Lets events happen in turn: executes commands as [`Target::run`] does, with happenings
+    /// between them. A happening delivers nothing to the sink.
     ///
     /// # Errors
     /// The sink refused a reply. The events up to that one have happened, and none after it.
@@ -72,8 +69,7 @@ impl<S: Store> Target<S> {
     ) -> Result<(), K::Fault>
         requires { longest_data_in ≤ length buf.old }
         ensures { RunsEvents (cost_bounds S.price S.least) events.now
-            self.old self.new (K.taken sink.old) (K.taken sink.new)
-            (K.faults sink.old) (K.faults sink.new) result }
+            self.old self.new (K.fields sink.old) (K.fields sink.new) result }
     {
         self.run_list(events, buf, sink)
     }
@@ -87,8 +83,7 @@ impl<S: Store> Target<S> {
     ) -> Result<(), K::Fault>
         requires { longest_data_in ≤ length buf.old }
         ensures { RunsEvents (cost_bounds S.price S.least) (map E.event list.now)
-            self.old self.new (K.taken sink.old) (K.taken sink.new)
-            (K.faults sink.old) (K.faults sink.new) result }
+            self.old self.new (K.fields sink.old) (K.fields sink.new) result }
     {
         // The store's contract says that its blocks are well formed. The type's invariant, which is
         // known where a field is used, says that the tables are within their limits.
@@ -100,7 +95,7 @@ impl<S: Store> Target<S> {
                     let reply = self.execute(call.initiator, call.cdb, call.data_out, buf);
                     sink.take(&reply, &buf[..reply.data_in])?;
                 }
-                Event::Power => self.power_cycle(),
+                Event::Happen(happening) => self.happen(happening),
             }
         }
         Ok(())

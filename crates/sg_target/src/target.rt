@@ -1,5 +1,6 @@
-// The parts of a target, and its calls: a new one, a command, a power cycle.
+// The parts of a target, and its calls: a new one, a command, a happening.
 use crate::config::Config;
+use crate::happening::Happening;
 use crate::laws::limits_are_kept;
 use crate::refusal::{Reason, Refusal};
 use crate::reply::{Reply, format_of};
@@ -60,9 +61,9 @@ impl<S: Store> Model for Target<S> {
 ghost use Rattle.std.specs.Prelude.{◌≡◌, ◌≤◌, length, IfOk};
 ghost use Rattle.sg_store.specs.Meter.{new_meter};
 ghost use Rattle.sg_target.specs.BlockCommands.{longest_data_in};
+ghost use Rattle.sg_target.specs.Charge.{ChargesCommand, cost_bounds};
 ghost use Rattle.sg_target.specs.Execution.{IsExecuted};
-ghost use Rattle.sg_target.specs.PowerCycle.{CyclesPower};
-ghost use Rattle.sg_target.specs.Ranges.{cost_bounds};
+ghost use Rattle.sg_target.specs.Happenings.{Happens};
 ghost use Rattle.sg_target.specs.Reply.{refused_reply};
 ghost use Rattle.sg_target.specs.State.{new_state};
 ghost use Rattle.sg_target.specs.Step.{after_refusal, sense_format};
@@ -100,9 +101,12 @@ impl<S: Store> Target<S> {
         requires { longest_data_in ≤ length buf.old }
 
         // The answer and the state after it are as in the definition's step. No table passes its
-        // limit, and what the store did is charged for the command's ranges.
-        ensures { IsExecuted (cost_bounds S.price S.least) initiator cdb.now data_out.now
+        // limit.
+        ensures executed { IsExecuted initiator cdb.now data_out.now
             self.old self.new result buf.old buf.new }
+        // What the store did is charged for the command's ranges.
+        ensures charged { ChargesCommand (cost_bounds S.price S.least) initiator cdb.now data_out.now
+            self.old self.new result }
     {
         limits_are_kept();
         match self.check_command(initiator, cdb, data_out) {
@@ -111,11 +115,20 @@ impl<S: Store> Target<S> {
         }
     }
 
+    /// Lets something happen to the disk, between two commands.
+    pub fn happen(&mut self, happening: Happening)
+        ensures { Happens happening self.old self.new }
+    {
+        match happening {
+            Happening::Power => self.power_cycle(),
+        }
+    }
+
     /// A power cycle. The blocks are as they were, and the saved mode pages are the current ones.
     /// Registrations and reservation are as they were if they persist through a power loss, and
     /// gone if not; PRGENERATION is 0. Only POWER ON is pending for each initiator.
     pub fn power_cycle(&mut self)
-        ensures { CyclesPower self.old self.new }
+        ensures { Happens Happening.Power self.old self.new }
     {
         // Its contract says that the blocks are well formed.
         let _ = self.store.used();

@@ -1,7 +1,7 @@
 // The words of a tool become a command with its parameter list, and these become bytes.
 ghost use Rattle.std.specs.Prelude.{◌≡◌, ◌≤◌, Ok, length, map};
 ghost use Rattle.sg_wire.specs.CutAnswer.{overwritten};
-ghost use Rattle.sg_wire.specs.Layout.{cdb_of};
+ghost use Rattle.sg_wire.specs.CdbEncoding.{cdb_of};
 ghost use Rattle.sg_tools.specs.GivenOptions.{IsUnlessOutOfMemory};
 ghost use Rattle.sg_tools.specs.ParameterLists.{max_data_out, parameter_list};
 ghost use Rattle.sg_tools.specs.Requests.{asks, request, request_of};

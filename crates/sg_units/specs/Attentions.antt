@@ -4,7 +4,7 @@ use Rattle.std.specs.Prelude.{length, drop, slice_get, slice_index_or, slice_set
 use Rattle.std.specs.Prelude.{Option, Some, None}
 use Rattle.std.specs.List.{list_any}
 use Rattle.sg_wire.specs.Initiator.{initiator_count}
-use Rattle.sg_units.specs.UnitAttention.{number_of}
+use Rattle.sg_units.specs.UnitAttention.{condition_count, number_of}
 use Rattle.sg_units.specs.declared.unit_attention.UnitAttention.{UnitAttention}
 use Rattle.sg_units.specs.declared.unit_attention.UnitAttention.TheVariants.{PowerOn}
 
@@ -55,10 +55,6 @@ with_optional queue None = queue
 with_optional queue (Some condition) = with_condition queue condition
 
 -- ---- Limits
-
--- The number of conditions that exist.
-abbrev pub condition_count : ℕ
-condition_count = 5
 
 -- A condition differs from all conditions in a queue.
 abbrev pub IsNotAmong : UnitAttention → List UnitAttention → Type 0

@@ -1,10 +1,24 @@
 -- Unit attention conditions (SAM-5, 5.14).
-use Rattle.std.specs.Prelude.{ℕ, ◌+◌, ◌*◌}
+use Rattle.std.specs.Prelude.{ℕ, ◌+◌, ◌*◌, List, [], ◌∷◌, length}
 use Rattle.sg_units.specs.declared.unit_attention.UnitAttention.{UnitAttention}
 use Rattle.sg_units.specs.declared.unit_attention.UnitAttention.TheVariants.{PowerOn, ModeParametersChanged}
 use Rattle.sg_units.specs.declared.unit_attention.UnitAttention.TheVariants.{ReservationsPreempted}
 use Rattle.sg_units.specs.declared.unit_attention.UnitAttention.TheVariants.{ReservationsReleased}
 use Rattle.sg_units.specs.declared.unit_attention.UnitAttention.TheVariants.{RegistrationsPreempted}
+
+-- Each condition once.
+abbrev pub each_condition : List UnitAttention
+each_condition =
+    PowerOn
+    ∷ ModeParametersChanged
+    ∷ ReservationsPreempted
+    ∷ ReservationsReleased
+    ∷ RegistrationsPreempted
+    ∷ []
+
+-- The number of conditions.
+abbrev pub condition_count : ℕ
+condition_count = length each_condition
 
 -- The additional sense code and qualifier of a condition (SPC-4, additional sense codes).
 abbrev pub code_of : UnitAttention → ℕ × ℕ

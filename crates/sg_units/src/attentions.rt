@@ -6,10 +6,10 @@ use std::array;
 use std::marker::Model;
 
 /// The most conditions that can be pending for an initiator: as many as exist.
-const MAX_PENDING: usize = 5;
+const MAX_PENDING: usize = UnitAttention::COUNT;
 
 /// The unit attention conditions that are pending for each initiator, the oldest first (SAM-5,
-/// 5.14). For one initiator none is pending twice, so at most five are.
+/// 5.14). For one initiator none is pending twice, so at most [`UnitAttention::COUNT`] are.
 #[derive(Drop)]
 pub struct Attentions {
     pending: [ArrayVec<UnitAttention, MAX_PENDING>; Initiator::COUNT],

@@ -10,22 +10,12 @@ use sg_wire::Initiator;
 use std::marker::Model;
 
 /// An initiator that is registered, a registrant, and its reservation key (SPC-4, 5.13).
-#[derive(Clone, Copy)]
+#[derive(Clone, Copy, Default)]
 pub struct Registration {
     /// The registrant.
     pub initiator: Initiator,
     /// The reservation key.
     pub key: u64,
-}
-
-// The value in the places of a table that are not in use.
-impl Default for Registration {
-    fn default() -> Registration {
-        match Initiator::new(0) {
-            Some(initiator) => Registration { initiator, key: 0 },
-            None => unreachable!(),
-        }
-    }
 }
 
 impl Registration {

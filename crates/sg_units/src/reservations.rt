@@ -12,6 +12,10 @@ const TMV: u8 = 0x80;
 
 const PTPL_A: u8 = 0x01;
 
+// PERSISTENT RESERVATION TYPE MASK. Byte 4: WR_EX_AR, EX_AC_RO, WR_EX_RO, EX_AC and WR_EX. Byte 5:
+// EX_AC_AR.
+const TYPE_MASK: [u8; 2] = [0xEA, 0x01];
+
 /// The registered initiators and their keys, the persistent reservation and its holder,
 /// PRGENERATION, and whether a power loss leaves these (SPC-4, 5.13).
 #[derive(Drop)]
@@ -168,7 +172,8 @@ impl Reservations {
         } else {
             TMV
         };
-        cut.put(&[0x00, 0x08, PTPL_C, flags, 0xEA, 0x01, 0x00, 0x00]);
+        let [first, second] = TYPE_MASK;
+        cut.put(&[0x00, 0x08, PTPL_C, flags, first, second, 0x00, 0x00]);
     }
 }
 

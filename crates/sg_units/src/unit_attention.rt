@@ -19,6 +19,9 @@ pub enum UnitAttention {
 }
 
 impl UnitAttention {
+    /// The number of conditions.
+    pub const COUNT: usize = 5;
+
     /// Its additional sense code and additional sense code qualifier.
     pub fn code(self) -> (u8, u8)
         ensures { result ≡ code_of self }

@@ -1,93 +1,126 @@
--- The class of a CDB is the class of its command.
+-- The command of a CDB has the operation code, the profile and the class of the row that made it.
 use Rattle.std.proofs.Common.{◌≡◌, ℕ, List, [], ◌∷◌, length, map, filter, Option, Some, None}
-use Rattle.std.proofs.Common.{Result}
-use Rattle.std.proofs.Common.{Ok, Err, Bool, true, false, cond, refl, sym, ap, ◌∙◌}
-use Rattle.std.specs.Prelude.{◌==◌, find, nat_lt, if◌then◌else◌}
+use Rattle.std.proofs.Common.{Result, Ok, Err, Bool, true, false, cond, refl, sym, ap, subst, ◌∙◌}
+use Rattle.std.specs.Prelude.{◌==◌, ◌&&◌, find, nat_lt, if◌then◌else◌}
 use Rattle.std.specs.Option.{option_map_or}
-use Rattle.sg_wire.specs.Layout.{Layout, class_by_rows, class_of, command_by_row}
-use Rattle.sg_wire.specs.Layout.{command_by_rows, command_of, command_with, each_command, first_bad}
-use Rattle.sg_wire.specs.Layout.{has_action_of, layout, length_of, make_from, masks, rows_of}
-use Rattle.sg_wire.specs.Layout.{unless_bad}
+use Rattle.sg_wire.specs.CdbDecoding.{class_by_rows, class_in, command_by_row, command_by_rows}
+use Rattle.sg_wire.specs.CdbDecoding.{command_in, first_bad, has_action_of, make_from, masks, rows_in}
+use Rattle.sg_wire.specs.CdbDecoding.{unless_bad}
+use Rattle.sg_wire.specs.Layout.{Layout, each_command, layout, length_of}
+use Rattle.sg_wire.specs.Profile.{is_in}
 use Rattle.sg_wire.specs.declared.command.CdbFault.{CdbFault}
 use Rattle.sg_wire.specs.declared.command.CdbFault.TheVariants.{Short}
-use Rattle.sg_wire.specs.declared.command.Class.{Class}
 use Rattle.sg_wire.specs.declared.command.Class.TheVariants.{Always}
 use Rattle.sg_wire.specs.declared.command.Command.{Command}
 use Rattle.sg_wire.specs.declared.command.Command.TheVariants as command
+use Rattle.sg_wire.specs.declared.profile.Profile.{Profile}
 
--- a row makes commands of its class
+-- two layouts of one row, that may differ in the values of its fields
+abbrev AreOfOneRow : Layout → Layout → Type 0
+AreOfOneRow l m = (l.class ≡ m.class) × (l.opcode ≡ m.opcode) × (l.profile ≡ m.profile)
+
+-- a row makes commands of its own
 abbrev Makes : Layout → Type 0
-Makes l = (cdb : List ℕ) → (layout (make_from cdb l.fields l.make)).class ≡ l.class
+Makes l = (cdb : List ℕ) → AreOfOneRow (layout (make_from cdb l.fields l.make)) l
 
 makes : (command : Command) → Makes (layout command)
-makes command.TestUnitReady cdb = refl
-makes other cdb = refl
+makes command.TestUnitReady cdb = (refl, refl, refl)
+makes other cdb = (refl, refl, refl)
 
-abbrev AllMake : List Layout → Type 0
-AllMake [] = Unit {0}
-AllMake (l ∷ ls) = Makes l × AllMake ls
+-- the row that made a command of a CDB, among the rows with a property
+pub record MadeByRow (property : Layout → Bool) (cdb : List ℕ) (rows : List Layout)
+    (command : Command) : Type 0 where
+  pub row : Layout
+  pub found : find (has_action_of cdb) rows ≡ Some row
+  pub is_its : AreOfOneRow (layout command) row
+  pub holds : property row ≡ true
 
-all-make : (commands : List Command) → AllMake (map layout commands)
-all-make [] = tt
-all-make (command ∷ commands) = (makes command, all-make commands)
+module _ (property : Layout → Bool) where
+  abbrev IsOf : Layout → Type 0
+  IsOf l = Makes l × (property l ≡ true)
 
-kept : (b : Bool) (l : Layout) (ls : List Layout) → Makes l → AllMake ls
-    → AllMake (cond b (l ∷ ls) ls)
-kept true l ls h k = (h, k)
-kept false l ls h k = k
+  abbrev AreOf : List Layout → Type 0
+  AreOf [] = Unit {0}
+  AreOf (l ∷ ls) = IsOf l × AreOf ls
 
-filter-make : (p : Layout → Bool) (ls : List Layout) → AllMake ls → AllMake (filter p ls)
-filter-make p [] h = tt
-filter-make p (l ∷ ls) h = kept (p l) l (filter p ls) h.0 (filter-make p ls h.1)
+  kept : (b : Bool) (l : Layout) (ls : List Layout) → property l ≡ b → Makes l → AreOf ls
+      → AreOf (cond b (l ∷ ls) ls)
+  kept true l ls e h k = ((h, e), k)
+  kept false l ls e h k = k
 
-abbrev MakesIfFound : Option Layout → Type 0
-MakesIfFound None = Unit {0}
-MakesIfFound (Some l) = Makes l
+  are-of : (commands : List Command) → AreOf (filter property (map layout commands))
+  are-of [] = tt
+  are-of (c ∷ commands) =
+      kept (property (layout c)) (layout c) (filter property (map layout commands)) refl (makes c)
+      (are-of commands)
 
-found-first : (b : Bool) (l : Layout) (later : Option Layout) → Makes l → MakesIfFound later
-    → MakesIfFound (cond b (Some l) later)
-found-first true l later h k = h
-found-first false l later h k = k
+  abbrev IsOfIfFound : Option Layout → Type 0
+  IsOfIfFound None = Unit {0}
+  IsOfIfFound (Some l) = IsOf l
 
-find-makes : (p : Layout → Bool) (ls : List Layout) → AllMake ls → MakesIfFound (find p ls)
-find-makes p [] h = tt
-find-makes p (l ∷ ls) h = found-first (p l) l (find p ls) h.0 (find-makes p ls h.1)
+  found-first : (b : Bool) (l : Layout) (later : Option Layout) → IsOf l → IsOfIfFound later
+      → IsOfIfFound (cond b (Some l) later)
+  found-first true l later h k = h
+  found-first false l later h k = k
 
--- The class that a found row gives a CDB is the class of the command that the row makes.
-made : (bad : Option ℕ) (command other : Command) (class : Class) → (layout other).class ≡ class
-    → unless_bad bad other ≡ Ok command → class ≡ (layout command).class
-made None command other class h e =
-    let same : other ≡ command = cc in
-    sym h ∙ ap (λ (c : Command). (layout c).class) same
-made (Some byte) command other class h e = cc
+  find-of : (p : Layout → Bool) (ls : List Layout) → AreOf ls → IsOfIfFound (find p ls)
+  find-of p [] h = tt
+  find-of p (l ∷ ls) h = found-first (p l) l (find p ls) h.0 (find-of p ls h.1)
 
-by_row : (cdb : List ℕ) (found : Option Layout) (command : Command) → MakesIfFound found
-    → command_by_row cdb found ≡ Ok command
-    → option_map_or (λ (l : Layout). l.class) found Always ≡ (layout command).class
-by_row cdb None command h e = cc
-by_row cdb (Some l) command h e =
-    made (first_bad 0 (masks l) cdb) command (make_from cdb l.fields l.make) l.class (h cdb) e
+  made : (bad : Option ℕ) (command other : Command) (l : Layout) → AreOfOneRow (layout other) l
+      → unless_bad bad other ≡ Ok command → AreOfOneRow (layout command) l
+  made None command other l h e =
+      let same : other ≡ command = cc in
+      subst (λ (c : Command). AreOfOneRow (layout c) l) same h
+  made (Some byte) command other l h e = cc
 
-unless_short : (is_short : Bool) (count : ℕ) (parse : Result Command CdbFault) (command : Command)
-    → (if is_short then Err (Short count) else parse) ≡ Ok command → parse ≡ Ok command
-unless_short true count parse command e = cc
-unless_short false count parse command e = e
+  module _ (cdb : List ℕ) (command : Command) where
+    by_row : (rows : List Layout) (found : Option Layout) → find (has_action_of cdb) rows ≡ found
+        → IsOfIfFound found → command_by_row cdb found ≡ Ok command
+        → MadeByRow property cdb rows command
+    by_row rows None is h e = cc
+    by_row rows (Some l) is h e = record {
+      row = l;
+      found = is;
+      is_its = made (first_bad 0 (masks l) cdb) command (make_from cdb l.fields l.make) l (h.0 cdb) e;
+      holds = h.1;
+    }
 
-by_rows : (cdb : List ℕ) (rows : List Layout) (command : Command) → AllMake rows
-    → command_by_rows cdb rows ≡ Ok command
-    → class_by_rows cdb rows ≡ Some (layout command).class
-by_rows cdb [] command h e = cc
-by_rows cdb (l ∷ ls) command h e =
-    ap Some
-    (by_row cdb (find (has_action_of cdb) (l ∷ ls)) command
-    (find-makes (has_action_of cdb) (l ∷ ls) h)
-    (unless_short (nat_lt (length cdb) (length_of l.opcode)) (length cdb) _ command e))
+    unless_short : (is_short : Bool) (count : ℕ) (parse : Result Command CdbFault)
+        → (if is_short then Err (Short count) else parse) ≡ Ok command → parse ≡ Ok command
+    unless_short true count parse e = cc
+    unless_short false count parse e = e
 
-pub class_of-command : (cdb : List ℕ) (command : Command) → command_of cdb ≡ Ok command
-    → class_of cdb ≡ Some (layout command).class
-unfolding class_of command_of command_with
-class_of-command [] command e = cc
-class_of-command (opcode ∷ rest) command e =
-    by_rows (opcode ∷ rest) (rows_of opcode) command
-    (filter-make (λ (l : Layout). l.opcode == opcode) (map layout each_command)
-    (all-make each_command)) e
+    by_rows : (rows : List Layout) → AreOf rows → command_by_rows cdb rows ≡ Ok command
+        → MadeByRow property cdb rows command
+    by_rows [] h e = cc
+    by_rows (l ∷ ls) h e =
+        by_row (l ∷ ls) (find (has_action_of cdb) (l ∷ ls)) refl
+        (find-of (has_action_of cdb) (l ∷ ls) h)
+        (unless_short (nat_lt (length cdb) (length_of l.opcode)) (length cdb) _ e)
+
+-- the rows of an operation code that a profile has
+abbrev pub is_row_in : Profile → ℕ → Layout → Bool
+is_row_in profile opcode l = l.opcode == opcode && is_in l.profile profile
+
+pub made-by_row : (profile : Profile) (opcode : ℕ) (rest : List ℕ) (command : Command)
+    → command_in profile (opcode ∷ rest) ≡ Ok command
+    → MadeByRow (is_row_in profile opcode) (opcode ∷ rest) (rows_in profile opcode) command
+unfolding command_in
+made-by_row profile opcode rest command e =
+    by_rows (is_row_in profile opcode) (opcode ∷ rest) command (rows_in profile opcode)
+    (are-of (is_row_in profile opcode) each_command) e
+
+class-by_rows : (cdb : List ℕ) (rows : List Layout) (l : Layout)
+    → find (has_action_of cdb) rows ≡ Some l → class_by_rows cdb rows ≡ Some l.class
+class-by_rows cdb [] l e = cc
+class-by_rows cdb (first ∷ ls) l e =
+    ap (λ (found : Option Layout). Some (option_map_or (λ (l : Layout). l.class) found Always)) e
+
+pub class-of_command : (profile : Profile) (cdb : List ℕ) (command : Command)
+    → command_in profile cdb ≡ Ok command → class_in profile cdb ≡ Some (layout command).class
+unfolding class_in command_in
+class-of_command profile [] command e = cc
+class-of_command profile (opcode ∷ rest) command e =
+    let m = made-by_row profile opcode rest command e in
+    class-by_rows (opcode ∷ rest) (rows_in profile opcode) m.row m.found ∙ ap Some (sym m.is_its.0)

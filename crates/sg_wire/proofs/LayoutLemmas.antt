@@ -7,7 +7,7 @@ use Rattle.std.proofs.lemmas.List.{drop_more, drop_all}
 use Rattle.std.proofs.Math.Nat.{mod-eq_of_lt}
 use Rattle.byteorder.specs.Endian.{big_bytes, big_number}
 use Rattle.byteorder.specs.Numbers.{big_from-bytes}
-use Rattle.sg_wire.specs.Layout.{first_bad}
+use Rattle.sg_wire.specs.CdbDecoding.{first_bad}
 
 -- one more byte
 pub first_bad-more : (masks bytes : List ℕ) (k : ℕ) → k < length masks → k < length bytes →

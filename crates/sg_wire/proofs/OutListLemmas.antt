@@ -2,7 +2,7 @@
 use Rattle.std.proofs.Common.{◌≡◌, ◌<◌, ◌^◌, ℕ, List, [], ◌∷◌, ◌++◌, Bool, true, false, refl, ap, ◌∙◌}
 use Rattle.byteorder.specs.Endian.{big_bytes, big_number}
 use Rattle.byteorder.specs.Numbers.{big_number-reads_back}
-use Rattle.sg_wire.specs.Layout.{has_bit}
+use Rattle.sg_wire.specs.Bits.{has_bit}
 use Rattle.sg_wire.specs.OutList.{out_list, out_list_bytes}
 use Rattle.sg_wire.specs.declared.out_list.OutList.{OutList}
 

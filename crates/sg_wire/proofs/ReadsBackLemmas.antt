@@ -19,15 +19,19 @@ use Rattle.sg_wire.specs.declared.command.out_action.OutAction.TheVariants.{Clea
 use Rattle.sg_wire.specs.declared.command.Command.{Command}
 use Rattle.sg_wire.specs.declared.command.Command.TheVariants as command
 use Rattle.sg_wire.specs.Commands.{reserve_in, reserve_out}
-use Rattle.sg_wire.specs.Layout.{Field, Place, Value, Layout, Maker, layout, cdb_of}
-use Rattle.sg_wire.specs.Layout.{action_place, bits_of, command_of, command_with, has_bit}
-use Rattle.sg_wire.specs.Layout.{shifted_right}
-use Rattle.sg_wire.specs.Layout.{blocks_of, joined, part_in, mask_in, mask_of, masks, first_bad}
-use Rattle.sg_wire.specs.Layout.{length_of, unless_bad}
-use Rattle.sg_wire.specs.Layout.Place.{bit, bits, bytes, short_extent}
+use Rattle.sg_wire.specs.CdbDecoding.{command_in, first_bad, mask_of, masks, unless_bad}
+use Rattle.sg_wire.specs.CdbEncoding.{cdb_of, joined, part_in}
+use Rattle.sg_wire.specs.Bits.{bits_of, has_bit}
+use Rattle.sg_wire.specs.CdbFields.{Field, Place, Value, blocks_of, mask_in}
+use Rattle.sg_wire.specs.Bits.{shifted_right}
+use Rattle.sg_wire.specs.Layout.{Layout, Maker, action_place, layout, length_of}
+use Rattle.sg_wire.specs.CdbFields.Place.{bit, bits, bytes, short_extent}
 use Rattle.sg_wire.specs.Layout.ServiceAction.{none, named}
 use Rattle.sg_wire.specs.FieldRoom.{fits_cdb, has_room, have_room}
+use Rattle.sg_wire.specs.Laws.{IsReadAs}
+use Rattle.sg_wire.specs.declared.profile.Profile.TheVariants.{Extended}
 use Rattle.sg_wire.proofs.LayoutLemmas.{number_again}
+use Rattle.sg_wire.proofs.ProfileLemmas.{first-byte, read-same}
 
 -- ---- numbers and masks
 
@@ -312,11 +316,10 @@ module _ (l : Layout) where
         ∙ ap Ok (again ∙ is_own)
 
 abbrev ReadsBack : Command → Type 0
-ReadsBack command = fits_cdb command ≡ true → command_of (cdb_of command) ≡ Ok command
+ReadsBack command = fits_cdb command ≡ true → command_in Extended (cdb_of command) ≡ Ok command
 
-pub reads_back : (command : Command) → fits_cdb command ≡ true
-    → command_of (cdb_of command) ≡ Ok command
-unfolding command_of command_with cdb_of
+reads_back : (command : Command) → ReadsBack command
+unfolding command_in cdb_of
 reads_back (command.PersistentReserveIn c) h =
     (elim c.action as (λ a. ReadsBack (reserve_in a c.allocation_length)) [
       | ReadKeys ↦ λ h. decoded (layout (reserve_in ReadKeys c.allocation_length)) h _ refl refl
@@ -328,3 +331,8 @@ reads_back (command.PersistentReserveOut c) h =
       | a ↦ λ h. decoded (layout (reserve_out a c.scope_type c.list_length)) h _ refl refl
     ]) h
 reads_back command h = decoded (layout command) h command refl refl
+
+-- on each disk that has the command
+pub is_read-back : (command : Command) → fits_cdb command ≡ true → IsReadAs (cdb_of command) command
+is_read-back command h profile has =
+    read-same profile command (cdb_of command) has (first-byte command) ∙ reads_back command h

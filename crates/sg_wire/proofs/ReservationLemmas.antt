@@ -9,9 +9,10 @@ use Rattle.sg_wire.specs.declared.command.out_action.OutAction.{OutAction}
 use Rattle.sg_wire.specs.Commands.{reserve_out}
 use Rattle.sg_wire.specs.declared.command.CdbFault.{CdbFault}
 use Rattle.sg_wire.specs.declared.command.CdbFault.TheVariants.{Short}
-use Rattle.sg_wire.specs.Layout.{Layout, layout, has_action_of, command_by_row}
-use Rattle.sg_wire.specs.Layout.{command_with, masks, first_bad, fits_masks, service_action}
-use Rattle.sg_wire.specs.Layout.{unless_bad}
+use Rattle.sg_wire.specs.CdbDecoding.{command_by_row, first_bad, has_action_of, masks}
+use Rattle.sg_wire.specs.CdbDecoding.{service_action, unless_bad}
+use Rattle.sg_wire.specs.Layout.{Layout, layout}
+use Rattle.sg_wire.specs.Table.{command_with, fits_masks}
 use Rattle.sg_wire.specs.ReservationAction.{out_code, each_out_action, out_action_with}
 
 abbrev out_row : OutAction → Layout

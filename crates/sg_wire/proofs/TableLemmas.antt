@@ -1,21 +1,24 @@
 -- The code's table and the definition's table agree on each CDB.
 use Rattle.std.proofs.Common.{◌≡◌, ◌≢◌, ◌<◌, ◌≤◌, ℕ, ◌==◌, List, [], ◌∷◌, length, get_or, map, Bool}
 use Rattle.std.proofs.Common.{true, false, Option, Some, None, Ok, Err, Result, cond, refl, sym, subst}
-use Rattle.std.proofs.Common.{ap, ◌∙◌, ◌⊎◌, inl, inr, arith}
+use Rattle.std.proofs.Common.{ap, ◌∙◌, arith}
 use Rattle.std.proofs.lemmas.Bool.Decides.{nat_tests}
+use Rattle.std.specs.Borrow.{Bor}
 use Rattle.std.specs.List.{list_all}
 use Rattle.std.specs.Option.{option_map_or}
 use Rattle.std.specs.Prelude.{find, nat_lt, if◌then◌else◌, IfErr, OnOk}
-use Rattle.sg_wire.specs.Layout.{Layout, bits_of, class_by_rows, class_of, command_by_rows}
-use Rattle.sg_wire.specs.Layout.{command_of, command_with, first_bad, fits_masks, has_action_of}
-use Rattle.sg_wire.specs.Layout.{is_blocked_by_attention, layout, make_from}
-use Rattle.sg_wire.specs.Layout.{masks, unless_bad}
+use Rattle.sg_wire.specs.CdbDecoding.{class_by_rows, class_in, command_by_row, command_by_rows}
+use Rattle.sg_wire.specs.CdbDecoding.{command_in, first_bad, has_action_of, is_blocked_in, make_from}
+use Rattle.sg_wire.specs.CdbDecoding.{masks, rows_in, service_action, unless_bad}
 use Rattle.sg_wire.specs.Commands.{reserve_in, reserve_out}
+use Rattle.sg_wire.specs.Layout.{Layout, layout, length_of}
+use Rattle.sg_wire.specs.Profile.{is_in}
 use Rattle.sg_wire.specs.ReservationAction.{each_in_action, each_out_action}
-use Rattle.sg_wire.specs.Table.{HasAction, IsDecoded, IsFound, IsNamed, IsRefused, blocked_found}
-use Rattle.sg_wire.specs.Table.{class_found, layout_of}
+use Rattle.sg_wire.specs.Table.{HasAction, IsDecoded, IsFound, IsNamed, IsNamedByNone, IsRefused}
+use Rattle.sg_wire.specs.Table.{IsRow, blocked_found, class_found, command_named, command_of_name}
+use Rattle.sg_wire.specs.Table.{command_with, fits_masks, layout_of}
 use Rattle.sg_wire.specs.declared.command.CdbFault.{CdbFault}
-use Rattle.sg_wire.specs.declared.command.CdbFault.TheVariants.{Opcode, Short, Field as BadField}
+use Rattle.sg_wire.specs.declared.command.CdbFault.TheVariants.{Empty, Opcode, Short, Field as BadField}
 use Rattle.sg_wire.specs.declared.command.Class.{Class}
 use Rattle.sg_wire.specs.declared.command.Class.TheVariants.{Always}
 use Rattle.sg_wire.specs.declared.command.table.Found.{Found}
@@ -23,6 +26,10 @@ use Rattle.sg_wire.specs.declared.command.table.Found.TheVariants.{Row as FoundR
 use Rattle.sg_wire.specs.declared.command.table.Found.TheVariants.{NoOpcode}
 use Rattle.sg_wire.specs.declared.command.table.Name.{Name}
 use Rattle.sg_wire.specs.declared.command.table.Name.TheVariants as name
+use Rattle.sg_wire.specs.declared.command.table.Row.{Row}
+use Rattle.sg_wire.specs.declared.profile.Profile.{Profile}
+use Rattle.sg_wire.specs.declared.profile.Profile.TheVariants.{Extended}
+use Rattle.sg_wire.proofs.ProfileLemmas.{none-in, rows-none, rows-same}
 
 abbrev unless_short : {A : Type 0} → (is_short : Bool) → List ℕ → Result A CdbFault → Result A CdbFault
 unless_short is_short cdb read = if is_short then Err (Short (length cdb)) else read
@@ -42,53 +49,47 @@ refused made cdb true bad fault e = cc
 refused made cdb false None fault e = cc
 refused made cdb false (Some byte) fault e = cc
 
--- the layouts whose operation code and service action no other layout has
-abbrev Decodes : List ℕ → Name → Type 0
-Decodes cdb name.PersistentReserveIn = Unit {0}
-Decodes cdb name.PersistentReserveOut = Unit {0}
-Decodes cdb named =
-    let l = layout_of named in
-    command_with l.opcode cdb
-    ≡ unless_short (nat_lt (length cdb) (length (masks l))) cdb
-    (unless_bad (first_bad 0 (masks l) cdb) (make_from cdb l.fields l.make))
+by_result : {A : Type 0} (made : A) (cdb : List ℕ) (is_short : Bool) (bad : Option ℕ)
+    (checked : Result Unit CdbFault) → checked ≡ unless_short is_short cdb (unless_bad bad (tt {0}))
+    → OnOk checked (unless_short is_short cdb (unless_bad bad made) ≡ Ok made)
+    × IfErr checked (λ fault. unless_short is_short cdb (unless_bad bad made) ≡ Err fault)
+by_result made cdb is_short bad (Ok tt) e = (fits made cdb is_short bad (sym e), tt)
+by_result made cdb is_short bad (Err fault) e = (tt, refused made cdb is_short bad fault (sym e))
 
-pub decodes : (cdb : List ℕ) (named : Name) → HasAction cdb named → Decodes cdb named
-unfolding command_with
-decodes cdb name.PersistentReserveIn h = tt
-decodes cdb name.PersistentReserveOut h = tt
-decodes cdb name.ReadCapacity16 h = rw h refl
-decodes cdb name.GetLbaStatus h = rw h refl
-decodes cdb named h = refl
-
-abbrev Decides : List ℕ → Name → Type 0
-Decides cdb named = (fits_masks (masks (layout_of named)) cdb ≡ Ok (tt {0}) → IsDecoded cdb named)
-    × ((fault : CdbFault) → fits_masks (masks (layout_of named)) cdb ≡ Err fault
-    → IsRefused cdb named fault)
-
-pub decides : (cdb : List ℕ) (named : Name) → Decodes cdb named → Decides cdb named
-unfolding fits_masks
-decides cdb name.PersistentReserveIn d = ((λ e. tt), (λ fault e. tt))
-decides cdb name.PersistentReserveOut d = ((λ e. tt), (λ fault e. tt))
-decides cdb named d =
-    let l = layout_of named in
-    let made = make_from cdb l.fields l.make in
-    let is_short = nat_lt (length cdb) (length (masks l)) in
-    let bad = first_bad 0 (masks l) cdb in
-    ((λ e. d ∙ fits made cdb is_short bad e), (λ fault e. d ∙ refused made cdb is_short bad fault e))
+-- a row is as long as the CDBs of its operation code
+whole-row : (named : Name) → length (masks (layout_of named)) ≡ length_of (layout_of named).opcode
+whole-row name.TestUnitReady = refl
+whole-row named = refl
 
 -- the masks of a row decide whether its command is decoded
 pub row-decides : (cdb : List ℕ) (named : Name) (bits : List ℕ) (checked : Result Unit CdbFault)
-    → HasAction cdb named → bits ≡ masks (layout_of named) → checked ≡ fits_masks bits cdb
+    → bits ≡ masks (layout_of named) → checked ≡ fits_masks bits cdb
     → OnOk checked (IsDecoded cdb named) × IfErr checked (IsRefused cdb named)
-row-decides cdb named bits (Ok tt) h m e =
-    ((decides cdb named (decodes cdb named h)).0 (rw (← m) (sym e)), tt)
-row-decides cdb named bits (Err fault) h m e =
-    (tt, (decides cdb named (decodes cdb named h)).1 fault (rw (← m) (sym e)))
+unfolding fits_masks
+row-decides cdb named bits checked m e =
+    let l = layout_of named in
+    let made = make_from cdb l.fields l.make in
+    let is_short = nat_lt (length cdb) (length_of l.opcode) in
+    let bad = first_bad 0 (masks l) cdb in
+    let same : checked ≡ unless_short is_short cdb (unless_bad bad (tt {0})) =
+    e ∙ ap (λ (bits : List ℕ). fits_masks bits cdb) m
+    ∙ ap (λ n. unless_short (nat_lt (length cdb) n) cdb (unless_bad bad (tt {0}))) (whole-row named) in
+    by_result made cdb is_short bad checked same
 
 -- no command has more than 16 bytes
 pub at_most_16 : (named : Name) → length (masks (layout_of named)) ≤ 16
 at_most_16 name.TestUnitReady = omega arith
 at_most_16 named = omega arith
+
+-- the name of a CDB's row decides its command
+decodes : (cdb : List ℕ) (named : Name) → HasAction cdb named
+    → command_with (layout_of named).opcode cdb ≡ command_of_name named cdb
+unfolding command_with
+decodes cdb name.PersistentReserveIn h = refl
+decodes cdb name.PersistentReserveOut h = refl
+decodes cdb name.ReadCapacity16 h = rw h refl
+decodes cdb name.GetLbaStatus h = rw h refl
+decodes cdb named h = refl
 
 -- ---- what the table has for a CDB
 
@@ -110,13 +111,13 @@ module _ {A : Type 0} (row : A → Layout) (h : (action : A) → (row action).cl
       (find (has_action_of cdb) (map row actions)) (h action) (always-found cdb actions)
 
 -- the class, and whether an attention blocks, by the name of a row
-abbrev Agrees : List ℕ → Name → Type 0
-Agrees cdb named = (class_of cdb ≡ Some (layout_of named).class)
-    × (is_blocked_by_attention cdb ≡ (layout_of named).blocked_by_attention)
+abbrev Agrees : Profile → List ℕ → Name → Type 0
+Agrees profile cdb named = (class_in profile cdb ≡ Some (layout_of named).class)
+    × (is_blocked_in profile cdb ≡ (layout_of named).blocked_by_attention)
 
 agrees : (named : Name) (rest : List ℕ) → HasAction ((layout_of named).opcode ∷ rest) named
-    → Agrees ((layout_of named).opcode ∷ rest) named
-unfolding class_of is_blocked_by_attention
+    → Agrees Extended ((layout_of named).opcode ∷ rest) named
+unfolding class_in is_blocked_in
 agrees name.PersistentReserveIn rest h = (
   ap Some (always-found (λ action. layout (reserve_in action 0)) (λ action. refl) (0x5E ∷ rest)
       each_in_action),
@@ -131,80 +132,194 @@ agrees name.ReadCapacity16 rest h = (rw h refl, refl)
 agrees name.GetLbaStatus rest h = (rw h refl, refl)
 agrees named rest h = (refl, refl)
 
-agrees-named : (named : Name) (cdb : List ℕ) → IsNamed cdb named → Agrees cdb named
-agrees-named named [] h = absurd (omega (arith, h.0))
-agrees-named named (opcode ∷ rest) h =
-    subst (λ (code : ℕ). HasAction (code ∷ rest) named → Agrees (code ∷ rest) named) (sym h.1)
-    (agrees named rest) h.2
+-- a service action that no command of the operation code has
+is_no : (action code : ℕ) → action ≢ code → (action == code) ≡ false
+is_no action code h = grind (arith, nat_tests)
 
--- SERVICE ACTION IN(16) with a service action that no command has
-module _ (rest : List ℕ) where
-  abbrev action : ℕ
-  action = bits_of (get_or rest 0 0) 4 0
+pub other_16 : (cdb : List ℕ) → service_action cdb ≢ 0x10 → service_action cdb ≢ 0x12
+    → IsNamedByNone cdb 0x9E
+unfolding IsNamedByNone
+other_16 cdb h k = rw (is_no (service_action cdb) 0x10 h, is_no (service_action cdb) 0x12 k) refl
 
-  other : (code : ℕ) → action ≢ code → (action == code) ≡ false
-  other code h = grind (arith, nat_tests)
+pub ruleset without_action = (other_16)
 
-  class_of-other : action ≢ 0x10 → action ≢ 0x12 → class_of (0x9E ∷ rest) ≡ Some Always
-  unfolding class_of
-  class_of-other h k = rw (other 0x10 h, other 0x12 k) refl
+-- the operation code of the first row
+abbrev first_opcode : List Layout → Option ℕ
+first_opcode [] = None
+first_opcode (l ∷ ls) = Some l.opcode
 
-  command_of-other : action ≢ 0x10 → action ≢ 0x12 → command_of (0x9E ∷ rest)
-      ≡ (if nat_lt (length (0x9E ∷ rest)) 16 then Err (Short (length (0x9E ∷ rest)))
-      else Err (BadField 1))
-  unfolding command_of command_with
-  command_of-other h k = rw (other 0x10 h, other 0x12 k) refl
+-- each operation code has a row
+has_row : (named : Name) → first_opcode (rows_in Extended (layout_of named).opcode)
+    ≡ Some (layout_of named).opcode
+has_row name.TestUnitReady = refl
+has_row named = refl
 
-pub class_of-found : (cdb : List ℕ) (found : Found) → IsFound cdb found
-    → class_of cdb ≡ class_found found
-unfolding class_of
-class_of-found cdb (FoundRow row) h = (agrees-named row.now.name cdb h.0).0 ∙ ap Some (sym h.1.1)
-class_of-found [] NoServiceAction h = absurd (omega (arith, h.0))
-class_of-found (opcode ∷ rest) NoServiceAction h =
-    subst (λ (code : ℕ). class_of (code ∷ rest) ≡ Some Always) (sym h.0) (class_of-other rest h.1 h.2)
-class_of-found [] NoOpcode h = refl
-class_of-found (opcode ∷ rest) NoOpcode h = ap (class_by_rows (opcode ∷ rest)) (h (omega arith))
+-- all of them are blocked by an attention, or none
+blocked-rows : (named : Name)
+    → list_all (λ (l : Layout). l.blocked_by_attention) (rows_in Extended (layout_of named).opcode)
+    ≡ (layout_of named).blocked_by_attention
+blocked-rows name.TestUnitReady = refl
+blocked-rows named = refl
 
-pub blocked-found : (cdb : List ℕ) (found : Found) → IsFound cdb found
-    → is_blocked_by_attention cdb ≡ blocked_found found
-unfolding is_blocked_by_attention
-blocked-found cdb (FoundRow row) h = (agrees-named row.now.name cdb h.0).1 ∙ sym h.1.2
-blocked-found [] NoServiceAction h = absurd (omega (arith, h.0))
-blocked-found (opcode ∷ rest) NoServiceAction h =
-    subst (λ (code : ℕ). is_blocked_by_attention (code ∷ rest) ≡ true) (sym h.0) refl
-blocked-found [] NoOpcode h = refl
-blocked-found (opcode ∷ rest) NoOpcode h =
-    ap (list_all (λ (l : Layout). l.blocked_by_attention)) (h (omega arith))
+module _ (cdb : List ℕ) (opcode : ℕ) where
+  none-class : (rows : List Layout) → find (has_action_of cdb) rows ≡ None
+      → first_opcode rows ≡ Some opcode → class_by_rows cdb rows ≡ Some Always
+  none-class [] none first = cc
+  none-class (l ∷ ls) none first =
+      ap (λ found. Some (class_or_always found)) none
 
-pub blocked-without_row : (cdb : List ℕ) (found : Found) → IsFound cdb found
-    → (found ≡ NoServiceAction) ⊎ (found ≡ NoOpcode) → is_blocked_by_attention cdb ≡ true
-blocked-without_row cdb found h (inl e) = blocked-found cdb found h ∙ ap blocked_found e
-blocked-without_row cdb found h (inr e) = blocked-found cdb found h ∙ ap blocked_found e
+  none-command : (rows : List Layout) → find (has_action_of cdb) rows ≡ None
+      → first_opcode rows ≡ Some opcode → command_by_rows cdb rows
+      ≡ (if nat_lt (length cdb) (length_of opcode) then Err (Short (length cdb)) else Err (BadField 1))
+  none-command [] none first = cc
+  none-command (l ∷ ls) none first =
+      let same : l.opcode ≡ opcode = cc in
+      ap (λ found. if nat_lt (length cdb) (length_of l.opcode) then Err (Short (length cdb))
+      else command_by_row cdb found) none
+      ∙ ap (λ code. if nat_lt (length cdb) (length_of code) then Err (Short (length cdb))
+      else Err (BadField 1)) same
 
--- a CDB without a row is refused
-other_action : (cdb : List ℕ) → IsFound cdb NoServiceAction → command_of cdb
-    ≡ (if nat_lt (length cdb) 16 then Err (Short (length cdb)) else Err (BadField 1))
-other_action [] h = absurd (omega (arith, h.0))
-other_action (opcode ∷ rest) h =
-    subst (λ (code : ℕ). command_of (code ∷ rest)
-    ≡ (if nat_lt (length (code ∷ rest)) 16 then Err (Short (length (code ∷ rest)))
-    else Err (BadField 1))) (sym h.0) (command_of-other rest h.1 h.2)
+module _ (profile : Profile) where
+  agrees-in : (named : Name) (rest : List ℕ) → is_in (layout_of named).profile profile ≡ true
+      → HasAction ((layout_of named).opcode ∷ rest) named
+      → Agrees profile ((layout_of named).opcode ∷ rest) named
+  unfolding class_in is_blocked_in
+  agrees-in named rest has h =
+      let same = rows-same profile (command_named named) has in
+      let whole = agrees named rest h in (
+        ap (class_by_rows ((layout_of named).opcode ∷ rest)) same ∙ whole.0,
+        ap (list_all (λ (l : Layout). l.blocked_by_attention)) same ∙ whole.1,
+      )
 
-pub refused-short : (cdb : List ℕ) → IsFound cdb NoServiceAction → length cdb < 16
-    → command_of cdb ≡ Err (Short (length cdb))
-refused-short cdb h short =
-    let is_short : nat_lt (length cdb) 16 ≡ true = grind (arith, nat_tests) in
-    rw (other_action cdb h, is_short) refl
+  agrees-named : (named : Name) (cdb : List ℕ) → is_in (layout_of named).profile profile ≡ true
+      → IsNamed cdb named → Agrees profile cdb named
+  agrees-named named [] has h = absurd (omega (arith, h.0))
+  agrees-named named (opcode ∷ rest) has h =
+      subst (λ (code : ℕ). HasAction (code ∷ rest) named → Agrees profile (code ∷ rest) named)
+      (sym h.1) (agrees-in named rest has) h.2
 
-pub refused-action : (cdb : List ℕ) → IsFound cdb NoServiceAction → 16 ≤ length cdb
-    → command_of cdb ≡ Err (BadField 1)
-refused-action cdb h whole =
-    let is_whole : nat_lt (length cdb) 16 ≡ false = grind (arith, nat_tests) in
-    rw (other_action cdb h, is_whole) refl
+  -- the rows of a CDB whose service action none of them has
+  rows-without : (cdb : List ℕ) (row : Bor Row) → IsFound profile cdb (NoServiceAction row)
+      → rows_in profile (get_or cdb 0 0) ≡ rows_in Extended (layout_of row.now.name).opcode
+  rows-without cdb row h =
+      ap (rows_in profile) h.1
+      ∙ rows-same profile (command_named row.now.name) (ap (λ p. is_in p profile) (sym h.2.0) ∙ h.3)
 
-pub refused-opcode : (cdb : List ℕ) → 1 ≤ length cdb → IsFound cdb NoOpcode → command_of cdb ≡ Err Opcode
-unfolding command_of command_with
-refused-opcode [] some h = absurd (omega arith)
-refused-opcode (opcode ∷ rest) some h = ap (command_by_rows (opcode ∷ rest)) (h some)
+  row-class : (named : Name) (cdb : List ℕ) (class : Class) (belongs : Profile) → IsNamed cdb named
+      → class ≡ (layout_of named).class → belongs ≡ (layout_of named).profile
+      → is_in belongs profile ≡ true → class_in profile cdb ≡ Some class
+  row-class named cdb class belongs h e same has =
+      (agrees-named named cdb (ap (λ p. is_in p profile) (sym same) ∙ has) h).0 ∙ ap Some (sym e)
 
-pub ruleset refusals = (refused-short, refused-action, refused-opcode)
+  pub class_in-found : (cdb : List ℕ) (found : Found) → IsFound profile cdb found
+      → class_in profile cdb ≡ class_found found
+  unfolding class_in IsNamedByNone
+  class_in-found cdb (FoundRow row) h =
+      row-class row.now.name cdb row.now.class row.now.profile h.0 h.1.2 h.1.0 h.2
+  class_in-found [] (NoServiceAction row) h = absurd (omega (arith, h.0))
+  class_in-found (opcode ∷ rest) (NoServiceAction row) h =
+      let code = (layout_of row.now.name).opcode in
+      ap (class_by_rows (opcode ∷ rest)) (rows-without (opcode ∷ rest) row h)
+      ∙ none-class (opcode ∷ rest) code (rows_in Extended code) h.4 (has_row row.now.name)
+  class_in-found [] NoOpcode h = refl
+  class_in-found (opcode ∷ rest) NoOpcode h = ap (class_by_rows (opcode ∷ rest)) (h (omega arith))
+
+  pub blocked-found : (cdb : List ℕ) (found : Found) → IsFound profile cdb found
+      → is_blocked_in profile cdb ≡ blocked_found found
+  unfolding is_blocked_in
+  blocked-found cdb (FoundRow row) h =
+      (agrees-named row.now.name cdb (ap (λ p. is_in p profile) (sym h.1.0) ∙ h.2) h.0).1 ∙ sym h.1.3
+  blocked-found [] (NoServiceAction row) h = absurd (omega (arith, h.0))
+  blocked-found (opcode ∷ rest) (NoServiceAction row) h =
+      ap (list_all (λ (l : Layout). l.blocked_by_attention)) (rows-without (opcode ∷ rest) row h)
+      ∙ blocked-rows row.now.name ∙ sym h.2.3
+  blocked-found [] NoOpcode h = refl
+  blocked-found (opcode ∷ rest) NoOpcode h =
+      ap (list_all (λ (l : Layout). l.blocked_by_attention)) (h (omega arith))
+
+  -- a CDB without a byte, or without a row, is refused
+  pub refused-empty : (cdb : List ℕ) → length cdb ≡ 0 → command_in profile cdb ≡ Err Empty
+  unfolding command_in
+  refused-empty [] none = refl
+  refused-empty (opcode ∷ rest) none = absurd (omega arith)
+
+  other_action : (cdb : List ℕ) (row : Bor Row) → IsFound profile cdb (NoServiceAction row)
+      → command_in profile cdb ≡ (if nat_lt (length cdb) (length row.now.masks.now)
+      then Err (Short (length cdb)) else Err (BadField 1))
+  unfolding command_in IsNamedByNone
+  other_action [] row h = absurd (omega (arith, h.0))
+  other_action (opcode ∷ rest) row h =
+      let cdb = opcode ∷ rest in
+      let code = (layout_of row.now.name).opcode in
+      let wanted : length_of code ≡ length row.now.masks.now =
+      sym (ap length h.2.4 ∙ whole-row row.now.name) in
+      ap (command_by_rows cdb) (rows-without cdb row h)
+      ∙ none-command cdb code (rows_in Extended code) h.4 (has_row row.now.name)
+      ∙ ap (λ n. if nat_lt (length cdb) n then Err (Short (length cdb)) else Err (BadField 1)) wanted
+
+  pub row-fits : (cdb : List ℕ) (row : Bor Row) → IsFound profile cdb (NoServiceAction row)
+      → length row.now.masks.now ≤ 16
+  row-fits cdb row h = omega (arith, at_most_16 row.now.name, ap length h.2.4)
+
+  pub refused-short : (cdb : List ℕ) (row : Bor Row) → IsFound profile cdb (NoServiceAction row)
+      → length cdb < length row.now.masks.now → command_in profile cdb ≡ Err (Short (length cdb))
+  refused-short cdb row h short =
+      let is_short : nat_lt (length cdb) (length row.now.masks.now) ≡ true = grind (arith, nat_tests) in
+      rw (other_action cdb row h, is_short) refl
+
+  pub refused-action : (cdb : List ℕ) (row : Bor Row) → IsFound profile cdb (NoServiceAction row)
+      → length row.now.masks.now ≤ length cdb → command_in profile cdb ≡ Err (BadField 1)
+  refused-action cdb row h whole =
+      let is_whole : nat_lt (length cdb) (length row.now.masks.now) ≡ false = grind (arith, nat_tests) in
+      rw (other_action cdb row h, is_whole) refl
+
+  pub refused-opcode : (cdb : List ℕ) → 1 ≤ length cdb → IsFound profile cdb NoOpcode
+      → command_in profile cdb ≡ Err Opcode
+  unfolding command_in
+  refused-opcode [] some h = absurd (omega arith)
+  refused-opcode (opcode ∷ rest) some h = ap (command_by_rows (opcode ∷ rest)) (h some)
+
+  -- and a CDB with a row is decoded by it
+  by_rows : (cdb : List ℕ) (row : Bor Row) → IsFound profile cdb (FoundRow row)
+      → command_in profile cdb ≡ command_with (layout_of row.now.name).opcode cdb
+  unfolding command_in command_with
+  by_rows [] row h = absurd (omega (arith, h.0.0))
+  by_rows (opcode ∷ rest) row h =
+      ap (λ code. command_by_rows (opcode ∷ rest) (rows_in profile code)) h.0.1
+      ∙ ap (command_by_rows (opcode ∷ rest))
+      (rows-same profile (command_named row.now.name) (ap (λ p. is_in p profile) (sym h.1.0) ∙ h.2))
+
+  pub read-row : (cdb : List ℕ) (row : Bor Row) → IsFound profile cdb (FoundRow row)
+      → command_in profile cdb ≡ command_of_name row.now.name cdb
+  read-row cdb row h = by_rows cdb row h ∙ decodes cdb row.now.name h.0.2
+
+  -- a profile that has the row of a CDB finds it, and a profile that lacks it finds none
+  pub row-has : (cdb : List ℕ) (row : Bor Row) → IsFound Extended cdb (FoundRow row)
+      → is_in row.now.profile profile ≡ true → IsFound profile cdb (FoundRow row)
+  row-has cdb row h has = (h.0, h.1, has)
+
+  none-of : (cdb : List ℕ) (row : Row) → IsRow row
+      → get_or cdb 0 0 ≡ (layout_of row.name).opcode → is_in row.profile profile ≡ false
+      → IsFound profile cdb NoOpcode
+  none-of cdb row is code lacks some =
+      ap (rows_in profile) code
+      ∙ rows-none profile (command_named row.name) (ap (λ p. is_in p profile) (sym is.0) ∙ lacks)
+
+  pub row-lacks : (cdb : List ℕ) (row : Bor Row) → IsFound Extended cdb (FoundRow row)
+      → is_in row.now.profile profile ≡ false → IsFound profile cdb NoOpcode
+  row-lacks cdb row h lacks = none-of cdb row.now h.1 h.0.1 lacks
+
+  pub code-has : (cdb : List ℕ) (row : Bor Row) → IsFound Extended cdb (NoServiceAction row)
+      → is_in row.now.profile profile ≡ true → IsFound profile cdb (NoServiceAction row)
+  code-has cdb row h has = (h.0, h.1, h.2, has, h.4)
+
+  pub code-lacks : (cdb : List ℕ) (row : Bor Row) → IsFound Extended cdb (NoServiceAction row)
+      → is_in row.now.profile profile ≡ false → IsFound profile cdb NoOpcode
+  code-lacks cdb row h lacks = none-of cdb row.now h.2 h.1 lacks
+
+  pub no-row : (cdb : List ℕ) → IsFound Extended cdb NoOpcode → IsFound profile cdb NoOpcode
+  no-row cdb h some = none-in profile (get_or cdb 0 0) (h some)
+
+pub ruleset by_row = (refused-empty, row-fits, refused-short, refused-action, refused-opcode, read-row)
+
+pub ruleset by_profile = (row-has, row-lacks, code-has, code-lacks, no-row)

@@ -1,8 +1,9 @@
 -- The room that a CDB has for the values of a command.
 use Rattle.std.specs.Prelude.{◌+◌, ◌-◌, ◌^◌, List, Bool, true, ◌&&◌, nat_lt, nat_le}
 use Rattle.std.specs.List.{list_all}
-use Rattle.sg_wire.specs.Layout.{Field, Place, Value, layout}
-use Rattle.sg_wire.specs.Layout.Place.{bit, bits, bytes, short_extent}
+use Rattle.sg_wire.specs.CdbFields.{Field, Place, Value}
+use Rattle.sg_wire.specs.Layout.{layout}
+use Rattle.sg_wire.specs.CdbFields.Place.{bit, bits, bytes, short_extent}
 use Rattle.sg_wire.specs.declared.command.Command.{Command}
 
 -- A place has room for a value.

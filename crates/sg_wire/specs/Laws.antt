@@ -1,32 +1,68 @@
 -- Laws of CDBs, and of answers that are put in parts.
 use Rattle.std.specs.Prelude.{◌≡◌, ◌<◌, ◌≤◌, ℕ, ◌==◌, List, [], ◌++◌, length, take, Some, Ok, Err}
-use Rattle.std.specs.Prelude.{if◌then◌else◌}
+use Rattle.std.specs.Prelude.{Bool, true, if◌then◌else◌}
 use Rattle.std.specs.Borrow.{GName}
 use Rattle.sg_wire.specs.Cut.{IsLeftIn, Puts, answer_of}
 use Rattle.sg_wire.specs.CutAnswer.{CutAnswer, empty_answer, first_bytes, overwritten, put}
 use Rattle.sg_wire.specs.CutAnswer.{replace}
-use Rattle.sg_wire.specs.Layout.{cdb_of, class_of, command_of, layout}
+use Rattle.sg_wire.specs.CdbDecoding.{class_in, command_in}
+use Rattle.sg_wire.specs.CdbEncoding.{cdb_of}
+use Rattle.sg_wire.specs.Layout.{layout}
+use Rattle.sg_wire.specs.Profile.{is_in}
 use Rattle.sg_wire.specs.declared.command.CdbFault.{CdbFault}
 use Rattle.sg_wire.specs.declared.command.CdbFault.TheVariants.{Empty, Short}
 use Rattle.sg_wire.specs.declared.command.Command.{Command}
 use Rattle.sg_wire.specs.declared.cut.Cut.{Cut}
+use Rattle.sg_wire.specs.declared.profile.Profile.{Profile}
+
+-- ---- Profiles
+
+-- A disk of a profile has a command.
+abbrev pub has_command : Profile → Command → Bool
+has_command profile command = is_in (layout command).profile profile
+
+-- A CDB is read as a command on each disk that has the command.
+abbrev pub IsReadAs : List ℕ → Command → Type 0
+IsReadAs cdb command =
+    (profile : Profile) → has_command profile command ≡ true → command_in profile cdb ≡ Ok command
+
+-- A disk reads no CDB as a command that its profile lacks. So the base profile is closed.
+abbrev pub ProfilesAreClosed : Type 0
+ProfilesAreClosed =
+    (profile : Profile) (cdb : List ℕ) (command : Command)
+    → command_in profile cdb ≡ Ok command → has_command profile command ≡ true
+
+-- A profile only adds: a CDB that is a command in one profile is the same command in each profile
+-- that has it, and of the same class.
+pub record ProfilesOnlyAdd : Type 0 where
+  pub command : (profile : Profile) (cdb : List ℕ) (command : Command)
+      → command_in profile cdb ≡ Ok command → IsReadAs cdb command
+  pub class : (one other : Profile) (cdb : List ℕ) (command : Command)
+      → command_in one cdb ≡ Ok command → has_command other command ≡ true
+      → class_in other cdb ≡ class_in one cdb
+
+-- ---- CDBs
 
 -- The fault of a CDB that ends early, after `count` bytes.
 abbrev pub cut_at : (count : ℕ) → CdbFault
 cut_at count = if count == 0 then Empty else Short count
 
--- A proper prefix of a command's CDB is refused as empty, or as cut at its end.
+-- A proper prefix of a command's CDB is refused as empty, or as cut at its end, on each disk that has
+-- the command.
 abbrev pub PrefixesAreRefused : Type 0
 PrefixesAreRefused =
-    (command : Command) (count : ℕ) → count < length (cdb_of command)
-    → command_of (take count (cdb_of command)) ≡ Err (cut_at count)
+    (profile : Profile) (command : Command) (count : ℕ) → has_command profile command ≡ true
+    → count < length (cdb_of command)
+    → command_in profile (take count (cdb_of command)) ≡ Err (cut_at count)
 
 -- The class of a CDB is read from its operation code and service action. If the CDB is a command,
 -- its class is the class of that command's row.
 abbrev pub CommandsHaveTheirClass : Type 0
 CommandsHaveTheirClass =
-    (cdb : List ℕ) (command : Command) → command_of cdb ≡ Ok command
-    → class_of cdb ≡ Some (layout command).class
+    (profile : Profile) (cdb : List ℕ) (command : Command) → command_in profile cdb ≡ Ok command
+    → class_in profile cdb ≡ Some (layout command).class
+
+-- ---- Answers that are put in parts
 
 -- Parts that are put one after the other are put as one, and putting no bytes changes nothing.
 pub record PartsArePutInTurn : Type 0 where

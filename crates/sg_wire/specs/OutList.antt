@@ -2,7 +2,7 @@
 use Rattle.std.specs.Prelude.{ℕ, ◌+◌, List, ◌∷◌, ◌++◌, drop, replicate, slice_index}
 use Rattle.std.specs.Prelude.{if◌then◌else◌}
 use Rattle.byteorder.specs.Endian.{big_bytes, big_number}
-use Rattle.sg_wire.specs.Layout.{has_bit}
+use Rattle.sg_wire.specs.Bits.{has_bit}
 use Rattle.sg_wire.specs.declared.out_list.OutList.{OutList}
 
 -- Its length in bytes.

@@ -1,15 +1,22 @@
 -- The code's table of commands: each row has what the command's layout says, and each CDB gets the
 -- row of its command.
-use Rattle.std.specs.Prelude.{ℕ, ◌≡◌, ◌≢◌, ◌≤◌, List, [], length, slice_index, Bool, true, false}
-use Rattle.std.specs.Prelude.{Option, Some, None, Ok, Err}
+use Rattle.std.specs.Prelude.{ℕ, ◌≡◌, ◌≤◌, ◌-◌, List, [], length, map, slice_index, Bool, true}
+use Rattle.std.specs.Prelude.{false, bit_and}
+use Rattle.std.specs.List.{range_with_len}
+use Rattle.std.specs.Prelude.{Option, Some, None, Result, Ok, Err, find, nat_lt, if◌then◌else◌}
+use Rattle.sg_wire.specs.CdbDecoding.{bits_in, command_by_row, command_by_rows, field_bits}
+use Rattle.sg_wire.specs.CdbDecoding.{first_bad, has_action_of, make_from, masks, rows_in}
+use Rattle.sg_wire.specs.CdbDecoding.{service_action, unless_bad}
 use Rattle.sg_wire.specs.Commands as make
-use Rattle.sg_wire.specs.Layout.{Layout, layout, masks, command_with, make_from, rows_of}
-use Rattle.sg_wire.specs.Layout.{service_action}
+use Rattle.sg_wire.specs.Layout.{Layout, ServiceAction, layout, length_of}
+use Rattle.sg_wire.specs.Layout.ServiceAction.{none, named as one_action}
+use Rattle.sg_wire.specs.Profile.{is_in}
 use Rattle.sg_wire.specs.declared.command.Command.{Command}
 use Rattle.sg_wire.specs.declared.command.Command.TheVariants as command
 use Rattle.sg_wire.specs.declared.command.in_action.InAction.TheVariants.{ReadKeys}
 use Rattle.sg_wire.specs.declared.command.out_action.OutAction.TheVariants.{Register}
 use Rattle.sg_wire.specs.declared.command.CdbFault.{CdbFault}
+use Rattle.sg_wire.specs.declared.command.CdbFault.TheVariants.{Short}
 use Rattle.sg_wire.specs.declared.command.table.Row.{Row}
 use Rattle.sg_wire.specs.declared.command.Class.{Class}
 use Rattle.sg_wire.specs.declared.command.Class.TheVariants.{Always}
@@ -17,6 +24,10 @@ use Rattle.sg_wire.specs.declared.command.table.Found.{Found}
 use Rattle.sg_wire.specs.declared.command.table.Found.TheVariants.{Row as FoundRow, NoServiceAction, NoOpcode}
 use Rattle.sg_wire.specs.declared.command.table.Name.{Name}
 use Rattle.sg_wire.specs.declared.command.table.Name.TheVariants as name
+use Rattle.sg_wire.specs.declared.profile.Profile.{Profile}
+use Rattle.sg_wire.specs.declared.profile.Profile.TheVariants.{Extended}
+
+-- ---- Rows
 
 -- A command of each name. Only the places of its fields matter here, not their values.
 abbrev pub command_named : Name → Command
@@ -47,53 +58,94 @@ command_named name.GetLbaStatus = make.get_lba_status 0 0
 abbrev pub layout_of : Name → Layout
 layout_of named = layout (command_named named)
 
+-- The bits that the disk evaluates, byte by byte. It ignores the others that may be set.
+abbrev pub evaluated_bits : Layout → List ℕ
+evaluated_bits l =
+    map (λ k. field_bits l k - bit_and (field_bits l k) (bits_in k l.ignored))
+    (range_with_len 0 (length_of l.opcode))
+
 -- A row of the code has what the command's layout says.
 abbrev pub IsRow : Row → Type 0
 IsRow row =
     let l = layout_of row.name in
-    (row.opcode ≡ l.opcode) × (row.class ≡ l.class) × (row.is_blocked ≡ l.blocked_by_attention)
-    × (row.masks.now ≡ masks l)
+    (row.profile ≡ l.profile) × (row.opcode ≡ l.opcode) × (row.class ≡ l.class)
+    × (row.is_blocked ≡ l.blocked_by_attention) × (row.masks.now ≡ masks l)
+    × (row.evaluated.now ≡ evaluated_bits l)
+
+-- ---- The row of a CDB
+
+-- The CDB has a service action, if there has to be one.
+abbrev pub ActionIs : List ℕ → ServiceAction → Type 0
+ActionIs cdb none = Unit {0}
+ActionIs cdb (one_action action) = service_action cdb ≡ action
 
 -- The CDB has the service action of a command that shares its operation code with others.
+-- PERSISTENT RESERVE IN and OUT have a row for each service action, which the name does not tell.
 abbrev pub HasAction : List ℕ → Name → Type 0
-HasAction cdb name.ReadCapacity16 = service_action cdb ≡ 0x10
-HasAction cdb name.GetLbaStatus = service_action cdb ≡ 0x12
-HasAction cdb named = Unit {0}
+HasAction cdb name.PersistentReserveIn = Unit {0}
+HasAction cdb name.PersistentReserveOut = Unit {0}
+HasAction cdb named = ActionIs cdb (layout_of named).action
 
 -- The CDB has the operation code and the service action of a command.
 abbrev pub IsNamed : List ℕ → Name → Type 0
 IsNamed cdb named =
     (1 ≤ length cdb) × (slice_index cdb 0 ≡ (layout_of named).opcode) × HasAction cdb named
 
--- The command of a CDB whose bits fit its row's masks, or the fault if they do not fit. PERSISTENT
--- RESERVE IN and OUT have a row for each service action, so the name decides neither here.
-abbrev pub IsDecoded : List ℕ → Name → Type 0
-IsDecoded cdb name.PersistentReserveIn = Unit {0}
-IsDecoded cdb name.PersistentReserveOut = Unit {0}
-IsDecoded cdb named =
-    let l = layout_of named in command_with l.opcode cdb ≡ Ok (make_from cdb l.fields l.make)
+-- No command of an operation code has the service action of the CDB.
+unfoldable pub IsNamedByNone : List ℕ → (opcode : ℕ) → Type 0
+IsNamedByNone cdb opcode = find (has_action_of cdb) (rows_in Extended opcode) ≡ None
 
-abbrev pub IsRefused : List ℕ → Name → CdbFault → Type 0
-IsRefused cdb name.PersistentReserveIn fault = Unit {0}
-IsRefused cdb name.PersistentReserveOut fault = Unit {0}
-IsRefused cdb named fault = command_with (layout_of named).opcode cdb ≡ Err fault
-
--- The table's result for a CDB: the row of its command, `NoServiceAction` or `NoOpcode`. With
--- `NoServiceAction`, commands have its operation code, and none of them has its service action.
--- With `NoOpcode`, no command has its operation code.
-abbrev pub IsFound : List ℕ → Found → Type 0
-IsFound cdb (FoundRow row) = IsNamed cdb row.now.name × IsRow row.now
-IsFound cdb NoServiceAction = (slice_index cdb 0 ≡ 0x9E)
-    × (service_action cdb ≢ 0x10) × (service_action cdb ≢ 0x12)
-IsFound cdb NoOpcode = 1 ≤ length cdb → rows_of (slice_index cdb 0) ≡ []
+-- The table's result for a CDB on a disk of a profile: the row of its command; or a row of its
+-- operation code, of which no command has its service action; or no command has its operation code.
+abbrev pub IsFound : Profile → List ℕ → Found → Type 0
+IsFound profile cdb (FoundRow row) =
+    IsNamed cdb row.now.name × IsRow row.now × (is_in row.now.profile profile ≡ true)
+IsFound profile cdb (NoServiceAction row) =
+    let opcode = (layout_of row.now.name).opcode in
+    (1 ≤ length cdb) × (slice_index cdb 0 ≡ opcode) × IsRow row.now
+    × (is_in row.now.profile profile ≡ true) × IsNamedByNone cdb opcode
+IsFound profile cdb NoOpcode = 1 ≤ length cdb → rows_in profile (slice_index cdb 0) ≡ []
 
 -- The reservation class in the table, and whether a pending unit attention blocks the CDB.
 abbrev pub class_found : Found → Option Class
 class_found (FoundRow row) = Some row.now.class
-class_found NoServiceAction = Some Always
+class_found (NoServiceAction row) = Some Always
 class_found NoOpcode = None
 
 abbrev pub blocked_found : Found → Bool
 blocked_found (FoundRow row) = row.now.is_blocked
-blocked_found NoServiceAction = true
+blocked_found (NoServiceAction row) = row.now.is_blocked
 blocked_found NoOpcode = true
+
+-- ---- Decoding by a row
+
+-- A CDB is as long as its masks and has no bit outside them.
+unfoldable pub fits_masks : List ℕ → List ℕ → Result Unit CdbFault
+fits_masks masks cdb =
+    if nat_lt (length cdb) (length masks)
+    then Err (Short (length cdb))
+    else unless_bad (first_bad 0 masks cdb) tt
+
+-- The command of a CDB by one layout.
+abbrev pub command_by : Layout → List ℕ → Result Command CdbFault
+command_by l cdb =
+    if nat_lt (length cdb) (length_of l.opcode) then Err (Short (length cdb))
+    else command_by_row cdb (Some l)
+
+-- The command of a CDB by all layouts of an operation code.
+unfoldable pub command_with : (opcode : ℕ) → List ℕ → Result Command CdbFault
+command_with opcode cdb = command_by_rows cdb (rows_in Extended opcode)
+
+-- The command of a CDB by its name. The service action decides about PERSISTENT RESERVE IN and OUT.
+abbrev pub command_of_name : Name → List ℕ → Result Command CdbFault
+command_of_name name.PersistentReserveIn cdb = command_with 0x5E cdb
+command_of_name name.PersistentReserveOut cdb = command_with 0x5F cdb
+command_of_name named cdb = command_by (layout_of named) cdb
+
+-- The command of a CDB that fits the masks of its layout, and the fault of one that does not.
+abbrev pub IsDecoded : List ℕ → Name → Type 0
+IsDecoded cdb named =
+    let l = layout_of named in command_by l cdb ≡ Ok (make_from cdb l.fields l.make)
+
+abbrev pub IsRefused : List ℕ → Name → CdbFault → Type 0
+IsRefused cdb named fault = command_by (layout_of named) cdb ≡ Err fault

@@ -1,9 +1,21 @@
 //! Laws of the definitions: each is the contract of a function that does nothing.
 ghost use Rattle.sg_wire.specs.Laws.{AnswersAreInTheirBuffers, CommandsHaveTheirClass};
 ghost use Rattle.sg_wire.specs.Laws.{PartsArePutInTurn, PartsAreReplaced, PrefixesAreRefused};
+ghost use Rattle.sg_wire.specs.Laws.{ProfilesAreClosed, ProfilesOnlyAdd};
 
-/// A proper prefix of a command's CDB is no command: without a byte it is refused as empty, and
-/// otherwise as cut at its end.
+/// A disk reads no CDB as a command that its profile lacks.
+pub fn profiles_are_closed()
+    ensures { ProfilesAreClosed }
+{}
+
+/// A profile only adds. If a CDB is a command on a disk, it is the same command, of the same class,
+/// on each disk that has the command.
+pub fn profiles_only_add()
+    ensures { ProfilesOnlyAdd }
+{}
+
+/// A proper prefix of a command's CDB is no command on a disk that has the command: without a byte it
+/// is refused as empty, and otherwise as cut at its end.
 pub fn prefixes_are_refused()
     ensures { PrefixesAreRefused }
 {}

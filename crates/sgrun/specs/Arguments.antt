@@ -1,9 +1,11 @@
 -- The request that the words of the command line make (docs/SCRIPT.md). Of two stops, the first in
--- this order is returned: `Usage`; `Number`; and then `Blocks` and `Pool`, in the order of a disk's
--- checks.
+-- this order is returned: `Usage`; `Number`; `Profile`; and then `Blocks` and `Pool`, in the order of
+-- a disk's checks.
 use Rattle.std.specs.Prelude.{◌≡◌, ◌⊎◌, ℕ, ◌^◌, ◌-◌, List, codes, Option, Some, None, Result, Ok}
-use Rattle.std.specs.Prelude.{Err}
+use Rattle.std.specs.Prelude.{Err, [], ◌∷◌, bytes_eq, find}
 use Rattle.clap.specs.Words.{Row, Text}
+use Rattle.sg_wire.specs.declared.profile.Profile.{Profile}
+use Rattle.sg_wire.specs.declared.profile.Profile.TheVariants.{Base, Extended}
 use Rattle.sg_pages.specs.Identity.{standard_identity}
 use Rattle.sg_target.specs.Config.{ConfigFields, checked_config}
 use Rattle.sg_target.specs.declared.config.ConfigFault.{ConfigFault}
@@ -13,7 +15,7 @@ use Rattle.sg_tools.specs.declared.tool_fault.ToolFault.{ToolFault}
 use Rattle.sgrun.specs.Options.{command_line}
 use Rattle.sgrun.specs.Stops.{stop_of_config, stop_of_options}
 use Rattle.sgrun.specs.declared.stop.Stop.{Stop}
-use Rattle.sgrun.specs.declared.stop.Stop.TheVariants.{Number, OutOfMemory}
+use Rattle.sgrun.specs.declared.stop.Stop.TheVariants.{Number, OutOfMemory, Profile as BadProfile}
 
 -- ---- The disk
 
@@ -23,16 +25,31 @@ default_blocks = 4096
 abbrev pub default_pool : ℕ
 default_pool = 4
 
--- A disk with the standard identity. Its numbers have to be in range.
-abbrev pub disk_with : (blocks pool : ℕ) → ConfigFields
-disk_with blocks pool = record { blocks = blocks; pool = pool; identity = standard_identity }
+-- The name of a profile.
+abbrev pub name_of : Profile → List ℕ
+name_of Base = codes "base"
+name_of Extended = codes "extended"
+
+-- The profile with a name. Without a name it is the base profile.
+abbrev pub profile_named : Option Text → Option Profile
+profile_named None = Some Base
+profile_named (Some name) =
+    find (λ profile. bytes_eq name (name_of profile)) (Base ∷ Extended ∷ [])
+
+-- A disk with the standard names. Its numbers have to be in range.
+abbrev pub disk_with : (blocks pool : ℕ) → Profile → ConfigFields
+disk_with blocks pool profile = record {
+  blocks = blocks;
+  pool = pool;
+  identity = record standard_identity { profile = profile };
+}
 
 abbrev pub by_config : Result ConfigFields ConfigFault → Result ConfigFields Stop
 by_config (Ok disk) = Ok disk
 by_config (Err fault) = Err (stop_of_config fault)
 
-abbrev pub checked_disk : (blocks pool : ℕ) → Result ConfigFields Stop
-checked_disk blocks pool = by_config (checked_config (disk_with blocks pool))
+abbrev pub checked_disk : (blocks pool : ℕ) → Profile → Result ConfigFields Stop
+checked_disk blocks pool profile = by_config (checked_config (disk_with blocks pool profile))
 
 -- The number of an option's text, or the default if the option is not given.
 abbrev pub number_of_option : (default : ℕ) → Option Text → Option ℕ
@@ -42,12 +59,18 @@ abbrev pub with_number : Option ℕ → (ℕ → Result ConfigFields Stop) → R
 with_number None disk = Err Number
 with_number (Some number) disk = disk number
 
--- Both numbers are read before either is checked.
+abbrev pub with_profile : Option Profile → (Profile → Result ConfigFields Stop)
+    → Result ConfigFields Stop
+with_profile None disk = Err BadProfile
+with_profile (Some profile) disk = disk profile
+
+-- Both numbers and the profile are read before a number is checked.
 abbrev pub disk_of : List Row → Result ConfigFields Stop
 disk_of rows =
     with_number (number_of_option default_blocks (text_of (codes "blocks") rows)) (λ blocks.
     with_number (number_of_option default_pool (text_of (codes "pool") rows)) (λ pool.
-    checked_disk blocks pool))
+    with_profile (profile_named (text_of (codes "profile") rows)) (λ profile.
+    checked_disk blocks pool profile)))
 
 -- ---- Every option
 

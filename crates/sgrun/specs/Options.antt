@@ -12,6 +12,7 @@ abbrev pub options : List OptionRow
 options =
     text_option (codes "blocks")  -- the number of logical blocks
     ∷ text_option (codes "pool")  -- how many of them can be mapped at once
+    ∷ text_option (codes "profile")  -- which commands it has
     ∷ text_option (codes "script")  -- the file that holds the script
     ∷ []
 

@@ -11,8 +11,8 @@ use Rattle.sg_target.specs.declared.config.ConfigFault.TheVariants.{Pool as Pool
 use Rattle.sg_tools.specs.declared.tool_fault.ToolFault.{ToolFault}
 use Rattle.sg_tools.specs.declared.tool_fault.ToolFault.TheVariants.{OutOfMemory as NoMemoryFault}
 use Rattle.sgrun.specs.declared.stop.Stop.{Stop}
-use Rattle.sgrun.specs.declared.stop.Stop.TheVariants.{Usage, Number, Blocks, Pool, CannotOpen}
-use Rattle.sgrun.specs.declared.stop.Stop.TheVariants.{Read, Write, OutOfMemory}
+use Rattle.sgrun.specs.declared.stop.Stop.TheVariants.{Usage, Number, Profile, Blocks, Pool}
+use Rattle.sgrun.specs.declared.stop.Stop.TheVariants.{CannotOpen, Read, Write, OutOfMemory}
 
 -- The text that a stop prints to standard error after the program's name, and the program's exit
 -- status.
@@ -26,6 +26,7 @@ row message status = record { message = message; status = status }
 abbrev pub row_of : Stop → Row
 row_of Usage = row (codes "usage") 1
 row_of Number = row (codes "number") 1
+row_of Profile = row (codes "profile") 1
 row_of Blocks = row (codes "blocks") 1
 row_of Pool = row (codes "pool") 1
 row_of (CannotOpen file) = row (codes "cannot open " ++ file.now) 15

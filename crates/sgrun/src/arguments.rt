@@ -28,13 +28,14 @@ ghost use Rattle.std.specs.String.{string_bytes};
 ghost use Rattle.clap.specs.Words.{app_of, rule_of};
 ghost use Rattle.sg_tools.specs.Options.{rule};
 ghost use Rattle.sgrun.specs.Arguments.{IsUnlessOutOfMemory, arguments, arguments_of, checked_disk};
-ghost use Rattle.sgrun.specs.Arguments.{disk_of, number_of_option};
+ghost use Rattle.sgrun.specs.Arguments.{disk_of, number_of_option, profile_named};
 ghost use Rattle.sgrun.specs.Options.{command_line, text_option};
 
 use crate::stop::Stop;
 use clap::{Arg, ArgAction, Command};
 use sg_pages::Identity;
 use sg_tools::{GivenOptions, number_or};
+use sg_wire::Profile;
 use std::alloc::{AllocError, Global};
 
 // The disk's logical blocks, and the number of them that can be mapped at once, if no option gives
@@ -50,6 +51,7 @@ impl<'a> Arguments<'a> {
     /// The first of these that applies:
     /// - `Usage` if clap does not accept the words, or if they ask for help.
     /// - `Number` if the text of `--blocks` or `--pool` is no number.
+    /// - `Profile` if no profile has the name of `--profile`.
     /// - `Blocks` or `Pool` if there is no disk of that size.
     ///
     /// If memory is refused, `OutOfMemory` is returned in place of any of these, and of a success.
@@ -77,7 +79,8 @@ fn disk<'a>(options: &GivenOptions) -> Result<Config, Stop<'a>>
 {
     let blocks = number_of_option(DEFAULT_BLOCKS, options.text("blocks")).ok_or(Stop::Number)?;
     let pool = number_of_option(DEFAULT_POOL, options.text("pool")).ok_or(Stop::Number)?;
-    checked_disk(blocks, pool)
+    let profile = profile_named(options.text("profile")).ok_or(Stop::Profile)?;
+    checked_disk(blocks, pool, profile)
 }
 
 /// The number of a text, or the default if there is no text.
@@ -87,13 +90,25 @@ fn number_of_option(default: u64, text: Option<&str>) -> Option<u64>
     number_or(default, u64::MAX, text)
 }
 
-/// A disk of a size, if there can be one.
-fn checked_disk<'a>(blocks: u64, pool: u64) -> Result<Config, Stop<'a>>
-    ensures { result ≡ checked_disk blocks pool }
+/// The profile with a name. Without a name it is the base profile.
+fn profile_named(name: Option<&str>) -> Option<Profile>
+    ensures { result ≡ profile_named (option_map (λ n. n.now) name.entry) }
+{
+    match name {
+        None | Some("base") => Some(Profile::Base),
+        Some("extended") => Some(Profile::Extended),
+        Some(_) => None,
+    }
+}
+
+/// A disk of a size and a profile, if there can be one.
+fn checked_disk<'a>(blocks: u64, pool: u64, profile: Profile) -> Result<Config, Stop<'a>>
+    ensures { result ≡ checked_disk blocks pool profile }
 {
     // A number that is no u32 is too large, and so is the largest u32.
     let pool = pool.min(u64::from(u32::MAX)) as u32;
-    Ok(Config::new(blocks, pool, Identity::standard())?)
+    let identity = Identity::standard().with_profile(profile);
+    Ok(Config::new(blocks, pool, identity)?)
 }
 
 /// The command line of the program.
@@ -103,6 +118,7 @@ fn command_line<'a>(alloc: Global) -> Result<Command<'a>, AllocError>
     Command::new(alloc, "sgrun")
         .arg(text_option(alloc, "blocks"))?
         .arg(text_option(alloc, "pool"))?
+        .arg(text_option(alloc, "profile"))?
         .arg(text_option(alloc, "script"))
 }
 

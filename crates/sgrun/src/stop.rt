@@ -15,6 +15,8 @@ pub(crate) enum Stop<'a> {
     Usage,
     /// The text of an option is no number.
     Number,
+    /// No profile has this name.
+    Profile,
     /// A disk can't have as many blocks.
     Blocks,
     /// A disk can't have a pool of this size.
@@ -57,6 +59,7 @@ impl<'a> Stop<'a> {
         match self {
             Stop::Usage => ("usage", ""),
             Stop::Number => ("number", ""),
+            Stop::Profile => ("profile", ""),
             Stop::Blocks => ("blocks", ""),
             Stop::Pool => ("pool", ""),
             Stop::CannotOpen(file) => ("cannot open ", file),
@@ -70,7 +73,7 @@ impl<'a> Stop<'a> {
         ensures { result ≡ (row_of self.entry).status }
     {
         match self {
-            Stop::Usage | Stop::Number | Stop::Blocks | Stop::Pool => 1,
+            Stop::Usage | Stop::Number | Stop::Profile | Stop::Blocks | Stop::Pool => 1,
             Stop::CannotOpen(_) | Stop::Read | Stop::Write => 15,
             Stop::OutOfMemory => 99,
         }

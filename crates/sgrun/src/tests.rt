@@ -1,10 +1,11 @@
 // The request of the command line, in the forms that clap takes, and its refusals.
 use crate::arguments::Arguments;
+use sg_wire::Profile;
 use std::alloc::{AllocError, Global};
 use std::test::Fail;
 
 /// The words after the program's name, the blocks and the pool of the disk, and the script's file.
-const ASKED: [(&str, u64, u32, Option<&str>); 10] = [
+const ASKED: [(&str, u64, u32, Option<&str>); 11] = [
     ("", 4_096, 4, None),
     ("--blocks 1", 1, 4, None),
     ("--blocks=0x1f --pool 5", 31, 5, None),
@@ -15,10 +16,19 @@ const ASKED: [(&str, u64, u32, Option<&str>); 10] = [
     ("--script=", 4_096, 4, Some("")),
     ("--script=--blocks --pool 1", 4_096, 1, Some("--blocks")),
     ("--script - --", 4_096, 4, Some("-")),
+    ("--profile extended --blocks 1", 1, 4, None),
+];
+
+/// The words after the program's name, and the profile of the disk.
+const PROFILES: [(&str, Profile); 4] = [
+    ("", Profile::Base),
+    ("--profile base", Profile::Base),
+    ("--profile extended", Profile::Extended),
+    ("--pool 1 --profile=extended --blocks 2", Profile::Extended),
 ];
 
 /// The words after the program's name, and the message of the stop.
-const REFUSED: [(&str, &str); 20] = [
+const REFUSED: [(&str, &str); 25] = [
     ("FILE", "usage"),
     ("-h", "usage"),
     ("--help", "usage"),
@@ -39,6 +49,11 @@ const REFUSED: [(&str, &str); 20] = [
     ("--pool 0", "pool"),
     ("--pool 65537", "pool"),
     ("--pool 4294967297", "pool"),
+    ("--profile", "usage"),
+    ("--profile base --profile base", "usage"),
+    ("--profile Base", "profile"),
+    ("--profile= --pool zz", "number"),
+    ("--profile extende --blocks 0", "profile"),
 ];
 
 /// A command line: the program's name, and words with blanks between them.
@@ -61,6 +76,18 @@ fn words_ask_for_a_disk_and_a_script(rt: HostRuntime) -> Result<(), Fail> {
         assert_eq!(rt; arguments.disk.blocks(), blocks);
         assert_eq!(rt; arguments.disk.pool(), pool);
         assert_eq!(rt; arguments.script, script);
+    }
+    Ok(())
+}
+
+#[test]
+fn words_name_a_profile(rt: HostRuntime) -> Result<(), Fail> {
+    for (line, profile) in PROFILES {
+        let words = words(rt.alloc(), line)?;
+        let Ok(arguments) = Arguments::parse(rt.alloc(), words.as_slice()) else {
+            return Err(Fail::from(line));
+        };
+        assert_eq!(rt; arguments.disk.identity().profile(), profile);
     }
     Ok(())
 }

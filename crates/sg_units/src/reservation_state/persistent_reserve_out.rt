@@ -60,14 +60,15 @@ impl ReservationState {
     {
         let service_action_key = list.service_action_key;
         match action {
-            OutAction::Register => self.register(caller, service_action_key, list.aptpl),
+            OutAction::Register | OutAction::RegisterAndIgnoreExistingKey => {
+                self.register(caller, service_action_key, list.aptpl)
+            }
             OutAction::Reserve => { self.reserve(caller, kind.ok_or(OutFault::BadType)?) }
             OutAction::Release => { self.release(caller, kind.ok_or(OutFault::BadType)?) }
             OutAction::Clear => Ok(self.clear()),
-            OutAction::Preempt => self.preempt(caller, kind, service_action_key),
-            OutAction::PreemptAndAbort => self.preempt(caller, kind, service_action_key),
-            OutAction::RegisterAndIgnoreExistingKey => {
-                self.register(caller, service_action_key, list.aptpl)
+            // No command is there to abort: each has ended before the next begins.
+            OutAction::Preempt | OutAction::PreemptAndAbort => {
+                self.preempt(caller, kind, service_action_key)
             }
         }
     }

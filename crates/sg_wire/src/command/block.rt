@@ -2,16 +2,15 @@
 ghost use Rattle.std.specs.Prelude.{◌≡◌, ◌/◌, ◌%◌, ◌≤◌, [], ◌∷◌, ◌++◌, length, slice_index};
 ghost use Rattle.std.specs.Prelude.{IfErr, IfOk, OnOk, true};
 ghost use Rattle.byteorder.specs.Endian.{big_bytes};
-ghost use Rattle.sg_wire.specs.Layout.{cdb_of, command_with, extent_6, extent_10, extent_16};
-ghost use Rattle.sg_wire.specs.Layout.{number_at, service_action, value_at};
-ghost use Rattle.sg_wire.specs.Layout.Place.{short_extent};
+ghost use Rattle.sg_wire.specs.CdbEncoding.{cdb_of};
+ghost use Rattle.sg_wire.specs.CdbFields.{number_at, value_at};
+ghost use Rattle.sg_wire.specs.CdbFields.Place.{short_extent};
 ghost use Rattle.sg_wire.specs.FieldRoom.{fits_cdb, have_room};
-ghost use Rattle.sg_wire.specs.Table.{HasAction, IsDecoded, IsRefused, IsRow};
+ghost use Rattle.sg_wire.specs.Layout.{extent_10, extent_16, extent_6};
+ghost use Rattle.sg_wire.specs.Table.{IsDecoded, IsRefused, IsRow, command_by, layout_of};
+ghost use Rattle.sg_wire.specs.declared.command.table.Name.{Name};
 
-use super::table::{
-    READ_6, READ_10, READ_16, READ_CAPACITY_10, READ_CAPACITY_16, Row, SYNCHRONIZE_CACHE_10,
-    WRITE_6, WRITE_10, WRITE_16, check_row,
-};
+use super::table::{READ_CAPACITY_10, READ_CAPACITY_16, Row, check_row};
 use super::{CdbFault, Command, ShortExtent};
 use crate::bytes::{CdbBytes, MAX_CDB_LENGTH};
 use byteorder::{BigEndian, ByteOrder};
@@ -44,59 +43,15 @@ pub struct ReadCapacity16 {
 
 // ---- Decoding
 
-pub(super) fn decode_read_6(cdb: &[u8]) -> Result<Command, CdbFault>
-    ensures { result ≡ command_with 0x08 cdb.now }
-{
-    Ok(Command::Read6(decode_extent_6(&READ_6, cdb)?))
-}
-
-pub(super) fn decode_write_6(cdb: &[u8]) -> Result<Command, CdbFault>
-    ensures { result ≡ command_with 0x0A cdb.now }
-{
-    Ok(Command::Write6(decode_extent_6(&WRITE_6, cdb)?))
-}
-
-pub(super) fn decode_read_10(cdb: &[u8]) -> Result<Command, CdbFault>
-    ensures { result ≡ command_with 0x28 cdb.now }
-{
-    Ok(Command::Read10(decode_extent_10(&READ_10, cdb)?))
-}
-
-pub(super) fn decode_write_10(cdb: &[u8]) -> Result<Command, CdbFault>
-    ensures { result ≡ command_with 0x2A cdb.now }
-{
-    Ok(Command::Write10(decode_extent_10(&WRITE_10, cdb)?))
-}
-
-pub(super) fn decode_synchronize_cache_10(cdb: &[u8]) -> Result<Command, CdbFault>
-    ensures { result ≡ command_with 0x35 cdb.now }
-{
-    let extent = decode_extent_10(&SYNCHRONIZE_CACHE_10, cdb)?;
-    Ok(Command::SynchronizeCache10(extent))
-}
-
-pub(super) fn decode_read_16(cdb: &[u8]) -> Result<Command, CdbFault>
-    ensures { result ≡ command_with 0x88 cdb.now }
-{
-    Ok(Command::Read16(decode_extent_16(&READ_16, cdb)?))
-}
-
-pub(super) fn decode_write_16(cdb: &[u8]) -> Result<Command, CdbFault>
-    ensures { result ≡ command_with 0x8A cdb.now }
-{
-    Ok(Command::Write16(decode_extent_16(&WRITE_16, cdb)?))
-}
-
 pub(super) fn decode_read_capacity_10(cdb: &[u8]) -> Result<Command, CdbFault>
-    ensures { result ≡ command_with 0x25 cdb.now }
+    ensures { result ≡ command_by (layout_of Name.ReadCapacity10) cdb.now }
 {
     check_row(&READ_CAPACITY_10, cdb)?;
     Ok(Command::ReadCapacity10)
 }
 
 pub(super) fn decode_read_capacity_16(cdb: &[u8]) -> Result<Command, CdbFault>
-    requires { service_action cdb.now ≡ 0x10 }
-    ensures { result ≡ command_with 0x9E cdb.now }
+    ensures { result ≡ command_by (layout_of Name.ReadCapacity16) cdb.now }
 {
     check_row(&READ_CAPACITY_16, cdb)?;
     Ok(Command::ReadCapacity16(ReadCapacity16 {
@@ -105,9 +60,8 @@ pub(super) fn decode_read_capacity_16(cdb: &[u8]) -> Result<Command, CdbFault>
 }
 
 /// The address and the count of READ(6) and WRITE(6).
-fn decode_extent_6(row: &Row, cdb: &[u8]) -> Result<ShortExtent, CdbFault>
+pub(super) fn decode_extent_6(row: &Row, cdb: &[u8]) -> Result<ShortExtent, CdbFault>
     requires row { IsRow row.now × (length row.now.masks.now ≡ 6) }
-    requires action { HasAction cdb.now row.now.name }
     ensures decoded { OnOk result (IsDecoded cdb.now row.now.name) }
     ensures refused { IfErr result (IsRefused cdb.now row.now.name) }
     ensures extent { IfOk result (λ extent. extent ≡ value_at cdb.now short_extent) }
@@ -121,7 +75,6 @@ fn decode_extent_6(row: &Row, cdb: &[u8]) -> Result<ShortExtent, CdbFault>
 /// The address and the count of commands of 10 bytes.
 pub(super) fn decode_extent_10(row: &Row, cdb: &[u8]) -> Result<Extent10, CdbFault>
     requires row { IsRow row.now × (length row.now.masks.now ≡ 10) }
-    requires action { HasAction cdb.now row.now.name }
     ensures decoded { OnOk result (IsDecoded cdb.now row.now.name) }
     ensures refused { IfErr result (IsRefused cdb.now row.now.name) }
     ensures whole { OnOk result (10 ≤ length cdb.now) }
@@ -141,7 +94,6 @@ pub(super) fn decode_extent_10(row: &Row, cdb: &[u8]) -> Result<Extent10, CdbFau
 #[inline(always)]
 pub(super) fn decode_extent_16(row: &Row, cdb: &[u8]) -> Result<Extent16, CdbFault>
     requires row { IsRow row.now × (length row.now.masks.now ≡ 16) }
-    requires action { HasAction cdb.now row.now.name }
     ensures decoded { OnOk result (IsDecoded cdb.now row.now.name) }
     ensures refused { IfErr result (IsRefused cdb.now row.now.name) }
     ensures whole { OnOk result (16 ≤ length cdb.now) }
@@ -202,24 +154,21 @@ impl Extent16 {
     }
 }
 
-#[tactic(auto, unfolding(crate::specs::Layout::cdb_of))]
+#[tactic(auto, unfolding(crate::specs::CdbEncoding::cdb_of))]
 pub(super) fn encode_read_capacity_10() -> CdbBytes
     ensures { result ≡ cdb_of Command.ReadCapacity10 }
 {
-    let mut cdb = [0; MAX_CDB_LENGTH];
-    cdb[0] = READ_CAPACITY_10.opcode;
+    let mut cdb = READ_CAPACITY_10.begin();
     CdbBytes::new(cdb, 10)
 }
 
 impl ReadCapacity16 {
-    #[tactic(auto, unfolding(crate::specs::Layout::cdb_of))]
+    #[tactic(auto, unfolding(crate::specs::CdbEncoding::cdb_of))]
     pub(super) fn encode(self) -> CdbBytes
         ensures cdb { result ≡ cdb_of (Command.ReadCapacity16 self) }
         ensures fits { fits_cdb (Command.ReadCapacity16 self) ≡ true }
     {
-        let mut cdb = [0; MAX_CDB_LENGTH];
-        cdb[0] = READ_CAPACITY_16.opcode;
-        cdb[1] = READ_CAPACITY_16.service_action.unwrap_or(0);
+        let mut cdb = READ_CAPACITY_16.begin();
         BigEndian::write_u32(&mut cdb[10..], self.allocation_length);
         CdbBytes::new(cdb, MAX_CDB_LENGTH)
     }

@@ -1,13 +1,14 @@
 // The bits that a CDB may have set, and the bits that are set in it.
 ghost use Rattle.std.specs.Prelude.{◌≡◌, ◌≤◌, ◌<◌, ◌+◌, if◌then◌else◌};
 ghost use Rattle.std.specs.Prelude.{length, IfErr, OnOk, IfSome};
-ghost use Rattle.sg_wire.specs.Layout.{first_bad, fits_masks};
+ghost use Rattle.sg_wire.specs.CdbDecoding.{first_bad};
+ghost use Rattle.sg_wire.specs.Table.{fits_masks};
 
 use super::CdbFault;
 use crate::bytes::MAX_CDB_LENGTH;
 
 /// Refuses a CDB that ends early or has a bit outside the masks.
-#[tactic(auto, unfolding(crate::specs::Layout::fits_masks))]
+#[tactic(auto, unfolding(crate::specs::Table::fits_masks))]
 pub(super) fn check_masks(masks: &[u8], cdb: &[u8]) -> Result<(), CdbFault>
     requires { length masks.now ≤ MAX_CDB_LENGTH }
     ensures fits { result ≡ fits_masks masks.now cdb.now }

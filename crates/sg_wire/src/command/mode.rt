@@ -1,12 +1,14 @@
 // MODE SENSE and MODE SELECT (SPC-4, 6.11 to 6.14).
 ghost use Rattle.std.specs.Prelude.{◌≡◌, true};
-ghost use Rattle.sg_wire.specs.Layout.{cdb_of, command_with};
+ghost use Rattle.sg_wire.specs.CdbEncoding.{cdb_of};
 ghost use Rattle.sg_wire.specs.FieldRoom.{fits_cdb};
+ghost use Rattle.sg_wire.specs.Table.{command_by, layout_of};
+ghost use Rattle.sg_wire.specs.declared.command.table.Name.{Name};
 
 use super::masks::two_bits;
 use super::table::{MODE_SELECT_6, MODE_SELECT_10, MODE_SENSE_6, MODE_SENSE_10, check_row};
 use super::{CdbFault, Command, PageCode, PageControlField};
-use crate::bytes::{CdbBytes, MAX_CDB_LENGTH};
+use crate::bytes::CdbBytes;
 use byteorder::{BigEndian, ByteOrder};
 
 // Bits of byte 1: of MODE SENSE, and of MODE SELECT.
@@ -75,7 +77,7 @@ pub struct ModeSense10 {
 // ---- Decoding
 
 pub(super) fn decode_mode_sense_6(cdb: &[u8]) -> Result<Command, CdbFault>
-    ensures { result ≡ command_with 0x1A cdb.now }
+    ensures { result ≡ command_by (layout_of Name.ModeSense6) cdb.now }
 {
     check_row(&MODE_SENSE_6, cdb)?;
     Ok(Command::ModeSense6(ModeSense6 {
@@ -88,7 +90,7 @@ pub(super) fn decode_mode_sense_6(cdb: &[u8]) -> Result<Command, CdbFault>
 }
 
 pub(super) fn decode_mode_sense_10(cdb: &[u8]) -> Result<Command, CdbFault>
-    ensures { result ≡ command_with 0x5A cdb.now }
+    ensures { result ≡ command_by (layout_of Name.ModeSense10) cdb.now }
 {
     check_row(&MODE_SENSE_10, cdb)?;
     Ok(Command::ModeSense10(ModeSense10 {
@@ -102,7 +104,7 @@ pub(super) fn decode_mode_sense_10(cdb: &[u8]) -> Result<Command, CdbFault>
 }
 
 pub(super) fn decode_mode_select_6(cdb: &[u8]) -> Result<Command, CdbFault>
-    ensures { result ≡ command_with 0x15 cdb.now }
+    ensures { result ≡ command_by (layout_of Name.ModeSelect6) cdb.now }
 {
     check_row(&MODE_SELECT_6, cdb)?;
     Ok(Command::ModeSelect6(ModeSelect6 {
@@ -113,7 +115,7 @@ pub(super) fn decode_mode_select_6(cdb: &[u8]) -> Result<Command, CdbFault>
 }
 
 pub(super) fn decode_mode_select_10(cdb: &[u8]) -> Result<Command, CdbFault>
-    ensures { result ≡ command_with 0x55 cdb.now }
+    ensures { result ≡ command_by (layout_of Name.ModeSelect10) cdb.now }
 {
     check_row(&MODE_SELECT_10, cdb)?;
     Ok(Command::ModeSelect10(ModeSelect10 {
@@ -126,13 +128,12 @@ pub(super) fn decode_mode_select_10(cdb: &[u8]) -> Result<Command, CdbFault>
 // ---- Encoding
 
 impl ModeSense6 {
-    #[tactic(auto, unfolding(crate::specs::Layout::cdb_of))]
+    #[tactic(auto, unfolding(crate::specs::CdbEncoding::cdb_of))]
     pub(super) fn encode(self) -> CdbBytes
         ensures cdb { result ≡ cdb_of (Command.ModeSense6 self) }
         ensures fits { fits_cdb (Command.ModeSense6 self) ≡ true }
     {
-        let mut cdb = [0; MAX_CDB_LENGTH];
-        cdb[0] = MODE_SENSE_6.opcode;
+        let mut cdb = MODE_SENSE_6.begin();
         cdb[1] = if self.dbd { DBD } else { 0 };
         cdb[2] = 64 * self.page_control.number() + self.page_code.number();
         cdb[3] = self.subpage_code;
@@ -142,13 +143,12 @@ impl ModeSense6 {
 }
 
 impl ModeSense10 {
-    #[tactic(auto, unfolding(crate::specs::Layout::cdb_of))]
+    #[tactic(auto, unfolding(crate::specs::CdbEncoding::cdb_of))]
     pub(super) fn encode(self) -> CdbBytes
         ensures cdb { result ≡ cdb_of (Command.ModeSense10 self) }
         ensures fits { fits_cdb (Command.ModeSense10 self) ≡ true }
     {
-        let mut cdb = [0; MAX_CDB_LENGTH];
-        cdb[0] = MODE_SENSE_10.opcode;
+        let mut cdb = MODE_SENSE_10.begin();
         cdb[1] = two_bits(self.llbaa, LLBAA, self.dbd, DBD);
         cdb[2] = 64 * self.page_control.number() + self.page_code.number();
         cdb[3] = self.subpage_code;
@@ -158,13 +158,12 @@ impl ModeSense10 {
 }
 
 impl ModeSelect6 {
-    #[tactic(auto, unfolding(crate::specs::Layout::cdb_of))]
+    #[tactic(auto, unfolding(crate::specs::CdbEncoding::cdb_of))]
     pub(super) fn encode(self) -> CdbBytes
         ensures cdb { result ≡ cdb_of (Command.ModeSelect6 self) }
         ensures fits { fits_cdb (Command.ModeSelect6 self) ≡ true }
     {
-        let mut cdb = [0; MAX_CDB_LENGTH];
-        cdb[0] = MODE_SELECT_6.opcode;
+        let mut cdb = MODE_SELECT_6.begin();
         cdb[1] = two_bits(self.pf, PF, self.sp, SP);
         cdb[4] = self.list_length;
         CdbBytes::new(cdb, 6)
@@ -172,13 +171,12 @@ impl ModeSelect6 {
 }
 
 impl ModeSelect10 {
-    #[tactic(auto, unfolding(crate::specs::Layout::cdb_of))]
+    #[tactic(auto, unfolding(crate::specs::CdbEncoding::cdb_of))]
     pub(super) fn encode(self) -> CdbBytes
         ensures cdb { result ≡ cdb_of (Command.ModeSelect10 self) }
         ensures fits { fits_cdb (Command.ModeSelect10 self) ≡ true }
     {
-        let mut cdb = [0; MAX_CDB_LENGTH];
-        cdb[0] = MODE_SELECT_10.opcode;
+        let mut cdb = MODE_SELECT_10.begin();
         cdb[1] = two_bits(self.pf, PF, self.sp, SP);
         BigEndian::write_u16(&mut cdb[7..], self.list_length);
         CdbBytes::new(cdb, 10)

@@ -21,7 +21,7 @@ impl Model for PageControlField {
 
 ghost use Rattle.std.specs.Prelude.{◌≡◌, ◌<◌};
 ghost use Rattle.std.specs.Option.{SomeIff};
-ghost use Rattle.sg_wire.specs.Layout.{bits_of};
+ghost use Rattle.sg_wire.specs.Bits.{bits_of};
 
 impl PageControlField {
     /// The field with a number. None if the number is not 0 to 3.

@@ -1,10 +1,12 @@
 // Primary commands (SPC-4, 6).
 ghost use Rattle.std.specs.Prelude.{◌≡◌, true};
-ghost use Rattle.sg_wire.specs.Layout.{cdb_of, command_with};
+ghost use Rattle.sg_wire.specs.CdbEncoding.{cdb_of};
 ghost use Rattle.sg_wire.specs.FieldRoom.{fits_cdb};
+ghost use Rattle.sg_wire.specs.Table.{command_by, layout_of};
+ghost use Rattle.sg_wire.specs.declared.command.table.Name.{Name};
 
 use super::{CdbFault, Command, table};
-use crate::bytes::{CdbBytes, MAX_CDB_LENGTH};
+use crate::bytes::CdbBytes;
 use byteorder::{BigEndian, ByteOrder};
 
 /// The fields of REQUEST SENSE (SPC-4, 6.39).
@@ -30,14 +32,14 @@ pub struct Inquiry {
 // ---- Decoding
 
 pub(super) fn decode_test_unit_ready(cdb: &[u8]) -> Result<Command, CdbFault>
-    ensures { result ≡ command_with 0x00 cdb.now }
+    ensures { result ≡ command_by (layout_of Name.TestUnitReady) cdb.now }
 {
     table::check_row(&table::TEST_UNIT_READY, cdb)?;
     Ok(Command::TestUnitReady)
 }
 
 pub(super) fn decode_request_sense(cdb: &[u8]) -> Result<Command, CdbFault>
-    ensures { result ≡ command_with 0x03 cdb.now }
+    ensures { result ≡ command_by (layout_of Name.RequestSense) cdb.now }
 {
     table::check_row(&table::REQUEST_SENSE, cdb)?;
     Ok(Command::RequestSense(RequestSense {
@@ -47,7 +49,7 @@ pub(super) fn decode_request_sense(cdb: &[u8]) -> Result<Command, CdbFault>
 }
 
 pub(super) fn decode_inquiry(cdb: &[u8]) -> Result<Command, CdbFault>
-    ensures { result ≡ command_with 0x12 cdb.now }
+    ensures { result ≡ command_by (layout_of Name.Inquiry) cdb.now }
 {
     table::check_row(&table::INQUIRY, cdb)?;
     Ok(Command::Inquiry(Inquiry {
@@ -59,23 +61,21 @@ pub(super) fn decode_inquiry(cdb: &[u8]) -> Result<Command, CdbFault>
 
 // ---- Encoding
 
-#[tactic(auto, unfolding(crate::specs::Layout::cdb_of))]
+#[tactic(auto, unfolding(crate::specs::CdbEncoding::cdb_of))]
 pub(super) fn encode_test_unit_ready() -> CdbBytes
     ensures { result ≡ cdb_of Command.TestUnitReady }
 {
-    let mut cdb = [0; MAX_CDB_LENGTH];
-    cdb[0] = table::TEST_UNIT_READY.opcode;
+    let mut cdb = table::TEST_UNIT_READY.begin();
     CdbBytes::new(cdb, 6)
 }
 
 impl RequestSense {
-    #[tactic(auto, unfolding(crate::specs::Layout::cdb_of))]
+    #[tactic(auto, unfolding(crate::specs::CdbEncoding::cdb_of))]
     pub(super) fn encode(self) -> CdbBytes
         ensures cdb { result ≡ cdb_of (Command.RequestSense self) }
         ensures fits { fits_cdb (Command.RequestSense self) ≡ true }
     {
-        let mut cdb = [0; MAX_CDB_LENGTH];
-        cdb[0] = table::REQUEST_SENSE.opcode;
+        let mut cdb = table::REQUEST_SENSE.begin();
         cdb[1] = u8::from(self.desc);
         cdb[4] = self.allocation_length;
         CdbBytes::new(cdb, 6)
@@ -83,13 +83,12 @@ impl RequestSense {
 }
 
 impl Inquiry {
-    #[tactic(auto, unfolding(crate::specs::Layout::cdb_of))]
+    #[tactic(auto, unfolding(crate::specs::CdbEncoding::cdb_of))]
     pub(super) fn encode(self) -> CdbBytes
         ensures cdb { result ≡ cdb_of (Command.Inquiry self) }
         ensures fits { fits_cdb (Command.Inquiry self) ≡ true }
     {
-        let mut cdb = [0; MAX_CDB_LENGTH];
-        cdb[0] = table::INQUIRY.opcode;
+        let mut cdb = table::INQUIRY.begin();
         cdb[1] = u8::from(self.evpd);
         cdb[2] = self.page_code;
         BigEndian::write_u16(&mut cdb[3..], self.allocation_length);

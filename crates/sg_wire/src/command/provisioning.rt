@@ -1,7 +1,9 @@
 // Commands of logical block provisioning (SBC-3, 4.7 and 5).
 ghost use Rattle.std.specs.Prelude.{◌≡◌, true};
-ghost use Rattle.sg_wire.specs.Layout.{cdb_of, command_with, service_action};
+ghost use Rattle.sg_wire.specs.CdbEncoding.{cdb_of};
 ghost use Rattle.sg_wire.specs.FieldRoom.{fits_cdb};
+ghost use Rattle.sg_wire.specs.Table.{command_by, layout_of};
+ghost use Rattle.sg_wire.specs.declared.command.table.Name.{Name};
 
 use super::block::{decode_extent_10, decode_extent_16};
 use super::masks::two_bits;
@@ -65,7 +67,7 @@ pub struct GetLbaStatus {
 // ---- Decoding
 
 pub(super) fn decode_write_same_10(cdb: &[u8]) -> Result<Command, CdbFault>
-    ensures { result ≡ command_with 0x41 cdb.now }
+    ensures { result ≡ command_by (layout_of Name.WriteSame10) cdb.now }
 {
     let extent = decode_extent_10(&table::WRITE_SAME_10, cdb)?;
     Ok(Command::WriteSame10(WriteSame10 {
@@ -77,7 +79,7 @@ pub(super) fn decode_write_same_10(cdb: &[u8]) -> Result<Command, CdbFault>
 }
 
 pub(super) fn decode_write_same_16(cdb: &[u8]) -> Result<Command, CdbFault>
-    ensures { result ≡ command_with 0x93 cdb.now }
+    ensures { result ≡ command_by (layout_of Name.WriteSame16) cdb.now }
 {
     let extent = decode_extent_16(&table::WRITE_SAME_16, cdb)?;
     Ok(Command::WriteSame16(WriteSame16 {
@@ -89,7 +91,7 @@ pub(super) fn decode_write_same_16(cdb: &[u8]) -> Result<Command, CdbFault>
 }
 
 pub(super) fn decode_unmap(cdb: &[u8]) -> Result<Command, CdbFault>
-    ensures { result ≡ command_with 0x42 cdb.now }
+    ensures { result ≡ command_by (layout_of Name.Unmap) cdb.now }
 {
     table::check_row(&table::UNMAP, cdb)?;
     Ok(Command::Unmap(Unmap {
@@ -100,8 +102,7 @@ pub(super) fn decode_unmap(cdb: &[u8]) -> Result<Command, CdbFault>
 }
 
 pub(super) fn decode_get_lba_status(cdb: &[u8]) -> Result<Command, CdbFault>
-    requires { service_action cdb.now ≡ 0x12 }
-    ensures { result ≡ command_with 0x9E cdb.now }
+    ensures { result ≡ command_by (layout_of Name.GetLbaStatus) cdb.now }
 {
     // The numbers lie in the places of an extent's numbers.
     let numbers = decode_extent_16(&table::GET_LBA_STATUS, cdb)?;
@@ -114,13 +115,12 @@ pub(super) fn decode_get_lba_status(cdb: &[u8]) -> Result<Command, CdbFault>
 // ---- Encoding
 
 impl WriteSame10 {
-    #[tactic(auto, unfolding(crate::specs::Layout::cdb_of))]
+    #[tactic(auto, unfolding(crate::specs::CdbEncoding::cdb_of))]
     pub(super) fn encode(self) -> CdbBytes
         ensures cdb { result ≡ cdb_of (Command.WriteSame10 self) }
         ensures fits { fits_cdb (Command.WriteSame10 self) ≡ true }
     {
-        let mut cdb = [0; MAX_CDB_LENGTH];
-        cdb[0] = table::WRITE_SAME_10.opcode;
+        let mut cdb = table::WRITE_SAME_10.begin();
         cdb[1] = two_bits(self.anchor, WRITE_SAME_ANCHOR, self.unmap, WRITE_SAME_UNMAP);
         BigEndian::write_u32(&mut cdb[2..], self.lba);
         BigEndian::write_u16(&mut cdb[7..], self.count);
@@ -129,13 +129,12 @@ impl WriteSame10 {
 }
 
 impl WriteSame16 {
-    #[tactic(auto, unfolding(crate::specs::Layout::cdb_of))]
+    #[tactic(auto, unfolding(crate::specs::CdbEncoding::cdb_of))]
     pub(super) fn encode(self) -> CdbBytes
         ensures cdb { result ≡ cdb_of (Command.WriteSame16 self) }
         ensures fits { fits_cdb (Command.WriteSame16 self) ≡ true }
     {
-        let mut cdb = [0; MAX_CDB_LENGTH];
-        cdb[0] = table::WRITE_SAME_16.opcode;
+        let mut cdb = table::WRITE_SAME_16.begin();
         cdb[1] = two_bits(self.anchor, WRITE_SAME_ANCHOR, self.unmap, WRITE_SAME_UNMAP);
         BigEndian::write_u64(&mut cdb[2..], self.lba);
         BigEndian::write_u32(&mut cdb[10..], self.count);
@@ -144,13 +143,12 @@ impl WriteSame16 {
 }
 
 impl Unmap {
-    #[tactic(auto, unfolding(crate::specs::Layout::cdb_of))]
+    #[tactic(auto, unfolding(crate::specs::CdbEncoding::cdb_of))]
     pub(super) fn encode(self) -> CdbBytes
         ensures cdb { result ≡ cdb_of (Command.Unmap self) }
         ensures fits { fits_cdb (Command.Unmap self) ≡ true }
     {
-        let mut cdb = [0; MAX_CDB_LENGTH];
-        cdb[0] = table::UNMAP.opcode;
+        let mut cdb = table::UNMAP.begin();
         cdb[1] = if self.anchor { UNMAP_ANCHOR } else { 0 };
         cdb[6] = self.group.number();
         BigEndian::write_u16(&mut cdb[7..], self.list_length);
@@ -159,14 +157,12 @@ impl Unmap {
 }
 
 impl GetLbaStatus {
-    #[tactic(auto, unfolding(crate::specs::Layout::cdb_of))]
+    #[tactic(auto, unfolding(crate::specs::CdbEncoding::cdb_of))]
     pub(super) fn encode(self) -> CdbBytes
         ensures cdb { result ≡ cdb_of (Command.GetLbaStatus self) }
         ensures fits { fits_cdb (Command.GetLbaStatus self) ≡ true }
     {
-        let mut cdb = [0; MAX_CDB_LENGTH];
-        cdb[0] = table::GET_LBA_STATUS.opcode;
-        cdb[1] = table::GET_LBA_STATUS.service_action.unwrap_or(0);
+        let mut cdb = table::GET_LBA_STATUS.begin();
         BigEndian::write_u64(&mut cdb[2..], self.start);
         BigEndian::write_u32(&mut cdb[10..], self.allocation_length);
         CdbBytes::new(cdb, MAX_CDB_LENGTH)

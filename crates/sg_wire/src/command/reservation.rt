@@ -1,12 +1,13 @@
 // PERSISTENT RESERVE IN and PERSISTENT RESERVE OUT (SPC-4, 6.15 and 6.16).
 ghost use Rattle.std.specs.Prelude.{◌≡◌, true};
-ghost use Rattle.sg_wire.specs.Layout.{cdb_of, command_with};
+ghost use Rattle.sg_wire.specs.CdbEncoding.{cdb_of};
 ghost use Rattle.sg_wire.specs.FieldRoom.{fits_cdb};
+ghost use Rattle.sg_wire.specs.Table.{command_with};
 
 use super::masks::{check_length, check_masks};
 use super::table::{PERSISTENT_RESERVE_IN, PERSISTENT_RESERVE_OUT, service_action};
 use super::{CdbFault, Command, InAction, OutAction};
-use crate::bytes::{CdbBytes, MAX_CDB_LENGTH};
+use crate::bytes::CdbBytes;
 use byteorder::{BigEndian, ByteOrder};
 
 /// The fields of PERSISTENT RESERVE IN (SPC-4, 6.15).
@@ -31,7 +32,7 @@ pub struct PersistentReserveOut {
 
 // ---- Decoding
 
-#[tactic(auto, unfolding(crate::specs::Layout::command_with, crate::specs::Layout::fits_masks))]
+#[tactic(auto, unfolding(crate::specs::Table::command_with, crate::specs::Table::fits_masks))]
 pub(super) fn decode_persistent_reserve_in(cdb: &[u8]) -> Result<Command, CdbFault>
     ensures { result ≡ command_with 0x5E cdb.now }
 {
@@ -44,7 +45,7 @@ pub(super) fn decode_persistent_reserve_in(cdb: &[u8]) -> Result<Command, CdbFau
     }))
 }
 
-#[tactic(auto, unfolding(crate::specs::Layout::command_with, crate::specs::Layout::fits_masks))]
+#[tactic(auto, unfolding(crate::specs::Table::command_with, crate::specs::Table::fits_masks))]
 pub(super) fn decode_persistent_reserve_out(cdb: &[u8]) -> Result<Command, CdbFault>
     ensures { result ≡ command_with 0x5F cdb.now }
 {
@@ -61,13 +62,12 @@ pub(super) fn decode_persistent_reserve_out(cdb: &[u8]) -> Result<Command, CdbFa
 // ---- Encoding
 
 impl PersistentReserveIn {
-    #[tactic(auto, unfolding(crate::specs::Layout::cdb_of))]
+    #[tactic(auto, unfolding(crate::specs::CdbEncoding::cdb_of))]
     pub(super) fn encode(self) -> CdbBytes
         ensures cdb { result ≡ cdb_of (Command.PersistentReserveIn self) }
         ensures fits { fits_cdb (Command.PersistentReserveIn self) ≡ true }
     {
-        let mut cdb = [0; MAX_CDB_LENGTH];
-        cdb[0] = PERSISTENT_RESERVE_IN.opcode;
+        let mut cdb = PERSISTENT_RESERVE_IN.begin();
         cdb[1] = self.action.code();
         BigEndian::write_u16(&mut cdb[7..], self.allocation_length);
         CdbBytes::new(cdb, 10)
@@ -75,13 +75,12 @@ impl PersistentReserveIn {
 }
 
 impl PersistentReserveOut {
-    #[tactic(auto, unfolding(crate::specs::Layout::cdb_of))]
+    #[tactic(auto, unfolding(crate::specs::CdbEncoding::cdb_of))]
     pub(super) fn encode(self) -> CdbBytes
         ensures cdb { result ≡ cdb_of (Command.PersistentReserveOut self) }
         ensures fits { fits_cdb (Command.PersistentReserveOut self) ≡ true }
     {
-        let mut cdb = [0; MAX_CDB_LENGTH];
-        cdb[0] = PERSISTENT_RESERVE_OUT.opcode;
+        let mut cdb = PERSISTENT_RESERVE_OUT.begin();
         cdb[1] = self.action.code();
         cdb[2] = self.scope_type;
         BigEndian::write_u32(&mut cdb[5..], self.list_length);

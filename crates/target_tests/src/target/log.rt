@@ -84,9 +84,7 @@ impl<'a, A: Abort> Log<'a, A> {
 impl<'a, A: Abort> Sink for Log<'a, A> {
     type Fault = Refused;
 
-    ghost taken = { λ log. log.entries.items };
-
-    ghost faults = { λ log. log.refusals };
+    ghost fields = { λ log. record { taken = log.entries.items; refused = log.refusals } };
 
     fn take(&mut self, reply: &Reply, data_in: &[u8]) -> Result<(), Refused> {
         if self.entries.len() < self.most && self.keep(reply, data_in).is_ok() {

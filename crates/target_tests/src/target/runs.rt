@@ -1,7 +1,7 @@
 // Lists of commands, with power cycles among them.
 use super::log::{Entry, Log, Refused};
 use super::*;
-use sg_target::{Call, Event};
+use sg_target::{Call, Event, Happening};
 use std::process::Abort;
 
 /// A command and its answer: the initiator's number, the CDB, data-out, the ending and data-in.
@@ -71,7 +71,7 @@ fn run_events(
                 cdb,
                 data_out,
             }),
-            None => Event::Power,
+            None => Event::Happen(Happening::Power),
         };
         if events.push(event).is_err() {
             return Err(Fail::from("no memory"));

@@ -2,20 +2,21 @@ use Rattle.std.proofs.Common.{◌≡◌, ℕ, List, [], ◌∷◌, Option, Some,
 use Rattle.std.proofs.Common.{Bool, true, false, refl, ap}
 use Rattle.std.specs.Prelude.{if◌then◌else◌, find, nat_lt, length}
 use Rattle.std.specs.Option.{option_map}
-use Rattle.sg_wire.specs.Layout.{Layout, class_by_rows, class_of, command_by_row}
-use Rattle.sg_wire.specs.Layout.{command_by_rows, command_of, command_with, first_bad}
-use Rattle.sg_wire.specs.Layout.{has_action_of, is_blocked_by_attention, length_of, masks}
-use Rattle.sg_wire.specs.Layout.{rows_of, unless_bad}
+use Rattle.sg_wire.specs.CdbDecoding.{class_by_rows, class_in, command_by_row, command_by_rows}
+use Rattle.sg_wire.specs.CdbDecoding.{command_in, first_bad, has_action_of, is_blocked_in, masks}
+use Rattle.sg_wire.specs.CdbDecoding.{rows_in, unless_bad}
+use Rattle.sg_wire.specs.Layout.{Layout, length_of}
 use Rattle.sg_wire.specs.declared.command.CdbFault.{CdbFault}
 use Rattle.sg_wire.specs.declared.command.CdbFault.TheVariants.{Short}
 use Rattle.sg_wire.specs.declared.command.Class.{Class}
 use Rattle.sg_wire.specs.declared.command.Command.{Command}
+use Rattle.sg_wire.specs.declared.profile.Profile.{Profile}
 use Rattle.sg_units.specs.Access.{allows}
 use Rattle.sg_units.specs.Attentions.{oldest}
 use Rattle.sg_target.specs.Checks.{cdb_checks, checked_cdb, empty_cdb}
 use Rattle.sg_target.specs.Refusal.{first_some}
 use Rattle.sg_target.specs.Checks.{pending_attention, reservation_conflict, unknown_opcode}
-use Rattle.sg_target.specs.State.{State}
+use Rattle.sg_target.specs.State.{State, profile_of}
 use Rattle.sg_target.specs.declared.refusal.Refusal.{Refusal}
 use Rattle.sg_target.specs.declared.refusal.Refusal.TheVariants.{Conflict}
 use Rattle.sg_fencing.proofs.laws.refused_by_reservation.Goals as goal
@@ -45,10 +46,12 @@ known-by-rows cdb (l ∷ ls) class h =
     known-or-short (nat_lt (length cdb) (length_of l.opcode)) _ _
     (known-by-row cdb (find (has_action_of cdb) (l ∷ ls)))
 
-known : (cdb : List ℕ) (class : Class) → class_of cdb ≡ Some class → IsKnown (command_of cdb)
-unfolding class_of command_of command_with
-known [] class h = cc
-known (opcode ∷ rest) class h = known-by-rows (opcode ∷ rest) (rows_of opcode) class h
+known : (profile : Profile) (cdb : List ℕ) (class : Class) → class_in profile cdb ≡ Some class
+    → IsKnown (command_in profile cdb)
+unfolding class_in command_in
+known profile [] class h = cc
+known profile (opcode ∷ rest) class h =
+    known-by-rows (opcode ∷ rest) (rows_in profile opcode) class h
 
 none-if : (blocked : Bool) (check : Option Refusal) → check ≡ None
     → (if blocked then check else None) ≡ None
@@ -57,10 +60,11 @@ none-if false check h = refl
 
 none-pending : (state : State) (i : ℕ) (cdb : List ℕ) → oldest state.attentions i ≡ None
     → pending_attention state i cdb ≡ None
-none-pending state i cdb h = none-if (is_blocked_by_attention cdb) _ (ap (option_map _) h)
+none-pending state i cdb h = none-if (is_blocked_in (profile_of state) cdb) _ (ap (option_map _) h)
 
-conflicts : (state : State) (i : ℕ) (cdb : List ℕ) (class : Class) → class_of cdb ≡ Some class
-    → allows state.reservations i class ≡ false → reservation_conflict state i cdb ≡ Some Conflict
+conflicts : (state : State) (i : ℕ) (cdb : List ℕ) (class : Class)
+    → class_in (profile_of state) cdb ≡ Some class → allows state.reservations i class ≡ false
+    → reservation_conflict state i cdb ≡ Some Conflict
 conflicts state i cdb class h refused = rw (h, refused) refl
 
 first-conflict : (a b c d : Option Refusal) (rest : List (Option Refusal))
@@ -80,7 +84,7 @@ conflict-decides state i cdb data_out h = rw h refl
 
 pub returns : goal.returns
 returns c state i cdb data_out class is not_allowed none =
-    let sound = known cdb class is in
+    let sound = known (profile_of state) cdb class is in
     let pending = none-pending state i cdb none in
     let conflict = conflicts state i cdb class is not_allowed in
     let first = first-conflict _ _ _ _ _ sound.has_byte pending sound.has_opcode conflict in

@@ -1,5 +1,5 @@
 use Rattle.std.proofs.Common.{◌≡◌, ℕ, List, ap, subst, ◌∙◌}
-use Rattle.sg_wire.specs.Layout.{cdb_of}
+use Rattle.sg_wire.specs.CdbEncoding.{cdb_of}
 use Rattle.sg_target.specs.State.{State}
 use Rattle.sg_target.specs.Step.{Step, step}
 use Rattle.sg_tools.specs.declared.show.Show.TheVariants.{Nothing}

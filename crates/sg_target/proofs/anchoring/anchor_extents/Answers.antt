@@ -1,6 +1,6 @@
 use Rattle.std.proofs.Common.{arith, map}
 use Rattle.sg_store.specs.declared.store.TheConstants.{MAX_CAPACITY}
-use Rattle.sg_target.specs.Ranges.{cost_bounds}
+use Rattle.sg_target.specs.Charge.{cost_bounds}
 use Rattle.sg_target.specs.Joining.{range_of}
 use Rattle.sg_target.proofs.ChargingLemmas.{counted-charged, all-charged, all-least}
 use Rattle.sg_target.proofs.NeedLemmas.{ranges-within, used-after, within-weaker}

@@ -1,8 +1,9 @@
 use Rattle.std.proofs.Common.{◌≡◌, ◌+◌, [], ◌∷◌, ◌++◌, take, drop, get_or, ap, sym, ◌∙◌, arith, subst}
 use Rattle.std.proofs.lemmas.List.{take_more, take_all, take-append-drop}
 use Rattle.std.specs.FinMap as map
-use Rattle.sg_target.specs.ProvisioningCommands.{changed_in_turn, ranges_in_turn}
-use Rattle.sg_target.specs.Ranges.{IsCounted, cost_bounds}
+use Rattle.sg_target.specs.Charge.{IsCounted, cost_bounds}
+use Rattle.sg_target.specs.ProvisioningCommands.{changed_in_turn}
+use Rattle.sg_target.specs.Ranges.{ranges_in_turn}
 use Rattle.sg_store.specs.Disk.{Contents, Disk, anchored}
 use Rattle.sg_wire.specs.declared.extent.Extent.{Extent}
 use Rattle.sg_target.proofs.ChargingLemmas.{disk-next, turn-next}

@@ -1,9 +1,9 @@
 use Rattle.std.proofs.Common.{◌≡◌, ◌≤◌, ◌+◌, ◌*◌, ◌^◌, ◌++◌, take, List}
 use Rattle.sg_store.specs.Disk.{anchored}
 use Rattle.sg_store.specs.Meter.{Meter}
-use Rattle.sg_target.specs.Effect.{Range}
-use Rattle.sg_target.specs.ProvisioningCommands.{disk_changed_in_turn, ranges_in_turn}
-use Rattle.sg_target.specs.Ranges.{IsCounted, cost_bounds}
+use Rattle.sg_target.specs.Charge.{IsCounted, cost_bounds}
+use Rattle.sg_target.specs.ProvisioningCommands.{disk_changed_in_turn}
+use Rattle.sg_target.specs.Ranges.{Range, ranges_in_turn}
 use Rattle.sg_target.proofs.anchoring.anchor_in_turn.Given as goal
 
 -- the extents so far are anchored

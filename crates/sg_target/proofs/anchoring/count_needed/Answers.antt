@@ -1,6 +1,6 @@
 use Rattle.std.proofs.Common.{◌≡◌, take, get_or, ap, ◌∙◌, arith}
 use Rattle.std.proofs.lemmas.List.{take_more}
-use Rattle.sg_target.specs.Ranges.{cost_bounds}
+use Rattle.sg_target.specs.Charge.{cost_bounds}
 use Rattle.sg_store.specs.Disk.{Disk, need}
 use Rattle.sg_target.specs.declared.joining.AddressRange.{AddressRange}
 use Rattle.sg_target.proofs.ChargingLemmas.{counted-next}

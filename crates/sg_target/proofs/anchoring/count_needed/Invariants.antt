@@ -1,7 +1,7 @@
 use Rattle.std.proofs.Common.{◌≡◌, ◌≤◌, ◌*◌, ◌^◌, take}
 use Rattle.sg_target.specs.Anchoring.{need_of}
 use Rattle.sg_target.specs.Anchoring.{counted_ranges}
-use Rattle.sg_target.specs.Ranges.{IsCounted, cost_bounds}
+use Rattle.sg_target.specs.Charge.{IsCounted, cost_bounds}
 use Rattle.sg_target.proofs.anchoring.count_needed.Given as goal
 
 -- the blocks that the ranges so far need

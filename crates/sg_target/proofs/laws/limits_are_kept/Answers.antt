@@ -1,4 +1,4 @@
-use Rattle.sg_target.proofs.LimitLemmas.{cycle-within, step-within}
+use Rattle.sg_target.proofs.LimitLemmas.{happening-within, step-within}
 use Rattle.sg_target.proofs.laws.limits_are_kept.Goals as goal
 
 pub returns : goal.returns
@@ -8,5 +8,5 @@ returns c =
     let disks = c.disks_stay_well_formed.ensures in
     record {
       command = step-within reservations queues disks;
-      power_cycle = cycle-within reservations queues disks;
+      happening = happening-within reservations queues disks;
     }

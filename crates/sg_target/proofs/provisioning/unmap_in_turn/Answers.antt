@@ -1,7 +1,7 @@
 use Rattle.std.proofs.Common.{[], get_or, ap, arith, length-take}
 use Rattle.sg_wire.specs.declared.extent.Extent.{Extent}
 use Rattle.sg_store.specs.Disk.{Disk, unmapped}
-use Rattle.sg_target.specs.Ranges.{cost_bounds}
+use Rattle.sg_target.specs.Charge.{cost_bounds}
 use Rattle.sg_target.proofs.ExtentLemmas.{on_disk-at}
 use Rattle.sg_target.proofs.ChargingLemmas.{disk-next, turn-next}
 use Rattle.sg_target.proofs.UnmapLemmas.{has_headroom}

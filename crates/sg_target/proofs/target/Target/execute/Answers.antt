@@ -1,6 +1,6 @@
 use Rattle.std.proofs.Common.{◌≤◌, sym, arith, rules}
-use Rattle.sg_target.specs.Semantics.{effect_of}
-use Rattle.sg_target.specs.Ranges.{ranges_in, visit_bound}
+use Rattle.sg_target.specs.Charge.{visit_bound}
+use Rattle.sg_target.specs.Ranges.{ranges_of}
 use Rattle.sg_target.proofs.RangeLemmas.{price-within}
 use Rattle.sg_target.proofs.StepLemmas.{ranges-checked, step-checked, within-checked}
 use Rattle.sg_target.proofs.target.Target.execute.Goals as goal
@@ -12,18 +12,22 @@ returns-in-Ok g c =
     let cdb = c.args.cdb.now in
     let data_out = c.args.data_out.now in
     let passed = sym c.in-Ok.ensures.checked in
-    let over = ranges_in (effect_of old i c.in-Ok.operation) in
+    let over = ranges_of old c.in-Ok.operation in
     let within = price-within g.S.Store.price g.met.S.Store.price_within over in
     let charged = c.execute_checked.ensures.charge.visits in
     let few : c.execute_checked.result.counts.visits ≤ visit_bound over = omega arith in
     let step = step-checked old i cdb data_out _ passed in
     let ranges = ranges-checked old i cdb data_out _ passed in
+    let done = c.execute_checked.ensures in
     record {
-      done = rw (step, ranges) c.execute_checked.ensures;
-      limits =
-          within-checked old i cdb data_out _ _ passed c.execute_checked.ensures.state
-          (c.limits_are_kept.ensures.command _ i cdb data_out c.in-Ok.ensures.limits);
-      visits = rw ranges few;
+      executed = record {
+        answer = rw step done.answer;
+        state = rw step done.state;
+        limits =
+            within-checked old i cdb data_out _ _ passed done.state
+            (c.limits_are_kept.ensures.command _ i cdb data_out c.in-Ok.ensures.limits);
+      };
+      charged = record { charge = rw ranges done.charge; visits = rw ranges few };
     }
 
 pub returns-in-Err : goal.returns-in-Err
@@ -32,10 +36,13 @@ returns-in-Err g c =
     let cdb = c.args.cdb.now in
     let data_out = c.args.data_out.now in
     record {
-      done = search rules;
-      limits =
-          within-checked c.args.self.now.state i cdb data_out _ _ (sym c.in-Err.ensures.checked)
-          c.refuse.ensures.state
-          (c.limits_are_kept.ensures.command _ i cdb data_out c.in-Err.ensures.limits);
-      visits = search rules;
+      executed = record {
+        answer = search rules;
+        state = search rules;
+        limits =
+            within-checked c.args.self.now.state i cdb data_out _ _ (sym c.in-Err.ensures.checked)
+            c.refuse.ensures.state
+            (c.limits_are_kept.ensures.command _ i cdb data_out c.in-Err.ensures.limits);
+      };
+      charged = record { charge = search rules; visits = search rules };
     }

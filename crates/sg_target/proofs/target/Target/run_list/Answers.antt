@@ -1,15 +1,15 @@
 use Rattle.std.proofs.Common.{◌≡◌, ◌+◌, ◌<◌, ◌≤◌, length, List, ◌++◌, ◌∷◌, [], map, take, arith, ap}
 use Rattle.std.proofs.Common.{sym, subst, rules, ◌∙◌}
 use Rattle.std.proofs.lemmas.List.{length-map, take_all, take-map}
-use Rattle.sg_target.specs.Ranges.{IsCharged, cost_bounds}
+use Rattle.sg_target.specs.Charge.{IsCharged, cost_bounds}
 use Rattle.sg_target.specs.Runs.{step_of, ranges_of_call, exchange, state_after_event, Stopped}
 use Rattle.sg_target.specs.State.{State}
 use Rattle.sg_target.specs.declared.event.Event.{Event}
 use Rattle.sg_target.specs.declared.event.Event.TheVariants as event
-use Rattle.sg_target.proofs.RunLemmas.{events-more, exchanged-more, exchanged-power, state-more}
+use Rattle.sg_target.proofs.RunLemmas.{events-more, exchanged-happening, exchanged-more, state-more}
 use Rattle.sg_target.proofs.RunLemmas.{all-within, answer-carried, on-err, size-carried, within-seen}
 use Rattle.sg_target.proofs.target.Target.run_list.Goals as goal
-use Rattle.sg_target.proofs.target.Target.run_list.Goals.{in-Call+in_ok-take-in-Call, in-Power}
+use Rattle.sg_target.proofs.target.Target.run_list.Goals.{in-Call+in_ok-take-in-Call, in-Happen}
 
 pub returns-in_err-take-in-Call : goal.returns-in_err-take-in-Call
 returns-in_err-take-in-Call g c =
@@ -25,16 +25,16 @@ returns-in_err-take-in-Call g c =
     ∙ events-more g.E.ToEvent.event list i c.item-item.result (event.Call call) here c.item-item.is
     (sym c.to_event.ensures ∙ c.in-Call.is) in
     let so_far = c.loop-item.invariant.state in
-    let answered = answer-carried _ c.execute-reply.result _ _ c.execute-reply.ensures.done.answer
+    let answered = answer-carried _ c.execute-reply.result _ _ c.execute-reply.ensures.executed.answer
     ∙ ap (λ s. (step_of s call).answer) so_far in
-    let size = size-carried _ c.execute-reply.result _ _ c.execute-reply.ensures.done.answer in
+    let size = size-carried _ c.execute-reply.result _ _ c.execute-reply.ensures.executed.answer in
     let charged =
     subst (λ (s : State). IsCharged (cost_bounds g.S.Store.price g.S.Store.least) s.disk.pool
     (ranges_of_call s call) c.loop-item.self.meter c.execute-reply.new.self.meter
-    c.execute-reply.result) so_far c.execute-reply.ensures.done.charge in
+    c.execute-reply.result) so_far c.execute-reply.ensures.charged.charge in
     let stopped : Stopped (cost_bounds g.S.Store.price g.S.Store.least) state
     (map g.E.ToEvent.event list)
-    (g.K.Sink.taken c.args.sink.now) (g.K.Sink.taken c.take.new.self) c.args.self.now.meter
+    (g.K.Sink.fields c.args.sink.now).taken (g.K.Sink.fields c.take.new.self).taken c.args.self.now.meter
     c.execute-reply.new.self.meter c.execute-reply.new.self.state = record {
       index = i;
       in_range = omega (arith, here, length-map list g.E.ToEvent.event);
@@ -45,7 +45,7 @@ returns-in_err-take-in-Call g c =
           (exchanged-more (cost_bounds g.S.Store.price g.S.Store.least) state
           before _ _ _ _ _ call _ c.loop-item.invariant.took answered size charged);
       state_is =
-          rw next (c.execute-reply.ensures.done.state
+          rw next (c.execute-reply.ensures.executed.state
           ∙ ap (λ s. (step_of s call).state) so_far
           ∙ sym (state-more state before (event.Call call)));
     } in
@@ -75,33 +75,34 @@ loop-item-preserved g c =
       | in-Call+in_ok-take-in-Call w ↦
           let call = w.in-Call.call in
           let next = more (event.Call call) (sym c.to_event.ensures ∙ w.in-Call.is) in
-          let answered = answer-carried _ w.execute-reply.result _ _ w.execute-reply.ensures.done.answer
+          let answered = answer-carried _ w.execute-reply.result _ _ w.execute-reply.ensures.executed.answer
           ∙ ap (λ s. (step_of s call).answer) so_far in
-          let size = size-carried _ w.execute-reply.result _ _ w.execute-reply.ensures.done.answer in
+          let size = size-carried _ w.execute-reply.result _ _ w.execute-reply.ensures.executed.answer in
           let charged =
           subst (λ (s : State). IsCharged (cost_bounds g.S.Store.price g.S.Store.least) s.disk.pool
           (ranges_of_call s call) c.loop-item.self.meter w.execute-reply.new.self.meter
-          w.execute-reply.result) so_far w.execute-reply.ensures.done.charge in
+          w.execute-reply.result) so_far w.execute-reply.ensures.charged.charge in
           record {
             took = rw (next, w.self-is, w.sink-is, w.in_ok-take-in-Call.ensures.taken)
                 (exchanged-more (cost_bounds g.S.Store.price g.S.Store.least) state
                 before _ _ _ _ _ call _ c.loop-item.invariant.took answered size charged);
             state =
-                rw (next, w.self-is) (w.execute-reply.ensures.done.state
+                rw (next, w.self-is) (w.execute-reply.ensures.executed.state
                 ∙ ap (λ s. (step_of s call).state) so_far
                 ∙ sym (state-more state before (event.Call call)));
             sound = rw w.sink-is (w.in_ok-take-in-Call.ensures.sound ∙ c.loop-item.invariant.sound);
           }
-      | in-Power w ↦
-          let next = more event.Power (sym c.to_event.ensures ∙ w.in-Power.is) in
+      | in-Happen w ↦
+          let last = event.Happen w.in-Happen.happening in
+          let next = more last (sym c.to_event.ensures ∙ w.in-Happen.is) in
           record {
-            took = rw (next, w.self-is, w.sink-is, w.power_cycle.ensures.meter)
-                (exchanged-power (cost_bounds g.S.Store.price g.S.Store.least) state
-                before _ _ _ _ c.loop-item.invariant.took);
+            took = rw (next, w.self-is, w.sink-is, w.happen.ensures.meter)
+                (exchanged-happening (cost_bounds g.S.Store.price g.S.Store.least) state
+                before _ _ _ _ w.in-Happen.happening c.loop-item.invariant.took);
             state =
-                rw (next, w.self-is) (w.power_cycle.ensures.state
-                ∙ ap (λ s. state_after_event s event.Power) so_far
-                ∙ sym (state-more state before event.Power));
+                rw (next, w.self-is) (w.happen.ensures.state
+                ∙ ap (λ s. state_after_event s last) so_far
+                ∙ sym (state-more state before last));
             sound = rw w.sink-is c.loop-item.invariant.sound;
           }
     ]

@@ -1,5 +1,5 @@
 use Rattle.std.proofs.Common.{◌≡◌, map, take, List}
-use Rattle.sg_target.specs.Ranges.{cost_bounds}
+use Rattle.sg_target.specs.Charge.{cost_bounds}
 use Rattle.sg_target.specs.Runs.{state_after_events, Exchanged}
 use Rattle.sg_target.specs.declared.event.Event.{Event}
 use Rattle.sg_target.proofs.target.Target.run_list.Given as goal
@@ -10,7 +10,8 @@ invariant-loop-item g l =
     let before : List Event = map g.E.ToEvent.event (take l.item-index l.list) in
     record {
       took : Exchanged (cost_bounds g.S.Store.price g.S.Store.least) l.fn.self.state before
-          (g.K.Sink.taken l.fn.sink) (g.K.Sink.taken l.sink) l.fn.self.meter l.self.meter;
+          (g.K.Sink.fields l.fn.sink).taken (g.K.Sink.fields l.sink).taken l.fn.self.meter
+          l.self.meter;
       state : l.self.state ≡ state_after_events l.fn.self.state before;
-      sound : g.K.Sink.faults l.sink ≡ g.K.Sink.faults l.fn.sink;
+      sound : (g.K.Sink.fields l.sink).refused ≡ (g.K.Sink.fields l.fn.sink).refused;
     }

@@ -1,5 +1,5 @@
 use Rattle.std.proofs.Common.{◌≡◌, drop}
-use Rattle.sg_wire.specs.Layout.{first_bad}
+use Rattle.sg_wire.specs.CdbDecoding.{first_bad}
 use Rattle.sg_wire.proofs.command.masks.first_bad.Given as goal
 
 -- no byte so far is bad

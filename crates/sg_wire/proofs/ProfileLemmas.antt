@@ -1,0 +1,115 @@
+-- What a profile has of the table: all rows of an operation code, or none.
+use Rattle.std.proofs.Common.{◌≡◌, ℕ, ◌==◌, List, [], ◌∷◌, get_or, filter, Bool, true, false, cond}
+use Rattle.std.proofs.Common.{Ok, refl, sym, ap, ◌∙◌}
+use Rattle.std.proofs.lemmas.Bool.{and_parts, eqb-true}
+use Rattle.std.specs.Prelude.{◌&&◌, if◌then◌else◌}
+use Rattle.sg_wire.specs.CdbDecoding.{command_by_rows, command_in, command_of, rows_in}
+use Rattle.sg_wire.specs.CdbEncoding.{cdb_of}
+use Rattle.sg_wire.specs.Laws.{IsReadAs, has_command}
+use Rattle.sg_wire.specs.Layout.{Layout, layout, table}
+use Rattle.sg_wire.specs.Profile.{is_in}
+use Rattle.sg_wire.specs.declared.command.Command.{Command}
+use Rattle.sg_wire.specs.declared.command.Command.TheVariants as command
+use Rattle.sg_wire.specs.declared.profile.Profile.{Profile}
+use Rattle.sg_wire.specs.declared.profile.Profile.TheVariants.{Base, Extended}
+use Rattle.sg_wire.proofs.ClassLemmas.{made-by_row}
+
+-- the rows of a command's operation code, in each profile: it computes
+rows-by : (profile : Profile) (command : Command) → rows_in profile (layout command).opcode
+    ≡ (if is_in (layout command).profile profile then rows_in Extended (layout command).opcode else [])
+rows-by Base command.TestUnitReady = refl
+rows-by Base other = refl
+rows-by Extended command.TestUnitReady = refl
+rows-by Extended other = refl
+
+module _ (profile : Profile) (command : Command) where
+  -- a profile that has a command has all rows of its operation code
+  pub rows-same : is_in (layout command).profile profile ≡ true
+      → rows_in profile (layout command).opcode ≡ rows_in Extended (layout command).opcode
+  rows-same has = rows-by profile command
+      ∙ ap (λ (b : Bool). if b then rows_in Extended (layout command).opcode else []) has
+
+  -- a profile that lacks it has none of them
+  pub rows-none : is_in (layout command).profile profile ≡ false
+      → rows_in profile (layout command).opcode ≡ []
+  rows-none lacks = rows-by profile command
+      ∙ ap (λ (b : Bool). if b then rows_in Extended (layout command).opcode else []) lacks
+
+  -- a CDB with its operation code is the same in each profile that has it
+  pub read-same : (cdb : List ℕ) → is_in (layout command).profile profile ≡ true
+      → get_or cdb 0 0 ≡ (layout command).opcode → command_in profile cdb ≡ command_in Extended cdb
+  unfolding command_in
+  read-same [] has h = refl
+  read-same (opcode ∷ rest) has h =
+      ap (λ code. command_by_rows (opcode ∷ rest) (rows_in profile code)) h
+      ∙ ap (command_by_rows (opcode ∷ rest)) (rows-same has)
+      ∙ ap (λ code. command_by_rows (opcode ∷ rest) (rows_in Extended code)) (sym h)
+
+-- a CDB begins with the operation code
+pub first-byte : (command : Command) → get_or (cdb_of command) 0 0 ≡ (layout command).opcode
+unfolding cdb_of
+first-byte command.TestUnitReady = refl
+first-byte other = refl
+
+-- no profile has an operation code that the extended one lacks
+more : (profile : Profile) → is_in profile Extended ≡ true
+more Base = refl
+more Extended = refl
+
+pub is-in_any : (command : Command) → has_command Extended command ≡ true
+is-in_any command = more (layout command).profile
+
+module _ (profile : Profile) (opcode : ℕ) where
+  abbrev rows_among : Profile → List Layout → List Layout
+  rows_among p ls = filter (λ l. l.opcode == opcode && is_in l.profile p) ls
+
+  none-step : (is_it is_here is_there : Bool) (l : Layout) (here there : List Layout)
+      → is_there ≡ true → cond (is_it && is_there) (l ∷ there) there ≡ []
+      → (there ≡ [] → here ≡ []) → cond (is_it && is_here) (l ∷ here) here ≡ []
+  none-step true is_here true l here there e h k = cc
+  none-step true is_here false l here there e h k = cc
+  none-step false is_here is_there l here there e h k = k h
+
+  none-among : (ls : List Layout) → rows_among Extended ls ≡ [] → rows_among profile ls ≡ []
+  none-among [] h = refl
+  none-among (l ∷ ls) h =
+      none-step (l.opcode == opcode) (is_in l.profile profile) (is_in l.profile Extended) l _ _
+      (more l.profile) h (none-among ls)
+
+  pub none-in : rows_in Extended opcode ≡ [] → rows_in profile opcode ≡ []
+  none-in h = none-among table h
+
+-- ---- the command of a CDB
+
+module _ (profile : Profile) where
+  -- its row is in the profile, and of the operation code of the CDB
+  row-of : (opcode : ℕ) (rest : List ℕ) (command : Command)
+      → command_in profile (opcode ∷ rest) ≡ Ok command
+      → (opcode ≡ (layout command).opcode) × (has_command profile command ≡ true)
+  row-of opcode rest command e =
+      let m = made-by_row profile opcode rest command e in
+      let both = and_parts (m.row.opcode == opcode) (is_in m.row.profile profile) m.holds in (
+        sym (m.is_its.1 ∙ eqb-true m.row.opcode opcode both.0),
+        ap (λ p. is_in p profile) m.is_its.2 ∙ both.1,
+      )
+
+  pub is-in : (cdb : List ℕ) (command : Command) → command_in profile cdb ≡ Ok command
+      → has_command profile command ≡ true
+  unfolding command_in
+  is-in [] command e = cc
+  is-in (opcode ∷ rest) command e = (row-of opcode rest command e).1
+
+  -- each profile that has the command reads the CDB alike
+  pub read-alike : (cdb : List ℕ) (command : Command) → command_in profile cdb ≡ Ok command
+      → IsReadAs cdb command
+  unfolding command_in
+  read-alike [] command e other has = cc
+  read-alike (opcode ∷ rest) command e other has =
+      let row = row-of opcode rest command e in
+      read-same other command (opcode ∷ rest) has row.0
+      ∙ sym (read-same profile command (opcode ∷ rest) row.1 row.0) ∙ e
+
+  -- so it is the command of the CDB
+  pub read-any : (cdb : List ℕ) (command : Command) → command_in profile cdb ≡ Ok command
+      → command_of cdb ≡ Ok command
+  read-any cdb command e = read-alike cdb command e Extended (is-in_any command)
