@@ -1,6 +1,6 @@
 -- What a profile has of the table: all rows of an operation code, or none.
 use Rattle.std.proofs.Common.{◌≡◌, ℕ, ◌==◌, List, [], ◌∷◌, get_or, filter, Bool, true, false, cond}
-use Rattle.std.proofs.Common.{Ok, refl, sym, ap, ◌∙◌}
+use Rattle.std.proofs.Common.{Option, Some, None, Ok, refl, sym, ap, ◌∙◌}
 use Rattle.std.proofs.lemmas.Bool.{and_parts, eqb-true}
 use Rattle.std.specs.Prelude.{◌&&◌, if◌then◌else◌}
 use Rattle.sg_wire.specs.CdbDecoding.{command_by_rows, command_in, command_of, rows_in}
@@ -44,6 +44,17 @@ module _ (profile : Profile) (command : Command) where
       ap (λ code. command_by_rows (opcode ∷ rest) (rows_in profile code)) h
       ∙ ap (command_by_rows (opcode ∷ rest)) (rows-same has)
       ∙ ap (λ code. command_by_rows (opcode ∷ rest) (rows_in Extended code)) (sym h)
+
+-- the operation code of the first row
+abbrev pub first_opcode : List Layout → Option ℕ
+first_opcode [] = None
+first_opcode (l ∷ ls) = Some l.opcode
+
+-- each operation code of a command has a row
+pub has_row : (command : Command)
+    → first_opcode (rows_in Extended (layout command).opcode) ≡ Some (layout command).opcode
+has_row command.TestUnitReady = refl
+has_row other = refl
 
 -- a CDB begins with the operation code
 pub first-byte : (command : Command) → get_or (cdb_of command) 0 0 ≡ (layout command).opcode

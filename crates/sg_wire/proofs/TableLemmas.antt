@@ -29,7 +29,7 @@ use Rattle.sg_wire.specs.declared.command.table.Name.TheVariants as name
 use Rattle.sg_wire.specs.declared.command.table.Row.{Row}
 use Rattle.sg_wire.specs.declared.profile.Profile.{Profile}
 use Rattle.sg_wire.specs.declared.profile.Profile.TheVariants.{Extended}
-use Rattle.sg_wire.proofs.ProfileLemmas.{none-in, rows-none, rows-same}
+use Rattle.sg_wire.proofs.ProfileLemmas.{first_opcode, has_row, none-in, rows-none, rows-same}
 
 abbrev unless_short : {A : Type 0} → (is_short : Bool) → List ℕ → Result A CdbFault → Result A CdbFault
 unless_short is_short cdb read = if is_short then Err (Short (length cdb)) else read
@@ -141,18 +141,12 @@ pub other_16 : (cdb : List ℕ) → service_action cdb ≢ 0x10 → service_acti
 unfolding IsNamedByNone
 other_16 cdb h k = rw (is_no (service_action cdb) 0x10 h, is_no (service_action cdb) 0x12 k) refl
 
-pub ruleset without_action = (other_16)
+-- a CDB with an operation code has a byte
+pub has_byte : (cdb : List ℕ) → get_or cdb 0 0 ≡ 0x9E → 1 ≤ length cdb
+has_byte [] h = absurd (omega (arith, h))
+has_byte (opcode ∷ rest) h = omega arith
 
--- the operation code of the first row
-abbrev first_opcode : List Layout → Option ℕ
-first_opcode [] = None
-first_opcode (l ∷ ls) = Some l.opcode
-
--- each operation code has a row
-has_row : (named : Name) → first_opcode (rows_in Extended (layout_of named).opcode)
-    ≡ Some (layout_of named).opcode
-has_row name.TestUnitReady = refl
-has_row named = refl
+pub ruleset without_action = (other_16, has_byte)
 
 -- all of them are blocked by an attention, or none
 blocked-rows : (named : Name)
@@ -220,7 +214,7 @@ module _ (profile : Profile) where
   class_in-found (opcode ∷ rest) (NoServiceAction row) h =
       let code = (layout_of row.now.name).opcode in
       ap (class_by_rows (opcode ∷ rest)) (rows-without (opcode ∷ rest) row h)
-      ∙ none-class (opcode ∷ rest) code (rows_in Extended code) h.4 (has_row row.now.name)
+      ∙ none-class (opcode ∷ rest) code (rows_in Extended code) h.4 (has_row (command_named row.now.name))
   class_in-found [] NoOpcode h = refl
   class_in-found (opcode ∷ rest) NoOpcode h = ap (class_by_rows (opcode ∷ rest)) (h (omega arith))
 
@@ -254,7 +248,7 @@ module _ (profile : Profile) where
       let wanted : length_of code ≡ length row.now.masks.now =
       sym (ap length h.2.4 ∙ whole-row row.now.name) in
       ap (command_by_rows cdb) (rows-without cdb row h)
-      ∙ none-command cdb code (rows_in Extended code) h.4 (has_row row.now.name)
+      ∙ none-command cdb code (rows_in Extended code) h.4 (has_row (command_named row.now.name))
       ∙ ap (λ n. if nat_lt (length cdb) n then Err (Short (length cdb)) else Err (BadField 1)) wanted
 
   pub row-fits : (cdb : List ℕ) (row : Bor Row) → IsFound profile cdb (NoServiceAction row)

@@ -4,27 +4,40 @@ use sg_wire::Profile;
 use std::alloc::{AllocError, Global};
 use std::test::Fail;
 
-/// The words after the program's name, the blocks and the pool of the disk, and the script's file.
-const ASKED: [(&str, u64, u32, Option<&str>); 11] = [
-    ("", 4_096, 4, None),
-    ("--blocks 1", 1, 4, None),
-    ("--blocks=0x1f --pool 5", 31, 5, None),
-    ("--pool 0X0a --blocks 1FH", 31, 10, None),
-    ("--pool 65536", 4_096, 65_536, None),
-    ("--blocks 1099511627776", 1 << 40, 4, None),
-    ("--script FILE", 4_096, 4, Some("FILE")),
-    ("--script=", 4_096, 4, Some("")),
-    ("--script=--blocks --pool 1", 4_096, 1, Some("--blocks")),
-    ("--script - --", 4_096, 4, Some("-")),
-    ("--profile extended --blocks 1", 1, 4, None),
-];
-
-/// The words after the program's name, and the profile of the disk.
-const PROFILES: [(&str, Profile); 4] = [
-    ("", Profile::Base),
-    ("--profile base", Profile::Base),
-    ("--profile extended", Profile::Extended),
-    ("--pool 1 --profile=extended --blocks 2", Profile::Extended),
+/// The words after the program's name, the disk's blocks, pool and profile, and the script's file.
+const ASKED: [(&str, u64, u32, Profile, Option<&str>); 14] = [
+    ("", 4_096, 4, Profile::Base, None),
+    ("--blocks 1", 1, 4, Profile::Base, None),
+    ("--blocks=0x1f --pool 5", 31, 5, Profile::Base, None),
+    ("--pool 0X0a --blocks 1FH", 31, 10, Profile::Base, None),
+    ("--pool 65536", 4_096, 65_536, Profile::Base, None),
+    ("--blocks 1099511627776", 1 << 40, 4, Profile::Base, None),
+    ("--script FILE", 4_096, 4, Profile::Base, Some("FILE")),
+    ("--script=", 4_096, 4, Profile::Base, Some("")),
+    (
+        "--script=--blocks --pool 1",
+        4_096,
+        1,
+        Profile::Base,
+        Some("--blocks"),
+    ),
+    ("--script - --", 4_096, 4, Profile::Base, Some("-")),
+    ("--profile base", 4_096, 4, Profile::Base, None),
+    ("--profile extended", 4_096, 4, Profile::Extended, None),
+    (
+        "--profile extended --blocks 1",
+        1,
+        4,
+        Profile::Extended,
+        None,
+    ),
+    (
+        "--pool 1 --profile=extended --blocks 2",
+        2,
+        1,
+        Profile::Extended,
+        None,
+    ),
 ];
 
 /// The words after the program's name, and the message of the stop.
@@ -68,26 +81,15 @@ fn words(alloc: Global, line: &str) -> Result<Vec<String>, AllocError> {
 
 #[test]
 fn words_ask_for_a_disk_and_a_script(rt: HostRuntime) -> Result<(), Fail> {
-    for (line, blocks, pool, script) in ASKED {
+    for (line, blocks, pool, profile, script) in ASKED {
         let words = words(rt.alloc(), line)?;
         let Ok(arguments) = Arguments::parse(rt.alloc(), words.as_slice()) else {
             return Err(Fail::from(line));
         };
         assert_eq!(rt; arguments.disk.blocks(), blocks);
         assert_eq!(rt; arguments.disk.pool(), pool);
-        assert_eq!(rt; arguments.script, script);
-    }
-    Ok(())
-}
-
-#[test]
-fn words_name_a_profile(rt: HostRuntime) -> Result<(), Fail> {
-    for (line, profile) in PROFILES {
-        let words = words(rt.alloc(), line)?;
-        let Ok(arguments) = Arguments::parse(rt.alloc(), words.as_slice()) else {
-            return Err(Fail::from(line));
-        };
         assert_eq!(rt; arguments.disk.identity().profile(), profile);
+        assert_eq!(rt; arguments.script, script);
     }
     Ok(())
 }

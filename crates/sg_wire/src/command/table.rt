@@ -228,7 +228,6 @@ pub(super) static GET_LBA_STATUS: Row = row! {
 };
 
 /// The table's result for a CDB.
-#[derive(Clone, Copy)]
 pub(super) enum Found {
     Row(&'static Row),
     // A row of the operation code. No command of the code has the service action.
@@ -246,9 +245,21 @@ pub(super) fn row_in(profile: Profile, cdb: &[u8]) -> Found
     ensures { IsFound profile cdb.now result }
 {
     match row_of(cdb) {
-        Found::Row(row) if profile.has(row.profile) => Found::Row(row),
-        Found::NoServiceAction(row) if profile.has(row.profile) => Found::NoServiceAction(row),
-        _ => Found::NoOpcode,
+        Found::Row(row) => {
+            if profile.has(row.profile) {
+                Found::Row(row)
+            } else {
+                Found::NoOpcode
+            }
+        }
+        Found::NoServiceAction(row) => {
+            if profile.has(row.profile) {
+                Found::NoServiceAction(row)
+            } else {
+                Found::NoOpcode
+            }
+        }
+        Found::NoOpcode => Found::NoOpcode,
     }
 }
 
@@ -289,8 +300,7 @@ fn row_of(cdb: &[u8]) -> Found
 /// The row of SERVICE ACTION IN(16), whose service action names the command (SPC-4, 4.2.5.2).
 #[tactic(auto, using(crate::proofs::TableLemmas::without_action))]
 fn with_service_action_in(cdb: &[u8]) -> Found
-    requires some { 1 ≤ length cdb.now }
-    requires code { slice_index cdb.now 0 ≡ 0x9E }
+    requires { slice_index cdb.now 0 ≡ 0x9E }
     ensures { IsFound Profile.Extended cdb.now result }
 {
     match Some(service_action(cdb)) {

@@ -1,5 +1,5 @@
-use Rattle.std.proofs.Common.{◌≡◌, ◌<◌, ℕ, zero, suc, List, [], ◌∷◌, length, take, Option, Some}
-use Rattle.std.proofs.Common.{None, Err, true, false, refl, sym, ap, subst, ◌∙◌, arith}
+use Rattle.std.proofs.Common.{◌≡◌, ◌<◌, ℕ, zero, suc, List, [], ◌∷◌, length, take, Some}
+use Rattle.std.proofs.Common.{Err, true, false, refl, sym, ap, subst, ◌∙◌, arith}
 use Rattle.std.specs.Prelude.{nat_lt, map, ◌==◌}
 use Rattle.std.specs.List.{range_with_len}
 use Rattle.std.proofs.lemmas.Bool.Decides.{nat_tests}
@@ -10,26 +10,14 @@ use Rattle.sg_wire.specs.CdbEncoding.{byte_of, cdb_of}
 use Rattle.sg_wire.specs.Layout.{Layout, layout, length_of}
 use Rattle.sg_wire.specs.declared.command.CdbFault.TheVariants.{Short}
 use Rattle.sg_wire.specs.declared.command.Command.{Command}
-use Rattle.sg_wire.specs.declared.command.Command.TheVariants as command
 use Rattle.sg_wire.specs.Laws.{cut_at, has_command}
 use Rattle.sg_wire.specs.declared.profile.Profile.{Profile}
-use Rattle.sg_wire.specs.declared.profile.Profile.TheVariants.{Extended}
-use Rattle.sg_wire.proofs.ProfileLemmas.{rows-same}
+use Rattle.sg_wire.proofs.ProfileLemmas.{first_opcode, has_row, rows-same}
 use Rattle.sg_wire.proofs.laws.prefixes_are_refused.Goals as goal
-
--- the operation code of the first row
-abbrev first_opcode : List Layout → Option ℕ
-first_opcode [] = None
-first_opcode (l ∷ ls) = Some l.opcode
 
 -- an operation code has a row in a profile
 HasRow : Profile → ℕ → Type 0
 HasRow profile opcode = first_opcode (rows_in profile opcode) ≡ Some opcode
-
-has_row : (command : Command) → HasRow Extended (layout command).opcode
-unfolding HasRow
-has_row command.TestUnitReady = refl
-has_row other = refl
 
 has_row_in : (profile : Profile) (command : Command) → has_command profile command ≡ true
     → HasRow profile (layout command).opcode
