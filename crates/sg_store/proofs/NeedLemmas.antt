@@ -18,6 +18,16 @@ unfolding need
 need-more m a k = ap (count_by (λ q. not (map.contains_key m q))) (range-more a k)
     ∙ count-last (λ q. not (map.contains_key m q)) (range_with_len a k) (a + k)
 
+unless_it_has : (b : Bool) → cond {A = ℕ} (not b) 1 0 ≡ cond b 0 1
+unless_it_has true = refl
+unless_it_has false = refl
+
+-- one address more needs a block, unless it has one
+pub need-next : (m : Contents) (a k : ℕ)
+    → need m a (k + 1) ≡ need m a k + cond (map.contains_key m (a + k)) 0 1
+need-next m a k = need-more m a k
+    ∙ ap (λ one. need m a k + one) (unless_it_has (map.contains_key m (a + k)))
+
 one_of : (b : Bool) → cond {A = ℕ} b 1 0 + cond (not b) 1 0 ≡ 1
 one_of true = refl
 one_of false = refl

@@ -1,5 +1,5 @@
 -- The effects and the reports of the calls, address by address.
-use Rattle.std.specs.FinMap.{get, len}
+use Rattle.std.specs.FinMap.{contains_key, get, len}
 use Rattle.std.specs.Prelude.{◌≡◌, ◌≢◌, ℕ, ◌+◌, ◌-◌, ◌<◌, ◌≤◌, if◌then◌else◌}
 use Rattle.std.specs.Prelude.{Bool, List, All, length, find, Option, Some, option_map}
 use Rattle.sg_store.specs.Disk.{Contents, Disk, Mapping, block, block_at, zero_block, lies_in}
@@ -105,7 +105,7 @@ pub record DisksStayWellFormed : Type 0 where
 
 -- An address that is remapped has what its index says, and others have what they had. Remapping
 -- takes as many more blocks of the pool as the addresses need, which are at most as many as the
--- addresses.
+-- addresses. No address needs no block. One address more needs one, unless it has one.
 pub record RemappingTakesWhatIsNeeded : Type 0 where
   pub found : (contents : Contents) (lba count : ℕ) (mapping : ℕ → Mapping) (address : ℕ)
       → get (remapped contents lba count mapping) address
@@ -113,3 +113,7 @@ pub record RemappingTakesWhatIsNeeded : Type 0 where
   pub taken : (contents : Contents) (lba count : ℕ) (mapping : ℕ → Mapping)
       → len (remapped contents lba count mapping) ≡ len contents + need contents lba count
   pub at_most : (contents : Contents) (lba count : ℕ) → need contents lba count ≤ count
+  pub of_none : (contents : Contents) (lba : ℕ) → need contents lba 0 ≡ 0
+  pub of_one_more : (contents : Contents) (lba count : ℕ)
+      → need contents lba (count + 1)
+      ≡ need contents lba count + (if contains_key contents (lba + count) then 0 else 1)

@@ -22,8 +22,7 @@ use Rattle.sg_store.specs.Disk.Mapping.{Data}
 use Rattle.sg_store.specs.LbaStatus.{status_in}
 use Rattle.sg_store.specs.Laws.{RemappingTakesWhatIsNeeded}
 use Rattle.std.specs.FinMap.{contains_key, get, len}
-use Rattle.std.proofs.Common.{zero, suc, ap₂, not, is_some}
-use Rattle.sg_store.proofs.NeedLemmas.{need-more, need-none}
+use Rattle.std.proofs.Common.{zero, suc, ap₂, is_some}
 use Rattle.sg_target.specs.Checks.{checked_cdb}
 use Rattle.sg_target.specs.CommandLaws.{WritesOverUsedAddressesHaveSpace}
 use Rattle.sg_target.specs.Refusal.{checked_next}
@@ -193,14 +192,14 @@ has-slot : (found : Option Mapping) → (status_in found ≡ Deallocated → ⊥
 has-slot (Some mapping) h = refl
 has-slot None h = absurd (h refl)
 
-none-needed : (contents : Contents) (lba count : ℕ)
+none-needed : RemappingTakesWhatIsNeeded → (contents : Contents) (lba count : ℕ)
     → ((i : ℕ) → i < count → contains_key contents (lba + i) ≡ true) → need contents lba count ≡ 0
-none-needed contents lba zero h = need-none contents lba
-none-needed contents lba (suc count) h =
+none-needed law contents lba zero h = law.of_none contents lba
+none-needed law contents lba (suc count) h =
     let e : suc count ≡ count + 1 = omega arith in
-    rw (e, need-more contents lba count) (
-    ap₂ (λ (x : ℕ) (b : Bool). x + cond (not b) 1 0)
-    (none-needed contents lba count (λ i lt. h i (omega arith))) (h count (omega arith)))
+    rw (e, law.of_one_more contents lba count) (
+    ap₂ (λ (x : ℕ) (b : Bool). x + cond b 0 1)
+    (none-needed law contents lba count (λ i lt. h i (omega arith))) (h count (omega arith)))
 
 lies : (lba count i : ℕ) → i < count → lies_in lba count (lba + i) ≡ true
 lies lba count i lt = grind (arith, nat_tests)
@@ -232,7 +231,7 @@ used-have-space law state i cdb data_out out effect w is used e =
     same-effect (effect_of state i (operation.Write fields)) (writing state fields) effect refl
     (ap (effect_of state i) known ∙ p.effect_is) in
     let none : need contents out.lba out.count ≡ 0 =
-    none-needed contents out.lba out.count
+    none-needed law contents out.lba out.count
     (λ index lt. has-slot (get contents (out.lba + index))
     (used (out.lba + index) (lies out.lba out.count index lt))) in
     let after = (writing state fields).after.disk in

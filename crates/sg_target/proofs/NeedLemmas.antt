@@ -3,7 +3,7 @@ use Rattle.std.proofs.Common.{◌≡◌, ℕ, ◌+◌, ◌≤◌, ◌<◌, zero,
 use Rattle.std.proofs.Common.{ap₂, ◌∙◌, arith, cond, Bool, true, false, Some, is_some}
 use Rattle.std.proofs.lemmas.Bool.Decides.{nat_tests}
 use Rattle.std.specs.FinMap as map
-use Rattle.std.specs.Prelude.{not, ◌||◌, map}
+use Rattle.std.specs.Prelude.{◌||◌, map}
 use Rattle.sg_store.specs.Disk.{lies_in}
 use Rattle.sg_target.specs.Anchoring.{need_of}
 use Rattle.sg_target.specs.Extents.{AreOnDisk}
@@ -14,7 +14,6 @@ use Rattle.sg_target.specs.Joining.{covers, lies_in_some, AreDisjoint, AreJoined
 use Rattle.sg_target.specs.declared.joining.AddressRange.{AddressRange}
 use Rattle.sg_wire.specs.declared.extent.Extent.{Extent}
 use Rattle.sg_store.specs.Laws.{RemappingTakesWhatIsNeeded}
-use Rattle.sg_store.proofs.NeedLemmas.{need-more, need-none}
 use Rattle.sg_target.proofs.AddressRangeLemmas.{or_left, not_true, true_false}
 use Rattle.sg_target.proofs.InTurnLemmas.{changed-append, same}
 
@@ -36,15 +35,15 @@ over-same law =
     (Some Anchored) (λ m r. law.found m r.lba r.count (λ index. Anchored))
 
 -- a range needs as much if the same addresses in it have a slot
-need-alike : (m n : Contents) (a k : ℕ)
+need-alike : RemappingTakesWhatIsNeeded → (m n : Contents) (a k : ℕ)
     → ((i : ℕ) → i < k → map.contains_key m (a + i) ≡ map.contains_key n (a + i))
     → need m a k ≡ need n a k
-need-alike m n a zero h = need-none m a ∙ sym (need-none n a)
-need-alike m n a (suc k) h =
+need-alike law m n a zero h = law.of_none m a ∙ sym (law.of_none n a)
+need-alike law m n a (suc k) h =
     let e : suc k ≡ k + 1 = omega arith in
-    rw (e, need-more m a k, need-more n a k) (
-    ap₂ (λ (x : ℕ) (b : Bool). x + cond (not b) 1 0)
-    (need-alike m n a k (λ i lt. h i (omega arith))) (h k (omega arith)))
+    rw (e, law.of_one_more m a k, law.of_one_more n a k) (
+    ap₂ (λ (x : ℕ) (b : Bool). x + cond b 0 1)
+    (need-alike law m n a k (λ i lt. h i (omega arith))) (h k (omega arith)))
 
 inside : (a k i : ℕ) → i < k → lies_in a k (a + i) ≡ true
 inside a k i lt = grind (arith, nat_tests)
@@ -59,7 +58,7 @@ need-elsewhere law m r (s ∷ rs) h =
     λ i lt. not_true (covers (s.lba + i) r) (λ f. true_false (inside s.lba s.count i lt)
     (or_left (covers (s.lba + i) s) (lies_in_some rs (s.lba + i)) (h (s.lba + i) f))) in
     ap₂ (λ x y. x + y)
-    (need-alike (anchored m r.lba r.count) m s.lba s.count (λ i lt.
+    (need-alike law (anchored m r.lba r.count) m s.lba s.count (λ i lt.
     ap is_some (law.found m r.lba r.count (λ index. Anchored) (s.lba + i))
     ∙ ap (λ b. is_some (cond b (Some Anchored) (map.get m (s.lba + i)))) (off i lt)))
     (need-elsewhere law m r rs (λ q e. right (covers q s) (lies_in_some rs q) (h q e)))
