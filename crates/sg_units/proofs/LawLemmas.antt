@@ -12,9 +12,9 @@ use Rattle.sg_wire.specs.declared.command.Class.TheVariants.{Always, Reads, Writ
 use Rattle.sg_units.specs.Access.{access_of, allowed, allows, highest_class, is_within, standing_of}
 use Rattle.sg_units.specs.Laws.{CountsChanges, HasOneHolder, IsHeldByAll, IsRefused}
 use Rattle.sg_units.specs.ReserveOut.{Outcome, action_outcome}
-use Rattle.sg_units.specs.ReserveOut.{generation_after, next_generation, outcome, registered}
+use Rattle.sg_units.specs.ReserveOut.{generation_after, outcome}
 use Rattle.sg_units.specs.ReserveOut.{preempt_cases, register_cases, release_cases}
-use Rattle.sg_units.specs.ReserveOut.{reserve_cases, same_generation, state_after}
+use Rattle.sg_units.specs.ReserveOut.{reserve_cases, state_after, unchanged}
 use Rattle.sg_units.specs.Registrations.{is_of, is_registered, is_registered_under, is_under}
 use Rattle.sg_units.specs.Registrations.{registrations_of}
 use Rattle.sg_units.specs.ReservationType.{is_all_registrants, is_exclusive_access, is_shared}
@@ -23,7 +23,7 @@ use Rattle.sg_units.specs.Reservations.{IsConsistent, has_holder, is_held_by}
 use Rattle.sg_units.specs.Reservations.{is_held_if_any, is_holder, names_holder}
 use Rattle.sg_units.specs.Reservations.{names_holder_if_any}
 use Rattle.sg_units.specs.declared.access.Standing.{Standing}
-use Rattle.sg_units.specs.declared.access.Standing.TheVariants.{Holder, Registrant, Other}
+use Rattle.sg_units.specs.declared.access.Standing.TheVariants.{Holder, Registrant, Unregistered}
 use Rattle.sg_units.specs.declared.reservation_change.ReservationChange.{ReservationChange}
 use Rattle.sg_wire.specs.declared.command.out_action.OutAction.{OutAction}
 use Rattle.sg_wire.specs.declared.command.out_action.OutAction.TheVariants.{Register, Reserve}
@@ -179,7 +179,7 @@ held_by_all state reservation h e all =
 -- ---- Access
 
 abbrev unless_holder : (registered : Bool) → Standing
-unless_holder registered = if registered then Registrant else Other
+unless_holder registered = if registered then Registrant else Unregistered
 
 writes_refused : (type : ReservationType) (registered : Bool)
     → (registered && is_shared type) ≡ false
@@ -291,20 +291,14 @@ Counted state change =
     change.increments_generation ≡ false → change.registrations ≡ state.registrations
 
 stays : (state : ReservationState) (held : Option Reservation) (raised : Option UnitAttention)
-    → EffectIs (Counted state) (same_generation state.registrations held raised)
+    → EffectIs (Counted state)
+    (Ok (record (unchanged state) { reservation = held; for_remaining = raised }))
 stays state held raised = effective (Counted state) _ (λ _. refl)
 
-counts : (state : ReservationState) (rs : List Registration) (held : Option Reservation)
-    (removed remaining : Option UnitAttention)
-    → EffectIs (Counted state) (next_generation rs held removed remaining)
-counts state rs held removed remaining =
-    effective (Counted state) _ (λ e. absurd (false≢true (sym e)))
-
-registers : (state : ReservationState) (rs : List Registration) (held : Option Reservation)
-    (remaining : Option UnitAttention) (aptpl : Bool)
-    → EffectIs (Counted state) (registered rs held remaining aptpl)
-registers state rs held remaining aptpl =
-    effective (Counted state) _ (λ e. absurd (false≢true (sym e)))
+counts : (state : ReservationState) (change : ReservationChange)
+    → change.increments_generation ≡ true → EffectIs (Counted state) (Ok change)
+counts state change is =
+    effective (Counted state) change (λ e. absurd (false≢true (sym e ∙ is)))
 
 counted-register : (state : ReservationState) (i sark : ℕ) (aptpl : Bool)
     → FirstIs (EffectIs (Counted state)) (register_cases state i sark aptpl)
@@ -313,9 +307,9 @@ counted-register state i sark aptpl =
     let P = Counted state in
     case_or (EffectIs P) _ _ (λ _. stays state _ _)
     (λ _. case_or (EffectIs P) _ _ (λ _. refused P _)
-    (λ _. case_or (EffectIs P) _ _ (λ _. registers state _ _ _ _)
-    (λ _. case_or (EffectIs P) _ _ (λ _. registers state _ _ _ _)
-    (λ _. last_case (EffectIs P) _ _ refl (registers state _ _ _ _)))))
+    (λ _. case_or (EffectIs P) _ _ (λ _. counts state _ refl)
+    (λ _. case_or (EffectIs P) _ _ (λ _. counts state _ refl)
+    (λ _. last_case (EffectIs P) _ _ refl (counts state _ refl)))))
 
 counted-reserve : (state : ReservationState) (i : ℕ) (type : ReservationType)
     → FirstIs (EffectIs (Counted state)) (reserve_cases state i type)
@@ -342,10 +336,10 @@ counted-preempt state i type sark =
     let P = Counted state in
     let held = state.reservation in
     case_or (EffectIs P) _ _ (λ _. refused P _)
-    (λ _. case_or (EffectIs P) _ _ (λ _. taking P held i type _ (λ type. counts state _ _ _ _))
-    (λ _. case_or (EffectIs P) _ _ (λ _. taking P held i type _ (λ type. counts state _ _ _ _))
+    (λ _. case_or (EffectIs P) _ _ (λ _. taking P held i type _ (λ type. counts state _ refl))
+    (λ _. case_or (EffectIs P) _ _ (λ _. taking P held i type _ (λ type. counts state _ refl))
     (λ _. case_or (EffectIs P) _ _ (λ _. refused P _)
-    (λ _. last_case (EffectIs P) _ _ refl (counts state _ _ _ _)))))
+    (λ _. last_case (EffectIs P) _ _ refl (counts state _ refl)))))
 
 counted-action : (state : ReservationState) (i : ℕ) (action : OutAction)
     (type : Option ReservationType) (sark : ℕ) (aptpl : Bool)
@@ -355,7 +349,7 @@ counted-action state i Reserve type sark aptpl =
     typed (Counted state) type _ (λ type. (counted-reserve state i type).first)
 counted-action state i Release type sark aptpl =
     typed (Counted state) type _ (λ type. (counted-release state i type).first)
-counted-action state i Clear type sark aptpl = counts state _ _ _ _
+counted-action state i Clear type sark aptpl = counts state _ refl
 counted-action state i Preempt type sark aptpl = (counted-preempt state i type sark).first
 counted-action state i PreemptAndAbort type sark aptpl = (counted-preempt state i type sark).first
 counted-action state i RegisterAndIgnoreExistingKey type sark aptpl =

@@ -6,7 +6,7 @@ use Rattle.sg_wire.specs.declared.command.Class.TheVariants.{Always, Reads, Writ
 use Rattle.sg_units.specs.Registrations.{is_registered}
 use Rattle.sg_units.specs.Reservations.{is_holder}
 use Rattle.sg_units.specs.declared.access.Standing.{Standing}
-use Rattle.sg_units.specs.declared.access.Standing.TheVariants.{Holder, Registrant, Other}
+use Rattle.sg_units.specs.declared.access.Standing.TheVariants.{Holder, Registrant, Unregistered}
 use Rattle.sg_units.specs.declared.reservation.Reservation.{Reservation}
 use Rattle.sg_units.specs.declared.reservation_state.ReservationState.{ReservationState}
 use Rattle.sg_units.specs.declared.types.ReservationType.{ReservationType}
@@ -17,15 +17,16 @@ use Rattle.sg_units.specs.declared.types.ReservationType.TheVariants.{WriteExclu
 use Rattle.sg_units.specs.declared.types.ReservationType.TheVariants.{ExclusiveAccessAllRegistrants}
 
 -- The highest class of commands that is allowed: to a holder, to a registrant that is no holder,
--- and to every other initiator. Under an all registrants type each registrant is a holder.
+-- and to an unregistered initiator. Under an all registrants type each registrant is a holder. The
+-- standards list each command. `Layout.layout` has a class for each, which sums their tables up.
 pub record Access : Type 0 where
   pub holder : Class
   pub registrant : Class
-  pub other : Class
+  pub unregistered : Class
 
-abbrev row : (holder registrant other : Class) → Access
-row holder registrant other =
-    record { holder = holder; registrant = registrant; other = other }
+abbrev row : (holder registrant unregistered : Class) → Access
+row holder registrant unregistered =
+    record { holder = holder; registrant = registrant; unregistered = unregistered }
 
 abbrev pub access_of : ReservationType → Access
 access_of WriteExclusive = row Writes Reads Reads
@@ -44,16 +45,16 @@ rank Writes = 2
 abbrev pub is_within : (highest class : Class) → Bool
 is_within highest class = nat_le (rank class) (rank highest)
 
--- The standing of the initiator that asks.
+-- The standing of the initiator that asks. SPC-4 speaks of its I_T nexus.
 abbrev pub standing_of : ReservationState → (initiator : ℕ) → Standing
 standing_of state initiator =
     if is_holder state initiator then Holder
-    else (if is_registered state.registrations initiator then Registrant else Other)
+    else (if is_registered state.registrations initiator then Registrant else Unregistered)
 
 abbrev pub highest_class : Access → Standing → Class
 highest_class access Holder = access.holder
 highest_class access Registrant = access.registrant
-highest_class access Other = access.other
+highest_class access Unregistered = access.unregistered
 
 abbrev pub allowed : Option Reservation → Standing → Class → Bool
 allowed None standing class = true

@@ -1,4 +1,5 @@
--- Unit attention conditions that a command establishes (SAM-5, 5.14).
+-- Unit attention conditions that a command establishes (SAM-5, 5.14). To raise a condition for an
+-- initiator is to establish it for the initiator's I_T nexus.
 use Rattle.std.specs.Prelude.{ℕ, List, map, replicate, slice_index_or, slice_set}
 use Rattle.std.specs.Prelude.{Option, Some, None}
 use Rattle.std.specs.List.{range_with_len}

@@ -41,45 +41,25 @@ use Rattle.sg_units.specs.declared.unit_attention.UnitAttention.TheVariants.{Reg
 abbrev pub Outcome : Type 0
 Outcome = Result ReservationChange OutFault
 
--- The registrations and the reservation afterwards, and the condition that is raised for each other
--- registrant. PRGENERATION stays.
-abbrev pub same_generation : List Registration → Option Reservation
-    → (for_remaining : Option UnitAttention) → Outcome
-same_generation registrations reservation for_remaining = Ok (record {
-  registrations = registrations;
-  reservation = reservation;
+-- Nothing changes, and no condition is raised. A case names only what differs from this.
+abbrev pub unchanged : ReservationState → ReservationChange
+unchanged state = record {
+  registrations = state.registrations;
+  reservation = state.reservation;
   for_removed = None;
-  for_remaining = for_remaining;
+  for_remaining = None;
   increments_generation = false;
   aptpl = None;
-})
+}
 
--- The registrations and the reservation afterwards, and the conditions that are raised for other
--- initiators. One is for each initiator whose registration is removed, and one for each whose
--- registration remains. PRGENERATION is incremented.
-abbrev pub next_generation : List Registration → Option Reservation
-    → (for_removed for_remaining : Option UnitAttention) → Outcome
-next_generation registrations reservation for_removed for_remaining = Ok (record {
+-- If an initiator registers or unregisters, PRGENERATION is incremented. From then on, APTPL of its
+-- parameter list says whether registrations and reservation persist through a power loss.
+abbrev pub registering : ReservationState → List Registration → (aptpl : Bool) → ReservationChange
+registering state registrations aptpl = record (unchanged state) {
   registrations = registrations;
-  reservation = reservation;
-  for_removed = for_removed;
-  for_remaining = for_remaining;
-  increments_generation = true;
-  aptpl = None;
-})
-
--- If an initiator registers or unregisters, PRGENERATION is incremented too. From then on, APTPL of
--- its parameter list says whether registrations and reservation persist through a power loss.
-abbrev pub registered : List Registration → Option Reservation
-    → (for_remaining : Option UnitAttention) → (aptpl : Bool) → Outcome
-registered registrations reservation for_remaining aptpl = Ok (record {
-  registrations = registrations;
-  reservation = reservation;
-  for_removed = None;
-  for_remaining = for_remaining;
   increments_generation = true;
   aptpl = Some aptpl;
-})
+}
 
 -- A case of a service action. The first case that applies decides.
 pub record Case : Type 0 where
@@ -123,45 +103,71 @@ register_cases state caller sark aptpl =
     let held = state.reservation in
     let known = is_registered all caller in
     let rest = without_initiator all caller in
-    when (not known && sark == 0) (same_generation all held None)
+    when (not known && sark == 0) (Ok (unchanged state))
     ∷ when (not known && length all == max_registrations) (Err NoRoom)
-    ∷ when (not known) (registered (with_registration all caller sark) held None aptpl)
-    ∷ when (not (sark == 0)) (registered (with_key_replaced all caller sark) held None aptpl)
-    ∷ otherwise (registered rest (while_held held rest) (released_unless_held held rest) aptpl)
+    ∷ when (not known) (Ok (registering state (with_registration all caller sark) aptpl))
+    ∷ when (not (sark == 0)) (Ok (registering state (with_key_replaced all caller sark) aptpl))
+    ∷ otherwise (Ok (record (registering state rest aptpl) {
+      reservation = while_held held rest;
+      for_remaining = released_unless_held held rest;
+    }))
     ∷ []
 
 -- RESERVE (SPC-4, 5.13, reserving).
 unfoldable pub reserve_cases : ReservationState → (caller : ℕ) → ReservationType → List Case
 reserve_cases state caller type =
-    let all = state.registrations in
     let held = state.reservation in
-    when (is_none held) (same_generation all (Some (taken type caller)) None)
-    ∷ when (is_holder state caller && has_type held type) (same_generation all held None)
+    when (is_none held) (Ok (record (unchanged state) { reservation = Some (taken type caller) }))
+    ∷ when (is_holder state caller && has_type held type) (Ok (unchanged state))
     ∷ otherwise (Err Conflict)
     ∷ []
 
 -- RELEASE (SPC-4, 5.13, releasing).
 unfoldable pub release_cases : ReservationState → (caller : ℕ) → ReservationType → List Case
 release_cases state caller type =
-    let all = state.registrations in
-    let held = state.reservation in
-    when (not (is_holder state caller)) (same_generation all held None)
-    ∷ when (not (has_type held type)) (Err BadRelease)
-    ∷ otherwise (same_generation all None (released type))
+    when (not (is_holder state caller)) (Ok (unchanged state))
+    ∷ when (not (has_type state.reservation type)) (Err BadRelease)
+    ∷ otherwise (Ok (record (unchanged state) {
+      reservation = None;
+      for_remaining = released type;
+    }))
     ∷ []
 
 -- CLEAR (SPC-4, 5.13, clearing).
 abbrev pub cleared : Outcome
-cleared = next_generation [] None (Some ReservationsPreempted) None
+cleared = Ok (record {
+  registrations = [];
+  reservation = None;
+  for_removed = Some ReservationsPreempted;
+  for_remaining = None;
+  increments_generation = true;
+  aptpl = None;
+})
 
 -- If the scope and type are valid, the caller takes the reservation, and these registrations
 -- remain.
 abbrev pub preempted : Option Reservation → (caller : ℕ) → Option ReservationType
     → List Registration → Outcome
 preempted held caller None rest = Err BadType
-preempted held caller (Some type) rest =
-    next_generation rest (Some (taken type caller)) (Some RegistrationsPreempted)
-    (released_unless_type held type)
+preempted held caller (Some type) rest = Ok (record {
+  registrations = rest;
+  reservation = Some (taken type caller);
+  for_removed = Some RegistrationsPreempted;
+  for_remaining = released_unless_type held type;
+  increments_generation = true;
+  aptpl = None;
+})
+
+-- Only registrations are removed: a reservation that a registrant still holds is left.
+abbrev pub registrations_preempted : Option Reservation → (rest : List Registration) → Outcome
+registrations_preempted held rest = Ok (record {
+  registrations = rest;
+  reservation = while_held held rest;
+  for_removed = Some RegistrationsPreempted;
+  for_remaining = None;
+  increments_generation = true;
+  aptpl = None;
+})
 
 -- A reservation has one holder; each registrant holds it; a key is the key of its one holder.
 abbrev pub has_one_holder : Option Reservation → Bool
@@ -190,7 +196,7 @@ preempt_cases state caller type sark =
     ∷ when (is_key_of_holder state sark) (take (without_key_of_others all caller sark))
     ∷ when (is_held_by_all held && sark == 0) (take (without_others all caller))
     ∷ when (not (has_key all sark)) (Err Conflict)
-    ∷ otherwise (next_generation rest (while_held held rest) (Some RegistrationsPreempted) None)
+    ∷ otherwise (registrations_preempted held rest)
     ∷ []
 
 -- ---- The command

@@ -13,7 +13,7 @@ pub(crate) enum Standing {
     // It is registered, and no holder.
     Registrant,
     // It is not registered.
-    Other,
+    Unregistered,
 }
 
 /// The highest class of commands that a reservation allows to an initiator.
@@ -23,13 +23,13 @@ pub(crate) fn highest_class(kind: ReservationType, standing: Standing) -> Class
     match standing {
         Standing::Holder => Class::Writes,
         Standing::Registrant if kind.is_shared() => Class::Writes,
-        Standing::Registrant | Standing::Other => class_of_others(kind),
+        Standing::Registrant | Standing::Unregistered => class_of_others(kind),
     }
 }
 
 /// The highest class that is allowed to initiators that do not share the reservation.
 fn class_of_others(kind: ReservationType) -> Class
-    ensures { result ≡ highest_class (access_of kind) Standing.Other }
+    ensures { result ≡ highest_class (access_of kind) Standing.Unregistered }
 {
     match kind {
         ReservationType::WriteExclusive

@@ -10,7 +10,7 @@ use sg_wire::Initiator;
 /// A persistent reservation that is held (SPC-4, 5.13).
 #[derive(Clone, Copy)]
 pub struct Reservation {
-    /// Its type.
+    /// TYPE. Rust keeps the word `type` for itself.
     pub kind: ReservationType,
     /// Its one holder. None under an all registrants type: there each registrant is a holder.
     pub holder: Option<Initiator>,

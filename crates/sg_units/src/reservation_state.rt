@@ -8,9 +8,9 @@ mod read_full_status;
 mod register;
 mod reserve;
 
-ghost use Rattle.std.specs.Prelude.{◌≡◌, Ok, None};
+ghost use Rattle.std.specs.Prelude.{◌≡◌};
 ghost use Rattle.sg_units.specs.Access.{allows, standing_of};
-ghost use Rattle.sg_units.specs.ReserveOut.{registered, same_generation};
+ghost use Rattle.sg_units.specs.ReserveOut.{registering, unchanged};
 ghost use Rattle.sg_units.specs.Reservations.{empty_state, has_type, is_holder, while_held};
 
 use crate::access::{Standing, highest_class, is_within};
@@ -23,9 +23,13 @@ use sg_wire::{Class, Initiator};
 /// registrations and reservation.
 #[derive(Drop)]
 pub(crate) struct ReservationState {
+    // In the order in which the initiators registered.
     pub(crate) registrations: Registrations,
+    // The reservation that is held.
     pub(crate) reservation: Option<Reservation>,
+    // PRGENERATION.
     pub(crate) generation: u32,
+    // APTPL of the last command that registered or unregistered.
     pub(crate) persists_through_power_loss: bool,
 }
 
@@ -81,7 +85,7 @@ impl ReservationState {
         } else if self.registrations.has(initiator) {
             Standing::Registrant
         } else {
-            Standing::Other
+            Standing::Unregistered
         }
     }
 
@@ -98,17 +102,30 @@ impl ReservationState {
         }
     }
 
-    /// Nothing changes.
+    /// Nothing changes, and no condition is raised.
     fn unchanged(&self) -> ReservationChange
-        ensures { Ok result ≡ same_generation self.now.registrations self.now.reservation None }
+        ensures { result ≡ unchanged self.now }
     {
-        ReservationChange::same_generation(self.registrations.copied(), self.reservation, None)
+        ReservationChange {
+            registrations: self.registrations.copied(),
+            reservation: self.reservation,
+            for_removed: None,
+            for_remaining: None,
+            increments_generation: false,
+            aptpl: None,
+        }
     }
 
-    /// An initiator registers: the reservation stays, and nothing is raised.
-    fn with_registrations(&self, registrations: Registrations, aptpl: bool) -> ReservationChange
-        ensures { Ok result ≡ registered registrations self.now.reservation None aptpl }
+    /// An initiator registers or unregisters, with these registrations afterwards. From then on its
+    /// APTPL decides what a power loss leaves.
+    fn registering(&self, registrations: Registrations, aptpl: bool) -> ReservationChange
+        ensures { result ≡ registering self.now registrations aptpl }
     {
-        ReservationChange::registered(registrations, self.reservation, None, aptpl)
+        ReservationChange {
+            registrations,
+            increments_generation: true,
+            aptpl: Some(aptpl),
+            ..self.unchanged()
+        }
     }
 }

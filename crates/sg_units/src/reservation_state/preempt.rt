@@ -1,10 +1,8 @@
 // PREEMPT and PREEMPT AND ABORT (SPC-4, 5.13) are the same here: no command is left to abort.
-ghost use Rattle.std.specs.Prelude.{◌≡◌, Ok, Some, None};
+ghost use Rattle.std.specs.Prelude.{◌≡◌, Ok};
 ghost use Rattle.sg_units.specs.ReserveOut.{first_case, has_one_holder, is_held_by_all};
-ghost use Rattle.sg_units.specs.ReserveOut.{is_key_of_holder, next_generation, preempt_cases};
-ghost use Rattle.sg_units.specs.ReserveOut.{preempted};
-ghost use Rattle.sg_units.specs.Reservations.{while_held};
-ghost use Rattle.sg_units.specs.declared.unit_attention.UnitAttention.TheVariants.{RegistrationsPreempted};
+ghost use Rattle.sg_units.specs.ReserveOut.{is_key_of_holder, preempt_cases};
+ghost use Rattle.sg_units.specs.ReserveOut.{preempted, registrations_preempted};
 
 use super::ReservationState;
 use crate::registrations::Registrations;
@@ -40,7 +38,7 @@ impl ReservationState {
             return Err(OutFault::Conflict);
         }
         registrations.remove_key(service_action_key);
-        Ok(self.with_registrations_preempted(registrations))
+        Ok(self.registrations_preempted(registrations))
     }
 
     /// The caller takes the reservation, and these registrations remain.
@@ -58,20 +56,29 @@ impl ReservationState {
         } else {
             Some(UnitAttention::ReservationsReleased)
         };
-        let reservation = Some(Reservation::taken(kind, caller));
-        let preempted = Some(UnitAttention::RegistrationsPreempted);
-        Ok(ReservationChange::next_generation(registrations, reservation, preempted, for_remaining))
+        Ok(ReservationChange {
+            registrations,
+            reservation: Some(Reservation::taken(kind, caller)),
+            for_removed: Some(UnitAttention::RegistrationsPreempted),
+            for_remaining,
+            increments_generation: true,
+            aptpl: None,
+        })
     }
 
     /// These registrations remain, and the reservation, if one of them holds it.
-    fn with_registrations_preempted(&self, registrations: Registrations) -> ReservationChange
-        ensures { Ok result ≡
-            next_generation registrations (while_held self.now.reservation registrations)
-            (Some RegistrationsPreempted) None }
+    fn registrations_preempted(&self, registrations: Registrations) -> ReservationChange
+        ensures { Ok result ≡ registrations_preempted self.now.reservation registrations }
     {
         let reservation = self.while_held(&registrations);
-        let preempted = Some(UnitAttention::RegistrationsPreempted);
-        ReservationChange::next_generation(registrations, reservation, preempted, None)
+        ReservationChange {
+            registrations,
+            reservation,
+            for_removed: Some(UnitAttention::RegistrationsPreempted),
+            for_remaining: None,
+            increments_generation: true,
+            aptpl: None,
+        }
     }
 
     fn has_one_holder(&self) -> bool

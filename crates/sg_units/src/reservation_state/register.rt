@@ -1,7 +1,7 @@
 // REGISTER and REGISTER AND IGNORE EXISTING KEY (SPC-4, 5.13) differ only in the check of the key.
 // The check comes before.
-ghost use Rattle.std.specs.Prelude.{◌≡◌, Ok};
-ghost use Rattle.sg_units.specs.ReserveOut.{first_case, register_cases, registered};
+ghost use Rattle.std.specs.Prelude.{◌≡◌};
+ghost use Rattle.sg_units.specs.ReserveOut.{first_case, register_cases, registering};
 ghost use Rattle.sg_units.specs.ReserveOut.{released_unless_held};
 ghost use Rattle.sg_units.specs.Registrations.{without_initiator};
 ghost use Rattle.sg_units.specs.Reservations.{while_held};
@@ -31,7 +31,7 @@ impl ReservationState {
             let replaced = self
                 .registrations
                 .with_key_replaced(caller, service_action_key);
-            return Ok(self.with_registrations(replaced, aptpl));
+            return Ok(self.registering(replaced, aptpl));
         }
         if service_action_key == 0 {
             return Ok(self.unchanged());
@@ -41,20 +41,26 @@ impl ReservationState {
         }
         let mut registrations = self.registrations.copied();
         registrations.register(caller, service_action_key);
-        Ok(self.with_registrations(registrations, aptpl))
+        Ok(self.registering(registrations, aptpl))
     }
 
     /// An initiator is unregistered. The reservation ends if no registrant holds it any more.
     fn unregistered(&self, caller: Initiator, aptpl: bool) -> ReservationChange
         ensures { let rest = without_initiator self.now.registrations caller in
-            Ok result ≡ registered rest (while_held self.now.reservation rest)
-            (released_unless_held self.now.reservation rest) aptpl }
+            result ≡ record (registering self.now rest aptpl) {
+              reservation = while_held self.now.reservation rest;
+              for_remaining = released_unless_held self.now.reservation rest;
+            } }
     {
         let mut registrations = self.registrations.copied();
         registrations.remove(caller);
         let reservation = self.while_held(&registrations);
         let for_remaining = self.released_unless_held(&registrations);
-        ReservationChange::registered(registrations, reservation, for_remaining, aptpl)
+        ReservationChange {
+            reservation,
+            for_remaining,
+            ..self.registering(registrations, aptpl)
+        }
     }
 
     /// The condition for the registrants that remain, if none of them holds the reservation.

@@ -57,7 +57,13 @@ impl ReservationState {
     pub(super) fn clear(&self) -> ReservationChange
         ensures { Ok result ≡ cleared }
     {
-        let preempted = Some(UnitAttention::ReservationsPreempted);
-        ReservationChange::next_generation(Registrations::new(), None, preempted, None)
+        ReservationChange {
+            registrations: Registrations::new(),
+            reservation: None,
+            for_removed: Some(UnitAttention::ReservationsPreempted),
+            for_remaining: None,
+            increments_generation: true,
+            aptpl: None,
+        }
     }
 }
