@@ -4,8 +4,8 @@ use Rattle.std.proofs.Common.{length-append, refl, sym, subst, ap, ◌∙◌, ar
 use Rattle.std.proofs.Common.{Bool, cond, take, get_or}
 use Rattle.std.proofs.lemmas.List.{take_more}
 use Rattle.std.proofs.Math.Nat.{mul-le-mul}
-use Rattle.std.proofs.lemmas.List.{length-map, map-append}
-use Rattle.std.specs.Prelude.{map}
+use Rattle.std.proofs.lemmas.List.{append-nil, length-map, map-append}
+use Rattle.std.specs.Prelude.{is_none, map}
 use Rattle.sg_store.specs.Meter.{Costs, Meter, restarted}
 use Rattle.sg_store.specs.declared.store.Counts.{Counts}
 use Rattle.sg_target.specs.Anchoring.{counted, counted_ranges}
@@ -15,7 +15,8 @@ use Rattle.sg_target.specs.ProvisioningCommands.{Change, changed_in_turn}
 use Rattle.sg_target.specs.Ranges.{Range, anchoring_ranges, counted_range, range, ranges_in_turn}
 use Rattle.sg_target.specs.declared.reply.Reply.{Reply}
 use Rattle.sg_target.specs.declared.reply.Status.TheVariants.{Good}
-use Rattle.sg_store.specs.Disk.{Contents, Disk, anchored}
+use Rattle.sg_store.specs.Disk.{Contents, Disk, IsOverfull, anchored}
+use Rattle.sg_target.proofs.Space.{nothing-left, space-unless}
 use Rattle.sg_target.proofs.InTurnLemmas.{changed-append, ranges-more}
 use Rattle.sg_target.specs.Joining.{AreJoined, IsSubadditive, cost_of, range_of}
 use Rattle.sg_target.specs.declared.joining.AddressRange.{AddressRange}
@@ -121,6 +122,29 @@ module _ (change : Change) (extents : List Extent) (i : ℕ) (d : Extent) (here 
       (subst (λ (x : Disk). mid.total + bounds.least x.contents next.lba next.count ≤ after.total)
       so_far least)))
 
+-- ---- the ranges of an anchoring
+
+module _ (disk : Disk) (extents : List Extent) where
+  abbrev after_all : Disk
+  after_all = record disk { contents = changed_in_turn anchored disk.contents extents }
+
+  abbrev counted_and : (room : Bool) → List Range
+  counted_and room =
+      map (counted_range disk.contents) extents
+      ++ cond room (ranges_in_turn anchored disk.contents extents) []
+
+  -- without room, the extents are only counted
+  pub without-room : IsOverfull after_all
+      → anchoring_ranges disk extents ≡ map (counted_range disk.contents) extents
+  without-room h =
+      ap counted_and (nothing-left after_all h) ∙ append-nil (map (counted_range disk.contents) extents)
+
+  -- with room, they are gone over again
+  pub with-room : (IsOverfull after_all → ⊥)
+      → anchoring_ranges disk extents
+      ≡ map (counted_range disk.contents) extents ++ ranges_in_turn anchored disk.contents extents
+  with-room h = ap (λ found. counted_and (is_none found)) (space-unless after_all h)
+
 -- ---- the ranges as they were sent, in place of the joined ones
 
 -- (they are the same ranges)
@@ -166,13 +190,13 @@ module _ (bounds : CostBounds) (pool : ℕ) (m : Contents) (extents : List Exten
     j.count,
   )
 
-  -- the counts over others are within the price if these cost no more and are no more
-  within : (over : List Range) → sum_over bounds.price over ≤ sum_over bounds.price (sent ++ turn)
-      → length over ≤ length (sent ++ turn) → IsWithinPrice bounds pool over before after
-      → IsWithinPrice bounds pool (anchoring_ranges m extents) before after
-  within over price count c =
-      let links : pool * length over ≤ pool * length (sent ++ turn) =
-      mul-le-mul {m₂ = length (sent ++ turn)} (omega arith) count in
+  -- the counts over some are within the price of others if they cost no more and are no more
+  within : (some over : List Range) → sum_over bounds.price some ≤ sum_over bounds.price over
+      → length some ≤ length over → IsWithinPrice bounds pool some before after
+      → IsWithinPrice bounds pool over before after
+  within some over price count c =
+      let links : pool * length some ≤ pool * length over =
+      mul-le-mul {m₂ = length over} (omega arith) count in
       record {
         visits = omega (arith, c.visits, price);
         probes = omega (arith, c.probes, count);
@@ -183,24 +207,22 @@ module _ (bounds : CostBounds) (pool : ℕ) (m : Contents) (extents : List Exten
 
   -- without room, only the count was done
   pub counted-charged : IsCounted bounds pool (counted_ranges m joined) before after
-      → IsWithinPrice bounds pool (anchoring_ranges m extents) before after
-  counted-charged c =
-      let price = sum-append bounds.price sent turn in
-      let count = length-append sent turn in
-      within (counted_ranges m joined) (omega (arith, cheaper)) (omega (arith, shorter)) c.charge
+      → IsWithinPrice bounds pool sent before after
+  counted-charged c = within (counted_ranges m joined) sent cheaper shorter c.charge
 
   -- otherwise each range was gone over again
   pub all-charged : IsCounted bounds pool (counted_ranges m joined ++ turn) before after
-      → IsWithinPrice bounds pool (anchoring_ranges m extents) before after
+      → IsWithinPrice bounds pool (sent ++ turn) before after
   all-charged c =
       let price = sum-append bounds.price sent turn in
       let price' = sum-append bounds.price (counted_ranges m joined) turn in
       let count = length-append sent turn in
       let count' = length-append (counted_ranges m joined) turn in
-      within (counted_ranges m joined ++ turn) (omega (arith, cheaper)) (omega (arith, shorter)) c.charge
+      within (counted_ranges m joined ++ turn) (sent ++ turn) (omega (arith, cheaper))
+      (omega (arith, shorter)) c.charge
 
   pub all-least : IsCounted bounds pool (counted_ranges m joined ++ turn) before after
-      → least_over bounds.least (anchoring_ranges m extents) ≤ after.counts.visits
+      → least_over bounds.least (sent ++ turn) ≤ after.counts.visits
   all-least c = omega (
     arith,
     c.least,

@@ -9,7 +9,7 @@ use Rattle.sg_target.specs.Target.{TargetFields}
 use Rattle.sg_target.specs.declared.reply.Reply.{Reply}
 use Rattle.sg_target.specs.declared.reply.Status.TheVariants.{Good}
 
--- The visits that a call of a store over a range may or must make, by the mapped blocks, the
+-- The visits that a call of a store over a range may or must make, by the used addresses, the
 -- address and the count.
 abbrev pub Cost : Type 0
 Cost = Contents → ℕ → ℕ → ℕ

@@ -1,10 +1,11 @@
 -- The ranges of blocks that a command goes over. They say what it costs, and not what it means.
 use Rattle.std.specs.Prelude.{ℕ, List, [], ◌∷◌, ◌++◌, Bool, false, true, map, Result, Ok, Err}
+use Rattle.std.specs.Prelude.{if◌then◌else◌, is_none}
 use Rattle.sg_wire.specs.declared.extent.Extent.{Extent}
 use Rattle.sg_store.specs.Disk.{Contents, Disk, anchored, unmapped}
 use Rattle.sg_store.specs.LbaStatus.{covered, lba_status}
-use Rattle.sg_target.specs.Checks.{checked_cdb}
-use Rattle.sg_target.specs.ProvisioningCommands.{Change}
+use Rattle.sg_target.specs.Checks.{checked_cdb, no_space}
+use Rattle.sg_target.specs.ProvisioningCommands.{Change, changed_in_turn}
 use Rattle.sg_target.specs.State.{State}
 use Rattle.sg_target.specs.declared.operation.Operation.{Operation}
 use Rattle.sg_target.specs.declared.operation.Operation.TheVariants.{Anchor, AnchorExtent, Fill, Read}
@@ -12,7 +13,7 @@ use Rattle.sg_target.specs.declared.operation.Operation.TheVariants.{ReturnLbaSt
 use Rattle.sg_target.specs.declared.operation.Operation.TheVariants.{UnmapExtent, Write}
 use Rattle.sg_target.specs.declared.refusal.Refusal.{Refusal}
 
--- A range of blocks that the store is asked for, with the mapped blocks that it meets, as the
+-- A range of blocks that the store is asked for, with the used addresses that it meets, as the
 -- ranges before it have left them.
 pub record Range : Type 0 where
   pub contents : Contents
@@ -28,7 +29,7 @@ range contents blocks =
 abbrev pub counted_range : Contents → Extent → Range
 counted_range contents blocks = record (range contents blocks) { counted = true }
 
--- The ranges of extents that are changed one after the other: each meets the mapped blocks that the
+-- The ranges of extents that are changed one after the other: each meets the used addresses that the
 -- ranges before it have left.
 abbrev pub ranges_in_turn : Change → Contents → List Extent → List Range
 ranges_in_turn change contents [] = []
@@ -36,10 +37,12 @@ ranges_in_turn change contents (extent ∷ rest) =
     range contents extent ∷ ranges_in_turn change (change contents extent.lba extent.count) rest
 
 -- Extents that are anchored are gone over twice. The store first counts the blocks that all of them
--- need, before anything changes, and then goes over all again.
-abbrev pub anchoring_ranges : Contents → List Extent → List Range
-anchoring_ranges contents extents =
-    map (counted_range contents) extents ++ ranges_in_turn anchored contents extents
+-- need, before anything changes. If the pool has room for them, it goes over all again.
+abbrev pub anchoring_ranges : Disk → List Extent → List Range
+anchoring_ranges disk extents =
+    let after = record disk { contents = changed_in_turn anchored disk.contents extents } in
+    map (counted_range disk.contents) extents
+    ++ (if is_none (no_space after) then ranges_in_turn anchored disk.contents extents else [])
 
 -- GET LBA STATUS goes over the blocks that its descriptors cover.
 abbrev pub status_ranges : Disk → (start : ℕ) → List Range
@@ -59,8 +62,8 @@ ranges_of state (Write out) = range state.disk.contents out.extent ∷ []
 ranges_of state (Fill extent block) = range state.disk.contents extent ∷ []
 ranges_of state (Unmap extents) = ranges_in_turn unmapped state.disk.contents extents
 ranges_of state (UnmapExtent extent) = ranges_in_turn unmapped state.disk.contents (extent ∷ [])
-ranges_of state (Anchor extents) = anchoring_ranges state.disk.contents extents
-ranges_of state (AnchorExtent extent) = anchoring_ranges state.disk.contents (extent ∷ [])
+ranges_of state (Anchor extents) = anchoring_ranges state.disk extents
+ranges_of state (AnchorExtent extent) = anchoring_ranges state.disk (extent ∷ [])
 ranges_of state (ReturnLbaStatus start n) = status_ranges state.disk start
 ranges_of state _ = []
 

@@ -112,7 +112,7 @@ pub(crate) fn anchor_extents<S: Store>(
 
     // What it costs.
     ensures costs { CostsOnOk result (cost_bounds S.price S.least) (S.disk store.old).pool
-        (anchoring_ranges (S.disk store.old).contents extents.now)
+        (anchoring_ranges (S.disk store.old) extents.now)
         (S.meter store.old) (S.meter store.new) }
 {
     remapping_takes_what_is_needed();

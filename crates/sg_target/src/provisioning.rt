@@ -150,7 +150,7 @@ impl<S: Store> Target<S> {
         requires limits { IsWithinLimits self.old.state }
         ensures { TakesStep (cost_bounds S.price S.least)
             (executed_or_refused self.old.state initiator (anchoring self.old.state listed.now))
-            (anchoring_ranges self.old.state.disk.contents listed.now)
+            (anchoring_ranges self.old.state.disk listed.now)
             self.old self.new result buf.now buf.now }
     {
         let extents = listed.to_list();
@@ -165,7 +165,7 @@ impl<S: Store> Target<S> {
         requires limits { IsWithinLimits self.old.state }
         ensures { TakesStep (cost_bounds S.price S.least)
             (executed_or_refused self.old.state initiator (anchoring self.old.state extents.now))
-            (anchoring_ranges self.old.state.disk.contents extents.now)
+            (anchoring_ranges self.old.state.disk extents.now)
             self.old self.new result buf.now buf.now }
     {
         if extents.is_empty() {

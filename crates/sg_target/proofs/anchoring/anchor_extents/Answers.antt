@@ -1,8 +1,10 @@
-use Rattle.std.proofs.Common.{arith, map}
+use Rattle.std.proofs.lemmas.Bool.{false≢true}
+use Rattle.std.proofs.Common.{arith, map, refl, sym, subst, List, ◌≤◌}
 use Rattle.sg_store.specs.declared.store.TheConstants.{MAX_CAPACITY}
-use Rattle.sg_target.specs.Charge.{cost_bounds}
+use Rattle.sg_target.specs.Charge.{IsWithinPrice, cost_bounds, least_over}
+use Rattle.sg_target.specs.Ranges.{Range}
 use Rattle.sg_target.specs.Joining.{range_of}
-use Rattle.sg_target.proofs.ChargingLemmas.{counted-charged, all-charged, all-least}
+use Rattle.sg_target.proofs.ChargingLemmas.{counted-charged, all-charged, all-least, with-room, without-room}
 use Rattle.sg_target.proofs.NeedLemmas.{ranges-within, used-after, within-weaker}
 use Rattle.sg_target.proofs.anchoring.anchor_extents.Goals as goal
 
@@ -33,12 +35,18 @@ returns-then-needed-from-clause-space g c =
 pub returns-then-needed-from-clause-costs : goal.returns-then-needed-from-clause-costs
 returns-then-needed-from-clause-costs g c =
     let disk = g.S.Store.disk c.args.store.now in
+    let bounds = cost_bounds g.S.Store.price g.S.Store.least in
+    let before = g.S.Store.meter c.args.store.now in
+    let after = g.S.Store.meter c.count_needed-needed.new.store in
+    let full = (returns-then-needed-from-clause-space g c).0 refl in
     record {
-      charge = counted-charged (cost_bounds g.S.Store.price g.S.Store.least) disk.pool
+      charge = subst (λ (over : List Range). IsWithinPrice bounds disk.pool over before after)
+          (sym (without-room disk c.args.extents.now full))
+          (counted-charged bounds disk.pool
           disk.contents c.args.extents.now c.joined-ranges.result.items c.joined-ranges.ensures
           (g.met.S.Store.price_joined disk.contents) _ _
           (rw c.as_slice.ensures.value at
-          c.count_needed-needed.ensures.counted);
+          c.count_needed-needed.ensures.counted));
       least = tt;
     }
 
@@ -80,11 +88,20 @@ returns-clause-costs g c =
     let left = c.count_needed-needed.ensures.disk in
     let counted = rw c.as_slice.ensures.value at c.count_needed-needed.ensures.counted in
     let all = (rw left at c.anchor_in_turn.ensures.counted) _ _ counted in
+    let bounds = cost_bounds g.S.Store.price g.S.Store.least in
+    let before = g.S.Store.meter c.args.store.now in
+    let now = g.S.Store.meter c.anchor_in_turn.new.store in
+    let all_gone_over = sym (with-room disk c.args.extents.now
+    (λ more. false≢true ((returns-clause-space g c).1 more))) in
     record {
-      charge = all-charged (cost_bounds g.S.Store.price g.S.Store.least) disk.pool
+      charge = subst (λ (over : List Range). IsWithinPrice bounds disk.pool over before now)
+          all_gone_over
+          (all-charged bounds disk.pool
           disk.contents c.args.extents.now c.joined-ranges.result.items c.joined-ranges.ensures
-          (g.met.S.Store.price_joined disk.contents) _ _ all;
-      least = all-least (cost_bounds g.S.Store.price g.S.Store.least) disk.pool
+          (g.met.S.Store.price_joined disk.contents) _ _ all);
+      least = subst (λ (over : List Range). least_over bounds.least over ≤ now.counts.visits)
+          all_gone_over
+          (all-least bounds disk.pool
           disk.contents c.args.extents.now c.joined-ranges.result.items c.joined-ranges.ensures
-          (g.met.S.Store.price_joined disk.contents) _ _ all;
+          (g.met.S.Store.price_joined disk.contents) _ _ all);
     }
