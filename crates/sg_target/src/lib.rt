@@ -24,16 +24,10 @@ mod reservation;
 mod run;
 mod target;
 
-pub use block::{BlocksIn, BlocksOut};
 pub use call::Call;
 pub use config::{Config, ConfigFault};
 pub use event::Event;
 pub use happening::Happening;
-pub use mode::{ModeList, RequestedModes};
-pub use operation::Operation;
-pub use primary::InquiryPage;
-pub use provisioning::BlockOut;
-pub use refusal::{Reason, Refusal};
 pub use reply::{Reply, SENSE_LENGTH, SenseBytes, Status};
 pub use run::Sink;
 pub use target::{BUFFER_LENGTH, Target};
