@@ -1,7 +1,7 @@
 -- Fencing: what others can do to the initiator that holds a reservation of a type that nobody
 -- shares.
-use Rattle.std.specs.Prelude.{◌≡◌, ◌≤◌, ℕ, ◌==◌, Bool, true, false, ◌&&◌, ◌||◌, not, List, filter}
-use Rattle.std.specs.Prelude.{slice_get, take, Option, Some, Result, Ok}
+use Rattle.std.specs.Prelude.{◌≡◌, ◌≢◌, ◌≤◌, ℕ, ◌==◌, Bool, true, false, ◌&&◌, ◌||◌, not, List}
+use Rattle.std.specs.Prelude.{filter, slice_get, take, Option, Some, Result, Ok}
 use Rattle.std.specs.FinMap.{len}
 use Rattle.sg_wire.specs.CdbDecoding.{class_of, command_of}
 use Rattle.sg_wire.specs.declared.command.CdbFault.{CdbFault}
@@ -71,7 +71,7 @@ shows_others _ = false
 abbrev pub OthersLeaveTheView : Type 0
 OthersLeaveTheView =
     (state : State) (holder other : ℕ) (cdb data_out : List ℕ) → IsWithinLimits state
-    → (other ≡ holder → ⊥) → holds_alone state holder ≡ true
+    → other ≢ holder → holds_alone state holder ≡ true
     → holds_alone (step state other cdb data_out).state holder ≡ true
     → view_of (step state other cdb data_out).state holder ≡ view_of state holder
 
@@ -93,14 +93,14 @@ EqualViewsEndAlike =
 -- that reads, such as READ, does either.
 pub record IsShutOut (state : State) (holder other : ℕ) (cdb data_out : List ℕ) : Type 0 where
   pub writes : class_of cdb ≡ Some Writes
-      → (step state other cdb data_out).answer.status ≡ Good → ⊥
+      → (step state other cdb data_out).answer.status ≢ Good
   pub reads : class_of cdb ≡ Some Reads → holds_type state holder ExclusiveAccess ≡ true
-      → (step state other cdb data_out).answer.status ≡ Good → ⊥
+      → (step state other cdb data_out).answer.status ≢ Good
 
 abbrev pub OthersAreShutOut : Type 0
 OthersAreShutOut =
     (state : State) (holder other : ℕ) (cdb data_out : List ℕ) → IsWithinLimits state
-    → (other ≡ holder → ⊥) → holds_alone state holder ≡ true
+    → other ≢ holder → holds_alone state holder ≡ true
     → IsShutOut state holder other cdb data_out
 
 -- PERSISTENT RESERVE OUT with CLEAR, PREEMPT or PREEMPT AND ABORT.
@@ -112,7 +112,7 @@ can_end_for_others _ = false
 abbrev pub OnlyPreemptionEnds : Type 0
 OnlyPreemptionEnds =
     (state : State) (holder other : ℕ) (cdb data_out : List ℕ) → IsWithinLimits state
-    → (other ≡ holder → ⊥) → holds_alone state holder ≡ true
+    → other ≢ holder → holds_alone state holder ≡ true
     → can_end_for_others (command_of cdb) ≡ false
     → holds_alone (step state other cdb data_out).state holder ≡ true
 
@@ -122,7 +122,7 @@ abbrev pub OthersSeeNoBlock : Type 0
 OthersSeeNoBlock =
     (state : State) (contents : Contents) (holder other : ℕ) (cdb data_out : List ℕ)
     → IsWithinLimits state → len contents ≤ state.disk.pool
-    → (other ≡ holder → ⊥) → holds_type state holder ExclusiveAccess ≡ true
+    → other ≢ holder → holds_type state holder ExclusiveAccess ≡ true
     → (step (with_contents state contents) other cdb data_out).answer
     ≡ (step state other cdb data_out).answer
 
@@ -163,6 +163,6 @@ OthersReadNothing =
     (state : State) (holder : ℕ) (calls : List Call) (n : ℕ) (call : Call) (answer : Answer)
     → IsWithinLimits state
     → slice_get calls n ≡ Some call → slice_get (answers state calls) n ≡ Some answer
-    → (call.initiator ≡ holder → ⊥) → class_of call.cdb.now ≡ Some Reads
+    → call.initiator ≢ holder → class_of call.cdb.now ≡ Some Reads
     → holds_type (state_after_all state (take n calls)) holder ExclusiveAccess ≡ true
-    → answer.status ≡ Good → ⊥
+    → answer.status ≢ Good

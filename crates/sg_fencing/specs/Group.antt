@@ -1,6 +1,6 @@
 -- The group of a disk. Its registrants see a view together, and nothing more. A new registration
 -- changes that view in one place. The commands of initiators outside may be left out.
-use Rattle.std.specs.Prelude.{◌≡◌, ℕ, ◌+◌, ◌%◌, ◌^◌, Bool, true, false, not, List, filter}
+use Rattle.std.specs.Prelude.{◌≡◌, ◌≢◌, ℕ, ◌+◌, ◌%◌, ◌^◌, Bool, true, false, not, List, filter}
 use Rattle.std.specs.Prelude.{slice_get, take, Option, Some}
 use Rattle.std.specs.List.{list_any}
 use Rattle.sg_wire.specs.CdbDecoding.{command_of}
@@ -99,7 +99,7 @@ with_newcomer view initiator list = record view {
 -- attention is established for it.
 pub record IsSeen (before after : State) (initiator : ℕ) (list : OutList) : Type 0 where
   pub group : group_view after ≡ with_newcomer (group_view before) initiator list
-  pub others : (other : ℕ) → (initiator ≡ other → ⊥) → view_of after other ≡ view_of before other
+  pub others : (other : ℕ) → initiator ≢ other → view_of after other ≡ view_of before other
 
 -- This holds if an initiator that was not registered is registered after a command of its own.
 abbrev pub NewcomersAreSeen : Type 0

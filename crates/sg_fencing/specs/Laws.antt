@@ -1,5 +1,5 @@
 -- Laws of the definitions, in the subject's words.
-use Rattle.std.specs.Prelude.{◌≡◌, ◌≤◌, ◌⊎◌, ℕ, ◌+◌, List, [], length, Bool, true, false}
+use Rattle.std.specs.Prelude.{◌≡◌, ◌≢◌, ◌≤◌, ◌⊎◌, ℕ, ◌+◌, List, [], length, Bool, true, false}
 use Rattle.std.specs.Prelude.{Some, None, Result, Ok}
 use Rattle.sg_wire.specs.CdbDecoding.{class_in, command_in, command_of}
 use Rattle.sg_wire.specs.declared.command.CdbFault.{CdbFault}
@@ -61,8 +61,7 @@ WritesOverUsedAddressesAreNeverRefusedForSpace =
     (state : State) (initiator : ℕ) (cdb data_out : List ℕ) (out : Extent) (format : Format)
     → IsWithinLimits state → blocks_to_write (command_of cdb) ≡ Some out → AreUsed state out
     → (step state initiator cdb data_out).answer
-    ≡ refusal_answer format (CheckCondition SpaceAllocationFailed)
-    → ⊥
+    ≢ refusal_answer format (CheckCondition SpaceAllocationFailed)
 
 -- Nothing forbids an initiator a WRITE of some blocks. No unit attention is pending for it, and
 -- the reservation, if there is one, lets it write. The blocks are on the disk, and the page Block
@@ -101,14 +100,14 @@ pub record IsKept (before after : State) (initiator : ℕ) : Type 0 where
 abbrev pub RefusedChangesNothing : Type 0
 RefusedChangesNothing =
     (state : State) (initiator : ℕ) (cdb data_out : List ℕ)
-    → ((step state initiator cdb data_out).answer.status ≡ Good → ⊥)
+    → (step state initiator cdb data_out).answer.status ≢ Good
     → IsKept state (step state initiator cdb data_out).state initiator
 
 -- Such a command returns no data-in either.
 abbrev pub RefusedReturnsNothing : Type 0
 RefusedReturnsNothing =
     (state : State) (initiator : ℕ) (cdb data_out : List ℕ)
-    → ((step state initiator cdb data_out).answer.status ≡ Good → ⊥)
+    → (step state initiator cdb data_out).answer.status ≢ Good
     → (step state initiator cdb data_out).answer.data_in ≡ []
 
 -- A command that ends with RESERVATION CONFLICT leaves the unit attentions as they are too.

@@ -1,5 +1,5 @@
 -- Power cycles, in a user's words: what is left, what is reported, and that fencing outlives them.
-use Rattle.std.specs.Prelude.{◌≡◌, ◌<◌, ◌≤◌, ◌==◌, ℕ, ◌+◌, Bool, true, false, not, ◌||◌}
+use Rattle.std.specs.Prelude.{◌≡◌, ◌≢◌, ◌<◌, ◌≤◌, ◌==◌, ℕ, ◌+◌, Bool, true, false, not, ◌||◌}
 use Rattle.std.specs.Prelude.{List, [], ◌∷◌, Some, None}
 use Rattle.std.specs.Prelude.{filter, slice_get, take}
 use Rattle.sg_wire.specs.CdbDecoding.{class_of, command_of}
@@ -109,7 +109,7 @@ FencedOffThroughPowerCycles =
     → is_registrant state initiator ≡ false → IsNeverGranted initiator state events
     → call.initiator ≡ initiator → class_of call.cdb.now ≡ Some Writes
     → is_reserved (state_after_events state events) ≡ true
-    → (step_of (state_after_events state events) call).answer.status ≡ Good → ⊥
+    → (step_of (state_after_events state events) call).answer.status ≢ Good
 
 -- The commands of an initiator and all happenings, in order.
 abbrev pub happens_to : (initiator : ℕ) → Event → Bool

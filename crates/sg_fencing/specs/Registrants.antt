@@ -1,8 +1,8 @@
 -- Fencing by registration: what an initiator that is not registered can do while a reservation is
 -- held. Under the types registrants only and all registrants, all registrants may write. So a
 -- cluster fences a node off under these types: another node removes its registration by PREEMPT.
-use Rattle.std.specs.Prelude.{◌≡◌, ◌≤◌, ◌==◌, ℕ, Bool, true, false, ◌&&◌, not, List, Option, Some}
-use Rattle.std.specs.Prelude.{Result, Ok, None, if◌then◌else◌}
+use Rattle.std.specs.Prelude.{◌≡◌, ◌≢◌, ◌≤◌, ◌==◌, ℕ, Bool, true, false, ◌&&◌, not, List}
+use Rattle.std.specs.Prelude.{Option, Some, None, Result, Ok, if◌then◌else◌}
 use Rattle.std.specs.Prelude.{is_some, slice_get, take}
 use Rattle.std.specs.List.{list_any}
 use Rattle.std.specs.FinMap.{len}
@@ -94,10 +94,10 @@ preempted_key command data_out =
 -- no command that reads, such as READ, does either.
 pub record IsKeptOut (state : State) (initiator : ℕ) (cdb data_out : List ℕ) : Type 0 where
   pub writes : class_of cdb ≡ Some Writes
-      → (step state initiator cdb data_out).answer.status ≡ Good → ⊥
+      → (step state initiator cdb data_out).answer.status ≢ Good
   pub reads : class_of cdb ≡ Some Reads
       → excludes_reading state.reservations.reservation ≡ true
-      → (step state initiator cdb data_out).answer.status ≡ Good → ⊥
+      → (step state initiator cdb data_out).answer.status ≢ Good
 
 abbrev pub FencedOffAreKeptOut : Type 0
 FencedOffAreKeptOut =
@@ -108,7 +108,7 @@ FencedOffAreKeptOut =
 abbrev pub FencedOffLeaveTheView : Type 0
 FencedOffLeaveTheView =
     (state : State) (initiator other : ℕ) (cdb data_out : List ℕ) → IsWithinLimits state
-    → (other ≡ initiator → ⊥) → is_fenced_off state other ≡ true
+    → other ≢ initiator → is_fenced_off state other ≡ true
     → view_of (step state other cdb data_out).state initiator ≡ view_of state initiator
 
 -- Under exclusive access the answer to it is the same whatever the blocks are, and whichever are
@@ -142,7 +142,7 @@ OnlyRegisteringRegisters =
 abbrev pub PreemptedAreUnregistered : Type 0
 PreemptedAreUnregistered =
     (state : State) (initiator caller key : ℕ) (cdb data_out : List ℕ) → IsWithinLimits state
-    → (caller ≡ initiator → ⊥) → preempted_key (command_of cdb) data_out ≡ Some key
+    → caller ≢ initiator → preempted_key (command_of cdb) data_out ≡ Some key
     → key_of state.reservations.registrations initiator ≡ Some key
     → (step state caller cdb data_out).answer.status ≡ Good
     → is_registrant (step state caller cdb data_out).state initiator ≡ false
@@ -165,7 +165,7 @@ abbrev pub PreemptingSendersStayRegistered : Type 0
 PreemptingSendersStayRegistered =
     (state : State) (caller key : ℕ) (cdb data_out : List ℕ) → IsWithinLimits state
     → preempted_key (command_of cdb) data_out ≡ Some key
-    → (key_of state.reservations.registrations caller ≡ Some key → ⊥)
+    → key_of state.reservations.registrations caller ≢ Some key
     → (step state caller cdb data_out).answer.status ≡ Good
     → is_registrant (step state caller cdb data_out).state caller ≡ true
 
@@ -187,7 +187,7 @@ IsNeverGranted initiator state events =
     (n : ℕ) (call : Call) → slice_get events n ≡ Some (event.Call call)
     → call.initiator ≡ initiator
     → asks_to_register (command_of call.cdb.now) call.data_out.now ≡ true
-    → (step_of (state_after_events state (take n events)) call).answer.status ≡ Good → ⊥
+    → (step_of (state_after_events state (take n events)) call).answer.status ≢ Good
 
 -- Then an initiator that is not registered stays unregistered. It may send REGISTER with the key
 -- that it had, which the disk refuses. It may also send the key zero, which ends with GOOD and
@@ -209,8 +209,8 @@ OldKeysAreRefused =
     (state : State) (initiator : ℕ) (cdb data_out : List ℕ) (list : OutList)
     → is_registrant state initiator ≡ false
     → list_of is_register (command_of cdb) data_out ≡ Some list
-    → (list.reservation_key ≡ 0 → ⊥)
-    → (step state initiator cdb data_out).answer.status ≡ Good → ⊥
+    → list.reservation_key ≢ 0
+    → (step state initiator cdb data_out).answer.status ≢ Good
 
 -- ---- Lists of commands
 
@@ -223,7 +223,7 @@ NoneIsServed class condition =
     → class_of call.cdb.now ≡ Some class
     → is_registrant (state_after_all state (take n calls)) call.initiator ≡ false
     → condition (state_after_all state (take n calls)) ≡ true
-    → answer.status ≡ Good → ⊥
+    → answer.status ≢ Good
 
 -- So such an initiator writes nothing while a reservation is held.
 abbrev pub FencedOffWriteNothing : Type 0
@@ -256,7 +256,7 @@ abbrev pub PreemptedWriteNothing : Type 0
 PreemptedWriteNothing =
     (state : State) (preempt : Call) (initiator key : ℕ) (calls : List Call) (n : ℕ) (call : Call)
     (answer : Answer)
-    → IsWithinLimits state → (preempt.initiator ≡ initiator → ⊥)
+    → IsWithinLimits state → preempt.initiator ≢ initiator
     → preempted_key (command_of preempt.cdb.now) preempt.data_out.now ≡ Some key
     → key_of state.reservations.registrations initiator ≡ Some key
     → (step_of state preempt).answer.status ≡ Good →
@@ -265,7 +265,7 @@ PreemptedWriteNothing =
     → slice_get calls n ≡ Some call → slice_get (answers after calls) n ≡ Some answer
     → call.initiator ≡ initiator → class_of call.cdb.now ≡ Some Writes
     → is_reserved (state_after_all after (take n calls)) ≡ true
-    → answer.status ≡ Good → ⊥)
+    → answer.status ≢ Good)
 
 -- A reservation is held, and each sender of a list of commands stays unregistered. Then the list
 -- leaves the view of every other initiator as it was: the blocks, the mode pages, unit attentions,

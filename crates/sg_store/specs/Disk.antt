@@ -1,5 +1,6 @@
 -- The disk: blocks of 512 bytes. Blocks that were written are mapped to blocks of a pool, and
--- others may be anchored there (SBC-3, 4.7, logical block provisioning).
+-- others may be anchored there (SBC-3, 4.7, logical block provisioning). A mapped or an anchored
+-- address is used: it has a block of the pool, which SBC-3 calls a mapping resource.
 use Rattle.std.specs.Prelude.{◌≡◌, ℕ, ◌+◌, ◌*◌, ◌^◌, ◌<◌, Bool, true, false, ◌&&◌, not, nat_le}
 use Rattle.std.specs.Prelude.{nat_lt, if◌then◌else◌}
 use Rattle.std.specs.Prelude.{List, [], ◌∷◌, Option, Some, None, length, take, drop, replicate, map}
@@ -25,7 +26,8 @@ pub data Mapping : Type 0 where
   Data : (block : List ℕ) → Mapping
   Anchored : Mapping
 
--- The addresses that have a block of the pool, each with its mapping.
+-- The addresses that have a block of the pool, each with its mapping. This is the disk's map of its
+-- logical block addresses.
 abbrev pub Contents : Type 0
 Contents = FinMap nat_cmp Mapping
 
@@ -53,7 +55,8 @@ pub record IsWellFormed (capacity : ℕ) (contents : Contents) : Type 0 where
 unfoldable pub zero_block : List ℕ
 zero_block = replicate block_length 0
 
--- The block that is read. If there is no data, it is zeros (LBPRZ 1).
+-- The block that is read at an address with such a mapping, or with none. If there is no data, it
+-- is zeros (LBPRZ 1).
 abbrev pub data_in : Option Mapping → List ℕ
 data_in (Some (Data block)) = block
 data_in (Some Anchored) = zero_block
@@ -80,7 +83,8 @@ abbrev pub with_mappings : Contents → List (ℕ × Mapping) → Contents
 with_mappings contents [] = contents
 with_mappings contents ((lba, mapping) ∷ more) = with_mappings (insert contents lba mapping) more
 
--- The addresses from one on remapped, each as its index says.
+-- The addresses from one on remapped: each has the mapping for its index afterwards. So an address
+-- that was not used gets a block of the pool. This is no reassigning of a bad block.
 unfoldable pub remapped : Contents → (lba count : ℕ) → (mapping : ℕ → Mapping) → Contents
 remapped contents lba count mapping = with_mappings contents (addressed lba count mapping)
 

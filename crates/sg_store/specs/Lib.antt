@@ -1,9 +1,10 @@
 -- Modules that public contracts cite: the disk, the cost of the calls, the answer of GET LBA
 -- STATUS, and the laws.
 pub mod Disk
-pub mod DiskProps
 pub mod Meter
 pub mod LbaStatus
 pub mod Laws
--- Modules that the model of a type with a store cites, for example the model of the target.
+-- Proofs that the model of a type with a store cites, for example the model of the target. They say
+-- nothing of the disk.
+pub mod DiskProps
 pub mod ContentsCode

@@ -1,5 +1,5 @@
 -- Laws of the commands on blocks: what `step` returns and leaves if one of them ends with GOOD.
-use Rattle.std.specs.Prelude.{◌≡◌, ℕ, ◌-◌, List, Bool, true, if◌then◌else◌}
+use Rattle.std.specs.Prelude.{◌≡◌, ◌≢◌, ℕ, ◌-◌, List, Bool, true, if◌then◌else◌}
 use Rattle.std.specs.Prelude.{Option, Some, None, Result, Ok}
 use Rattle.sg_wire.specs.CutAnswer.{first_bytes}
 use Rattle.sg_wire.specs.CdbDecoding.{command_of}
@@ -81,7 +81,7 @@ WritesLeaveTheirData =
 abbrev pub AreUsed : State → Extent → Type 0
 AreUsed state extent =
     (address : ℕ) → lies_in extent.lba extent.count address ≡ true
-    → status_at state.disk.contents address ≡ Deallocated → ⊥
+    → status_at state.disk.contents address ≢ Deallocated
 
 -- A WRITE over such addresses takes no more of the pool (SBC-3, 4.7.4). So it ends with GOOD if it
 -- passes the checks before the check for space.

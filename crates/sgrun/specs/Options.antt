@@ -11,7 +11,7 @@ text_option long = record { short = None; long = long; has_text = true }
 abbrev pub options : List OptionRow
 options =
     text_option (codes "blocks")  -- the number of logical blocks
-    ∷ text_option (codes "pool")  -- how many of them can be mapped at once
+    ∷ text_option (codes "pool")  -- how many of them can be mapped or anchored at once
     ∷ text_option (codes "profile")  -- which commands it has
     ∷ text_option (codes "script")  -- the file that holds the script
     ∷ []
