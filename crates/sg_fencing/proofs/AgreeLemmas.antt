@@ -37,6 +37,7 @@ module _ (s : State) (q : Pending) (i : ℕ) (own : pending_for s.attentions i �
     queues = raised-equal s.attentions q (raised_by s.reservations.registrations i change);
     reservations = refl;
     answer = λ _. refl;
+    found = refl;
   }
 
   by-operation : (operation : Operation) → Agree (step_by s i operation) (step_by t i operation)

@@ -6,7 +6,7 @@ use Rattle.std.proofs.Common.{get_or, drop, Option, Some, None, Result, Ok, Err,
 use Rattle.std.proofs.Common.{subst, arith}
 use Rattle.std.specs.Prelude.{map, option_and_then, slice_get, if◌then◌else◌}
 use Rattle.std.specs.List.{range_with_len}
-use Rattle.std.specs.Option.{option_map}
+use Rattle.std.specs.Option.{option_map, option_map_or}
 use Rattle.std.proofs.lemmas.Bool.{cases_eq, cases_lt}
 use Rattle.std.proofs.lemmas.List.{get_or_past}
 use Rattle.std.proofs.lemmas.List.FromFn.{get_or-map-range_with_len, length-map-range_with_len}
@@ -26,7 +26,7 @@ use Rattle.sg_units.specs.declared.reservation_state.ReservationState.{Reservati
 use Rattle.sg_units.specs.declared.unit_attention.UnitAttention.{UnitAttention}
 use Rattle.sg_units.specs.declared.unit_attention.UnitAttention.TheVariants.{ModeParametersChanged}
 use Rattle.sg_target.specs.BlockCommands.{read_capacity_10, read_capacity_16, reading, writing}
-use Rattle.sg_target.specs.Checks.{bad_field, cdb_checks, checked_parse, empty_cdb, no_space}
+use Rattle.sg_target.specs.Checks.{bad_field, cdb_checks, checked_parse, empty_cdb}
 use Rattle.sg_target.specs.Checks.{pending_attention, reservation_conflict, short_cdb}
 use Rattle.sg_target.specs.Checks.{unknown_opcode}
 use Rattle.sg_target.specs.Effect.{Effect, no_effect, returning_up_to}
@@ -37,7 +37,7 @@ use Rattle.sg_target.specs.ProvisioningCommands.{anchoring, filling, reporting_s
 use Rattle.sg_target.specs.Refusal.{first_some, pending_sense, when_sound}
 use Rattle.sg_target.specs.ReservationCommands.{reporting}
 use Rattle.sg_target.specs.State.{State, profile_of}
-use Rattle.sg_target.specs.Step.{Step, cut, executed, good, outcome, refused, step_by, unless_no_space}
+use Rattle.sg_target.specs.Step.{Step, cut, executed, good, outcome, refused, step_by}
 use Rattle.sg_target.specs.declared.operation.Operation.{Operation}
 use Rattle.sg_target.specs.declared.operation.Operation.TheVariants.{Nothing, ReturnSense}
 use Rattle.sg_target.specs.declared.operation.Operation.TheVariants.{ReturnInquiry, ReturnModes}
@@ -114,6 +114,7 @@ module _ (Related : ReservationState → ReservationState → Type 0) (shows_oth
     pub queues : StayEqual p q first.after.attentions second.after.attentions
     pub reservations : Related first.after.reservations second.after.reservations
     pub answer : shows_others ≡ false → (executed first).answer ≡ (executed second).answer
+    pub found : first.found ≡ second.found
 
 -- ---- The operations of i, in a state and in one that is the same for i
 
@@ -139,23 +140,25 @@ module _ (Related : ReservationState → ReservationState → Type 0) (s : State
   refused-agree shown _ =
       record { rest = refl; queues = λ k e. e; reservations = related; answer = λ _. refl }
 
-  by-space : (shown : Bool) (first second : Effect) (refusal : Option Refusal)
+  by-found : (shown : Bool) (first second : Effect) (found : Option Refusal)
       → Effects shown first second
-      → Steps shown (unless_no_space s i first refusal) (unless_no_space t i second refusal)
-  by-space shown first second None h = record {
+      → Steps shown (option_map_or (refused s i) found (executed first))
+      (option_map_or (refused t i) found (executed second))
+  by-found shown first second None h = record {
     rest = h.rest;
     queues = h.queues;
     reservations = h.reservations;
     answer = h.answer;
   }
-  by-space shown first second (Some refusal) h = refused-agree shown refusal
+  by-found shown first second (Some refusal) h = refused-agree shown refusal
 
   effect-agree : (shown : Bool) (first second : Effect) → Effects shown first second
       → Steps shown (outcome s i (Ok first)) (outcome t i (Ok second))
   effect-agree shown first second h =
-      subst (λ (f : Option Refusal). Steps shown (outcome s i (Ok first)) (unless_no_space t i second f))
-      (ap (λ (x : State). no_space x.disk) h.rest)
-      (by-space shown first second (no_space first.after.disk) h)
+      subst
+      (λ (found : Option Refusal). Steps shown (outcome s i (Ok first))
+      (option_map_or (refused t i) found (executed second)))
+      h.found (by-found shown first second first.found h)
 
   pub sound-agree : {A : Type 0} (sound : Result A Refusal) (first second : A → Effect)
       → ((value : A) → Effects false (first value) (second value))
@@ -166,9 +169,9 @@ module _ (Related : ReservationState → ReservationState → Type 0) (s : State
   -- effects that leave the unit attentions and the reservations
   plain : (shown : Bool) (first second : Effect)
       → (shown ≡ false → (executed first).answer ≡ (executed second).answer)
-      → with_others first.after q r ≡ second.after → first.after.attentions ≡ p
+      → first.found ≡ second.found → with_others first.after q r ≡ second.after → first.after.attentions ≡ p
       → first.after.reservations ≡ s.reservations → Effects shown first second
-  plain shown first second answer rest same kept =
+  plain shown first second answer found rest same kept =
       let attentions : second.after.attentions ≡ q = sym (ap (λ (x : State). x.attentions) rest) in
       let reservations : second.after.reservations ≡ r = sym (ap (λ (x : State). x.reservations) rest) in
       record {
@@ -180,14 +183,15 @@ module _ (Related : ReservationState → ReservationState → Type 0) (s : State
             subst (Related first.after.reservations) (sym reservations)
             (subst (λ (x : ReservationState). Related x r) (sym kept) related);
         answer = answer;
+        found = found;
       }
 
   leaving : (first second : Effect) → (executed first).answer ≡ (executed second).answer
-      → with_others first.after q r ≡ second.after → first.after.attentions ≡ p
+      → first.found ≡ second.found → with_others first.after q r ≡ second.after → first.after.attentions ≡ p
       → first.after.reservations ≡ s.reservations
       → Steps false (outcome s i (Ok first)) (outcome t i (Ok second))
-  leaving first second answer rest same kept =
-      effect-agree false first second (plain false first second (λ _. answer) rest same kept)
+  leaving first second answer found rest same kept =
+      effect-agree false first second (plain false first second (λ _. answer) found rest same kept)
 
   sense-agree : (format : Format) (n : ℕ)
       → Effects false (returning_sense s i format n) (returning_sense t i format n)
@@ -199,6 +203,7 @@ module _ (Related : ReservationState → ReservationState → Type 0) (s : State
         λ _. ap
         (λ (queue : List UnitAttention). good (cut (Some n)
         (sense_data format (pending_sense (slice_get queue 0))))) own;
+    found = refl;
   }
 
   raised-if : (changed : Bool)
@@ -213,6 +218,7 @@ module _ (Related : ReservationState → ReservationState → Type 0) (s : State
     queues = raised-if (changed_by s.modes modes).0;
     reservations = related;
     answer = λ _. refl;
+    found = refl;
   }
 
   -- PERSISTENT RESERVE IN, whose answers differ if the reservations do
@@ -221,40 +227,41 @@ module _ (Related : ReservationState → ReservationState → Type 0) (s : State
       → Steps shown (step_by s i (ReturnReservations action n)) (step_by t i (ReturnReservations action n))
   reporting-agree shown action n answer =
       effect-agree shown (reporting s action n) (reporting t action n)
-      (plain shown (reporting s action n) (reporting t action n) answer refl refl refl)
+      (plain shown (reporting s action n) (reporting t action n) answer refl refl refl refl)
 
   pub operation-agrees : (operation : Operation) → shows operation ≡ false
       → Steps false (step_by s i operation) (step_by t i operation)
   unfolding selected_modes
-  operation-agrees Nothing c = leaving (no_effect s) (no_effect t) refl refl refl refl
+  operation-agrees Nothing c = leaving (no_effect s) (no_effect t) refl refl refl refl refl
   operation-agrees (ReturnSense format n) c =
       effect-agree false (returning_sense s i format n) (returning_sense t i format n) (sense-agree format n)
   operation-agrees (ReturnInquiry page n) c =
-      leaving (returning_page s page n) (returning_page t page n) refl refl refl refl
+      leaving (returning_page s page n) (returning_page t page n) refl refl refl refl refl
   operation-agrees (ReturnModes request n) c =
       sound-agree (mode_parameters s.modes request) (returning_up_to s n) (returning_up_to t n)
-      (λ list. plain false (returning_up_to s n list) (returning_up_to t n list) (λ _. refl) refl refl refl)
+      (λ list. plain false (returning_up_to s n list) (returning_up_to t n list) (λ _. refl) refl refl
+      refl refl)
   operation-agrees (ChangeModes ten sp list) c =
       sound-agree (selected_modes s ten sp list) (changing_modes s i) (changing_modes t i) modes-agree
   operation-agrees ReturnCapacity10 c =
-      leaving (read_capacity_10 s) (read_capacity_10 t) refl refl refl refl
+      leaving (read_capacity_10 s) (read_capacity_10 t) refl refl refl refl refl
   operation-agrees (ReturnCapacity16 n) c =
-      leaving (read_capacity_16 s n) (read_capacity_16 t n) refl refl refl refl
-  operation-agrees (Read extent) c = leaving (reading s extent) (reading t extent) refl refl refl refl
-  operation-agrees (Write out) c = leaving (writing s out) (writing t out) refl refl refl refl
-  operation-agrees (Synchronize extent) c = leaving (no_effect s) (no_effect t) refl refl refl refl
+      leaving (read_capacity_16 s n) (read_capacity_16 t n) refl refl refl refl refl
+  operation-agrees (Read extent) c = leaving (reading s extent) (reading t extent) refl refl refl refl refl
+  operation-agrees (Write out) c = leaving (writing s out) (writing t out) refl refl refl refl refl
+  operation-agrees (Synchronize extent) c = leaving (no_effect s) (no_effect t) refl refl refl refl refl
   operation-agrees (Fill extent block) c =
-      leaving (filling s extent block) (filling t extent block) refl refl refl refl
+      leaving (filling s extent block) (filling t extent block) refl refl refl refl refl
   operation-agrees (Unmap extents) c =
-      leaving (unmapping s extents) (unmapping t extents) refl refl refl refl
+      leaving (unmapping s extents) (unmapping t extents) refl refl refl refl refl
   operation-agrees (UnmapExtent extent) c =
-      leaving (unmapping s (extent ∷ [])) (unmapping t (extent ∷ [])) refl refl refl refl
+      leaving (unmapping s (extent ∷ [])) (unmapping t (extent ∷ [])) refl refl refl refl refl
   operation-agrees (Anchor extents) c =
-      leaving (anchoring s extents) (anchoring t extents) refl refl refl refl
+      leaving (anchoring s extents) (anchoring t extents) refl refl refl refl refl
   operation-agrees (AnchorExtent extent) c =
-      leaving (anchoring s (extent ∷ [])) (anchoring t (extent ∷ [])) refl refl refl refl
+      leaving (anchoring s (extent ∷ [])) (anchoring t (extent ∷ [])) refl refl refl refl refl
   operation-agrees (ReturnLbaStatus start n) c =
-      leaving (reporting_status s start n) (reporting_status t start n) refl refl refl refl
+      leaving (reporting_status s start n) (reporting_status t start n) refl refl refl refl refl
   operation-agrees (ReturnReservations action n) c = cc
   operation-agrees (ChangeReservations action scope_type list) c = cc
 

@@ -1,5 +1,5 @@
 -- Operations and commands that leave the disk as it is.
-use Rattle.std.proofs.Common.{◌≡◌, ℕ, Option, Some, None, Result, Ok, Err, false, refl, sym, ap}
+use Rattle.std.proofs.Common.{◌≡◌, ℕ, Result, Ok, Err, false, refl, sym, ap}
 use Rattle.std.proofs.Common.{◌∙◌}
 use Rattle.sg_store.specs.Disk.{Disk}
 use Rattle.sg_target.specs.Effect.{Effect, returning_up_to}
@@ -12,11 +12,10 @@ use Rattle.sg_target.specs.declared.operation.Operation.{Operation}
 use Rattle.sg_target.specs.declared.operation.Operation.TheVariants.{ReturnModes, ChangeModes}
 use Rattle.sg_target.specs.declared.operation.Operation.TheVariants.{ChangeReservations}
 use Rattle.sg_target.specs.declared.refusal.Refusal.{Refusal}
-use Rattle.sg_target.specs.Checks.{no_space}
-use Rattle.sg_target.specs.Step.{Step, outcome, refused, unless_no_space}
+use Rattle.sg_target.specs.Step.{Step, outcome, refused}
 use Rattle.sg_target.specs.declared.refusal.Reason.TheVariants.{UnitAttention as Attention}
 use Rattle.sg_target.specs.declared.refusal.Refusal.TheVariants.{CheckCondition}
-use Rattle.sg_target.proofs.LiftLemmas.{lifted}
+use Rattle.sg_target.proofs.LiftLemmas.{lifted, outcome-by}
 use Rattle.sg_fencing.specs.Laws.{OnlyThreeCommandsChangeTheDisk, may_change_blocks}
 use Rattle.sg_fencing.proofs.OperationLemmas.{asked-reads}
 
@@ -50,16 +49,11 @@ refused-leaves : (state : State) (i : ℕ) (refusal : Refusal)
 refused-leaves state i (CheckCondition (Attention condition)) = refl
 refused-leaves state i _ = refl
 
-space-leaves : (state : State) (i : ℕ) (effect : Effect) (refusal : Option Refusal)
-    → effect.after.disk ≡ state.disk
-    → (unless_no_space state i effect refusal).state.disk ≡ state.disk
-space-leaves state i effect None h = h
-space-leaves state i effect (Some refusal) h = refused-leaves state i refusal
-
 effect-leaves : (state : State) (i : ℕ) (effect : Result Effect Refusal) → Leaves state.disk effect
     → (outcome state i effect).state.disk ≡ state.disk
 effect-leaves state i (Ok effect) h =
-    space-leaves state i effect (no_space effect.after.disk) h
+    outcome-by state i (λ (done : Step). done.state.disk ≡ state.disk) effect (refused-leaves state i)
+    (λ none. h)
 effect-leaves state i (Err refusal) h = refused-leaves state i refusal
 
 pub command-leaves : OnlyThreeCommandsChangeTheDisk

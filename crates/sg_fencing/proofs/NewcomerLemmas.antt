@@ -1,6 +1,6 @@
 -- If an initiator becomes registered, the group sees its registration and no other change.
 use Rattle.std.proofs.Common.{◌≡◌, ◌==◌, ℕ, true, false, not, List, length, Option, Some}
-use Rattle.std.proofs.Common.{None, Result, Ok, Err, refl, sym, ap, ◌∙◌, subst}
+use Rattle.std.proofs.Common.{Result, Ok, Err, refl, sym, ap, ◌∙◌, subst}
 use Rattle.std.specs.Prelude.{unwrap_or}
 use Rattle.std.specs.Result.{result_map_both}
 use Rattle.std.proofs.lemmas.Bool.{false≢true, ne_eqb}
@@ -24,15 +24,12 @@ use Rattle.sg_units.specs.declared.reservation_state.ReservationState.{Reservati
 use Rattle.sg_units.specs.declared.types.ReservationType.{ReservationType}
 use Rattle.sg_units.proofs.OutcomeLemmas.{EffectIs, FirstIs, and_false, case_or, if-accepted, effective}
 use Rattle.sg_units.proofs.OutcomeLemmas.{refused}
-use Rattle.sg_target.specs.Checks.{no_space}
 use Rattle.sg_target.specs.Demands.{demands}
-use Rattle.sg_target.specs.Effect.{Effect}
 use Rattle.sg_target.specs.Refusal.{when_sound}
 use Rattle.sg_target.specs.ReservationCommands.{changing_reservations, out_refusal}
 use Rattle.sg_target.specs.ReservationCommands.{reservation_change}
 use Rattle.sg_target.specs.State.{IsWithinLimits, State}
 use Rattle.sg_target.specs.Step.{Step, outcome as step_outcome, refused as refused_step, step, step_by}
-use Rattle.sg_target.specs.Step.{unless_no_space}
 use Rattle.sg_target.specs.declared.operation.Operation.{Operation}
 use Rattle.sg_target.specs.declared.operation.Operation.TheVariants.{ChangeReservations}
 use Rattle.sg_target.specs.declared.refusal.Reason.TheVariants.{ParameterListLengthError}
@@ -130,11 +127,6 @@ module _ (state : State) (j : ℕ) (unknown : is_registrant state j ≡ false) (
   after-refusal (CheckCondition (Attention condition)) known = absurd (false≢true (sym unknown ∙ known))
   after-refusal _ known = absurd (false≢true (sym unknown ∙ known))
 
-  by-space : (effect : Effect) (refusal : Option Refusal) → IfKnown effect.after
-      → IfKnown (unless_no_space state j effect refusal).state
-  by-space effect None h = h
-  by-space effect (Some refusal) h = after-refusal refusal
-
   abbrev FollowsFrom : Outcome → Type 0
   FollowsFrom o =
       (change : ReservationChange) → o ≡ Ok change → Adds state.reservations j list change
@@ -143,10 +135,7 @@ module _ (state : State) (j : ℕ) (unknown : is_registrant state j ≡ false) (
   after-outcome : (o : Outcome) → EffectIs (AddsIf state.reservations j unknown list) o → FollowsFrom o
       → IfKnown (step_outcome state j (when_sound (result_map_both (λ change. change) out_refusal o)
       (changing_reservations state j))).state
-  after-outcome (Ok change) adds f =
-      let effect = changing_reservations state j change in
-      by-space effect (no_space effect.after.disk)
-      (λ known. f change refl (adds.shown change refl known))
+  after-outcome (Ok change) adds f = λ known. f change refl (adds.shown change refl known)
   after-outcome (Err fault) adds f = after-refusal (out_refusal fault)
 
   module _ (follows : (action : OutAction) (scope_type : ℕ)

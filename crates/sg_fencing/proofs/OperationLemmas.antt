@@ -3,7 +3,7 @@
 use Rattle.std.proofs.Common.{◌≡◌, ℕ, Bool, true, false, List, Option, Some, None, Result, Ok, Err}
 use Rattle.std.proofs.Common.{refl, subst, cond, sym, ◌∙◌}
 use Rattle.std.proofs.lemmas.Bool.{false≢true}
-use Rattle.std.specs.Prelude.{if◌then◌else◌}
+use Rattle.std.specs.Prelude.{if◌then◌else◌, ok_or}
 use Rattle.sg_wire.specs.CutAnswer.{first_bytes}
 use Rattle.sg_wire.specs.Layout.{layout}
 use Rattle.sg_wire.specs.declared.command.Class.{Class}
@@ -17,7 +17,7 @@ use Rattle.sg_wire.specs.declared.out_list.OutList.{OutList}
 use Rattle.sg_target.specs.Demands.{demands, unmap_extent, unmap_extents}
 use Rattle.sg_target.specs.PrimaryCommands.{inquiry_page}
 use Rattle.sg_target.specs.ProvisioningCommands.{block_out, listed_extents, unmaps}
-use Rattle.sg_target.specs.Refusal.{if_supported, when_sound}
+use Rattle.sg_target.specs.Refusal.{when_sound}
 use Rattle.sg_target.specs.ReservationCommands.{fields_out}
 use Rattle.sg_target.specs.declared.operation.Operation.{Operation}
 use Rattle.sg_target.specs.declared.operation.Operation.TheVariants.{ChangeModes, Read, Write, Fill}
@@ -25,7 +25,9 @@ use Rattle.sg_target.specs.declared.operation.Operation.TheVariants.{Unmap, Unma
 use Rattle.sg_target.specs.declared.operation.Operation.TheVariants.{ReturnInquiry, ReturnLbaStatus}
 use Rattle.sg_target.specs.declared.operation.Operation.TheVariants.{ReturnReservations}
 use Rattle.sg_target.specs.declared.operation.Operation.TheVariants.{ChangeReservations}
+use Rattle.sg_target.specs.declared.refusal.Reason.TheVariants.{InvalidFieldInCdb}
 use Rattle.sg_target.specs.declared.refusal.Refusal.{Refusal}
+use Rattle.sg_target.specs.declared.refusal.Refusal.TheVariants.{CheckCondition}
 use Rattle.sg_target.specs.Semantics.{medium_use}
 use Rattle.sg_fencing.specs.Fencing.{shows_others}
 use Rattle.sg_fencing.specs.Laws.{may_change_blocks}
@@ -97,7 +99,8 @@ unmap-suits command w s false extents =
 pub suits : (blocks : ℕ) (command : Command) (data_out : List ℕ)
     → SuitsIf command (demands blocks command data_out).operation
 suits blocks (command.Inquiry c) data_out =
-    sound-suits (command.Inquiry c) (if_supported 2 (inquiry_page c.evpd c.page_code))
+    sound-suits (command.Inquiry c)
+    (ok_or (inquiry_page c.evpd c.page_code) (CheckCondition (InvalidFieldInCdb 2)))
     (λ page. ReturnInquiry page c.allocation_length)
     (λ page. record { class = λ class h. cc; of_kind = λ kind k. refl; shown = refl })
 suits blocks (command.WriteSame10 c) data_out =
@@ -173,7 +176,8 @@ reads-if blocks (command.WriteSame16 c) data_out =
 reads-if blocks (command.Unmap c) data_out =
     changing-reads (command.Unmap c) (demands blocks (command.Unmap c) data_out).operation refl
 reads-if blocks (command.Inquiry c) data_out =
-    sound-reads (command.Inquiry c) (if_supported 2 (inquiry_page c.evpd c.page_code))
+    sound-reads (command.Inquiry c)
+    (ok_or (inquiry_page c.evpd c.page_code) (CheckCondition (InvalidFieldInCdb 2)))
     (λ page. ReturnInquiry page c.allocation_length) (λ page. refl)
 reads-if blocks (command.PersistentReserveOut c) data_out =
     sound-reads (command.PersistentReserveOut c)

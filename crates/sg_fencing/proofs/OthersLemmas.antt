@@ -1,6 +1,6 @@
 -- The effect of others' commands on the holder's view.
 use Rattle.std.proofs.Common.{◌≡◌, ℕ, true, false, List}
-use Rattle.std.proofs.Common.{Option, Some, None, Result, Ok, Err, refl, sym, ◌∙◌, subst}
+use Rattle.std.proofs.Common.{Some, None, Result, Ok, Err, refl, sym, ◌∙◌, subst}
 use Rattle.std.specs.Result.{result_map_both}
 use Rattle.std.proofs.lemmas.Bool.{ne_eqb}
 use Rattle.sg_wire.specs.Laws.{CommandsHaveTheirClass}
@@ -16,7 +16,6 @@ use Rattle.sg_units.specs.declared.reservation_state.ReservationState.{Reservati
 use Rattle.sg_fencing.proofs.ReserveOutLemmas.{IsLeftIfHolder, alone_in, held_alone, is_one_holder}
 use Rattle.sg_fencing.proofs.ReserveOutLemmas.{outcome_leaves}
 use Rattle.sg_units.proofs.OutcomeLemmas.{EffectIs}
-use Rattle.sg_target.specs.Checks.{no_space}
 use Rattle.sg_target.specs.Effect.{Effect, returning_up_to, without_attention}
 use Rattle.sg_target.specs.ModeCommands.{mode_parameters}
 use Rattle.sg_target.specs.Refusal.{when_sound}
@@ -24,7 +23,7 @@ use Rattle.sg_target.specs.ReservationCommands.{changing_reservations, out_refus
 use Rattle.sg_target.specs.ReservationCommands.{reservation_change}
 use Rattle.sg_target.specs.Semantics.{effect_of}
 use Rattle.sg_target.specs.State.{IsWithinLimits, State}
-use Rattle.sg_target.specs.Step.{Step, outcome as step_outcome, refused, step, unless_no_space}
+use Rattle.sg_target.specs.Step.{Step, outcome as step_outcome, refused, step}
 use Rattle.sg_target.specs.declared.operation.Operation.{Operation}
 use Rattle.sg_target.specs.declared.operation.Operation.TheVariants.{ReturnSense, ReturnModes}
 use Rattle.sg_target.specs.declared.operation.Operation.TheVariants.{ChangeModes, Write, Fill, Unmap}
@@ -33,7 +32,7 @@ use Rattle.sg_target.specs.declared.operation.Operation.TheVariants.{UnmapExtent
 use Rattle.sg_target.specs.declared.refusal.Reason.TheVariants.{UnitAttention as Attention}
 use Rattle.sg_target.specs.declared.refusal.Refusal.{Refusal}
 use Rattle.sg_target.specs.declared.refusal.Refusal.TheVariants.{CheckCondition}
-use Rattle.sg_target.proofs.LiftLemmas.{lifted}
+use Rattle.sg_target.proofs.LiftLemmas.{lifted, outcome-by}
 use Rattle.sg_target.specs.Laws.{LimitsAreKept}
 use Rattle.sg_fencing.specs.Fencing.{holds_alone, view_of}
 use Rattle.sg_fencing.proofs.AccessLemmas.{asked-is-allowed}
@@ -95,14 +94,11 @@ module _ (Where : State → Type 0) (state : State) (i j : ℕ) (other : j ≡ i
   sound-keeps (Ok value) becomes k = k value
   sound-keeps (Err refusal) becomes k = tt
 
-  by-space : (effect : Effect) (refusal : Option Refusal) → KeepsWhere effect.after
-      → KeepsWhere (unless_no_space state j effect refusal).state
-  by-space effect None k = k
-  by-space effect (Some refusal) k = λ _. refused-keeps state i j other refusal
-
   outcome-keeps : (effect : Result Effect Refusal) → EffectKeeps effect
       → KeepsWhere (step_outcome state j effect).state
-  outcome-keeps (Ok effect) k = by-space effect (no_space effect.after.disk) k
+  outcome-keeps (Ok effect) k =
+      outcome-by state j (λ (done : Step). KeepsWhere done.state) effect
+      (λ refusal _. refused-keeps state i j other refusal) (λ none. k)
   outcome-keeps (Err refusal) k = λ _. refused-keeps state i j other refusal
 
   module _ (no_writes : allows state.reservations j Writes ≡ false)

@@ -2,11 +2,10 @@
 use Rattle.std.proofs.Common.{◌≡◌, ℕ, Bool, true, false, not, ◌||◌, List}
 use Rattle.std.proofs.Common.{get_or, Option, Some, None, Ok, Err, refl, sym, ap}
 use Rattle.std.proofs.Common.{◌∙◌}
-use Rattle.std.proofs.Common.{subst, arith}
+use Rattle.std.proofs.Common.{subst}
 use Rattle.std.specs.Prelude.{if◌then◌else◌, is_some}
 use Rattle.std.specs.Result.{result_map_both}
 use Rattle.std.proofs.lemmas.Bool.{eq-eqb, false≢true}
-use Rattle.std.proofs.lemmas.Bool.Decides.{nat_tests}
 use Rattle.sg_wire.specs.CdbDecoding.{command_of}
 use Rattle.sg_wire.specs.declared.command.out_action.OutAction.{OutAction}
 use Rattle.sg_units.specs.Attentions.{Pending, pending_for}
@@ -20,12 +19,11 @@ use Rattle.sg_units.specs.declared.reservation_change.ReservationChange.{Reserva
 use Rattle.sg_units.specs.declared.reservation_state.ReservationState.{ReservationState}
 use Rattle.sg_fencing.proofs.ReserveOutLemmas.{alone_in, is_registered-key_of}
 use Rattle.sg_fencing.proofs.OwnReserveOutLemmas.{Left, allows-same, left_of, own_agrees, under-alone}
-use Rattle.sg_target.specs.Checks.{no_space}
 use Rattle.sg_target.specs.Refusal.{when_sound}
 use Rattle.sg_target.specs.ReservationCommands.{changing_reservations, out_refusal}
 use Rattle.sg_target.specs.ReservationCommands.{reservation_change}
 use Rattle.sg_target.specs.State.{IsWithinLimits, State}
-use Rattle.sg_target.specs.Step.{Step, outcome as step_outcome, step, step_by, unless_no_space}
+use Rattle.sg_target.specs.Step.{Step, outcome as step_outcome, step, step_by}
 use Rattle.sg_target.specs.declared.operation.Operation.{Operation}
 use Rattle.sg_target.specs.declared.operation.Operation.TheVariants.{ChangeReservations}
 use Rattle.sg_target.specs.declared.operation.Operation.TheVariants.{ReturnReservations}
@@ -97,22 +95,12 @@ module _ (state : State) (i : ℕ) (w : IsWithinLimits state) where
       → Becomes state i (left_of (state_after state.reservations o) i)
       (step_outcome state i (when_sound (result_map_both (λ change. change) out_refusal o)
       (changing_reservations state i))).state
-  unfolding no_space
   becomes (Err out_fault.Conflict) = record { identity = refl; view = refl }
   becomes (Err out_fault.NoRoom) = record { identity = refl; view = refl }
   becomes (Err out_fault.BadRelease) = record { identity = refl; view = refl }
   becomes (Err (out_fault.Field byte)) = record { identity = refl; view = refl }
   becomes (Err out_fault.BadType) = record { identity = refl; view = refl }
-  becomes (Ok change) =
-      let effect = changing_reservations state i change in
-      let h = changed change in
-      let room : no_space state.disk ≡ None = grind (arith, nat_tests, w.used) in
-      let is : (step_outcome state i (Ok effect)).state ≡ effect.after =
-      ap (λ q. (unless_no_space state i effect q).state) room in
-      record {
-        identity = ap (λ (x : State). x.identity) is ∙ h.identity;
-        view = ap (λ (x : State). view_of x i) is ∙ h.view;
-      }
+  becomes (Ok change) = changed change
 
   out-becomes : (action : OutAction) (scope_type : ℕ) (list : OutList)
       → Becomes state i

@@ -25,8 +25,6 @@ use Rattle.sg_units.specs.declared.reservation_state.ReservationState.{Reservati
 use Rattle.sg_units.specs.declared.types.ReservationType.{ReservationType}
 use Rattle.sg_units.proofs.OutcomeLemmas.{EffectIs, FirstIs, case_or, effective, if-accepted, last_case}
 use Rattle.sg_units.proofs.OutcomeLemmas.{refused, taking, typed}
-use Rattle.sg_target.specs.Checks.{no_space}
-use Rattle.sg_target.specs.Effect.{Effect}
 use Rattle.sg_target.specs.Happenings.{after_happening}
 use Rattle.sg_target.specs.PowerCycle.{after_power_cycle}
 use Rattle.sg_target.specs.declared.happening.Happening.{Happening}
@@ -37,7 +35,6 @@ use Rattle.sg_target.specs.ReservationCommands.{reservation_change}
 use Rattle.sg_target.specs.Runs.{state_after_events, step_of}
 use Rattle.sg_target.specs.State.{State}
 use Rattle.sg_target.specs.Step.{Step, outcome as step_outcome, refused as refused_step, step, step_by}
-use Rattle.sg_target.specs.Step.{unless_no_space}
 use Rattle.sg_target.specs.declared.call.Call.{Call}
 use Rattle.sg_target.specs.declared.event.Event.{Event}
 use Rattle.sg_target.specs.declared.event.Event.TheVariants as event
@@ -205,32 +202,16 @@ module _ (state : State) (j : ℕ) where
     refused-left (CheckCondition (Attention condition)) = refl
     refused-left _ = refl
 
-    set-space : (effect : Effect) (refusal : Option Refusal) → persists effect.after ≡ list.aptpl
-        → Set (unless_no_space state j effect refusal)
-    set-space effect None h good = h
-    set-space effect (Some refusal) h good = absurd (not_good state j refusal good)
-
     set-outcome : (o : Outcome) → EffectIs (Sets list.aptpl) o
         → Set (step_outcome state j (when_sound (result_map_both (λ change. change) out_refusal o)
         (changing_reservations state j)))
-    set-outcome (Ok change) k good =
-        let effect = changing_reservations state j change in
-        set-space effect (no_space effect.after.disk)
-        (ap (λ a. unwrap_or a (persists state)) (k.shown change refl)) good
+    set-outcome (Ok change) k good = ap (λ a. unwrap_or a (persists state)) (k.shown change refl)
     set-outcome (Err fault) k good = absurd (not_good state j (out_refusal fault) good)
-
-    left-space : (effect : Effect) (refusal : Option Refusal) → persists effect.after ≡ persists state
-        → Left (unless_no_space state j effect refusal)
-    left-space effect None h = h
-    left-space effect (Some refusal) h = refused-left refusal
 
     left-outcome : (o : Outcome) → EffectIs Leaves o
         → Left (step_outcome state j (when_sound (result_map_both (λ change. change) out_refusal o)
         (changing_reservations state j)))
-    left-outcome (Ok change) k =
-        let effect = changing_reservations state j change in
-        left-space effect (no_space effect.after.disk)
-        (ap (λ a. unwrap_or a (persists state)) (k.shown change refl))
+    left-outcome (Ok change) k = ap (λ a. unwrap_or a (persists state)) (k.shown change refl)
     left-outcome (Err fault) k = refused-left (out_refusal fault)
 
     -- what follows from each change of one that registers is true of the command

@@ -33,7 +33,6 @@ use Rattle.sg_fencing.proofs.ReserveOutLemmas.{is_registered-key_of, key_of-filt
 use Rattle.sg_fencing.proofs.ReserveOutLemmas.{key_of-without_key, only-key_of, stays_registered}
 use Rattle.sg_units.proofs.OutcomeLemmas.{EffectIs, FirstIs, case_or, if-accepted, effective, last_case}
 use Rattle.sg_units.proofs.OutcomeLemmas.{refused, taking}
-use Rattle.sg_target.specs.Checks.{no_space}
 use Rattle.sg_target.specs.Demands.{demands}
 use Rattle.sg_target.specs.Effect.{Effect}
 use Rattle.sg_target.specs.Refusal.{when_sound}
@@ -41,14 +40,14 @@ use Rattle.sg_target.specs.ReservationCommands.{changing_reservations, out_refus
 use Rattle.sg_target.specs.ReservationCommands.{reservation_change}
 use Rattle.sg_target.specs.Semantics.{effect_of}
 use Rattle.sg_target.specs.State.{State}
-use Rattle.sg_target.specs.Step.{Step, outcome as step_outcome, step, unless_no_space}
+use Rattle.sg_target.specs.Step.{Step, outcome as step_outcome, step}
 use Rattle.sg_target.specs.declared.operation.Operation.{Operation}
 use Rattle.sg_target.specs.declared.operation.Operation.TheVariants.{ChangeReservations}
 use Rattle.sg_target.specs.declared.refusal.Reason.TheVariants.{ParameterListLengthError}
 use Rattle.sg_target.specs.declared.refusal.Refusal.{Refusal}
 use Rattle.sg_target.specs.declared.refusal.Refusal.TheVariants.{CheckCondition}
 use Rattle.sg_target.specs.declared.reply.Status.TheVariants.{Good}
-use Rattle.sg_target.proofs.LiftLemmas.{lifted, not_good}
+use Rattle.sg_target.proofs.LiftLemmas.{lifted, not_good, outcome-by}
 use Rattle.sg_fencing.proofs.OperationLemmas.{listed}
 use Rattle.sg_fencing.specs.Registrants.{PreemptedAreUnregistered, PreemptionKeepsAReservation}
 use Rattle.sg_fencing.specs.Registrants.{PreemptingSendersStayRegistered}
@@ -267,15 +266,11 @@ module _ (state : State) (j : ℕ) (P : List Registration → Option Reservation
   abbrev Changes : ReservationChange → Type 0
   Changes change = P change.registrations change.reservation
 
-  by-space : (effect : Effect) (refusal : Option Refusal) → IsLeft effect.after
-      → (unless_no_space state j effect refusal).answer.status ≡ Good
-      → IsLeft (unless_no_space state j effect refusal).state
-  by-space effect None h good = h
-  by-space effect (Some refusal) h good = absurd (not_good state j refusal good)
-
   where-good : (effect : Result Effect Refusal) → EffectLeaves effect
       → (step_outcome state j effect).answer.status ≡ Good → IsLeft (step_outcome state j effect).state
-  where-good (Ok effect) h good = by-space effect (no_space effect.after.disk) h good
+  where-good (Ok effect) h good =
+      outcome-by state j (λ (done : Step). done.answer.status ≡ Good → IsLeft done.state) effect
+      (λ refusal good. absurd (not_good state j refusal good)) (λ none good. h) good
   where-good (Err refusal) h good = absurd (not_good state j refusal good)
 
   changing-leaves : (o : Outcome) → EffectIs Changes o

@@ -10,12 +10,11 @@ use Rattle.sg_wire.specs.declared.command.CdbFault.{CdbFault}
 use Rattle.sg_wire.specs.declared.command.Command.{Command}
 use Rattle.sg_wire.specs.declared.command.Command.TheVariants.{PersistentReserveOut}
 use Rattle.sg_wire.specs.declared.out_list.OutList.{OutList}
-use Rattle.sg_target.specs.Checks.{no_space}
 use Rattle.sg_target.specs.Effect.{Effect}
 use Rattle.sg_target.specs.Runs.{all_calls, step_of}
 use Rattle.sg_target.specs.Semantics.{effect_of}
 use Rattle.sg_target.specs.State.{State}
-use Rattle.sg_target.specs.Step.{Step, outcome, refused, step, unless_no_space}
+use Rattle.sg_target.specs.Step.{Step, outcome, refused, step}
 use Rattle.sg_target.specs.declared.call.Call.{Call}
 use Rattle.sg_target.specs.declared.refusal.Reason.TheVariants.{UnitAttention as Attention}
 use Rattle.sg_target.specs.declared.refusal.Refusal.{Refusal}
@@ -24,7 +23,7 @@ use Rattle.sg_target.specs.declared.reply.Status.TheVariants.{Good}
 use Rattle.sg_fencing.specs.Registrants.{IsNeverGranted, RegistersItself}
 use Rattle.sg_fencing.specs.Registrants.{StaysUnregistered, asks_to_register, is_registrant}
 use Rattle.sg_fencing.specs.Registrants.{registering_list}
-use Rattle.sg_target.proofs.LiftLemmas.{lifted}
+use Rattle.sg_target.proofs.LiftLemmas.{lifted, outcome-by}
 use Rattle.sg_fencing.proofs.NewcomerLemmas.{key-sent}
 use Rattle.sg_fencing.proofs.OutsiderLemmas.{registers, stays-unknown}
 
@@ -52,13 +51,9 @@ module _ (state : State) (i j : ℕ) (unknown : is_registrant state i ≡ false)
   refused-good (CheckCondition (Attention condition)) known = absurd (false≢true (sym unknown ∙ known))
   refused-good _ known = absurd (false≢true (sym unknown ∙ known))
 
-  by-space : (effect : Effect) (refusal : Option Refusal)
-      → GoodIfKnown (unless_no_space state j effect refusal)
-  by-space effect None known = refl
-  by-space effect (Some refusal) known = refused-good refusal known
-
   by-effect : (effect : Result Effect Refusal) → GoodIfKnown (outcome state j effect)
-  by-effect (Ok effect) known = by-space effect (no_space effect.after.disk) known
+  by-effect (Ok effect) known =
+      outcome-by state j GoodIfKnown effect refused-good (λ none known. refl) known
   by-effect (Err refusal) known = refused-good refusal known
 
   module _ (cdb data_out : List ℕ)

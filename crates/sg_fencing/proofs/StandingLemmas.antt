@@ -21,7 +21,6 @@ use Rattle.sg_units.specs.declared.reservation_state.ReservationState.{Reservati
 use Rattle.sg_units.specs.declared.types.ReservationType.TheVariants.{WriteExclusive, ExclusiveAccess}
 use Rattle.sg_fencing.proofs.ReserveOutLemmas.{IsHeld, alone_in, held_alone, outcome_holds}
 use Rattle.sg_units.proofs.OutcomeLemmas.{EffectIs}
-use Rattle.sg_target.specs.Checks.{no_space}
 use Rattle.sg_target.specs.Effect.{Effect, returning_up_to}
 use Rattle.sg_target.specs.ModeCommands.{changing_modes, mode_parameters, selected_modes}
 use Rattle.sg_target.specs.Refusal.{when_sound}
@@ -29,14 +28,14 @@ use Rattle.sg_target.specs.ReservationCommands.{changing_reservations, out_refus
 use Rattle.sg_target.specs.ReservationCommands.{reservation_change}
 use Rattle.sg_target.specs.Semantics.{effect_of}
 use Rattle.sg_target.specs.State.{State}
-use Rattle.sg_target.specs.Step.{Step, outcome as step_outcome, refused, step, unless_no_space}
+use Rattle.sg_target.specs.Step.{Step, outcome as step_outcome, refused, step}
 use Rattle.sg_target.specs.declared.operation.Operation.{Operation}
 use Rattle.sg_target.specs.declared.operation.Operation.TheVariants.{ReturnModes, ChangeModes}
 use Rattle.sg_target.specs.declared.operation.Operation.TheVariants.{ChangeReservations}
 use Rattle.sg_target.specs.declared.refusal.Reason.TheVariants.{UnitAttention as Attention}
 use Rattle.sg_target.specs.declared.refusal.Refusal.{Refusal}
 use Rattle.sg_target.specs.declared.refusal.Refusal.TheVariants.{CheckCondition}
-use Rattle.sg_target.proofs.LiftLemmas.{lifted}
+use Rattle.sg_target.proofs.LiftLemmas.{lifted, outcome-by}
 use Rattle.sg_fencing.specs.Fencing.{can_end_for_others, holds_alone}
 use Rattle.sg_fencing.proofs.HolderLemmas.{HoldsAlone}
 use Rattle.sg_fencing.proofs.OperationLemmas.{asked-suits, fits, is_of_kind}
@@ -59,14 +58,11 @@ module _ (Stands : ReservationState → Type 0) (state : State) (j : ℕ)
   sound-stands (Ok value) becomes k = k value
   sound-stands (Err refusal) becomes k = tt
 
-  by-space : (effect : Effect) (refusal : Option Refusal) → Stands effect.after.reservations
-      → Stands (unless_no_space state j effect refusal).state.reservations
-  by-space effect None k = k
-  by-space effect (Some refusal) k = refused-stands refusal
-
   outcome-stands : (effect : Result Effect Refusal) → EffectStands effect
       → Stands (step_outcome state j effect).state.reservations
-  outcome-stands (Ok effect) k = by-space effect (no_space effect.after.disk) k
+  outcome-stands (Ok effect) k =
+      outcome-by state j (λ (done : Step). Stands done.state.reservations) effect refused-stands
+      (λ none. k)
   outcome-stands (Err refusal) k = refused-stands refusal
 
   module _ (kind : OutAction → Bool)

@@ -1,8 +1,7 @@
 -- Fencing: what others can do to the initiator that holds a reservation of a type that nobody
 -- shares.
-use Rattle.std.specs.Prelude.{◌≡◌, ◌≢◌, ◌≤◌, ℕ, ◌==◌, Bool, true, false, ◌&&◌, ◌||◌, not, List}
+use Rattle.std.specs.Prelude.{◌≡◌, ◌≢◌, ℕ, ◌==◌, Bool, true, false, ◌&&◌, ◌||◌, not, List}
 use Rattle.std.specs.Prelude.{filter, slice_get, take, Option, Some, Result, Ok}
-use Rattle.std.specs.FinMap.{len}
 use Rattle.sg_wire.specs.CdbDecoding.{class_of, command_of}
 use Rattle.sg_wire.specs.declared.command.CdbFault.{CdbFault}
 use Rattle.sg_wire.specs.declared.command.Class.TheVariants.{Reads, Writes}
@@ -121,8 +120,7 @@ OnlyPreemptionEnds =
 abbrev pub OthersSeeNoBlock : Type 0
 OthersSeeNoBlock =
     (state : State) (contents : Contents) (holder other : ℕ) (cdb data_out : List ℕ)
-    → IsWithinLimits state → len contents ≤ state.disk.pool
-    → other ≢ holder → holds_type state holder ExclusiveAccess ≡ true
+    → IsWithinLimits state → other ≢ holder → holds_type state holder ExclusiveAccess ≡ true
     → (step (with_contents state contents) other cdb data_out).answer
     ≡ (step state other cdb data_out).answer
 

@@ -1,11 +1,10 @@
 -- Fencing by registration: what an initiator that is not registered can do while a reservation is
 -- held. Under the types registrants only and all registrants, all registrants may write. So a
 -- cluster fences a node off under these types: another node removes its registration by PREEMPT.
-use Rattle.std.specs.Prelude.{◌≡◌, ◌≢◌, ◌≤◌, ◌==◌, ℕ, Bool, true, false, ◌&&◌, not, List}
+use Rattle.std.specs.Prelude.{◌≡◌, ◌≢◌, ◌==◌, ℕ, Bool, true, false, ◌&&◌, not, List}
 use Rattle.std.specs.Prelude.{Option, Some, None, Result, Ok, if◌then◌else◌}
 use Rattle.std.specs.Prelude.{is_some, slice_get, take}
 use Rattle.std.specs.List.{list_any}
-use Rattle.std.specs.FinMap.{len}
 use Rattle.std.specs.Option.{option_map, option_map_or}
 use Rattle.sg_wire.specs.CutAnswer.{first_bytes}
 use Rattle.sg_wire.specs.CdbDecoding.{class_of, command_of}
@@ -116,7 +115,6 @@ FencedOffLeaveTheView =
 abbrev pub FencedOffSeeNoBlock : Type 0
 FencedOffSeeNoBlock =
     (state : State) (contents : Contents) (initiator : ℕ) (cdb data_out : List ℕ)
-    → IsWithinLimits state → len contents ≤ state.disk.pool
     → is_fenced_off state initiator ≡ true
     → excludes_reading state.reservations.reservation ≡ true
     → (step (with_contents state contents) initiator cdb data_out).answer
@@ -245,7 +243,6 @@ ExcludesReadingFrom initiator state calls =
 abbrev pub NoBlockIsSeenOverAList : Type 0
 NoBlockIsSeenOverAList =
     (state : State) (contents : Contents) (initiator : ℕ) (calls : List Call)
-    → IsWithinLimits state → IsWithinLimits (with_contents state contents)
     → StaysUnregistered initiator state calls → ExcludesReadingFrom initiator state calls
     → answers_where (is_from initiator) (with_contents state contents) calls
     ≡ answers_where (is_from initiator) state calls

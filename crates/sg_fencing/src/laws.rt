@@ -214,7 +214,6 @@ pub fn the_unregistered_read_nothing()
 pub fn the_unregistered_see_no_block_over_a_list()
     ensures { NoBlockIsSeenOverAList }
 {
-    limits_are_kept();
     others_are_refused();
     commands_have_their_class();
 }

@@ -7,13 +7,11 @@ use Rattle.sg_wire.specs.declared.command.Command.TheVariants as command
 use Rattle.sg_wire.specs.declared.command.provisioning.GetLbaStatus.{GetLbaStatus}
 use Rattle.sg_wire.proofs.ProfileLemmas.{read-any}
 use Rattle.sg_target.specs.Checks.{cdb_checks, checked_cdb, checked_command, checked_parse}
-use Rattle.sg_target.specs.Checks.{medium_checks, no_space}
-use Rattle.sg_target.specs.Effect.{Effect}
-use Rattle.sg_target.specs.ProvisioningCommands.{reporting_status}
+use Rattle.sg_target.specs.Checks.{medium_checks}
 use Rattle.sg_target.specs.Refusal.{checked_next, first_some, refusal_for, unless_refused}
 use Rattle.sg_target.specs.Semantics.{effect_of, medium_use}
 use Rattle.sg_target.specs.State.{State, profile_of}
-use Rattle.sg_target.specs.Step.{Step, outcome, refused, unless_no_space}
+use Rattle.sg_target.specs.Step.{Step, outcome, refused}
 use Rattle.sg_target.specs.declared.operation.Operation.{Operation}
 use Rattle.sg_target.specs.declared.operation.Operation.TheVariants as operation
 use Rattle.sg_target.specs.declared.refusal.Refusal.{Refusal}
@@ -28,21 +26,14 @@ module _ (state : State) (i : ℕ) (c : GetLbaStatus) where
   abbrev asked : Operation
   asked = operation.ReturnLbaStatus c.start c.allocation_length
 
-  abbrev effect : Effect
-  effect = reporting_status state c.start c.allocation_length
-
   -- a refused command does not end with GOOD
   not-refused : (refusal : Refusal) → Answers (refused state i refusal)
   not-refused Conflict e = cc
   not-refused (CheckCondition reason) e = cc
 
-  by-space : (refusal : Option Refusal) → Answers (unless_no_space state i effect refusal)
-  by-space None e = record { data_in = refl; disk = refl }
-  by-space (Some refusal) e = not-refused refusal e
-
   by-medium : (refusal : Option Refusal)
       → Answers (outcome state i (checked_next (unless_refused refusal (Ok asked)) (effect_of state i)))
-  by-medium None e = by-space (no_space effect.after.disk) e
+  by-medium None e = record { data_in = refl; disk = refl }
   by-medium (Some refusal) e = not-refused refusal e
 
   by-cdb : (data_out : List ℕ) (refusal : Option Refusal) (parsed : Result Command CdbFault)

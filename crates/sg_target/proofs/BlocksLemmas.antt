@@ -2,11 +2,11 @@
 use Rattle.std.proofs.Common.{◌≡◌, ◌≤◌, ◌<◌, ℕ, ◌+◌, ◌*◌, List, [], ◌∷◌, length, take, drop, map}
 use Rattle.std.proofs.Common.{Bool, true, false, cond, Option, Some, None, Result, Ok, Err, refl}
 use Rattle.std.proofs.Common.{arith, length-take, length-drop}
-use Rattle.std.specs.Prelude.{max, nat_lt}
+use Rattle.std.specs.Prelude.{max, nat_lt, ok_or}
 use Rattle.sg_wire.specs.CutAnswer.{first_bytes}
 use Rattle.sg_target.specs.PrimaryCommands.{inquiry_page}
 use Rattle.sg_target.specs.ReservationCommands.{fields_out}
-use Rattle.sg_target.specs.declared.refusal.Reason.TheVariants.{LbaOutOfRange}
+use Rattle.sg_target.specs.declared.refusal.Reason.TheVariants.{InvalidFieldInCdb, LbaOutOfRange}
 use Rattle.sg_target.specs.declared.refusal.Refusal.TheVariants.{CheckCondition}
 use Rattle.std.proofs.lemmas.Bool.Decides.{nat_tests}
 use Rattle.sg_wire.specs.declared.command.Command.{Command}
@@ -28,7 +28,7 @@ use Rattle.sg_target.specs.Demands.{unmap_or_fill}
 use Rattle.sg_target.specs.Effect.{Effect}
 use Rattle.sg_target.specs.Extents.{AreOnDisk}
 use Rattle.sg_target.specs.ProvisioningCommands.{block_out, changed_in_turn, listed_extents, unmaps}
-use Rattle.sg_target.specs.Refusal.{checked_next, first_some, if_supported, unless_refused, when_sound}
+use Rattle.sg_target.specs.Refusal.{checked_next, first_some, unless_refused, when_sound}
 use Rattle.sg_target.specs.Semantics.{effect_of, medium_use}
 use Rattle.sg_target.specs.State.{State, profile_of}
 use Rattle.sg_target.specs.declared.operation.Operation.{Operation}
@@ -123,7 +123,7 @@ command-sound blocks (command.WriteSame16 c) data_out =
     (unless_anchor_alone c.anchor c.unmap (bad_count c.count 10)) data_out
 command-sound blocks (command.Inquiry c) data_out =
     requested-sound (demands blocks (command.Inquiry c) data_out) data_out
-    (when (if_supported 2 (inquiry_page c.evpd c.page_code))
+    (when (ok_or (inquiry_page c.evpd c.page_code) (CheckCondition (InvalidFieldInCdb 2)))
     (λ page. operation.ReturnInquiry page c.allocation_length) (λ page. tt))
 command-sound blocks (command.Unmap c) data_out =
     requested-sound (demands blocks (command.Unmap c) data_out) data_out

@@ -6,6 +6,7 @@ use Rattle.std.proofs.lemmas.Bool.{and_parts, eqb-true}
 use Rattle.std.proofs.lemmas.Bool.Decides.{nat_tests}
 use Rattle.std.proofs.lemmas.List.{drop-take, take-take}
 use Rattle.std.specs.List.{list_all}
+use Rattle.std.specs.Option.{option_map_or}
 use Rattle.sg_wire.specs.CutAnswer.{first_bytes}
 use Rattle.sg_wire.specs.CdbDecoding.{command_of}
 use Rattle.sg_wire.specs.UnmapList.{unmap_list}
@@ -26,8 +27,7 @@ use Rattle.std.proofs.Common.{zero, suc, ap₂, is_some}
 use Rattle.sg_target.specs.Checks.{checked_cdb}
 use Rattle.sg_target.specs.CommandLaws.{WritesOverUsedAddressesHaveSpace}
 use Rattle.sg_target.specs.Refusal.{checked_next}
-use Rattle.sg_target.specs.Step.{executed_or_refused}
-use Rattle.sg_target.proofs.LiftLemmas.{asked}
+use Rattle.sg_target.proofs.NeedLemmas.{inside}
 use Rattle.sg_target.proofs.Space.{space-left}
 use Rattle.sg_store.specs.Laws.{AnchorsEachAddress, AnchorZeroesEachBlock, FillMapsEachAddress}
 use Rattle.sg_store.specs.Laws.{FillsEachBlock, MapsEachAddress, UnmapsEachAddress, UnmapsEachBlock}
@@ -36,7 +36,6 @@ use Rattle.sg_store.specs.declared.lba_status.ProvisioningStatus.{ProvisioningSt
 use Rattle.sg_store.specs.declared.lba_status.ProvisioningStatus.TheVariants.{Mapped, Deallocated}
 use Rattle.sg_store.specs.declared.lba_status.ProvisioningStatus.TheVariants.{Anchored}
 use Rattle.sg_target.specs.BlockCommands.{blocks_out, bytes_of, reading, writing}
-use Rattle.sg_target.specs.Checks.{no_space}
 use Rattle.sg_target.specs.CommandLaws.{Changes, EndsWithGood, ReadsReturnTheirBlocks, ReturnsBlocks}
 use Rattle.sg_target.specs.CommandLaws.{UnmapsFollowTheirLists, WriteSameFields}
 use Rattle.sg_target.specs.CommandLaws.{WriteSamesLeaveTheirBlock, WritesLeaveTheirData}
@@ -51,13 +50,13 @@ use Rattle.sg_target.specs.ProvisioningCommands.{unmapping, unmaps}
 use Rattle.sg_target.specs.Refusal.{first_some, or_refused, when_sound}
 use Rattle.sg_target.specs.Semantics.{effect_of}
 use Rattle.sg_target.specs.State.{State}
-use Rattle.sg_target.specs.Step.{Step, executed, outcome, step, unless_no_space}
+use Rattle.sg_target.specs.Step.{Step, executed, outcome, refused, step}
 use Rattle.sg_target.specs.declared.operation.Operation.{Operation}
 use Rattle.sg_target.specs.declared.operation.Operation.TheVariants as operation
 use Rattle.sg_target.specs.declared.refusal.Refusal.{Refusal}
 use Rattle.sg_target.specs.declared.reply.Status.TheVariants.{Good}
 use Rattle.sg_target.proofs.BlocksLemmas.{long_enough}
-use Rattle.sg_target.proofs.LiftLemmas.{Asked, lifted, not_good, request_checks}
+use Rattle.sg_target.proofs.LiftLemmas.{Asked, asked, lifted, not_good, outcome-by, request_checks}
 
 -- ---- Any command
 
@@ -73,23 +72,19 @@ module _ (state : State) (i : ℕ) (cdb data_out : List ℕ) where
   abbrev DoneIfGood : Step → Type 0
   DoneIfGood done = done.answer.status ≡ Good → Done done
 
-  by-space : (operation : Operation) → Asked state i cdb data_out operation → (effect : Effect)
-      → effect_of state i operation ≡ Ok effect → (refusal : Option Refusal)
-      → DoneIfGood (unless_no_space state i effect refusal)
-  by-space operation k effect e None good = record {
-    operation = operation;
-    asked = k;
-    effect = effect;
-    effect_is = e;
-    done_is = refl;
-  }
-  by-space operation k effect e (Some refusal) good = absurd (not_good state i refusal good)
-
   by-effect : (operation : Operation) → Asked state i cdb data_out operation
       → (effect : Result Effect Refusal) → effect_of state i operation ≡ effect
       → DoneIfGood (outcome state i effect)
   by-effect operation k (Ok effect) e good =
-      by-space operation k effect e (no_space effect.after.disk) good
+      outcome-by state i DoneIfGood effect (λ refusal good. absurd (not_good state i refusal good))
+      (λ none good. record {
+        operation = operation;
+        asked = k;
+        effect = effect;
+        effect_is = e;
+        done_is = refl;
+      })
+      good
   by-effect operation k (Err refusal) e good = absurd (not_good state i refusal good)
 
   done-well : EndsWithGood state i cdb data_out → Done (step state i cdb data_out)
@@ -201,9 +196,6 @@ none-needed law contents lba (suc count) h =
     ap₂ (λ (x : ℕ) (b : Bool). x + cond b 0 1)
     (none-needed law contents lba count (λ i lt. h i (omega arith))) (h count (omega arith)))
 
-lies : (lba count i : ℕ) → i < count → lies_in lba count (lba + i) ≡ true
-lies lba count i lt = grind (arith, nat_tests)
-
 module _ (state : State) (i : ℕ) (cdb data_out : List ℕ) (effect : Effect) where
   -- the operation that has passed the checks
   record Passed : Type 0 where
@@ -233,17 +225,17 @@ used-have-space law state i cdb data_out out effect w is used e =
     let none : need contents out.lba out.count ≡ 0 =
     none-needed law contents out.lba out.count
     (λ index lt. has-slot (get contents (out.lba + index))
-    (used (out.lba + index) (lies out.lba out.count index lt))) in
+    (used (out.lba + index) (inside out.lba out.count index lt))) in
     let after = (writing state fields).after.disk in
     let same : len after.contents ≡ len contents + need contents out.lba out.count =
     law.taken contents out.lba out.count (λ index. Data (block_at fields.bytes index)) in
     let fits : len after.contents ≤ after.pool =
     omega (arith, same, none, w.used) in
     ap (λ (found : Result Effect Refusal). (outcome state i found).answer.status) e
-    ∙ (ap (λ (x : Effect). (executed_or_refused state i x).answer.status) (sym its)
+    ∙ (ap (λ (x : Effect). (outcome state i (Ok x)).answer.status) (sym its)
     ∙ ap
-    (λ (refusal : Option Refusal).
-    (unless_no_space state i (writing state fields) refusal).answer.status)
+    (λ (found : Option Refusal).
+    (option_map_or (refused state i) found (executed (writing state fields))).answer.status)
     (space-left after fits))
 
 -- ---- UNMAP

@@ -28,7 +28,7 @@ same-mapping (Some Anchored) (Some (Data y)) s b = let wrong = s in cc
 same-mapping (Some Anchored) (Some Anchored) s b = refl
 
 -- and what it is given
-given-mapping : (lies : Bool) (given before after : Option Mapping)
+pub given-mapping : (lies : Bool) (given before after : Option Mapping)
     → status_in after ≡ cond lies (status_in given) (status_in before)
     → data_in after ≡ cond lies (data_in given) (data_in before)
     → after ≡ cond lies given before

@@ -16,6 +16,7 @@ mod CommandLemmas
 mod JoiningLemmas
 mod NeedLemmas
 pub mod Space
+mod FoundLemmas
 -- The cost of ranges.
 pub mod RangeLemmas
 mod AddressRangeLemmas

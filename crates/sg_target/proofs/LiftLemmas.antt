@@ -1,6 +1,7 @@
 -- From the operation that a command asks for to its step.
 use Rattle.std.proofs.Common.{◌≡◌, ℕ, List, [], ◌∷◌, Option, Some, None, Result, Ok, Err}
 use Rattle.std.proofs.Common.{refl, ap, subst, ◌∙◌}
+use Rattle.std.specs.Option.{option_map_or}
 use Rattle.sg_wire.specs.CdbDecoding.{command_in, command_of}
 use Rattle.sg_wire.specs.declared.command.CdbFault.{CdbFault}
 use Rattle.sg_wire.specs.declared.command.Command.{Command}
@@ -12,7 +13,8 @@ use Rattle.sg_target.specs.Demands.{Demands, demands}
 use Rattle.sg_target.specs.Refusal.{checked_next, first_some, unless_refused}
 use Rattle.sg_target.specs.Semantics.{effect_of, medium_use}
 use Rattle.sg_target.specs.State.{State, profile_of}
-use Rattle.sg_target.specs.Step.{Step, outcome, refused, step, step_by}
+use Rattle.sg_target.specs.Effect.{Effect}
+use Rattle.sg_target.specs.Step.{Step, executed, outcome, refused, step, step_by}
 use Rattle.sg_target.specs.declared.operation.Operation.{Operation}
 use Rattle.sg_target.specs.declared.refusal.Refusal.{Refusal}
 use Rattle.sg_target.specs.declared.refusal.Refusal.TheVariants.{Conflict, CheckCondition}
@@ -23,6 +25,20 @@ pub not_good : (state : State) (i : ℕ) (refusal : Refusal)
     → (refused state i refusal).answer.status ≡ Good → ⊥
 not_good state i Conflict e = cc
 not_good state i (CheckCondition reason) e = cc
+
+-- what is true of each refusal, and of the step that is executed if nothing is found on the way, is
+-- true of the outcome
+module _ (state : State) (i : ℕ) where
+  by-found : (P : Step → Type 0) (effect : Effect) (found : Option Refusal)
+      → ((refusal : Refusal) → P (refused state i refusal)) → (found ≡ None → P (executed effect))
+      → P (option_map_or (refused state i) found (executed effect))
+  by-found P effect None r h = h refl
+  by-found P effect (Some refusal) r h = r refusal
+
+  pub outcome-by : (P : Step → Type 0) (effect : Effect)
+      → ((refusal : Refusal) → P (refused state i refusal))
+      → (effect.found ≡ None → P (executed effect)) → P (outcome state i (Ok effect))
+  outcome-by P effect = by-found P effect effect.found
 
 -- the checks of a command by its demands
 abbrev pub request_checks : Demands → (data_out : List ℕ) → List (Option Refusal)

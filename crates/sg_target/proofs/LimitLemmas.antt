@@ -1,10 +1,7 @@
 -- No command takes a table of the disk past its limit.
-use Rattle.std.proofs.Common.{◌≡◌, ◌≤◌, ℕ, List}
-use Rattle.std.proofs.Common.{Bool, true, false, Option, Some, None, Result, Ok, Err, refl, arith}
-use Rattle.std.specs.FinMap.{len}
-use Rattle.std.proofs.lemmas.Bool.Decides.{nat_tests}
+use Rattle.std.proofs.Common.{◌≡◌, ℕ, List}
+use Rattle.std.proofs.Common.{Bool, true, false, Result, Ok, Err, refl}
 use Rattle.sg_wire.specs.declared.command.out_action.OutAction.{OutAction}
-use Rattle.sg_store.specs.Disk.{Disk}
 use Rattle.sg_pages.specs.ModeSelect.{changed_by}
 use Rattle.sg_units.specs.Attentions.{ArePending, Pending, without_oldest}
 use Rattle.sg_units.specs.Laws.{QueuesKeepTheirLimits, ReservationsStayConsistent}
@@ -14,9 +11,12 @@ use Rattle.sg_units.specs.Reservations.{IsConsistent}
 use Rattle.sg_wire.specs.declared.out_list.OutList.{OutList}
 use Rattle.sg_units.specs.declared.reservation_change.ReservationChange.{ReservationChange}
 use Rattle.sg_units.specs.declared.unit_attention.UnitAttention.TheVariants.{ModeParametersChanged}
-use Rattle.sg_store.specs.Laws.{DisksStayWellFormed}
+use Rattle.sg_store.specs.Laws.{DisksStayWellFormed, RemappingTakesWhatIsNeeded}
+use Rattle.sg_store.specs.Laws.{UnmapsEachAddress, UnmapsEachBlock}
 use Rattle.sg_target.proofs.BlocksLemmas.{KeepsBlocks, keeps-blocks}
-use Rattle.sg_target.specs.Checks.{checked_cdb, checked_effect, no_space}
+use Rattle.sg_target.proofs.LiftLemmas.{outcome-by}
+use Rattle.sg_target.proofs.Space.{KeepsSpace, keeps-space}
+use Rattle.sg_target.specs.Checks.{checked_cdb, checked_effect}
 use Rattle.sg_target.specs.Effect.{Effect, returning_up_to}
 use Rattle.sg_target.specs.ModeCommands.{attentions_after, changing_modes, mode_parameters}
 use Rattle.sg_target.specs.ModeCommands.{selected_modes}
@@ -26,7 +26,7 @@ use Rattle.sg_target.specs.ReservationCommands.{changing_reservations, out_refus
 use Rattle.sg_target.specs.ReservationCommands.{reservation_change}
 use Rattle.sg_target.specs.Semantics.{effect_of}
 use Rattle.sg_target.specs.State.{IsWithinLimits, State}
-use Rattle.sg_target.specs.Step.{outcome as step_outcome, refused, step, unless_no_space}
+use Rattle.sg_target.specs.Step.{Step, outcome as step_outcome, refused, step}
 use Rattle.sg_target.specs.declared.happening.Happening.{Happening}
 use Rattle.sg_target.specs.declared.happening.Happening.TheVariants.{Power}
 use Rattle.sg_target.specs.declared.operation.Operation.{Operation}
@@ -36,13 +36,9 @@ use Rattle.sg_target.specs.declared.refusal.Reason.TheVariants.{UnitAttention as
 use Rattle.sg_target.specs.declared.refusal.Refusal.{Refusal}
 use Rattle.sg_target.specs.declared.refusal.Refusal.TheVariants.{CheckCondition}
 
--- the last check looks whether there is space
-space : (disk : Disk) → no_space disk ≡ None → len disk.contents ≤ disk.pool
-unfolding no_space
-space disk e = grind (arith, nat_tests)
-
 module _ (reservations : ReservationsStayConsistent) (queues : QueuesKeepTheirLimits)
-    (disks : DisksStayWellFormed) where
+    (disks : DisksStayWellFormed) (law : RemappingTakesWhatIsNeeded) (addresses : UnmapsEachAddress)
+    (zeros : UnmapsEachBlock) where
   attentions-after : (pending : Pending) (i : ℕ) (changed : Bool) → ArePending pending
       → ArePending (attentions_after pending i changed)
   attentions-after pending i true h = queues.raised pending (raised_for_others i ModeParametersChanged) h
@@ -65,7 +61,7 @@ module _ (reservations : ReservationsStayConsistent) (queues : QueuesKeepTheirLi
   refused-within state i (CheckCondition (Attention condition)) h = without-oldest-within state i h
   refused-within state i _ h = h
 
-  -- the tables except the mapped blocks, which the check for space keeps
+  -- the tables except the mapped blocks
   abbrev KeepsOthers : State → Type 0
   KeepsOthers state = ArePending state.attentions × IsConsistent state.reservations
 
@@ -119,19 +115,14 @@ module _ (reservations : ReservationsStayConsistent) (queues : QueuesKeepTheirLi
   checked-keeps state i (Ok operation) h = operation-keeps state i operation h
   checked-keeps state i (Err refusal) h = tt
 
-  by-space : (state : State) (i : ℕ) (effect : Effect) (refusal : Option Refusal)
-      → IsWithinLimits state → KeepsOthers effect.after → KeepsBlocks (Ok effect)
-      → no_space effect.after.disk ≡ refusal
-      → IsWithinLimits (unless_no_space state i effect refusal).state
-  by-space state i effect None h k blocks e =
-      record { used = space effect.after.disk e; pending = k.0; registered = k.1; blocks = blocks }
-  by-space state i effect (Some refusal) h k blocks e = refused-within state i refusal h
-
   outcome-within : (state : State) (i : ℕ) (effect : Result Effect Refusal) → IsWithinLimits state
-      → EffectKeeps effect → KeepsBlocks effect → IsWithinLimits (step_outcome state i effect).state
-  outcome-within state i (Err refusal) h k blocks = refused-within state i refusal h
-  outcome-within state i (Ok effect) h k blocks =
-      by-space state i effect (no_space effect.after.disk) h k blocks refl
+      → EffectKeeps effect → KeepsBlocks effect → KeepsSpace law addresses zeros effect
+      → IsWithinLimits (step_outcome state i effect).state
+  outcome-within state i (Err refusal) h k blocks space = refused-within state i refusal h
+  outcome-within state i (Ok effect) h k blocks space =
+      outcome-by state i (λ (done : Step). IsWithinLimits done.state) effect
+      (λ refusal. refused-within state i refusal h)
+      (λ none. record { used = space none; pending = k.0; registered = k.1; blocks = blocks })
 
   pub step-within : (state : State) (i : ℕ) (cdb data_out : List ℕ) → IsWithinLimits state
       → IsWithinLimits (step state i cdb data_out).state
@@ -139,6 +130,7 @@ module _ (reservations : ReservationsStayConsistent) (queues : QueuesKeepTheirLi
       outcome-within state i (checked_effect state i cdb data_out) h
       (checked-keeps state i (checked_cdb state i cdb data_out) (others state h))
       (keeps-blocks disks state i cdb data_out h.blocks)
+      (keeps-space law addresses zeros state i cdb data_out h.used)
 
   pub happening-within : (happening : Happening) (state : State) → IsWithinLimits state
       → IsWithinLimits (after_happening happening state)

@@ -12,11 +12,10 @@ use Rattle.sg_wire.specs.CutAnswer.{first_bytes, overwritten}
 use Rattle.sg_target.specs.Effect.{returning_up_to}
 use Rattle.sg_target.specs.ModeCommands.{mode_parameters, sense_refusal}
 use Rattle.sg_target.specs.Reply.{Carries, executed_reply, refused_reply}
-use Rattle.sg_target.specs.State.{IsWithinLimits, State}
+use Rattle.sg_target.specs.State.{State}
 use Rattle.sg_target.specs.Step.{executed, refused, sense_format, step_by}
 use Rattle.sg_target.specs.declared.operation.Operation.TheVariants.{ReturnModes}
 use Rattle.sg_target.specs.declared.reply.Reply.{Reply}
-use Rattle.sg_target.proofs.Space.{space-left}
 
 -- a list that was sensed
 pub record Sensed (P : List ℕ → Type 0) (sensed : Result (List ℕ) ModeSenseFault) : Type 0 where
@@ -54,23 +53,23 @@ module _ (state : State) (i n : ℕ) (request request' : RequestFields) (modes :
       sym (ap (λ (m : ModeState). mode_sense m request') there
       ∙ ap (λ (r : RequestFields). mode_sense state.modes r) asked) ∙ e
 
-  returned : (list : List ℕ) → IsWithinLimits state → mode_sense state.modes request ≡ Ok list
+  returned : (list : List ℕ) → mode_sense state.modes request ≡ Ok list
       → step_by state i (ReturnModes request n) ≡ executed (returning_up_to state n list)
   unfolding mode_parameters
-  returned list w e = rw (e, space-left state.disk w.used) refl
+  returned list e = rw e refl
 
   refused-by : (fault : ModeSenseFault) → mode_sense state.modes request ≡ Err fault
       → step_by state i (ReturnModes request n) ≡ refused state i (sense_refusal fault)
   unfolding mode_parameters
   refused-by fault e = rw e refl
 
-  pub list-carried : (list : List ℕ) (limit len : ℕ) → limit ≡ n → IsWithinLimits state
+  pub list-carried : (list : List ℕ) (limit len : ℕ) → limit ≡ n
       → mode_sense modes request' ≡ Ok list → len ≡ length (first_bytes limit list)
       → after ≡ overwritten (first_bytes limit list) before → reply ≡ executed_reply len no_counts
       → Carries (step_by state i (ReturnModes request n)).answer reply before after
-  list-carried list limit len cut w e size bytes is =
+  list-carried list limit len cut e size bytes is =
       let same = ap (λ k. first_bytes k list) cut in
-      rw (returned list w (at-state (Ok list) e)) (record {
+      rw (returned list (at-state (Ok list) e)) (record {
         status = ap (λ (r : Reply). r.status) is;
         sense = ap (λ (r : Reply). r.sense) is;
         size = ap (λ (r : Reply). r.data_in) is ∙ (size ∙ ap length same);

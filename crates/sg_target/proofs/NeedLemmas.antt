@@ -45,7 +45,7 @@ need-alike law m n a (suc k) h =
     ap₂ (λ (x : ℕ) (b : Bool). x + cond b 0 1)
     (need-alike law m n a k (λ i lt. h i (omega arith))) (h k (omega arith)))
 
-inside : (a k i : ℕ) → i < k → lies_in a k (a + i) ≡ true
+pub inside : (a k i : ℕ) → i < k → lies_in a k (a + i) ≡ true
 inside a k i lt = grind (arith, nat_tests)
 
 -- addresses that are anchored elsewhere do not matter

@@ -6,7 +6,7 @@ use Rattle.sg_store.specs.Disk.{blocks, written}
 use Rattle.sg_pages.specs.BlockDescriptor.{logical_block_length}
 use Rattle.sg_pages.specs.ProvisioningPages.{maximum_transfer_length}
 use Rattle.sg_target.specs.CapacityData.{capacity_10, capacity_16}
-use Rattle.sg_target.specs.Effect.{Effect, no_effect, returning, returning_up_to, with_contents}
+use Rattle.sg_target.specs.Effect.{Effect, returning, returning_up_to, storing}
 use Rattle.sg_target.specs.State.{State}
 
 -- READ returns the bytes of its blocks.
@@ -33,11 +33,8 @@ blocks_out extent data_out =
 
 -- WRITE replaces its blocks by these bytes.
 abbrev pub writing : State → BlocksOutFields → Effect
-writing state out = record (no_effect state) {
-  after =
-      with_contents state
-      (written state.disk.contents out.extent.lba out.extent.count out.bytes);
-}
+writing state out =
+    storing state (written state.disk.contents out.extent.lba out.extent.count out.bytes)
 
 -- READ CAPACITY (10) and (16).
 abbrev pub read_capacity_10 : State → Effect

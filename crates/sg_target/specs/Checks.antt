@@ -5,13 +5,11 @@ use Rattle.std.specs.Prelude.{ℕ, ◌+◌, max, List, [], ◌∷◌, length, ma
 use Rattle.std.specs.Prelude.{Ok, Err, nat_lt, if◌then◌else◌}
 use Rattle.std.specs.Option.{option_map}
 use Rattle.std.specs.Prelude.{option_and_then}
-use Rattle.std.specs.FinMap.{len}
 use Rattle.sg_wire.specs.CdbDecoding.{class_in, command_in, is_blocked_in}
 use Rattle.sg_wire.specs.declared.command.Command.{Command}
 use Rattle.sg_wire.specs.declared.command.CdbFault.{CdbFault}
 use Rattle.sg_wire.specs.declared.command.CdbFault.TheVariants.{Empty, Opcode, Short, Field}
 use Rattle.sg_wire.specs.declared.extent.Extent.{Extent}
-use Rattle.sg_store.specs.Disk.{Disk}
 use Rattle.sg_pages.specs.ModePage.{ModeState, write_protected}
 use Rattle.sg_units.specs.Access.{allows}
 use Rattle.sg_units.specs.Attentions.{oldest}
@@ -24,7 +22,6 @@ use Rattle.sg_target.specs.declared.operation.Operation.{Operation}
 use Rattle.sg_target.specs.declared.refusal.Reason.TheVariants.{InvalidFieldInCdb}
 use Rattle.sg_target.specs.declared.refusal.Reason.TheVariants.{UnitAttention as Attention}
 use Rattle.sg_target.specs.declared.refusal.Reason.TheVariants.{DataPhaseError, LbaOutOfRange}
-use Rattle.sg_target.specs.declared.refusal.Reason.TheVariants.{SpaceAllocationFailed}
 use Rattle.sg_target.specs.declared.refusal.Reason.TheVariants.{SoftwareWriteProtected}
 use Rattle.sg_target.specs.declared.refusal.Refusal.{Refusal}
 use Rattle.sg_target.specs.declared.refusal.Refusal.TheVariants.{Conflict, CheckCondition}
@@ -135,7 +132,7 @@ abbrev pub checked_operation : State → Operation → Result Operation Refusal
 checked_operation state operation =
     unless_refused (first_some (medium_checks state (medium_use operation))) (Ok operation)
 
--- ---- All checks except the check for space
+-- ---- All checks
 
 -- The operation that a command asks for, or the first refusal.
 -- Choice (SAM-5, 5.3.3): these checks may come in another order.
@@ -156,16 +153,7 @@ checked_cdb state initiator cdb data_out =
     (checked_parse state (command_in (profile_of state) cdb) data_out)
 
 -- Its effect. The requests of MODE SENSE, MODE SELECT and PERSISTENT RESERVE OUT are checked last,
--- against the state.
+-- against the state. What an operation finds on its way comes after all checks.
 abbrev pub checked_effect : State → (initiator : ℕ) → (cdb data_out : List ℕ) → Result Effect Refusal
 checked_effect state initiator cdb data_out =
     checked_next (checked_cdb state initiator cdb data_out) (effect_of state initiator)
-
--- ---- The last one
-
--- More addresses would be mapped or anchored than the pool has blocks.
-unfoldable pub no_space : Disk → Option Refusal
-no_space after =
-    if nat_lt after.pool (len after.contents)
-    then Some (CheckCondition SpaceAllocationFailed)
-    else None

@@ -84,7 +84,7 @@ AreUsed state extent =
     → status_at state.disk.contents address ≢ Deallocated
 
 -- A WRITE over such addresses takes no more of the pool (SBC-3, 4.7.4). So it ends with GOOD if it
--- passes the checks before the check for space.
+-- passes the checks.
 abbrev pub WritesOverUsedAddressesHaveSpace : Type 0
 WritesOverUsedAddressesHaveSpace =
     (state : State) (initiator : ℕ) (cdb data_out : List ℕ) (out : Extent) (effect : Effect)

@@ -1,7 +1,7 @@
 -- Each command's demands on its fields and its data-out, and the operation that it asks for. The
 -- demands depend on the disk only by its number of blocks, which never changes.
 use Rattle.std.specs.Prelude.{ℕ, List, Bool, true, false, ◌&&◌, not, Option, Some, None, Result, Ok}
-use Rattle.std.specs.Prelude.{nat_le, nat_lt, if◌then◌else◌}
+use Rattle.std.specs.Prelude.{nat_le, nat_lt, if◌then◌else◌, ok_or}
 use Rattle.sg_wire.specs.declared.command.Command.{Command}
 use Rattle.sg_wire.specs.declared.command.Command.TheVariants as command
 use Rattle.sg_wire.specs.declared.command.mode.ModeSelect10.{ModeSelect10}
@@ -21,11 +21,13 @@ use Rattle.sg_pages.specs.BlockDescriptor.{logical_block_length}
 use Rattle.sg_target.specs.ModeCommands.{page_control_of, unless_page_format}
 use Rattle.sg_target.specs.PrimaryCommands.{format_of, inquiry_page}
 use Rattle.sg_target.specs.ProvisioningCommands.{block_out, listed_extents, unmaps}
-use Rattle.sg_target.specs.Refusal.{if_supported, when_sound}
+use Rattle.sg_target.specs.Refusal.{when_sound}
 use Rattle.sg_target.specs.ReservationCommands.{fields_out, unless_type}
 use Rattle.sg_target.specs.declared.operation.Operation.{Operation}
 use Rattle.sg_target.specs.declared.operation.Operation.TheVariants as operation
+use Rattle.sg_target.specs.declared.refusal.Reason.TheVariants.{InvalidFieldInCdb}
 use Rattle.sg_target.specs.declared.refusal.Refusal.{Refusal}
+use Rattle.sg_target.specs.declared.refusal.Refusal.TheVariants.{CheckCondition}
 
 -- One row.
 pub record Demands : Type 0 where
@@ -56,7 +58,7 @@ asks operation = takes_no_data None (Ok operation)
 abbrev pub inquiry : Inquiry → Demands
 inquiry c =
     takes_no_data None
-    (when_sound (if_supported 2 (inquiry_page c.evpd c.page_code))
+    (when_sound (ok_or (inquiry_page c.evpd c.page_code) (CheckCondition (InvalidFieldInCdb 2)))
     (λ page. operation.ReturnInquiry page c.allocation_length))
 
 abbrev pub mode_select : (ten pf sp : Bool) (list_length : ℕ) (data_out : List ℕ) → Demands

@@ -1,17 +1,19 @@
 -- Laws of the definitions: of one step, and of commands on a list of extents.
 use Rattle.std.specs.List.{list_any}
-use Rattle.std.specs.Prelude.{◌≡◌, ℕ, List, Bool, if◌then◌else◌}
+use Rattle.std.specs.Prelude.{◌≡◌, ℕ, List, Bool, Some, Ok, if◌then◌else◌}
 use Rattle.sg_wire.specs.declared.extent.Extent.{Extent}
 use Rattle.sg_store.specs.Disk.{block, lies_in, zero_block}
 use Rattle.sg_store.specs.LbaStatus.{status_at}
 use Rattle.sg_store.specs.declared.lba_status.ProvisioningStatus.{ProvisioningStatus}
 use Rattle.sg_store.specs.declared.lba_status.ProvisioningStatus.TheVariants.{Deallocated, Anchored}
+use Rattle.sg_target.specs.Checks.{checked_effect}
 use Rattle.sg_target.specs.Effect.{Effect}
 use Rattle.sg_target.specs.Happenings.{after_happening}
 use Rattle.sg_target.specs.ProvisioningCommands.{anchoring, unmapping}
 use Rattle.sg_target.specs.State.{IsWithinLimits, State}
-use Rattle.sg_target.specs.Step.{step}
+use Rattle.sg_target.specs.Step.{refusal_answer, sense_format, step}
 use Rattle.sg_target.specs.declared.happening.Happening.{Happening}
+use Rattle.sg_target.specs.declared.refusal.Refusal.{Refusal}
 
 -- A state within its limits stays within them after a command, and after a happening.
 pub record LimitsAreKept : Type 0 where
@@ -19,6 +21,15 @@ pub record LimitsAreKept : Type 0 where
       → IsWithinLimits (step state initiator cdb data_out).state
   pub happening : (happening : Happening) (state : State) → IsWithinLimits state
       → IsWithinLimits (after_happening happening state)
+
+-- An operation that finds a refusal on its way changes nothing: the reply reports the refusal, and
+-- the state stays, with each unit attention that is pending.
+abbrev pub FoundRefusalsChangeNothing : Type 0
+FoundRefusalsChangeNothing =
+    (state : State) (initiator : ℕ) (cdb data_out : List ℕ) (effect : Effect) (refusal : Refusal)
+    → checked_effect state initiator cdb data_out ≡ Ok effect → effect.found ≡ Some refusal
+    → step state initiator cdb data_out
+    ≡ record { answer = refusal_answer (sense_format state) refusal; state = state }
 
 -- ---- Lists of extents
 

@@ -9,7 +9,7 @@ use Rattle.sg_wire.specs.declared.extent.Extent.{Extent}
 use Rattle.sg_store.specs.Disk.{Contents, Disk, anchored, filled, unmapped}
 use Rattle.sg_store.specs.LbaStatus.{lba_status, status_data}
 use Rattle.sg_pages.specs.BlockDescriptor.{logical_block_length}
-use Rattle.sg_target.specs.Effect.{Effect, no_effect, returning_up_to, with_contents}
+use Rattle.sg_target.specs.Effect.{Effect, no_effect, returning_up_to, storing, with_contents}
 use Rattle.sg_target.specs.Refusal.{or_refused}
 use Rattle.sg_target.specs.State.{State}
 use Rattle.sg_target.specs.declared.refusal.Reason.TheVariants.{ParameterListLengthError}
@@ -31,6 +31,7 @@ changed_in_turn change contents (extent ∷ rest) =
 
 -- ---- Unmapping
 
+-- It gives blocks back to the pool, so it needs no space.
 -- Choice (SBC-3, 5.28): UNMAP may leave blocks mapped, or anchor them.
 abbrev pub unmapping : State → List Extent → Effect
 unmapping state extents = record (no_effect state) {
@@ -40,9 +41,8 @@ unmapping state extents = record (no_effect state) {
 -- ---- Anchoring
 
 abbrev pub anchoring : State → List Extent → Effect
-anchoring state extents = record (no_effect state) {
-  after = with_contents state (changed_in_turn anchored state.disk.contents extents);
-}
+anchoring state extents =
+    storing state (changed_in_turn anchored state.disk.contents extents)
 
 -- ---- The parameter list of UNMAP
 
@@ -61,9 +61,8 @@ listed_extents list = or_refused unmap_list_refusal (unmap_list list)
 
 -- Each block of an extent is replaced by one block.
 abbrev pub filling : State → Extent → (block : List ℕ) → Effect
-filling state extent block = record (no_effect state) {
-  after = with_contents state (filled state.disk.contents extent.lba extent.count block);
-}
+filling state extent block =
+    storing state (filled state.disk.contents extent.lba extent.count block)
 
 -- The block is the first of data-out.
 abbrev pub block_out : (data_out : List ℕ) → List ℕ

@@ -4,7 +4,8 @@ use Rattle.std.specs.Prelude.{if◌then◌else◌, is_none}
 use Rattle.sg_wire.specs.declared.extent.Extent.{Extent}
 use Rattle.sg_store.specs.Disk.{Contents, Disk, anchored, unmapped}
 use Rattle.sg_store.specs.LbaStatus.{covered, lba_status}
-use Rattle.sg_target.specs.Checks.{checked_cdb, no_space}
+use Rattle.sg_target.specs.Checks.{checked_cdb}
+use Rattle.sg_target.specs.Effect.{no_space}
 use Rattle.sg_target.specs.ProvisioningCommands.{Change, changed_in_turn}
 use Rattle.sg_target.specs.State.{State}
 use Rattle.sg_target.specs.declared.operation.Operation.{Operation}
@@ -67,8 +68,8 @@ ranges_of state (AnchorExtent extent) = anchoring_ranges state.disk (extent ∷ 
 ranges_of state (ReturnLbaStatus start n) = status_ranges state.disk start
 ranges_of state _ = []
 
--- A command that is refused before it asks for its operation goes over no range. Want of space shows
--- on the way.
+-- A command that a check refuses goes over no range. One that finds a refusal on its way has gone
+-- over its ranges, and is charged for them.
 abbrev pub ranges_if_passed : State → Result Operation Refusal → List Range
 ranges_if_passed state (Ok operation) = ranges_of state operation
 ranges_if_passed state (Err refusal) = []

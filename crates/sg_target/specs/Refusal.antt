@@ -92,8 +92,3 @@ abbrev pub checked_next : {A B : Type 0} → Result A Refusal → (A → Result 
     → Result B Refusal
 checked_next (Ok value) next = next value
 checked_next (Err refusal) next = Err refusal
-
--- A value that the disk does not support is an invalid field, at its byte in the CDB.
-abbrev pub if_supported : {A : Type 0} → (byte : ℕ) → Option A → Result A Refusal
-if_supported byte (Some value) = Ok value
-if_supported byte None = Err (CheckCondition (InvalidFieldInCdb byte))

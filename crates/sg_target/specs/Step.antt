@@ -1,10 +1,11 @@
 -- The step of a command: the answer to it, and the state after it.
+use Rattle.std.specs.Option.{option_map_or}
 use Rattle.std.specs.Prelude.{ℕ, List, [], Option, Some, None, Result, Ok, Err}
 use Rattle.sg_wire.specs.CutAnswer.{first_bytes}
 use Rattle.sg_wire.specs.SenseData.{sense_data}
 use Rattle.sg_wire.specs.declared.sense.Format.{Format}
 use Rattle.sg_pages.specs.ModePage.{descriptor_sense}
-use Rattle.sg_target.specs.Checks.{checked_effect, no_space}
+use Rattle.sg_target.specs.Checks.{checked_effect}
 use Rattle.sg_target.specs.Effect.{Effect, without_attention}
 use Rattle.sg_target.specs.PrimaryCommands.{format_of}
 use Rattle.sg_target.specs.Refusal.{sense_of}
@@ -69,20 +70,11 @@ executed effect =
 
 -- ---- Either
 
-abbrev pub unless_no_space : State → (initiator : ℕ) → Effect → Option Refusal → Step
-unless_no_space state initiator effect (Some refusal) = refused state initiator refusal
-unless_no_space state initiator effect None = executed effect
-
--- An effect, unless there is no space for the blocks that would be mapped or anchored after it.
--- Every effect is tested. In a state within its limits (`IsWithinLimits`) only an effect that maps
--- or anchors more blocks can be refused.
-abbrev pub executed_or_refused : State → (initiator : ℕ) → Effect → Step
-executed_or_refused state initiator effect =
-    unless_no_space state initiator effect (no_space effect.after.disk)
-
--- The step of a command that the checks before the check for space have passed, or refused.
+-- A command is refused by a check, or by what its operation finds on its way. Otherwise it is
+-- executed.
 abbrev pub outcome : State → (initiator : ℕ) → Result Effect Refusal → Step
-outcome state initiator (Ok effect) = executed_or_refused state initiator effect
+outcome state initiator (Ok effect) =
+    option_map_or (refused state initiator) effect.found (executed effect)
 outcome state initiator (Err refusal) = refused state initiator refusal
 
 -- The step of a CDB with its data-out.

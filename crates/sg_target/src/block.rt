@@ -1,6 +1,6 @@
 // READ, WRITE and READ CAPACITY (SBC-3, 5). SYNCHRONIZE CACHE has its blocks checked and nothing to
 // do, because there is no cache.
-ghost use Rattle.std.specs.Prelude.{◌≡◌, ◌≤◌, ◌+◌, ◌∷◌, [], length, Some, None, OnOk, OnErr};
+ghost use Rattle.std.specs.Prelude.{◌≡◌, ◌≤◌, ◌+◌, ◌∷◌, [], length, Some, None, Ok, OnOk, OnErr};
 ghost use Rattle.std.specs.Prelude.{IfOk, IfErr};
 ghost use Rattle.sg_pages.specs.ProvisioningPages.{maximum_transfer_length};
 ghost use Rattle.sg_wire.specs.CutAnswer.{first_bytes};
@@ -11,7 +11,7 @@ ghost use Rattle.sg_target.specs.Demands.{read, too_long, write};
 ghost use Rattle.sg_target.specs.Charge.{TakesStep, cost_bounds};
 ghost use Rattle.sg_target.specs.Ranges.{range};
 ghost use Rattle.sg_target.specs.Reply.{ReturnsData, executed_reply, refused_reply};
-ghost use Rattle.sg_target.specs.Step.{executed, executed_or_refused, sense_format};
+ghost use Rattle.sg_target.specs.Step.{executed, outcome, sense_format};
 
 use crate::data_in::DataIn;
 use crate::data_out::needed_data_out;
@@ -152,7 +152,7 @@ pub(crate) fn check_write(
 
 impl<S: Store> Target<S> {
     /// Replaces the bytes of blocks, unless there is no space for them.
-    #[tactic(auto, unfolding(crate::specs::Checks::no_space))]
+    #[tactic(auto, unfolding(crate::specs::Effect::no_space))]
     pub(crate) fn write(
         &mut self,
         initiator: Initiator,
@@ -162,7 +162,7 @@ impl<S: Store> Target<S> {
         requires on_disk { blocks.now.extent.lba + blocks.now.extent.count
             ≤ self.old.state.disk.capacity }
         ensures { TakesStep (cost_bounds S.price S.least)
-            (executed_or_refused self.old.state initiator (writing self.old.state blocks.now))
+            (outcome self.old.state initiator (Ok (writing self.old.state blocks.now)))
             (range self.old.state.disk.contents blocks.now.extent ∷ [])
             self.old self.new result buf.now buf.now }
     {

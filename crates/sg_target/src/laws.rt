@@ -3,7 +3,8 @@
 ghost use Rattle.sg_target.specs.CommandLaws.{ReadsReturnTheirBlocks, UnmapsFollowTheirLists};
 ghost use Rattle.sg_target.specs.CommandLaws.{WriteSamesLeaveTheirBlock, WritesLeaveTheirData};
 ghost use Rattle.sg_target.specs.CommandLaws.{WritesOverUsedAddressesHaveSpace};
-ghost use Rattle.sg_target.specs.Laws.{AnchorsEachExtent, LimitsAreKept, UnmapsEachExtent};
+ghost use Rattle.sg_target.specs.Laws.{AnchorsEachExtent, FoundRefusalsChangeNothing, LimitsAreKept};
+ghost use Rattle.sg_target.specs.Laws.{UnmapsEachExtent};
 
 /// No command and no happening takes a table of the disk past its limit.
 pub fn limits_are_kept()
@@ -12,7 +13,16 @@ pub fn limits_are_kept()
     sg_units::laws::reservations_stay_consistent();
     sg_units::laws::queues_keep_their_limits();
     sg_store::laws::disks_stay_well_formed();
+    sg_store::laws::an_unmap_deallocates_the_addresses_of_its_range();
+    sg_store::laws::an_unmap_zeroes_the_blocks_of_its_range();
+    sg_store::laws::remapping_takes_what_is_needed();
 }
+
+/// If an operation finds a refusal on its way, as a want of space, the command reports that refusal and
+/// changes nothing. No unit attention is cleared.
+pub fn found_refusals_change_nothing()
+    ensures { FoundRefusalsChangeNothing }
+{}
 
 /// The effect of unmapping a list of extents deallocates each address that lies in some extent,
 /// which is read as zeros then. Every other address is as it was. The order of the extents does not
@@ -48,8 +58,8 @@ pub fn writes_leave_their_data()
     sg_store::laws::a_write_replaces_the_blocks_of_its_range();
 }
 
-/// A WRITE whose addresses are all mapped or anchored ends with GOOD if it passes the checks before the
-/// check for space. So the disk never refuses it for space.
+/// A WRITE whose addresses are all mapped or anchored ends with GOOD if it passes the checks. So the
+/// disk never refuses it for space.
 pub fn writes_over_used_addresses_have_space()
     ensures { WritesOverUsedAddressesHaveSpace }
 {

@@ -204,7 +204,6 @@ pub(crate) fn operation_of<'a>(
 
 impl<S: Store> Target<S> {
     /// Executes an operation, unless the disk's state refuses it.
-    #[tactic(auto, using(crate::proofs::Space::room))]
     pub(crate) fn execute_checked(
         &mut self,
         initiator: Initiator,

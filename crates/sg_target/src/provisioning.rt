@@ -1,7 +1,6 @@
 // UNMAP, WRITE SAME and GET LBA STATUS: logical block provisioning (SBC-3, 4.7 and 5).
 ghost use Rattle.std.specs.Prelude.{◌≡◌, ◌+◌, ◌≤◌, [], ◌∷◌, length};
-ghost use Rattle.std.specs.Prelude.{Some, None, IfOk, IfErr, IfNone};
-ghost use Rattle.std.specs.FinMap.{len};
+ghost use Rattle.std.specs.Prelude.{Some, None, Ok, IfOk, IfErr, IfNone};
 ghost use Rattle.sg_wire.specs.UnmapList.{maximum_unmap_descriptors};
 ghost use Rattle.sg_store.specs.Disk.{unmapped};
 ghost use Rattle.sg_store.specs.Meter.{no_counts};
@@ -16,7 +15,7 @@ ghost use Rattle.sg_target.specs.ProvisioningCommands.{reporting_status, unmap_l
 ghost use Rattle.sg_target.specs.ProvisioningCommands.{unmapping, unmaps};
 ghost use Rattle.sg_target.specs.Ranges.{anchoring_ranges, range, ranges_in_turn, status_ranges};
 ghost use Rattle.sg_target.specs.State.{IsWithinLimits};
-ghost use Rattle.sg_target.specs.Step.{executed, executed_or_refused};
+ghost use Rattle.sg_target.specs.Step.{executed, outcome};
 
 use crate::anchoring::anchor_extents;
 use crate::data_out::needed_data_out;
@@ -85,11 +84,10 @@ impl<S: Store> Target<S> {
     pub(crate) fn unmap_listed(&mut self, listed: &ListedExtents<'_>, buf: &[u8]) -> Reply
         requires on_disk { AreOnDisk self.old.state.disk.capacity listed.now }
         requires limits { IsWithinLimits self.old.state }
-        ensures done { TakesStep (cost_bounds S.price S.least)
+        ensures { TakesStep (cost_bounds S.price S.least)
             (executed (unmapping self.old.state listed.now))
             (ranges_in_turn unmapped self.old.state.disk.contents listed.now)
             self.old self.new result buf.now buf.now }
-        ensures mapped { len self.new.state.disk.contents ≤ self.new.state.disk.pool }
     {
         let extents = listed.to_list();
         self.unmap(extents.as_slice(), buf)
@@ -100,11 +98,10 @@ impl<S: Store> Target<S> {
         requires on_disk { AreOnDisk self.old.state.disk.capacity extents.now }
         requires at_most { length extents.now ≤ maximum_unmap_descriptors }
         requires limits { IsWithinLimits self.old.state }
-        ensures done { TakesStep (cost_bounds S.price S.least)
+        ensures { TakesStep (cost_bounds S.price S.least)
             (executed (unmapping self.old.state extents.now))
             (ranges_in_turn unmapped self.old.state.disk.contents extents.now)
             self.old self.new result buf.now buf.now }
-        ensures mapped { len self.new.state.disk.contents ≤ self.new.state.disk.pool }
     {
         if extents.is_empty() {
             return Reply::without_blocks(0);
@@ -149,7 +146,7 @@ impl<S: Store> Target<S> {
         requires on_disk { AreOnDisk self.old.state.disk.capacity listed.now }
         requires limits { IsWithinLimits self.old.state }
         ensures { TakesStep (cost_bounds S.price S.least)
-            (executed_or_refused self.old.state initiator (anchoring self.old.state listed.now))
+            (outcome self.old.state initiator (Ok (anchoring self.old.state listed.now)))
             (anchoring_ranges self.old.state.disk listed.now)
             self.old self.new result buf.now buf.now }
     {
@@ -158,13 +155,13 @@ impl<S: Store> Target<S> {
     }
 
     /// Anchors extents in turn, unless there is no space for all of them.
-    #[tactic(auto, using(crate::proofs::Space::room), unfolding(crate::specs::Checks::no_space))]
+    #[tactic(auto, using(crate::proofs::Space::room), unfolding(crate::specs::Effect::no_space))]
     pub(crate) fn anchor(&mut self, initiator: Initiator, extents: &[Extent], buf: &[u8]) -> Reply
         requires on_disk { AreOnDisk self.old.state.disk.capacity extents.now }
         requires at_most { length extents.now ≤ maximum_unmap_descriptors }
         requires limits { IsWithinLimits self.old.state }
         ensures { TakesStep (cost_bounds S.price S.least)
-            (executed_or_refused self.old.state initiator (anchoring self.old.state extents.now))
+            (outcome self.old.state initiator (Ok (anchoring self.old.state extents.now)))
             (anchoring_ranges self.old.state.disk extents.now)
             self.old self.new result buf.now buf.now }
     {
@@ -288,7 +285,7 @@ fn unmaps(unmap: bool, block: &[u8]) -> bool
 
 impl<S: Store> Target<S> {
     /// Replaces each of its blocks by one block, unless there is no space for them.
-    #[tactic(auto, unfolding(crate::specs::Checks::no_space))]
+    #[tactic(auto, unfolding(crate::specs::Effect::no_space))]
     pub(crate) fn fill(
         &mut self,
         initiator: Initiator,
@@ -298,8 +295,7 @@ impl<S: Store> Target<S> {
     ) -> Reply
         requires on_disk { extent.lba + extent.count ≤ self.old.state.disk.capacity }
         ensures { TakesStep (cost_bounds S.price S.least)
-            (executed_or_refused self.old.state initiator
-            (filling self.old.state extent block.now))
+            (outcome self.old.state initiator (Ok (filling self.old.state extent block.now)))
             (range self.old.state.disk.contents extent ∷ [])
             self.old self.new result buf.now buf.now }
     {

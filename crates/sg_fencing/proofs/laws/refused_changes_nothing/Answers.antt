@@ -1,14 +1,13 @@
-use Rattle.std.proofs.Common.{◌≡◌, ℕ, Option, Some, None, Result, Ok, Err, refl, inl, inr}
-use Rattle.sg_target.specs.Checks.{no_space}
+use Rattle.std.proofs.Common.{◌≡◌, ℕ, Result, Ok, Err, refl, inl, inr}
 use Rattle.sg_target.specs.Effect.{Effect}
 use Rattle.sg_target.specs.Semantics.{effect_of}
 use Rattle.sg_target.specs.State.{State}
-use Rattle.sg_target.specs.Step.{Step, outcome, refused, unless_no_space}
+use Rattle.sg_target.specs.Step.{Step, outcome, refused}
 use Rattle.sg_target.specs.declared.refusal.Reason.TheVariants.{UnitAttention as Attention}
 use Rattle.sg_target.specs.declared.refusal.Refusal.{Refusal}
 use Rattle.sg_target.specs.declared.refusal.Refusal.TheVariants.{CheckCondition}
 use Rattle.sg_target.specs.declared.reply.Status.TheVariants.{Good}
-use Rattle.sg_target.proofs.LiftLemmas.{lifted}
+use Rattle.sg_target.proofs.LiftLemmas.{lifted, outcome-by}
 use Rattle.sg_fencing.specs.Laws.{IsKept}
 use Rattle.sg_fencing.proofs.laws.refused_changes_nothing.Goals as goal
 
@@ -22,14 +21,11 @@ refused-keeps state i _ =
 abbrev KeptUnlessGood : State → ℕ → Step → Type 0
 KeptUnlessGood state i done = (done.answer.status ≡ Good → ⊥) → IsKept state done.state i
 
-by-space : (state : State) (i : ℕ) (effect : Effect) (refusal : Option Refusal)
-    → KeptUnlessGood state i (unless_no_space state i effect refusal)
-by-space state i effect None h = absurd (h refl)
-by-space state i effect (Some refusal) h = refused-keeps state i refusal
-
 by-effect : (state : State) (i : ℕ) (effect : Result Effect Refusal)
     → KeptUnlessGood state i (outcome state i effect)
-by-effect state i (Ok effect) h = by-space state i effect (no_space effect.after.disk) h
+by-effect state i (Ok effect) h =
+    outcome-by state i (KeptUnlessGood state i) effect (λ refusal h. refused-keeps state i refusal)
+    (λ none h. absurd (h refl)) h
 by-effect state i (Err refusal) h = refused-keeps state i refusal
 
 pub returns : goal.returns

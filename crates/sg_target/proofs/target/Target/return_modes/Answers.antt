@@ -1,4 +1,4 @@
-use Rattle.std.proofs.Common.{[], arith, rules, ap, sym, ◌∙◌}
+use Rattle.std.proofs.Common.{[], rules, ap, sym, ◌∙◌}
 use Rattle.sg_target.specs.ModeCommands.{mode_parameters}
 use Rattle.sg_target.specs.Reply.{refused_reply}
 use Rattle.sg_target.specs.Step.{sense_format}
@@ -6,7 +6,6 @@ use Rattle.sg_target.specs.Target.{TargetFields}
 use Rattle.sg_target.specs.declared.refusal.Refusal.{Refusal}
 use Rattle.sg_target.proofs.ModeLemmas.{fault-carried, if-fault, list-carried, nothing-put}
 use Rattle.sg_target.proofs.ModeLemmas.{sensed-fault, sensed-list}
-use Rattle.sg_target.proofs.Space.{space-left}
 use Rattle.sg_target.proofs.target.Target.return_modes.Goals as goal
 
 pub returns-in-Ok : goal.returns-in-Ok
@@ -18,11 +17,11 @@ returns-in-Ok g c =
     record {
       answer =
           list-carried _ _ _ _ _ _ _ _ _ (ap (λ (t : TargetFields). t.state.modes) c.self.view_is)
-          c.requested.view_is s.list _ _ c.from.ensures c.requires.limits s.is
+          c.requested.view_is s.list _ _ c.from.ensures s.is
           (c.written.ensures ∙ laws.written _ _ _ _ _ _ cut s.has)
           (laws.left _ _ _ _ _ _ _ cut s.has (λ e. search rules)) c.without_blocks.ensures;
-      state = grind (arith, space-left);
-      charge = grind (arith, space-left);
+      state = search rules;
+      charge = search rules;
     }
 
 pub returns-in-Err : goal.returns-in-Err

@@ -5,8 +5,8 @@ use Rattle.sg_target.specs.Target.{TargetFields}
 use Rattle.sg_target.proofs.UnmapLemmas.{unmapping-charged}
 use Rattle.sg_target.proofs.target.Target.unmap.Goals as goal
 
-pub returns-clause-done : goal.returns-clause-done
-returns-clause-done g c =
+pub returns : goal.returns
+returns g c =
     let seen = c.self.view_is in
     let anew = c.restart_counts.ensures in
     let some : 0 < length c.args.extents.now = grind (arith, nat_tests) in
