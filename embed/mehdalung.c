@@ -9,11 +9,17 @@
 uint32_t mehdalung_make(mdl_disk *disk, uint64_t blocks, uint32_t pool);
 uint32_t mehdalung_make_as(mdl_disk *disk, uint64_t blocks, uint32_t pool,
                            const mdl_identity *identity);
+uint32_t mehdalung_make_with_profile(mdl_disk *disk, uint32_t profile, uint64_t blocks,
+                                     uint32_t pool);
+uint32_t mehdalung_make_as_with_profile(mdl_disk *disk, uint32_t profile, uint64_t blocks,
+                                        uint32_t pool, const mdl_identity *identity);
 void mehdalung_free(mdl_disk *disk);
 uint32_t mehdalung_execute(mdl_disk *disk, uint32_t initiator, const uint8_t *cdb,
                            size_t cdb_length, const uint8_t *data_out, size_t data_out_length,
                            uint8_t *data_in, size_t data_in_length, mdl_reply *reply);
 uint32_t mehdalung_power_cycle(mdl_disk *disk);
+uint32_t mehdalung_registered(mdl_disk *disk, uint32_t *mask);
+uint32_t mehdalung_forget(mdl_disk *disk, uint32_t initiator);
 /* The proved function takes what `fields` has as a record already, whose flags are 0 or 1. */
 uint32_t mehdalung_sense(const uint8_t *sense, size_t length, mdl_sense *fields);
 uint8_t mehdalung_exit_status(uint8_t status, const uint8_t *sense, size_t sense_length);
@@ -78,6 +84,16 @@ mdl_error mdl_make(mdl_disk *disk, uint64_t blocks, uint32_t pool, const mdl_ide
     return (mdl_error)mehdalung_make_as(disk, blocks, pool, identity);
 }
 
+mdl_error mdl_make_with_profile(mdl_disk *disk, uint32_t profile, uint64_t blocks, uint32_t pool,
+                                const mdl_identity *identity)
+{
+    if (!disk)
+        return MDL_NULL_POINTER;
+    if (!identity)
+        return (mdl_error)mehdalung_make_with_profile(disk, profile, blocks, pool);
+    return (mdl_error)mehdalung_make_as_with_profile(disk, profile, blocks, pool, identity);
+}
+
 void mdl_free(mdl_disk *disk)
 {
     if (disk)
@@ -100,6 +116,16 @@ mdl_error mdl_execute(mdl_disk *disk, uint32_t initiator, const uint8_t *cdb, si
 mdl_error mdl_power_cycle(mdl_disk *disk)
 {
     return disk ? (mdl_error)mehdalung_power_cycle(disk) : MDL_NULL_POINTER;
+}
+
+mdl_error mdl_registered(mdl_disk *disk, uint32_t *mask)
+{
+    return disk && mask ? (mdl_error)mehdalung_registered(disk, mask) : MDL_NULL_POINTER;
+}
+
+mdl_error mdl_forget(mdl_disk *disk, uint32_t initiator)
+{
+    return disk ? (mdl_error)mehdalung_forget(disk, initiator) : MDL_NULL_POINTER;
 }
 
 mdl_error mdl_read_sense(const uint8_t *sense, size_t length, mdl_sense *fields)

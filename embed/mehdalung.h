@@ -70,7 +70,8 @@ typedef enum mdl_error {
     MDL_UNKNOWN_TOOL = 14,    /* there is no word, or the first is not the name of a tool */
     MDL_USAGE = 15,           /* the words are not those of the tool */
     MDL_EXCLUSIVE = 16,       /* two options exclude one another */
-    MDL_NUMBER = 17           /* an option's text has no value, or one that is out of range */
+    MDL_NUMBER = 17,          /* an option's text has no value, or one that is out of range */
+    MDL_UNKNOWN_PROFILE = 18  /* the profile is none of mdl_profile */
 } mdl_error;
 
 /* A disk, or none. It begins as MDL_NONE. The caller owns this variable, and neither reads nor
@@ -97,6 +98,12 @@ typedef struct mdl_identity {
       { 'T', 'H', 'I', 'N', ' ', 'D', 'I', 'S', 'K', ' ', ' ', ' ', ' ', ' ', ' ', ' ' }, \
       { '0', '1', '0', '0' }, { '0', '0', '0', '0', '0', '0', '0', '1' }, 1 }
 
+/* The commands that a disk has. docs/PROFILE.md of the source lists them. */
+typedef enum mdl_profile {
+    MDL_PROFILE_BASE = 0,    /* those that every disk has */
+    MDL_PROFILE_EXTENDED = 1 /* those and more; in this version there is none more */
+} mdl_profile;
+
 #define MDL_GOOD 0x00
 #define MDL_CHECK_CONDITION 0x02
 #define MDL_RESERVATION_CONFLICT 0x18
@@ -112,7 +119,7 @@ typedef struct mdl_reply {
     uint64_t links;                  /* links that were followed to reach a block */
 } mdl_reply;
 
-/* Makes a disk of `blocks` blocks, of which `pool` can be mapped or anchored at once, as it is
+/* Makes a disk of the base profile, of `blocks` blocks, of which `pool` can be mapped or anchored at once, as it is
  * after power on: no block is mapped, and a unit attention, POWER ON, is pending for each
  * initiator. It takes some 610 bytes of memory for each block of the pool, and some 7,000 more.
  *     disk      MDL_NONE, or freed. It is to be freed by mdl_free
@@ -120,6 +127,12 @@ typedef struct mdl_reply {
  * MDL_NULL_POINTER, MDL_IDENTITY_TEXT, MDL_IDENTITY_LOCAL, MDL_DISK_EXISTS, MDL_BLOCKS, MDL_POOL or
  * MDL_OUT_OF_MEMORY: the first that applies, and `disk` is as it was. */
 mdl_error mdl_make(mdl_disk *disk, uint64_t blocks, uint32_t pool, const mdl_identity *identity);
+
+/* Makes a disk as mdl_make does, of a profile: one of mdl_profile.
+ * MDL_NULL_POINTER, MDL_UNKNOWN_PROFILE, or what mdl_make returns: the first that applies, and `disk`
+ * is as it was. */
+mdl_error mdl_make_with_profile(mdl_disk *disk, uint32_t profile, uint64_t blocks, uint32_t pool,
+                                const mdl_identity *identity);
 
 /* Frees a disk, which is MDL_NONE then. Null and MDL_NONE serve, and nothing is done. */
 void mdl_free(mdl_disk *disk);
@@ -141,6 +154,18 @@ mdl_error mdl_execute(mdl_disk *disk, uint32_t initiator, const uint8_t *cdb, si
  * The saved mode pages are the current ones, PRGENERATION is 0, and POWER ON alone is pending for
  * each initiator. MDL_NULL_POINTER or MDL_NO_DISK. */
 mdl_error mdl_power_cycle(mdl_disk *disk);
+
+/* Which initiators are registered, by PERSISTENT RESERVE OUT: bit i of `mask` is set if initiator i
+ * is, and its other bits are not. A transport keeps the number of such an initiator's port for it.
+ * Nothing is executed: no unit attention is reported or cleared.
+ *     mask  is written
+ * MDL_NULL_POINTER or MDL_NO_DISK: `mask` is as it was. */
+mdl_error mdl_registered(mdl_disk *disk, uint32_t *mask);
+
+/* The port of an initiator, 0 to 7, is gone: clears the unit attentions that are pending for it, so
+ * that the next port with its number begins without them. All else is as it was, registrations and
+ * reservation too. MDL_NULL_POINTER, MDL_NO_INITIATOR or MDL_NO_DISK: the first that applies. */
+mdl_error mdl_forget(mdl_disk *disk, uint32_t initiator);
 
 /* The fields of sense data. A field that is not there is 0. */
 typedef struct mdl_sense {

@@ -1,6 +1,7 @@
 #!/usr/bin/env python3
 """What examples/python/mehdalung.py has beside what the first minute uses."""
-from mehdalung import (CHECK_CONDITION, GOOD, Disk, Error, Kind, Refused, decode, identity, version)
+from mehdalung import (CHECK_CONDITION, GOOD, Disk, Error, Kind, Profile, Refused, decode, identity,
+                       version)
 
 TEST_UNIT_READY = bytes(6)
 INQUIRY = bytes.fromhex("120000002400")
@@ -33,8 +34,15 @@ with Disk(64, 4, identity("ACME", "DISK", "0200", "00000042", 42)) as disk:
         assert refusal(disk.execute, initiator, TEST_UNIT_READY) is ValueError
     assert refusal(disk.tool, 0, "sg_foo") == Error.UNKNOWN_TOOL
     assert refusal(disk.tool, 0, "sg_inq\0") is ValueError
+    assert disk.execute(2, TEST_UNIT_READY).status == CHECK_CONDITION
+    assert disk.tool(2, "sg_persist -o -G -S 2").status == GOOD and disk.registered() == {2}
     disk.power_cycle()
+    assert disk.registered() == set()
+    disk.forget(2)
+    assert disk.execute(2, TEST_UNIT_READY).status == GOOD
+    assert refusal(disk.forget, 8) == Error.NO_INITIATOR
     disk.close()
+    assert refusal(disk.registered) == Error.NO_DISK
     assert refusal(disk.power_cycle) == Error.NO_DISK
 slot = Disk(64, 4).slot
 assert slot.target is None
@@ -42,6 +50,10 @@ for blocks, pool, why in ((0, 4, Error.BLOCKS), (64, 65_537, Error.POOL), (-1, 4
                           ((1 << 64) + 64, 4, ValueError), (64, (1 << 32) + 4, ValueError)):
     assert refusal(Disk, blocks, pool) == why
 assert refusal(Disk, 64, 4, identity("\x7f")) == Error.IDENTITY_TEXT
+with Disk(64, 4, profile=Profile.EXTENDED) as disk:
+    assert disk.execute(0, INQUIRY).status == GOOD
+assert refusal(Disk, 64, 4, None, 2) == Error.UNKNOWN_PROFILE
+assert refusal(Disk, 64, 4, None, 1 << 32) is ValueError
 assert refusal(identity, "NINE BYTE") is ValueError and refusal(identity, "\xe9") is ValueError
 assert refusal(decode, 13, b"") is ValueError
 print(version())

@@ -1,6 +1,7 @@
 /* Random commands, from a seed:
  *     random script SEED COUNT       prints them as a script of sgrun
  *     random run SEED COUNT          executes them by the library, and prints what sgrun prints
+ *     random extended SEED COUNT     does so by a disk of the extended profile
  *     random shared SEED COUNT       does so by four threads, which take turns at one disk
  *     random threads SEED COUNT DIR  does so for SEED to SEED + 3, in a thread each with a disk each,
  *                                    into DIR/SEED */
@@ -122,12 +123,13 @@ struct run {
     pthread_mutex_t lock;
 };
 
-static int begin_run(struct run *it, uint64_t seed, unsigned long count, FILE *out)
+static int begin_run(struct run *it, mdl_profile profile, uint64_t seed, unsigned long count,
+                     FILE *out)
 {
     *it = (struct run){ .disk = MDL_NONE, .seed = seed, .count = count, .out = out,
                         .lock = PTHREAD_MUTEX_INITIALIZER };
     it->data_in = malloc(MDL_BUFFER_LENGTH);
-    return it->data_in && !mdl_make(&it->disk, BLOCKS, POOL, NULL) ? 0 : 99;
+    return it->data_in && !mdl_make_with_profile(&it->disk, profile, BLOCKS, POOL, NULL) ? 0 : 99;
 }
 
 static void end_run(struct run *it)
@@ -163,11 +165,11 @@ static int next_line(struct run *it)
     return 0;
 }
 
-static int run(uint64_t seed, unsigned long count, FILE *out)
+static int run(mdl_profile profile, uint64_t seed, unsigned long count, FILE *out)
 {
     struct run it;
 
-    if (begin_run(&it, seed, count, out))
+    if (begin_run(&it, profile, seed, count, out))
         return 99;
     while (!next_line(&it))
         ;
@@ -197,7 +199,7 @@ static int run_shared(uint64_t seed, unsigned long count)
     struct run it;
     int at;
 
-    if (begin_run(&it, seed, count, stdout))
+    if (begin_run(&it, MDL_PROFILE_BASE, seed, count, stdout))
         return 99;
     for (at = 0; at < 4; at++)
         if (start_small_thread(&threads[at], take_turns, &it))
@@ -223,7 +225,7 @@ static void *work(void *argument)
 
     snprintf(name, sizeof name, "%s/%" PRIu64, it->folder, it->seed);
     out = fopen(name, "w");
-    it->status = out ? run(it->seed, it->count, out) : 99;
+    it->status = out ? run(MDL_PROFILE_BASE, it->seed, it->count, out) : 99;
     if (out && fclose(out))
         it->status = 99;
     return NULL;
@@ -255,8 +257,9 @@ int main(int count, char **words)
         print_script(strtoull(words[2], NULL, 10), strtoul(words[3], NULL, 10));
         return 0;
     }
-    if (strcmp(words[1], "run") == 0)
-        return run(strtoull(words[2], NULL, 10), strtoul(words[3], NULL, 10), stdout);
+    if (strcmp(words[1], "run") == 0 || strcmp(words[1], "extended") == 0)
+        return run(words[1][0] == 'r' ? MDL_PROFILE_BASE : MDL_PROFILE_EXTENDED,
+                   strtoull(words[2], NULL, 10), strtoul(words[3], NULL, 10), stdout);
     if (strcmp(words[1], "shared") == 0)
         return run_shared(strtoull(words[2], NULL, 10), strtoul(words[3], NULL, 10));
     return count > 4 ? run_threads(strtoull(words[2], NULL, 10), strtoul(words[3], NULL, 10), words[4]) : 2;

@@ -20,17 +20,6 @@
 #include "mehdalung.h"
 #include "ports.h"
 
-/* PERSISTENT RESERVE IN, READ FULL STATUS, and its data-in (SPC-4, 6.15.5): a header, and for each
- * registration a descriptor, the TransportID in which names a SAS address that ends with the number
- * of the initiator. docs/PROFILE.md has the bytes. */
-enum {
-    FULL_STATUS_CDB_LENGTH = 10,
-    FULL_STATUS_HEADER = 8,
-    FULL_STATUS_DESCRIPTOR = 48,
-    INITIATOR_IN_DESCRIPTOR = 35,
-    INITIATOR_MASK = 0x0F
-};
-
 /* tgtd's TransportIDs: 4 bytes, the name, a zero, the text ",i,0x" and the ISID as it is. In SPC-4,
  * 7.6.4, the ISID is in hexadecimal. */
 enum { TRANSPORT_ID_HEADER = 4, ISID_SEPARATOR = 5 };
@@ -38,14 +27,10 @@ enum { TRANSPORT_ID_HEADER = 4, ISID_SEPARATOR = 5 };
 /* The length of the longest CDB of a command of the disk. */
 enum { TRACED_CDB = 16 };
 
-/* The most unit attentions that are pending for an initiator: there are five conditions. */
-enum { UNIT_ATTENTIONS = 5 };
-
 /* What tgtd keeps of a logical unit behind its own record. */
 struct unit {
     mdl_disk disk;
     struct port_table table;
-    unsigned registered; /* bit i is set where initiator i is registered */
 };
 
 _Static_assert(PORT_NUMBERS == MDL_INITIATORS, "a number for each initiator");
@@ -84,20 +69,6 @@ static unsigned numbers_with_session(struct scsi_lu *lu)
     return found;
 }
 
-/* Takes away the unit attentions that are pending for an initiator whose port is gone. */
-static void clear_unit_attentions(struct unit *unit, uint32_t initiator)
-{
-    static const uint8_t test_unit_ready[6];
-    mdl_reply reply;
-    int left = UNIT_ATTENTIONS;
-
-    do
-        if (mdl_execute(&unit->disk, initiator, test_unit_ready, sizeof test_unit_ready, NULL, 0,
-                        data_in, sizeof data_in, &reply))
-            return;
-    while (reply.status != MDL_GOOD && --left > 0);
-}
-
 /* Writes the name of a port to the log, as RFC 7143, 4.4.1, has it: NAME,i,0xISID. */
 static void log_number(const struct scsi_lu *lu, int number, const struct port *port)
 {
@@ -108,17 +79,20 @@ static void log_number(const struct scsi_lu *lu, int number, const struct port *
             name, isid[0], isid[1], isid[2], isid[3], isid[4], isid[5]);
 }
 
-/* Gives a number to a port that has none, or NO_NUMBER. */
+/* Gives a number to a port that has none, or NO_NUMBER. The disk forgets the port that had it. */
 static int take_number(struct scsi_lu *lu, const struct port *port)
 {
     struct unit *unit = unit_of(lu);
-    int all_were_used = unit->table.last_use[PORT_NUMBERS - 1] != 0;
-    int number = port_take_number(&unit->table, port, unit->registered | numbers_with_session(lu));
+    int all_were_used = unit->table.last_use[PORT_NUMBERS - 1] != 0, number;
+    uint32_t registered;
 
+    if (mdl_registered(&unit->disk, &registered))
+        return NO_NUMBER;
+    number = port_take_number(&unit->table, port, registered | numbers_with_session(lu));
     if (number == NO_NUMBER)
         return NO_NUMBER;
-    if (all_were_used)
-        clear_unit_attentions(unit, (uint32_t)number);
+    if (all_were_used && mdl_forget(&unit->disk, (uint32_t)number))
+        return NO_NUMBER;
     log_number(lu, number, port);
     return number;
 }
@@ -138,26 +112,6 @@ static int initiator_of(struct scsi_cmd *cmd)
         return take_number(lu, &port);
     port_use(table, number);
     return number;
-}
-
-/* Asks the disk who is registered. It is asked as the initiator whose PERSISTENT RESERVE OUT has
- * just ended with GOOD: no unit attention is pending for that one, so none is lost by asking. */
-static void read_registrations(struct unit *unit, uint32_t initiator)
-{
-    static const uint8_t read_full_status[FULL_STATUS_CDB_LENGTH] = {
-        PERSISTENT_RESERVE_IN, PR_IN_READ_FULL_STATUS, [7] = 0xFF, [8] = 0xFF
-    };
-    mdl_reply reply;
-    size_t at;
-
-    if (mdl_execute(&unit->disk, initiator, read_full_status, sizeof read_full_status, NULL, 0,
-                    data_in, sizeof data_in, &reply)
-        || reply.status != MDL_GOOD)
-        return;
-    unit->registered = 0;
-    for (at = FULL_STATUS_HEADER; at + FULL_STATUS_DESCRIPTOR <= reply.data_in_length;
-         at += FULL_STATUS_DESCRIPTOR)
-        unit->registered |= 1u << (data_in[at + INITIATOR_IN_DESCRIPTOR] & INITIATOR_MASK);
 }
 
 /* Hands a reply over to tgtd: the status is returned. */
@@ -197,7 +151,7 @@ static void trace(struct scsi_cmd *cmd, int initiator, const mdl_reply *reply)
 static int execute(int tid, struct scsi_cmd *cmd)
 {
     struct unit *unit = unit_of(cmd->dev);
-    int initiator = initiator_of(cmd), status;
+    int initiator = initiator_of(cmd);
     mdl_reply reply;
 
     (void)tid;
@@ -214,15 +168,10 @@ static int execute(int tid, struct scsi_cmd *cmd)
     }
     if (is_debug)
         trace(cmd, initiator, &reply);
-    status = deliver(cmd, &reply);
-    if (cmd->scb[0] == PERSISTENT_RESERVE_OUT && status == MDL_GOOD)
-        read_registrations(unit, (uint32_t)initiator);
-    return status;
+    return deliver(cmd, &reply);
 }
 
-/* `--op update --params power=cycle`, as tgtadm sends it, and no other parameter. Registrations may
- * be gone then: `registered` still has them until the next PERSISTENT RESERVE OUT, so that their
- * ports keep their numbers longer than they need to. */
+/* `--op update --params power=cycle`, as tgtadm sends it, and no other parameter. */
 static tgtadm_err update(struct scsi_lu *lu, char *params)
 {
     if (strcmp(params, "targetOps power=cycle,") != 0)
@@ -277,7 +226,6 @@ static int open_disk(struct scsi_lu *lu, char *path, int *fd, uint64_t *size)
         return -EINVAL;
     }
     memset(&unit->table, 0, sizeof unit->table);
-    unit->registered = 0;
     *fd = -1;
     *size = blocks * MDL_BLOCK_LENGTH;
     return 0;

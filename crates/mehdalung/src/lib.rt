@@ -4,21 +4,24 @@
 //! `embed/mehdalung.c` tests the pointers of C, and calls these.
 #![tactic(auto)]
 
-ghost use Rattle.std.specs.Prelude.{◌≡◌, ◌≢◌, None, Some, IfOk, MatchOption, length};
+ghost use Rattle.std.specs.Prelude.{◌≡◌, ◌≢◌, None, Some, IfOk, MatchOption, Ok, IfErr, length};
 ghost use Rattle.sg_pages.specs.Identity.{standard_identity};
 ghost use Rattle.sg_tools.specs.ExitStatus.{exit_status};
 ghost use Rattle.sg_wire.specs.SenseData.{read_sense};
-ghost use Rattle.sg_embed.specs.Executed.{IsAnswered, IsPowerCycled, disk_config, new_disk};
-ghost use Rattle.sg_embed.specs.Outcome.{IsCodeUnlessOutOfMemory, execute_outcome, make_outcome};
-ghost use Rattle.sg_embed.specs.Outcome.{make_as_outcome, outcome_code, plan_outcome};
-ghost use Rattle.sg_embed.specs.Outcome.{power_cycle_outcome};
+ghost use Rattle.sg_embed.specs.Executed.{IsAnswered, IsForgotten, IsPowerCycled, disk_config};
+ghost use Rattle.sg_embed.specs.Executed.{new_disk, registrants};
+ghost use Rattle.sg_embed.specs.Outcome.{IsCodeUnlessOutOfMemory, execute_outcome};
+ghost use Rattle.sg_embed.specs.Outcome.{forget_outcome, make_as_outcome, make_outcome};
+ghost use Rattle.sg_embed.specs.Outcome.{make_with_outcome, outcome_code};
+ghost use Rattle.sg_embed.specs.Outcome.{plan_outcome, power_cycle_outcome};
 ghost use Rattle.sg_embed.specs.Planned.{IsPlanned};
+ghost use Rattle.sg_embed.specs.Profiles.{identity_with_profile};
 ghost use Rattle.sg_embed.specs.Records.{asked_identity, sense_record};
 ghost use Rattle.sg_embed.specs.Text.{IsDecoded, text_in, version_text};
 
 use sg_embed::{
     CommandRecord, IdentityRecord, Outcome, ReplyRecord, SenseRecord, Slot, copy_version, decode,
-    plan_tool,
+    identity_with_profile, plan_tool,
 };
 use sg_pages::Identity;
 use sg_tools::status_of;
@@ -54,6 +57,73 @@ pub extern "C" fn mehdalung_make_as(
     match identity.read() {
         Ok(names) => disk.make(alloc, blocks, pool, names).code(),
         Err(fault) => Outcome::of_identity(fault).code(),
+    }
+}
+
+/// Makes a disk of a profile with the standard identity.
+#[unsafe(no_mangle)]
+pub extern "C" fn mehdalung_make_with_profile(
+    alloc: Global,
+    disk: &mut Slot,
+    profile: u32,
+    blocks: u64,
+    pool: u32,
+) -> u32
+    ensures outcome { IsCodeUnlessOutOfMemory
+        (make_with_outcome disk.old.held blocks pool
+        (identity_with_profile profile (Ok standard_identity))) result }
+    ensures made { result ≡ 0 → IfOk (identity_with_profile profile (Ok standard_identity))
+        (λ names. disk.new.held ≡ Some (new_disk (disk_config blocks pool names))) }
+    ensures refused { result ≢ 0 → disk.new.held ≡ disk.old.held }
+{
+    let identity = identity_with_profile(profile, Ok(Identity::standard()));
+    make_with(alloc, disk, blocks, pool, identity)
+}
+
+/// Makes a disk of a profile with an identity of its own.
+#[unsafe(no_mangle)]
+pub extern "C" fn mehdalung_make_as_with_profile(
+    alloc: Global,
+    disk: &mut Slot,
+    profile: u32,
+    blocks: u64,
+    pool: u32,
+    identity: &IdentityRecord,
+) -> u32
+    ensures outcome { IsCodeUnlessOutOfMemory
+        (make_with_outcome disk.old.held blocks pool
+        (identity_with_profile profile (asked_identity identity.now))) result }
+    ensures made { result ≡ 0 → IfOk (identity_with_profile profile (asked_identity identity.now))
+        (λ names. disk.new.held ≡ Some (new_disk (disk_config blocks pool names))) }
+    ensures refused { result ≢ 0 → disk.new.held ≡ disk.old.held }
+{
+    make_with(
+        alloc,
+        disk,
+        blocks,
+        pool,
+        identity_with_profile(profile, identity.read()),
+    )
+}
+
+/// Makes a disk with an identity, unless the identity was refused.
+fn make_with(
+    alloc: Global,
+    disk: &mut Slot,
+    blocks: u64,
+    pool: u32,
+    identity: Result<Identity, Outcome>,
+) -> u32
+    requires { IfErr identity (λ outcome. outcome ≢ Outcome.Done) }
+    ensures outcome { IsCodeUnlessOutOfMemory
+        (make_with_outcome disk.old.held blocks pool identity) result }
+    ensures made { result ≡ 0 → IfOk identity
+        (λ names. disk.new.held ≡ Some (new_disk (disk_config blocks pool names))) }
+    ensures refused { result ≢ 0 → disk.new.held ≡ disk.old.held }
+{
+    match identity {
+        Ok(identity) => disk.make(alloc, blocks, pool, identity).code(),
+        Err(outcome) => outcome.code(),
     }
 }
 
@@ -97,6 +167,33 @@ pub extern "C" fn mehdalung_power_cycle(disk: &mut Slot) -> u32
     ensures refused { result ≢ 0 → disk.new.held ≡ disk.old.held }
 {
     disk.power_cycle().code()
+}
+
+/// A mask of the initiators that are registered. The mask stays as it was if there is no disk.
+#[unsafe(no_mangle)]
+pub extern "C" fn mehdalung_registered(disk: &mut Slot, mask: &mut u32) -> u32
+    ensures mask { MatchOption (registrants disk.old.held)
+        ((result ≡ outcome_code Outcome.NoDisk) × (mask.new ≡ mask.old))
+        (λ registered. (result ≡ 0) × (mask.new ≡ registered)) }
+    ensures kept { disk.new.held ≡ disk.old.held }
+{
+    match disk.registrants() {
+        Some(registered) => {
+            *mask = registered;
+            Outcome::Done.code()
+        }
+        None => Outcome::NoDisk.code(),
+    }
+}
+
+/// Clears the unit attentions that are pending for an initiator whose port is gone.
+#[unsafe(no_mangle)]
+pub extern "C" fn mehdalung_forget(disk: &mut Slot, initiator: u32) -> u32
+    ensures outcome { result ≡ outcome_code (forget_outcome disk.old.held initiator) }
+    ensures forgotten { result ≡ 0 → IsForgotten initiator disk.old.held disk.new.held }
+    ensures refused { result ≢ 0 → disk.new.held ≡ disk.old.held }
+{
+    disk.forget(initiator).code()
 }
 
 /// Plans the command that the words of a text ask a tool for.

@@ -1,12 +1,14 @@
 -- The effects of the calls on a disk.
-use Rattle.std.specs.Prelude.{◌≡◌, ℕ, List, Option, Some}
+use Rattle.std.specs.Prelude.{◌≡◌, ℕ, List, Option, None, Some}
 use Rattle.sg_pages.specs.Identity.{IdentityFields}
 use Rattle.sg_store.specs.Meter.{new_meter}
+use Rattle.sg_units.specs.Registrations.{registered_mask}
 use Rattle.sg_block_map.specs.RunCost.{block_price, block_least}
 use Rattle.sg_target.specs.Charge.{ChargesCommand, cost_bounds}
 use Rattle.sg_target.specs.Config.{ConfigFields}
 use Rattle.sg_target.specs.Execution.{IsExecuted}
 use Rattle.sg_target.specs.Happenings.{Happens}
+use Rattle.sg_target.specs.Ports.{Forgets}
 use Rattle.sg_target.specs.State.{new_state}
 use Rattle.sg_target.specs.Target.{TargetFields}
 use Rattle.sg_target.specs.declared.happening.Happening.TheVariants.{Power}
@@ -35,6 +37,15 @@ pub record HappensToDisk (event : (old new : TargetFields) → Type 0) (old new 
 -- The disk has lost power, and power is on again.
 abbrev pub IsPowerCycled : (old new : Option Kept) → Type 0
 IsPowerCycled = HappensToDisk (Happens Power)
+
+-- The disk has forgotten an initiator's port.
+abbrev pub IsForgotten : (initiator : ℕ) → (old new : Option Kept) → Type 0
+IsForgotten initiator = HappensToDisk (Forgets initiator)
+
+-- The mask of a disk's registrants, if there is a disk.
+abbrev pub registrants : Option Kept → Option ℕ
+registrants None = None
+registrants (Some disk) = Some (registered_mask disk.target.state.reservations.registrations)
 
 -- A target executes a command, and its store is charged for it.
 pub record ExecutesCommand (initiator : ℕ) (cdb data_out : List ℕ) (reply : Reply)

@@ -1,6 +1,7 @@
 -- Modules that public contracts cite. Read them in this order.
 pub mod Holds
 pub mod Outcome
+pub mod Profiles
 pub mod Executed
 pub mod Records
 pub mod InMemory

@@ -25,6 +25,7 @@ use Rattle.sg_embed.specs.declared.outcome.Outcome.TheVariants.{IdentityText, Id
 use Rattle.sg_embed.specs.declared.outcome.Outcome.TheVariants.{UnknownInitiator, BufferTooShort, Unreadable}
 use Rattle.sg_embed.specs.declared.outcome.Outcome.TheVariants.{BadByte, TooManyWords, UnknownTool}
 use Rattle.sg_embed.specs.declared.outcome.Outcome.TheVariants.{Usage, Exclusive, Number}
+use Rattle.sg_embed.specs.declared.outcome.Outcome.TheVariants.{UnknownProfile}
 
 -- The numbers of the header. Number 10 is MDL_NULL_POINTER: the functions that test C's pointers
 -- return it before any call that is defined here.
@@ -46,6 +47,7 @@ outcome_code UnknownTool = 14
 outcome_code Usage = 15
 outcome_code Exclusive = 16
 outcome_code Number = 17
+outcome_code UnknownProfile = 18
 
 -- A call asks for memory before it ends with this outcome.
 abbrev pub has_asked : Outcome → Bool
@@ -95,6 +97,11 @@ execute_outcome held initiator room =
     if not (nat_lt initiator initiator_count) then UnknownInitiator else
     (if not (nat_le longest_data_in room) then BufferTooShort else disk_outcome held)
 
+-- The outcome of forgetting an initiator's port. The initiator is checked first.
+abbrev pub forget_outcome : Option Kept → (initiator : ℕ) → Outcome
+forget_outcome held initiator =
+    if not (nat_lt initiator initiator_count) then UnknownInitiator else disk_outcome held
+
 abbrev pub power_cycle_outcome : Option Kept → Outcome
 power_cycle_outcome = disk_outcome
 
@@ -102,6 +109,12 @@ power_cycle_outcome = disk_outcome
 abbrev pub make_as_outcome : Option Kept → (blocks pool : ℕ) → Result IdentityFields IdentityFault → Outcome
 make_as_outcome held blocks pool (Ok identity) = make_outcome held (disk_config blocks pool identity)
 make_as_outcome held blocks pool (Err fault) = identity_outcome fault
+
+-- The outcome of making a disk with an identity that has the profile that was asked for, or of which
+-- it is known why it is refused.
+abbrev pub make_with_outcome : Option Kept → (blocks pool : ℕ) → Result IdentityFields Outcome → Outcome
+make_with_outcome held blocks pool (Ok identity) = make_outcome held (disk_config blocks pool identity)
+make_with_outcome held blocks pool (Err outcome) = outcome
 
 abbrev pub tool_fault_outcome : ToolFault → Outcome
 tool_fault_outcome tool_fault.Usage = Usage

@@ -41,6 +41,8 @@ pub enum Outcome {
     Exclusive = 16,
     /// The text of an option has no value, or one that is out of range.
     Number = 17,
+    /// No profile has the number.
+    UnknownProfile = 18,
 }
 
 ghost use Rattle.std.specs.Prelude.{◌≡◌};

@@ -110,9 +110,10 @@ impl Drop for Slot {
 
 impl Slot {
     ghost use Rattle.std.specs.Prelude.{◌≢◌, ◌≡◌, length};
-    ghost use Rattle.sg_embed.specs.Executed.{IsAnswered, IsPowerCycled, disk_config, new_disk};
-    ghost use Rattle.sg_embed.specs.Outcome.{IsUnlessOutOfMemory, execute_outcome, make_outcome};
-    ghost use Rattle.sg_embed.specs.Outcome.{power_cycle_outcome};
+    ghost use Rattle.sg_embed.specs.Executed.{IsAnswered, IsForgotten, IsPowerCycled};
+    ghost use Rattle.sg_embed.specs.Executed.{disk_config, new_disk, registrants};
+    ghost use Rattle.sg_embed.specs.Outcome.{IsUnlessOutOfMemory, execute_outcome, forget_outcome};
+    ghost use Rattle.sg_embed.specs.Outcome.{make_outcome, power_cycle_outcome};
 
     /// Makes a disk as it is after power on, with `blocks` logical blocks. At most `pool` of them
     /// can be mapped at once. All memory is taken here. The disk stays as it was if the call
@@ -186,6 +187,35 @@ impl Slot {
             return Outcome::NoDisk;
         };
         kept.target.power_cycle();
+        Outcome::Done
+    }
+
+    /// A mask of the initiators that are registered: bit i is set if initiator i is. None if there
+    /// is no disk.
+    pub fn registrants(&mut self) -> Option<u32>
+        ensures value { result ≡ registrants self.old.held }
+        ensures kept { self.new.held ≡ self.old.held }
+    {
+        let kept = self.kept()?;
+        Some(u32::from(kept.target.registered_mask()))
+    }
+
+    /// Clears the unit attentions that are pending for an initiator whose port is gone. The disk
+    /// stays as it was if the call returns another outcome than `Done`: an initiator that is not 0
+    /// to 7, or no disk.
+    pub fn forget(&mut self, initiator: u32) -> Outcome
+        ensures outcome { result ≡ forget_outcome self.old.held initiator }
+        ensures forgotten { result ≡ Outcome.Done
+            → IsForgotten initiator self.old.held self.new.held }
+        ensures refused { result ≢ Outcome.Done → self.new.held ≡ self.old.held }
+    {
+        let Some(gone) = known_initiator(initiator) else {
+            return Outcome::UnknownInitiator;
+        };
+        let Some(kept) = self.kept() else {
+            return Outcome::NoDisk;
+        };
+        kept.target.forget(gone);
         Outcome::Done
     }
 

@@ -21,6 +21,7 @@ pub mod Execution
 pub mod Charge
 pub mod PowerCycle
 pub mod Happenings
+pub mod Ports
 pub mod Runs
 pub mod Laws
 pub mod CommandLaws

@@ -16,6 +16,7 @@ mod joining;
 pub mod laws;
 mod mode;
 mod operation;
+mod port;
 mod primary;
 mod provisioning;
 mod refusal;

@@ -13,7 +13,7 @@ use Rattle.sg_units.specs.Attentions.{AreDistinct, ArePending, AreQueues, IsNotA
 use Rattle.sg_units.specs.Attentions.{Pending, is_pending, pending_for, power_on_pending}
 use Rattle.sg_units.specs.Attentions.{with_optional, without_oldest}
 use Rattle.sg_units.specs.Raised.{Conditions, queue_after, raised_for_each}
-use Rattle.sg_units.specs.UnitAttention.{number_of}
+use Rattle.sg_units.specs.UnitAttention.{condition_count, number_of}
 use Rattle.sg_units.specs.declared.unit_attention.UnitAttention.{UnitAttention}
 use Rattle.sg_units.specs.declared.unit_attention.UnitAttention.TheVariants.{PowerOn, ModeParametersChanged}
 use Rattle.sg_units.specs.declared.unit_attention.UnitAttention.TheVariants.{ReservationsPreempted}
@@ -96,24 +96,24 @@ once (c ∷ cs) number h =
     let step = times-cons number c cs in
     omega arith
 
--- ---- At most five
+-- ---- At most as many as exist
 
--- each condition is one of the five
-of_five : List UnitAttention → ℕ
-of_five queue =
+-- each condition is one of those that exist
+of_each : List UnitAttention → ℕ
+of_each queue =
     times (number_of PowerOn) queue + times (number_of ModeParametersChanged) queue
     + times (number_of ReservationsPreempted) queue + times (number_of ReservationsReleased) queue
     + times (number_of RegistrationsPreempted) queue
 
-of_five-nil : 0 ≡ of_five []
-unfolding of_five
-of_five-nil = refl
+of_each-nil : 0 ≡ of_each []
+unfolding of_each
+of_each-nil = refl
 
 -- the part that one more condition adds
-of_five-cons : (c : UnitAttention) (cs : List UnitAttention)
-    → of_five (c ∷ cs) ≡ of_five (c ∷ []) + of_five cs
-unfolding of_five
-of_five-cons c cs =
+of_each-cons : (c : UnitAttention) (cs : List UnitAttention)
+    → of_each (c ∷ cs) ≡ of_each (c ∷ []) + of_each cs
+unfolding of_each
+of_each-cons c cs =
     omega (
       arith,
       times-cons (number_of PowerOn) c cs,
@@ -128,22 +128,22 @@ of_five-cons c cs =
       times-cons (number_of RegistrationsPreempted) c [],
     )
 
-of_five-one : (c : UnitAttention) → of_five (c ∷ []) ≡ 1
-unfolding of_five
-of_five-one PowerOn = refl
-of_five-one ModeParametersChanged = refl
-of_five-one ReservationsPreempted = refl
-of_five-one ReservationsReleased = refl
-of_five-one RegistrationsPreempted = refl
+of_each-one : (c : UnitAttention) → of_each (c ∷ []) ≡ 1
+unfolding of_each
+of_each-one PowerOn = refl
+of_each-one ModeParametersChanged = refl
+of_each-one ReservationsPreempted = refl
+of_each-one ReservationsReleased = refl
+of_each-one RegistrationsPreempted = refl
 
-length-of_five : (queue : List UnitAttention) → length queue ≡ of_five queue
-length-of_five [] = of_five-nil
-length-of_five (c ∷ cs) = omega (arith, length-of_five cs, of_five-cons c cs, of_five-one c)
+length-of_each : (queue : List UnitAttention) → length queue ≡ of_each queue
+length-of_each [] = of_each-nil
+length-of_each (c ∷ cs) = omega (arith, length-of_each cs, of_each-cons c cs, of_each-one c)
 
 fewer : (condition : UnitAttention) (n : ℕ) (queue : List UnitAttention)
     → times (number_of condition) queue ≡ 0 → ((number : ℕ) → times number queue ≤ 1)
-    → n ≡ of_five queue → n < 5
-unfolding of_five
+    → n ≡ of_each queue → n < condition_count
+unfolding of_each
 fewer PowerOn n queue z h e =
     omega (
       arith,
@@ -187,10 +187,10 @@ fewer RegistrationsPreempted n queue z h e =
 
 -- so there is room for a condition that is not pending
 pub room : (queue : List UnitAttention) (condition : UnitAttention) → IsQueue queue
-    → is_pending queue condition ≡ false → length queue < 5
+    → is_pending queue condition ≡ false → length queue < condition_count
 room queue condition q e =
     fewer condition (length queue) queue (times-not_pending condition queue e)
-    (λ number. once queue number q.distinct) (length-of_five queue)
+    (λ number. once queue number q.distinct) (length-of_each queue)
 
 -- ---- A queue that changes
 
@@ -236,7 +236,7 @@ IsQueue-drop (first ∷ rest) q =
 one-queue : IsQueue (PowerOn ∷ [])
 one-queue = record { limit = omega arith; distinct = (tt, tt) }
 
-no-queue : IsQueue []
+pub no-queue : IsQueue []
 no-queue = record { limit = omega arith; distinct = tt }
 
 -- after power on

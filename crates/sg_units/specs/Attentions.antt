@@ -32,6 +32,10 @@ abbrev pub without_oldest : Pending → (initiator : ℕ) → Pending
 without_oldest pending initiator =
     slice_set pending initiator (drop 1 (pending_for pending initiator))
 
+-- All conditions of an initiator are cleared.
+abbrev pub without_attentions : Pending → (initiator : ℕ) → Pending
+without_attentions pending initiator = slice_set pending initiator []
+
 -- Two conditions are the same.
 abbrev pub is_condition : UnitAttention → UnitAttention → Bool
 is_condition condition other = number_of other == number_of condition

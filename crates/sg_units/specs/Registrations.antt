@@ -1,7 +1,7 @@
 -- Registrations, in the order in which they were made (SPC-4, 5.13, registering).
-use Rattle.std.specs.Prelude.{ℕ, ◌==◌, Bool, not, ◌&&◌, ◌||◌, if◌then◌else◌}
+use Rattle.std.specs.Prelude.{ℕ, ◌^◌, ◌==◌, Bool, not, ◌&&◌, ◌||◌, if◌then◌else◌, bit_or}
 use Rattle.std.specs.Prelude.{List, [], ◌∷◌, ◌++◌, map, filter, find, count_by, Option, option_map}
-use Rattle.std.specs.List.{list_any}
+use Rattle.std.specs.List.{fold, list_any}
 use Rattle.sg_units.specs.declared.registrations.Registration.{Registration}
 
 -- The number of registrations that there is room for.
@@ -29,6 +29,10 @@ is_registered_under registrations initiator key =
 -- Some initiator is registered under a key.
 abbrev pub has_key : List Registration → (key : ℕ) → Bool
 has_key registrations key = list_any (is_under key) registrations
+
+-- A mask of the registrants. Initiator i has bit i.
+abbrev pub registered_mask : List Registration → ℕ
+registered_mask registrations = fold bit_or 0 (map (λ r. 2 ^ r.initiator) registrations)
 
 -- The reservation key of an initiator.
 abbrev pub key_of : List Registration → (initiator : ℕ) → Option ℕ

@@ -5,14 +5,11 @@ use sg_wire::Initiator;
 use std::array;
 use std::marker::Model;
 
-/// The most conditions that can be pending for an initiator: as many as exist.
-const MAX_PENDING: usize = UnitAttention::COUNT;
-
 /// The unit attention conditions that are pending for each initiator, the oldest first (SAM-5,
 /// 5.14). For one initiator none is pending twice, so at most [`UnitAttention::COUNT`] are.
 #[derive(Drop)]
 pub struct Attentions {
-    pending: [ArrayVec<UnitAttention, MAX_PENDING>; Initiator::COUNT],
+    pending: [ArrayVec<UnitAttention, { UnitAttention::COUNT }>; Initiator::COUNT],
 }
 
 impl Model for Attentions {
@@ -30,7 +27,8 @@ impl Model for Attentions {
 ghost use Rattle.std.specs.Prelude.{◌≡◌, ◌<◌, [], ◌∷◌, drop, slice_set};
 ghost use Rattle.sg_wire.specs.Initiator.{initiator_count};
 ghost use Rattle.sg_units.specs.Attentions.{ArePending, IsQueue, is_pending, oldest, pending_for};
-ghost use Rattle.sg_units.specs.Attentions.{power_on_pending, raised, with_optional, without_oldest};
+ghost use Rattle.sg_units.specs.Attentions.{power_on_pending, raised, with_optional};
+ghost use Rattle.sg_units.specs.Attentions.{without_attentions, without_oldest};
 ghost use Rattle.sg_units.specs.Raised.{raised_for_each};
 
 impl Attentions {
@@ -91,6 +89,14 @@ impl Attentions {
         remove_first(&mut self.pending[usize::from(initiator.number())]);
     }
 
+    /// Clears all conditions of an initiator.
+    pub fn clear(&mut self, initiator: Initiator)
+        ensures pending { self.new ≡ without_attentions self.old initiator }
+        ensures limits { ArePending self.new }
+    {
+        self.pending[usize::from(initiator.number())].clear();
+    }
+
     /// Clears all conditions, and establishes POWER ON for each initiator, as a power cycle does.
     pub fn clear_to_power_on(&mut self)
         ensures pending { self.new ≡ power_on_pending }
@@ -100,7 +106,7 @@ impl Attentions {
     }
 }
 
-fn power_on() -> ArrayVec<UnitAttention, MAX_PENDING>
+fn power_on() -> ArrayVec<UnitAttention, { UnitAttention::COUNT }>
     ensures { result.items ≡ UnitAttention.PowerOn ∷ [] }
 {
     let mut queue = ArrayVec::new();
@@ -109,7 +115,10 @@ fn power_on() -> ArrayVec<UnitAttention, MAX_PENDING>
 }
 
 /// Adds a condition, if any, to a queue, unless it is there already.
-fn establish(queue: &mut ArrayVec<UnitAttention, MAX_PENDING>, condition: Option<UnitAttention>)
+fn establish(
+    queue: &mut ArrayVec<UnitAttention, { UnitAttention::COUNT }>,
+    condition: Option<UnitAttention>,
+)
     requires { IsQueue queue.old.items }
     ensures { queue.new.items ≡ with_optional queue.old.items condition }
 {
@@ -121,7 +130,7 @@ fn establish(queue: &mut ArrayVec<UnitAttention, MAX_PENDING>, condition: Option
 }
 
 /// Removes the first condition of a queue, if there is one.
-fn remove_first(queue: &mut ArrayVec<UnitAttention, MAX_PENDING>)
+fn remove_first(queue: &mut ArrayVec<UnitAttention, { UnitAttention::COUNT }>)
     ensures { queue.new.items ≡ drop 1 queue.old.items }
 {
     let _ = queue.pop_at(0);

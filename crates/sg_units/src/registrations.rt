@@ -1,8 +1,9 @@
 // The registrants and their keys, in the order of registration.
-ghost use Rattle.std.specs.Prelude.{◌≡◌, ◌<◌, ◌≤◌, ◌==◌, [], length};
+ghost use Rattle.std.specs.Prelude.{◌≡◌, ◌<◌, ◌≤◌, ◌^◌, ◌==◌, [], length};
 ghost use Rattle.sg_units.specs.Registrations.{has_key, is_of, is_registered, is_registered_under};
-ghost use Rattle.sg_units.specs.Registrations.{key_of, max_registrations, with_key_replaced};
-ghost use Rattle.sg_units.specs.Registrations.{with_registration, without_initiator, without_key};
+ghost use Rattle.sg_units.specs.Registrations.{key_of, max_registrations, registered_mask};
+ghost use Rattle.sg_units.specs.Registrations.{with_key_replaced, with_registration};
+ghost use Rattle.sg_units.specs.Registrations.{without_initiator, without_key};
 ghost use Rattle.sg_units.specs.Registrations.{without_key_of_others, without_others};
 
 use arrayvec::ArrayVec;
@@ -95,6 +96,17 @@ impl Registrations {
             .any(|registration| registration.key == key)
     }
 
+    /// A mask of the registrants.
+    pub(crate) fn mask(&self) -> u8
+        ensures { result ≡ registered_mask self.now }
+    {
+        self.items
+            .as_slice()
+            .iter()
+            .map(|registration| bit_of(registration.initiator))
+            .fold(0, |mask, bit| mask | bit)
+    }
+
     /// The reservation key of an initiator.
     pub(crate) fn key_of(&self, initiator: Initiator) -> Option<u64>
         ensures { result ≡ key_of self.now initiator }
@@ -168,4 +180,12 @@ impl Registrations {
         self.items
             .retain(|registration| registration.is_of(initiator));
     }
+}
+
+/// The bit of an initiator in a mask.
+#[tactic(auto, using(std::proofs::lemmas::Nat::one_shl))]
+fn bit_of(initiator: Initiator) -> u8
+    ensures { result ≡ 2 ^ initiator }
+{
+    1 << initiator.number()
 }

@@ -43,6 +43,7 @@ ghost use Rattle.sg_units.specs.ReserveIn.{capabilities_data, keys_data};
 ghost use Rattle.sg_units.specs.ReserveIn.{reservation_data};
 ghost use Rattle.sg_units.specs.ReserveOut.{IsConsistentChange, generation_after, outcome};
 ghost use Rattle.sg_units.specs.ReserveOut.{raised_by, reply_of, state_after};
+ghost use Rattle.sg_units.specs.Registrations.{registered_mask};
 ghost use Rattle.sg_units.specs.Reservations.{IsConsistent, empty_state};
 
 impl Reservations {
@@ -136,6 +137,13 @@ impl Reservations {
         ensures { result ≡ allows self.now initiator class }
     {
         self.state.allows(initiator, class)
+    }
+
+    /// A mask of the registrants: bit i is set if initiator i is registered.
+    pub fn registered_mask(&self) -> u8
+        ensures { result ≡ registered_mask self.now.registrations }
+    {
+        self.state.registrations.mask()
     }
 
     /// Writes the data-in of READ KEYS: PRGENERATION and the keys of all registrants (SPC-4,

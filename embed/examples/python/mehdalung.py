@@ -9,6 +9,7 @@ from enum import IntEnum
 from pathlib import Path
 from typing import NamedTuple
 
+INITIATORS = 8
 BUFFER_LENGTH = 131_072
 DATA_OUT_LENGTH = 1_032
 NO_TEXT = c_size_t(-1).value
@@ -35,6 +36,13 @@ class Error(IntEnum):
     USAGE = 15
     EXCLUSIVE = 16
     NUMBER = 17
+    UNKNOWN_PROFILE = 18
+
+
+class Profile(IntEnum):
+    """mdl_profile: the commands that a disk has."""
+    BASE = 0
+    EXTENDED = 1
 
 
 class Kind(IntEnum):
@@ -98,11 +106,15 @@ def load():
     library = ctypes.CDLL(os.environ.get("MEHDALUNG_LIBRARY", str(beside)))
     slot, bytes_of = ctypes.POINTER(Slot), ctypes.c_char_p
     library.mdl_make.argtypes = [slot, c_uint64, c_uint32, ctypes.POINTER(IdentityRecord)]
+    library.mdl_make_with_profile.argtypes = [slot, c_uint32, c_uint64, c_uint32,
+                                              ctypes.POINTER(IdentityRecord)]
     library.mdl_free.argtypes = [slot]
     library.mdl_free.restype = None
     library.mdl_execute.argtypes = [slot, c_uint32, bytes_of, c_size_t, bytes_of, c_size_t,
                                     c_void_p, c_size_t, ctypes.POINTER(ReplyRecord)]
     library.mdl_power_cycle.argtypes = [slot]
+    library.mdl_registered.argtypes = [slot, ctypes.POINTER(c_uint32)]
+    library.mdl_forget.argtypes = [slot, c_uint32]
     library.mdl_read_sense.argtypes = [bytes_of, c_size_t, ctypes.POINTER(Sense)]
     library.mdl_exit_status.argtypes = [ctypes.POINTER(ReplyRecord)]
     library.mdl_decode.argtypes = [c_uint32, bytes_of, c_size_t, c_void_p, c_size_t]
@@ -182,14 +194,15 @@ class Reply(NamedTuple):
 
 class Disk:
     """A disk of `blocks` blocks, of which `pool` can be mapped or anchored at once, with an
-    identity or the standard one. It is freed by `close`, by the end of a `with`, or with its last
-    reference."""
+    identity or the standard one, and of a Profile. It is freed by `close`, by the end of a `with`,
+    or with its last reference."""
 
-    def __init__(self, blocks=4096, pool=4, identity=None):
+    def __init__(self, blocks=4096, pool=4, identity=None, profile=Profile.BASE):
         self.slot = Slot()
         self.data_in = (c_uint8 * BUFFER_LENGTH)()
         blocks, pool = within("blocks", blocks, 64), within("pool", pool, 32)
-        check(LIBRARY.mdl_make(self.slot, blocks, pool, identity))
+        profile = within("profile", profile, 32)
+        check(LIBRARY.mdl_make_with_profile(self.slot, profile, blocks, pool, identity))
 
     def execute(self, initiator, cdb, data_out=b"", kind=Kind.HEX):
         """The Reply to the command of an initiator, 0 to 7."""
@@ -213,6 +226,16 @@ class Disk:
 
     def power_cycle(self):
         check(LIBRARY.mdl_power_cycle(self.slot))
+
+    def registered(self):
+        """The set of the initiators that are registered."""
+        mask = c_uint32()
+        check(LIBRARY.mdl_registered(self.slot, mask))
+        return {initiator for initiator in range(INITIATORS) if mask.value >> initiator & 1}
+
+    def forget(self, initiator):
+        """Clears the unit attentions that are pending for an initiator whose port is gone."""
+        check(LIBRARY.mdl_forget(self.slot, within("initiator", initiator, 32)))
 
     def close(self):
         LIBRARY.mdl_free(self.slot)

@@ -31,6 +31,13 @@ pub mod error {
     pub const USAGE: u32 = 15;
     pub const EXCLUSIVE: u32 = 16;
     pub const NUMBER: u32 = 17;
+    pub const UNKNOWN_PROFILE: u32 = 18;
+}
+
+/// `mdl_profile`.
+pub mod profile {
+    pub const BASE: u32 = 0;
+    pub const EXTENDED: u32 = 1;
 }
 
 /// `mdl_kind`.
@@ -108,6 +115,13 @@ extern "C" {
         pool: u32,
         identity: *const mdl_identity,
     ) -> c_uint;
+    pub fn mdl_make_with_profile(
+        disk: *mut mdl_disk,
+        profile: u32,
+        blocks: u64,
+        pool: u32,
+        identity: *const mdl_identity,
+    ) -> c_uint;
     pub fn mdl_free(disk: *mut mdl_disk);
     pub fn mdl_execute(
         disk: *mut mdl_disk,
@@ -127,6 +141,8 @@ extern "C" {
         command: *mut mdl_command,
     ) -> c_uint;
     pub fn mdl_power_cycle(disk: *mut mdl_disk) -> c_uint;
+    pub fn mdl_registered(disk: *mut mdl_disk, mask: *mut u32) -> c_uint;
+    pub fn mdl_forget(disk: *mut mdl_disk, initiator: u32) -> c_uint;
     pub fn mdl_read_sense(sense: *const u8, length: usize, fields: *mut mdl_sense) -> c_uint;
     pub fn mdl_exit_status(reply: *const mdl_reply) -> c_int;
     pub fn mdl_decode(

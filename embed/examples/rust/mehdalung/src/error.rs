@@ -17,6 +17,7 @@ pub enum Error {
     Usage,
     Exclusive,
     Number,
+    UnknownProfile,
     /// An error that these calls can't have.
     Other(u32),
 }
@@ -44,6 +45,7 @@ pub(crate) fn check(error: u32) -> Result<(), Error> {
         error::USAGE => Error::Usage,
         error::EXCLUSIVE => Error::Exclusive,
         error::NUMBER => Error::Number,
+        error::UNKNOWN_PROFILE => Error::UnknownProfile,
         other => Error::Other(other),
     })
 }

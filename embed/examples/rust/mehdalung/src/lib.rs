@@ -6,7 +6,7 @@ use mehdalung_sys as sys;
 use std::{ffi::CString, ptr};
 
 pub use error::Error;
-pub use sys::{kind, mdl_identity as Identity, mdl_sense as Sense};
+pub use sys::{kind, mdl_identity as Identity, mdl_sense as Sense, profile};
 pub use sys::{CHECK_CONDITION, GOOD, RESERVATION_CONFLICT};
 
 /// The text that is written as snprintf(3) writes, or none.
@@ -87,13 +87,25 @@ pub struct Disk {
 unsafe impl Send for Disk {}
 
 impl Disk {
-    /// A disk of `blocks` blocks, of which `pool` can be mapped or anchored at once. None is the
-    /// standard identity.
+    /// A disk of the base profile, of `blocks` blocks, of which `pool` can be mapped or anchored at
+    /// once. None is the standard identity.
     pub fn new(blocks: u64, pool: u32, identity: Option<&Identity>) -> Result<Disk, Error> {
+        Disk::with_profile(profile::BASE, blocks, pool, identity)
+    }
+
+    /// A disk as `new` makes it, of a profile of `profile`.
+    pub fn with_profile(
+        profile: u32,
+        blocks: u64,
+        pool: u32,
+        identity: Option<&Identity>,
+    ) -> Result<Disk, Error> {
         let mut slot = sys::mdl_disk { target: ptr::null_mut() };
         let identity = identity.map_or(ptr::null(), |i| i as *const Identity);
         // SAFETY: the slot has no disk, and the identity is null or a whole record.
-        check(unsafe { sys::mdl_make(&mut slot, blocks, pool, identity) })?;
+        check(unsafe {
+            sys::mdl_make_with_profile(&mut slot, profile, blocks, pool, identity)
+        })?;
         Ok(Disk { slot, data_in: vec![0; sys::BUFFER_LENGTH].into() })
     }
 
@@ -130,6 +142,22 @@ impl Disk {
     pub fn power_cycle(&mut self) -> Result<(), Error> {
         // SAFETY: the slot has a disk.
         check(unsafe { sys::mdl_power_cycle(&mut self.slot) })
+    }
+}
+
+impl Disk {
+    /// A mask of the initiators that are registered: bit i is set if initiator i is.
+    pub fn registered(&mut self) -> Result<u32, Error> {
+        let mut mask = 0;
+        // SAFETY: the slot has a disk, and the mask is a whole number.
+        check(unsafe { sys::mdl_registered(&mut self.slot, &mut mask) })?;
+        Ok(mask)
+    }
+
+    /// Clears the unit attentions that are pending for an initiator whose port is gone.
+    pub fn forget(&mut self, initiator: u32) -> Result<(), Error> {
+        // SAFETY: the slot has a disk.
+        check(unsafe { sys::mdl_forget(&mut self.slot, initiator) })
     }
 }
 

@@ -1,5 +1,5 @@
 //! What the crate has beside what the first minute uses.
-use mehdalung::{decode, kind, version, Disk, Error, Identity, Reply, CHECK_CONDITION, GOOD};
+use mehdalung::{decode, kind, profile, version, Disk, Error, Identity, Reply, CHECK_CONDITION, GOOD};
 
 const TEST_UNIT_READY: [u8; 6] = [0; 6];
 const INQUIRY: [u8; 6] = [0x12, 0, 0, 0, 36, 0];
@@ -25,7 +25,14 @@ fn replies_have_texts_and_fields() -> Result<(), Error> {
     assert!(reply.text().unwrap().starts_with("  00000000  "));
     let text = decode(kind::INQUIRY, reply.data_in);
     assert!(text.is_some() && text == disk.tool(7, "sg_inq")?.text());
-    disk.power_cycle()
+    assert_eq!(disk.execute(2, &TEST_UNIT_READY, &[])?.status(), CHECK_CONDITION);
+    assert_eq!(disk.tool(2, "sg_persist -o -G -S 2")?.status(), GOOD);
+    assert_eq!(disk.registered()?, 1 << 2);
+    disk.power_cycle()?;
+    assert_eq!(disk.registered()?, 0);
+    disk.forget(2)?;
+    assert_eq!(disk.execute(2, &TEST_UNIT_READY, &[])?.status(), GOOD);
+    Ok(())
 }
 
 #[test]
@@ -37,6 +44,10 @@ fn calls_are_refused() -> Result<(), Error> {
     assert_eq!(why(disk.tool(0, "sg_inq\0")), Some(Error::BadByte));
     assert_eq!(Disk::new(0, 4, None).err(), Some(Error::Blocks));
     assert_eq!(Disk::new(64, 65_537, None).err(), Some(Error::Pool));
+    assert_eq!(disk.forget(8), Err(Error::NoInitiator));
+    assert_eq!(Disk::with_profile(2, 64, 4, None).err(), Some(Error::UnknownProfile));
+    let mut extended = Disk::with_profile(profile::EXTENDED, 64, 4, None)?;
+    assert_eq!(extended.execute(0, &INQUIRY, &[])?.status(), GOOD);
     assert_eq!(decode(kind::SENSE + 1, &[]), None);
     assert!(version().unwrap().starts_with("mehdalung "));
     Ok(())

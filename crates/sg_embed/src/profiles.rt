@@ -1,0 +1,37 @@
+// The profiles of a disk, by the numbers that the header has for C.
+ghost use Rattle.std.specs.Prelude.{◌≡◌, ◌≢◌, IfErr};
+ghost use Rattle.sg_embed.specs.Profiles.{identity_with_profile, profile_numbered};
+
+use crate::outcome::Outcome;
+use sg_pages::{Identity, IdentityFault};
+use sg_wire::Profile;
+
+const PROFILES: [Profile; 2] = [Profile::Base, Profile::Extended];
+
+/// An identity with the profile that has a number of the header.
+///
+/// # Errors
+/// [`Outcome::UnknownProfile`] if no profile has the number, or else the outcome of the identity's
+/// fault.
+pub fn identity_with_profile(
+    number: u32,
+    identity: Result<Identity, IdentityFault>,
+) -> Result<Identity, Outcome>
+    ensures value { result ≡ identity_with_profile number identity }
+    ensures refused { IfErr result (λ outcome. outcome ≢ Outcome.Done) }
+{
+    let Some(profile) = profile_numbered(number) else {
+        return Err(Outcome::UnknownProfile);
+    };
+    match identity {
+        Ok(names) => Ok(names.with_profile(profile)),
+        Err(fault) => Err(Outcome::of_identity(fault)),
+    }
+}
+
+/// The profile with a number of the header.
+fn profile_numbered(number: u32) -> Option<Profile>
+    ensures { result ≡ profile_numbered number }
+{
+    PROFILES.get(number as usize).copied()
+}

@@ -1,0 +1,155 @@
+/* Disks of each profile, and what a transport asks about its initiators' ports: each named error, and
+ * that the call has then changed nothing. */
+#include <stdio.h>
+#include <string.h>
+
+#include "mehdalung.h"
+
+static int failures;
+#define WANT(condition) \
+    do { \
+        if (!(condition)) { \
+            failures++; \
+            fprintf(stderr, "line %d: not so: %s\n", __LINE__, #condition); \
+        } \
+    } while (0)
+
+static mdl_disk disk = MDL_NONE, no_disk = MDL_NONE;
+static uint8_t data_in[MDL_BUFFER_LENGTH];
+static mdl_reply reply;
+
+static int status_of(uint32_t initiator, const uint8_t *cdb, size_t length, const uint8_t *bytes,
+                     size_t byte_count)
+{
+    WANT(mdl_execute(&disk, initiator, cdb, length, bytes, byte_count, data_in, sizeof data_in,
+                     &reply) == MDL_OK);
+    return reply.status;
+}
+
+static int is_ready(uint32_t initiator)
+{
+    static const uint8_t ready[6];
+
+    return status_of(initiator, ready, sizeof ready, NULL, 0) == MDL_GOOD;
+}
+
+/* PERSISTENT RESERVE OUT, REGISTER AND IGNORE EXISTING KEY: the initiator registers with this key, or
+ * is no longer registered with key 0. */
+static void put_key(uint32_t initiator, uint8_t key)
+{
+    static const uint8_t cdb[10] = { 0x5F, 6, [8] = 24 };
+    const uint8_t list[24] = { [15] = key };
+
+    WANT(status_of(initiator, cdb, sizeof cdb, list, sizeof list) == MDL_GOOD);
+}
+
+static uint32_t registered(void)
+{
+    uint32_t mask = ~(uint32_t)0;
+
+    WANT(mdl_registered(&disk, &mask) == MDL_OK);
+    return mask;
+}
+
+static void refuse_profiles(void)
+{
+    mdl_identity own = MDL_STANDARD_IDENTITY;
+    void *target;
+
+    WANT(mdl_make_with_profile(NULL, MDL_PROFILE_BASE, 64, 4, NULL) == MDL_NULL_POINTER);
+    own.vendor[0] = 0x1F;
+    WANT(mdl_make_with_profile(&disk, 2, 0, 4, &own) == MDL_UNKNOWN_PROFILE && !disk.target);
+    WANT(mdl_make_with_profile(&disk, 256, 0, 4, NULL) == MDL_UNKNOWN_PROFILE && !disk.target);
+    WANT(mdl_make_with_profile(&disk, UINT32_MAX, 64, 4, NULL) == MDL_UNKNOWN_PROFILE);
+    WANT(mdl_make_with_profile(&disk, MDL_PROFILE_EXTENDED, 0, 4, &own) == MDL_IDENTITY_TEXT);
+    WANT(mdl_make_with_profile(&disk, MDL_PROFILE_EXTENDED, 0, 4, NULL) == MDL_BLOCKS);
+    WANT(mdl_make_with_profile(&disk, MDL_PROFILE_BASE, 64, 0, NULL) == MDL_POOL && !disk.target);
+    WANT(mdl_make_with_profile(&disk, MDL_PROFILE_EXTENDED, 64, 4, NULL) == MDL_OK);
+    target = disk.target;
+    WANT(mdl_make_with_profile(&disk, MDL_PROFILE_BASE, 0, 4, NULL) == MDL_DISK_EXISTS);
+    WANT(mdl_make_with_profile(&disk, 2, 64, 4, NULL) == MDL_UNKNOWN_PROFILE);
+    WANT(target && disk.target == target);
+    mdl_free(&disk);
+}
+
+/* A disk of each profile has the identity that it was made with. */
+static void show_identities(void)
+{
+    static const uint8_t inquiry[6] = { 0x12, 0, 0, 0, 36 };
+    mdl_identity own = MDL_STANDARD_IDENTITY;
+    uint32_t profile;
+
+    own.vendor[7] = 'A';
+    for (profile = MDL_PROFILE_BASE; profile <= MDL_PROFILE_EXTENDED; profile++) {
+        WANT(mdl_make_with_profile(&disk, profile, 64, 4, &own) == MDL_OK);
+        WANT(status_of(0, inquiry, 6, NULL, 0) == MDL_GOOD && !memcmp(data_in + 8, own.vendor, 8));
+        mdl_free(&disk);
+        WANT(mdl_make_with_profile(&disk, profile, 64, 4, NULL) == MDL_OK);
+        WANT(status_of(0, inquiry, 6, NULL, 0) == MDL_GOOD && !memcmp(data_in + 8, "SGMODEL ", 8));
+        mdl_free(&disk);
+    }
+}
+
+static void refuse_ports(void)
+{
+    uint32_t mask = 5;
+
+    WANT(mdl_registered(NULL, &mask) == MDL_NULL_POINTER && mask == 5);
+    WANT(mdl_registered(&disk, NULL) == MDL_NULL_POINTER);
+    WANT(mdl_registered(&no_disk, &mask) == MDL_NO_DISK && mask == 5);
+    WANT(mdl_forget(NULL, 0) == MDL_NULL_POINTER);
+    WANT(mdl_forget(&no_disk, 8) == MDL_NO_INITIATOR);
+    WANT(mdl_forget(&no_disk, 7) == MDL_NO_DISK);
+    WANT(mdl_forget(&disk, 8) == MDL_NO_INITIATOR);
+    WANT(mdl_forget(&disk, 256) == MDL_NO_INITIATOR);
+}
+
+static void ask(void)
+{
+    uint32_t initiator;
+
+    WANT(registered() == 0);
+    /* What is asked reports no unit attention, POWER ON here, and clears none. */
+    for (initiator = 0; initiator < MDL_INITIATORS; initiator++)
+        WANT(!is_ready(initiator) && is_ready(initiator));
+    put_key(1, 0x11);
+    put_key(6, 0x66);
+    WANT(registered() == 0x42);
+    put_key(7, 0x77);
+    put_key(0, 0x10);
+    WANT(registered() == 0xC3);
+    put_key(6, 0);
+    WANT(registered() == 0x83);
+}
+
+/* Two conditions are pending for initiator 0, and one for each other. */
+static void forget(void)
+{
+    static const uint8_t clear[10] = { 0x5F, 3, [8] = 24 };
+    static const uint8_t select[6] = { 0x15, 0x10, 0, 0, 16 };
+    static const uint8_t key[24] = { [7] = 0x77 }, page[16] = { [4] = 0x0A, 0x0A, 4 };
+
+    WANT(status_of(7, select, sizeof select, page, sizeof page) == MDL_GOOD);
+    WANT(mdl_forget(&disk, 5) == MDL_OK && is_ready(5));
+    WANT(registered() == 0x83);
+    WANT(status_of(7, clear, sizeof clear, key, sizeof key) == MDL_GOOD && registered() == 0);
+    WANT(mdl_forget(&disk, 0) == MDL_OK && is_ready(0));
+    WANT(!is_ready(1) && reply.sense[12] == 0x2A && reply.sense[13] == 0x01);
+    WANT(!is_ready(1) && reply.sense[13] == 0x03);
+    WANT(is_ready(1) && !is_ready(2) && is_ready(2));
+    WANT(mdl_forget(&disk, 2) == MDL_OK && is_ready(2));
+    WANT(mdl_power_cycle(&disk) == MDL_OK && mdl_forget(&disk, 3) == MDL_OK);
+    WANT(is_ready(3) && !is_ready(4) && is_ready(4));
+}
+
+int main(void)
+{
+    refuse_profiles();
+    show_identities();
+    WANT(mdl_make(&disk, 64, 4, NULL) == MDL_OK);
+    refuse_ports();
+    ask();
+    forget();
+    mdl_free(&disk);
+    return failures != 0;
+}
