@@ -5,6 +5,7 @@ use Rattle.std.proofs.lemmas.List.{append-nil}
 use Rattle.sg_pool.specs.Chains.{chain, slot_after, AreBelow, IsChain}
 use Rattle.sg_pool.specs.Slots.{Slots, followed}
 use Rattle.sg_table.specs.declared.run.Run.{Run}
+use Rattle.sg_block_map.specs.Metering.{OnlyFollows}
 use Rattle.sg_block_map.specs.Runs.{end_of, singles, singles_of, expanded}
 use Rattle.sg_block_map.specs.Splitting.{front_of, rest_of, IsSplit}
 use Rattle.sg_pool.proofs.LinkLemmas.{chain-append, chain-last, slot_after-add}
@@ -123,3 +124,17 @@ followed-on slots now after e le f ge =
     f ∙ ap (λ s. followed s (after.links - now.links)) e
     ∙ followed-more slots (now.links - slots.links) (after.links - now.links)
     ∙ ap (followed slots) n
+
+-- one link more
+pub only-follows-next : (p mid now : Slots) (count : ℕ) → 0 < count → OnlyFollows (count - 1) p mid
+    → now ≡ followed mid 1 → OnlyFollows count p now
+only-follows-next p mid now count some h e =
+    let l : now.links ≡ mid.links + 1 = ap (λ (s : Slots). s.links) e in
+    let one : 1 ≡ now.links - mid.links = omega arith in
+    record {
+      pool = followed-on p mid now h.pool h.follows.links_rise (e ∙ ap (followed mid) one) (omega arith);
+      follows = record {
+        links_rise = omega (arith, l, h.follows.links_rise);
+        most_links = omega (arith, l, h.follows.most_links);
+      };
+    }

@@ -16,13 +16,9 @@ pub(crate) fn follow(pool: &mut Pool, first: u32, count: u32) -> u32
     requires below { AreBelow (length pool.old.next) (chain pool.old.next first count) }
     requires headroom { pool.old.links + count ≤ u64.MAX }
     ensures value { result ≡ slot_after pool.old.next first count }
-    ensures pool { pool.new ≡ followed pool.old count }
+    ensures pool { OnlyFollows count pool.old pool.new }
 {
-    let mut slot = first;
-    for _i in 0..count {
-        slot = pool.next(slot);
-    }
-    slot
+    pool.follow(first, count)
 }
 
 /// The first `count` addresses of a run, and the addresses after them.
@@ -33,7 +29,7 @@ fn split(pool: &mut Pool, run: Run, count: u32) -> (Run, Run)
     requires headroom { pool.old.links + count ≤ u64.MAX }
     ensures front { result.0 ≡ front_of pool.old.next run count }
     ensures rest { result.1 ≡ rest_of pool.old.next run count }
-    ensures pool { pool.new ≡ followed pool.old count }
+    ensures pool { OnlyFollows count pool.old pool.new }
 {
     let last = follow(pool, run.first, count - 1);
     let first = pool.next(last);

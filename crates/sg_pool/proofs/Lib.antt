@@ -9,3 +9,5 @@ pub mod ConsistencyLemmas
 pub mod PoolLemmas
 pub mod ChainLemmas
 pub mod FreeLemmas
+pub mod JumpLemmas
+pub mod LeapLemmas

@@ -5,3 +5,5 @@ pub mod Chains
 pub mod Source
 pub mod MappedRecords
 pub mod Parts
+-- The definitions that only private contracts cite.
+pub mod Jumps

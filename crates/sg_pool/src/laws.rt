@@ -1,6 +1,7 @@
 //! The parts of each [`Pool`](crate::Pool), and the place of its blocks. A pool keeps nothing
 //! beside the parts that are listed.
 ghost use Rattle.sg_pool.specs.Parts.{BlocksLieInOrder, PoolHasOnlyItsParts, PoolIsItsParts};
+ghost use Rattle.sg_pool.specs.Parts.{LinksAreTheirParts, LinksHaveOnlyTheirParts};
 
 /// A [`Pool`](crate::Pool) is made of its blocks, its links, three numbers for the free slots, and
 /// the number of followed links.
@@ -11,6 +12,17 @@ pub fn a_pool_is_made_of_its_blocks_and_links()
 /// These are its fields, each of a listed type, and it has no other field.
 pub fn a_pool_has_only_its_parts()
     ensures { PoolHasOnlyItsParts }
+{}
+
+/// The links of a pool are made of one number for each slot, and of seven numbers for its jump and
+/// its leap.
+pub fn links_are_made_of_numbers_for_each_slot()
+    ensures { LinksAreTheirParts }
+{}
+
+/// These numbers are the only fields of the links, each in a vector of its listed type.
+pub fn links_have_only_their_numbers()
+    ensures { LinksHaveOnlyTheirParts }
 {}
 
 /// The blocks lie in one vector, each at the number of its slot. So a block stays at its place in

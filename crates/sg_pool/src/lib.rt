@@ -1,8 +1,11 @@
 //! Slots of one block each, in chains, and the blocks that go into them.
 #![tactic(auto)]
 
+mod jumps;
 mod kind;
 pub mod laws;
+mod leaps;
+mod links;
 mod pool;
 mod source;
 

@@ -3,11 +3,12 @@
 ghost use Rattle.std.specs.Prelude.{◌≡◌, ◌<◌, ◌+◌, ◌-◌, ◌∷◌, ◌++◌, ◌≤◌, length, replicate, IfOk};
 ghost use Rattle.std.specs.Prelude.{slice_index, slice_index_or, slice_set, vec_capacity};
 ghost use Rattle.std.specs.List.{range_with_len};
-ghost use Rattle.sg_pool.specs.Chains.{chain, AreBelow, IsChain};
+ghost use Rattle.sg_pool.specs.Chains.{chain, slot_after, AreBelow, IsChain};
 ghost use Rattle.sg_store.specs.Disk.{zero_block};
 ghost use Rattle.sg_table.specs.Occurrences.{IsEachOnce, occurrences};
 ghost use Rattle.sg_pool.specs.Slots.{followed};
 
+use crate::links::Links;
 use sg_store::{BLOCK_LENGTH, MAX_POOL};
 use std::alloc::{AllocError, Global};
 use std::marker::Model;
@@ -21,7 +22,7 @@ const ZERO_BLOCK: [u8; BLOCK_LENGTH] = [0; BLOCK_LENGTH];
 pub struct Pool {
     /// The blocks of the first slots, as far as one was set. The others are zeros.
     blocks: Vec<[u8; BLOCK_LENGTH]>,
-    next: Vec<u32>,
+    next: Links,
     /// The first slot that was given back.
     first_given: u32,
     given_count: u32,
@@ -39,17 +40,17 @@ impl Model for Pool {
     ghost Value = { Slots };
 
     ghost view = { λ p. record {
-      blocks = zero_padded p.blocks.items (length p.next.items);
-      next = p.next.items;
-      free = free_slots p.next.items p.first_given p.given_count p.fresh;
+      blocks = zero_padded p.blocks.items (length p.next);
+      next = p.next;
+      free = free_slots p.next p.first_given p.given_count p.fresh;
       links = p.links;
     } };
 
-    ghost invariant = { λ p. (length p.blocks.items ≤ length p.next.items)
-        × AreBelow (length p.next.items) (chain p.next.items p.first_given p.given_count)
-        × (length p.next.items ≤ vec_capacity p.blocks)
-        × (p.fresh ≤ length p.next.items)
-        × (length p.next.items ≤ MAX_POOL) };
+    ghost invariant = { λ p. (length p.blocks.items ≤ length p.next)
+        × AreBelow (length p.next) (chain p.next p.first_given p.given_count)
+        × (length p.next ≤ vec_capacity p.blocks)
+        × (p.fresh ≤ length p.next)
+        × (length p.next ≤ MAX_POOL) };
 }
 
 /// Appends blocks of zeros up to the block of a slot, unless the slot has a block already.
@@ -83,7 +84,7 @@ impl Pool {
     {
         Ok(Pool {
             blocks: Vec::with_capacity(alloc, count as usize)?,
-            next: vec![in alloc; 0; count as usize]?,
+            next: Links::new(alloc, count)?,
             first_given: 0,
             given_count: 0,
             fresh: 0,
@@ -103,7 +104,7 @@ impl Pool {
     pub fn free_count(&self) -> usize
         ensures { result ≡ length self.now.free }
     {
-        self.given_count as usize + (self.next.len() - self.fresh as usize)
+        self.given_count as usize + (self.next.count() - self.fresh as usize)
     }
 
     /// Replaces the block of a slot.
@@ -128,7 +129,7 @@ impl Pool {
             return slot;
         }
         let slot = self.first_given;
-        self.first_given = self.next[slot as usize];
+        self.first_given = self.next.get(slot);
         self.given_count -= 1;
         slot
     }
@@ -153,7 +154,7 @@ impl Pool {
         ensures next { self.new.next ≡ slice_set self.old.next slot (slice_index self.new.next slot) }
         ensures pool { self.new ≡ record self.old { next = self.new.next; free = self.new.free } }
     {
-        self.next[slot as usize] = self.first_given;
+        self.next.set(slot, self.first_given);
         self.first_given = slot;
         self.given_count += 1;
     }
@@ -171,7 +172,7 @@ impl Pool {
         ensures next { self.new.next ≡ slice_set self.old.next last (slice_index self.new.next last) }
         ensures pool { self.new ≡ record self.old { next = self.new.next; free = self.new.free } }
     {
-        self.next[last as usize] = self.first_given;
+        self.next.set(last, self.first_given);
         self.first_given = first;
         self.given_count += count;
     }
@@ -182,7 +183,7 @@ impl Pool {
         requires used { occurrences slot self.old.free ≡ 0 }
         ensures { self.new ≡ record self.old { next = slice_set self.old.next slot next } }
     {
-        self.next[slot as usize] = next;
+        self.next.set(slot, next);
     }
 
     /// The slot after another in its chain, which counts as a link that was followed.
@@ -193,14 +194,28 @@ impl Pool {
         ensures pool { self.new ≡ followed self.old 1 }
     {
         self.links += 1;
-        self.next[slot as usize]
+        self.next.get(slot)
+    }
+
+    /// The slot that is `count` links after another. Each step counts as a link that was followed.
+    pub fn follow(&mut self, first: u32, count: u32) -> u32
+        requires below { AreBelow (length self.old.next) (chain self.old.next first count) }
+        requires headroom { self.old.links + count ≤ u64.MAX }
+        ensures value { result ≡ slot_after self.old.next first count }
+        ensures pool { self.new ≡ followed self.old (self.new.links - self.old.links) }
+        ensures rise { self.old.links ≤ self.new.links }
+        ensures most { self.new.links ≤ self.old.links + count }
+    {
+        let (slot, steps) = self.next.follow(first, count);
+        self.links += u64::from(steps);
+        slot
     }
 
     /// The number of slots.
     pub fn count(&self) -> usize
         ensures { result ≡ length self.now.blocks }
     {
-        self.next.len()
+        self.next.count()
     }
 
     /// The number of links that were followed since the last restart.

@@ -4,7 +4,9 @@ use Rattle.std.specs.Prelude.{if◌then◌else◌}
 use Rattle.sg_wire.specs.CdbEncoding.{cdb_of}
 use Rattle.sg_wire.specs.SenseData.{read_sense}
 use Rattle.sg_decode.specs.SenseText.{sense_line}
-use Rattle.sg_wire.specs.Commands.{write_16}
+use Rattle.sg_wire.specs.Commands.{naming_16}
+use Rattle.sg_wire.specs.declared.command.Command.{Command}
+use Rattle.sg_wire.specs.declared.command.Command.TheVariants.{Write16}
 use Rattle.sg_tools.specs.ExitStatus.{exit_status}
 use Rattle.sg_pages.specs.BlockDescriptor.{logical_block_length}
 use Rattle.sg_target.specs.Happenings.{after_happening}
@@ -94,6 +96,9 @@ happening_outcome number state happening = record {
 }
 
 -- `fill` is WRITE(16) (SBC-3, 5.35) of blocks of one byte.
+abbrev pub write_16 : (lba count : ℕ) → Command
+write_16 lba count = naming_16 Write16 lba count
+
 abbrev pub fill_step : State → (initiator lba count byte : ℕ) → Step
 fill_step state initiator lba count byte =
     step state initiator (cdb_of (write_16 lba count)) (replicate (logical_block_length * count) byte)

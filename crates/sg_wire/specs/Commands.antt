@@ -2,6 +2,8 @@
 use Rattle.std.specs.Prelude.{ℕ, Bool}
 use Rattle.sg_wire.specs.declared.command.Command.{Command}
 use Rattle.sg_wire.specs.declared.command.Command.TheVariants as command
+use Rattle.sg_wire.specs.declared.command.block.Extent10.{Extent10}
+use Rattle.sg_wire.specs.declared.command.block.Extent16.{Extent16}
 use Rattle.sg_wire.specs.declared.command.in_action.InAction.{InAction}
 use Rattle.sg_wire.specs.declared.command.out_action.OutAction.{OutAction}
 
@@ -52,23 +54,21 @@ reserve_out action scope_type n = command.PersistentReserveOut (record {
 
 -- ---- Block commands (SBC-3, 5)
 
-abbrev pub read_10 : (lba transfer_length : ℕ) → Command
-read_10 lba n = command.Read10 (record { lba = lba; count = n })
+-- A command that names a range of blocks and nothing else, in a CDB of 10 bytes, and of 16.
+abbrev pub naming_10 : (Extent10 → Command) → (lba count : ℕ) → Command
+naming_10 command lba n = command (record { lba = lba; count = n })
 
-abbrev pub read_16 : (lba transfer_length : ℕ) → Command
-read_16 lba n = command.Read16 (record { lba = lba; count = n })
+abbrev pub naming_16 : (Extent16 → Command) → (lba count : ℕ) → Command
+naming_16 command lba n = command (record { lba = lba; count = n })
 
-abbrev pub write_10 : (lba transfer_length : ℕ) → Command
-write_10 lba n = command.Write10 (record { lba = lba; count = n })
+abbrev pub no_blocks_10 : Extent10
+no_blocks_10 = record { lba = 0; count = 0 }
 
-abbrev pub write_16 : (lba transfer_length : ℕ) → Command
-write_16 lba n = command.Write16 (record { lba = lba; count = n })
+abbrev pub no_blocks_16 : Extent16
+no_blocks_16 = record { lba = 0; count = 0 }
 
 abbrev pub read_capacity_16 : (allocation_length : ℕ) → Command
 read_capacity_16 n = command.ReadCapacity16 (record { allocation_length = n })
-
-abbrev pub synchronize_cache_10 : (lba count : ℕ) → Command
-synchronize_cache_10 lba n = command.SynchronizeCache10 (record { lba = lba; count = n })
 
 abbrev pub write_same_10 : (anchor unmap : Bool) (lba count : ℕ) → Command
 write_same_10 anchor unmap lba n =

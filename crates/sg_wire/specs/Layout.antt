@@ -174,6 +174,15 @@ immed_bits group_byte = bit 1 2 ∷ bit 1 1 ∷ bits group_byte 4 0 ∷ []
 abbrev group_number : (byte : ℕ) → List Place
 group_number byte = bits byte 4 0 ∷ []
 
+-- A row of a command that names a range of blocks and nothing else, in a CDB of 10 bytes, and of 16.
+abbrev range_10 : (opcode : ℕ) → Class → List Place → (Extent10 → Command) → Extent10 → Layout
+range_10 opcode class ignored command c =
+    base opcode none class blocked (extent_10 c) ignored (make.naming_10 command)
+
+abbrev range_16 : (opcode : ℕ) → Class → List Place → (Extent16 → Command) → Extent16 → Layout
+range_16 opcode class ignored command c =
+    base opcode none class blocked (extent_16 c) ignored (make.naming_16 command)
+
 -- One row for each command: profile, operation code, service action, class, unit attention, fields,
 -- ignored places, and the command itself. The commands of SPC-4, 6, come first, and then the
 -- commands of SBC-3, 5 (READ(6) and WRITE(6) of SBC-2). Last come PERSISTENT RESERVE IN and OUT of
@@ -189,16 +198,15 @@ layout (command.ModeSelect10 c) =
 layout (command.ModeSense6 c) = base 0x1A none Reads blocked (mode_sense_6 c) [] make.mode_sense_6
 layout (command.ModeSense10 c) = base 0x5A none Reads blocked (mode_sense_10 c) [] make.mode_sense_10
 layout (command.Read6 c) = base 0x08 none Reads blocked (extent_6 c) [] command.Read6
-layout (command.Read10 c) = base 0x28 none Reads blocked (extent_10 c) (cache_bits 6) make.read_10
-layout (command.Read16 c) = base 0x88 none Reads blocked (extent_16 c) (cache_bits 14) make.read_16
+layout (command.Read10 c) = range_10 0x28 Reads (cache_bits 6) command.Read10 c
+layout (command.Read16 c) = range_16 0x88 Reads (cache_bits 14) command.Read16 c
 layout (command.Write6 c) = base 0x0A none Writes blocked (extent_6 c) [] command.Write6
-layout (command.Write10 c) = base 0x2A none Writes blocked (extent_10 c) (cache_bits 6) make.write_10
-layout (command.Write16 c) = base 0x8A none Writes blocked (extent_16 c) (cache_bits 14) make.write_16
+layout (command.Write10 c) = range_10 0x2A Writes (cache_bits 6) command.Write10 c
+layout (command.Write16 c) = range_16 0x8A Writes (cache_bits 14) command.Write16 c
 layout command.ReadCapacity10 = base 0x25 none Always blocked [] [] command.ReadCapacity10
 layout (command.ReadCapacity16 c) =
     base 0x9E (named 0x10) Always blocked (read_capacity_16 c) [] make.read_capacity_16
-layout (command.SynchronizeCache10 c) =
-    base 0x35 none Writes blocked (extent_10 c) (immed_bits 6) make.synchronize_cache_10
+layout (command.SynchronizeCache10 c) = range_10 0x35 Writes (immed_bits 6) command.SynchronizeCache10 c
 layout (command.WriteSame10 c) =
     base 0x41 none Writes blocked (write_same_10 c) (group_number 6) make.write_same_10
 layout (command.WriteSame16 c) =
@@ -227,14 +235,14 @@ each_command =
     ∷ make.mode_sense_6 false 0 0 0 0
     ∷ make.mode_sense_10 false false 0 0 0 0
     ∷ command.Read6 (0, 1)
-    ∷ make.read_10 0 0
-    ∷ make.read_16 0 0
+    ∷ command.Read10 make.no_blocks_10
+    ∷ command.Read16 make.no_blocks_16
     ∷ command.Write6 (0, 1)
-    ∷ make.write_10 0 0
-    ∷ make.write_16 0 0
+    ∷ command.Write10 make.no_blocks_10
+    ∷ command.Write16 make.no_blocks_16
     ∷ command.ReadCapacity10
     ∷ make.read_capacity_16 0
-    ∷ make.synchronize_cache_10 0 0
+    ∷ command.SynchronizeCache10 make.no_blocks_10
     ∷ make.write_same_10 false false 0 0
     ∷ make.write_same_16 false false 0 0
     ∷ make.unmap false 0 0

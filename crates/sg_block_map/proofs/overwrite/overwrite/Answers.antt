@@ -26,15 +26,17 @@ follow-slot-requires-clause-below c =
 pub loop-i-init : goal.loop-i-init
 loop-i-init c =
     let p = c.args.pool.now in
-    let blocks = ap (λ (s : Slots). s.blocks) c.follow-slot.ensures.pool in
+    let blocks = ap (λ (s : Slots). s.blocks) c.follow-slot.ensures.pool.pool in
     record {
       slot = rw add-zero c.follow-slot.ensures.value;
-      pool = rw add-zero (c.follow-slot.ensures.pool
-          ∙ ap (λ bs. record p { blocks = bs; links = p.links + (c.args.lba - c.args.run.start) })
-          (sym blocks));
+      pool = c.follow-slot.ensures.pool.pool
+          ∙ ap₂ (λ bs n. record p { blocks = bs; links = n }) (sym blocks)
+          (sym (ap (λ (s : Slots). s.links) c.follow-slot.ensures.pool.pool));
+      links_rise = c.follow-slot.ensures.pool.follows.links_rise;
+      most_links = omega (arith, c.follow-slot.ensures.pool.follows.most_links);
       contents = λ before after consistent.
           let rs : List Run = before ++ c.args.run ∷ after in
-          ap (λ (s : Slots). chained_contents rs s) c.follow-slot.ensures.pool
+          ap (λ (s : Slots). chained_contents rs s) c.follow-slot.ensures.pool.pool
           ∙ sym (remapped-none (chained_contents rs p) c.args.lba
           (λ index. Data (block_of c.args.source.now index)));
       length = ap length blocks;
@@ -91,6 +93,9 @@ loop-i-preserved c =
     let after_next : c.next-slot.new.self.next ≡ p.next =
     ap (λ (s : Slots). s.next) c.next-slot.ensures.pool ∙ next in
     let written = c.next-slot.new.self.blocks in
+    let links : c.next-slot.new.self.links ≡ now.links + 1 =
+    ap (λ (s : Slots). s.links) c.next-slot.ensures.pool
+    ∙ ap (λ (s : Slots). s.links + 1) c.set.ensures in
     record {
       slot = rw (sym on) (c.next-slot.ensures.value ∙ ap₂ slice_index next inv.slot
           ∙ sym (slot_after-more p.next run.first k));
@@ -98,7 +103,9 @@ loop-i-preserved c =
           ∙ ap (λ (s : Slots). record s { links = s.links + 1 }) c.set.ensures
           ∙ ap₂ (λ (s : Slots) bs. record s { blocks = bs; links = s.links + 1 }) inv.pool
           (ap (λ s. set now.blocks s b) inv.slot ∙ sym blocks)
-          ∙ ap (λ n. record p { blocks = written; links = n }) (omega arith);
+          ∙ ap (λ n. record p { blocks = written; links = n }) (sym links);
+      links_rise = omega (arith, links, inv.links_rise);
+      most_links = omega (arith, links, inv.most_links);
       contents = λ before after consistent.
           let rs : List Run = before ++ run ∷ after in
           let xs : List Run = expanded p.next rs in

@@ -1,4 +1,4 @@
-use Rattle.std.proofs.Common.{◌≡◌, ◌+◌, ◌-◌, List, ◌∷◌, ◌++◌, length}
+use Rattle.std.proofs.Common.{◌≡◌, ◌+◌, ◌-◌, ◌≤◌, List, ◌∷◌, ◌++◌, length}
 use Rattle.sg_pool.specs.Chains.{slot_after}
 use Rattle.sg_store.specs.Disk.{replaced}
 use Rattle.sg_pool.specs.MappedRecords.{IsConsistent}
@@ -14,7 +14,9 @@ invariant-loop-i l =
     let passed = l.lba - l.fn.run.start + l.i in
     record {
       slot : l.slot ≡ slot_after old.next l.fn.run.first passed;
-      pool : l.pool ≡ record old { blocks = l.pool.blocks; links = old.links + passed };
+      pool : l.pool ≡ record old { blocks = l.pool.blocks; links = l.pool.links };
+      links_rise : old.links ≤ l.pool.links;
+      most_links : l.pool.links ≤ old.links + passed;
       contents : (before after : List Run)
           → IsConsistent (expanded old.next (before ++ l.fn.run ∷ after)) old.blocks old.free
           (length old.next)

@@ -1,7 +1,4 @@
-use Rattle.std.proofs.Common.{◌-◌, [], ◌∷◌, length, ap, sym, subst, arith}
-use Rattle.sg_pool.specs.Slots.{Slots, followed}
-use Rattle.sg_block_map.specs.Metering.{OnlyFollows}
-use Rattle.sg_block_map.specs.Runs.{expanded}
+use Rattle.std.proofs.Common.{◌-◌, length, arith}
 use Rattle.sg_block_map.specs.Splitting.{front_of}
 use Rattle.sg_block_map.proofs.SplitLemmas.{is_split-none, is_split-all, is_split-both}
 use Rattle.sg_block_map.proofs.SplitLemmas.{below-part_of_chain, length-one}
@@ -34,12 +31,14 @@ returns-clause-links c =
     let p = c.args.pool.now in
     let next = p.next in
     let before = c.args.lba - c.args.run.start in
-    subst (λ (s : Slots). OnlyFollows (length (expanded next (c.split.result.0 ∷ []))) p s)
-    (sym c.split.ensures.pool)
-    (rw c.split.ensures.front (record {
-      pool = ap (followed p) (omega arith);
+    rw c.split.ensures.front (record {
+      pool = c.split.ensures.pool.pool;
       follows = record {
-        links_rise = omega arith;
-        most_links = omega (arith, length-one next (front_of next c.args.run before));
+        links_rise = c.split.ensures.pool.follows.links_rise;
+        most_links = omega (
+          arith,
+          c.split.ensures.pool.follows.most_links,
+          length-one next (front_of next c.args.run before),
+        );
       };
-    }))
+    })

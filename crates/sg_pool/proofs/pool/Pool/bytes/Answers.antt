@@ -12,5 +12,5 @@ returns c =
     ap (λ (b : Bor (List ℕ)). b.now) c.unwrap_or.ensures ∙ now-or c.get.result _
     ∙ c.get.ensures.lookup.4 (omega arith) zero_block
     ∙ ap (λ xs. get_or xs slot zero_block) c.deref.ensures.value
-    ∙ padded-either p.blocks.items slot (length p.next.items)
+    ∙ padded-either p.blocks.items slot (length p.next)
     ∙ ap (λ (s : Slots). get_or s.blocks slot zero_block) c.self.view_is

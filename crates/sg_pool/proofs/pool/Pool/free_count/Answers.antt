@@ -10,7 +10,6 @@ returns c =
     omega (
       arith,
       free,
-      c.len.ensures,
-      p.next.ok.0,
-      length-free p.next.items p.first_given p.given_count p.fresh c.self.invariant.3,
+      c.count.ensures,
+      length-free p.next p.first_given p.given_count p.fresh c.self.invariant.3,
     )

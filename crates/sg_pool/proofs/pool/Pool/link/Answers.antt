@@ -1,5 +1,6 @@
-use Rattle.std.proofs.Common.{length-set, set, ap, ap₂, ◌∙◌, arith}
-use Rattle.sg_pool.specs.Slots.{Slots, zero_padded}
+use Rattle.std.proofs.Common.{List, ℕ, length, length-set, set, ap, ap₂, sym, subst, ◌∙◌, arith}
+use Rattle.sg_pool.specs.Chains.{chain, AreBelow}
+use Rattle.sg_pool.specs.Slots.{Slots, zero_padded, free_slots}
 use Rattle.sg_table.specs.Occurrences.{occurrences}
 use Rattle.sg_pool.proofs.ChainLemmas.{chain-set}
 use Rattle.sg_pool.proofs.FreeLemmas.{free-set, given-none}
@@ -9,12 +10,14 @@ pub invariant_of-self : goal.invariant_of-self
 invariant_of-self c =
     let p = c.self.inside in
     let free = ap (λ (s : Slots). s.free) c.self.view_is in
-    let same = chain-set p.next.items c.args.slot c.args.next p.first_given p.given_count
-    (given-none p.next.items p.first_given p.given_count p.fresh c.args.slot
+    let same = chain-set p.next c.args.slot c.args.next p.first_given p.given_count
+    (given-none p.next p.first_given p.given_count p.fresh c.args.slot
     (ap (occurrences c.args.slot) free ∙ c.requires.used)) in
-    let linked = length-set p.next.items c.args.slot c.args.next in (
+    let linked' = length-set p.next c.args.slot c.args.next in
+    let linked = ap length c.set.ensures ∙ linked' in (
       omega (arith, linked, c.self.invariant.0),
-      rw (same, linked) c.self.invariant.1,
+      subst (λ (xs : List ℕ). AreBelow (length xs) (chain xs p.first_given p.given_count))
+          (sym c.set.ensures) (rw (same, linked') c.self.invariant.1),
       omega (arith, linked, c.self.invariant.2),
       omega (arith, linked, c.self.invariant.3),
       omega (arith, linked, c.self.invariant.4),
@@ -24,12 +27,18 @@ pub returns : goal.returns
 returns c =
     let p = c.self.inside in
     let free = ap (λ (s : Slots). s.free) c.self.view_is in
-    let same = free-set p.next.items c.args.slot c.args.next p.first_given p.given_count p.fresh
+    let same = free-set p.next c.args.slot c.args.next p.first_given p.given_count p.fresh
     (ap (occurrences c.args.slot) free ∙ c.requires.used) in
-    let len = length-set p.next.items c.args.slot c.args.next in
-    ap₂ (λ n xs. record {
+    let len = length-set p.next c.args.slot c.args.next in
+    ap (λ (next : List ℕ). record {
+      blocks = zero_padded p.blocks.items (length next);
+      next = next;
+      free = free_slots next p.first_given p.given_count p.fresh;
+      links = p.links;
+    }) c.set.ensures
+    ∙ ap₂ (λ n xs. record {
       blocks = zero_padded p.blocks.items n;
-      next = set p.next.items c.args.slot c.args.next;
+      next = set p.next c.args.slot c.args.next;
       free = xs;
       links = p.links;
     }) len same

@@ -13,10 +13,10 @@ pub returns : goal.returns
 unfolding chain
 returns c =
     let p = c.self.inside in
-    let all : length p.next.items - 0 ≡ length p.next.items = omega arith in
+    let all : length p.next - 0 ≡ length p.next = omega arith in
     ap (λ n. record {
-      blocks = zero_padded p.blocks.items (length p.next.items);
-      next = p.next.items;
+      blocks = zero_padded p.blocks.items (length p.next);
+      next = p.next;
       free = range_with_len 0 n;
       links = p.links;
     }) all

@@ -9,7 +9,7 @@ pub returns : goal.returns
 returns c =
     let p = c.self.inside in
     let slot = c.args.slot in
-    let n = length p.next.items in
+    let n = length p.next in
     let few = length p.blocks.items in
     let within = ap (λ (s : Slots). length s.blocks) c.self.view_is in
     let below : slot < n = omega (
@@ -31,8 +31,8 @@ returns c =
     ∙ ap₂ (λ xs b. set xs slot b) same c.copy_from_slice.ensures.after in
     ap (λ xs. record {
       blocks = xs;
-      next = p.next.items;
-      free = free_slots p.next.items p.first_given p.given_count p.fresh;
+      next = p.next;
+      free = free_slots p.next p.first_given p.given_count p.fresh;
       links = p.links;
     }) blocks
     ∙ ap (λ (s : Slots). record s { blocks = set s.blocks slot c.args.bytes.now }) c.self.view_is

@@ -1,5 +1,4 @@
 use Rattle.std.proofs.Common.{◌<◌, ◌-◌, ◌∷◌, length, ap, sym, ◌∙◌, arith}
-use Rattle.std.proofs.lemmas.List.{get_or_read}
 use Rattle.sg_pool.specs.Slots.{Slots, free_slots}
 use Rattle.sg_pool.proofs.ChainLemmas.{first-below, rest-below}
 use Rattle.sg_pool.proofs.FreeLemmas.{fresh-left, free-fresh, free-given}
@@ -9,7 +8,7 @@ pub overflow_add-self : goal.overflow_add-self
 overflow_add-self c =
     let p = c.self.inside in
     let some = ap (λ (s : Slots). length s.free) c.self.view_is in
-    let left = fresh-left p.next.items p.first_given p.given_count p.fresh c.self.invariant.3
+    let left = fresh-left p.next p.first_given p.given_count p.fresh c.self.invariant.3
     c.if-self-eq0.true (omega (arith, some, c.requires)) in
     record { fits = omega (arith, left, c.self.invariant.4) }
 
@@ -17,7 +16,7 @@ pub invariant_of-self : goal.invariant_of-self
 invariant_of-self c =
     let p = c.self.inside in
     let some = ap (λ (s : Slots). length s.free) c.self.view_is in
-    let left = fresh-left p.next.items p.first_given p.given_count p.fresh c.self.invariant.3
+    let left = fresh-left p.next p.first_given p.given_count p.fresh c.self.invariant.3
     c.if-self-eq0.true (omega (arith, some, c.requires)) in (
       c.self.invariant.0,
       c.self.invariant.1,
@@ -31,28 +30,28 @@ returns-then-self-eq0-clause-free c =
     let p = c.self.inside in
     let some = ap (λ (s : Slots). length s.free) c.self.view_is in
     ap (λ (s : Slots). s.free) (sym c.self.view_is)
-    ∙ free-fresh p.next.items p.first_given p.given_count p.fresh c.if-self-eq0.true
-    (fresh-left p.next.items p.first_given p.given_count p.fresh c.self.invariant.3
+    ∙ free-fresh p.next p.first_given p.given_count p.fresh c.if-self-eq0.true
+    (fresh-left p.next p.first_given p.given_count p.fresh c.self.invariant.3
     c.if-self-eq0.true (omega (arith, some, c.requires)))
 
-pub index-requires : goal.index-requires
-index-requires c =
+pub get-self-inside-requires : goal.get-self-inside-requires
+get-self-inside-requires c =
     let p = c.self.inside in
-    let below = first-below p.next.items p.first_given p.given_count (length p.next.items)
+    let below = first-below p.next p.first_given p.given_count (length p.next)
     (omega (arith, c.if-self-eq0.false)) c.self.invariant.1 in
-    omega (arith, below, p.next.ok.0)
+    below
 
 pub invariant_of-self-2 : goal.invariant_of-self-2
 invariant_of-self-2 c =
     let p = c.self.inside in
     let some : 0 < p.given_count = omega (arith, c.if-self-eq0.false) in
-    let below = first-below p.next.items p.first_given p.given_count
-    (length p.next.items) some c.self.invariant.1 in
-    let after = get_or_read p.next.items p.first_given c.index.result.now below c.index.ensures 0 in (
+    let below = first-below p.next p.first_given p.given_count
+    (length p.next) some c.self.invariant.1 in
+    let after = c.get-self-inside.ensures in (
       c.self.invariant.0,
       rw (sym after) at
-          (rest-below p.next.items p.first_given p.given_count
-          (length p.next.items) some c.self.invariant.1),
+          (rest-below p.next p.first_given p.given_count
+          (length p.next) some c.self.invariant.1),
       c.self.invariant.2,
       c.self.invariant.3,
       c.self.invariant.4,
@@ -62,9 +61,9 @@ pub returns-clause-free : goal.returns-clause-free
 returns-clause-free c =
     let p = c.self.inside in
     let some : 0 < p.given_count = omega (arith, c.if-self-eq0.false) in
-    let below = first-below p.next.items p.first_given p.given_count
-    (length p.next.items) some c.self.invariant.1 in
-    let after = get_or_read p.next.items p.first_given c.index.result.now below c.index.ensures 0 in
+    let below = first-below p.next p.first_given p.given_count
+    (length p.next) some c.self.invariant.1 in
+    let after = c.get-self-inside.ensures in
     ap (λ (s : Slots). s.free) (sym c.self.view_is)
-    ∙ free-given p.next.items p.first_given p.given_count p.fresh some
-    ∙ ap (λ k. p.first_given ∷ free_slots p.next.items k (p.given_count - 1) p.fresh) (sym after)
+    ∙ free-given p.next p.first_given p.given_count p.fresh some
+    ∙ ap (λ k. p.first_given ∷ free_slots p.next k (p.given_count - 1) p.fresh) (sym after)
