@@ -16,7 +16,8 @@ use Rattle.sg_block_map.proofs.ExpandedLemmas.{expanded-append, expanded-none, e
 use Rattle.sg_block_map.proofs.ExpandedLemmas.{chained-set, chained-append, chained-left}
 use Rattle.sg_block_map.proofs.ExpandedLemmas.{chained-right, slots-append, slots-singles}
 use Rattle.sg_block_map.proofs.ExpandedLemmas.{slots-both, length-singles, last-in}
-use Rattle.sg_block_map.proofs.SplitLemmas.{expanded-one, below-left, below-right}
+use Rattle.sg_pool.proofs.LinkLemmas.{below-left, below-right}
+use Rattle.sg_block_map.proofs.SplitLemmas.{expanded-one}
 
 pub slots-one : (next : List ℕ) (run : Run) → slots_of (expanded next (run ∷ [])) ≡
     chain next run.first run.count

@@ -2,44 +2,15 @@
 use Rattle.std.proofs.Common.{◌≡◌, ℕ, ◌+◌, ◌-◌, ◌<◌, ◌≤◌, List, [], ◌∷◌, ◌++◌, length, arith, refl}
 use Rattle.std.proofs.Common.{sym, ap, ◌∙◌, Some, None}
 use Rattle.std.proofs.lemmas.List.{append-nil}
-use Rattle.sg_pool.specs.Chains.{chain, slot_after, AreBelow, IsChain}
+use Rattle.sg_pool.specs.Chains.{slot_after, IsChain}
 use Rattle.sg_pool.specs.Slots.{Slots, followed}
 use Rattle.sg_table.specs.declared.run.Run.{Run}
 use Rattle.sg_block_map.specs.Metering.{OnlyFollows}
 use Rattle.sg_block_map.specs.Runs.{end_of, singles, singles_of, expanded}
 use Rattle.sg_block_map.specs.Splitting.{front_of, rest_of, IsSplit}
-use Rattle.sg_pool.proofs.LinkLemmas.{chain-append, chain-last, slot_after-add}
+use Rattle.sg_pool.proofs.LinkLemmas.{slot_after-add}
 use Rattle.sg_block_map.proofs.ExpandedLemmas.{expanded-more, expanded-none, singles-append}
 use Rattle.sg_block_map.proofs.ExpandedLemmas.{length-singles}
-
-pub below-left : (count : ℕ) (xs ys : List ℕ) → AreBelow count (xs ++ ys) → AreBelow count xs
-unfolding AreBelow
-below-left count [] ys h = tt
-below-left count (x ∷ xs) ys h = (h.0, below-left count xs ys h.1)
-
-pub below-right : (count : ℕ) (xs ys : List ℕ) → AreBelow count (xs ++ ys) → AreBelow count ys
-unfolding AreBelow
-below-right count [] ys h = h
-below-right count (x ∷ xs) ys h = below-right count xs ys h.1
-
-below-one : (count x : ℕ) → AreBelow count (x ∷ []) → x < count
-unfolding AreBelow
-below-one count x h = h.0
-
-pub below-part_of_chain : (count : ℕ) (next : List ℕ) (first n m : ℕ) → n ≤ m
-    → AreBelow count (chain next first m) → AreBelow count (chain next first n)
-below-part_of_chain count next first n m le h =
-    let e : n + (m - n) ≡ m = omega arith in
-    below-left count (chain next first n) (chain next (slot_after next first n) (m - n))
-    (rw (sym (chain-append next first n (m - n)), e) h)
-
-pub slot-below : (count : ℕ) (next : List ℕ) (first n m : ℕ) → n < m
-    → AreBelow count (chain next first m) → slot_after next first n < count
-slot-below count next first n m lt h =
-    let front = below-part_of_chain count next first (n + 1) m (omega arith) h in
-    below-one count (slot_after next first n)
-    (below-right count (chain next first n) (slot_after next first n ∷ [])
-    (rw (chain-last next first n) at front))
 
 pub expanded-one : (next : List ℕ) (run : Run) → expanded next (run ∷ []) ≡ singles_of next run
 expanded-one next run = expanded-more next run []

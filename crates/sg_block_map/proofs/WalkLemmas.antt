@@ -30,7 +30,8 @@ use Rattle.sg_block_map.proofs.ContentsLemmas.{find-below, find-above, find-righ
 use Rattle.sg_block_map.proofs.ExpandedLemmas.{expanded-more, expanded-none, expanded-append}
 use Rattle.sg_block_map.proofs.ExpandedLemmas.{singles-one, slots-append, chained-append}
 use Rattle.sg_block_map.proofs.ExpandedLemmas.{chained-right, slots-singles, length-singles}
-use Rattle.sg_block_map.proofs.SplitLemmas.{slot-below, below-left, below-right, split-parts}
+use Rattle.sg_pool.proofs.LinkLemmas.{slot-below, below-left, below-right}
+use Rattle.sg_block_map.proofs.SplitLemmas.{split-parts}
 use Rattle.sg_block_map.proofs.SplitLemmas.{rest-chain, expanded-one}
 
 pub passed-by : (P : List Run → Type 0) (next : List ℕ) (run : Run) (more : List Run)

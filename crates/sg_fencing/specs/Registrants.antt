@@ -247,22 +247,31 @@ NoBlockIsSeenOverAList =
     → answers_where (is_from initiator) (with_contents state contents) calls
     ≡ answers_where (is_from initiator) state calls
 
--- So after a PREEMPT or a PREEMPT AND ABORT of its key an initiator writes nothing while a
--- reservation is held. This lasts until the disk grants it a registration again.
+-- A PREEMPT or a PREEMPT AND ABORT of another initiator has an initiator's key, and ends with GOOD.
+pub record IsPreempted (state : State) (initiator : ℕ) (preempt : Call) : Type 0 where
+  pub key : ℕ
+  pub sent : preempted_key (command_of preempt.cdb.now) preempt.data_out.now ≡ Some key
+  pub registered : key_of state.reservations.registrations initiator ≡ Some key
+  pub another : preempt.initiator ≢ initiator
+  pub good : (step_of state preempt).answer.status ≡ Good
+
+-- An initiator writes nothing while a reservation is held. This lasts until the disk grants it a
+-- registration.
+abbrev pub WritesNothingUntilGranted : (initiator : ℕ) → State → List Call → Type 0
+WritesNothingUntilGranted initiator state calls =
+    (n : ℕ) (call : Call) (answer : Answer)
+    → slice_get calls n ≡ Some call → slice_get (answers state calls) n ≡ Some answer
+    → call.initiator ≡ initiator → class_of call.cdb.now ≡ Some Writes
+    → IsNeverGranted initiator state (all_calls (take n calls))
+    → is_reserved (state_after_all state (take n calls)) ≡ true
+    → answer.status ≢ Good
+
+-- This holds after a PREEMPT or a PREEMPT AND ABORT of the initiator's key.
 abbrev pub PreemptedWriteNothing : Type 0
 PreemptedWriteNothing =
-    (state : State) (preempt : Call) (initiator key : ℕ) (calls : List Call) (n : ℕ) (call : Call)
-    (answer : Answer)
-    → IsWithinLimits state → preempt.initiator ≢ initiator
-    → preempted_key (command_of preempt.cdb.now) preempt.data_out.now ≡ Some key
-    → key_of state.reservations.registrations initiator ≡ Some key
-    → (step_of state preempt).answer.status ≡ Good →
-    (let after = (step_of state preempt).state in
-    IsNeverGranted initiator after (all_calls (take n calls))
-    → slice_get calls n ≡ Some call → slice_get (answers after calls) n ≡ Some answer
-    → call.initiator ≡ initiator → class_of call.cdb.now ≡ Some Writes
-    → is_reserved (state_after_all after (take n calls)) ≡ true
-    → answer.status ≢ Good)
+    (state : State) (preempt : Call) (initiator : ℕ) (calls : List Call)
+    → IsWithinLimits state → IsPreempted state initiator preempt
+    → WritesNothingUntilGranted initiator (step_of state preempt).state calls
 
 -- A reservation is held, and each sender of a list of commands stays unregistered. Then the list
 -- leaves the view of every other initiator as it was: the blocks, the mode pages, unit attentions,

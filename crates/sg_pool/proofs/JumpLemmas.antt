@@ -1,5 +1,5 @@
 -- Jumps along chains, as links change and as jumps are laid.
-use Rattle.std.proofs.Common.{◌≡◌, ◌≢◌, ℕ, ◌+◌, ◌-◌, ◌<◌, ◌≤◌, zero, suc, List, [], ◌∷◌, ◌++◌}
+use Rattle.std.proofs.Common.{◌≡◌, ◌≢◌, ℕ, ◌+◌, ◌<◌, ◌≤◌, zero, suc, List, ◌++◌}
 use Rattle.std.proofs.Common.{length, take, drop, get_or, set, arith, sym, ap, ap₂, ◌∙◌, inl, inr}
 use Rattle.std.proofs.Common.{length-set}
 use Rattle.std.proofs.lemmas.Bool.{cases_lt}
@@ -7,10 +7,9 @@ use Rattle.std.proofs.lemmas.List.{get_or-set_same, get_or-set_other}
 use Rattle.std.proofs.Math.ListN.{get_or-eq_default}
 use Rattle.std.proofs.Math.Seq.{take-append_seam}
 use Rattle.std.specs.Prelude.{slice_index}
-use Rattle.sg_pool.specs.Chains.{chain, slot_after, AreBelow}
+use Rattle.sg_pool.specs.Chains.{slot_after}
 use Rattle.sg_pool.specs.Jumps.{AreJumpsOver}
 use Rattle.sg_pool.proofs.LinkLemmas.{slot_after-none, slot_after-more}
-use Rattle.sg_pool.proofs.LinkLemmas.{chain-append, chain-last}
 
 -- two numbers are the same, or not
 pub data IsSame (x y : ℕ) : Type 0 where
@@ -176,44 +175,6 @@ derived-laid next owner jump target first laid d low short mine =
       ];
     }
 
--- ---- Slots below a count
-
-below-left : (count : ℕ) (xs ys : List ℕ) → AreBelow count (xs ++ ys) → AreBelow count xs
-unfolding AreBelow
-below-left count [] ys h = tt
-below-left count (x ∷ xs) ys h = (h.0, below-left count xs ys h.1)
-
-below-right : (count : ℕ) (xs ys : List ℕ) → AreBelow count (xs ++ ys) → AreBelow count ys
-unfolding AreBelow
-below-right count [] ys h = h
-below-right count (x ∷ xs) ys h = below-right count xs ys h.1
-
-below-one : (count x : ℕ) → AreBelow count (x ∷ []) → x < count
-unfolding AreBelow
-below-one count x h = h.0
-
-pub below-from : (count : ℕ) (next : List ℕ) (first n m : ℕ) → n ≤ m
-    → AreBelow count (chain next first m) → AreBelow count (chain next (slot_after next first n) (m - n))
-below-from count next first n m le h =
-    let e : n + (m - n) ≡ m = omega arith in
-    below-right count (chain next first n) (chain next (slot_after next first n) (m - n))
-    (rw (chain-append next first n (m - n)) at (rw (sym e) at h))
-
-pub below-front : (count : ℕ) (next : List ℕ) (first n m : ℕ) → n ≤ m
-    → AreBelow count (chain next first m) → AreBelow count (chain next first n)
-below-front count next first n m le h =
-    let e : n + (m - n) ≡ m = omega arith in
-    below-left count (chain next first n) (chain next (slot_after next first n) (m - n))
-    (rw (chain-append next first n (m - n)) at (rw (sym e) at h))
-
-pub slot-below : (count : ℕ) (next : List ℕ) (first n m : ℕ) → n < m
-    → AreBelow count (chain next first m) → slot_after next first n < count
-slot-below count next first n m lt h =
-    let front = below-front count next first (n + 1) m (omega arith) h in
-    below-one count (slot_after next first n)
-    (below-right count (chain next first n) (slot_after next first n ∷ [])
-    (rw (chain-last next first n) at front))
-
 -- a slot whose link no jump goes over has no jump
 pub no-jump : (next owner jump target : List ℕ) (s : ℕ) → AreJumpsOver next owner jump target
     → get_or jump (get_or owner s 0) 0 ≡ 0 → get_or jump s 0 ≡ 0
@@ -224,13 +185,6 @@ no-jump next owner jump target s d none = elim (cases_lt 0 (get_or jump s 0)) [
       sym (ap (λ x. get_or jump x 0) o) ∙ none
   | inr le ↦ omega arith
 ]
-
--- the first slot of a chain
-pub slot-low : (count : ℕ) (next : List ℕ) (slot left : ℕ) → 0 < left
-    → AreBelow count (chain next slot left) → slot < count
-slot-low count next slot left some below =
-    let low = slot-below count next slot 0 left some below in
-    omega (arith, low, slot_after-none next slot)
 
 -- a list that a call wrote back as a whole
 pub take-written : (n : ℕ) (now old : List ℕ) → n ≡ length now

@@ -176,3 +176,48 @@ below-in count t (x ∷ xs) h some = elim (cases_lt 0 (one_if_equal t x)) [
   | inl here ↦ let e = equal_one t x here in rw (sym e) h.0
   | inr other ↦ below-in count t xs h.1 (omega arith)
 ]
+
+-- ---- Slots below a count
+
+pub below-left : (count : ℕ) (xs ys : List ℕ) → AreBelow count (xs ++ ys) → AreBelow count xs
+unfolding AreBelow
+below-left count [] ys h = tt
+below-left count (x ∷ xs) ys h = (h.0, below-left count xs ys h.1)
+
+pub below-right : (count : ℕ) (xs ys : List ℕ) → AreBelow count (xs ++ ys) → AreBelow count ys
+unfolding AreBelow
+below-right count [] ys h = h
+below-right count (x ∷ xs) ys h = below-right count xs ys h.1
+
+pub below-one : (count x : ℕ) → AreBelow count (x ∷ []) → x < count
+unfolding AreBelow
+below-one count x h = h.0
+
+pub below-from : (count : ℕ) (next : List ℕ) (first n m : ℕ) → n ≤ m
+    → AreBelow count (chain next first m) → AreBelow count (chain next (slot_after next first n) (m - n))
+below-from count next first n m le h =
+    let e : n + (m - n) ≡ m = omega arith in
+    below-right count (chain next first n) (chain next (slot_after next first n) (m - n))
+    (rw (chain-append next first n (m - n)) at (rw (sym e) at h))
+
+pub below-front : (count : ℕ) (next : List ℕ) (first n m : ℕ) → n ≤ m
+    → AreBelow count (chain next first m) → AreBelow count (chain next first n)
+below-front count next first n m le h =
+    let e : n + (m - n) ≡ m = omega arith in
+    below-left count (chain next first n) (chain next (slot_after next first n) (m - n))
+    (rw (chain-append next first n (m - n)) at (rw (sym e) at h))
+
+pub slot-below : (count : ℕ) (next : List ℕ) (first n m : ℕ) → n < m
+    → AreBelow count (chain next first m) → slot_after next first n < count
+slot-below count next first n m lt h =
+    let front = below-front count next first (n + 1) m (omega arith) h in
+    below-one count (slot_after next first n)
+    (below-right count (chain next first n) (slot_after next first n ∷ [])
+    (rw (chain-last next first n) at front))
+
+-- the first slot of a chain
+pub slot-low : (count : ℕ) (next : List ℕ) (slot left : ℕ) → 0 < left
+    → AreBelow count (chain next slot left) → slot < count
+slot-low count next slot left some below =
+    let low = slot-below count next slot 0 left some below in
+    omega (arith, low, slot_after-none next slot)

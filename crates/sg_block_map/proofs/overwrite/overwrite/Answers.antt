@@ -12,14 +12,14 @@ use Rattle.sg_store.proofs.DiskLemmas.{remapped-none, remapped-more}
 use Rattle.sg_pool.proofs.LinkLemmas.{slot_after-more}
 use Rattle.sg_block_map.proofs.OverwriteLemmas.{over-contents}
 use Rattle.sg_block_map.proofs.WriteLemmas.{consistent-other}
-use Rattle.sg_block_map.proofs.SplitLemmas.{below-part_of_chain, slot-below}
+use Rattle.sg_pool.proofs.LinkLemmas.{below-front, slot-below}
 use Rattle.sg_block_map.proofs.overwrite.overwrite.Goals as goal
 
 pub follow-slot-requires-clause-below : goal.follow-slot-requires-clause-below
 follow-slot-requires-clause-below c =
     let p = c.args.pool.now in
     let run = c.args.run in
-    below-part_of_chain (length p.next) p.next run.first (c.args.lba - run.start) run.count
+    below-front (length p.next) p.next run.first (c.args.lba - run.start) run.count
     (omega (arith, c.requires.range.before_end, c.requires.range.after_start, c.requires.range.not_empty))
     c.requires.below
 

@@ -3,12 +3,13 @@ use Rattle.std.specs.Prelude.{slice_index}
 use Rattle.sg_pool.specs.Chains.{slot_after}
 use Rattle.sg_pool.specs.Slots.{Slots}
 use Rattle.sg_pool.proofs.LinkLemmas.{slot_after-more}
-use Rattle.sg_block_map.proofs.SplitLemmas.{slot-below, below-part_of_chain, only-follows-next}
+use Rattle.sg_pool.proofs.LinkLemmas.{slot-below, below-front}
+use Rattle.sg_block_map.proofs.SplitLemmas.{only-follows-next}
 use Rattle.sg_block_map.proofs.split.split.Goals as goal
 
 pub follow-last-requires-clause-below : goal.follow-last-requires-clause-below
 follow-last-requires-clause-below c =
-    below-part_of_chain (length c.args.pool.now.next) c.args.pool.now.next c.args.run.first
+    below-front (length c.args.pool.now.next) c.args.pool.now.next c.args.run.first
     (c.args.count - 1) c.args.count (omega arith) c.requires.below
 
 pub next-first-requires-clause-slot : goal.next-first-requires-clause-slot

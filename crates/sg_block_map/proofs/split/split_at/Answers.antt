@@ -1,7 +1,8 @@
 use Rattle.std.proofs.Common.{◌-◌, length, arith}
 use Rattle.sg_block_map.specs.Splitting.{front_of}
 use Rattle.sg_block_map.proofs.SplitLemmas.{is_split-none, is_split-all, is_split-both}
-use Rattle.sg_block_map.proofs.SplitLemmas.{below-part_of_chain, length-one}
+use Rattle.sg_pool.proofs.LinkLemmas.{below-front}
+use Rattle.sg_block_map.proofs.SplitLemmas.{length-one}
 use Rattle.sg_block_map.proofs.split.split_at.Goals as goal
 
 pub returns-then-lba-run-clause-split : goal.returns-then-lba-run-clause-split
@@ -15,7 +16,7 @@ returns-then-before-from-clause-split c = is_split-all c.args.pool.now.next c.ar
 
 pub split-requires-clause-below : goal.split-requires-clause-below
 split-requires-clause-below c =
-    below-part_of_chain (length c.args.pool.now.next) c.args.pool.now.next c.args.run.first
+    below-front (length c.args.pool.now.next) c.args.pool.now.next c.args.run.first
     (c.args.lba - c.args.run.start) c.args.run.count
     (omega (arith, c.if-before-from.false, c.from.ensures)) c.requires.below
 

@@ -4,7 +4,8 @@ use Rattle.std.proofs.lemmas.Bool.{cases_lt}
 use Rattle.sg_pool.specs.Chains.{slot_after}
 use Rattle.sg_pool.specs.Jumps.{AreJumpsOver}
 use Rattle.sg_pool.proofs.LinkLemmas.{slot_after-none, slot_after-more}
-use Rattle.sg_pool.proofs.JumpLemmas.{derived-owned, derived-laid, owned-kept, slot-below, no-jump}
+use Rattle.sg_pool.proofs.LinkLemmas.{slot-below}
+use Rattle.sg_pool.proofs.JumpLemmas.{derived-owned, derived-laid, owned-kept, no-jump}
 use Rattle.sg_pool.proofs.LeapLemmas.{leaps-laid}
 use Rattle.sg_pool.proofs.jumps.lay.Goals as goal
 

@@ -2,7 +2,8 @@ use Rattle.std.proofs.Common.{length, sym, ap, ◌∙◌, arith}
 use Rattle.std.proofs.lemmas.List.{get_or_read_under}
 use Rattle.sg_pool.specs.Chains.{slot_after}
 use Rattle.sg_pool.proofs.LinkLemmas.{slot_after-one}
-use Rattle.sg_pool.proofs.JumpLemmas.{below-front, slot-low, take-written}
+use Rattle.sg_pool.proofs.LinkLemmas.{below-front, slot-low}
+use Rattle.sg_pool.proofs.JumpLemmas.{take-written}
 use Rattle.sg_pool.proofs.jumps.step.Goals as goal
 
 pub index-requires : goal.index-requires

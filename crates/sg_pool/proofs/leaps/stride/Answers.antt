@@ -1,7 +1,8 @@
 use Rattle.std.proofs.Common.{◌<◌, length, get_or, sym, ap, ◌∙◌, arith}
 use Rattle.std.proofs.lemmas.List.{get_or_read_under}
 use Rattle.sg_pool.specs.Chains.{slot_after}
-use Rattle.sg_pool.proofs.JumpLemmas.{slot-low, take-written}
+use Rattle.sg_pool.proofs.LinkLemmas.{slot-low}
+use Rattle.sg_pool.proofs.JumpLemmas.{take-written}
 use Rattle.sg_pool.proofs.LeapLemmas.{span-leads}
 use Rattle.sg_pool.proofs.leaps.stride.Goals as goal
 

@@ -1,7 +1,7 @@
 use Rattle.std.proofs.Common.{◌≡◌, ℕ, ◌+◌, ◌-◌, length, sym, ap, ◌∙◌, arith, subst}
 use Rattle.sg_pool.specs.Chains.{chain, slot_after, AreBelow}
 use Rattle.sg_pool.proofs.LinkLemmas.{slot_after-none, slot_after-add}
-use Rattle.sg_pool.proofs.JumpLemmas.{below-from}
+use Rattle.sg_pool.proofs.LinkLemmas.{below-from}
 use Rattle.sg_pool.proofs.leaps.walk.Goals as goal
 
 pub loop-left-init : goal.loop-left-init
