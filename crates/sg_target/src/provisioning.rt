@@ -66,7 +66,8 @@ pub(crate) fn check_unmap(fields: Unmap, data_out: &[u8]) -> Result<Operation<'_
 }
 
 /// The reason why the extents of a parameter list can't all be reached, on a disk of `capacity`
-/// blocks. If this were inlined, every command would make room for their table.
+/// blocks.
+// Not inlined: the stack frame of every command would have room for their table.
 #[inline(never)]
 pub(crate) fn listed_out_of_range(listed: &ListedExtents<'_>, capacity: u64) -> Option<Refusal>
     requires { capacity ≤ MAX_CAPACITY }
@@ -78,8 +79,8 @@ pub(crate) fn listed_out_of_range(listed: &ListedExtents<'_>, capacity: u64) -> 
 }
 
 impl<S: Store> Target<S> {
-    /// Unmaps the extents of a parameter list. If this were inlined, every command would make room
-    /// for their table.
+    /// Unmaps the extents of a parameter list.
+    // Not inlined: the stack frame of every command would have room for their table.
     #[inline(never)]
     pub(crate) fn unmap_listed(&mut self, listed: &ListedExtents<'_>, buf: &[u8]) -> Reply
         requires on_disk { AreOnDisk self.old.state.disk.capacity listed.now }
@@ -134,8 +135,8 @@ fn unmap_in_turn<S: Store>(store: &mut S, extents: &[Extent])
 // ---- Anchoring
 
 impl<S: Store> Target<S> {
-    /// Anchors the extents of a parameter list. If this were inlined, every command would make room
-    /// for their table.
+    /// Anchors the extents of a parameter list.
+    // Not inlined: the stack frame of every command would have room for their table.
     #[inline(never)]
     pub(crate) fn anchor_listed(
         &mut self,

@@ -127,8 +127,8 @@ pub(crate) fn check_reserve_out(
 
 impl<S: Store> Target<S> {
     /// Registrations and reservation change, unless something is wrong with the parameter list.
-    /// Other initiators get unit attentions. If this were inlined, every command would make room
-    /// for the change.
+    /// Other initiators get unit attentions.
+    // Not inlined: the stack frame of every command would have room for the change.
     #[inline(never)]
     #[tactic(auto, unfolding(crate::specs::ReservationCommands::reservation_change))]
     pub(crate) fn change_reservations(

@@ -67,9 +67,8 @@ pub(super) fn decode_extent_6(row: &Row, cdb: &[u8]) -> Result<ShortExtent, CdbF
     ensures extent { IfOk result (λ extent. extent ≡ value_at cdb.now short_extent) }
 {
     check_row(row, cdb)?;
-    let high = u32::from(cdb[1] & 0x1F);
-    let rest = u32::from(BigEndian::read_u16(&cdb[2..]));
-    Ok(ShortExtent::of_fields(high * 65536 + rest, cdb[4]))
+    let lba = BigEndian::read_u24(&cdb[1..]) & 0x1F_FFFF;
+    Ok(ShortExtent::of_fields(lba, cdb[4]))
 }
 
 /// The address and the count of commands of 10 bytes.
@@ -115,11 +114,9 @@ pub(super) fn encode_extent_6(row: &Row, extent: ShortExtent) -> CdbBytes
         ++ big_bytes 2 (extent.0 % 65536) ++ (extent.1 % 256 ∷ 0 ∷ []) }
     ensures fits { have_room (extent_6 extent) ≡ true }
 {
-    let lba = extent.lba();
     let mut cdb = [0; MAX_CDB_LENGTH];
     cdb[0] = row.opcode;
-    cdb[1] = (lba / 65536) as u8;
-    BigEndian::write_u16(&mut cdb[2..], (lba % 65536) as u16);
+    BigEndian::write_u24(&mut cdb[1..], extent.lba());
     cdb[4] = (extent.count() % 256) as u8;
     CdbBytes::new(cdb, 6)
 }
