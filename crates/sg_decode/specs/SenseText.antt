@@ -3,7 +3,8 @@ use Rattle.std.specs.Prelude.{ℕ, List, [], ◌++◌, codes, decimal, Option, S
 use Rattle.std.specs.Prelude.{unwrap_or, ◌==◌, if◌then◌else◌}
 use Rattle.std.specs.Int.{to_be_bytes, w64}
 use Rattle.hex.specs.Hex.{encode_lower}
-use Rattle.sg_wire.specs.SenseData.{SenseFields, read_sense}
+use Rattle.sg_wire.specs.SenseData.{SenseFields}
+use Rattle.sg_wire.specs.SenseReading.{read_sense}
 use Rattle.sg_wire.specs.SenseKey.{no_sense, illegal_request, unit_attention, data_protect}
 use Rattle.sg_wire.specs.SenseKey.{aborted_command}
 use Rattle.sg_wire.specs.declared.sense.Pointer.{Pointer}

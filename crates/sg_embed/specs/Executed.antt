@@ -50,7 +50,7 @@ registrants (Some disk) = Some (registered_mask disk.target.state.reservations.r
 -- A target executes a command, and its store is charged for it.
 pub record ExecutesCommand (initiator : ℕ) (cdb data_out : List ℕ) (reply : Reply)
     (before after : List ℕ) (old new : TargetFields) : Type 0 where
-  pub executed : IsExecuted initiator cdb data_out old new reply before after
+  pub executed : IsExecuted initiator cdb data_out old.state new.state reply before after
   pub charged : ChargesCommand (cost_bounds block_price block_least) initiator cdb data_out old new reply
 
 -- A command is executed, and a record shows the reply.

@@ -2,7 +2,7 @@
 ghost use Rattle.std.specs.Prelude.{◌≡◌, option_map};
 ghost use Rattle.sg_embed.specs.Records.{Shows, asked_identity, sense_record};
 ghost use Rattle.sg_wire.specs.Sense.{fields_of};
-ghost use Rattle.sg_wire.specs.SenseData.{read_sense};
+ghost use Rattle.sg_wire.specs.SenseReading.{read_sense};
 
 use sg_pages::{Identity, IdentityFault};
 use sg_target::{Reply, SENSE_LENGTH};

@@ -2,7 +2,7 @@
 use Rattle.std.specs.Prelude.{ℕ, ◌*◌, List, [], ◌∷◌, ◌++◌, replicate, Option, codes, Ok, Err, Bool}
 use Rattle.std.specs.Prelude.{if◌then◌else◌}
 use Rattle.sg_wire.specs.CdbEncoding.{cdb_of}
-use Rattle.sg_wire.specs.SenseData.{read_sense}
+use Rattle.sg_wire.specs.SenseReading.{read_sense}
 use Rattle.sg_decode.specs.SenseText.{sense_line}
 use Rattle.sg_wire.specs.Commands.{naming_16}
 use Rattle.sg_wire.specs.declared.command.Command.{Command}

@@ -4,7 +4,7 @@ ghost use Rattle.std.specs.Prelude.{◌≡◌, ◌≤◌, ◌++◌, false, lengt
 ghost use Rattle.std.specs.Prelude.{option_map, IfSome};
 ghost use Rattle.sg_wire.specs.Watched.{has_failed};
 ghost use Rattle.sg_wire.specs.Sense.{fields_of};
-ghost use Rattle.sg_wire.specs.SenseData.{read_sense};
+ghost use Rattle.sg_wire.specs.SenseReading.{read_sense};
 ghost use Rattle.sg_target.specs.Step.{step};
 ghost use Rattle.sg_wire.specs.Printer.{PrintsText};
 ghost use Rattle.sg_run.specs.AnswerText.{answer_text};

@@ -11,7 +11,8 @@ use Rattle.sg_pages.specs.declared.mode_pages.request.ModeSenseFault.TheVariants
 use Rattle.sg_wire.specs.CutAnswer.{first_bytes, overwritten}
 use Rattle.sg_target.specs.Effect.{returning_up_to}
 use Rattle.sg_target.specs.ModeCommands.{mode_parameters, sense_refusal}
-use Rattle.sg_target.specs.Reply.{Carries, executed_reply, refused_reply}
+use Rattle.sg_target.specs.Reply.{Carries}
+use Rattle.sg_target.specs.MadeReplies.{executed_reply, refused_reply}
 use Rattle.sg_target.specs.State.{State}
 use Rattle.sg_target.specs.Step.{executed, refused, sense_format, step_by}
 use Rattle.sg_target.specs.declared.operation.Operation.TheVariants.{ReturnModes}

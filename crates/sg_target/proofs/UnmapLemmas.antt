@@ -7,7 +7,7 @@ use Rattle.sg_store.specs.Meter.{HasHeadroom, Meter, restarted}
 use Rattle.sg_store.specs.declared.store.Counts.{Counts}
 use Rattle.sg_store.specs.declared.store.TheConstants.{MAX_POOL}
 use Rattle.sg_target.specs.Charge.{CostBounds, IsCharged, IsCounted}
-use Rattle.sg_target.specs.Reply.{executed_reply}
+use Rattle.sg_target.specs.MadeReplies.{executed_reply}
 use Rattle.sg_target.specs.Ranges.{Range, ranges_in_turn}
 use Rattle.sg_target.proofs.ChargingLemmas.{charged}
 use Rattle.sg_target.proofs.InTurnLemmas.{length-ranges}

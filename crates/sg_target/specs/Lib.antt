@@ -30,3 +30,4 @@ pub mod DataIn
 pub mod Extents
 pub mod Joining
 pub mod Anchoring
+pub mod MadeReplies

@@ -10,7 +10,7 @@ ghost use Rattle.sg_target.specs.Checks.{requested, unsupported_value};
 ghost use Rattle.sg_target.specs.Demands.{read, too_long, write};
 ghost use Rattle.sg_target.specs.Charge.{TakesStep, cost_bounds};
 ghost use Rattle.sg_target.specs.Ranges.{range};
-ghost use Rattle.sg_target.specs.Reply.{ReturnsData, executed_reply, refused_reply};
+ghost use Rattle.sg_target.specs.MadeReplies.{ReturnsData, executed_reply, refused_reply};
 ghost use Rattle.sg_target.specs.Step.{executed, outcome, sense_format};
 
 use crate::data_in::DataIn;

@@ -3,7 +3,7 @@ ghost use Rattle.std.specs.Prelude.{◌≡◌, ◌≤◌, length};
 ghost use Rattle.sg_wire.specs.Cut.{Puts};
 ghost use Rattle.sg_wire.specs.CutAnswer.{first_bytes, overwritten};
 ghost use Rattle.sg_target.specs.DataIn.{data_of};
-ghost use Rattle.sg_target.specs.Reply.{ReturnsData};
+ghost use Rattle.sg_target.specs.MadeReplies.{ReturnsData};
 
 use crate::block::{capacity_10, capacity_16};
 use crate::config::Config;

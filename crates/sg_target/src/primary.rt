@@ -7,7 +7,7 @@ ghost use Rattle.sg_target.specs.Demands.{inquiry};
 ghost use Rattle.sg_target.specs.Effect.{without_attention};
 ghost use Rattle.sg_target.specs.PrimaryCommands.{format_of, inquiry_data, inquiry_page};
 ghost use Rattle.sg_target.specs.PrimaryCommands.{returning_sense};
-ghost use Rattle.sg_target.specs.Reply.{ReturnsData};
+ghost use Rattle.sg_target.specs.MadeReplies.{ReturnsData};
 
 use crate::data_in::DataIn;
 use crate::operation::Operation;

@@ -5,7 +5,7 @@ ghost use Rattle.sg_wire.specs.CutAnswer.{first_bytes};
 ghost use Rattle.sg_target.specs.Checks.{requested};
 ghost use Rattle.sg_target.specs.Demands.{reserve_out};
 ghost use Rattle.sg_target.specs.Charge.{TakesStep, cost_bounds};
-ghost use Rattle.sg_target.specs.Reply.{ReturnsData};
+ghost use Rattle.sg_target.specs.MadeReplies.{ReturnsData};
 ghost use Rattle.sg_target.specs.ReservationCommands.{always_needs_type, out_refusal};
 ghost use Rattle.sg_target.specs.ReservationCommands.{reserve_in_data};
 ghost use Rattle.sg_target.specs.State.{IsWithinLimits};

@@ -64,7 +64,7 @@ ghost use Rattle.sg_target.specs.BlockCommands.{longest_data_in};
 ghost use Rattle.sg_target.specs.Charge.{ChargesCommand, cost_bounds};
 ghost use Rattle.sg_target.specs.Execution.{IsExecuted};
 ghost use Rattle.sg_target.specs.Happenings.{Happens};
-ghost use Rattle.sg_target.specs.Reply.{refused_reply};
+ghost use Rattle.sg_target.specs.MadeReplies.{refused_reply};
 ghost use Rattle.sg_target.specs.State.{new_state};
 ghost use Rattle.sg_target.specs.Step.{after_refusal, sense_format};
 
@@ -103,7 +103,7 @@ impl<S: Store> Target<S> {
         // The answer and the state after it are as in the definition's step. No table passes its
         // limit.
         ensures executed { IsExecuted initiator cdb.now data_out.now
-            self.old self.new result buf.old buf.new }
+            self.old.state self.new.state result buf.old buf.new }
         // What the store did is charged for the command's ranges.
         ensures charged { ChargesCommand (cost_bounds S.price S.least) initiator cdb.now data_out.now
             self.old self.new result }

@@ -2,7 +2,7 @@
 ghost use Rattle.std.specs.Prelude.{◌≡◌, option_map};
 ghost use Rattle.sg_tools.specs.ExitStatus.{exit_status, sense_status};
 ghost use Rattle.sg_wire.specs.Sense.{fields_of};
-ghost use Rattle.sg_wire.specs.SenseData.{read_sense};
+ghost use Rattle.sg_wire.specs.SenseReading.{read_sense};
 
 use sg_wire::Sense;
 

@@ -2,7 +2,7 @@
 ghost use Rattle.std.specs.Prelude.{◌≡◌, ◌≤◌, length, option_map};
 ghost use Rattle.sg_wire.specs.Printer.{PrintsText};
 ghost use Rattle.sg_wire.specs.Sense.{fields_of};
-ghost use Rattle.sg_wire.specs.SenseData.{read_sense};
+ghost use Rattle.sg_wire.specs.SenseReading.{read_sense};
 ghost use Rattle.sg_decode.specs.HexText.{gathered_text};
 ghost use Rattle.sg_run.specs.Outcome.{reply_text, status_name};
 

@@ -1,7 +1,7 @@
 // The line of sense data. It was read before, because the exit status needs it too.
 ghost use Rattle.std.specs.Prelude.{◌≡◌, option_map};
 ghost use Rattle.sg_wire.specs.Sense.{fields_of};
-ghost use Rattle.sg_wire.specs.SenseData.{read_sense};
+ghost use Rattle.sg_wire.specs.SenseReading.{read_sense};
 ghost use Rattle.sg_run.specs.Outcome.{sense_lines};
 ghost use Rattle.sg_wire.specs.Printer.{PrintsText};
 

@@ -1,6 +1,6 @@
 use Rattle.std.proofs.Common.{[], rules, ap, sym, ◌∙◌}
 use Rattle.sg_target.specs.ModeCommands.{mode_parameters}
-use Rattle.sg_target.specs.Reply.{refused_reply}
+use Rattle.sg_target.specs.MadeReplies.{refused_reply}
 use Rattle.sg_target.specs.Step.{sense_format}
 use Rattle.sg_target.specs.Target.{TargetFields}
 use Rattle.sg_target.specs.declared.refusal.Refusal.{Refusal}
