@@ -8,7 +8,7 @@
 #![tactic(auto)]
 
 use sg_decode::{put_hex, put_inquiry, put_lba_status, put_modes};
-use sg_wire::{Printer, Watched};
+use sg_wire::{CdbWidth, Printer, Watched};
 use std::alloc::Global;
 use std::io::Write;
 use std::process::ExitCode;
@@ -65,7 +65,7 @@ fn decode<W: Write>(kind: Kind, list: &[u8], out: &mut Printer<'_, W>) {
     match kind {
         Kind::Inquiry => put_inquiry(INQUIRY, out),
         Kind::LbaStatus => put_lba_status(false, list, out),
-        Kind::Modes => put_modes(false, MODES, out),
+        Kind::Modes => put_modes(CdbWidth::Six, MODES, out),
         Kind::Hex => put_hex(list, out),
     }
 }

@@ -3,6 +3,8 @@ use Rattle.std.specs.Prelude.{ℕ, ◌+◌, List, [], ◌∷◌, ◌++◌, drop,
 use Rattle.std.specs.Prelude.{◌==◌, ◌&&◌, not, if◌then◌else◌}
 use Rattle.byteorder.specs.Endian.{big_number}
 use Rattle.sg_wire.specs.Bits.{has_bit}
+use Rattle.sg_wire.specs.declared.command.mode.CdbWidth.{CdbWidth}
+use Rattle.sg_wire.specs.declared.command.mode.CdbWidth.TheVariants.{Six, Ten}
 use Rattle.sg_decode.specs.Lines.{Line, part, line_text}
 use Rattle.sg_decode.specs.Items.{Decoder, Item, item, line_items, entries_from}
 use Rattle.sg_decode.specs.Entries.{entry_of}
@@ -76,5 +78,6 @@ mode_parameters_10 = record {
   body = λ bytes end. mode_body 8 (has_longlba bytes) (big_number 2 (drop 6 bytes)) bytes;
 }
 
-abbrev pub mode_parameters : (ten : Bool) → Decoder
-mode_parameters ten = if ten then mode_parameters_10 else mode_parameters_6
+abbrev pub mode_parameters : CdbWidth → Decoder
+mode_parameters Six = mode_parameters_6
+mode_parameters Ten = mode_parameters_10

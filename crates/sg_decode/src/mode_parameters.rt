@@ -11,7 +11,7 @@ use crate::entry::EntryKind;
 use crate::items::{is_shown, show_entries, show_lines};
 use crate::line::put_line;
 use crate::value::{Field, Value, number_of_two};
-use sg_wire::Printer;
+use sg_wire::{CdbWidth, Printer};
 use std::io::Write;
 
 /// LONGLBA, a bit of byte 4 of the header of MODE SENSE(10) (SPC-4, 7.5): the block descriptor is the
@@ -51,15 +51,13 @@ const LONG_DESCRIPTOR: &[Field] = &[
 
 const OTHER_DESCRIPTOR: &[Field] = &[Field(b"  descriptor: ", Value::HexFrom(0))];
 
-/// Prints mode parameters (SPC-4, 7.5) of MODE SENSE(10) if `ten` is true, and otherwise of MODE
-/// SENSE(6).
-pub fn put_modes<W: Write>(ten: bool, bytes: &[u8], out: &mut Printer<'_, W>)
-    ensures { PrintsText W.contents out.old out.new (decoded (mode_parameters ten) bytes.now) }
+/// Prints mode parameters (SPC-4, 7.5) of a MODE SENSE whose CDB has the width.
+pub fn put_modes<W: Write>(width: CdbWidth, bytes: &[u8], out: &mut Printer<'_, W>)
+    ensures { PrintsText W.contents out.old out.new (decoded (mode_parameters width) bytes.now) }
 {
-    if ten {
-        put_modes_10(bytes, out);
-    } else {
-        put_modes_6(bytes, out);
+    match width {
+        CdbWidth::Six => put_modes_6(bytes, out),
+        CdbWidth::Ten => put_modes_10(bytes, out),
     }
 }
 

@@ -18,7 +18,7 @@ use crate::mode_parameters::put_modes;
 use crate::persistent_reservation::{put_capabilities, put_full_status, put_keys, put_reservation};
 use crate::sense::put_sense;
 use crate::vital_product_data::put_vpd;
-use sg_wire::{Printer, Watched};
+use sg_wire::{CdbWidth, Printer, Watched};
 use std::io;
 use std::io::Write;
 
@@ -56,20 +56,23 @@ pub fn print_vpd<W: Write>(bytes: &[u8], writer: &mut Watched<W>) -> io::Result<
     out.finish()
 }
 
-/// Prints mode parameters (SPC-4, 7.5) of MODE SENSE(10) if `ten` is true, and otherwise of MODE
-/// SENSE(6).
+/// Prints mode parameters (SPC-4, 7.5) of a MODE SENSE whose CDB has the width.
 ///
 /// # Errors
 ///
 /// The writer failed: a proper prefix of the text has been written.
-pub fn print_modes<W: Write>(ten: bool, bytes: &[u8], writer: &mut Watched<W>) -> io::Result<()>
+pub fn print_modes<W: Write>(
+    width: CdbWidth,
+    bytes: &[u8],
+    writer: &mut Watched<W>,
+) -> io::Result<()>
     requires { has_failed writer.old ≡ false }
     ensures { SendsText W.contents writer.old writer.new result
-        (decoded (mode_parameters ten) bytes.now) }
+        (decoded (mode_parameters width) bytes.now) }
 {
     let mut buffer = [0; GATHERED];
     let mut out = Printer::new(writer, &mut buffer);
-    put_modes(ten, bytes, &mut out);
+    put_modes(width, bytes, &mut out);
     out.finish()
 }
 

@@ -241,8 +241,8 @@ module _ (Related : ReservationState → ReservationState → Type 0) (s : State
       sound-agree (mode_parameters s.modes request) (returning_up_to s n) (returning_up_to t n)
       (λ list. plain false (returning_up_to s n list) (returning_up_to t n list) (λ _. refl) refl refl
       refl refl)
-  operation-agrees (ChangeModes ten sp list) c =
-      sound-agree (selected_modes s ten sp list) (changing_modes s i) (changing_modes t i) modes-agree
+  operation-agrees (ChangeModes width sp list) c =
+      sound-agree (selected_modes s width sp list) (changing_modes s i) (changing_modes t i) modes-agree
   operation-agrees ReturnCapacity10 c =
       leaving (read_capacity_10 s) (read_capacity_10 t) refl refl refl refl refl
   operation-agrees (ReturnCapacity16 n) c =

@@ -35,8 +35,9 @@ pub operation-leaves : (state : State) (i : ℕ) (operation : Operation)
     → (medium_use operation).writes ≡ false → Leaves state.disk (effect_of state i operation)
 operation-leaves state i (ReturnModes request n) h =
     sound-leaves state.disk (mode_parameters state.modes request) (returning_up_to state n) (λ list. refl)
-operation-leaves state i (ChangeModes ten sp list) h =
-    sound-leaves state.disk (selected_modes state ten sp list) (changing_modes state i) (λ modes. refl)
+operation-leaves state i (ChangeModes width sp list) h =
+    sound-leaves state.disk (selected_modes state width sp list) (changing_modes state i)
+    (λ modes. refl)
 operation-leaves state i (ChangeReservations action scope_type list) h =
     sound-leaves state.disk (reservation_change state i action scope_type list)
     (changing_reservations state i) (λ change. refl)

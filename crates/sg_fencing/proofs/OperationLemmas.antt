@@ -43,7 +43,7 @@ class_for (Unmap extents) = Some Writes
 class_for (UnmapExtent extent) = Some Writes
 class_for (Anchor extents) = Some Writes
 class_for (AnchorExtent extent) = Some Writes
-class_for (ChangeModes ten sp list) = Some Writes
+class_for (ChangeModes width sp list) = Some Writes
 class_for _ = None
 
 -- another command than PERSISTENT RESERVE OUT, or PERSISTENT RESERVE OUT with an action of a kind

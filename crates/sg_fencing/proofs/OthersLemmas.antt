@@ -115,7 +115,7 @@ module _ (Where : State → Type 0) (state : State) (i j : ℕ) (other : j ≡ i
     operation-keeps (ReturnModes request n) c =
         sound-keeps (mode_parameters state.modes request) (returning_up_to state n)
         (λ list _. same state i)
-    operation-keeps (ChangeModes ten sp list) c = absurd (c refl)
+    operation-keeps (ChangeModes width sp list) c = absurd (c refl)
     operation-keeps (Write out) c = absurd (c refl)
     operation-keeps (Fill extent block) c = absurd (c refl)
     operation-keeps (Unmap extents) c = absurd (c refl)

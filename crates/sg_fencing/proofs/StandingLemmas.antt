@@ -73,8 +73,8 @@ module _ (Stands : ReservationState → Type 0) (state : State) (j : ℕ)
         → EffectStands (effect_of state j operation)
     operation-stands (ReturnModes request n) k =
         sound-stands (mode_parameters state.modes request) (returning_up_to state n) (λ list. same)
-    operation-stands (ChangeModes ten sp list) k =
-        sound-stands (selected_modes state ten sp list) (changing_modes state j) (λ modes. same)
+    operation-stands (ChangeModes width sp list) k =
+        sound-stands (selected_modes state width sp list) (changing_modes state j) (λ modes. same)
     operation-stands (ChangeReservations action scope_type list) k =
         reserving-stands action scope_type list k
     operation-stands _ k = same

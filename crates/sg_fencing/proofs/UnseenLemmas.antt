@@ -52,7 +52,7 @@ module _ (s : State) (x : Contents) (j : ℕ) where
   operation-alike (UnmapExtent extent) r w = absurd (w refl)
   operation-alike (Anchor extents) r w = absurd (w refl)
   operation-alike (AnchorExtent extent) r w = absurd (w refl)
-  operation-alike (ChangeModes ten sp list) r w = absurd (w refl)
+  operation-alike (ChangeModes width sp list) r w = absurd (w refl)
   operation-alike (ReturnModes request n) r w =
       sound-alike (mode_parameters s.modes request) (returning_up_to s n) (returning_up_to t n)
       (λ list. refl)

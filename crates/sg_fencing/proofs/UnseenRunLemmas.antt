@@ -97,8 +97,8 @@ module _ (s : State) (x : Contents) (i : ℕ) where
   operation-differs (ReturnModes request n) =
       sound-differ (mode_parameters s.modes request) (returning_up_to s n) (returning_up_to t n)
       (λ list. refl)
-  operation-differs (ChangeModes ten sp list) =
-      sound-differ (selected_modes s ten sp list) (changing_modes s i) (changing_modes t i) (λ modes. refl)
+  operation-differs (ChangeModes width sp list) =
+      sound-differ (selected_modes s width sp list) (changing_modes s i) (changing_modes t i) (λ modes. refl)
   operation-differs (Write out) = stored _ _
   operation-differs (Fill extent block) = stored _ _
   operation-differs (Anchor extents) = stored _ _

@@ -7,6 +7,7 @@ use Rattle.std.specs.Option.{option_map_or}
 use Rattle.std.specs.Result.{result_map_both}
 use Rattle.std.proofs.lemmas.Bool.{eq-eqb, eqb-true}
 use Rattle.std.proofs.lemmas.List.{drop-drop}
+use Rattle.sg_wire.specs.declared.command.mode.CdbWidth.{CdbWidth}
 use Rattle.sg_pages.specs.declared.mode_pages.mode_page.ModePage.{ModePage}
 use Rattle.sg_pages.specs.declared.mode_pages.mode_page.ModePage.TheVariants.{ReadWriteErrorRecovery}
 use Rattle.sg_pages.specs.declared.mode_pages.mode_page.ModePage.TheVariants.{Caching, Control}
@@ -143,11 +144,11 @@ unfolding first_fault
 no-fault n [] values after e = (refl, cc)
 no-fault n (offset ∷ offsets) values after e = absurd (cc)
 
-values-kept : (current after : PageValues) (ten : Bool) (blocks : ℕ) (list : List ℕ)
-    (page : ModePage) → selected_values current ten blocks list ≡ Ok after
+values-kept : (current after : PageValues) (width : CdbWidth) (blocks : ℕ) (list : List ℕ)
+    (page : ModePage) → selected_values current width blocks list ≡ Ok after
     → Kept current page (values_of after page)
 unfolding selected_values
-values-kept current after ten blocks list page e = by (length list == 0) e
+values-kept current after width blocks list page e = by (length list == 0) e
   where
     own : List ℕ
     own = values_of current page
@@ -156,10 +157,10 @@ values-kept current after ten blocks list page e = by (length list == 0) e
     mask = (row_of page).changeable
 
     parts : List Part
-    parts = pages_in ten list
+    parts = pages_in width list
 
     all : List ℕ
-    all = list_faults current ten blocks list
+    all = list_faults current width blocks list
 
     to : (values : PageValues) → values ≡ after → Kept current page (values_of values page)
         → Kept current page (values_of after page)
@@ -175,9 +176,10 @@ values-kept current after ten blocks list page e = by (length list == 0) e
     by false e =
         let none = no-fault (length list) all (values_after current parts) after e in
         let pages = flat_map (page_faults current) parts in
-        let behind = ends-nil (header_faults ten list) (descriptor_faults ten blocks list ++ pages)
+        let behind =
+        ends-nil (header_faults width list) (descriptor_faults width blocks list ++ pages)
         none.0 in
-        let sent = ends-nil (descriptor_faults ten blocks list) pages behind in
+        let sent = ends-nil (descriptor_faults width blocks list) pages behind in
         let rule : ModePage → List ℕ =
         λ p. unwrap_or (last_sent (code_of p) parts) (values_of current p) in
         to (values_after current parts) none.1
@@ -193,6 +195,6 @@ selected-ok save before after (Ok values) e =
 selected-ok save before after (Err fault) e = cc
 
 pub only_changeable : OnlyChangeableBitsChange
-only_changeable before after list ten save blocks page e =
-    values-kept before.current after.current ten blocks list page
-    (selected-ok save before after (selected_values before.current ten blocks list) e)
+only_changeable before after list width save blocks page e =
+    values-kept before.current after.current width blocks list page
+    (selected-ok save before after (selected_values before.current width blocks list) e)

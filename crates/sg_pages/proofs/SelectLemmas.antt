@@ -6,6 +6,8 @@ use Rattle.std.specs.List.{flat_map}
 use Rattle.std.specs.Option.{option_or, option_map}
 use Rattle.std.proofs.lemmas.Bool.{lt-ltb, le-ltb, ltb-true, eqb-true, ne_eqb, cases_lt, or_cases}
 use Rattle.std.proofs.lemmas.List.{length-take, take-take, append-nil}
+use Rattle.sg_wire.specs.declared.command.mode.CdbWidth.{CdbWidth}
+use Rattle.sg_wire.specs.declared.command.mode.CdbWidth.TheVariants.{Six, Ten}
 use Rattle.sg_pages.specs.declared.mode_pages.mode_select.ModeSelectFault.{ModeSelectFault}
 use Rattle.sg_pages.specs.declared.mode_pages.mode_select.ModeSelectFault.TheVariants.{Field}
 use Rattle.sg_pages.specs.declared.mode_pages.mode_select.ModeSelectFault.TheVariants.{Length}
@@ -41,40 +43,42 @@ length_fault-below : (c : Bool) (offset n : ℕ) → offset < n → Below n (len
 length_fault-below true offset n h = tt
 length_fault-below false offset n h = (h, tt)
 
-ignored_bits-length : (ten : Bool) → length (zeros_for (ignored_header_bits ten))
-    ≡ length_offset ten
-ignored_bits-length true = refl
-ignored_bits-length false = refl
+ignored_bits-length : (width : CdbWidth) → length (zeros_for (ignored_header_bits width))
+    ≡ length_offset width
+ignored_bits-length Six = refl
+ignored_bits-length Ten = refl
 
-offset-inside : (ten : Bool) → length_offset ten < header_length ten
-offset-inside true = omega arith
-offset-inside false = omega arith
+offset-inside : (width : CdbWidth) → length_offset width < header_length width
+offset-inside Six = omega arith
+offset-inside Ten = omega arith
 
-header-whole : (ten : Bool) (list : List ℕ) → header_length ten ≤ length list
-    → truncation_of (header_in ten list) ≡ []
-header-whole ten list h = ap (λ c. cond c ((0 + length (take (header_length ten) list)) ∷ []) [])
-    (le-ltb (length (take (header_length ten) list)) (header_length ten)
-    (omega (arith, length-take (header_length ten) list)))
+header-whole : (width : CdbWidth) (list : List ℕ) → header_length width ≤ length list
+    → truncation_of (header_in width list) ≡ []
+header-whole width list h =
+    ap (λ c. cond c ((0 + length (take (header_length width) list)) ∷ []) [])
+    (le-ltb (length (take (header_length width) list)) (header_length width)
+    (omega (arith, length-take (header_length width) list)))
 
 -- the part before the descriptor's length is looked at first
-header-split : (ten : Bool) (list : List ℕ) → first_fault (length list) (header_faults ten list)
+header-split : (width : CdbWidth) (list : List ℕ)
+    → first_fault (length list) (header_faults width list)
     ≡ option_or (first_fault (length list)
-    (part_faults (zeros_for (ignored_header_bits ten)) (ignored_header_bits ten)
-    (header_in ten list))) (first_fault (length list) (length_faults ten list))
+    (part_faults (zeros_for (ignored_header_bits width)) (ignored_header_bits width)
+    (header_in width list))) (first_fault (length list) (length_faults width list))
 unfolding first_fault
-header-split ten list =
+header-split width list =
     let n = length list in
-    let ignored = ignored_header_bits ten in
-    let p = header_in ten list in
+    let ignored = ignored_header_bits width in
+    let p = header_in width list in
     let front = differences 0 (zeros_for ignored) ignored p.bytes in
-    elim (cases_lt n (header_length ten)) as
-    (λ _. first_fault n (header_faults ten list)
+    elim (cases_lt n (header_length width)) as
+    (λ _. first_fault n (header_faults width list)
     ≡ option_or (first_fault n (part_faults (zeros_for ignored) ignored p))
-    (first_fault n (length_faults ten list))) [
+    (first_fault n (length_faults width list))) [
       | inl short ↦
-          let none : length_faults ten list ≡ [] =
-          ap (λ c. length_fault (c || is_descriptor_length ten list) (length_offset ten))
-          (lt-ltb n (header_length ten) short) in
+          let none : length_faults width list ≡ [] =
+          ap (λ c. length_fault (c || is_descriptor_length width list) (length_offset width))
+          (lt-ltb n (header_length width) short) in
           ap (λ xs. first_fault n (part_faults (zeros_for ignored) ignored p ++ xs)) none
           ∙ (ap (first_fault n) (append-nil (part_faults (zeros_for ignored) ignored p))
           ∙ (or-none (first_fault n (part_faults (zeros_for ignored) ignored p))
@@ -82,39 +86,39 @@ header-split ten list =
           (first_fault n xs)) (sym none)))
       | inr whole ↦
           let uncut : part_faults (zeros_for ignored) ignored p ≡ front =
-          ap (λ xs. front ++ xs) (header-whole ten list whole) ∙ append-nil front in
-          let below : Below (length_offset ten) front =
-          Below-weaker (0 + length (zeros_for ignored)) (length_offset ten) front
-          (omega (arith, ignored_bits-length ten))
+          ap (λ xs. front ++ xs) (header-whole width list whole) ∙ append-nil front in
+          let below : Below (length_offset width) front =
+          Below-weaker (0 + length (zeros_for ignored)) (length_offset width) front
+          (omega (arith, ignored_bits-length width))
           (differences-below-expected 0 (zeros_for ignored) ignored p.bytes) in
-          let at = nat_lt n (header_length ten) || is_descriptor_length ten list in
-          ap (λ xs. first_fault n (xs ++ length_faults ten list)) uncut
-          ∙ (first_fault-append n (length_offset ten) front (length_faults ten list) below
-          (length_fault-from at (length_offset ten))
-          ∙ ap (λ xs. option_or (first_fault n xs) (first_fault n (length_faults ten list)))
+          let at = nat_lt n (header_length width) || is_descriptor_length width list in
+          ap (λ xs. first_fault n (xs ++ length_faults width list)) uncut
+          ∙ (first_fault-append n (length_offset width) front (length_faults width list) below
+          (length_fault-from at (length_offset width))
+          ∙ ap (λ xs. option_or (first_fault n xs) (first_fault n (length_faults width list)))
           (sym uncut))
     ]
 
 -- the same if the kind of command is known
-pub header-split-at : (ten known : Bool) (list : List ℕ) → ten ≡ known
-    → first_fault (length list) (header_faults ten list)
+pub header-split-at : (width known : CdbWidth) (list : List ℕ) → width ≡ known
+    → first_fault (length list) (header_faults width list)
     ≡ option_or (first_fault (length list)
     (part_faults (zeros_for (ignored_header_bits known)) (ignored_header_bits known)
     (header_in known list))) (first_fault (length list) (length_faults known list))
-header-split-at ten known list e = ap (λ t. first_fault (length list) (header_faults t list)) e
+header-split-at width known list e = ap (λ t. first_fault (length list) (header_faults t list)) e
     ∙ header-split known list
 
 -- another length than the disk's descriptors have
-pub other-length : (ten : Bool) (list : List ℕ) → header_length ten ≤ length list
-    → is_descriptor_length ten list ≡ false → first_fault (length list) (length_faults ten list)
-    ≡ Some (Field (length_offset ten))
+pub other-length : (width : CdbWidth) (list : List ℕ) → header_length width ≤ length list
+    → is_descriptor_length width list ≡ false → first_fault (length list) (length_faults width list)
+    ≡ Some (Field (length_offset width))
 unfolding first_fault
-other-length ten list whole e =
+other-length width list whole e =
     ap (λ c. first_fault (length list)
-    (length_fault (c || is_descriptor_length ten list) (length_offset ten)))
-    (le-ltb (length list) (header_length ten) whole)
-    ∙ (ap (λ c. first_fault (length list) (length_fault c (length_offset ten))) e
-    ∙ ap Some (field (length list) (length_offset ten) (omega (arith, offset-inside ten))))
+    (length_fault (c || is_descriptor_length width list) (length_offset width)))
+    (le-ltb (length list) (header_length width) whole)
+    ∙ (ap (λ c. first_fault (length list) (length_fault c (length_offset width))) e
+    ∙ ap Some (field (length list) (length_offset width) (omega (arith, offset-inside width))))
 
 -- ---- The block descriptor
 
@@ -125,34 +129,35 @@ against offset blocks list long size number =
     let expected = block_descriptor long (accepted_blocks blocks number) in
     part_faults expected (zeros_for expected) (part_at offset size list)
 
-pub descriptor_faults-at : (ten long : Bool) (blocks size : ℕ) (list : List ℕ)
-    → has_longlba ten list ≡ long → block_descriptor_length ten list ≡ size
+pub descriptor_faults-at : (width : CdbWidth) (long : Bool) (blocks size : ℕ) (list : List ℕ)
+    → has_longlba width list ≡ long → block_descriptor_length width list ≡ size
     → number_length long ≤ size →
-    descriptor_faults ten blocks list
-    ≡ against (header_length ten) blocks list long size
-    (take (number_length long) (drop (header_length ten) list))
-descriptor_faults-at ten long blocks size list e f h =
-    let rest = drop (header_length ten) list in
-    ap (λ l. against (header_length ten) blocks list l (block_descriptor_length ten list)
-    (take (number_length l) (take (block_descriptor_length ten list) rest))) e
-    ∙ (ap (λ n. against (header_length ten) blocks list long n
+    descriptor_faults width blocks list
+    ≡ against (header_length width) blocks list long size
+    (take (number_length long) (drop (header_length width) list))
+descriptor_faults-at width long blocks size list e f h =
+    let rest = drop (header_length width) list in
+    ap (λ l. against (header_length width) blocks list l (block_descriptor_length width list)
+    (take (number_length l) (take (block_descriptor_length width list) rest))) e
+    ∙ (ap (λ n. against (header_length width) blocks list long n
     (take (number_length long) (take n rest))) f
-    ∙ ap (against (header_length ten) blocks list long size)
+    ∙ ap (against (header_length width) blocks list long size)
     (take-take (number_length long) size rest h))
 
 -- no descriptor
-pub no-descriptor : (ten : Bool) (blocks : ℕ) (list : List ℕ) → block_descriptor_length ten list ≡ 0
-    → first_fault (length list) (descriptor_faults ten blocks list) ≡ None
+pub no-descriptor : (width : CdbWidth) (blocks : ℕ) (list : List ℕ)
+    → block_descriptor_length width list ≡ 0
+    → first_fault (length list) (descriptor_faults width blocks list) ≡ None
 unfolding first_fault
-no-descriptor ten blocks list e =
-    let expected = λ (sent : List ℕ). block_descriptor (has_longlba ten list)
-    (accepted_blocks blocks (take (number_length (has_longlba ten list)) sent)) in
-    let rest = drop (header_length ten) list in
+no-descriptor width blocks list e =
+    let expected = λ (sent : List ℕ). block_descriptor (has_longlba width list)
+    (accepted_blocks blocks (take (number_length (has_longlba width list)) sent)) in
+    let rest = drop (header_length width) list in
     ap (λ n. let bytes = take n rest in
     first_fault (length list) (part_faults (expected bytes) (zeros_for (expected bytes))
-    (part_at (header_length ten) n list))) e
+    (part_at (header_length width) n list))) e
     ∙ ap (λ xs. first_fault (length list) (xs ++ []))
-    (differences-nil (header_length ten) (expected []) (zeros_for (expected [])))
+    (differences-nil (header_length width) (expected []) (zeros_for (expected [])))
 
 -- the descriptor that its length announces
 long-by : (n : ℕ) (long : Bool) → n ≡ descriptor_length long
@@ -160,109 +165,117 @@ long-by : (n : ℕ) (long : Bool) → n ≡ descriptor_length long
 long-by n true e = (λ h. absurd (omega arith), λ h. (refl, e))
 long-by n false e = (λ h. refl, λ h. absurd (h e))
 
-pub announced-long : (ten : Bool) (list : List ℕ) → is_descriptor_length ten list ≡ true
-    → (block_descriptor_length ten list ≡ 0 → ⊥) → block_descriptor_length ten list
-    ≡ descriptor_length (has_longlba ten list)
-announced-long ten list e h =
-    let n = block_descriptor_length ten list in
-    elim (or_cases (n == 0) (n == descriptor_length (has_longlba ten list)) e) as
-    (λ _. n ≡ descriptor_length (has_longlba ten list)) [
+pub announced-long : (width : CdbWidth) (list : List ℕ) → is_descriptor_length width list ≡ true
+    → (block_descriptor_length width list ≡ 0 → ⊥) → block_descriptor_length width list
+    ≡ descriptor_length (has_longlba width list)
+announced-long width list e h =
+    let n = block_descriptor_length width list in
+    elim (or_cases (n == 0) (n == descriptor_length (has_longlba width list)) e) as
+    (λ _. n ≡ descriptor_length (has_longlba width list)) [
       | inl nothing ↦ absurd (h (eqb-true n 0 nothing))
-      | inr same ↦ eqb-true n (descriptor_length (has_longlba ten list)) same
+      | inr same ↦ eqb-true n (descriptor_length (has_longlba width list)) same
     ]
 
-pub announced-8 : (ten : Bool) (list : List ℕ) → is_descriptor_length ten list ≡ true
-    → block_descriptor_length ten list ≡ 8 → has_longlba ten list ≡ false
-announced-8 ten list e h = (long-by (block_descriptor_length ten list) (has_longlba ten list)
-    (announced-long ten list e (λ k. omega arith))).0 h
+pub announced-8 : (width : CdbWidth) (list : List ℕ) → is_descriptor_length width list ≡ true
+    → block_descriptor_length width list ≡ 8 → has_longlba width list ≡ false
+announced-8 width list e h = (long-by (block_descriptor_length width list) (has_longlba width list)
+    (announced-long width list e (λ k. omega arith))).0 h
 
-pub announced-16 : (ten : Bool) (list : List ℕ) → is_descriptor_length ten list ≡ true
-    → (block_descriptor_length ten list ≡ 0 → ⊥) → (block_descriptor_length ten list ≡ 8 → ⊥)
-    → (has_longlba ten list ≡ true) × (block_descriptor_length ten list ≡ 16)
-announced-16 ten list e h k = (long-by (block_descriptor_length ten list) (has_longlba ten list)
-    (announced-long ten list e h)).1 k
+pub announced-16 : (width : CdbWidth) (list : List ℕ) → is_descriptor_length width list ≡ true
+    → (block_descriptor_length width list ≡ 0 → ⊥) → (block_descriptor_length width list ≡ 8 → ⊥)
+    → (has_longlba width list ≡ true) × (block_descriptor_length width list ≡ 16)
+announced-16 width list e h k =
+    (long-by (block_descriptor_length width list) (has_longlba width list)
+    (announced-long width list e h)).1 k
 
-pub short-faults : (ten : Bool) (blocks : ℕ) (list : List ℕ) → is_descriptor_length ten list ≡ true
-    → block_descriptor_length ten list ≡ 8 →
-    descriptor_faults ten blocks list
+pub short-faults : (width : CdbWidth) (blocks : ℕ) (list : List ℕ)
+    → is_descriptor_length width list ≡ true
+    → block_descriptor_length width list ≡ 8 →
+    descriptor_faults width blocks list
     ≡ part_faults (block_descriptor false
-    (accepted_blocks blocks (take 4 (drop (header_length ten) list))))
-    (0 ∷ 0 ∷ 0 ∷ 0 ∷ 0 ∷ 0 ∷ 0 ∷ 0 ∷ []) (part_at (header_length ten) 8 list)
+    (accepted_blocks blocks (take 4 (drop (header_length width) list))))
+    (0 ∷ 0 ∷ 0 ∷ 0 ∷ 0 ∷ 0 ∷ 0 ∷ 0 ∷ []) (part_at (header_length width) 8 list)
 unfolding block_descriptor
-short-faults ten blocks list e h =
-    descriptor_faults-at ten false blocks 8 list (announced-8 ten list e h) h (omega arith)
+short-faults width blocks list e h =
+    descriptor_faults-at width false blocks 8 list (announced-8 width list e h) h (omega arith)
 
-pub long-faults : (ten : Bool) (blocks : ℕ) (list : List ℕ) → is_descriptor_length ten list ≡ true
-    → (block_descriptor_length ten list ≡ 0 → ⊥) → (block_descriptor_length ten list ≡ 8 → ⊥) →
-    descriptor_faults ten blocks list
+pub long-faults : (width : CdbWidth) (blocks : ℕ) (list : List ℕ)
+    → is_descriptor_length width list ≡ true
+    → (block_descriptor_length width list ≡ 0 → ⊥) → (block_descriptor_length width list ≡ 8 → ⊥) →
+    descriptor_faults width blocks list
     ≡ part_faults (block_descriptor true
-    (accepted_blocks blocks (take 8 (drop (header_length ten) list))))
+    (accepted_blocks blocks (take 8 (drop (header_length width) list))))
     (0 ∷ 0 ∷ 0 ∷ 0 ∷ 0 ∷ 0 ∷ 0 ∷ 0 ∷ 0 ∷ 0 ∷ 0 ∷ 0 ∷ 0 ∷ 0 ∷ 0 ∷ 0 ∷ [])
-    (part_at (header_length ten) 16 list)
+    (part_at (header_length width) 16 list)
 unfolding block_descriptor
-long-faults ten blocks list e h k =
-    let long = announced-16 ten list e h k in
-    descriptor_faults-at ten true blocks 16 list long.0 long.1 (omega arith)
+long-faults width blocks list e h k =
+    let long = announced-16 width list e h k in
+    descriptor_faults-at width true blocks 16 list long.0 long.1 (omega arith)
 
 -- ---- The three together
 
-header_faults-below : (ten : Bool) (list : List ℕ)
-    → Below (header_length ten) (header_faults ten list)
-header_faults-below ten list =
-    let ignored = ignored_header_bits ten in
-    Below-append (header_length ten) (part_faults (zeros_for ignored) ignored (header_in ten list))
-    (length_faults ten list)
-    (Below-weaker (0 + header_length ten) (header_length ten) _ (omega arith)
-    (part_faults-below (zeros_for ignored) ignored 0 (header_length ten) list))
-    (length_fault-below (nat_lt (length list) (header_length ten) || is_descriptor_length ten list)
-    (length_offset ten) (header_length ten) (offset-inside ten))
+header_faults-below : (width : CdbWidth) (list : List ℕ)
+    → Below (header_length width) (header_faults width list)
+header_faults-below width list =
+    let ignored = ignored_header_bits width in
+    Below-append (header_length width)
+    (part_faults (zeros_for ignored) ignored (header_in width list))
+    (length_faults width list)
+    (Below-weaker (0 + header_length width) (header_length width) _ (omega arith)
+    (part_faults-below (zeros_for ignored) ignored 0 (header_length width) list))
+    (length_fault-below
+    (nat_lt (length list) (header_length width) || is_descriptor_length width list)
+    (length_offset width) (header_length width) (offset-inside width))
 
-pub faults-split : (current : PageValues) (ten : Bool) (blocks : ℕ) (list : List ℕ)
-    → first_fault (length list) (list_faults current ten blocks list)
-    ≡ option_or (first_fault (length list) (header_faults ten list))
-    (option_or (first_fault (length list) (descriptor_faults ten blocks list))
-    (first_fault (length list) (flat_map (page_faults current) (pages_in ten list))))
-faults-split current ten blocks list =
+pub faults-split : (current : PageValues) (width : CdbWidth) (blocks : ℕ) (list : List ℕ)
+    → first_fault (length list) (list_faults current width blocks list)
+    ≡ option_or (first_fault (length list) (header_faults width list))
+    (option_or (first_fault (length list) (descriptor_faults width blocks list))
+    (first_fault (length list) (flat_map (page_faults current) (pages_in width list))))
+faults-split current width blocks list =
     let n = length list in
-    let offset = header_length ten in
-    let sent = descriptor_in ten list in
-    let expected = block_descriptor (has_longlba ten list)
-    (accepted_blocks blocks (take (number_length (has_longlba ten list)) sent.bytes)) in
-    let descriptor = descriptor_faults ten blocks list in
-    let pages = flat_map (page_faults current) (pages_in ten list) in
-    let from : From (offset + block_descriptor_length ten list) pages =
-    pages_from-from current (offset + block_descriptor_length ten list) list in
+    let offset = header_length width in
+    let sent = descriptor_in width list in
+    let expected = block_descriptor (has_longlba width list)
+    (accepted_blocks blocks (take (number_length (has_longlba width list)) sent.bytes)) in
+    let descriptor = descriptor_faults width blocks list in
+    let pages = flat_map (page_faults current) (pages_in width list) in
+    let from : From (offset + block_descriptor_length width list) pages =
+    pages_from-from current (offset + block_descriptor_length width list) list in
     let behind : From offset (descriptor ++ pages) =
     From-append offset descriptor pages
-    (part_faults-from expected (zeros_for expected) offset (block_descriptor_length ten list) list)
-    (From-weaker (offset + block_descriptor_length ten list) offset pages (omega arith) from) in
-    first_fault-append n offset (header_faults ten list) (descriptor ++ pages)
-    (header_faults-below ten list) behind
-    ∙ ap (option_or (first_fault n (header_faults ten list)))
-    (first_fault-append n (offset + block_descriptor_length ten list) descriptor pages
-    (part_faults-below expected (zeros_for expected) offset (block_descriptor_length ten list) list)
+    (part_faults-from expected (zeros_for expected) offset
+    (block_descriptor_length width list) list)
+    (From-weaker (offset + block_descriptor_length width list) offset pages (omega arith) from) in
+    first_fault-append n offset (header_faults width list) (descriptor ++ pages)
+    (header_faults-below width list) behind
+    ∙ ap (option_or (first_fault n (header_faults width list)))
+    (first_fault-append n (offset + block_descriptor_length width list) descriptor pages
+    (part_faults-below expected (zeros_for expected) offset
+    (block_descriptor_length width list) list)
     from)
 
 -- a list that is not empty
-pub selected_values-some : (current : PageValues) (ten : Bool) (blocks : ℕ) (list : List ℕ)
+pub selected_values-some : (current : PageValues) (width : CdbWidth) (blocks : ℕ) (list : List ℕ)
     → 0 < length list →
-    unless_fault (first_fault (length list) (list_faults current ten blocks list))
-    (values_after current (pages_in ten list)) ≡ selected_values current ten blocks list
+    unless_fault (first_fault (length list) (list_faults current width blocks list))
+    (values_after current (pages_in width list)) ≡ selected_values current width blocks list
 unfolding selected_values
-selected_values-some current ten blocks list h =
+selected_values-some current width blocks list h =
     sym (ap (λ c. cond c (Ok current)
-    (unless_fault (first_fault (length list) (list_faults current ten blocks list))
-    (values_after current (pages_in ten list)))) (ne_eqb (length list) 0 (λ e. omega arith)))
+    (unless_fault (first_fault (length list) (list_faults current width blocks list))
+    (values_after current (pages_in width list)))) (ne_eqb (length list) 0 (λ e. omega arith)))
 
 -- the header's length of the descriptor is at fault
-pub header-refused : {A : Type 0} (ten known : Bool) (list : List ℕ) (value : A) → ten ≡ known →
+pub header-refused : {A : Type 0} (width known : CdbWidth) (list : List ℕ) (value : A)
+    → width ≡ known →
     first_fault (length list) (part_faults (zeros_for (ignored_header_bits known))
     (ignored_header_bits known) (header_in known list)) ≡ None →
     0 + header_length known ≤ length list → is_descriptor_length known list ≡ false →
     Err (Field (length_offset known))
-    ≡ unless_fault (first_fault (length list) (header_faults ten list)) value
-header-refused ten known list value e none whole other =
-    sym (ap (λ o. unless_fault o value) (header-split-at ten known list e
+    ≡ unless_fault (first_fault (length list) (header_faults width list)) value
+header-refused width known list value e none whole other =
+    sym (ap (λ o. unless_fault o value) (header-split-at width known list e
     ∙ (ap (λ o. option_or o (first_fault (length list) (length_faults known list))) none
     ∙ other-length known list (omega arith) other)))
 
@@ -283,10 +296,10 @@ inside-or : {A : Type 0} (n : ℕ) (c : Bool) (value : A) (r : Result A ModeSele
 inside-or n true value r h = tt
 inside-or n false value r h = h
 
-pub selected_values-inside : (current : PageValues) (ten : Bool) (blocks : ℕ) (list : List ℕ)
-    → IfErr (selected_values current ten blocks list) (IsInside (length list))
+pub selected_values-inside : (current : PageValues) (width : CdbWidth) (blocks : ℕ) (list : List ℕ)
+    → IfErr (selected_values current width blocks list) (IsInside (length list))
 unfolding selected_values first_fault
-selected_values-inside current ten blocks list =
+selected_values-inside current width blocks list =
     inside-or (length list) (length list == 0) current _
-    (inside-of (length list) (least (list_faults current ten blocks list))
-    (values_after current (pages_in ten list)))
+    (inside-of (length list) (least (list_faults current width blocks list))
+    (values_after current (pages_in width list)))

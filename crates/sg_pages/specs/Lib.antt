@@ -1,5 +1,6 @@
 -- Public contracts cite all of these.
 pub mod BlockDescriptor
+pub mod CapacityData
 pub mod Identity
 pub mod InquiryData
 pub mod ModeLaws

@@ -1,7 +1,8 @@
 -- The effect of MODE SELECT with a mode parameter list (SPC-4, 7.5).
 use Rattle.std.specs.Prelude.{ℕ, zero, suc, ◌+◌, ◌<◌, ⊤, min, nat_lt, bit_or}
 use Rattle.std.specs.Prelude.{List, [], ◌∷◌, ◌++◌, length, take, drop, slice_index}
-use Rattle.std.specs.Prelude.{map, find, reverse, Bool, not, ◌&&◌, ◌||◌, ◌==◌, if◌then◌else◌}
+use Rattle.std.specs.Prelude.{map, find, reverse, Bool, false, not, ◌&&◌, ◌||◌, ◌==◌}
+use Rattle.std.specs.Prelude.{if◌then◌else◌}
 use Rattle.std.specs.Prelude.{Option, Some, None, unwrap_or, Result, Ok, Err}
 use Rattle.std.specs.List.{flat_map, list_all}
 use Rattle.std.specs.Option.{option_map, option_map_or}
@@ -9,6 +10,8 @@ use Rattle.std.specs.Result.{result_map_both}
 use Rattle.std.specs.Str.{bytes_eq}
 use Rattle.byteorder.specs.Endian.{big_number}
 use Rattle.sg_wire.specs.Bits.{bits_of, has_bit}
+use Rattle.sg_wire.specs.declared.command.mode.CdbWidth.{CdbWidth}
+use Rattle.sg_wire.specs.declared.command.mode.CdbWidth.TheVariants.{Six, Ten}
 use Rattle.sg_pages.specs.declared.mode_pages.mode_page.ModePage.{ModePage}
 use Rattle.sg_pages.specs.declared.mode_pages.mode_page.PageValues.{PageValues}
 use Rattle.sg_pages.specs.declared.mode_pages.mode_select.Changed.{Changed}
@@ -33,25 +36,29 @@ part_at offset size list =
     record { offset = offset; size = size; bytes = take size (drop offset list) }
 
 -- The header has 4 bytes in MODE SELECT(6) and 8 in MODE SELECT(10).
-abbrev pub header_length : (ten : Bool) → ℕ
-header_length ten = if ten then 8 else 4
+abbrev pub header_length : (width : CdbWidth) → ℕ
+header_length Six = 4
+header_length Ten = 8
 
-abbrev pub header_in : (ten : Bool) → List ℕ → Part
-header_in ten list = part_at 0 (header_length ten) list
+abbrev pub header_in : (width : CdbWidth) → List ℕ → Part
+header_in width list = part_at 0 (header_length width) list
 
 -- BLOCK DESCRIPTOR LENGTH ends the header: one byte, or two in MODE SELECT(10).
-abbrev pub length_offset : (ten : Bool) → ℕ
-length_offset ten = if ten then 6 else 3
+abbrev pub length_offset : (width : CdbWidth) → ℕ
+length_offset Six = 3
+length_offset Ten = 6
 
-abbrev pub block_descriptor_length : (ten : Bool) → List ℕ → ℕ
-block_descriptor_length ten list = if ten then big_number 2 (drop 6 list) else slice_index list 3
+abbrev pub block_descriptor_length : (width : CdbWidth) → List ℕ → ℕ
+block_descriptor_length Six list = slice_index list 3
+block_descriptor_length Ten list = big_number 2 (drop 6 list)
 
 -- LONGLBA, byte 4 bit 0 of the longer header: the block descriptor is the long one.
-abbrev pub has_longlba : (ten : Bool) → List ℕ → Bool
-has_longlba ten list = ten && has_bit (slice_index list 4) 0x01
+abbrev pub has_longlba : (width : CdbWidth) → List ℕ → Bool
+has_longlba Six list = false
+has_longlba Ten list = has_bit (slice_index list 4) 0x01
 
-abbrev pub descriptor_in : (ten : Bool) → List ℕ → Part
-descriptor_in ten list = part_at (header_length ten) (block_descriptor_length ten list) list
+abbrev pub descriptor_in : (width : CdbWidth) → List ℕ → Part
+descriptor_in width list = part_at (header_length width) (block_descriptor_length width list) list
 
 -- A page has two bytes, the second of them PAGE LENGTH, and then as many bytes as PAGE LENGTH says.
 -- If the list ends before PAGE LENGTH, the page's length is two.
@@ -69,8 +76,8 @@ pages_up_to (suc count) offset list =
 unfoldable pub pages_from : (offset : ℕ) → List ℕ → List Part
 pages_from offset list = pages_up_to (length list) offset list
 
-abbrev pub pages_in : (ten : Bool) → List ℕ → List Part
-pages_in ten list = pages_from (header_length ten + block_descriptor_length ten list) list
+abbrev pub pages_in : (width : CdbWidth) → List ℕ → List Part
+pages_in width list = pages_from (header_length width + block_descriptor_length width list) list
 
 -- ---- Faults, each with the offset of its byte
 
@@ -97,29 +104,29 @@ part_faults expected ignored p = differences p.offset expected ignored p.bytes +
 -- The ignored bits of the header before BLOCK DESCRIPTOR LENGTH: MODE DATA LENGTH, DEVICE-SPECIFIC
 -- PARAMETER and LONGLBA. MEDIUM TYPE and the reserved bits have to be zero.
 -- Choice (SPC-4, 6.11): a reserved bit among them may be refused.
-abbrev pub ignored_header_bits : (ten : Bool) → List ℕ
-ignored_header_bits ten =
-    if ten then 0xFF ∷ 0xFF ∷ 0x00 ∷ 0xFF ∷ 0x01 ∷ 0x00 ∷ [] else 0xFF ∷ 0x00 ∷ 0xFF ∷ []
+abbrev pub ignored_header_bits : (width : CdbWidth) → List ℕ
+ignored_header_bits Six = 0xFF ∷ 0x00 ∷ 0xFF ∷ []
+ignored_header_bits Ten = 0xFF ∷ 0xFF ∷ 0x00 ∷ 0xFF ∷ 0x01 ∷ 0x00 ∷ []
 
 abbrev pub zeros_for : List ℕ → List ℕ
 zeros_for bytes = map (λ _. 0) bytes
 
 -- BLOCK DESCRIPTOR LENGTH is 0, or the length of the descriptor that LONGLBA names.
-abbrev pub is_descriptor_length : (ten : Bool) → List ℕ → Bool
-is_descriptor_length ten list =
-    block_descriptor_length ten list == 0
-    || block_descriptor_length ten list == descriptor_length (has_longlba ten list)
+abbrev pub is_descriptor_length : (width : CdbWidth) → List ℕ → Bool
+is_descriptor_length width list =
+    block_descriptor_length width list == 0
+    || block_descriptor_length width list == descriptor_length (has_longlba width list)
 
 -- BLOCK DESCRIPTOR LENGTH is checked if the list has the whole header.
-abbrev pub length_faults : (ten : Bool) → List ℕ → List ℕ
-length_faults ten list =
-    if nat_lt (length list) (header_length ten) || is_descriptor_length ten list then []
-    else length_offset ten ∷ []
+abbrev pub length_faults : (width : CdbWidth) → List ℕ → List ℕ
+length_faults width list =
+    if nat_lt (length list) (header_length width) || is_descriptor_length width list then []
+    else length_offset width ∷ []
 
-abbrev pub header_faults : (ten : Bool) → List ℕ → List ℕ
-header_faults ten list =
-    let ignored = ignored_header_bits ten in
-    part_faults (zeros_for ignored) ignored (header_in ten list) ++ length_faults ten list
+abbrev pub header_faults : (width : CdbWidth) → List ℕ → List ℕ
+header_faults width list =
+    let ignored = ignored_header_bits width in
+    part_faults (zeros_for ignored) ignored (header_in width list) ++ length_faults width list
 
 -- The block descriptor has to be the disk's own. A NUMBER OF LOGICAL BLOCKS of zero is accepted
 -- too: its bytes are zero, as far as the list has them.
@@ -131,10 +138,10 @@ accepted_descriptor long blocks sent =
     block_descriptor long (accepted_blocks blocks (take (number_length long) sent))
 
 -- Departure (SBC-3, 6.4.2): NUMBER OF LOGICAL BLOCKS is ignored there.
-abbrev pub descriptor_faults : (ten : Bool) (blocks : ℕ) → List ℕ → List ℕ
-descriptor_faults ten blocks list =
-    let sent = descriptor_in ten list in
-    let expected = accepted_descriptor (has_longlba ten list) blocks sent.bytes in
+abbrev pub descriptor_faults : (width : CdbWidth) (blocks : ℕ) → List ℕ → List ℕ
+descriptor_faults width blocks list =
+    let sent = descriptor_in width list in
+    let expected = accepted_descriptor (has_longlba width list) blocks sent.bytes in
     part_faults expected (zeros_for expected) sent
 
 -- PAGE CODE of a page that was sent.
@@ -155,10 +162,10 @@ page_faults current sent =
     option_map_or (faults_against current sent) (page_with_code (sent_code sent)) (sent.offset ∷ [])
 
 -- Every fault of a list.
-abbrev pub list_faults : (current : PageValues) (ten : Bool) (blocks : ℕ) → List ℕ → List ℕ
-list_faults current ten blocks list =
-    header_faults ten list
-    ++ (descriptor_faults ten blocks list ++ flat_map (page_faults current) (pages_in ten list))
+abbrev pub list_faults : (current : PageValues) (width : CdbWidth) (blocks : ℕ) → List ℕ → List ℕ
+list_faults current width blocks list =
+    header_faults width list
+    ++ (descriptor_faults width blocks list ++ flat_map (page_faults current) (pages_in width list))
 
 -- ---- The least offset decides
 
@@ -197,12 +204,12 @@ values_after current sent =
     by_page (λ page. unwrap_or (last_sent (code_of page) sent) (values_of current page))
 
 -- The current values after a list, or its first fault. The empty list is accepted.
-unfoldable pub selected_values : (current : PageValues) (ten : Bool) (blocks : ℕ) → List ℕ
+unfoldable pub selected_values : (current : PageValues) (width : CdbWidth) (blocks : ℕ) → List ℕ
     → Result PageValues ModeSelectFault
-selected_values current ten blocks list =
+selected_values current width blocks list =
     if length list == 0 then Ok current
-    else unless_fault (first_fault (length list) (list_faults current ten blocks list))
-    (values_after current (pages_in ten list))
+    else unless_fault (first_fault (length list) (list_faults current width blocks list))
+    (values_after current (pages_in width list))
 
 -- With SP all pages are saved, sent or not.
 abbrev pub saved_after : (save : Bool) → ModeState → PageValues → ModeState
@@ -210,11 +217,11 @@ saved_after save state current =
     record { current = current; saved = if save then current else state.saved }
 
 -- The pages after a MODE SELECT, or the first fault of its list.
-abbrev pub mode_select : ModeState → (list : List ℕ) (ten save : Bool) (blocks : ℕ)
+abbrev pub mode_select : ModeState → (list : List ℕ) (width : CdbWidth) (save : Bool) (blocks : ℕ)
     → Result ModeState ModeSelectFault
-mode_select state list ten save blocks =
+mode_select state list width save blocks =
     result_map_both (saved_after save state) (λ fault. fault)
-    (selected_values state.current ten blocks list)
+    (selected_values state.current width blocks list)
 
 -- A byte of a page differs.
 abbrev pub differ : PageValues → PageValues → Bool

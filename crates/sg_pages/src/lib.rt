@@ -1,7 +1,9 @@
 //! The disk's reports about itself: its identity, the standard INQUIRY data and the pages of vital
-//! product data (VPD). The crate also has the mode pages, for MODE SENSE and MODE SELECT.
+//! product data (VPD). The crate also has the capacity, and the mode pages, for MODE SENSE and MODE
+//! SELECT.
 #![tactic(auto)]
 
+mod capacity;
 mod identity;
 mod inquiry_data;
 pub mod laws;
@@ -9,11 +11,13 @@ mod mode_pages;
 mod provisioning_pages;
 mod vital_product_data;
 
+pub use capacity::{CAPACITY_10_LENGTH, CAPACITY_16_LENGTH, write_capacity_10, write_capacity_16};
 pub use identity::{Identity, IdentityFault};
 pub use inquiry_data::{write_standard_inquiry, write_standard_inquiry as inquiry};
 pub use mode_pages::{
     Changed, ModePage, ModePages, ModeSelectFault, ModeSelectFault as SelectFault, ModeSenseFault,
-    ModeSenseFault as AskFault, ModeSenseRequest, ModeSenseRequest as Ask, PageControl, PageValues,
+    ModeSenseFault as AskFault, ModeSenseRequest, ModeSenseRequest as Ask, PageValues,
 };
 pub use provisioning_pages::{MAXIMUM_TRANSFER_LENGTH, MAXIMUM_WRITE_SAME_LENGTH};
+pub use sg_wire::PageControl;
 pub use vital_product_data::{VpdPage, vpd, write_vpd_page};

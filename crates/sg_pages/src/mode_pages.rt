@@ -8,10 +8,11 @@ mod mode_select;
 mod mode_sense;
 mod request;
 
+pub(crate) use block_descriptor::LOGICAL_BLOCK_LENGTH;
 use mode_page::{D_SENSE, DEFAULT, SWP};
 pub use mode_page::{ModePage, PageValues};
 pub use mode_select::{Changed, ModeSelectFault};
-pub use request::{ModeSenseFault, ModeSenseRequest, PageControl};
+pub use request::{ModeSenseFault, ModeSenseRequest};
 
 /// The mode pages of a disk: their current and their saved values (SPC-4, 7.5).
 #[derive(Clone, Copy)]

@@ -9,6 +9,7 @@ use Rattle.sg_decode.specs.PersistentReservation.{capabilities, full_status, key
 use Rattle.sg_decode.specs.PersistentReservation.{reservation}
 use Rattle.sg_decode.specs.SenseText.{sense_line}
 use Rattle.sg_decode.specs.VitalProductData.{vital_product_data}
+use Rattle.sg_wire.specs.declared.command.mode.CdbWidth.TheVariants.{Six, Ten}
 use Rattle.sg_tools.specs.declared.show.Show.{Show}
 use Rattle.sg_tools.specs.declared.show.Show.TheVariants as show
 
@@ -17,8 +18,8 @@ answer_text show.Nothing data_in = []
 answer_text show.Hex data_in = hex_lines data_in
 answer_text show.Inquiry data_in = decoded inquiry data_in
 answer_text show.Vpd data_in = decoded vital_product_data data_in
-answer_text show.Modes6 data_in = decoded (mode_parameters false) data_in
-answer_text show.Modes10 data_in = decoded (mode_parameters true) data_in
+answer_text show.Modes6 data_in = decoded (mode_parameters Six) data_in
+answer_text show.Modes10 data_in = decoded (mode_parameters Ten) data_in
 answer_text show.LbaStatus data_in = decoded (lba_status false) data_in
 answer_text show.LbaStatusBrief data_in = decoded (lba_status true) data_in
 answer_text show.Keys data_in = decoded keys data_in

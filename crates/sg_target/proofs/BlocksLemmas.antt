@@ -257,7 +257,8 @@ operation-keeps disks state i (operation.Anchor extents) h ready =
 operation-keeps disks state i (operation.AnchorExtent extent) h ready =
     anchored-keeps disks state.disk.capacity (extent ∷ []) state.disk.contents h ready.on_disk
 operation-keeps disks state i (operation.ReturnModes request n) h ready = sound-keeps _ _ (λ list. h)
-operation-keeps disks state i (operation.ChangeModes ten sp list) h ready = sound-keeps _ _ (λ modes. h)
+operation-keeps disks state i (operation.ChangeModes width sp list) h ready =
+    sound-keeps _ _ (λ modes. h)
 operation-keeps disks state i (operation.ChangeReservations action scope_type list) h ready =
     sound-keeps _ _ (λ change. h)
 operation-keeps disks state i _ h ready = h

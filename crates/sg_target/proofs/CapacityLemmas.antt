@@ -1,8 +1,8 @@
 -- READ CAPACITY parameter data within its own length.
 use Rattle.std.proofs.Common.{◌≡◌, ℕ, min, length, take, refl, ap, ◌∙◌, arith}
 use Rattle.std.proofs.lemmas.List.{take_min}
+use Rattle.sg_pages.specs.CapacityData.{capacity_10, capacity_16}
 use Rattle.sg_wire.specs.CutAnswer.{first_bytes}
-use Rattle.sg_target.specs.CapacityData.{capacity_10, capacity_16}
 
 -- it is whole
 pub whole-capacity_10 : (capacity : ℕ) → first_bytes 8 (capacity_10 capacity) ≡ capacity_10 capacity

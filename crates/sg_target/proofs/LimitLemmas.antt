@@ -102,8 +102,8 @@ module _ (reservations : ReservationsStayConsistent) (queues : QueuesKeepTheirLi
   operation-keeps state i (ReturnSense format n) h = (queues.cleared state.attentions i h.0, h.1)
   operation-keeps state i (ReturnModes request n) h =
       sound-keeps (mode_parameters state.modes request) (returning_up_to state n) (λ list e. h)
-  operation-keeps state i (ChangeModes ten sp list) h =
-      sound-keeps (selected_modes state ten sp list) (changing_modes state i)
+  operation-keeps state i (ChangeModes width sp list) h =
+      sound-keeps (selected_modes state width sp list) (changing_modes state i)
       (λ modes e. (attentions-after state.attentions i (changed_by state.modes modes).0 h.0, h.1))
   operation-keeps state i (ChangeReservations action scope_type list) h =
       sound-keeps (reservation_change state i action scope_type list) (changing_reservations state i)

@@ -1,9 +1,9 @@
 -- Data-in that no refusal follows, in the words of the definitions.
 use Rattle.std.specs.Prelude.{ℕ, List}
 use Rattle.sg_wire.specs.SenseData.{sense_data}
+use Rattle.sg_pages.specs.CapacityData.{capacity_10, capacity_16}
 use Rattle.sg_pages.specs.Identity.{IdentityFields}
 use Rattle.sg_units.specs.declared.reservation_state.ReservationState.{ReservationState}
-use Rattle.sg_target.specs.CapacityData.{capacity_10, capacity_16}
 use Rattle.sg_target.specs.PrimaryCommands.{inquiry_data}
 use Rattle.sg_target.specs.Refusal.{pending_sense}
 use Rattle.sg_target.specs.ReservationCommands.{reserve_in_data}

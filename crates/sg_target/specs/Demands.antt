@@ -1,13 +1,16 @@
 -- Each command's demands on its fields and its data-out, and the operation that it asks for. The
 -- demands depend on the disk only by its number of blocks, which never changes.
-use Rattle.std.specs.Prelude.{ℕ, List, Bool, true, false, ◌&&◌, not, Option, Some, None, Result, Ok}
+use Rattle.std.specs.Prelude.{ℕ, List, Bool, false, ◌&&◌, not, Option, Some, None, Result, Ok}
 use Rattle.std.specs.Prelude.{nat_le, nat_lt, if◌then◌else◌, ok_or}
 use Rattle.sg_wire.specs.declared.command.Command.{Command}
 use Rattle.sg_wire.specs.declared.command.Command.TheVariants as command
+use Rattle.sg_wire.specs.declared.command.mode.CdbWidth.{CdbWidth}
+use Rattle.sg_wire.specs.declared.command.mode.CdbWidth.TheVariants.{Six, Ten}
 use Rattle.sg_wire.specs.declared.command.mode.ModeSelect10.{ModeSelect10}
 use Rattle.sg_wire.specs.declared.command.mode.ModeSelect6.{ModeSelect6}
 use Rattle.sg_wire.specs.declared.command.mode.ModeSense10.{ModeSense10}
 use Rattle.sg_wire.specs.declared.command.mode.ModeSense6.{ModeSense6}
+use Rattle.sg_wire.specs.declared.command.mode.PageRequest.{PageRequest}
 use Rattle.sg_wire.specs.declared.command.primary.Inquiry.{Inquiry}
 use Rattle.sg_wire.specs.declared.command.provisioning.Unmap.{Unmap}
 use Rattle.sg_wire.specs.declared.command.provisioning.WriteSame10.{WriteSame10}
@@ -18,7 +21,7 @@ use Rattle.sg_wire.specs.declared.extent.Extent.{Extent}
 use Rattle.sg_pages.specs.ProvisioningPages.{maximum_transfer_length, maximum_write_same_length}
 use Rattle.sg_target.specs.BlockCommands.{blocks_out, bytes_of}
 use Rattle.sg_pages.specs.BlockDescriptor.{logical_block_length}
-use Rattle.sg_target.specs.ModeCommands.{page_control_of, unless_page_format}
+use Rattle.sg_target.specs.ModeCommands.{unless_page_format}
 use Rattle.sg_target.specs.PrimaryCommands.{format_of, inquiry_page}
 use Rattle.sg_target.specs.ProvisioningCommands.{block_out, listed_extents, unmaps}
 use Rattle.sg_target.specs.Refusal.{when_sound}
@@ -61,38 +64,28 @@ inquiry c =
     (when_sound (ok_or (inquiry_page c.evpd c.page_code) (CheckCondition (InvalidFieldInCdb 2)))
     (λ page. operation.ReturnInquiry page c.allocation_length))
 
-abbrev pub mode_select : (ten pf sp : Bool) (list_length : ℕ) (data_out : List ℕ) → Demands
-mode_select ten pf sp n data_out =
-    takes n (unless_page_format pf) (Ok (operation.ChangeModes ten sp (first_bytes n data_out)))
+abbrev pub mode_select : CdbWidth → (pf sp : Bool) (list_length : ℕ) (data_out : List ℕ) → Demands
+mode_select width pf sp n data_out =
+    takes n (unless_page_format pf) (Ok (operation.ChangeModes width sp (first_bytes n data_out)))
 
 abbrev pub mode_select_6 : ModeSelect6 → (data_out : List ℕ) → Demands
-mode_select_6 c data_out = mode_select false c.pf c.sp c.list_length data_out
+mode_select_6 c data_out = mode_select Six c.pf c.sp c.list_length data_out
 
 abbrev pub mode_select_10 : ModeSelect10 → (data_out : List ℕ) → Demands
-mode_select_10 c data_out = mode_select true c.pf c.sp c.list_length data_out
+mode_select_10 c data_out = mode_select Ten c.pf c.sp c.list_length data_out
 
--- MODE SENSE asks for pages of a disk of some blocks; the CDB of six bytes has no LLBAA.
+-- MODE SENSE asks for pages of a disk of some blocks.
+abbrev pub mode_sense : CdbWidth → (llbaa : Bool) → PageRequest → (blocks allocation_length : ℕ)
+    → Operation
+mode_sense width llbaa page blocks n =
+    operation.ReturnModes (record { width = width; llbaa = llbaa; page = page; blocks = blocks }) n
+
+-- The CDB of six bytes has no LLBAA.
 abbrev pub mode_sense_6 : (blocks : ℕ) → ModeSense6 → Operation
-mode_sense_6 blocks c = operation.ReturnModes (record {
-  ten = false;
-  llbaa = false;
-  dbd = c.dbd;
-  page_control = page_control_of c.page_control;
-  page_code = c.page_code;
-  subpage_code = c.subpage_code;
-  blocks = blocks;
-}) c.allocation_length
+mode_sense_6 blocks c = mode_sense Six false c.page blocks c.allocation_length
 
 abbrev pub mode_sense_10 : (blocks : ℕ) → ModeSense10 → Operation
-mode_sense_10 blocks c = operation.ReturnModes (record {
-  ten = true;
-  llbaa = c.llbaa;
-  dbd = c.dbd;
-  page_control = page_control_of c.page_control;
-  page_code = c.page_code;
-  subpage_code = c.subpage_code;
-  blocks = blocks;
-}) c.allocation_length
+mode_sense_10 blocks c = mode_sense Ten c.llbaa c.page blocks c.allocation_length
 
 abbrev pub reserve_out : PersistentReserveOut → (data_out : List ℕ) → Demands
 reserve_out c data_out =

@@ -4,7 +4,6 @@ pub mod State
 pub mod Effect
 pub mod Refusal
 pub mod PrimaryCommands
-pub mod CapacityData
 pub mod BlockCommands
 pub mod ProvisioningCommands
 pub mod ModeCommands

@@ -1,5 +1,5 @@
 -- The effects of MODE SENSE and MODE SELECT (SPC-4, 6.11 to 6.14).
-use Rattle.std.specs.Prelude.{ℕ, List, Bool, ◌==◌, if◌then◌else◌, Option, Some, None, Result}
+use Rattle.std.specs.Prelude.{ℕ, List, Bool, if◌then◌else◌, Option, Some, None, Result}
 use Rattle.sg_pages.specs.ModePage.{ModeState}
 use Rattle.sg_pages.specs.ModeSelect.{changed_by, mode_select}
 use Rattle.sg_pages.specs.ModeSense.{RequestFields, mode_sense}
@@ -7,9 +7,7 @@ use Rattle.sg_pages.specs.declared.mode_pages.mode_select.ModeSelectFault.{ModeS
 use Rattle.sg_pages.specs.declared.mode_pages.mode_select.ModeSelectFault.TheVariants.{Length, Field}
 use Rattle.sg_pages.specs.declared.mode_pages.request.ModeSenseFault.{ModeSenseFault}
 use Rattle.sg_pages.specs.declared.mode_pages.request.ModeSenseFault.TheVariants.{Page, Subpage}
-use Rattle.sg_pages.specs.declared.mode_pages.request.PageControl.{PageControl}
-use Rattle.sg_pages.specs.declared.mode_pages.request.PageControl.TheVariants.{Current, Changeable}
-use Rattle.sg_pages.specs.declared.mode_pages.request.PageControl.TheVariants.{Default, Saved}
+use Rattle.sg_wire.specs.declared.command.mode.CdbWidth.{CdbWidth}
 use Rattle.sg_units.specs.Attentions.{Pending}
 use Rattle.sg_units.specs.Raised.{raised_for_each, raised_for_others}
 use Rattle.sg_units.specs.declared.unit_attention.UnitAttention.TheVariants.{ModeParametersChanged}
@@ -23,12 +21,6 @@ use Rattle.sg_target.specs.declared.refusal.Refusal.{Refusal}
 use Rattle.sg_target.specs.declared.refusal.Refusal.TheVariants.{CheckCondition}
 
 -- ---- MODE SENSE
-
--- The values that PC names.
-abbrev pub page_control_of : (pc : ℕ) → PageControl
-page_control_of pc =
-    if pc == 0 then Current
-    else (if pc == 1 then Changeable else (if pc == 2 then Default else Saved))
 
 -- A page or a subpage that the disk does not have is an invalid field. PAGE CODE is in byte 2, and
 -- SUBPAGE CODE is byte 3.
@@ -48,9 +40,10 @@ select_refusal Length = CheckCondition ParameterListLengthError
 select_refusal (Field byte) = CheckCondition (InvalidFieldInParameterList byte)
 
 -- The mode pages after a parameter list, or the refusal. With SP all of them are saved.
-unfoldable pub selected_modes : State → (ten sp : Bool) → (list : List ℕ) → Result ModeState Refusal
-selected_modes state ten sp list =
-    or_refused select_refusal (mode_select state.modes list ten sp state.disk.capacity)
+unfoldable pub selected_modes : State → CdbWidth → (sp : Bool) → (list : List ℕ)
+    → Result ModeState Refusal
+selected_modes state width sp list =
+    or_refused select_refusal (mode_select state.modes list width sp state.disk.capacity)
 
 -- If a current value has changed, MODE PARAMETERS CHANGED is established for every other initiator.
 abbrev pub attentions_after : Pending → (initiator : ℕ) → (changed : Bool) → Pending

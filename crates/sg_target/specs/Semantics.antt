@@ -46,7 +46,7 @@ medium_use Nothing = uses_no_block
 medium_use (ReturnSense format n) = uses_no_block
 medium_use (ReturnInquiry page n) = uses_no_block
 medium_use (ReturnModes request n) = uses_no_block
-medium_use (ChangeModes ten sp list) = uses_no_block
+medium_use (ChangeModes width sp list) = uses_no_block
 medium_use ReturnCapacity10 = uses_no_block
 medium_use (ReturnCapacity16 n) = uses_no_block
 medium_use (Read extent) = only_reads (extent ∷ [])
@@ -71,8 +71,8 @@ effect_of state i (ReturnSense format n) = Ok (returning_sense state i format n)
 effect_of state i (ReturnInquiry page n) = Ok (returning_page state page n)
 effect_of state i (ReturnModes request n) =
     when_sound (mode_parameters state.modes request) (returning_up_to state n)
-effect_of state i (ChangeModes ten sp list) =
-    when_sound (selected_modes state ten sp list) (changing_modes state i)
+effect_of state i (ChangeModes width sp list) =
+    when_sound (selected_modes state width sp list) (changing_modes state i)
 effect_of state i ReturnCapacity10 = Ok (read_capacity_10 state)
 effect_of state i (ReturnCapacity16 n) = Ok (read_capacity_16 state n)
 effect_of state i (Read extent) = Ok (reading state extent)

@@ -2,10 +2,10 @@
 // do, because there is no cache.
 ghost use Rattle.std.specs.Prelude.{◌≡◌, ◌≤◌, ◌+◌, ◌∷◌, [], length, Some, None, Ok, OnOk, OnErr};
 ghost use Rattle.std.specs.Prelude.{IfOk, IfErr};
+ghost use Rattle.sg_pages.specs.CapacityData.{capacity_10, capacity_16};
 ghost use Rattle.sg_pages.specs.ProvisioningPages.{maximum_transfer_length};
 ghost use Rattle.sg_wire.specs.CutAnswer.{first_bytes};
 ghost use Rattle.sg_target.specs.BlockCommands.{bytes_of, reading, writing};
-ghost use Rattle.sg_target.specs.CapacityData.{capacity_10, capacity_16};
 ghost use Rattle.sg_target.specs.Checks.{requested, unsupported_value};
 ghost use Rattle.sg_target.specs.Demands.{read, too_long, write};
 ghost use Rattle.sg_target.specs.Charge.{TakesStep, cost_bounds};
@@ -20,9 +20,8 @@ use crate::operation::Operation;
 use crate::refusal::{Reason, Refusal};
 use crate::reply::Reply;
 use crate::target::{BUFFER_LENGTH, Target};
-use byteorder::{BigEndian, ByteOrder};
-use sg_pages::MAXIMUM_TRANSFER_LENGTH;
-use sg_store::{BLOCK_LENGTH, Space, Store};
+use sg_pages::{CAPACITY_10_LENGTH, CAPACITY_16_LENGTH, MAXIMUM_TRANSFER_LENGTH};
+use sg_store::{Space, Store};
 use sg_wire::{Extent, Initiator};
 use std::marker::Model;
 
@@ -196,40 +195,6 @@ impl<S: Store> Target<S> {
 }
 
 // ---- READ CAPACITY
-
-/// The length of READ CAPACITY(10) parameter data, in bytes.
-const CAPACITY_10_LENGTH: usize = 8;
-
-/// The length of READ CAPACITY(16) parameter data, in bytes.
-const CAPACITY_16_LENGTH: usize = 32;
-
-/// Logical block provisioning is enabled, and blocks that are not mapped read as zeros.
-const LBPME_LBPRZ: u8 = 0xC0;
-
-/// READ CAPACITY(10) parameter data (SBC-3, 5.15.2).
-#[tactic(auto, unfolding(crate::specs::CapacityData::capacity_10))]
-pub(crate) fn capacity_10(capacity: u64) -> [u8; CAPACITY_10_LENGTH]
-    requires { 1 ≤ capacity }
-    ensures { result ≡ capacity_10 capacity }
-{
-    let mut bytes = [0; CAPACITY_10_LENGTH];
-    BigEndian::write_u32(&mut bytes, (capacity - 1).min(0xFFFF_FFFF) as u32);
-    BigEndian::write_u32(&mut bytes[4..], BLOCK_LENGTH as u32);
-    bytes
-}
-
-/// READ CAPACITY(16) parameter data (SBC-3, 5.16.2).
-#[tactic(auto, unfolding(crate::specs::CapacityData::capacity_16))]
-pub(crate) fn capacity_16(capacity: u64) -> [u8; CAPACITY_16_LENGTH]
-    requires { 1 ≤ capacity }
-    ensures { result ≡ capacity_16 capacity }
-{
-    let mut bytes = [0; CAPACITY_16_LENGTH];
-    BigEndian::write_u64(&mut bytes, capacity - 1);
-    BigEndian::write_u32(&mut bytes[8..], BLOCK_LENGTH as u32);
-    bytes[14] = LBPME_LBPRZ;
-    bytes
-}
 
 impl<S: Store> Target<S> {
     /// Returns READ CAPACITY(10) parameter data.

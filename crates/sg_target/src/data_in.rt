@@ -5,13 +5,13 @@ ghost use Rattle.sg_wire.specs.CutAnswer.{first_bytes, overwritten};
 ghost use Rattle.sg_target.specs.DataIn.{data_of};
 ghost use Rattle.sg_target.specs.MadeReplies.{ReturnsData};
 
-use crate::block::{capacity_10, capacity_16};
 use crate::config::Config;
 use crate::primary::InquiryPage;
 use crate::refusal::pending_sense;
 use crate::reply::Reply;
 use crate::reservation::write_reserve_in_data;
 use crate::target::Target;
+use sg_pages::{write_capacity_10, write_capacity_16};
 use sg_store::Store;
 use sg_units::{Reservations, UnitAttention};
 use sg_wire::laws::answers_are_in_their_buffers;
@@ -63,8 +63,8 @@ impl DataIn {
             DataIn::Sense { condition, format } => pending_sense(condition).write(format, cut),
             DataIn::Inquiry(page) => page.write(config.identity(), cut),
             DataIn::Reservations(action) => write_reserve_in_data(action, reservations, cut),
-            DataIn::Capacity10 => cut.put(&capacity_10(config.blocks())),
-            DataIn::Capacity16 => cut.put(&capacity_16(config.blocks())),
+            DataIn::Capacity10 => write_capacity_10(config.blocks(), cut),
+            DataIn::Capacity16 => write_capacity_16(config.blocks(), cut),
         }
     }
 }

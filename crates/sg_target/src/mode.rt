@@ -4,8 +4,7 @@ ghost use Rattle.sg_target.specs.Checks.{requested};
 ghost use Rattle.sg_target.specs.Demands.{mode_select, mode_select_6, mode_select_10};
 ghost use Rattle.sg_target.specs.Demands.{mode_sense_6, mode_sense_10};
 ghost use Rattle.sg_target.specs.Charge.{TakesStep, cost_bounds};
-ghost use Rattle.sg_target.specs.ModeCommands.{attentions_after, page_control_of};
-ghost use Rattle.sg_target.specs.ModeCommands.{select_refusal, sense_refusal};
+ghost use Rattle.sg_target.specs.ModeCommands.{attentions_after, select_refusal, sense_refusal};
 ghost use Rattle.sg_target.specs.State.{IsWithinLimits};
 ghost use Rattle.sg_target.specs.Step.{step_by};
 
@@ -14,13 +13,11 @@ use crate::operation::Operation;
 use crate::refusal::{Reason, Refusal};
 use crate::reply::Reply;
 use crate::target::{BUFFER_LENGTH, Target};
-use sg_pages::{Changed, ModeSelectFault, ModeSenseFault, ModeSenseRequest, PageControl};
+use sg_pages::{Changed, ModeSelectFault, ModeSenseFault, ModeSenseRequest};
 use sg_store::{Counts, Store};
 use sg_units::{Raised, UnitAttention};
 use sg_wire::laws::{answers_are_in_their_buffers, parts_are_put_in_turn};
-use sg_wire::{
-    Cut, Initiator, ModeSelect6, ModeSelect10, ModeSense6, ModeSense10, PageControlField,
-};
+use sg_wire::{CdbWidth, Cut, Initiator, ModeSelect6, ModeSelect10, ModeSense6, ModeSense10};
 use std::marker::Model;
 
 // Where fields are in the CDBs: PF of MODE SELECT, and PAGE CODE and SUBPAGE CODE of MODE SENSE.
@@ -46,17 +43,14 @@ impl Model for RequestedModes {
     ghost view = { λ r. fields_of r.request };
 }
 
-/// MODE SENSE(6), of a disk of `blocks` blocks.
+/// MODE SENSE(6), of a disk of `blocks` blocks. Its CDB has no LLBAA.
 pub(crate) fn check_mode_sense_6(blocks: u64, fields: ModeSense6) -> Operation<'static>
     ensures { result ≡ mode_sense_6 blocks fields }
 {
     let request = ModeSenseRequest {
-        ten: false,
+        width: CdbWidth::Six,
         llbaa: false,
-        dbd: fields.dbd,
-        page_control: page_control_of(fields.page_control),
-        page_code: fields.page_code.number(),
-        subpage_code: fields.subpage_code,
+        page: fields.page,
         blocks,
     };
     Operation::ReturnModes {
@@ -70,28 +64,14 @@ pub(crate) fn check_mode_sense_10(blocks: u64, fields: ModeSense10) -> Operation
     ensures { result ≡ mode_sense_10 blocks fields }
 {
     let request = ModeSenseRequest {
-        ten: true,
+        width: CdbWidth::Ten,
         llbaa: fields.llbaa,
-        dbd: fields.dbd,
-        page_control: page_control_of(fields.page_control),
-        page_code: fields.page_code.number(),
-        subpage_code: fields.subpage_code,
+        page: fields.page,
         blocks,
     };
     Operation::ReturnModes {
         request: RequestedModes { request },
         allocation_length: fields.allocation_length,
-    }
-}
-
-fn page_control_of(field: PageControlField) -> PageControl
-    ensures { result ≡ page_control_of field }
-{
-    match field.number() {
-        0 => PageControl::Current,
-        1 => PageControl::Changeable,
-        2 => PageControl::Default,
-        _ => PageControl::Saved,
     }
 }
 
@@ -161,7 +141,7 @@ pub(crate) fn check_mode_select_6(
     ensures { result ≡ requested (mode_select_6 fields data_out.now) data_out.now }
 {
     let list_length = u16::from(fields.list_length);
-    check_mode_select(false, fields.pf, fields.sp, list_length, data_out)
+    check_mode_select(CdbWidth::Six, fields.pf, fields.sp, list_length, data_out)
 }
 
 /// MODE SELECT(10).
@@ -171,17 +151,23 @@ pub(crate) fn check_mode_select_10(
 ) -> Result<Operation<'_>, Refusal>
     ensures { result ≡ requested (mode_select_10 fields data_out.now) data_out.now }
 {
-    check_mode_select(true, fields.pf, fields.sp, fields.list_length, data_out)
+    check_mode_select(
+        CdbWidth::Ten,
+        fields.pf,
+        fields.sp,
+        fields.list_length,
+        data_out,
+    )
 }
 
 fn check_mode_select(
-    ten: bool,
+    width: CdbWidth,
     pf: bool,
     sp: bool,
     list_length: u16,
     data_out: &[u8],
 ) -> Result<Operation<'_>, Refusal>
-    ensures { result ≡ requested (mode_select ten pf sp list_length data_out.now) data_out.now }
+    ensures { result ≡ requested (mode_select width pf sp list_length data_out.now) data_out.now }
 {
     if !pf {
         return Err(Refusal::CheckCondition(Reason::InvalidFieldInCdb {
@@ -190,31 +176,32 @@ fn check_mode_select(
     }
     let bytes = needed_data_out(data_out, usize::from(list_length))?;
     Ok(Operation::ChangeModes {
-        ten,
+        width,
         sp,
         list: ModeList { bytes },
     })
 }
 
 impl<S: Store> Target<S> {
-    /// Sets the mode pages to a parameter list's pages, unless something is wrong with the list. If
-    /// this were inlined, every command would make room for the pages.
+    /// Sets the mode pages to a parameter list's pages, unless something is wrong with the list.
+    // Not inlined: the stack frame of every command would have room for the pages.
     #[inline(never)]
     #[tactic(auto, using(crate::proofs::Space::room), unfolding(crate::specs::ModeCommands::selected_modes))]
     pub(crate) fn change_modes(
         &mut self,
         initiator: Initiator,
-        ten: bool,
+        width: CdbWidth,
         sp: bool,
         list: &ModeList<'_>,
         buf: &[u8],
     ) -> Reply
         requires limits { IsWithinLimits self.old.state }
-        ensures { let operation = Operation.ChangeModes ten sp list.now in
+        ensures { let operation = Operation.ChangeModes width sp list.now in
             TakesStep (cost_bounds S.price S.least) (step_by self.old.state initiator operation)
             [] self.old self.new result buf.now buf.now }
     {
-        let reason = match self.modes.select(list.bytes, ten, sp, self.config.blocks()) {
+        let blocks = self.config.blocks();
+        let reason = match self.modes.select(list.bytes, width, sp, blocks) {
             Ok(Changed(changed)) => {
                 self.report_changed_modes(initiator, changed);
                 return Reply::without_blocks(0);

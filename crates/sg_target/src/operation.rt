@@ -29,7 +29,7 @@ use crate::reservation::{check_reserve_in, check_reserve_out};
 use crate::target::{BUFFER_LENGTH, Target};
 use sg_store::{MAX_CAPACITY, Store};
 use sg_units::OutList;
-use sg_wire::{Command, Extent, Format, InAction, Initiator, ListedExtents, OutAction};
+use sg_wire::{CdbWidth, Command, Extent, Format, InAction, Initiator, ListedExtents, OutAction};
 
 /// The operation that a command asks for, with all that it takes: its fields and its data-out are
 /// sound. Blocks past the last one and a lack of space can still refuse it. The disk's mode pages
@@ -59,8 +59,8 @@ pub enum Operation<'a> {
     },
     /// Sets the mode pages to a list's pages.
     ChangeModes {
-        /// Whether the list has the longer header of MODE SELECT(10).
-        ten: bool,
+        /// The width of the CDB, which decides the form of the list's header.
+        width: CdbWidth,
         /// Whether all pages are saved.
         sp: bool,
         list: ModeList<'a>,
@@ -232,8 +232,8 @@ impl<S: Store> Target<S> {
                 request,
                 allocation_length,
             } => self.return_modes(initiator, &request, allocation_length, buf),
-            Operation::ChangeModes { ten, sp, list } => {
-                self.change_modes(initiator, ten, sp, &list, buf)
+            Operation::ChangeModes { width, sp, list } => {
+                self.change_modes(initiator, width, sp, &list, buf)
             }
             Operation::ReturnCapacity10 => self.return_capacity_10(buf),
             Operation::ReturnCapacity16(length) => self.return_capacity_16(length, buf),

@@ -3,13 +3,14 @@
 -- a list that is not given; `Exclusive`; `Number`; any other `Usage`.
 use Rattle.std.specs.Prelude.{ℕ, ◌^◌, ◌-◌, List, [], ◌∷◌, length, codes, filter, map, Option, Some}
 use Rattle.std.specs.Prelude.{None, is_some, Result, Ok, Err, Bool, true, false, ◌==◌, ◌&&◌, ◌||◌}
-use Rattle.std.specs.Prelude.{nat_le, if◌then◌else◌}
+use Rattle.std.specs.Prelude.{nat_le, option_and_then, if◌then◌else◌}
 use Rattle.clap.specs.Words.{Row, Text}
 use Rattle.sg_tools.specs.Options.{command_line}
 use Rattle.sg_tools.specs.GivenOptions.{is_set, given_options, text_of}
 use Rattle.sg_tools.specs.OptionTexts.{reservation_key, reservation_type, numbers_up_to, mode_page}
 use Rattle.sg_tools.specs.OptionTexts.{number_or, value_or, vpd_page}
 use Rattle.sg_wire.specs.OutList.{list_length}
+use Rattle.sg_wire.specs.PageControl.{page_control_with}
 use Rattle.sg_wire.specs.UnmapList.{maximum_unmap_descriptors, unmap_list_length}
 use Rattle.sg_wire.specs.declared.extent.Extent.{Extent}
 use Rattle.sg_wire.specs.declared.out_list.OutList.{OutList}
@@ -26,6 +27,11 @@ use Rattle.sg_tools.specs.declared.tool_name.ToolName.{ToolName}
 use Rattle.sg_tools.specs.declared.tool_name.ToolName.TheVariants.{SgInq, SgVpd, SgModes, SgUnmap}
 use Rattle.sg_tools.specs.declared.tool_name.ToolName.TheVariants.{SgGetLbaStatus, SgPersist}
 use Rattle.sg_wire.specs.declared.command.Command.{Command}
+use Rattle.sg_wire.specs.declared.command.Command.TheVariants.{ModeSense6, ModeSense10}
+use Rattle.sg_wire.specs.declared.command.mode.CdbWidth.{CdbWidth}
+use Rattle.sg_wire.specs.declared.command.mode.CdbWidth.TheVariants.{Six, Ten}
+use Rattle.sg_wire.specs.declared.command.mode.PageRequest.{PageRequest}
+use Rattle.sg_wire.specs.declared.command.page_control.PageControl.{PageControl}
 use Rattle.sg_wire.specs.Commands as command
 use Rattle.sg_wire.specs.declared.command.in_action.InAction.{InAction}
 use Rattle.sg_wire.specs.declared.command.in_action.InAction.TheVariants.{ReadKeys, ReadReservation}
@@ -102,14 +108,21 @@ sg_vpd rows =
 
 -- ---- sg_modes: MODE SENSE(10), or with --six MODE SENSE(6)
 
-abbrev pub mode_sense : (six llbaa dbd : Bool) (pc : ℕ) (page : ℕ × ℕ) → Command
-mode_sense six llbaa dbd pc page =
-    if six then command.mode_sense_6 dbd pc page.0 page.1 252
-    else command.mode_sense_10 llbaa dbd pc page.0 page.1 1024
+abbrev pub cdb_width : (six : Bool) → CdbWidth
+cdb_width six = if six then Six else Ten
 
-abbrev pub modes_show : (six hex : Bool) → Show
-modes_show six hex =
-    if hex then show.Hex else (if six then show.Modes6 else show.Modes10)
+abbrev pub mode_sense : CdbWidth → (llbaa : Bool) → PageRequest → Command
+mode_sense Six llbaa page = ModeSense6 (record { page = page; allocation_length = 252 })
+mode_sense Ten llbaa page =
+    ModeSense10 (record { llbaa = llbaa; page = page; allocation_length = 1024 })
+
+abbrev pub modes_show : CdbWidth → (hex : Bool) → Show
+modes_show Six hex = if hex then show.Hex else show.Modes6
+modes_show Ten hex = if hex then show.Hex else show.Modes10
+
+-- PC is 0 to 3, and without --control 0: the current values.
+abbrev pub page_control : (text : Option (List ℕ)) → Option PageControl
+page_control text = option_and_then page_control_with (number_or 0 3 text)
 
 -- Without --page it asks for all pages, page 3Fh.
 abbrev pub sg_modes : List Row → Request
@@ -118,10 +131,16 @@ sg_modes rows =
     let six = is_set (codes "six") rows in
     let llbaa = is_set (codes "llbaa") rows in
     unless_exclusive ((is_set (codes "all") rows && is_some page) || (six && llbaa))
-    (with_value (number_or 0 3 (text_of (codes "control") rows)) (λ pc.
+    (with_value (page_control (text_of (codes "control") rows)) (λ pc.
     with_value (value_or (0x3F, 0x00) mode_page page) (λ page.
-    asks (mode_sense six llbaa (is_set (codes "dbd") rows) pc page)
-    (modes_show six (is_set (codes "hex") rows)))))
+    let request : PageRequest = record {
+      dbd = is_set (codes "dbd") rows;
+      page_control = pc;
+      page_code = page.0;
+      subpage_code = page.1;
+    } in
+    asks (mode_sense (cdb_width six) llbaa request)
+    (modes_show (cdb_width six) (is_set (codes "hex") rows)))))
 
 -- ---- sg_unmap: UNMAP
 

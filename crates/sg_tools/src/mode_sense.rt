@@ -1,7 +1,8 @@
 // sg_modes, which sends MODE SENSE(10), or MODE SENSE(6) with `--six` (SPC-4, 6.13 and 6.14).
 ghost use Rattle.std.specs.Prelude.{◌≡◌, ◌≤◌, option_map, IfSome};
-ghost use Rattle.sg_tools.specs.OptionTexts.{both, mode_page, number_or, value_or};
-ghost use Rattle.sg_tools.specs.Requests.{mode_sense, modes_show, sg_modes};
+ghost use Rattle.sg_tools.specs.OptionTexts.{both, mode_page, value_or};
+ghost use Rattle.sg_tools.specs.Requests.{cdb_width, mode_sense, modes_show, page_control};
+ghost use Rattle.sg_tools.specs.Requests.{sg_modes};
 
 use crate::given_options::GivenOptions;
 use crate::number::read_number_up_to;
@@ -10,7 +11,7 @@ use crate::option_text::number_or;
 use crate::show::Show;
 use crate::tool::Tool;
 use crate::tool_fault::ToolFault;
-use sg_wire::{Command, ModeSense6, ModeSense10, PageCode, PageControlField};
+use sg_wire::{CdbWidth, Command, ModeSense6, ModeSense10, PageCode, PageControl, PageRequest};
 
 /// The PAGE CODE that requests all pages (SPC-4, 6.13).
 const ALL_PAGES: u64 = 0x3f;
@@ -27,58 +28,58 @@ pub(crate) fn sg_modes(options: &GivenOptions) -> Result<Tool, ToolFault>
     }
     let page_control = page_control(options.text("control"));
     let page = mode_page_or_all(page);
-    let (Some(page_control), Some(page)) = (page_control, page) else {
+    let (Some(page_control), Some((page_code, subpage_code))) = (page_control, page) else {
         return Err(ToolFault::Number);
     };
-    let command = mode_sense(six, llbaa, options.is_set("dbd"), page_control, page);
-    Ok(Tool::without_parameters(command, modes_show(six, options.is_set("hex"))))
+    let request = PageRequest {
+        dbd: options.is_set("dbd"),
+        page_control,
+        page_code,
+        subpage_code,
+    };
+    let width = cdb_width(six);
+    let show = modes_show(width, options.is_set("hex"));
+    Ok(Tool::without_parameters(mode_sense(width, llbaa, request), show))
 }
 
-fn mode_sense(
-    six: bool,
-    llbaa: bool,
-    dbd: bool,
-    page_control: PageControlField,
-    page: (PageCode, u8),
-) -> Command
-    ensures { result ≡ mode_sense six llbaa dbd page_control page }
+fn cdb_width(six: bool) -> CdbWidth
+    ensures { result ≡ cdb_width six }
 {
-    let (page_code, subpage_code) = page;
-    if six {
-        Command::ModeSense6(ModeSense6 {
-            dbd,
-            page_control,
-            page_code,
-            subpage_code,
+    if six { CdbWidth::Six } else { CdbWidth::Ten }
+}
+
+/// MODE SENSE. LLBAA is a field only of MODE SENSE(10).
+fn mode_sense(width: CdbWidth, llbaa: bool, page: PageRequest) -> Command
+    ensures { result ≡ mode_sense width llbaa page }
+{
+    match width {
+        CdbWidth::Six => Command::ModeSense6(ModeSense6 {
+            page,
             allocation_length: 252,
-        })
-    } else {
-        Command::ModeSense10(ModeSense10 {
+        }),
+        CdbWidth::Ten => Command::ModeSense10(ModeSense10 {
             llbaa,
-            dbd,
-            page_control,
-            page_code,
-            subpage_code,
+            page,
             allocation_length: 1024,
-        })
+        }),
     }
 }
 
-fn modes_show(six: bool, hex: bool) -> Show
-    ensures { result ≡ modes_show six hex }
+fn modes_show(width: CdbWidth, hex: bool) -> Show
+    ensures { result ≡ modes_show width hex }
 {
-    match (hex, six) {
+    match (hex, width) {
         (true, _) => Show::Hex,
-        (false, true) => Show::Modes6,
-        (false, false) => Show::Modes10,
+        (false, CdbWidth::Six) => Show::Modes6,
+        (false, CdbWidth::Ten) => Show::Modes10,
     }
 }
 
 /// The page control of a text; current values if there is no text.
-fn page_control(text: Option<&str>) -> Option<PageControlField>
-    ensures { result ≡ number_or 0 3 (option_map (λ t. t.now) text.entry) }
+fn page_control(text: Option<&str>) -> Option<PageControl>
+    ensures { result ≡ page_control (option_map (λ t. t.now) text.entry) }
 {
-    PageControlField::new(number_or(0, 3, text)? as u8)
+    PageControl::with_code(number_or(0, 3, text)? as u8)
 }
 
 /// The page and the subpage of a text; all pages if there is no text.

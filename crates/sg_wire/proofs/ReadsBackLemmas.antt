@@ -18,6 +18,11 @@ use Rattle.sg_wire.specs.declared.command.in_action.InAction.TheVariants.{ReadKe
 use Rattle.sg_wire.specs.declared.command.out_action.OutAction.TheVariants.{Clear}
 use Rattle.sg_wire.specs.declared.command.Command.{Command}
 use Rattle.sg_wire.specs.declared.command.Command.TheVariants as command
+use Rattle.sg_wire.specs.declared.command.page_control.PageControl.{PageControl}
+use Rattle.sg_wire.specs.declared.command.page_control.PageControl.TheVariants.{Current}
+use Rattle.sg_wire.specs.declared.command.page_control.PageControl.TheVariants.{Changeable}
+use Rattle.sg_wire.specs.declared.command.page_control.PageControl.TheVariants.{Default, Saved}
+use Rattle.sg_wire.specs.PageControl.{page_control_code, page_control_of}
 use Rattle.sg_wire.specs.Commands.{reserve_in, reserve_out}
 use Rattle.sg_wire.specs.CdbDecoding.{command_in, first_bad, mask_of, masks, unless_bad}
 use Rattle.sg_wire.specs.CdbEncoding.{cdb_of, joined, part_in}
@@ -315,6 +320,13 @@ module _ (l : Layout) where
         (no_bad_byte 0 (length_of l.opcode) tests.0)
         ∙ ap Ok (again ∙ is_own)
 
+-- the PC field of a MODE SENSE
+again_by_code : (pc : PageControl) → page_control_of (page_control_code pc) ≡ pc
+again_by_code Current = refl
+again_by_code Changeable = refl
+again_by_code Default = refl
+again_by_code Saved = refl
+
 abbrev ReadsBack : Command → Type 0
 ReadsBack command = fits_cdb command ≡ true → command_in Extended (cdb_of command) ≡ Ok command
 
@@ -330,6 +342,12 @@ reads_back (command.PersistentReserveOut c) h =
       | Clear ↦ λ h. decoded (layout (reserve_out Clear c.scope_type c.list_length)) h _ refl refl
       | a ↦ λ h. decoded (layout (reserve_out a c.scope_type c.list_length)) h _ refl refl
     ]) h
+reads_back (command.ModeSense6 c) h = decoded (layout (command.ModeSense6 c)) h _ refl
+    (ap (λ pc. command.ModeSense6 (record c { page = record c.page { page_control = pc } }))
+    (again_by_code c.page.page_control))
+reads_back (command.ModeSense10 c) h = decoded (layout (command.ModeSense10 c)) h _ refl
+    (ap (λ pc. command.ModeSense10 (record c { page = record c.page { page_control = pc } }))
+    (again_by_code c.page.page_control))
 reads_back command h = decoded (layout command) h command refl refl
 
 -- on each disk that has the command

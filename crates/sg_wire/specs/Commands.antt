@@ -5,7 +5,9 @@ use Rattle.sg_wire.specs.declared.command.Command.TheVariants as command
 use Rattle.sg_wire.specs.declared.command.block.Extent10.{Extent10}
 use Rattle.sg_wire.specs.declared.command.block.Extent16.{Extent16}
 use Rattle.sg_wire.specs.declared.command.in_action.InAction.{InAction}
+use Rattle.sg_wire.specs.declared.command.mode.PageRequest.{PageRequest}
 use Rattle.sg_wire.specs.declared.command.out_action.OutAction.{OutAction}
+use Rattle.sg_wire.specs.PageControl.{page_control_of}
 
 -- ---- Primary commands (SPC-4, 6)
 
@@ -22,22 +24,25 @@ mode_select_6 pf sp n = command.ModeSelect6 (record { pf = pf; sp = sp; list_len
 abbrev pub mode_select_10 : (pf sp : Bool) (list_length : ℕ) → Command
 mode_select_10 pf sp n = command.ModeSelect10 (record { pf = pf; sp = sp; list_length = n })
 
-abbrev pub mode_sense_6 : (dbd : Bool) (pc page subpage allocation_length : ℕ) → Command
-mode_sense_6 dbd pc page subpage n = command.ModeSense6 (record {
+-- The pages that a MODE SENSE requests.
+abbrev pub page_request : (dbd : Bool) (pc page subpage : ℕ) → PageRequest
+page_request dbd pc page subpage = record {
   dbd = dbd;
-  page_control = pc;
+  page_control = page_control_of pc;
   page_code = page;
   subpage_code = subpage;
+}
+
+abbrev pub mode_sense_6 : (dbd : Bool) (pc page subpage allocation_length : ℕ) → Command
+mode_sense_6 dbd pc page subpage n = command.ModeSense6 (record {
+  page = page_request dbd pc page subpage;
   allocation_length = n;
 })
 
 abbrev pub mode_sense_10 : (llbaa dbd : Bool) (pc page subpage allocation_length : ℕ) → Command
 mode_sense_10 llbaa dbd pc page subpage n = command.ModeSense10 (record {
   llbaa = llbaa;
-  dbd = dbd;
-  page_control = pc;
-  page_code = page;
-  subpage_code = subpage;
+  page = page_request dbd pc page subpage;
   allocation_length = n;
 })
 

@@ -14,6 +14,7 @@ use Rattle.sg_wire.specs.declared.command.mode.ModeSelect10.{ModeSelect10}
 use Rattle.sg_wire.specs.declared.command.mode.ModeSelect6.{ModeSelect6}
 use Rattle.sg_wire.specs.declared.command.mode.ModeSense10.{ModeSense10}
 use Rattle.sg_wire.specs.declared.command.mode.ModeSense6.{ModeSense6}
+use Rattle.sg_wire.specs.declared.command.mode.PageRequest.{PageRequest}
 use Rattle.sg_wire.specs.declared.command.primary.Inquiry.{Inquiry}
 use Rattle.sg_wire.specs.declared.command.primary.RequestSense.{RequestSense}
 use Rattle.sg_wire.specs.declared.command.provisioning.GetLbaStatus.{GetLbaStatus}
@@ -23,6 +24,7 @@ use Rattle.sg_wire.specs.declared.command.provisioning.WriteSame16.{WriteSame16}
 use Rattle.sg_wire.specs.declared.command.reservation.PersistentReserveIn.{PersistentReserveIn}
 use Rattle.sg_wire.specs.declared.command.reservation.PersistentReserveOut.{PersistentReserveOut}
 use Rattle.sg_wire.specs.Commands as make
+use Rattle.sg_wire.specs.PageControl.{page_control_code}
 use Rattle.sg_wire.specs.ReservationAction.{in_code, out_code, each_in_action, each_out_action}
 use Rattle.sg_wire.specs.declared.profile.Profile.{Profile}
 use Rattle.sg_wire.specs.declared.profile.Profile.TheVariants.{Base}
@@ -98,18 +100,19 @@ mode_select_6 c = select_bits c.pf c.sp ++ field (bytes 4 4) c.list_length ∷ [
 abbrev mode_select_10 : ModeSelect10 → List Field
 mode_select_10 c = select_bits c.pf c.sp ++ field (bytes 7 8) c.list_length ∷ []
 
--- DBD, PC, PAGE CODE, SUBPAGE CODE and ALLOCATION LENGTH of MODE SENSE, and LLBAA in the CDB of 10
--- bytes.
+-- DBD, PC, PAGE CODE and SUBPAGE CODE of MODE SENSE.
+abbrev page_request : PageRequest → List Field
+page_request r =
+    field (bit 1 3) r.dbd ∷ field (bits 2 7 6) (page_control_code r.page_control)
+    ∷ field (bits 2 5 0) r.page_code ∷ field (bytes 3 3) r.subpage_code ∷ []
+
+-- These and ALLOCATION LENGTH, and LLBAA in the CDB of 10 bytes.
 abbrev mode_sense_6 : ModeSense6 → List Field
-mode_sense_6 c =
-    field (bit 1 3) c.dbd ∷ field (bits 2 7 6) c.page_control ∷ field (bits 2 5 0) c.page_code
-    ∷ field (bytes 3 3) c.subpage_code ∷ field (bytes 4 4) c.allocation_length ∷ []
+mode_sense_6 c = page_request c.page ++ field (bytes 4 4) c.allocation_length ∷ []
 
 abbrev mode_sense_10 : ModeSense10 → List Field
 mode_sense_10 c =
-    field (bit 1 4) c.llbaa ∷ field (bit 1 3) c.dbd ∷ field (bits 2 7 6) c.page_control
-    ∷ field (bits 2 5 0) c.page_code ∷ field (bytes 3 3) c.subpage_code
-    ∷ field (bytes 7 8) c.allocation_length ∷ []
+    field (bit 1 4) c.llbaa ∷ page_request c.page ++ field (bytes 7 8) c.allocation_length ∷ []
 
 -- LOGICAL BLOCK ADDRESS and TRANSFER LENGTH, or NUMBER OF LOGICAL BLOCKS, in CDBs of 6, 10 and 16
 -- bytes.

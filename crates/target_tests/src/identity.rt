@@ -3,7 +3,7 @@
 use sg_pages::{
     Ask, AskFault, Identity, IdentityFault, ModePages, PageControl, SelectFault, inquiry, vpd,
 };
-use sg_wire::Cut;
+use sg_wire::{CdbWidth, Cut, PageCode, PageRequest};
 
 const LOCAL: Option<IdentityFault> = Some(IdentityFault::Local);
 
@@ -94,16 +94,18 @@ fn standard_inquiry_data_is_cut(rt: HostRuntime) {
 fn requests_for_mode_pages_are_refused(rt: HostRuntime) {
     let mut pages = ModePages::new();
     let ask = Ask {
-        ten: false,
+        width: CdbWidth::Six,
         llbaa: false,
-        dbd: false,
-        page_control: PageControl::Current,
-        page_code: 0x3E,
-        subpage_code: 0,
+        page: PageRequest {
+            dbd: false,
+            page_control: PageControl::Current,
+            page_code: PageCode::new(0x3E).unwrap(),
+            subpage_code: 0,
+        },
         blocks: 1,
     };
     let mut bytes = [0xEE; 4];
     let mut cut = Cut::new(&mut bytes, 4);
     assert!(rt; pages.sense(&ask, &mut cut) == Err(AskFault::Page));
-    assert!(rt; pages.select(&[0x00], false, false, 1).err() == Some(SelectFault::Length));
+    assert!(rt; pages.select(&[0x00], CdbWidth::Six, false, 1).err() == Some(SelectFault::Length));
 }

@@ -3,7 +3,7 @@ use sg_decode::{
     print_capabilities, print_full_status, print_hex, print_inquiry, print_keys, print_lba_status,
     print_modes, print_reservation, print_sense, print_vpd,
 };
-use sg_wire::Watched;
+use sg_wire::{CdbWidth, Watched};
 use std::alloc::Global;
 use std::io;
 use std::test::Fail;
@@ -126,8 +126,8 @@ fn text_of(alloc: Global, kind: &Kind, bytes: &[u8]) -> io::Result<Vec<u8>> {
     match kind {
         Inquiry => print_inquiry(bytes, &mut writer),
         Vpd => print_vpd(bytes, &mut writer),
-        Modes6 => print_modes(false, bytes, &mut writer),
-        Modes10 => print_modes(true, bytes, &mut writer),
+        Modes6 => print_modes(CdbWidth::Six, bytes, &mut writer),
+        Modes10 => print_modes(CdbWidth::Ten, bytes, &mut writer),
         LbaStatus => print_lba_status(false, bytes, &mut writer),
         LbaStatusInBrief => print_lba_status(true, bytes, &mut writer),
         Keys => print_keys(bytes, &mut writer),

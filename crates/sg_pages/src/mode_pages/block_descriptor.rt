@@ -14,7 +14,7 @@ pub(super) const SHORT_NUMBER_LENGTH: usize = 4;
 
 pub(super) const LONG_NUMBER_LENGTH: usize = 8;
 
-const LOGICAL_BLOCK_LENGTH: u32 = 512;
+pub(crate) const LOGICAL_BLOCK_LENGTH: u32 = 512;
 
 /// A number of blocks that does not fit is FFFFFFFFh.
 #[tactic(auto, unfolding(crate::specs::BlockDescriptor::block_descriptor))]

@@ -14,7 +14,7 @@ use super::block_descriptor::{
     long_descriptor, short_descriptor,
 };
 use byteorder::{BigEndian, ByteOrder};
-use sg_wire::are_zeros;
+use sg_wire::{CdbWidth, are_zeros};
 
 /// The length of the header of MODE SELECT(6) and of (10), in bytes.
 const HEADER_LENGTH_6: usize = 4;
@@ -81,40 +81,42 @@ pub(super) fn check(
     Ok(())
 }
 
-pub(super) fn header_length(ten: bool) -> usize
-    ensures { result ≡ header_length ten }
+pub(super) fn header_length(width: CdbWidth) -> usize
+    ensures { result ≡ header_length width }
 {
-    if ten {
-        HEADER_LENGTH_10
-    } else {
-        HEADER_LENGTH_6
+    match width {
+        CdbWidth::Six => HEADER_LENGTH_6,
+        CdbWidth::Ten => HEADER_LENGTH_10,
     }
 }
 
 /// Checks the header, and returns the length of the block descriptor.
-pub(super) fn check_header(list: &[u8], ten: bool) -> Result<usize, ModeSelectFault>
+pub(super) fn check_header(list: &[u8], width: CdbWidth) -> Result<usize, ModeSelectFault>
     ensures result { result
-        ≡ unless_fault (first_fault (length list.now) (header_faults ten list.now))
-        (block_descriptor_length ten list.now) }
-    ensures whole { OnOk result (header_length ten ≤ length list.now) }
-    ensures length { OnOk result (IsTrue (is_descriptor_length ten list.now)) }
+        ≡ unless_fault (first_fault (length list.now) (header_faults width list.now))
+        (block_descriptor_length width list.now) }
+    ensures whole { OnOk result (header_length width ≤ length list.now) }
+    ensures length { OnOk result (IsTrue (is_descriptor_length width list.now)) }
 {
-    if ten {
-        let zeros = [0; LENGTH_OFFSET_10];
-        check(list, 0, HEADER_LENGTH_10, &zeros, &IGNORED_IN_HEADER_10)?;
-        let descriptor = usize::from(BigEndian::read_u16(&list[LENGTH_OFFSET_10..]));
-        if !is_descriptor_length(descriptor, list[LONGLBA_OFFSET] & LONGLBA != 0) {
-            return Err(ModeSelectFault::Field(LENGTH_OFFSET_10));
+    match width {
+        CdbWidth::Six => {
+            let zeros = [0; LENGTH_OFFSET_6];
+            check(list, 0, HEADER_LENGTH_6, &zeros, &IGNORED_IN_HEADER_6)?;
+            let descriptor = usize::from(list[LENGTH_OFFSET_6]);
+            if !is_descriptor_length(descriptor, false) {
+                return Err(ModeSelectFault::Field(LENGTH_OFFSET_6));
+            }
+            Ok(descriptor)
         }
-        Ok(descriptor)
-    } else {
-        let zeros = [0; LENGTH_OFFSET_6];
-        check(list, 0, HEADER_LENGTH_6, &zeros, &IGNORED_IN_HEADER_6)?;
-        let descriptor = usize::from(list[LENGTH_OFFSET_6]);
-        if !is_descriptor_length(descriptor, false) {
-            return Err(ModeSelectFault::Field(LENGTH_OFFSET_6));
+        CdbWidth::Ten => {
+            let zeros = [0; LENGTH_OFFSET_10];
+            check(list, 0, HEADER_LENGTH_10, &zeros, &IGNORED_IN_HEADER_10)?;
+            let descriptor = usize::from(BigEndian::read_u16(&list[LENGTH_OFFSET_10..]));
+            if !is_descriptor_length(descriptor, list[LONGLBA_OFFSET] & LONGLBA != 0) {
+                return Err(ModeSelectFault::Field(LENGTH_OFFSET_10));
+            }
+            Ok(descriptor)
         }
-        Ok(descriptor)
     }
 }
 
@@ -132,18 +134,19 @@ fn is_descriptor_length(length: usize, long: bool) -> bool
 /// Checks the block descriptor, which has the length that the header names.
 pub(super) fn check_descriptor(
     list: &[u8],
-    ten: bool,
+    width: CdbWidth,
     blocks: u64,
     descriptor: usize,
 ) -> Result<(), ModeSelectFault>
-    requires header { header_length ten ≤ length list.now }
-    requires length { descriptor ≡ block_descriptor_length ten list.now }
-    requires known { IsTrue (is_descriptor_length ten list.now) }
+    requires header { header_length width ≤ length list.now }
+    requires length { descriptor ≡ block_descriptor_length width list.now }
+    requires known { IsTrue (is_descriptor_length width list.now) }
     ensures result { result
-        ≡ unless_fault (first_fault (length list.now) (descriptor_faults ten blocks list.now)) tt }
-    ensures whole { OnOk result (header_length ten + descriptor ≤ length list.now) }
+        ≡ unless_fault
+        (first_fault (length list.now) (descriptor_faults width blocks list.now)) tt }
+    ensures whole { OnOk result (header_length width + descriptor ≤ length list.now) }
 {
-    let offset = header_length(ten);
+    let offset = header_length(width);
     match descriptor {
         0 => Ok(()),
         SHORT_DESCRIPTOR_LENGTH => {

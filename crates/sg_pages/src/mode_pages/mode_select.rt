@@ -11,6 +11,7 @@ ghost use Rattle.sg_pages.specs.ModeSelect.{selected_values, unless_fault, value
 use super::list_check::{check, check_descriptor, check_header, header_length};
 use super::mode_page::{CHANGEABLE, PS};
 use super::{ModePage, ModePages, PageValues};
+use sg_wire::CdbWidth;
 use thiserror::Error;
 
 /// The effect of a MODE SELECT: whether it changed a current value.
@@ -33,28 +34,28 @@ const PAGE_CODE: u8 = 0x3F;
 
 impl ModePages {
     /// Changes the current values to the values of a mode parameter list. The list is the data-out
-    /// of a MODE SELECT(10), or of a MODE SELECT(6) if `ten` is false. The disk has `blocks`
-    /// logical blocks. A page may differ from its current values only in the bits that can be
-    /// changed. If a page is sent twice, the last one counts. With `save`, the SP bit, all pages
-    /// are saved. On a fault nothing has changed.
+    /// of a MODE SELECT whose CDB has the width. The disk has `blocks` logical blocks. A page may
+    /// differ from its current values only in the bits that can be changed. If a page is sent
+    /// twice, the last one counts. With `save`, the SP bit, all pages are saved. On a fault nothing
+    /// has changed.
     ///
     /// # Errors
     /// The first fault of the list.
     pub fn select(
         &mut self,
         list: &[u8],
-        ten: bool,
+        width: CdbWidth,
         save: bool,
         blocks: u64,
     ) -> Result<Changed, ModeSelectFault>
         ensures state { self.new
-            ≡ result_unwrap_or (mode_select self.old list.now ten save blocks) self.old }
+            ≡ result_unwrap_or (mode_select self.old list.now width save blocks) self.old }
         ensures outcome { result ≡ result_map_both (changed_by self.old) (λ fault. fault)
-            (mode_select self.old list.now ten save blocks) }
+            (mode_select self.old list.now width save blocks) }
         ensures inside { IfErr result (IsInside (length list.now)) }
         ensures saved { IsTrue (not save) → self.new.saved ≡ self.old.saved }
     {
-        let current = selected_values(&self.current, list, ten, blocks)?;
+        let current = selected_values(&self.current, list, width, blocks)?;
         let changed = current != self.current;
         self.current = current;
         if save {
@@ -68,19 +69,19 @@ impl ModePages {
 fn selected_values(
     current: &PageValues,
     list: &[u8],
-    ten: bool,
+    width: CdbWidth,
     blocks: u64,
 ) -> Result<PageValues, ModeSelectFault>
-    ensures values { result ≡ selected_values current.now ten blocks list.now }
-    ensures inside { IfErr (selected_values current.now ten blocks list.now)
+    ensures values { result ≡ selected_values current.now width blocks list.now }
+    ensures inside { IfErr (selected_values current.now width blocks list.now)
         (IsInside (length list.now)) }
 {
     if list.is_empty() {
         return Ok(*current);
     }
-    let descriptor = check_header(list, ten)?;
-    check_descriptor(list, ten, blocks, descriptor)?;
-    take_pages(current, list, header_length(ten) + descriptor)
+    let descriptor = check_header(list, width)?;
+    check_descriptor(list, width, blocks, descriptor)?;
+    take_pages(current, list, header_length(width) + descriptor)
 }
 
 /// The current values after the pages from an offset on.

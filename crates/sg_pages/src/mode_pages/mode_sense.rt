@@ -12,10 +12,10 @@ use super::block_descriptor::{
     LONG_DESCRIPTOR_LENGTH, SHORT_DESCRIPTOR_LENGTH, long_descriptor, short_descriptor,
 };
 use super::mode_page::{CHANGEABLE, DEFAULT, PS};
-use super::{ModePage, ModePages, ModeSenseFault, ModeSenseRequest, PageControl, PageValues};
+use super::{ModePage, ModePages, ModeSenseFault, ModeSenseRequest, PageValues};
 use byteorder::{BigEndian, ByteOrder};
-use sg_wire::Cut;
 use sg_wire::laws::parts_are_put_in_turn;
+use sg_wire::{CdbWidth, Cut, PageCode, PageControl};
 
 /// PAGE CODE of all pages.
 const ALL_PAGES: u8 = 0x3F;
@@ -38,10 +38,10 @@ impl ModePages {
         ensures nothing { IfErr (mode_sense self.now (fields_of request.now))
             (λ _. answer_of cut.new ≡ answer_of cut.old) }
     {
-        if !has_page(request.page_code) {
+        if !has_page(request.page.page_code) {
             return Err(ModeSenseFault::Page);
         }
-        if !matches!(request.subpage_code, 0x00 | 0xFF) {
+        if !matches!(request.page.subpage_code, 0x00 | 0xFF) {
             return Err(ModeSenseFault::Subpage);
         }
         self.write_list(request, cut);
@@ -52,12 +52,12 @@ impl ModePages {
         ensures { Puts cut.old cut.new (mode_parameter_list self.now (fields_of request.now)) }
     {
         parts_are_put_in_turn();
-        let values = self.selected_by(request.page_control);
+        let values = self.selected_by(request.page.page_control);
         let descriptor = descriptor_length(request);
-        let following = descriptor + requested_length(values, request.page_code);
+        let following = descriptor + requested_length(values, request.page.page_code);
         self.write_header(request, descriptor, following, cut);
         write_descriptor(request, cut);
-        write_requested_pages(values, request.page_code, cut);
+        write_requested_pages(values, request.page.page_code, cut);
     }
 
     /// Writes the header. The block descriptor and the pages have `following` bytes.
@@ -72,27 +72,30 @@ impl ModePages {
         requires following { following ≤ 96 }
         ensures { let r = fields_of request.now in
             let header = header_after_length self.now r descriptor_length in
-            Puts cut.old cut.new (length_bytes r.ten (length header + following) ++ header) }
+            Puts cut.old cut.new (length_bytes r.width (length header + following) ++ header) }
     {
         let device_specific = if self.write_protected() {
             WP + DPOFUA
         } else {
             DPOFUA
         };
-        if request.ten {
-            let longlba = u8::from(request.llbaa && !request.dbd);
-            let mut header = [0, 0, 0, device_specific, longlba, 0, 0, 0];
-            BigEndian::write_u16(&mut header, 6 + following);
-            BigEndian::write_u16(&mut header[6..], descriptor_length);
-            cut.put(&header);
-        } else {
-            let mode_data_length = (3 + following) as u8;
-            cut.put(&[
-                mode_data_length,
-                0,
-                device_specific,
-                descriptor_length as u8,
-            ]);
+        match request.width {
+            CdbWidth::Six => {
+                let mode_data_length = (3 + following) as u8;
+                cut.put(&[
+                    mode_data_length,
+                    0,
+                    device_specific,
+                    descriptor_length as u8,
+                ]);
+            }
+            CdbWidth::Ten => {
+                let longlba = u8::from(request.llbaa && !request.page.dbd);
+                let mut header = [0, 0, 0, device_specific, longlba, 0, 0, 0];
+                BigEndian::write_u16(&mut header, 6 + following);
+                BigEndian::write_u16(&mut header[6..], descriptor_length);
+                cut.put(&header);
+            }
         }
     }
 
@@ -109,16 +112,18 @@ impl ModePages {
     }
 }
 
-fn has_page(page_code: u8) -> bool
+fn has_page(page_code: PageCode) -> bool
     ensures { result ≡ has_page page_code }
 {
-    page_code == ALL_PAGES || ModePage::with_code(page_code).is_some()
+    let code = page_code.number();
+    code == ALL_PAGES || ModePage::with_code(code).is_some()
 }
 
-fn is_requested(page_code: u8, page: ModePage) -> bool
+fn is_requested(page_code: PageCode, page: ModePage) -> bool
     ensures { result ≡ is_requested page_code page }
 {
-    page_code == ALL_PAGES || page_code == page.code()
+    let code = page_code.number();
+    code == ALL_PAGES || code == page.code()
 }
 
 /// The length of the block descriptor.
@@ -127,7 +132,7 @@ fn descriptor_length(request: &ModeSenseRequest) -> u16
     ensures length { result ≡ length (descriptor_data (fields_of request.now)) }
     ensures bound { result ≤ 16 }
 {
-    match (request.dbd, request.llbaa) {
+    match (request.page.dbd, request.llbaa) {
         (true, _) => 0,
         (false, false) => SHORT_DESCRIPTOR_LENGTH as u16,
         (false, true) => LONG_DESCRIPTOR_LENGTH as u16,
@@ -137,7 +142,7 @@ fn descriptor_length(request: &ModeSenseRequest) -> u16
 fn write_descriptor(request: &ModeSenseRequest, cut: &mut Cut)
     ensures { Puts cut.old cut.new (descriptor_data (fields_of request.now)) }
 {
-    match (request.dbd, request.llbaa) {
+    match (request.page.dbd, request.llbaa) {
         (true, _) => cut.put(&[]),
         (false, false) => cut.put(&short_descriptor(request.blocks)),
         (false, true) => cut.put(&long_descriptor(request.blocks)),
@@ -146,7 +151,7 @@ fn write_descriptor(request: &ModeSenseRequest, cut: &mut Cut)
 
 /// The length of the requested pages together.
 #[tactic(auto, unfolding(crate::specs::ModeSense::requested_pages))]
-fn requested_length(values: &PageValues, page_code: u8) -> u16
+fn requested_length(values: &PageValues, page_code: PageCode) -> u16
     ensures length { result ≡ length (requested_pages values.now page_code) }
     ensures bound { result ≤ 80 }
 {
@@ -158,7 +163,7 @@ fn requested_length(values: &PageValues, page_code: u8) -> u16
 }
 
 #[tactic(auto, unfolding(crate::specs::ModePage::page_bytes))]
-fn length_if_requested(page: ModePage, values: &PageValues, page_code: u8) -> u16
+fn length_if_requested(page: ModePage, values: &PageValues, page_code: PageCode) -> u16
     ensures length { result
         ≡ length (if is_requested page_code page then page_data values.now page else []) }
     ensures bound { result ≤ 20 }
@@ -171,7 +176,7 @@ fn length_if_requested(page: ModePage, values: &PageValues, page_code: u8) -> u1
 }
 
 #[tactic(auto, unfolding(crate::specs::ModeSense::requested_pages))]
-fn write_requested_pages(values: &PageValues, page_code: u8, cut: &mut Cut)
+fn write_requested_pages(values: &PageValues, page_code: PageCode, cut: &mut Cut)
     ensures { Puts cut.old cut.new (requested_pages values.now page_code) }
 {
     parts_are_put_in_turn();
@@ -183,7 +188,7 @@ fn write_requested_pages(values: &PageValues, page_code: u8, cut: &mut Cut)
 }
 
 #[tactic(auto, unfolding(crate::specs::ModePage::page_bytes))]
-fn write_if_requested(page: ModePage, values: &PageValues, page_code: u8, cut: &mut Cut)
+fn write_if_requested(page: ModePage, values: &PageValues, page_code: PageCode, cut: &mut Cut)
     ensures { Puts cut.old cut.new
         (if is_requested page_code page then page_data values.now page else []) }
 {

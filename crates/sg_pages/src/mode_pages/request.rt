@@ -1,40 +1,23 @@
 // MODE SENSE(6) and MODE SENSE(10) as one value, so that both have one list and one order of
 // faults.
-ghost use Rattle.std.specs.Prelude.{IsTrue};
+ghost use Rattle.std.specs.Prelude.{◌≡◌, IsTrue};
+ghost use Rattle.sg_wire.specs.declared.command.mode.CdbWidth.TheVariants.{Ten};
 
+use sg_wire::{CdbWidth, PageRequest};
 use thiserror::Error;
-
-/// The values of the pages that are requested: the PC field (SPC-4, 6.13).
-#[derive(Clone, Copy)]
-pub enum PageControl {
-    /// The current values.
-    Current,
-    /// A mask of the bits that MODE SELECT may change.
-    Changeable,
-    /// The default values.
-    Default,
-    /// The saved values.
-    Saved,
-}
 
 /// The request of a MODE SENSE (SPC-4, 6.13 and 6.14).
 #[derive(Clone, Copy)]
 pub struct ModeSenseRequest {
-    /// MODE SENSE(10), and not MODE SENSE(6).
-    pub ten: bool,
+    /// The width of the CDB: MODE SENSE(6) or MODE SENSE(10).
+    pub width: CdbWidth,
     /// LLBAA: the long block descriptor is accepted. Only in MODE SENSE(10).
     pub llbaa: bool,
-    /// DBD: no block descriptor is to be returned.
-    pub dbd: bool,
-    /// PC.
-    pub page_control: PageControl,
-    /// PAGE CODE, 3Fh for all pages.
-    pub page_code: u8,
-    /// SUBPAGE CODE.
-    pub subpage_code: u8,
+    /// DBD, PC, PAGE CODE and SUBPAGE CODE.
+    pub page: PageRequest,
     /// The number of logical blocks of the disk.
     pub blocks: u64,
-    pub ghost llbaa_only_in_ten: { IsTrue llbaa → IsTrue ten },
+    pub ghost llbaa_only_in_ten: { IsTrue llbaa → width ≡ Ten },
 }
 
 /// The reason why a MODE SENSE is refused. The first reason that applies is returned.

@@ -10,7 +10,7 @@ use sg_decode::{
     put_keys, put_lba_status, put_modes, put_reservation, put_sense, put_vpd,
 };
 use sg_tools::Show;
-use sg_wire::{Printer, Watched};
+use sg_wire::{CdbWidth, Printer, Watched};
 use std::io;
 use std::io::Write;
 
@@ -29,8 +29,8 @@ pub(crate) fn put_answer<W: Write>(
         Show::Hex => put_hex_lines(data_in, lines, out),
         Show::Inquiry => put_inquiry(data_in, out),
         Show::Vpd => put_vpd(data_in, out),
-        Show::Modes6 => put_modes(false, data_in, out),
-        Show::Modes10 => put_modes(true, data_in, out),
+        Show::Modes6 => put_modes(CdbWidth::Six, data_in, out),
+        Show::Modes10 => put_modes(CdbWidth::Ten, data_in, out),
         Show::LbaStatus => put_lba_status(false, data_in, out),
         Show::LbaStatusBrief => put_lba_status(true, data_in, out),
         Show::Keys => put_keys(data_in, out),

@@ -1,54 +1,51 @@
-// PC has two bits, above PAGE CODE in the same byte.
-use std::marker::Model;
-
-/// A PC field: which values of mode pages are requested, 0 to 3 (SPC-4, 6.13).
-#[derive(Clone, Copy, Debug, PartialEq, Eq)]
-pub struct PageControlField {
-    number: u8,
-}
-
-impl Model for PageControlField {
-    ghost use Rattle.std.specs.Prelude.{ℕ, ◌<◌};
-
-    ghost Value = { ℕ };
-
-    ghost view = { λ p. p.number };
-
-    ghost invariant = { λ p. p.number < 4 };
-
-    ghost inverse = { λ n. record { number = n } };
-}
-
 ghost use Rattle.std.specs.Prelude.{◌≡◌, ◌<◌};
-ghost use Rattle.std.specs.Option.{SomeIff};
 ghost use Rattle.sg_wire.specs.Bits.{bits_of};
+ghost use Rattle.sg_wire.specs.PageControl.{page_control_code, page_control_of, page_control_with};
 
-impl PageControlField {
-    /// The field with a number. None if the number is not 0 to 3.
-    pub fn new(number: u8) -> Option<PageControlField>
-        ensures { SomeIff result (number < 4) number }
+/// PC of MODE SENSE, with its code: which values of the pages are requested (SPC-4, 6.13).
+#[derive(Clone, Copy, Debug, PartialEq, Eq)]
+pub enum PageControl {
+    /// The current values.
+    Current = 0,
+    /// A mask of the bits that MODE SELECT may change.
+    Changeable = 1,
+    /// The default values.
+    Default = 2,
+    /// The saved values.
+    Saved = 3,
+}
+
+impl PageControl {
+    /// The values with a code. None if the code is not 0 to 3.
+    pub fn with_code(code: u8) -> Option<PageControl>
+        ensures { result ≡ page_control_with code }
     {
-        if number < 4 {
-            Some(PageControlField { number })
-        } else {
-            None
-        }
+        Some(match code {
+            0 => PageControl::Current,
+            1 => PageControl::Changeable,
+            2 => PageControl::Default,
+            3 => PageControl::Saved,
+            _ => return None,
+        })
     }
 
-    /// Its number, 0 to 3.
-    pub fn number(self) -> u8
-        ensures value { result ≡ self }
+    /// Their code, 0 to 3.
+    pub fn code(self) -> u8
+        ensures value { result ≡ page_control_code self }
         ensures bound { result < 4 }
     {
-        self.number
+        self as u8
     }
 
-    /// The field in the high two bits of a byte.
-    pub(super) fn of_byte(byte: u8) -> PageControlField
-        ensures { result ≡ bits_of byte 7 6 }
+    /// The values that the high two bits of a byte request.
+    pub(super) fn of_byte(byte: u8) -> PageControl
+        ensures { result ≡ page_control_of (bits_of byte 7 6) }
     {
-        PageControlField {
-            number: (byte >> 6) & 0x03,
+        match (byte >> 6) & 0x03 {
+            0 => PageControl::Current,
+            1 => PageControl::Changeable,
+            2 => PageControl::Default,
+            _ => PageControl::Saved,
         }
     }
 }

@@ -14,9 +14,9 @@ returns c =
     let following =
     ap (λ n. n + c.requested_length.result) descriptor.ensures.length
     ∙ ap (λ n. length (descriptor_data asked) + n) (c.requested_length.ensures.length
-    ∙ ap (λ (v : PageValues). length (requested_pages v asked.page_code)) values) in
+    ∙ ap (λ (v : PageValues). length (requested_pages v asked.page.page_code)) values) in
     let pages = c.write_requested_pages.ensures
     ∙ ap (λ (v : PageValues). put (answer_of c.write_descriptor.new.cut)
-    (requested_pages v asked.page_code)) values in
+    (requested_pages v asked.page.page_code)) values in
     list-put c.parts_are_put_in_turn.ensures _ _ _ _ c.args.self.now asked _ _
     descriptor.ensures.length following c.write_header.ensures c.write_descriptor.ensures pages

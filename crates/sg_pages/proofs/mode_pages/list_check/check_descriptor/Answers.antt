@@ -9,7 +9,7 @@ use Rattle.sg_pages.proofs.mode_pages.list_check.check_descriptor.Goals as goal
 pub returns-in-0-clause-result : goal.returns-in-0-clause-result
 returns-in-0-clause-result c =
     sym (ap (λ o. unless_fault o tt)
-    (no-descriptor c.args.ten c.args.blocks c.args.list.now (sym c.requires.length ∙ c.in-0.is)))
+    (no-descriptor c.args.width c.args.blocks c.args.list.now (sym c.requires.length ∙ c.in-0.is)))
 
 pub returns-in-8-clause-result : goal.returns-in-8-clause-result
 returns-in-8-clause-result c =
@@ -17,7 +17,7 @@ returns-in-8-clause-result c =
     let zeros : List ℕ = 0 ∷ 0 ∷ 0 ∷ 0 ∷ 0 ∷ 0 ∷ 0 ∷ 0 ∷ [] in
     let expected = c.short_descriptor-expected.ensures
     ∙ ap (block_descriptor false) c.accepted_blocks-accepted.ensures in
-    let faults = short-faults c.args.ten c.args.blocks list c.requires.known
+    let faults = short-faults c.args.width c.args.blocks list c.requires.known
     (sym c.requires.length ∙ c.in-8.is) in
     c.check.ensures.result
     ∙ (ap (λ o. unless_fault (first_fault (length list)
@@ -34,7 +34,7 @@ returns-in_default-clause-result c =
     let zeros : List ℕ = 0 ∷ 0 ∷ 0 ∷ 0 ∷ 0 ∷ 0 ∷ 0 ∷ 0 ∷ 0 ∷ 0 ∷ 0 ∷ 0 ∷ 0 ∷ 0 ∷ 0 ∷ 0 ∷ [] in
     let expected = c.long_descriptor-expected.ensures
     ∙ ap (block_descriptor true) c.accepted_blocks-accepted-in_default.ensures in
-    let faults = long-faults c.args.ten c.args.blocks list c.requires.known
+    let faults = long-faults c.args.width c.args.blocks list c.requires.known
     (λ e. omega (arith, c.requires.length)) (λ e. omega (arith, c.requires.length)) in
     c.check-in_default.ensures.result
     ∙ (ap (λ o. unless_fault (first_fault (length list)
