@@ -9,7 +9,7 @@ use Rattle.sg_units.specs.Access.{allows}
 use Rattle.sg_target.specs.Checks.{bad_field, cdb_checks, empty_cdb, pending_attention}
 use Rattle.sg_target.specs.Checks.{reservation_conflict, short_cdb, unknown_opcode}
 use Rattle.sg_target.specs.Refusal.{first_some}
-use Rattle.sg_target.specs.State.{State, profile_of}
+use Rattle.sg_target.specs.State.{State, config_of, profile_of}
 use Rattle.sg_target.specs.Step.{Step, step}
 use Rattle.sg_target.specs.declared.operation.Operation.{Operation}
 use Rattle.sg_target.specs.declared.refusal.Refusal.{Refusal}
@@ -47,7 +47,7 @@ module _ (state : State) (j : ℕ) where
       → class_for operation ≡ Some class → ⊥
   asked-is-allowed classes cdb data_out operation class k not_allowed is =
       let of_class =
-      (asked-suits state.disk.capacity k.command data_out operation k.operation_is).class class is in
+      (asked-suits (config_of state) k.command data_out operation k.operation_is).class class is in
       passed-is-allowed cdb class k.passed
       (classes (profile_of state) cdb k.command k.read_as ∙ ap Some of_class) not_allowed
 

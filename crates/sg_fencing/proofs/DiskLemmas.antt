@@ -7,7 +7,7 @@ use Rattle.sg_target.specs.ModeCommands.{changing_modes, mode_parameters, select
 use Rattle.sg_target.specs.Refusal.{when_sound}
 use Rattle.sg_target.specs.ReservationCommands.{changing_reservations, reservation_change}
 use Rattle.sg_target.specs.Semantics.{effect_of, medium_use}
-use Rattle.sg_target.specs.State.{State}
+use Rattle.sg_target.specs.State.{State, config_of}
 use Rattle.sg_target.specs.declared.operation.Operation.{Operation}
 use Rattle.sg_target.specs.declared.operation.Operation.TheVariants.{ReturnModes, ChangeModes}
 use Rattle.sg_target.specs.declared.operation.Operation.TheVariants.{ChangeReservations}
@@ -62,7 +62,7 @@ command-leaves state i cdb data_out other =
     lifted state i cdb data_out (λ (done : Step). done.state.disk ≡ state.disk)
     (refused-leaves state i)
     (λ operation k.
-    let reads = asked-reads state.disk.capacity k.command data_out operation k.operation_is in
+    let reads = asked-reads (config_of state) k.command data_out operation k.operation_is in
     effect-leaves state i (effect_of state i operation)
     (operation-leaves state i operation
     (reads.reads (sym (ap may_change_blocks k.command_is) ∙ other))))

@@ -13,6 +13,7 @@ mod AccessLemmas
 mod OthersLemmas
 mod StandingLemmas
 mod UnseenLemmas
+mod DataLemmas
 -- A command in two states that look alike to its initiator.
 mod AlikeLemmas
 -- Commands of the holder.

@@ -28,7 +28,7 @@ use Rattle.sg_target.specs.Demands.{demands}
 use Rattle.sg_target.specs.Refusal.{when_sound}
 use Rattle.sg_target.specs.ReservationCommands.{changing_reservations, out_refusal}
 use Rattle.sg_target.specs.ReservationCommands.{reservation_change}
-use Rattle.sg_target.specs.State.{IsWithinLimits, State}
+use Rattle.sg_target.specs.State.{IsWithinLimits, State, config_of}
 use Rattle.sg_target.specs.Step.{Step, outcome as step_outcome, refused as refused_step, step, step_by}
 use Rattle.sg_target.specs.declared.operation.Operation.{Operation}
 use Rattle.sg_target.specs.declared.operation.Operation.TheVariants.{ChangeReservations}
@@ -97,7 +97,7 @@ module _ (state : State) (j : ℕ) (list : OutList) (P : Step → Type 0)
     (registering : (action : OutAction) (scope_type : ℕ) → is_registering action ≡ true
     → P (step_by state j (ChangeReservations action scope_type list))) where
   by-command : (command : Command) (data_out : List ℕ) (operation : Operation)
-      → (demands state.disk.capacity command data_out).operation ≡ Ok operation
+      → (demands (config_of state) command data_out).operation ≡ Ok operation
       → registering_list (Ok command) data_out ≡ Some list → P (step_by state j operation)
   by-command (PersistentReserveOut c) data_out operation e h =
       let bytes = first_bytes c.list_length data_out in

@@ -20,7 +20,7 @@ use Rattle.sg_target.specs.Demands.{demands}
 use Rattle.sg_target.specs.Refusal.{when_sound}
 use Rattle.sg_target.specs.ReservationCommands.{changing_reservations, out_refusal}
 use Rattle.sg_target.specs.ReservationCommands.{reservation_change}
-use Rattle.sg_target.specs.State.{State}
+use Rattle.sg_target.specs.State.{State, config_of}
 use Rattle.sg_target.specs.Step.{Step, outcome as step_outcome, step_by}
 use Rattle.sg_target.specs.declared.operation.Operation.{Operation}
 use Rattle.sg_target.specs.declared.operation.Operation.TheVariants.{ChangeReservations}
@@ -74,7 +74,7 @@ module _ (state : State) (j : ℕ) (unknown : is_registrant state j ≡ false) w
       (λ accepted. absurd (false≢true (sym (not-accepted list.reservation_key h) ∙ accepted))))
 
   by-command : (command : Command) (data_out : List ℕ) (operation : Operation) (list : OutList)
-      → (demands state.disk.capacity command data_out).operation ≡ Ok operation
+      → (demands (config_of state) command data_out).operation ≡ Ok operation
       → list_of is_register (Ok command) data_out ≡ Some list → (list.reservation_key ≡ 0 → ⊥)
       → NotGood (step_by state j operation)
   by-command (PersistentReserveOut c) data_out operation list e h other =

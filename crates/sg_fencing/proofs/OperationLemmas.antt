@@ -14,6 +14,7 @@ use Rattle.sg_wire.specs.declared.command.CdbFault.{CdbFault}
 use Rattle.sg_wire.specs.declared.command.out_action.OutAction.{OutAction}
 use Rattle.sg_wire.specs.declared.extent.Extent.{Extent}
 use Rattle.sg_wire.specs.declared.out_list.OutList.{OutList}
+use Rattle.sg_target.specs.Config.{ConfigFields}
 use Rattle.sg_target.specs.Demands.{demands, unmap_extent, unmap_extents}
 use Rattle.sg_target.specs.PrimaryCommands.{inquiry_page}
 use Rattle.sg_target.specs.ProvisioningCommands.{block_out, listed_extents, unmaps}
@@ -96,37 +97,37 @@ unmap-suits command w s true extents =
 unmap-suits command w s false extents =
     record { class = λ class h. cc; of_kind = λ kind k. refl; shown = s }
 
-pub suits : (blocks : ℕ) (command : Command) (data_out : List ℕ)
-    → SuitsIf command (demands blocks command data_out).operation
-suits blocks (command.Inquiry c) data_out =
+pub suits : (config : ConfigFields) (command : Command) (data_out : List ℕ)
+    → SuitsIf command (demands config command data_out).operation
+suits config (command.Inquiry c) data_out =
     sound-suits (command.Inquiry c)
     (ok_or (inquiry_page c.evpd c.page_code) (CheckCondition (InvalidFieldInCdb 2)))
     (λ page. ReturnInquiry page c.allocation_length)
     (λ page. record { class = λ class h. cc; of_kind = λ kind k. refl; shown = refl })
-suits blocks (command.WriteSame10 c) data_out =
+suits config (command.WriteSame10 c) data_out =
     same-suits (command.WriteSame10 c) refl refl c.anchor
     (unmaps c.unmap (block_out data_out)) _ (block_out data_out)
-suits blocks (command.WriteSame16 c) data_out =
+suits config (command.WriteSame16 c) data_out =
     same-suits (command.WriteSame16 c) refl refl c.anchor
     (unmaps c.unmap (block_out data_out)) _ (block_out data_out)
-suits blocks (command.Unmap c) data_out =
+suits config (command.Unmap c) data_out =
     sound-suits (command.Unmap c) (listed_extents (first_bytes c.list_length data_out))
     (unmap_extents c.anchor) (unmap-suits (command.Unmap c) refl refl c.anchor)
-suits blocks (command.PersistentReserveOut c) data_out =
+suits config (command.PersistentReserveOut c) data_out =
     sound-suits (command.PersistentReserveOut c)
     (fields_out (first_bytes c.list_length data_out)) (ChangeReservations c.action c.scope_type)
     (λ list. record { class = λ class h. cc; of_kind = λ kind k. k; shown = refl })
-suits blocks other data_out =
+suits config other data_out =
     record { class = λ class h. cc; of_kind = λ kind k. refl; shown = refl }
 
 at-ok : (command : Command) (asked : Result Operation Refusal) (operation : Operation)
     → SuitsIf command asked → asked ≡ Ok operation → Suits command operation
 at-ok command asked operation h e = subst (SuitsIf command) e h
 
-pub asked-suits : (blocks : ℕ) (command : Command) (data_out : List ℕ) (operation : Operation)
-    → (demands blocks command data_out).operation ≡ Ok operation → Suits command operation
-asked-suits blocks command data_out operation e =
-    at-ok command _ operation (suits blocks command data_out) e
+pub asked-suits : (config : ConfigFields) (command : Command) (data_out : List ℕ) (operation : Operation)
+    → (demands config command data_out).operation ≡ Ok operation → Suits command operation
+asked-suits config command data_out operation e =
+    at-ok command _ operation (suits config command data_out) e
 
 -- PERSISTENT RESERVE OUT asks for the change with the fields of its list
 pub listed : (action : OutAction) (scope_type : ℕ) (is_whole : Bool) (list : OutList)
@@ -159,37 +160,37 @@ sound-reads : {A : Type 0} (command : Command) (sound : Result A Refusal) (becom
 sound-reads command (Ok value) becomes h = record { reads = λ no. h value }
 sound-reads command (Err refusal) becomes h = tt
 
-reads-if : (blocks : ℕ) (command : Command) (data_out : List ℕ)
-    → ReadsIfAsked command (demands blocks command data_out).operation
-reads-if blocks (command.Write6 c) data_out =
-    changing-reads (command.Write6 c) (demands blocks (command.Write6 c) data_out).operation refl
-reads-if blocks (command.Write10 c) data_out =
-    changing-reads (command.Write10 c) (demands blocks (command.Write10 c) data_out).operation refl
-reads-if blocks (command.Write16 c) data_out =
-    changing-reads (command.Write16 c) (demands blocks (command.Write16 c) data_out).operation refl
-reads-if blocks (command.WriteSame10 c) data_out =
+reads-if : (config : ConfigFields) (command : Command) (data_out : List ℕ)
+    → ReadsIfAsked command (demands config command data_out).operation
+reads-if config (command.Write6 c) data_out =
+    changing-reads (command.Write6 c) (demands config (command.Write6 c) data_out).operation refl
+reads-if config (command.Write10 c) data_out =
+    changing-reads (command.Write10 c) (demands config (command.Write10 c) data_out).operation refl
+reads-if config (command.Write16 c) data_out =
+    changing-reads (command.Write16 c) (demands config (command.Write16 c) data_out).operation refl
+reads-if config (command.WriteSame10 c) data_out =
     changing-reads (command.WriteSame10 c)
-    (demands blocks (command.WriteSame10 c) data_out).operation refl
-reads-if blocks (command.WriteSame16 c) data_out =
+    (demands config (command.WriteSame10 c) data_out).operation refl
+reads-if config (command.WriteSame16 c) data_out =
     changing-reads (command.WriteSame16 c)
-    (demands blocks (command.WriteSame16 c) data_out).operation refl
-reads-if blocks (command.Unmap c) data_out =
-    changing-reads (command.Unmap c) (demands blocks (command.Unmap c) data_out).operation refl
-reads-if blocks (command.Inquiry c) data_out =
+    (demands config (command.WriteSame16 c) data_out).operation refl
+reads-if config (command.Unmap c) data_out =
+    changing-reads (command.Unmap c) (demands config (command.Unmap c) data_out).operation refl
+reads-if config (command.Inquiry c) data_out =
     sound-reads (command.Inquiry c)
     (ok_or (inquiry_page c.evpd c.page_code) (CheckCondition (InvalidFieldInCdb 2)))
     (λ page. ReturnInquiry page c.allocation_length) (λ page. refl)
-reads-if blocks (command.PersistentReserveOut c) data_out =
+reads-if config (command.PersistentReserveOut c) data_out =
     sound-reads (command.PersistentReserveOut c)
     (fields_out (first_bytes c.list_length data_out)) (ChangeReservations c.action c.scope_type)
     (λ list. refl)
-reads-if blocks other data_out = record { reads = λ no. refl }
+reads-if config other data_out = record { reads = λ no. refl }
 
 reads-at-ok : (command : Command) (asked : Result Operation Refusal) (operation : Operation)
     → ReadsIfAsked command asked → asked ≡ Ok operation → ReadsIf command operation
 reads-at-ok command asked operation h e = subst (ReadsIfAsked command) e h
 
-pub asked-reads : (blocks : ℕ) (command : Command) (data_out : List ℕ) (operation : Operation)
-    → (demands blocks command data_out).operation ≡ Ok operation → ReadsIf command operation
-asked-reads blocks command data_out operation e =
-    reads-at-ok command _ operation (reads-if blocks command data_out) e
+pub asked-reads : (config : ConfigFields) (command : Command) (data_out : List ℕ) (operation : Operation)
+    → (demands config command data_out).operation ≡ Ok operation → ReadsIf command operation
+asked-reads config command data_out operation e =
+    reads-at-ok command _ operation (reads-if config command data_out) e

@@ -22,7 +22,7 @@ use Rattle.sg_fencing.proofs.OwnReserveOutLemmas.{Left, allows-same, left_of, ow
 use Rattle.sg_target.specs.Refusal.{when_sound}
 use Rattle.sg_target.specs.ReservationCommands.{changing_reservations, out_refusal}
 use Rattle.sg_target.specs.ReservationCommands.{reservation_change}
-use Rattle.sg_target.specs.State.{IsWithinLimits, State}
+use Rattle.sg_target.specs.State.{IsWithinLimits, State, config_of}
 use Rattle.sg_target.specs.Step.{Step, outcome as step_outcome, step, step_by}
 use Rattle.sg_target.specs.declared.operation.Operation.{Operation}
 use Rattle.sg_target.specs.declared.operation.Operation.TheVariants.{ChangeReservations}
@@ -214,7 +214,7 @@ module _ (one : OneKeyEach) (s : State) (a : Pending) (r : ReservationState) (i 
       (λ operation k. subst
       (λ (b : Bool). StepsAlike b i (step_by s i operation) (step_by other i operation))
       (sym (ap shows_others k.command_is
-      ∙ (asked-suits s.disk.capacity k.command data_out operation k.operation_is).shown))
+      ∙ (asked-suits (config_of s) k.command data_out operation k.operation_is).shown))
       (by-operation operation))
 
 -- a command of the holder in two states of one disk with equal views

@@ -39,7 +39,7 @@ use Rattle.sg_target.specs.Refusal.{when_sound}
 use Rattle.sg_target.specs.ReservationCommands.{changing_reservations, out_refusal}
 use Rattle.sg_target.specs.ReservationCommands.{reservation_change}
 use Rattle.sg_target.specs.Semantics.{effect_of}
-use Rattle.sg_target.specs.State.{State}
+use Rattle.sg_target.specs.State.{State, config_of}
 use Rattle.sg_target.specs.Step.{Step, outcome as step_outcome, step}
 use Rattle.sg_target.specs.declared.operation.Operation.{Operation}
 use Rattle.sg_target.specs.declared.operation.Operation.TheVariants.{ChangeReservations}
@@ -297,7 +297,7 @@ module _ (state : State) (j : ℕ) (P : List Registration → Option Reservation
       → list.service_action_key ≡ key
       → EffectIs Changes (outcome state.reservations j action scope_type list)) where
     command-leaves : (command : Command) (data_out : List ℕ) (operation : Operation)
-        → (demands state.disk.capacity command data_out).operation ≡ Ok operation
+        → (demands (config_of state) command data_out).operation ≡ Ok operation
         → preempted_key (Ok command) data_out ≡ Some key
         → EffectLeaves (effect_of state j operation)
     command-leaves (PersistentReserveOut c) data_out operation e h =

@@ -30,7 +30,7 @@ use Rattle.sg_target.specs.Demands.{extent, too_long, write}
 use Rattle.sg_target.specs.Effect.{Effect}
 use Rattle.sg_target.specs.Refusal.{checked_next, first_some, refusal_for, sense_of, unless_refused}
 use Rattle.sg_target.specs.Semantics.{effect_of, medium_use}
-use Rattle.sg_target.specs.State.{State, profile_of}
+use Rattle.sg_target.specs.State.{State, config_of, profile_of}
 use Rattle.sg_target.specs.Step.{Answer, outcome, refusal_answer, sense_format}
 use Rattle.sg_target.specs.declared.operation.Operation.TheVariants as operation
 use Rattle.sg_target.specs.declared.refusal.Reason.{Reason}
@@ -240,9 +240,9 @@ module _ (state : State) (i : ℕ) (data_out : List ℕ) where
   by-cdb (Some refusal) parse out h is = h
   by-cdb None (Ok (command.Write6 c)) out h is = write-other (extent c.0 c.1) None
   by-cdb None (Ok (command.Write10 c)) out h is =
-      write-other (extent c.lba c.count) (too_long c.count 7)
+      write-other (extent c.lba c.count) (too_long (config_of state) c.count 7)
   by-cdb None (Ok (command.Write16 c)) out h is =
-      write-other (extent c.lba c.count) (too_long c.count 10)
+      write-other (extent c.lba c.count) (too_long (config_of state) c.count 10)
   by-cdb None (Err fault) out h is = fault-other fault
   by-cdb None (Ok c) out h is = let none : blocks_to_write (Ok c) ≡ Some out = is c refl in cc
 

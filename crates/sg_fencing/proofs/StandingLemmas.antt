@@ -27,7 +27,7 @@ use Rattle.sg_target.specs.Refusal.{when_sound}
 use Rattle.sg_target.specs.ReservationCommands.{changing_reservations, out_refusal}
 use Rattle.sg_target.specs.ReservationCommands.{reservation_change}
 use Rattle.sg_target.specs.Semantics.{effect_of}
-use Rattle.sg_target.specs.State.{State}
+use Rattle.sg_target.specs.State.{State, config_of}
 use Rattle.sg_target.specs.Step.{Step, outcome as step_outcome, refused, step}
 use Rattle.sg_target.specs.declared.operation.Operation.{Operation}
 use Rattle.sg_target.specs.declared.operation.Operation.TheVariants.{ReturnModes, ChangeModes}
@@ -84,7 +84,7 @@ module _ (Stands : ReservationState → Type 0) (state : State) (j : ℕ)
     step-stands cdb data_out of_kind =
         lifted state j cdb data_out (λ (done : Step). Stands done.state.reservations) refused-stands
         (λ operation k. outcome-stands (effect_of state j operation) (operation-stands operation
-        ((asked-suits state.disk.capacity k.command data_out operation k.operation_is).of_kind kind
+        ((asked-suits (config_of state) k.command data_out operation k.operation_is).of_kind kind
         (sym (ap (is_of_kind kind) k.command_is) ∙ of_kind))))
 
 -- ---- Where i holds a reservation alone

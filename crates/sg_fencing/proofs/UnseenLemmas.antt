@@ -33,7 +33,7 @@ module _ (s : State) (x : Contents) (j : ℕ) where
   abbrev t : State
   t = with_contents s x
 
-  sound-alike : {A : Type 0} (sound : Result A Refusal) (first second : A → Effect)
+  pub sound-alike : {A : Type 0} (sound : Result A Refusal) (first second : A → Effect)
       → ((value : A) → (outcome s j (Ok (first value))).answer ≡ (outcome t j (Ok (second value))).answer)
       → (outcome s j (when_sound sound first)).answer ≡ (outcome t j (when_sound sound second)).answer
   sound-alike (Ok value) first second answer = answer value

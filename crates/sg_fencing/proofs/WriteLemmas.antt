@@ -7,6 +7,7 @@ use Rattle.std.proofs.lemmas.Bool.Decides.{nat_tests}
 use Rattle.sg_wire.specs.Laws.{CommandsHaveTheirClass}
 use Rattle.sg_wire.specs.CdbDecoding.{class_in, command_in, command_of, is_blocked_in}
 use Rattle.sg_wire.specs.Layout.{layout}
+use Rattle.sg_wire.specs.Profile.{limits_of}
 use Rattle.sg_wire.specs.declared.command.CdbFault.{CdbFault}
 use Rattle.sg_wire.specs.declared.command.Class.{Class}
 use Rattle.sg_wire.specs.declared.command.Class.TheVariants.{Writes}
@@ -14,7 +15,6 @@ use Rattle.sg_wire.specs.declared.command.Command.{Command}
 use Rattle.sg_wire.specs.declared.command.Command.TheVariants as command
 use Rattle.sg_wire.specs.declared.extent.Extent.{Extent}
 use Rattle.sg_pages.specs.ModePage.{ModeState, write_protected}
-use Rattle.sg_pages.specs.ProvisioningPages.{maximum_transfer_length}
 use Rattle.sg_units.specs.Access.{allows}
 use Rattle.sg_units.specs.Attentions.{oldest}
 use Rattle.sg_target.specs.BlockCommands.{blocks_out, bytes_of, writing}
@@ -29,7 +29,7 @@ use Rattle.sg_target.specs.Demands.{extent, too_long, write}
 use Rattle.sg_target.specs.Effect.{Effect}
 use Rattle.sg_target.specs.Refusal.{checked_next, first_some, unless_refused}
 use Rattle.sg_target.specs.Semantics.{effect_of, medium_use}
-use Rattle.sg_target.specs.State.{State, profile_of}
+use Rattle.sg_target.specs.State.{State, config_of, profile_of}
 use Rattle.sg_target.specs.declared.operation.Operation.{Operation}
 use Rattle.sg_target.specs.declared.operation.Operation.TheVariants as operation
 use Rattle.sg_target.specs.declared.refusal.Refusal.{Refusal}
@@ -136,10 +136,10 @@ module _ (state : State) (i : ℕ) (data_out : List ℕ) (out : Extent)
       (if-none (nat_lt (length data_out) (bytes_of out)) _
       (at-most (bytes_of out) (length data_out) free.has_data)) refl))
 
-  allowed-length : (byte : ℕ) → too_long out.count byte ≡ None
+  allowed-length : (byte : ℕ) → too_long (config_of state) out.count byte ≡ None
   allowed-length byte =
-      if-none (nat_lt maximum_transfer_length out.count) _
-      (at-most out.count maximum_transfer_length free.not_too_long)
+      let most = (limits_of (profile_of state)).transfer_length in
+      if-none (nat_lt most out.count) _ (at-most out.count most free.not_too_long)
 
   at-extent : (named : Extent) → named ≡ out → (unsupported : Option ℕ) → unsupported ≡ None
       → IsItsEffect
@@ -160,12 +160,12 @@ module _ (state : State) (i : ℕ) (data_out : List ℕ) (out : Extent)
       let e : extent c.0 c.1 ≡ out = cc in at-extent (extent c.0 c.1) e None refl
   by-command (Ok (command.Write10 c)) is =
       let e : extent c.lba c.count ≡ out = cc in
-      at-extent (extent c.lba c.count) e (too_long c.count 7)
-      (ap (λ (e : Extent). too_long e.count 7) e ∙ allowed-length 7)
+      at-extent (extent c.lba c.count) e (too_long (config_of state) c.count 7)
+      (ap (λ (e : Extent). too_long (config_of state) e.count 7) e ∙ allowed-length 7)
   by-command (Ok (command.Write16 c)) is =
       let e : extent c.lba c.count ≡ out = cc in
-      at-extent (extent c.lba c.count) e (too_long c.count 10)
-      (ap (λ (e : Extent). too_long e.count 10) e ∙ allowed-length 10)
+      at-extent (extent c.lba c.count) e (too_long (config_of state) c.count 10)
+      (ap (λ (e : Extent). too_long (config_of state) e.count 10) e ∙ allowed-length 10)
   by-command _ is = cc
 
   by-cdb : (first : Option Refusal) → first ≡ None → (parse : Result Command CdbFault)

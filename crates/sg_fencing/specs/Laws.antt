@@ -2,6 +2,7 @@
 use Rattle.std.specs.Prelude.{◌≡◌, ◌≢◌, ◌≤◌, ◌⊎◌, ℕ, ◌+◌, List, [], length, Bool, true, false}
 use Rattle.std.specs.Prelude.{Some, None, Result, Ok}
 use Rattle.sg_wire.specs.CdbDecoding.{class_in, command_in, command_of}
+use Rattle.sg_wire.specs.Profile.{limits_of}
 use Rattle.sg_wire.specs.declared.command.CdbFault.{CdbFault}
 use Rattle.sg_wire.specs.declared.command.Class.{Class}
 use Rattle.sg_wire.specs.declared.command.Class.TheVariants.{Writes}
@@ -9,16 +10,17 @@ use Rattle.sg_wire.specs.declared.command.Command.{Command}
 use Rattle.sg_wire.specs.declared.command.Command.TheVariants as command
 use Rattle.sg_wire.specs.declared.extent.Extent.{Extent}
 use Rattle.sg_wire.specs.declared.sense.Format.{Format}
+use Rattle.sg_store.specs.Disk.{Contents}
+use Rattle.sg_store.specs.LbaStatus.{status_at}
 use Rattle.sg_pages.specs.ModePage.{write_protected}
-use Rattle.sg_pages.specs.ProvisioningPages.{maximum_transfer_length}
 use Rattle.sg_units.specs.Access.{allows}
 use Rattle.sg_units.specs.Attentions.{oldest, without_oldest}
 use Rattle.sg_target.specs.BlockCommands.{bytes_of}
 use Rattle.sg_target.specs.CommandLaws.{AreUsed, blocks_to_write}
-use Rattle.sg_target.specs.Effect.{Effect}
+use Rattle.sg_target.specs.Effect.{Effect, with_contents}
 use Rattle.sg_target.specs.Semantics.{effect_of, medium_use}
 use Rattle.sg_target.specs.State.{IsWithinLimits, State, profile_of}
-use Rattle.sg_target.specs.Step.{refusal_answer, step}
+use Rattle.sg_target.specs.Step.{outcome, refusal_answer, step}
 use Rattle.sg_target.specs.declared.operation.Operation.{Operation}
 use Rattle.sg_target.specs.declared.refusal.Reason.TheVariants.{SpaceAllocationFailed}
 use Rattle.sg_target.specs.declared.refusal.Refusal.TheVariants.{CheckCondition}
@@ -32,6 +34,25 @@ OnlyWritesChangeBlocks =
     → (medium_use operation).writes ≡ false
     → effect_of state initiator operation ≡ Ok effect
     → effect.after.disk ≡ state.disk
+
+-- Two maps give each address the same provisioning status. Only the data of mapped blocks may
+-- differ.
+abbrev pub HaveTheSameStatuses : (contents others : Contents) → Type 0
+HaveTheSameStatuses contents others =
+    (address : ℕ) → status_at contents address ≡ status_at others address
+
+-- The answer to an operation that does not read from the medium does not depend on the data of the
+-- blocks, whichever command asks for it. GET LBA STATUS returns statuses, and a WRITE needs space
+-- for the blocks that are not mapped or anchored yet.
+abbrev pub OnlyReadsReturnData : Type 0
+OnlyReadsReturnData =
+    (state : State) (contents : Contents) (initiator : ℕ) (operation : Operation)
+    → IsWithinLimits state → IsWithinLimits (with_contents state contents)
+    → HaveTheSameStatuses state.disk.contents contents
+    → (medium_use operation).reads ≡ false
+    → let others = with_contents state contents in
+    (outcome others initiator (effect_of others initiator operation)).answer
+    ≡ (outcome state initiator (effect_of state initiator operation)).answer
 
 -- The commands that may change blocks: WRITE(6), WRITE(10), WRITE(16), WRITE SAME(10),
 -- WRITE SAME(16) and UNMAP.
@@ -72,7 +93,7 @@ pub record NothingForbids (state : State) (initiator : ℕ) (data_out : List ℕ
   pub attention : oldest state.attentions initiator ≡ None
   pub reservation : allows state.reservations initiator Writes ≡ true
   pub on_disk : out.lba + out.count ≤ state.disk.capacity
-  pub not_too_long : out.count ≤ maximum_transfer_length
+  pub not_too_long : out.count ≤ (limits_of (profile_of state)).transfer_length
   pub has_data : bytes_of out ≤ length data_out
   pub unprotected : write_protected state.modes ≡ false
   pub used : AreUsed state out

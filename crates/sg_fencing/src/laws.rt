@@ -5,7 +5,8 @@ ghost use Rattle.sg_fencing.specs.Fencing.{OthersAreShutOut, OthersLeaveTheView,
 ghost use Rattle.sg_fencing.specs.Fencing.{OnlyPreemptionEnds, OthersSeeNoBlock};
 ghost use Rattle.sg_fencing.specs.Group.{EqualGroupViewsEndAlike, EqualGroupViewsRunAlike};
 ghost use Rattle.sg_fencing.specs.Group.{NewcomersAreSeen, OutsidersMayBeLeftOut};
-ghost use Rattle.sg_fencing.specs.Laws.{ConflictChangesNothing, OnlyWritesChangeBlocks};
+ghost use Rattle.sg_fencing.specs.Laws.{ConflictChangesNothing, OnlyReadsReturnData};
+ghost use Rattle.sg_fencing.specs.Laws.{OnlyWritesChangeBlocks};
 ghost use Rattle.sg_fencing.specs.Laws.{OnlyThreeCommandsChangeTheDisk, RefusedByReservation};
 ghost use Rattle.sg_fencing.specs.Laws.{RefusedChangesNothing, RefusedReturnsNothing};
 ghost use Rattle.sg_fencing.specs.Laws.{WritesOverUsedAddressesAreNeverRefusedForSpace};
@@ -24,6 +25,7 @@ ghost use Rattle.sg_fencing.specs.Registrants.{PreemptingSendersStayRegistered};
 ghost use Rattle.sg_fencing.specs.Registrants.{PreemptionKeepsAReservation};
 ghost use Rattle.sg_fencing.specs.Registrants.{TheRefusedStayUnregistered};
 
+use sg_store::laws::remapping_takes_what_is_needed;
 use sg_target::laws::{limits_are_kept, writes_over_used_addresses_have_space};
 use sg_units::laws::{one_key_each, others_are_refused};
 use sg_wire::laws::commands_have_their_class;
@@ -33,6 +35,14 @@ use sg_wire::laws::commands_have_their_class;
 pub fn only_writes_change_blocks()
     ensures { OnlyWritesChangeBlocks }
 {}
+
+/// The answer to an operation that does not read from the medium is the same whatever the data of the
+/// mapped blocks is.
+pub fn only_reads_return_data()
+    ensures { OnlyReadsReturnData }
+{
+    remapping_takes_what_is_needed();
+}
 
 /// Only WRITE, WRITE SAME and UNMAP change blocks. Every other command leaves the disk as it was,
 /// whatever its answer is. SYNCHRONIZE CACHE does so too, although a reservation treats it as a

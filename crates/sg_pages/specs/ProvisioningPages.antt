@@ -3,16 +3,9 @@
 use Rattle.std.specs.Prelude.{ℕ, List, [], ◌∷◌}
 use Rattle.sg_wire.specs.Fields.{Field, field, fields_bytes}
 use Rattle.sg_wire.specs.UnmapList.{maximum_unmap_descriptors}
+use Rattle.sg_wire.specs.declared.profile.Limits.{Limits}
 
 -- ---- Block Limits, from byte 4 of the page on
-
--- In blocks: the most that a READ or a WRITE moves.
-abbrev pub maximum_transfer_length : ℕ
-maximum_transfer_length = 256
-
--- In blocks: the most that a WRITE SAME writes.
-abbrev pub maximum_write_same_length : ℕ
-maximum_write_same_length = 65536
 
 -- WSNZ 1, byte 4: a NUMBER OF LOGICAL BLOCKS of 0 in WRITE SAME is refused.
 abbrev wsnz : Field
@@ -27,8 +20,8 @@ abbrev transfer_granularity : Field
 transfer_granularity = field 2 1
 
 -- MAXIMUM TRANSFER LENGTH, bytes 8 to 11, in blocks.
-abbrev transfer_length : Field
-transfer_length = field 4 maximum_transfer_length
+abbrev transfer_length : Limits → Field
+transfer_length limits = field 4 limits.transfer_length
 
 -- OPTIMAL TRANSFER LENGTH, bytes 12 to 15, and MAXIMUM PREFETCH LENGTH, bytes 16 to 19, in blocks:
 -- not reported.
@@ -55,27 +48,27 @@ abbrev unmap_alignment : Field
 unmap_alignment = field 4 0
 
 -- MAXIMUM WRITE SAME LENGTH, bytes 36 to 43, in blocks.
-abbrev write_same_length : Field
-write_same_length = field 8 maximum_write_same_length
+abbrev write_same_length : Limits → Field
+write_same_length limits = field 8 limits.write_same_length
 
 -- Bytes 44 to 63.
 abbrev reserved : Field
 reserved = field 20 0
 
-unfoldable pub block_limits : List ℕ
-block_limits =
+unfoldable pub block_limits : Limits → List ℕ
+block_limits limits =
     fields_bytes (
     wsnz
     ∷ compare_and_write_length
     ∷ transfer_granularity
-    ∷ transfer_length
+    ∷ transfer_length limits
     ∷ optimal_transfer_length
     ∷ prefetch_length
     ∷ unmap_lba_count
     ∷ unmap_descriptor_count
     ∷ unmap_granularity
     ∷ unmap_alignment
-    ∷ write_same_length
+    ∷ write_same_length limits
     ∷ reserved
     ∷ []
     )

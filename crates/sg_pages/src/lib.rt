@@ -18,6 +18,5 @@ pub use mode_pages::{
     Changed, ModePage, ModePages, ModeSelectFault, ModeSelectFault as SelectFault, ModeSenseFault,
     ModeSenseFault as AskFault, ModeSenseRequest, ModeSenseRequest as Ask, PageValues,
 };
-pub use provisioning_pages::{MAXIMUM_TRANSFER_LENGTH, MAXIMUM_WRITE_SAME_LENGTH};
-pub use sg_wire::PageControl;
+pub use sg_wire::{MAXIMUM_TRANSFER_LENGTH, MAXIMUM_WRITE_SAME_LENGTH, PageControl};
 pub use vital_product_data::{VpdPage, vpd, write_vpd_page};

@@ -3,13 +3,7 @@ ghost use Rattle.std.specs.Prelude.{◌≡◌};
 ghost use Rattle.sg_pages.specs.ProvisioningPages.{block_limits, logical_block_provisioning};
 
 use byteorder::{BigEndian, ByteOrder};
-use sg_wire::MAXIMUM_UNMAP_DESCRIPTORS;
-
-/// The most blocks that a READ or a WRITE moves.
-pub const MAXIMUM_TRANSFER_LENGTH: u32 = 256;
-
-/// The most blocks that a WRITE SAME writes.
-pub const MAXIMUM_WRITE_SAME_LENGTH: u32 = 65_536;
+use sg_wire::{Limits, MAXIMUM_UNMAP_DESCRIPTORS};
 
 /// A WRITE SAME of no block is refused.
 const WSNZ: u8 = 0x01;
@@ -23,20 +17,20 @@ const THIN_PROVISIONED: u8 = 0x02;
 
 /// The content of Block Limits: fields that are not named here are zero.
 #[tactic(auto, unfolding(crate::specs::ProvisioningPages::block_limits))]
-pub(crate) fn block_limits() -> [u8; 60]
-    ensures { result ≡ block_limits }
+pub(crate) fn block_limits(limits: Limits) -> [u8; 60]
+    ensures { result ≡ block_limits limits }
 {
     let mut bytes = [0; 60];
     bytes[0] = WSNZ;
     // OPTIMAL TRANSFER LENGTH GRANULARITY
     BigEndian::write_u16(&mut bytes[2..], 1);
-    BigEndian::write_u32(&mut bytes[4..], MAXIMUM_TRANSFER_LENGTH);
+    BigEndian::write_u32(&mut bytes[4..], limits.transfer_length);
     // MAXIMUM UNMAP LBA COUNT: as many as the descriptors name
     BigEndian::write_u32(&mut bytes[16..], u32::MAX);
     BigEndian::write_u32(&mut bytes[20..], MAXIMUM_UNMAP_DESCRIPTORS as u32);
     // OPTIMAL UNMAP GRANULARITY
     BigEndian::write_u32(&mut bytes[24..], 1);
-    BigEndian::write_u64(&mut bytes[32..], u64::from(MAXIMUM_WRITE_SAME_LENGTH));
+    BigEndian::write_u64(&mut bytes[32..], u64::from(limits.write_same_length));
     bytes
 }
 

@@ -22,6 +22,7 @@ use Rattle.sg_pages.specs.BlockDescriptor.{logical_block_length}
 use Rattle.sg_target.specs.Checks.{cdb_checks, checked_cdb, checked_operation}
 use Rattle.sg_target.specs.Checks.{checked_parse, out_of_range, past_capacity}
 use Rattle.sg_target.specs.Checks.{requested, short_data_out, unsupported_value, write_protection}
+use Rattle.sg_target.specs.Config.{ConfigFields}
 use Rattle.sg_target.specs.Demands.{Demands, bad_count, demands, extent, takes}
 use Rattle.sg_target.specs.Demands.{too_long, unless_anchor_alone, unmap_extent, unmap_extents}
 use Rattle.sg_target.specs.Demands.{unmap_or_fill}
@@ -30,7 +31,7 @@ use Rattle.sg_target.specs.Extents.{AreOnDisk}
 use Rattle.sg_target.specs.ProvisioningCommands.{block_out, changed_in_turn, listed_extents, unmaps}
 use Rattle.sg_target.specs.Refusal.{checked_next, first_some, unless_refused, when_sound}
 use Rattle.sg_target.specs.Semantics.{effect_of, medium_use}
-use Rattle.sg_target.specs.State.{State, profile_of}
+use Rattle.sg_target.specs.State.{State, config_of, profile_of}
 use Rattle.sg_target.specs.declared.operation.Operation.{Operation}
 use Rattle.sg_target.specs.declared.operation.Operation.TheVariants as operation
 use Rattle.sg_target.specs.declared.refusal.Refusal.{Refusal}
@@ -107,33 +108,33 @@ extents-sound : (anchor : Bool) (extents : List Extent) → IsSound (unmap_exten
 extents-sound true extents = tt
 extents-sound false extents = tt
 
-command-sound : (blocks : ℕ) (c : Command) (data_out : List ℕ)
-    → Sound (requested (demands blocks c data_out) data_out)
-command-sound blocks (command.Write6 short) data_out =
+command-sound : (config : ConfigFields) (c : Command) (data_out : List ℕ)
+    → Sound (requested (demands config c data_out) data_out)
+command-sound config (command.Write6 short) data_out =
     write-sound (extent short.0 short.1) None data_out
-command-sound blocks (command.Write10 c) data_out =
-    write-sound (extent c.lba c.count) (too_long c.count 7) data_out
-command-sound blocks (command.Write16 c) data_out =
-    write-sound (extent c.lba c.count) (too_long c.count 10) data_out
-command-sound blocks (command.WriteSame10 c) data_out =
+command-sound config (command.Write10 c) data_out =
+    write-sound (extent c.lba c.count) (too_long config c.count 7) data_out
+command-sound config (command.Write16 c) data_out =
+    write-sound (extent c.lba c.count) (too_long config c.count 10) data_out
+command-sound config (command.WriteSame10 c) data_out =
     write_same-sound c.anchor c.unmap (extent c.lba c.count)
-    (unless_anchor_alone c.anchor c.unmap (bad_count c.count 7)) data_out
-command-sound blocks (command.WriteSame16 c) data_out =
+    (unless_anchor_alone c.anchor c.unmap (bad_count config c.count 7)) data_out
+command-sound config (command.WriteSame16 c) data_out =
     write_same-sound c.anchor c.unmap (extent c.lba c.count)
-    (unless_anchor_alone c.anchor c.unmap (bad_count c.count 10)) data_out
-command-sound blocks (command.Inquiry c) data_out =
-    requested-sound (demands blocks (command.Inquiry c) data_out) data_out
+    (unless_anchor_alone c.anchor c.unmap (bad_count config c.count 10)) data_out
+command-sound config (command.Inquiry c) data_out =
+    requested-sound (demands config (command.Inquiry c) data_out) data_out
     (when (ok_or (inquiry_page c.evpd c.page_code) (CheckCondition (InvalidFieldInCdb 2)))
     (λ page. operation.ReturnInquiry page c.allocation_length) (λ page. tt))
-command-sound blocks (command.Unmap c) data_out =
-    requested-sound (demands blocks (command.Unmap c) data_out) data_out
+command-sound config (command.Unmap c) data_out =
+    requested-sound (demands config (command.Unmap c) data_out) data_out
     (when (listed_extents (first_bytes c.list_length data_out)) (unmap_extents c.anchor)
     (extents-sound c.anchor))
-command-sound blocks (command.PersistentReserveOut c) data_out =
-    requested-sound (demands blocks (command.PersistentReserveOut c) data_out) data_out
+command-sound config (command.PersistentReserveOut c) data_out =
+    requested-sound (demands config (command.PersistentReserveOut c) data_out) data_out
     (when (fields_out (first_bytes c.list_length data_out))
     (operation.ChangeReservations c.action c.scope_type) (λ list. tt))
-command-sound blocks c data_out = requested-sound (demands blocks c data_out) data_out tt
+command-sound config c data_out = requested-sound (demands config c data_out) data_out tt
 
 -- ---- what has passed the checks
 
@@ -186,8 +187,8 @@ next-ready state (Err refusal) h = tt
 parse-ready : (state : State) (parsed : Result Command CdbFault) (data_out : List ℕ)
     → Ready state (checked_parse state parsed data_out)
 parse-ready state (Ok c) data_out =
-    next-ready state (requested (demands state.disk.capacity c data_out) data_out)
-    (command-sound state.disk.capacity c data_out)
+    next-ready state (requested (demands (config_of state) c data_out) data_out)
+    (command-sound (config_of state) c data_out)
 parse-ready state (Err fault) data_out = tt
 
 unless-ready : (state : State) (refused : Option Refusal) (checked : Result Operation Refusal)

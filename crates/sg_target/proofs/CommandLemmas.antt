@@ -41,6 +41,7 @@ use Rattle.sg_target.specs.CommandLaws.{UnmapsFollowTheirLists, WriteSameFields}
 use Rattle.sg_target.specs.CommandLaws.{WriteSamesLeaveTheirBlock, WritesLeaveTheirData}
 use Rattle.sg_target.specs.CommandLaws.{blocks_to_read, blocks_to_write, status_of_same}
 use Rattle.sg_target.specs.CommandLaws.{unmapped_status, write_same_fields}
+use Rattle.sg_target.specs.Config.{ConfigFields}
 use Rattle.sg_target.specs.Demands.{bad_count, demands, extent, unless_anchor_alone, unmap_extent}
 use Rattle.sg_target.specs.Demands.{unmap_extents, unmap_or_fill}
 use Rattle.sg_target.specs.Effect.{Effect, with_contents}
@@ -49,7 +50,7 @@ use Rattle.sg_target.specs.ProvisioningCommands.{anchoring, block_out, filling, 
 use Rattle.sg_target.specs.ProvisioningCommands.{unmapping, unmaps}
 use Rattle.sg_target.specs.Refusal.{first_some, or_refused, when_sound}
 use Rattle.sg_target.specs.Semantics.{effect_of}
-use Rattle.sg_target.specs.State.{State}
+use Rattle.sg_target.specs.State.{State, config_of}
 use Rattle.sg_target.specs.Step.{Step, executed, outcome, refused, step}
 use Rattle.sg_target.specs.declared.operation.Operation.{Operation}
 use Rattle.sg_target.specs.declared.operation.Operation.TheVariants as operation
@@ -109,18 +110,18 @@ by-operation P state i operation effect done known its same e f is h =
 
 -- ---- READ
 
-read-asked : (capacity : ℕ) (c : Command) (data_out : List ℕ) (o : Operation) (read : Extent)
-    → (demands capacity c data_out).operation ≡ Ok o → blocks_to_read (Ok c) ≡ Some read
+read-asked : (config : ConfigFields) (c : Command) (data_out : List ℕ) (o : Operation) (read : Extent)
+    → (demands config c data_out).operation ≡ Ok o → blocks_to_read (Ok c) ≡ Some read
     → operation.Read read ≡ o
-read-asked capacity (command.Read6 short) data_out o read e h = cc
-read-asked capacity (command.Read10 c) data_out o read e h = cc
-read-asked capacity (command.Read16 c) data_out o read e h = cc
-read-asked capacity _ data_out o read e h = cc
+read-asked config (command.Read6 short) data_out o read e h = cc
+read-asked config (command.Read10 c) data_out o read e h = cc
+read-asked config (command.Read16 c) data_out o read e h = cc
+read-asked config _ data_out o read e h = cc
 
 pub reads-return : ReadsReturnTheirBlocks
 reads-return state i cdb data_out read is good =
     let d = done-well state i cdb data_out good in
-    let known = read-asked state.disk.capacity d.asked.command data_out d.operation read
+    let known = read-asked (config_of state) d.asked.command data_out d.operation read
     d.asked.operation_is (ap blocks_to_read (sym d.asked.command_is) ∙ is) in
     by-operation (λ (done : Step). ReturnsBlocks state done read) state i d.operation d.effect
     (step state i cdb data_out) (operation.Read read) (reading state read) known refl d.effect_is
@@ -128,13 +129,13 @@ reads-return state i cdb data_out read is good =
 
 -- ---- WRITE
 
-write-asked : (capacity : ℕ) (c : Command) (data_out : List ℕ) (o : Operation) (out : Extent)
-    → (demands capacity c data_out).operation ≡ Ok o → blocks_to_write (Ok c) ≡ Some out
+write-asked : (config : ConfigFields) (c : Command) (data_out : List ℕ) (o : Operation) (out : Extent)
+    → (demands config c data_out).operation ≡ Ok o → blocks_to_write (Ok c) ≡ Some out
     → operation.Write (blocks_out out data_out) ≡ o
-write-asked capacity (command.Write6 short) data_out o out e h = cc
-write-asked capacity (command.Write10 c) data_out o out e h = cc
-write-asked capacity (command.Write16 c) data_out o out e h = cc
-write-asked capacity _ data_out o out e h = cc
+write-asked config (command.Write6 short) data_out o out e h = cc
+write-asked config (command.Write10 c) data_out o out e h = cc
+write-asked config (command.Write16 c) data_out o out e h = cc
+write-asked config _ data_out o out e h = cc
 
 -- a block of the first bytes of data-out is that of data-out
 first-block : (data_out : List ℕ) (count index : ℕ) → index < count
@@ -164,7 +165,7 @@ writes-leave maps puts state i cdb data_out out is good =
     let d = done-well state i cdb data_out good in
     let contents = state.disk.contents in
     let fields = blocks_out out data_out in
-    let known = write-asked state.disk.capacity d.asked.command data_out d.operation out
+    let known = write-asked (config_of state) d.asked.command data_out d.operation out
     d.asked.operation_is (ap blocks_to_write (sym d.asked.command_is) ∙ is) in
     by-operation
     (λ (done : Step). Changes state done.state (lies_in out.lba out.count) Mapped
@@ -217,7 +218,7 @@ used-have-space law state i cdb data_out out effect w is used e =
     let p = passed state i cdb data_out effect (checked_cdb state i cdb data_out) refl e in
     let contents = state.disk.contents in
     let fields = blocks_out out data_out in
-    let known = write-asked state.disk.capacity p.asked_is.command data_out p.operation out
+    let known = write-asked (config_of state) p.asked_is.command data_out p.operation out
     p.asked_is.operation_is (ap blocks_to_write (sym p.asked_is.command_is) ∙ is) in
     let its : writing state fields ≡ effect =
     same-effect (effect_of state i (operation.Write fields)) (writing state fields) effect refl
@@ -251,14 +252,14 @@ listed : (anchor : Bool) (found : Result (List Extent) UnmapListFault) (o : Oper
 listed anchor (Ok extents) o e = record { extents = extents; listed = refl; is = cc }
 listed anchor (Err fault) o e = cc
 
-unmap-asked : (capacity : ℕ) (k : Command) (c : Unmap) (data_out : List ℕ) (o : Operation)
-    → (demands capacity k data_out).operation ≡ Ok o → (parsed : Result Command CdbFault)
+unmap-asked : (config : ConfigFields) (k : Command) (c : Unmap) (data_out : List ℕ) (o : Operation)
+    → (demands config k data_out).operation ≡ Ok o → (parsed : Result Command CdbFault)
     → parsed ≡ Ok k → parsed ≡ Ok (command.Unmap c)
     → Listed c.anchor (unmap_list (first_bytes c.list_length data_out)) o
-unmap-asked capacity k c data_out o e parsed h is =
+unmap-asked config k c data_out o e parsed h is =
     let same : k ≡ command.Unmap c = cc in
     listed c.anchor (unmap_list (first_bytes c.list_length data_out)) o
-    (subst (λ (other : Command). (demands capacity other data_out).operation ≡ Ok o) same e)
+    (subst (λ (other : Command). (demands config other data_out).operation ≡ Ok o) same e)
 
 module _ (state : State) (i : ℕ) where
   abbrev effect_of_unmap : (anchor : Bool) → List Extent → Effect
@@ -286,7 +287,7 @@ module _ (state : State) (i : ℕ) where
 pub unmaps-follow : UnmapsEachExtent → AnchorsEachExtent → UnmapsFollowTheirLists
 unmaps-follow unmaps anchors state i cdb data_out c is good =
     let d = done-well state i cdb data_out good in
-    let known = unmap-asked state.disk.capacity d.asked.command c data_out d.operation
+    let known = unmap-asked (config_of state) d.asked.command c data_out d.operation
     d.asked.operation_is (command_of cdb) d.asked.command_is is in
     record {
       extents = known.extents;
@@ -303,27 +304,27 @@ unmaps-follow unmaps anchors state i cdb data_out c is good =
 
 -- ---- WRITE SAME
 
-same-asked : (capacity : ℕ) (k : Command) (data_out : List ℕ) (o : Operation) (c : WriteSameFields)
-    → (demands capacity k data_out).operation ≡ Ok o → write_same_fields (Ok k) ≡ Some c
+same-asked : (config : ConfigFields) (k : Command) (data_out : List ℕ) (o : Operation) (c : WriteSameFields)
+    → (demands config k data_out).operation ≡ Ok o → write_same_fields (Ok k) ≡ Some c
     → unmap_or_fill c.anchor c.unmap c.extent (block_out data_out) ≡ o
-same-asked capacity (command.WriteSame10 w) data_out o c e h =
+same-asked config (command.WriteSame10 w) data_out o c e h =
     let same : record { extent = extent w.lba w.count; anchor = w.anchor; unmap = w.unmap } ≡ c = cc in
     let is : unmap_or_fill w.anchor w.unmap (extent w.lba w.count) (block_out data_out) ≡ o = cc in
     ap (λ (f : WriteSameFields). unmap_or_fill f.anchor f.unmap f.extent (block_out data_out)) (sym same) ∙ is
-same-asked capacity (command.WriteSame16 w) data_out o c e h =
+same-asked config (command.WriteSame16 w) data_out o c e h =
     let same : record { extent = extent w.lba w.count; anchor = w.anchor; unmap = w.unmap } ≡ c = cc in
     let is : unmap_or_fill w.anchor w.unmap (extent w.lba w.count) (block_out data_out) ≡ o = cc in
     ap (λ (f : WriteSameFields). unmap_or_fill f.anchor f.unmap f.extent (block_out data_out)) (sym same) ∙ is
-same-asked capacity _ data_out o c e h = cc
+same-asked config _ data_out o c e h = cc
 
-same-long : (capacity : ℕ) (k : Command) (data_out : List ℕ) (c : WriteSameFields)
-    → first_some (request_checks (demands capacity k data_out) data_out) ≡ None
+same-long : (config : ConfigFields) (k : Command) (data_out : List ℕ) (c : WriteSameFields)
+    → first_some (request_checks (demands config k data_out) data_out) ≡ None
     → write_same_fields (Ok k) ≡ Some c → 512 ≤ length data_out
-same-long capacity (command.WriteSame10 w) data_out c e h =
-    long_enough (unless_anchor_alone w.anchor w.unmap (bad_count w.count 7)) 512 data_out e
-same-long capacity (command.WriteSame16 w) data_out c e h =
-    long_enough (unless_anchor_alone w.anchor w.unmap (bad_count w.count 10)) 512 data_out e
-same-long capacity _ data_out c e h = cc
+same-long config (command.WriteSame10 w) data_out c e h =
+    long_enough (unless_anchor_alone w.anchor w.unmap (bad_count config w.count 7)) 512 data_out e
+same-long config (command.WriteSame16 w) data_out c e h =
+    long_enough (unless_anchor_alone w.anchor w.unmap (bad_count config w.count 10)) 512 data_out e
+same-long config _ data_out c e h = cc
 
 -- a block of zeros is the block of zeros
 all-zero : (bytes : List ℕ) → list_all (λ byte. byte == 0) bytes ≡ true
@@ -405,9 +406,9 @@ module _ (fills : FillMapsEachAddress) (puts : FillsEachBlock) (unmapped : Unmap
       let d = done-well state i cdb data_out good in
       let fields : write_same_fields (Ok d.asked.command) ≡ Some c =
       ap write_same_fields (sym d.asked.command_is) ∙ is in
-      let known = same-asked state.disk.capacity d.asked.command data_out d.operation c
+      let known = same-asked (config_of state) d.asked.command data_out d.operation c
       d.asked.operation_is fields in
-      let long = same-long state.disk.capacity d.asked.command data_out c d.asked.accepted fields in
+      let long = same-long (config_of state) d.asked.command data_out c d.asked.accepted fields in
       let done = by-fields state i c (block_out data_out) (whole-block data_out long) in
       by-operation
       (λ (after : Step). Changes state after.state (lies_in c.extent.lba c.extent.count)

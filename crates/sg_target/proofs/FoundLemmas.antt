@@ -53,7 +53,7 @@ module _ (state : State) (i : ℕ) where
   operation-keeps (operation.Anchor extents) = no-space-keeps _
   operation-keeps (operation.AnchorExtent extent) = no-space-keeps _
   operation-keeps (operation.ReturnModes request n) = sound-keeps _ _ (λ list. none-keeps)
-  operation-keeps (operation.ChangeModes ten sp list) = sound-keeps _ _ (λ modes. none-keeps)
+  operation-keeps (operation.ChangeModes width sp list) = sound-keeps _ _ (λ modes. none-keeps)
   operation-keeps (operation.ChangeReservations action scope_type list) =
       sound-keeps _ _ (λ change. none-keeps)
   operation-keeps _ = none-keeps

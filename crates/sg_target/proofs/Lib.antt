@@ -14,7 +14,7 @@ mod InTurnLemmas
 mod EachExtentLemmas
 mod CommandLemmas
 mod JoiningLemmas
-mod NeedLemmas
+pub mod NeedLemmas
 pub mod Space
 mod FoundLemmas
 -- The cost of ranges.

@@ -12,7 +12,7 @@ use Rattle.sg_target.specs.Checks.{short_data_out, unsupported_value}
 use Rattle.sg_target.specs.Demands.{Demands, demands}
 use Rattle.sg_target.specs.Refusal.{checked_next, first_some, unless_refused}
 use Rattle.sg_target.specs.Semantics.{effect_of, medium_use}
-use Rattle.sg_target.specs.State.{State, profile_of}
+use Rattle.sg_target.specs.State.{State, config_of, profile_of}
 use Rattle.sg_target.specs.Effect.{Effect}
 use Rattle.sg_target.specs.Step.{Step, executed, outcome, refused, step, step_by}
 use Rattle.sg_target.specs.declared.operation.Operation.{Operation}
@@ -52,8 +52,8 @@ pub record Asked (state : State) (i : ℕ) (cdb data_out : List ℕ) (operation 
   pub read_as : command_in (profile_of state) cdb ≡ Ok command
   pub command_is : command_of cdb ≡ Ok command
   pub accepted : first_some
-      (request_checks (demands state.disk.capacity command data_out) data_out) ≡ None
-  pub operation_is : (demands state.disk.capacity command data_out).operation ≡ Ok operation
+      (request_checks (demands (config_of state) command data_out) data_out) ≡ None
+  pub operation_is : (demands (config_of state) command data_out).operation ≡ Ok operation
 
 record Passed {A : Type 0} (refusal : Option Refusal) (result : Result A Refusal) (value : A) : Type 0 where
   none : refusal ≡ None
@@ -76,15 +76,15 @@ record Parsed (state : State) (parsed : Result Command CdbFault) (data_out : Lis
   command : Command
   is : parsed ≡ Ok command
   accepted : first_some
-      (request_checks (demands state.disk.capacity command data_out) data_out) ≡ None
-  asks : (demands state.disk.capacity command data_out).operation ≡ Ok operation
+      (request_checks (demands (config_of state) command data_out) data_out) ≡ None
+  asks : (demands (config_of state) command data_out).operation ≡ Ok operation
 
 parsed-ok : (state : State) (parsed : Result Command CdbFault) (data_out : List ℕ)
     (operation : Operation) → checked_parse state parsed data_out ≡ Ok operation
     → Parsed state parsed data_out operation
 parsed-ok state (Err fault) data_out operation e = cc
 parsed-ok state (Ok command) data_out operation e =
-    let d = demands state.disk.capacity command data_out in
+    let d = demands (config_of state) command data_out in
     let passed = unless-ok (first_some (request_checks d data_out)) d.operation operation
     (requested-ok state (requested d data_out) operation e) in
     record { command = command; is = refl; accepted = passed.none; asks = passed.is }

@@ -35,7 +35,7 @@ over-same law =
     (Some Anchored) (λ m r. law.found m r.lba r.count (λ index. Anchored))
 
 -- a range needs as much if the same addresses in it have a slot
-need-alike : RemappingTakesWhatIsNeeded → (m n : Contents) (a k : ℕ)
+pub need-alike : RemappingTakesWhatIsNeeded → (m n : Contents) (a k : ℕ)
     → ((i : ℕ) → i < k → map.contains_key m (a + i) ≡ map.contains_key n (a + i))
     → need m a k ≡ need n a k
 need-alike law m n a zero h = law.of_none m a ∙ sym (law.of_none n a)

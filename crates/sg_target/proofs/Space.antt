@@ -122,7 +122,7 @@ module _ (law : RemappingTakesWhatIsNeeded) (addresses : UnmapsEachAddress)
   operation-keeps state i (operation.UnmapExtent extent) h =
       λ none. let fewer = in-turn state.disk.contents (extent ∷ []) in omega (arith, fewer, h)
   operation-keeps state i (operation.ReturnModes request n) h = sound-keeps _ _ (λ list. h)
-  operation-keeps state i (operation.ChangeModes ten sp list) h = sound-keeps _ _ (λ modes. h)
+  operation-keeps state i (operation.ChangeModes width sp list) h = sound-keeps _ _ (λ modes. h)
   operation-keeps state i (operation.ChangeReservations action scope_type list) h =
       sound-keeps _ _ (λ change. h)
   operation-keeps state i _ h = λ none. h

@@ -1,11 +1,11 @@
 -- The effects of the block commands (SBC-3, 5).
 use Rattle.std.specs.Prelude.{ℕ, ◌*◌, List}
 use Rattle.sg_wire.specs.CutAnswer.{first_bytes}
+use Rattle.sg_wire.specs.Profile.{maximum_transfer_length}
 use Rattle.sg_wire.specs.declared.extent.Extent.{Extent}
 use Rattle.sg_store.specs.Disk.{blocks, written}
 use Rattle.sg_pages.specs.CapacityData.{capacity_10, capacity_16}
 use Rattle.sg_pages.specs.BlockDescriptor.{logical_block_length}
-use Rattle.sg_pages.specs.ProvisioningPages.{maximum_transfer_length}
 use Rattle.sg_target.specs.Effect.{Effect, returning, returning_up_to, storing}
 use Rattle.sg_target.specs.State.{State}
 

@@ -17,7 +17,7 @@ use Rattle.sg_target.specs.Effect.{Effect}
 use Rattle.sg_target.specs.Demands.{Demands, demands}
 use Rattle.sg_target.specs.Refusal.{checked_next, first_some, refusal_for, unless_refused}
 use Rattle.sg_target.specs.Semantics.{MediumUse, effect_of, medium_use}
-use Rattle.sg_target.specs.State.{State, profile_of}
+use Rattle.sg_target.specs.State.{State, config_of, profile_of}
 use Rattle.sg_target.specs.declared.operation.Operation.{Operation}
 use Rattle.sg_target.specs.declared.refusal.Reason.TheVariants.{InvalidFieldInCdb}
 use Rattle.sg_target.specs.declared.refusal.Reason.TheVariants.{UnitAttention as Attention}
@@ -138,7 +138,7 @@ checked_operation state operation =
 -- Choice (SAM-5, 5.3.3): these checks may come in another order.
 abbrev pub checked_command : State → Command → (data_out : List ℕ) → Result Operation Refusal
 checked_command state command data_out =
-    checked_next (requested (demands state.disk.capacity command data_out) data_out)
+    checked_next (requested (demands (config_of state) command data_out) data_out)
     (checked_operation state)
 
 abbrev pub checked_parse : State → Result Command CdbFault → (data_out : List ℕ)

@@ -1,5 +1,5 @@
 -- Each command's demands on its fields and its data-out, and the operation that it asks for. The
--- demands depend on the disk only by its number of blocks, which never changes.
+-- demands depend on the disk only by its configuration, which never changes.
 use Rattle.std.specs.Prelude.{ℕ, List, Bool, false, ◌&&◌, not, Option, Some, None, Result, Ok}
 use Rattle.std.specs.Prelude.{nat_le, nat_lt, if◌then◌else◌, ok_or}
 use Rattle.sg_wire.specs.declared.command.Command.{Command}
@@ -18,9 +18,9 @@ use Rattle.sg_wire.specs.declared.command.provisioning.WriteSame16.{WriteSame16}
 use Rattle.sg_wire.specs.declared.command.reservation.PersistentReserveOut.{PersistentReserveOut}
 use Rattle.sg_wire.specs.CutAnswer.{first_bytes}
 use Rattle.sg_wire.specs.declared.extent.Extent.{Extent}
-use Rattle.sg_pages.specs.ProvisioningPages.{maximum_transfer_length, maximum_write_same_length}
 use Rattle.sg_target.specs.BlockCommands.{blocks_out, bytes_of}
 use Rattle.sg_pages.specs.BlockDescriptor.{logical_block_length}
+use Rattle.sg_target.specs.Config.{ConfigFields, limits_for}
 use Rattle.sg_target.specs.ModeCommands.{unless_page_format}
 use Rattle.sg_target.specs.PrimaryCommands.{format_of, inquiry_page}
 use Rattle.sg_target.specs.ProvisioningCommands.{block_out, listed_extents, unmaps}
@@ -100,9 +100,9 @@ extent lba count = record { lba = lba; count = count }
 
 -- READ and WRITE move no more blocks than the page Block Limits says; the byte is where TRANSFER
 -- LENGTH begins.
-abbrev pub too_long : (transfer_length byte : ℕ) → Option ℕ
-too_long transfer_length byte =
-    if nat_lt maximum_transfer_length transfer_length then Some byte else None
+abbrev pub too_long : ConfigFields → (transfer_length byte : ℕ) → Option ℕ
+too_long config transfer_length byte =
+    if nat_lt (limits_for config).transfer_length transfer_length then Some byte else None
 
 abbrev pub read : Extent → (unsupported : Option ℕ) → Demands
 read extent unsupported = takes_no_data unsupported (Ok (operation.Read extent))
@@ -118,9 +118,9 @@ unless_anchor_alone anchor unmap otherwise = if anchor && not unmap then Some 1 
 
 -- WRITE SAME writes at least one block, and no more than the page Block Limits says; the byte is
 -- where NUMBER OF LOGICAL BLOCKS begins.
-abbrev pub bad_count : (count byte : ℕ) → Option ℕ
-bad_count count byte =
-    if nat_le 1 count && nat_le count maximum_write_same_length then None else Some byte
+abbrev pub bad_count : ConfigFields → (count byte : ℕ) → Option ℕ
+bad_count config count byte =
+    if nat_le 1 count && nat_le count (limits_for config).write_same_length then None else Some byte
 
 -- WRITE SAME takes one block. It replaces each of its blocks by that block, or unmaps or anchors
 -- them.
@@ -132,16 +132,19 @@ abbrev pub unmap_or_fill : (anchor unmap : Bool) → Extent → (block : List �
 unmap_or_fill anchor unmap extent block =
     if unmaps unmap block then unmap_extent anchor extent else operation.Fill extent block
 
-abbrev pub write_same : (anchor unmap : Bool) → Extent → (byte : ℕ) → (data_out : List ℕ) → Demands
-write_same anchor unmap extent byte data_out =
-    takes logical_block_length (unless_anchor_alone anchor unmap (bad_count extent.count byte))
+abbrev pub write_same : ConfigFields → (anchor unmap : Bool) → Extent → (byte : ℕ)
+    → (data_out : List ℕ) → Demands
+write_same config anchor unmap extent byte data_out =
+    takes logical_block_length (unless_anchor_alone anchor unmap (bad_count config extent.count byte))
     (Ok (unmap_or_fill anchor unmap extent (block_out data_out)))
 
-abbrev pub write_same_10 : WriteSame10 → (data_out : List ℕ) → Demands
-write_same_10 c data_out = write_same c.anchor c.unmap (extent c.lba c.count) 7 data_out
+abbrev pub write_same_10 : ConfigFields → WriteSame10 → (data_out : List ℕ) → Demands
+write_same_10 config c data_out =
+    write_same config c.anchor c.unmap (extent c.lba c.count) 7 data_out
 
-abbrev pub write_same_16 : WriteSame16 → (data_out : List ℕ) → Demands
-write_same_16 c data_out = write_same c.anchor c.unmap (extent c.lba c.count) 10 data_out
+abbrev pub write_same_16 : ConfigFields → WriteSame16 → (data_out : List ℕ) → Demands
+write_same_16 config c data_out =
+    write_same config c.anchor c.unmap (extent c.lba c.count) 10 data_out
 
 -- UNMAP takes a list of extents, which it unmaps or anchors.
 abbrev pub unmap_extents : (anchor : Bool) → List Extent → Operation
@@ -153,36 +156,38 @@ unmap c data_out =
     takes c.list_length None
     (when_sound (listed_extents (first_bytes c.list_length data_out)) (unmap_extents c.anchor))
 
--- ---- The row of each command, on a disk with a number of blocks, with its data-out
+-- ---- The row of each command, on a disk of a configuration, with its data-out
 
 -- READ(6) and WRITE(6) name at most 256 blocks by their layout.
-abbrev pub demands : (blocks : ℕ) → Command → (data_out : List ℕ) → Demands
-demands blocks command.TestUnitReady data_out = asks operation.Nothing
-demands blocks (command.RequestSense c) data_out =
+abbrev pub demands : ConfigFields → Command → (data_out : List ℕ) → Demands
+demands config command.TestUnitReady data_out = asks operation.Nothing
+demands config (command.RequestSense c) data_out =
     asks (operation.ReturnSense (format_of c.desc) c.allocation_length)
-demands blocks (command.Inquiry c) data_out = inquiry c
-demands blocks (command.ModeSelect6 c) data_out = mode_select_6 c data_out
-demands blocks (command.ModeSelect10 c) data_out = mode_select_10 c data_out
-demands blocks (command.ModeSense6 c) data_out = asks (mode_sense_6 blocks c)
-demands blocks (command.ModeSense10 c) data_out = asks (mode_sense_10 blocks c)
-demands blocks (command.Read6 short) data_out = read (extent short.0 short.1) None
-demands blocks (command.Read10 c) data_out = read (extent c.lba c.count) (too_long c.count 7)
-demands blocks (command.Read16 c) data_out = read (extent c.lba c.count) (too_long c.count 10)
-demands blocks (command.Write6 short) data_out = write (extent short.0 short.1) None data_out
-demands blocks (command.Write10 c) data_out =
-    write (extent c.lba c.count) (too_long c.count 7) data_out
-demands blocks (command.Write16 c) data_out =
-    write (extent c.lba c.count) (too_long c.count 10) data_out
-demands blocks command.ReadCapacity10 data_out = asks operation.ReturnCapacity10
-demands blocks (command.ReadCapacity16 c) data_out =
+demands config (command.Inquiry c) data_out = inquiry c
+demands config (command.ModeSelect6 c) data_out = mode_select_6 c data_out
+demands config (command.ModeSelect10 c) data_out = mode_select_10 c data_out
+demands config (command.ModeSense6 c) data_out = asks (mode_sense_6 config.blocks c)
+demands config (command.ModeSense10 c) data_out = asks (mode_sense_10 config.blocks c)
+demands config (command.Read6 short) data_out = read (extent short.0 short.1) None
+demands config (command.Read10 c) data_out =
+    read (extent c.lba c.count) (too_long config c.count 7)
+demands config (command.Read16 c) data_out =
+    read (extent c.lba c.count) (too_long config c.count 10)
+demands config (command.Write6 short) data_out = write (extent short.0 short.1) None data_out
+demands config (command.Write10 c) data_out =
+    write (extent c.lba c.count) (too_long config c.count 7) data_out
+demands config (command.Write16 c) data_out =
+    write (extent c.lba c.count) (too_long config c.count 10) data_out
+demands config command.ReadCapacity10 data_out = asks operation.ReturnCapacity10
+demands config (command.ReadCapacity16 c) data_out =
     asks (operation.ReturnCapacity16 c.allocation_length)
-demands blocks (command.SynchronizeCache10 c) data_out =
+demands config (command.SynchronizeCache10 c) data_out =
     asks (operation.Synchronize (extent c.lba c.count))
-demands blocks (command.WriteSame10 c) data_out = write_same_10 c data_out
-demands blocks (command.WriteSame16 c) data_out = write_same_16 c data_out
-demands blocks (command.Unmap c) data_out = unmap c data_out
-demands blocks (command.GetLbaStatus c) data_out =
+demands config (command.WriteSame10 c) data_out = write_same_10 config c data_out
+demands config (command.WriteSame16 c) data_out = write_same_16 config c data_out
+demands config (command.Unmap c) data_out = unmap c data_out
+demands config (command.GetLbaStatus c) data_out =
     asks (operation.ReturnLbaStatus c.start c.allocation_length)
-demands blocks (command.PersistentReserveIn c) data_out =
+demands config (command.PersistentReserveIn c) data_out =
     asks (operation.ReturnReservations c.action c.allocation_length)
-demands blocks (command.PersistentReserveOut c) data_out = reserve_out c data_out
+demands config (command.PersistentReserveOut c) data_out = reserve_out c data_out

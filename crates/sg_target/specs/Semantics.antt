@@ -24,22 +24,29 @@ use Rattle.sg_target.specs.declared.refusal.Refusal.{Refusal}
 
 -- ---- The medium
 
--- The blocks that have to be on the disk, in the order of their checks, and whether the operation
--- writes to the medium.
+-- What an operation asks of the medium.
 pub record MediumUse : Type 0 where
+  -- the blocks that have to be on the disk, in the order of their checks
   pub extents : List Extent
+  -- whether it reads the data of blocks
+  pub reads : Bool
+  -- whether it writes to the medium
   pub writes : Bool
 
-abbrev pub only_reads : List Extent → MediumUse
-only_reads extents = record { extents = extents; writes = false }
+abbrev pub only_names : List Extent → MediumUse
+only_names extents = record { extents = extents; reads = false; writes = false }
 
 abbrev pub uses_no_block : MediumUse
-uses_no_block = only_reads []
+uses_no_block = only_names []
+
+abbrev pub reads_from : List Extent → MediumUse
+reads_from extents = record (only_names extents) { reads = true }
 
 abbrev pub writes_to : List Extent → MediumUse
-writes_to extents = record { extents = extents; writes = true }
+writes_to extents = record (only_names extents) { writes = true }
 
 -- SYNCHRONIZE CACHE has its extent checked, and GET LBA STATUS has to start at a block of the disk.
+-- They read no data: the latter returns which blocks are mapped or anchored.
 -- Departure (SBC-3, 5.26): a count of 0 in SYNCHRONIZE CACHE reaches to the last block there.
 abbrev pub medium_use : Operation → MediumUse
 medium_use Nothing = uses_no_block
@@ -49,15 +56,15 @@ medium_use (ReturnModes request n) = uses_no_block
 medium_use (ChangeModes width sp list) = uses_no_block
 medium_use ReturnCapacity10 = uses_no_block
 medium_use (ReturnCapacity16 n) = uses_no_block
-medium_use (Read extent) = only_reads (extent ∷ [])
+medium_use (Read extent) = reads_from (extent ∷ [])
 medium_use (Write out) = writes_to (out.extent ∷ [])
-medium_use (Synchronize extent) = only_reads (extent ∷ [])
+medium_use (Synchronize extent) = only_names (extent ∷ [])
 medium_use (Fill extent block) = writes_to (extent ∷ [])
 medium_use (Unmap extents) = writes_to extents
 medium_use (UnmapExtent extent) = writes_to (extent ∷ [])
 medium_use (Anchor extents) = writes_to extents
 medium_use (AnchorExtent extent) = writes_to (extent ∷ [])
-medium_use (ReturnLbaStatus start n) = only_reads (extent start 1 ∷ [])
+medium_use (ReturnLbaStatus start n) = only_names (extent start 1 ∷ [])
 medium_use (ReturnReservations action n) = uses_no_block
 medium_use (ChangeReservations action scope_type list) = uses_no_block
 

@@ -17,7 +17,11 @@ pub record State : Type 0 where
   pub attentions : Pending
   pub reservations : ReservationState
 
--- The profile of the disk, which no command changes.
+-- The configuration of the disk, and its profile. No command changes them.
+abbrev pub config_of : State → ConfigFields
+config_of state =
+    record { blocks = state.disk.capacity; pool = state.disk.pool; identity = state.identity }
+
 abbrev pub profile_of : State → Profile
 profile_of state = state.identity.profile
 

@@ -3,7 +3,7 @@
 ghost use Rattle.std.specs.Prelude.{◌≡◌, ◌≤◌, ◌+◌, ◌∷◌, [], length, Some, None, Ok, OnOk, OnErr};
 ghost use Rattle.std.specs.Prelude.{IfOk, IfErr};
 ghost use Rattle.sg_pages.specs.CapacityData.{capacity_10, capacity_16};
-ghost use Rattle.sg_pages.specs.ProvisioningPages.{maximum_transfer_length};
+ghost use Rattle.sg_wire.specs.Profile.{maximum_transfer_length};
 ghost use Rattle.sg_wire.specs.CutAnswer.{first_bytes};
 ghost use Rattle.sg_target.specs.BlockCommands.{bytes_of, reading, writing};
 ghost use Rattle.sg_target.specs.Checks.{requested, unsupported_value};
@@ -13,6 +13,7 @@ ghost use Rattle.sg_target.specs.Ranges.{range};
 ghost use Rattle.sg_target.specs.MadeReplies.{ReturnsData, executed_reply, refused_reply};
 ghost use Rattle.sg_target.specs.Step.{executed, outcome, sense_format};
 
+use crate::config::Config;
 use crate::data_in::DataIn;
 use crate::data_out::needed_data_out;
 use crate::extent::byte_length;
@@ -20,7 +21,7 @@ use crate::operation::Operation;
 use crate::refusal::{Reason, Refusal};
 use crate::reply::Reply;
 use crate::target::{BUFFER_LENGTH, Target};
-use sg_pages::{CAPACITY_10_LENGTH, CAPACITY_16_LENGTH, MAXIMUM_TRANSFER_LENGTH};
+use sg_pages::{CAPACITY_10_LENGTH, CAPACITY_16_LENGTH};
 use sg_store::{Space, Store};
 use sg_wire::{Extent, Initiator};
 use std::marker::Model;
@@ -31,13 +32,13 @@ pub(crate) const TRANSFER_LENGTH_10: u16 = 7;
 pub(crate) const TRANSFER_LENGTH_16: u16 = 10;
 
 /// Refuses more blocks than the disk moves at once; TRANSFER LENGTH begins at the byte.
-fn check_transfer_length(extent: Extent, byte: u16) -> Result<(), Refusal>
+fn check_transfer_length(config: &Config, extent: Extent, byte: u16) -> Result<(), Refusal>
     ensures refused { IfErr result (λ refusal.
-        unsupported_value (too_long extent.count byte) ≡ Some refusal) }
-    ensures passed { IfOk result (λ _. too_long extent.count byte ≡ None) }
-    ensures at_most_256 { IfOk result (λ _. extent.count ≤ maximum_transfer_length) }
+        unsupported_value (too_long config.now extent.count byte) ≡ Some refusal) }
+    ensures passed { IfOk result (λ _. too_long config.now extent.count byte ≡ None) }
+    ensures at_most { IfOk result (λ _. extent.count ≤ maximum_transfer_length) }
 {
-    if extent.count > MAXIMUM_TRANSFER_LENGTH {
+    if extent.count > config.limits().transfer_length {
         return Err(Refusal::CheckCondition(Reason::InvalidFieldInCdb { byte }));
     }
     Ok(())
@@ -53,7 +54,7 @@ pub struct BlocksIn {
 
 impl Model for BlocksIn {
     ghost use Rattle.std.specs.Prelude.{◌≤◌};
-    ghost use Rattle.sg_pages.specs.ProvisioningPages.{maximum_transfer_length};
+    ghost use Rattle.sg_wire.specs.Profile.{maximum_transfer_length};
     ghost use Rattle.sg_wire.specs.declared.extent.Extent.{Extent};
 
     ghost Value = { Extent };
@@ -72,10 +73,14 @@ pub(crate) fn check_read_6(extent: Extent) -> Operation<'static>
 }
 
 /// READ (10) and (16); TRANSFER LENGTH begins at the byte.
-pub(crate) fn check_read(extent: Extent, byte: u16) -> Result<Operation<'static>, Refusal>
-    ensures { result ≡ requested (read extent (too_long extent.count byte)) [] }
+pub(crate) fn check_read(
+    config: &Config,
+    extent: Extent,
+    byte: u16,
+) -> Result<Operation<'static>, Refusal>
+    ensures { result ≡ requested (read extent (too_long config.now extent.count byte)) [] }
 {
-    check_transfer_length(extent, byte)?;
+    check_transfer_length(config, extent, byte)?;
     Ok(Operation::Read(BlocksIn { extent }))
 }
 
@@ -108,7 +113,7 @@ pub struct BlocksOut<'a> {
 
 impl<'a> Model for BlocksOut<'a> {
     ghost use Rattle.std.specs.Prelude.{◌≡◌, ◌≤◌, length};
-    ghost use Rattle.sg_pages.specs.ProvisioningPages.{maximum_transfer_length};
+    ghost use Rattle.sg_wire.specs.Profile.{maximum_transfer_length};
     ghost use Rattle.sg_target.specs.BlockCommands.{BlocksOutFields, bytes_of};
 
     ghost Value = { BlocksOutFields };
@@ -137,15 +142,16 @@ pub(crate) fn check_write_6(extent: Extent, data_out: &[u8]) -> Result<Operation
 }
 
 /// WRITE (10) and (16); TRANSFER LENGTH begins at the byte.
-pub(crate) fn check_write(
+pub(crate) fn check_write<'a>(
+    config: &Config,
     extent: Extent,
     byte: u16,
-    data_out: &[u8],
-) -> Result<Operation<'_>, Refusal>
+    data_out: &'a [u8],
+) -> Result<Operation<'a>, Refusal>
     ensures { result
-        ≡ requested (write extent (too_long extent.count byte) data_out.now) data_out.now }
+        ≡ requested (write extent (too_long config.now extent.count byte) data_out.now) data_out.now }
 {
-    check_transfer_length(extent, byte)?;
+    check_transfer_length(config, extent, byte)?;
     take_blocks(extent, data_out)
 }
 

@@ -7,8 +7,9 @@ ghost use Rattle.sg_target.specs.Checks.{reservation_conflict};
 ghost use Rattle.sg_target.specs.Extents.{AreOnDisk};
 ghost use Rattle.sg_target.specs.Refusal.{first_some};
 ghost use Rattle.sg_target.specs.Semantics.{medium_use};
-ghost use Rattle.sg_target.specs.State.{IsWithinLimits, profile_of};
+ghost use Rattle.sg_target.specs.State.{IsWithinLimits, config_of, profile_of};
 
+use crate::config::Config;
 use crate::operation::{Operation, operation_of};
 use crate::refusal::{Reason, Refusal};
 use crate::target::Target;
@@ -34,7 +35,7 @@ impl<S: Store> Target<S> {
         // Its contract says that the blocks are well formed.
         let _ = self.store.used();
         let command = self.check_cdb(initiator, cdb)?;
-        let operation = operation_of(self.config.blocks(), &command, data_out)?;
+        let operation = operation_of(self.config(), &command, data_out)?;
         self.check_operation(operation)
     }
 
@@ -61,6 +62,13 @@ impl<S: Store> Target<S> {
             return Err(conflict);
         }
         Ok(command?)
+    }
+
+    /// The configuration of the disk.
+    fn config(&self) -> &Config
+        ensures { result.now ≡ config_of self.now.state }
+    {
+        &self.config
     }
 
     /// The profile of the disk.

@@ -13,6 +13,7 @@ use crate::block::{
     BlocksIn, BlocksOut, TRANSFER_LENGTH_10, TRANSFER_LENGTH_16, check_read, check_read_6,
     check_write, check_write_6,
 };
+use crate::config::Config;
 use crate::data_in::DataIn;
 use crate::extent::past_capacity;
 use crate::mode::{
@@ -162,14 +163,14 @@ impl<'a> Operation<'a> {
     }
 }
 
-/// The operation that a command asks for on a disk of `blocks` blocks. This checks the command's
+/// The operation that a command asks for on a disk of a configuration. This checks the command's
 /// values, its data-out, and the page or the parameter list that it names.
 pub(crate) fn operation_of<'a>(
-    blocks: u64,
+    config: &Config,
     command: &Command,
     data_out: &'a [u8],
 ) -> Result<Operation<'a>, Refusal>
-    ensures { result ≡ requested (demands blocks command.now data_out.now) data_out.now }
+    ensures { result ≡ requested (demands config.now command.now data_out.now) data_out.now }
 {
     match *command {
         Command::TestUnitReady => Ok(Operation::Nothing),
@@ -177,21 +178,25 @@ pub(crate) fn operation_of<'a>(
         Command::Inquiry(fields) => check_inquiry(fields),
         Command::ModeSelect6(fields) => check_mode_select_6(fields, data_out),
         Command::ModeSelect10(fields) => check_mode_select_10(fields, data_out),
-        Command::ModeSense6(fields) => Ok(check_mode_sense_6(blocks, fields)),
-        Command::ModeSense10(fields) => Ok(check_mode_sense_10(blocks, fields)),
+        Command::ModeSense6(fields) => Ok(check_mode_sense_6(config.blocks(), fields)),
+        Command::ModeSense10(fields) => Ok(check_mode_sense_10(config.blocks(), fields)),
         Command::Read6(extent) => Ok(check_read_6(Extent::from(extent))),
-        Command::Read10(extent) => check_read(Extent::from(extent), TRANSFER_LENGTH_10),
-        Command::Read16(extent) => check_read(Extent::from(extent), TRANSFER_LENGTH_16),
+        Command::Read10(extent) => check_read(config, Extent::from(extent), TRANSFER_LENGTH_10),
+        Command::Read16(extent) => check_read(config, Extent::from(extent), TRANSFER_LENGTH_16),
         Command::Write6(extent) => check_write_6(Extent::from(extent), data_out),
-        Command::Write10(extent) => check_write(Extent::from(extent), TRANSFER_LENGTH_10, data_out),
-        Command::Write16(extent) => check_write(Extent::from(extent), TRANSFER_LENGTH_16, data_out),
+        Command::Write10(extent) => {
+            check_write(config, Extent::from(extent), TRANSFER_LENGTH_10, data_out)
+        }
+        Command::Write16(extent) => {
+            check_write(config, Extent::from(extent), TRANSFER_LENGTH_16, data_out)
+        }
         Command::ReadCapacity10 => Ok(Operation::ReturnCapacity10),
         Command::ReadCapacity16(fields) => {
             Ok(Operation::ReturnCapacity16(fields.allocation_length))
         }
         Command::SynchronizeCache10(extent) => Ok(Operation::Synchronize(Extent::from(extent))),
-        Command::WriteSame10(fields) => check_write_same_10(fields, data_out),
-        Command::WriteSame16(fields) => check_write_same_16(fields, data_out),
+        Command::WriteSame10(fields) => check_write_same_10(config, fields, data_out),
+        Command::WriteSame16(fields) => check_write_same_16(config, fields, data_out),
         Command::Unmap(fields) => check_unmap(fields, data_out),
         Command::GetLbaStatus(fields) => Ok(Operation::ReturnLbaStatus {
             start: fields.start,

@@ -18,13 +18,13 @@ ghost use Rattle.sg_target.specs.State.{IsWithinLimits};
 ghost use Rattle.sg_target.specs.Step.{executed, outcome};
 
 use crate::anchoring::anchor_extents;
+use crate::config::Config;
 use crate::data_out::needed_data_out;
 use crate::extent::first_past_capacity;
 use crate::operation::Operation;
 use crate::refusal::{Reason, Refusal};
 use crate::reply::Reply;
 use crate::target::{BUFFER_LENGTH, Target};
-use sg_pages::MAXIMUM_WRITE_SAME_LENGTH;
 use sg_store::{BLOCK_LENGTH, MAX_CAPACITY, Store};
 use sg_wire::laws::answers_are_in_their_buffers;
 use sg_wire::{
@@ -200,17 +200,19 @@ impl<'a> Model for BlockOut<'a> {
 }
 
 /// WRITE SAME(10).
-pub(crate) fn check_write_same_10(
+pub(crate) fn check_write_same_10<'a>(
+    config: &Config,
     fields: WriteSame10,
-    data_out: &[u8],
-) -> Result<Operation<'_>, Refusal>
-    ensures { result ≡ requested (write_same_10 fields data_out.now) data_out.now }
+    data_out: &'a [u8],
+) -> Result<Operation<'a>, Refusal>
+    ensures { result ≡ requested (write_same_10 config.now fields data_out.now) data_out.now }
 {
     let extent = Extent {
         lba: u64::from(fields.lba),
         count: u32::from(fields.count),
     };
     check_write_same(
+        config,
         fields.anchor,
         fields.unmap,
         extent,
@@ -220,17 +222,19 @@ pub(crate) fn check_write_same_10(
 }
 
 /// WRITE SAME(16).
-pub(crate) fn check_write_same_16(
+pub(crate) fn check_write_same_16<'a>(
+    config: &Config,
     fields: WriteSame16,
-    data_out: &[u8],
-) -> Result<Operation<'_>, Refusal>
-    ensures { result ≡ requested (write_same_16 fields data_out.now) data_out.now }
+    data_out: &'a [u8],
+) -> Result<Operation<'a>, Refusal>
+    ensures { result ≡ requested (write_same_16 config.now fields data_out.now) data_out.now }
 {
     let extent = Extent {
         lba: fields.lba,
         count: fields.count,
     };
     check_write_same(
+        config,
         fields.anchor,
         fields.unmap,
         extent,
@@ -240,19 +244,21 @@ pub(crate) fn check_write_same_16(
 }
 
 /// NUMBER OF LOGICAL BLOCKS begins at the byte.
-fn check_write_same(
+fn check_write_same<'a>(
+    config: &Config,
     anchor: bool,
     unmap: bool,
     extent: Extent,
     byte: u16,
-    data_out: &[u8],
-) -> Result<Operation<'_>, Refusal>
-    ensures { result ≡ requested (write_same anchor unmap extent byte data_out.now) data_out.now }
+    data_out: &'a [u8],
+) -> Result<Operation<'a>, Refusal>
+    ensures { result
+        ≡ requested (write_same config.now anchor unmap extent byte data_out.now) data_out.now }
 {
     if anchor && !unmap {
         return Err(Refusal::CheckCondition(Reason::InvalidFieldInCdb { byte: ANCHOR_BYTE }));
     }
-    check_write_same_length(extent, byte)?;
+    check_write_same_length(config, extent, byte)?;
     let bytes = needed_data_out(data_out, BLOCK_LENGTH)?;
     if !unmaps(unmap, bytes) {
         let block = BlockOut { bytes };
@@ -265,12 +271,12 @@ fn check_write_same(
 }
 
 /// Refuses no block, and more blocks than WRITE SAME writes.
-fn check_write_same_length(extent: Extent, byte: u16) -> Result<(), Refusal>
+fn check_write_same_length(config: &Config, extent: Extent, byte: u16) -> Result<(), Refusal>
     ensures refused { IfErr result (λ refusal.
-        unsupported_value (bad_count extent.count byte) ≡ Some refusal) }
-    ensures passed { IfOk result (λ _. bad_count extent.count byte ≡ None) }
+        unsupported_value (bad_count config.now extent.count byte) ≡ Some refusal) }
+    ensures passed { IfOk result (λ _. bad_count config.now extent.count byte ≡ None) }
 {
-    if !(1..=MAXIMUM_WRITE_SAME_LENGTH).contains(&extent.count) {
+    if !(1..=config.limits().write_same_length).contains(&extent.count) {
         return Err(Refusal::CheckCondition(Reason::InvalidFieldInCdb { byte }));
     }
     Ok(())

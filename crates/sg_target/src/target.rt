@@ -4,10 +4,10 @@ use crate::happening::Happening;
 use crate::laws::limits_are_kept;
 use crate::refusal::{Reason, Refusal};
 use crate::reply::{Reply, format_of};
-use sg_pages::{MAXIMUM_TRANSFER_LENGTH, ModePages};
+use sg_pages::ModePages;
 use sg_store::{BLOCK_LENGTH, Counts, Store};
 use sg_units::{Attentions, Reservations};
-use sg_wire::{Format, Initiator};
+use sg_wire::{Format, Initiator, MAXIMUM_TRANSFER_LENGTH};
 use std::alloc::{AllocError, Global};
 use std::marker::Model;
 

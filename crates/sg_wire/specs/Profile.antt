@@ -1,5 +1,6 @@
--- The profiles of a disk: which commands a disk has.
-use Rattle.std.specs.Prelude.{Bool, true, false}
+-- The profiles of a disk: which commands a disk has, and its limits that depend on that.
+use Rattle.std.specs.Prelude.{ℕ, Bool, true, false}
+use Rattle.sg_wire.specs.declared.profile.Limits.{Limits}
 use Rattle.sg_wire.specs.declared.profile.Profile.{Profile}
 use Rattle.sg_wire.specs.declared.profile.Profile.TheVariants.{Base, Extended}
 
@@ -8,3 +9,19 @@ abbrev pub is_in : (belongs profile : Profile) → Bool
 is_in Base profile = true
 is_in Extended Base = false
 is_in Extended Extended = true
+
+-- ---- Limits, in blocks
+
+-- The most that a READ or a WRITE moves, and the most that a WRITE SAME writes. The page Block
+-- Limits reports both (SBC-3, vital product data parameters).
+abbrev pub base_limits : Limits
+base_limits = record { transfer_length = 256; write_same_length = 65536 }
+
+-- The extended profile has the same limits, until it has the commands that need others.
+abbrev pub limits_of : Profile → Limits
+limits_of Base = base_limits
+limits_of Extended = base_limits
+
+-- The most that a READ or a WRITE moves on a disk of any profile.
+abbrev pub maximum_transfer_length : ℕ
+maximum_transfer_length = base_limits.transfer_length

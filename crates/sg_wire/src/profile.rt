@@ -1,6 +1,6 @@
-// Which commands a disk has.
-ghost use Rattle.std.specs.Prelude.{◌≡◌};
-ghost use Rattle.sg_wire.specs.Profile.{is_in};
+// Which commands a disk has, and its limits that depend on that.
+ghost use Rattle.std.specs.Prelude.{◌≡◌, ◌≤◌};
+ghost use Rattle.sg_wire.specs.Profile.{is_in, limits_of, maximum_transfer_length};
 
 /// A profile: which commands a disk has (docs/PROFILE.md). It is chosen when the disk is made.
 #[derive(Clone, Copy, Debug, PartialEq, Eq)]
@@ -11,7 +11,39 @@ pub enum Profile {
     Extended,
 }
 
+/// The most blocks that a READ or a WRITE moves, on a disk of any profile.
+pub const MAXIMUM_TRANSFER_LENGTH: u32 = 256;
+
+/// The most blocks that a WRITE SAME writes, on a disk of any profile.
+pub const MAXIMUM_WRITE_SAME_LENGTH: u32 = 65_536;
+
+/// The limits of a disk that depend on its profile. The page Block Limits reports them (SBC-3, vital
+/// product data parameters).
+#[derive(Clone, Copy)]
+pub struct Limits {
+    /// The most blocks that a READ or a WRITE moves.
+    pub transfer_length: u32,
+    /// The most blocks that a WRITE SAME writes.
+    pub write_same_length: u32,
+}
+
+const BASE_LIMITS: Limits = Limits {
+    transfer_length: MAXIMUM_TRANSFER_LENGTH,
+    write_same_length: MAXIMUM_WRITE_SAME_LENGTH,
+};
+
 impl Profile {
+    /// The limits of a disk of this profile.
+    pub fn limits(self) -> Limits
+        ensures value { result ≡ limits_of self }
+        ensures at_most { result.transfer_length ≤ maximum_transfer_length }
+    {
+        match self {
+            // The extended profile gets its own limits with the commands that need them.
+            Profile::Base | Profile::Extended => BASE_LIMITS,
+        }
+    }
+
     /// Returns `true` if a disk of this profile has what belongs to a profile.
     pub fn has(self, belongs: Profile) -> bool
         ensures { result ≡ is_in belongs self }
