@@ -104,13 +104,14 @@ mdl_error mdl_execute(mdl_disk *disk, uint32_t initiator, const uint8_t *cdb, si
                       const uint8_t *data_out, size_t data_out_length, uint8_t *data_in,
                       size_t data_in_length, mdl_reply *reply)
 {
-    if (!disk || are_missing(cdb, cdb_length) || are_missing(data_out, data_out_length) || !data_in
-        || !reply)
+    uint8_t none[1];
+
+    if (!disk || are_missing(cdb, cdb_length) || are_missing(data_out, data_out_length)
+        || are_missing(data_in, data_in_length) || !reply)
         return MDL_NULL_POINTER;
-    /* Where there are no bytes any pointer serves, and this one is at hand. */
-    return (mdl_error)mehdalung_execute(disk, initiator, cdb ? cdb : data_in, cdb_length,
-                                        data_out ? data_out : data_in, data_out_length, data_in,
-                                        data_in_length, reply);
+    return (mdl_error)mehdalung_execute(disk, initiator, cdb ? cdb : nothing, cdb_length,
+                                        data_out ? data_out : nothing, data_out_length,
+                                        data_in ? data_in : none, data_in_length, reply);
 }
 
 mdl_error mdl_power_cycle(mdl_disk *disk)

@@ -17,8 +17,8 @@
  * Pointers. A pointer is null, or is aligned as its type and points to as many bytes as the
  * function says. Until the function returns nobody else writes these bytes, and nobody else reads
  * those that the function may write. What it may write overlaps nothing else that it is passed. A
- * null pointer to 0 bytes serves, but for a buffer that has a least length. Any other null pointer
- * is refused, by MDL_NULL_POINTER or MDL_NO_TEXT, unless its function says that it serves.
+ * null pointer to 0 bytes serves, but for a tool's data-out, which has a least length. Any other null
+ * pointer is refused, by MDL_NULL_POINTER or MDL_NO_TEXT, unless its function says that it serves.
  *
  * Threads. A disk is used by one thread at a time, which need not be the one that made it: a lock,
  * or the start or the end of a thread, orders its calls after those of the thread before. Many
@@ -43,7 +43,8 @@ extern "C" {
 #define MDL_SENSE_LENGTH 20u
 #define MDL_CDB_LENGTH 16u
 
-/* The least length of the buffer for data-in: the 256 blocks that a READ returns at most. */
+/* A length of the buffer for data-in that serves every command: the 256 blocks that a READ returns at
+ * most. */
 #define MDL_BUFFER_LENGTH 131072u
 
 /* The least length of the buffer for a tool's data-out: the list of 64 extents that an UNMAP has at
@@ -61,8 +62,8 @@ typedef enum mdl_error {
     MDL_IDENTITY_LOCAL = 6,   /* the local identifier has more than 60 bits */
     MDL_OUT_OF_MEMORY = 7,    /* memory was refused */
     MDL_NO_INITIATOR = 8,     /* the initiator is not 0 to 7 */
-    MDL_BUFFER_TOO_SHORT = 9, /* the buffer has less than MDL_BUFFER_LENGTH bytes for data-in, or
-                                 MDL_DATA_OUT_LENGTH for a tool's data-out */
+    MDL_BUFFER_TOO_SHORT = 9, /* the buffer is too short for the data-in that the command asks for, or
+                                 has less than MDL_DATA_OUT_LENGTH bytes for a tool's data-out */
     MDL_NULL_POINTER = 10,    /* a pointer is null that must not be */
     MDL_UNREADABLE = 11,      /* sense data can't be read */
     MDL_BAD_BYTE = 12,        /* a byte of the words is neither printable ASCII nor a tab */
@@ -140,11 +141,17 @@ void mdl_free(mdl_disk *disk);
 /* Executes a command for an initiator, 0 to 7.
  *     cdb       cdb_length bytes, read during the call; any bytes may be sent. Null if there are 0
  *     data_out  data_out_length bytes, read during the call. Null if there are 0
- *     data_in   data_in_length bytes, MDL_BUFFER_LENGTH at least. Data-in is written to the first
- *               reply->data_in_length of them, and those behind it are as they were
+ *     data_in   data_in_length bytes. Data-in is written to the first reply->data_in_length of them,
+ *               and those behind it are as they were. Null if there are 0
  *     reply     is written
- * MDL_NULL_POINTER, MDL_NO_INITIATOR, MDL_BUFFER_TOO_SHORT or MDL_NO_DISK: the first that applies.
- * Nothing is executed then, and disk, buffer and reply are as they were. */
+ * MDL_NULL_POINTER, MDL_NO_INITIATOR, MDL_NO_DISK or MDL_BUFFER_TOO_SHORT: the first that applies.
+ * Nothing is executed then, and disk, buffer and reply are as they were.
+ * The buffer is long enough with MDL_BUFFER_LENGTH bytes, or with as many as the command asks for,
+ * where no check refuses the command before it is executed:
+ *     READ               the bytes of its blocks
+ *     READ CAPACITY(10)  8
+ *     READ CAPACITY(16)  the allocation length, and no more than 32
+ *     other commands     the allocation length, and no more than MDL_BUFFER_LENGTH; 0 without one */
 mdl_error mdl_execute(mdl_disk *disk, uint32_t initiator, const uint8_t *cdb, size_t cdb_length,
                       const uint8_t *data_out, size_t data_out_length, uint8_t *data_in,
                       size_t data_in_length, mdl_reply *reply);

@@ -261,6 +261,7 @@ static void make_disks(void)
 
 static void refuse_commands(void)
 {
+    static const uint8_t inquiry[6] = { 0x12, 0, 0, 0, 36 };
     const size_t room = sizeof data_in;
     void *target = disk.target;
 
@@ -275,8 +276,11 @@ static void refuse_commands(void)
     WANT(mdl_execute(&disk, 0, ready, 6, NULL, 0, data_in, room, NULL) == MDL_NULL_POINTER);
     WANT(is_refused_command(&disk, 8, room, MDL_NO_INITIATOR));
     WANT(is_refused_command(&disk, 256, room, MDL_NO_INITIATOR));
-    WANT(is_refused_command(&disk, 0, room - 1, MDL_BUFFER_TOO_SHORT));
     WANT(is_refused_command(&no_disk, 0, room, MDL_NO_DISK));
+    WANT(mdl_execute(&no_disk, 0, inquiry, 6, NULL, 0, data_in, 35, &reply) == MDL_NO_DISK);
+    WANT(mdl_execute(&disk, 8, inquiry, 6, NULL, 0, data_in, 35, &reply) == MDL_NO_INITIATOR);
+    WANT(mdl_execute(&disk, 0, inquiry, 6, NULL, 0, data_in, 35, &reply) == MDL_BUFFER_TOO_SHORT);
+    WANT(mdl_execute(&disk, 0, inquiry, 6, NULL, 0, NULL, 0, &reply) == MDL_BUFFER_TOO_SHORT);
     WANT(mdl_power_cycle(NULL) == MDL_NULL_POINTER && mdl_power_cycle(&no_disk) == MDL_NO_DISK);
     WANT(is_untouched() && disk.target == target);
 }

@@ -127,7 +127,7 @@ static void forget(void)
 {
     static const uint8_t clear[10] = { 0x5F, 3, [8] = 24 };
     static const uint8_t select[6] = { 0x15, 0x10, 0, 0, 16 };
-    static const uint8_t key[24] = { [7] = 0x77 }, page[16] = { [4] = 0x0A, 0x0A, 4 };
+    static const uint8_t key[24] = { [7] = 0x77 }, page[16] = { [4] = 0x0A, 0x0A, 0, 0, 8 };
 
     WANT(status_of(7, select, sizeof select, page, sizeof page) == MDL_GOOD);
     WANT(mdl_forget(&disk, 5) == MDL_OK && is_ready(5));

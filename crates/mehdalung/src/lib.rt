@@ -145,8 +145,8 @@ pub extern "C" fn mehdalung_execute(
     data_in: &mut [u8],
     reply: &mut ReplyRecord,
 ) -> u32
-    ensures outcome { result
-        ≡ outcome_code (execute_outcome disk.old.held initiator (length data_in.old)) }
+    ensures outcome { result ≡ outcome_code
+        (execute_outcome disk.old.held initiator cdb.now data_out.now (length data_in.old)) }
     ensures executed { result ≡ 0 → IsAnswered initiator cdb.now data_out.now
         disk.old.held disk.new.held data_in.old data_in.new reply.new }
 

@@ -4,8 +4,8 @@ use Rattle.std.specs.Prelude.{if◌then◌else◌, not, nat_le, nat_lt}
 use Rattle.sg_pages.specs.declared.identity.IdentityFault.{IdentityFault}
 use Rattle.sg_pages.specs.declared.identity.IdentityFault.TheVariants.{Text, Local}
 use Rattle.sg_wire.specs.Initiator.{initiator_count}
-use Rattle.sg_target.specs.BlockCommands.{longest_data_in}
 use Rattle.sg_target.specs.Config.{ConfigFields, checked_config}
+use Rattle.sg_target.specs.DataInBound.{needed_buffer}
 use Rattle.sg_target.specs.declared.config.ConfigFault.{ConfigFault}
 use Rattle.sg_target.specs.declared.config.ConfigFault.TheVariants.{Blocks, Pool}
 use Rattle.sg_tools.specs.ParameterLists.{max_data_out}
@@ -90,12 +90,24 @@ abbrev disk_outcome : Option Kept → Outcome
 disk_outcome (Some disk) = Done
 disk_outcome None = NoDisk
 
--- The outcome of a command for an initiator, with a buffer for data-in of some length. Each is
+-- A buffer for data-in has the length that a command needs on a disk, if there is a disk.
+abbrev pub room_outcome : Option Kept → (initiator : ℕ) → (cdb data_out : List ℕ) → (room : ℕ) → Outcome
+room_outcome None initiator cdb data_out room = NoDisk
+room_outcome (Some disk) initiator cdb data_out room =
+    if nat_le (needed_buffer disk.target.state initiator cdb data_out) room then Done
+    else BufferTooShort
+
+-- The outcome of a command of an initiator, with a buffer for data-in of some length. Each is
 -- checked before anything is executed.
-abbrev pub execute_outcome : Option Kept → (initiator room : ℕ) → Outcome
-execute_outcome held initiator room =
-    if not (nat_lt initiator initiator_count) then UnknownInitiator else
-    (if not (nat_le longest_data_in room) then BufferTooShort else disk_outcome held)
+abbrev pub execute_outcome : Option Kept → (initiator : ℕ) → (cdb data_out : List ℕ) → (room : ℕ) → Outcome
+execute_outcome held initiator cdb data_out room =
+    if not (nat_lt initiator initiator_count) then UnknownInitiator
+    else room_outcome held initiator cdb data_out room
+
+-- The outcome of forgetting an initiator's port. The initiator is checked first.
+abbrev pub forget_outcome : Option Kept → (initiator : ℕ) → Outcome
+forget_outcome held initiator =
+    if not (nat_lt initiator initiator_count) then UnknownInitiator else disk_outcome held
 
 -- The outcome of forgetting an initiator's port. The initiator is checked first.
 abbrev pub forget_outcome : Option Kept → (initiator : ℕ) → Outcome

@@ -10,7 +10,7 @@ use crate::outcome::Outcome;
 use crate::parts::Parts;
 use crate::record::ReplyRecord;
 use sg_pages::Identity;
-use sg_target::{BUFFER_LENGTH, Config};
+use sg_target::Config;
 use sg_wire::Initiator;
 use std::alloc::Global;
 use std::marker::Model;
@@ -140,12 +140,12 @@ impl Slot {
         }
     }
 
-    /// Executes a command, and shows its reply. The buffer has [`BUFFER_LENGTH`] bytes at least;
-    /// data-in is the first bytes of it, and those after it stay as they were.
+    /// Executes a command, and shows its reply. Data-in is the first bytes of the buffer, and those
+    /// after it stay as they were.
     ///
-    /// The outcome is the first that applies of an initiator that is not 0 to 7, a buffer that is
-    /// too short and no disk. With these outcomes nothing is executed, and disk, buffer and reply
-    /// are as they were.
+    /// The outcome is the first that applies of an initiator that is not 0 to 7, no disk, and a
+    /// buffer that is shorter than the data-in that the command asks for. With these outcomes
+    /// nothing is executed, and disk, buffer and reply are as they were.
     pub fn execute(
         &mut self,
         initiator: u32,
@@ -154,7 +154,8 @@ impl Slot {
         data_in: &mut [u8],
         reply: &mut ReplyRecord,
     ) -> Outcome
-        ensures outcome { result ≡ execute_outcome self.old.held initiator (length data_in.old) }
+        ensures outcome { result ≡ execute_outcome self.old.held initiator cdb.now data_out.now
+            (length data_in.old) }
         ensures executed { result ≡ Outcome.Done → IsAnswered initiator cdb.now data_out.now
             self.old.held self.new.held data_in.old data_in.new reply.new }
 
@@ -166,13 +167,15 @@ impl Slot {
         let Some(initiator) = known_initiator(initiator) else {
             return Outcome::UnknownInitiator;
         };
-        if data_in.len() < BUFFER_LENGTH {
-            return Outcome::BufferTooShort;
-        }
         let Some(kept) = self.kept() else {
             return Outcome::NoDisk;
         };
-        let done = kept.target.execute(initiator, cdb, data_out, data_in);
+        let Some(done) = kept
+            .target
+            .execute_within(initiator, cdb, data_out, data_in)
+        else {
+            return Outcome::BufferTooShort;
+        };
         reply.show(done);
         Outcome::Done
     }

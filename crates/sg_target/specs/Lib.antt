@@ -16,6 +16,7 @@ pub mod Step
 pub mod Reply
 pub mod Ranges
 pub mod Target
+pub mod DataInBound
 pub mod Execution
 pub mod Charge
 pub mod PowerCycle

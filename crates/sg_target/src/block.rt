@@ -1,7 +1,7 @@
 // READ, WRITE and READ CAPACITY (SBC-3, 5). SYNCHRONIZE CACHE has its blocks checked and nothing to
 // do, because there is no cache.
 ghost use Rattle.std.specs.Prelude.{◌≡◌, ◌≤◌, ◌+◌, ◌∷◌, [], length, Some, None, Ok, OnOk, OnErr};
-ghost use Rattle.std.specs.Prelude.{IfOk, IfErr};
+ghost use Rattle.std.specs.Prelude.{IfOk, IfErr, min};
 ghost use Rattle.sg_pages.specs.CapacityData.{capacity_10, capacity_16};
 ghost use Rattle.sg_wire.specs.Profile.{maximum_transfer_length};
 ghost use Rattle.sg_wire.specs.CutAnswer.{first_bytes};
@@ -20,7 +20,7 @@ use crate::extent::byte_length;
 use crate::operation::Operation;
 use crate::refusal::{Reason, Refusal};
 use crate::reply::Reply;
-use crate::target::{BUFFER_LENGTH, Target};
+use crate::target::Target;
 use sg_pages::{CAPACITY_10_LENGTH, CAPACITY_16_LENGTH};
 use sg_store::{Space, Store};
 use sg_wire::{Extent, Initiator};
@@ -88,7 +88,7 @@ impl<S: Store> Target<S> {
     /// Returns the bytes of blocks.
     pub(crate) fn read(&mut self, blocks: &BlocksIn, buf: &mut [u8]) -> Reply
         requires on_disk { blocks.now.lba + blocks.now.count ≤ self.old.state.disk.capacity }
-        requires room { BUFFER_LENGTH ≤ length buf.old }
+        requires room { bytes_of blocks.now ≤ length buf.old }
         ensures { TakesStep (cost_bounds S.price S.least)
             (executed (reading self.old.state blocks.now))
             (range self.old.state.disk.contents blocks.now ∷ [])
@@ -206,7 +206,7 @@ impl<S: Store> Target<S> {
     /// Returns READ CAPACITY(10) parameter data.
     #[tactic(auto, using(crate::proofs::CapacityLemmas::capacity_lengths))]
     pub(crate) fn return_capacity_10(&self, buf: &mut [u8]) -> Reply
-        requires { BUFFER_LENGTH ≤ length buf.old }
+        requires { CAPACITY_10_LENGTH ≤ length buf.old }
         ensures { ReturnsData (capacity_10 self.now.state.disk.capacity) result buf.old buf.new }
     {
         self.return_data(DataIn::Capacity10, CAPACITY_10_LENGTH, buf)
@@ -215,7 +215,7 @@ impl<S: Store> Target<S> {
     /// Returns READ CAPACITY(16) parameter data.
     #[tactic(auto, using(crate::proofs::CapacityLemmas::capacity_lengths))]
     pub(crate) fn return_capacity_16(&self, allocation_length: u32, buf: &mut [u8]) -> Reply
-        requires { BUFFER_LENGTH ≤ length buf.old }
+        requires { min CAPACITY_16_LENGTH allocation_length ≤ length buf.old }
         ensures { let full = capacity_16 self.now.state.disk.capacity in
             ReturnsData (first_bytes allocation_length full) result buf.old buf.new }
     {

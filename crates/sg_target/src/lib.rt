@@ -22,6 +22,7 @@ mod provisioning;
 mod refusal;
 mod reply;
 mod reservation;
+mod room;
 mod run;
 mod target;
 

@@ -12,7 +12,7 @@ use crate::data_out::needed_data_out;
 use crate::operation::Operation;
 use crate::refusal::{Reason, Refusal};
 use crate::reply::Reply;
-use crate::target::{BUFFER_LENGTH, Target};
+use crate::target::Target;
 use sg_pages::{Changed, ModeSelectFault, ModeSenseFault, ModeSenseRequest};
 use sg_store::{Counts, Store};
 use sg_units::{Raised, UnitAttention};
@@ -100,7 +100,7 @@ impl<S: Store> Target<S> {
         buf: &mut [u8],
     ) -> Reply
         requires limits { IsWithinLimits self.old.state }
-        requires room { BUFFER_LENGTH ≤ length buf.old }
+        requires room { allocation_length ≤ length buf.old }
         ensures { let operation = Operation.ReturnModes requested.now allocation_length in
             TakesStep (cost_bounds S.price S.least) (step_by self.old.state initiator operation)
             [] self.old self.new result buf.old buf.new }

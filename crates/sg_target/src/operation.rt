@@ -3,6 +3,7 @@ ghost use Rattle.std.specs.Prelude.{◌≡◌, ◌≤◌, ◌∷◌, [], length,
 ghost use Rattle.sg_target.specs.Checks.{out_of_range, requested};
 ghost use Rattle.sg_target.specs.Demands.{demands};
 ghost use Rattle.sg_target.specs.Charge.{TakesStep, cost_bounds};
+ghost use Rattle.sg_target.specs.DataInBound.{data_in_bound};
 ghost use Rattle.sg_target.specs.Extents.{AreOnDisk};
 ghost use Rattle.sg_target.specs.Ranges.{ranges_of};
 ghost use Rattle.sg_target.specs.Semantics.{medium_use};
@@ -27,7 +28,7 @@ use crate::provisioning::{
 use crate::refusal::Refusal;
 use crate::reply::Reply;
 use crate::reservation::{check_reserve_in, check_reserve_out};
-use crate::target::{BUFFER_LENGTH, Target};
+use crate::target::Target;
 use sg_store::{MAX_CAPACITY, Store};
 use sg_units::OutList;
 use sg_wire::{CdbWidth, Command, Extent, Format, InAction, Initiator, ListedExtents, OutAction};
@@ -217,7 +218,7 @@ impl<S: Store> Target<S> {
     ) -> Reply
         requires on_disk { AreOnDisk self.old.state.disk.capacity (medium_use operation).extents }
         requires limits { IsWithinLimits self.old.state }
-        requires room { BUFFER_LENGTH ≤ length buf.old }
+        requires room { data_in_bound operation ≤ length buf.old }
         ensures { TakesStep (cost_bounds S.price S.least)
             (step_by self.old.state initiator operation.entry)
             (ranges_of self.old.state operation.entry)

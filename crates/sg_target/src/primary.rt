@@ -13,7 +13,7 @@ use crate::data_in::DataIn;
 use crate::operation::Operation;
 use crate::refusal::{Reason, Refusal};
 use crate::reply::{Reply, format_of};
-use crate::target::{BUFFER_LENGTH, Target};
+use crate::target::Target;
 use sg_pages::{Identity, VpdPage, write_standard_inquiry, write_vpd_page};
 use sg_store::Store;
 use sg_wire::{Cut, Format, Initiator, Inquiry, RequestSense};
@@ -38,7 +38,7 @@ impl<S: Store> Target<S> {
         allocation_length: u8,
         buf: &mut [u8],
     ) -> Reply
-        requires { BUFFER_LENGTH ≤ length buf.old }
+        requires { allocation_length ≤ length buf.old }
         ensures reply { let done = returning_sense self.old.state initiator format allocation_length in
             ReturnsData (first_bytes allocation_length done.data_in) result buf.old buf.new }
         ensures state { self.new.state ≡ without_attention self.old.state initiator }

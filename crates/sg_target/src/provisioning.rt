@@ -1,6 +1,6 @@
 // UNMAP, WRITE SAME and GET LBA STATUS: logical block provisioning (SBC-3, 4.7 and 5).
 ghost use Rattle.std.specs.Prelude.{◌≡◌, ◌+◌, ◌≤◌, [], ◌∷◌, length};
-ghost use Rattle.std.specs.Prelude.{Some, None, Ok, IfOk, IfErr, IfNone};
+ghost use Rattle.std.specs.Prelude.{Some, None, Ok, IfOk, IfErr, IfNone, min};
 ghost use Rattle.sg_wire.specs.UnmapList.{maximum_unmap_descriptors};
 ghost use Rattle.sg_store.specs.Disk.{unmapped};
 ghost use Rattle.sg_store.specs.Meter.{no_counts};
@@ -325,7 +325,7 @@ impl<S: Store> Target<S> {
         buf: &mut [u8],
     ) -> Reply
         requires on_disk { start + 1 ≤ self.old.state.disk.capacity }
-        requires room { BUFFER_LENGTH ≤ length buf.old }
+        requires room { min BUFFER_LENGTH allocation_length ≤ length buf.old }
         ensures { TakesStep (cost_bounds S.price S.least)
             (executed (reporting_status self.old.state start allocation_length))
             (status_ranges self.old.state.disk start)

@@ -16,7 +16,7 @@ use crate::data_out::needed_data_out;
 use crate::operation::Operation;
 use crate::refusal::{Reason, Refusal};
 use crate::reply::Reply;
-use crate::target::{BUFFER_LENGTH, Target};
+use crate::target::Target;
 use sg_store::{Counts, Store};
 use sg_units::{OutFault, OutList, ReservationType, Reservations};
 use sg_wire::{Cut, InAction, Initiator, OutAction, PersistentReserveIn, PersistentReserveOut};
@@ -57,7 +57,7 @@ impl<S: Store> Target<S> {
         allocation_length: u16,
         buf: &mut [u8],
     ) -> Reply
-        requires { BUFFER_LENGTH ≤ length buf.old }
+        requires { allocation_length ≤ length buf.old }
         ensures { let full = reserve_in_data self.now.state.reservations action in
             ReturnsData (first_bytes allocation_length full) result buf.old buf.new }
     {

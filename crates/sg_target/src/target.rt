@@ -1,9 +1,10 @@
 // The parts of a target, and its calls: a new one, a command, a happening.
+use crate::call::Call;
 use crate::config::Config;
 use crate::happening::Happening;
-use crate::laws::limits_are_kept;
 use crate::refusal::{Reason, Refusal};
 use crate::reply::{Reply, format_of};
+use crate::room::data_in_bound;
 use sg_pages::ModePages;
 use sg_store::{BLOCK_LENGTH, Counts, Store};
 use sg_units::{Attentions, Reservations};
@@ -90,7 +91,6 @@ impl<S: Store> Target<S> {
 
     /// Executes a command. The buffer has [`BUFFER_LENGTH`] bytes at least; data-in is the first
     /// [`Reply::data_in`] of them, and those after it stay as they were.
-    #[tactic(auto, using(crate::proofs::StepLemmas::decided))]
     pub fn execute(
         &mut self,
         initiator: Initiator,
@@ -108,11 +108,15 @@ impl<S: Store> Target<S> {
         ensures charged { ChargesCommand (cost_bounds S.price S.least) initiator cdb.now data_out.now
             self.old self.new result }
     {
-        limits_are_kept();
-        match self.check_command(initiator, cdb, data_out) {
-            Ok(operation) => self.execute_checked(initiator, operation, buf),
-            Err(refusal) => self.refuse(initiator, refusal, Counts::default()),
-        }
+        let checked = self.check_command(initiator, cdb, data_out);
+        // Its contract says that the buffer is long enough.
+        let _ = data_in_bound(&checked);
+        let call = Call {
+            initiator,
+            cdb,
+            data_out,
+        };
+        self.conclude(call, checked, buf)
     }
 
     /// Lets something happen to the disk, between two commands.

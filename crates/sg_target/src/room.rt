@@ -1,0 +1,149 @@
+// The length that the buffer for data-in needs, and commands with a buffer of any length.
+ghost use Rattle.std.specs.Prelude.{◌≡◌, ◌≤◌, length, IfNone, IfOk, IfSome, is_some, nat_le};
+ghost use Rattle.sg_target.specs.BlockCommands.{longest_data_in};
+ghost use Rattle.sg_target.specs.Charge.{ChargesCommand, cost_bounds};
+ghost use Rattle.sg_target.specs.Checks.{checked_cdb};
+ghost use Rattle.sg_target.specs.DataInBound.{checked_bound, data_in_bound, needed_buffer};
+ghost use Rattle.sg_target.specs.Execution.{IsExecuted};
+ghost use Rattle.sg_target.specs.Extents.{AreOnDisk};
+ghost use Rattle.sg_target.specs.Semantics.{medium_use};
+ghost use Rattle.sg_target.specs.State.{IsWithinLimits};
+
+use crate::call::Call;
+use crate::extent::byte_length;
+use crate::laws::limits_are_kept;
+use crate::operation::Operation;
+use crate::refusal::Refusal;
+use crate::reply::Reply;
+use crate::target::{BUFFER_LENGTH, Target};
+use sg_pages::{CAPACITY_10_LENGTH, CAPACITY_16_LENGTH};
+use sg_store::{Counts, Store};
+use sg_wire::Initiator;
+
+impl<'a> Operation<'a> {
+    /// The most bytes of data-in that it returns.
+    pub(crate) fn data_in_bound(&self) -> usize
+        ensures value { result ≡ data_in_bound self.now }
+        ensures at_most { result ≤ longest_data_in }
+    {
+        match self {
+            Operation::ReturnSense {
+                allocation_length,
+                ..
+            } => usize::from(*allocation_length),
+            Operation::ReturnInquiry {
+                allocation_length,
+                ..
+            }
+            | Operation::ReturnModes {
+                allocation_length,
+                ..
+            }
+            | Operation::ReturnReservations {
+                allocation_length,
+                ..
+            } => { usize::from(*allocation_length) }
+            Operation::ReturnCapacity10 => CAPACITY_10_LENGTH,
+            Operation::ReturnCapacity16(allocation_length) => {
+                CAPACITY_16_LENGTH.min(*allocation_length as usize)
+            }
+            Operation::Read(blocks) => byte_length(blocks.extent) as usize,
+            Operation::ReturnLbaStatus {
+                allocation_length,
+                ..
+            } => { BUFFER_LENGTH.min(*allocation_length as usize) }
+            Operation::Nothing
+            | Operation::ChangeModes { .. }
+            | Operation::Write(_)
+            | Operation::Synchronize(_)
+            | Operation::Fill { .. }
+            | Operation::Unmap(_)
+            | Operation::UnmapExtent(_)
+            | Operation::Anchor(_)
+            | Operation::AnchorExtent(_)
+            | Operation::ChangeReservations { .. } => 0,
+        }
+    }
+}
+
+/// The most bytes of data-in of a command that the checks have passed, or refused.
+pub(crate) fn data_in_bound(checked: &Result<Operation<'_>, Refusal>) -> usize
+    ensures value { result ≡ checked_bound checked.now }
+    ensures at_most { result ≤ longest_data_in }
+{
+    match checked {
+        Ok(operation) => operation.data_in_bound(),
+        Err(_) => 0,
+    }
+}
+
+impl<S: Store> Target<S> {
+    /// Executes a command as [`Target::execute`] does, with a buffer of any length. None if the
+    /// buffer is shorter than the data-in that the command asks for. Nothing has changed then.
+    ///
+    /// A buffer of [`BUFFER_LENGTH`] bytes is long enough for every command, and an empty one for a
+    /// command that is refused or has no data-in.
+    pub fn execute_within(
+        &mut self,
+        initiator: Initiator,
+        cdb: &[u8],
+        data_out: &[u8],
+        buf: &mut [u8],
+    ) -> Option<Reply>
+        // Whether the buffer is long enough.
+        ensures room { is_some result
+            ≡ nat_le (needed_buffer self.old.state initiator cdb.now data_out.now) (length buf.old) }
+        ensures at_most { needed_buffer self.old.state initiator cdb.now data_out.now
+            ≤ longest_data_in }
+
+        // If it is, the answer, the state after it and the costs are as in the definition's step.
+        ensures executed { IfSome result (λ reply. IsExecuted initiator cdb.now data_out.now
+            self.old.state self.new.state reply buf.old buf.new) }
+        ensures charged { IfSome result (λ reply. ChargesCommand (cost_bounds S.price S.least)
+            initiator cdb.now data_out.now self.old self.new reply) }
+
+        // If it is not, nothing changes.
+        ensures kept { IfNone result (self.new ≡ self.old) }
+        ensures untouched { IfNone result (buf.new ≡ buf.old) }
+    {
+        let checked = self.check_command(initiator, cdb, data_out);
+        if buf.len() < data_in_bound(&checked) {
+            return None;
+        }
+        let call = Call {
+            initiator,
+            cdb,
+            data_out,
+        };
+        Some(self.conclude(call, checked, buf))
+    }
+
+    /// Executes a command that the checks have passed, or refuses it.
+    #[inline(always)]
+    #[tactic(auto, using(crate::proofs::StepLemmas::decided))]
+    pub(crate) fn conclude(
+        &mut self,
+        call: Call<'_>,
+        checked: Result<Operation<'_>, Refusal>,
+        buf: &mut [u8],
+    ) -> Reply
+        requires checked { checked
+            ≡ checked_cdb self.old.state call.initiator call.cdb.now call.data_out.now }
+        requires on_disk { IfOk checked (λ operation.
+            AreOnDisk self.old.state.disk.capacity (medium_use operation).extents) }
+        requires limits { IsWithinLimits self.old.state }
+        requires room { checked_bound checked ≤ length buf.old }
+        ensures executed { let sent = call.entry in
+            IsExecuted sent.initiator sent.cdb.now sent.data_out.now
+            self.old.state self.new.state result buf.old buf.new }
+        ensures charged { let sent = call.entry in
+            ChargesCommand (cost_bounds S.price S.least)
+            sent.initiator sent.cdb.now sent.data_out.now self.old self.new result }
+    {
+        limits_are_kept();
+        match checked {
+            Ok(operation) => self.execute_checked(call.initiator, operation, buf),
+            Err(refusal) => self.refuse(call.initiator, refusal, Counts::default()),
+        }
+    }
+}
