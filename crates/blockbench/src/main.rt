@@ -160,7 +160,14 @@ fn run<S: Store>(target: &mut Target<S>, load: Load, data_out: &[u8]) -> Good {
     for index in 0..load.mapped {
         let lba = load.mapped_at(index);
         let cdb = Command::Write16(Extent16 { lba, count: 1 }).write();
-        send(target, initiator, &cdb, data_out, &mut buf, &mut good.mapped);
+        send(
+            target,
+            initiator,
+            &cdb,
+            data_out,
+            &mut buf,
+            &mut good.mapped,
+        );
     }
     for index in 0..load.reads {
         let cdb = Command::Read16(load.read(index)).write();
@@ -168,7 +175,14 @@ fn run<S: Store>(target: &mut Target<S>, load: Load, data_out: &[u8]) -> Good {
     }
     for index in 0..load.writes {
         let cdb = Command::Write16(load.write(index)).write();
-        send(target, initiator, &cdb, data_out, &mut buf, &mut good.written);
+        send(
+            target,
+            initiator,
+            &cdb,
+            data_out,
+            &mut buf,
+            &mut good.written,
+        );
     }
     good
 }

@@ -1,6 +1,6 @@
 -- A line and the state before it have an outcome: a text, an exit status and the state after it.
-use Rattle.std.specs.Prelude.{ℕ, ◌*◌, List, [], ◌∷◌, ◌++◌, replicate, Option, codes, Ok, Err, Bool}
-use Rattle.std.specs.Prelude.{if◌then◌else◌}
+use Rattle.std.specs.Prelude.{ℕ, ◌*◌, List, [], ◌∷◌, ◌++◌, replicate, Option, codes, decimal, Ok, Err}
+use Rattle.std.specs.Prelude.{Bool, if◌then◌else◌}
 use Rattle.sg_wire.specs.CdbEncoding.{cdb_of}
 use Rattle.sg_wire.specs.SenseReading.{read_sense}
 use Rattle.sg_decode.specs.SenseText.{sense_line}
@@ -24,7 +24,6 @@ use Rattle.sg_tools.specs.declared.show.Show.TheVariants.{Hex, Nothing}
 use Rattle.sg_tools.specs.declared.tool.Tool.{Tool}
 use Rattle.sg_run.specs.AnswerText.{answer_text}
 use Rattle.sg_run.specs.LineFault.{fault_message, fault_of_tool, fault_status}
-use Rattle.sg_run.specs.LineText.{line_header}
 use Rattle.sg_run.specs.Request.{LineRequest, happen, nothing, faulty, send, fill, run_tool}
 use Rattle.sg_run.specs.Request.{request_of, show_answer}
 use Rattle.sg_run.specs.declared.request.line_fault.LineFault.{LineFault}
@@ -39,6 +38,10 @@ pub record Outcome : Type 0 where
 -- Nothing is printed, and the state stays.
 abbrev pub silent : State → Outcome
 silent state = record { text = []; status = 0; state = state }
+
+-- The first line of a line's text: its number, and a message about it.
+abbrev pub line_header : (number : ℕ) → (message : List ℕ) → List ℕ
+line_header number message = codes "line " ++ (decimal number ++ (codes ": " ++ (message ++ codes "\n")))
 
 abbrev pub status_name : Status → List ℕ
 status_name Good = codes "GOOD"

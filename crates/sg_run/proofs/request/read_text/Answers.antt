@@ -8,25 +8,25 @@ use Rattle.sg_run.proofs.request.read_text.Goals as goal
 
 pub by_verb-requires-clause-operands : goal.by_verb-requires-clause-operands
 by_verb-requires-clause-operands c =
-    let first = ap (map (λ word. word.now)) c.as_slice.ensures ∙ c.split.ensures.first in
+    let first = ap (map (λ word. word.now)) c.as_slice.ensures ∙ c.of-words.ensures.first in
     operands-within c.args.text.now MOST_WORDS _ _ _ first c.requires.text
 
 pub by_verb-requires-clause-ascii : goal.by_verb-requires-clause-ascii
 by_verb-requires-clause-ascii c =
-    let first = ap (map (λ word. word.now)) c.as_slice.ensures ∙ c.split.ensures.first in
-    let allowed = sym c.split.ensures.are_allowed ∙ c.if-not-words.false in
+    let first = ap (map (λ word. word.now)) c.as_slice.ensures ∙ c.of-words.ensures.first in
+    let allowed = sym c.of-words.ensures.are_allowed ∙ c.if-not-words.false in
     kept-has IsAscii c.args.text.now MOST_WORDS _ _ first (words-ascii c.args.text.now allowed)
 
-pub read_tool_line-requires-clause-ascii : goal.read_tool_line-requires-clause-ascii
-read_tool_line-requires-clause-ascii c =
-    let first = ap (map (λ word. word.now)) c.as_slice.ensures ∙ c.split.ensures.first in
-    let allowed = sym c.split.ensures.are_allowed ∙ c.if-not-words.false in
+pub of_operands-requires-clause-ascii : goal.of_operands-requires-clause-ascii
+of_operands-requires-clause-ascii c =
+    let first = ap (map (λ word. word.now)) c.as_slice.ensures ∙ c.of-words.ensures.first in
+    let allowed = sym c.of-words.ensures.are_allowed ∙ c.if-not-words.false in
     kept-has IsAscii c.args.text.now MOST_WORDS _ _ first (words-ascii c.args.text.now allowed)
 
 pub returns-in-None : goal.returns-in-None
 returns-in-None c =
-    let first = ap (map (λ word. word.now)) c.as_slice.ensures ∙ c.split.ensures.first in
-    let allowed = sym c.split.ensures.are_allowed ∙ c.if-not-words.false in
+    let first = ap (map (λ word. word.now)) c.as_slice.ensures ∙ c.of-words.ensures.first in
+    let allowed = sym c.of-words.ensures.are_allowed ∙ c.if-not-words.false in
     let kept = first_words c.args.text.now c.as_slice.result.now _ first (grind (arith, nat_tests))
     (grind (arith, nat_tests, none-first)) allowed (omega arith) in
     c.by_verb.ensures

@@ -1,0 +1,92 @@
+// What a verb asks for, by the words after it (docs/SCRIPT.md). `fill` has a file of its own.
+ghost use Rattle.std.specs.Prelude.{◌≡◌, ◌≤◌, All, length, map};
+ghost use Rattle.std.specs.Str.{IsAscii};
+ghost use Rattle.sg_run.specs.Limits.{longest_line};
+ghost use Rattle.sg_run.specs.Request.{by_verb, power_of, raw, show_of};
+ghost use Rattle.sg_run.specs.RequestLines.{line_request};
+
+use super::hex_word::read_hex;
+use super::words::{read_initiator, word_text};
+use super::{FilledBlocks, LineFault, Request};
+use sg_target::{Call, Happening};
+use sg_tools::Show;
+
+/// The request of a verb. The buffer takes the bytes of its hexadecimal words.
+pub(super) fn by_verb<'a>(verb: &[u8], operands: &[&[u8]], buffer: &'a mut [u8]) -> Request<'a>
+    requires operands { All (λ word. length word.now ≤ longest_line) operands.now }
+    requires ascii { All (λ word. IsAscii word.now) operands.now }
+    requires buffer { longest_line ≤ length buffer.old }
+    ensures { line_request result ≡ by_verb verb.now (map (λ word. word.now) operands.now) }
+{
+    if verb == b"raw".as_slice() {
+        read_raw(operands, buffer)
+    } else if verb == b"fill".as_slice() {
+        FilledBlocks::of_operands(operands)
+    } else if verb == b"show".as_slice() {
+        read_show(operands, buffer)
+    } else if verb == b"power".as_slice() {
+        read_power(operands)
+    } else {
+        Request::Faulty(LineFault::UnknownVerb)
+    }
+}
+
+/// `raw I CDB [DATA]`: a command, byte by byte. Data-out may be left out.
+fn read_raw<'a>(operands: &[&[u8]], buffer: &'a mut [u8]) -> Request<'a>
+    requires operands { All (λ word. length word.now ≤ longest_line) operands.now }
+    requires buffer { longest_line ≤ length buffer.old }
+    ensures { line_request result ≡ raw (map (λ word. word.now) operands.now) }
+{
+    let (initiator, cdb, data_out) = match operands {
+        [initiator, cdb] => (*initiator, *cdb, b"-".as_slice()),
+        [initiator, cdb, data_out] => (*initiator, *cdb, *data_out),
+        _ => return Request::Faulty(LineFault::Usage),
+    };
+    let Some(initiator) = read_initiator(initiator) else {
+        return Request::Faulty(LineFault::Initiator);
+    };
+    let Some(cdb) = read_hex(cdb, buffer) else {
+        return Request::Faulty(LineFault::Hex);
+    };
+    let Some(data_out) = read_hex(data_out, &mut buffer[cdb..]) else {
+        return Request::Faulty(LineFault::Hex);
+    };
+    let bytes: &'a [u8] = buffer;
+    Request::Send(Call {
+        initiator,
+        cdb: &bytes[..cdb],
+        data_out: &bytes[cdb..cdb + data_out],
+    })
+}
+
+/// `show KIND HEX`: bytes are shown as an answer, and nothing is sent.
+fn read_show<'a>(operands: &[&[u8]], buffer: &'a mut [u8]) -> Request<'a>
+    requires operands { All (λ word. length word.now ≤ longest_line) operands.now }
+    requires ascii { All (λ word. IsAscii word.now) operands.now }
+    requires buffer { longest_line ≤ length buffer.old }
+    ensures { line_request result ≡ show_of (map (λ word. word.now) operands.now) }
+{
+    let [kind, bytes] = operands else {
+        return Request::Faulty(LineFault::Usage);
+    };
+    let Some(show) = Show::of_word(word_text(kind)) else {
+        return Request::Faulty(LineFault::Kind);
+    };
+    let Some(len) = read_hex(bytes, buffer) else {
+        return Request::Faulty(LineFault::Hex);
+    };
+    let bytes: &'a [u8] = buffer;
+    Request::Show(show, &bytes[..len])
+}
+
+/// `power`: a power cycle. No word may come after the verb, because it is for all initiators at
+/// once.
+fn read_power<'a>(operands: &[&[u8]]) -> Request<'a>
+    ensures { line_request result ≡ power_of (map (λ word. word.now) operands.now) }
+{
+    if operands.is_empty() {
+        Request::Happen(Happening::Power)
+    } else {
+        Request::Faulty(LineFault::Usage)
+    }
+}
