@@ -1,5 +1,19 @@
 //! Laws of the definitions: each is the contract of a function that does nothing.
+ghost use Rattle.sg_run.specs.ScriptRun.{DeliversKnownScripts, RefusesLongScripts};
 ghost use Rattle.sg_run.specs.Walk.{AnswersAreOfAWalk, AnswersHaveTheFirst, WalksInOrder};
+
+/// [`run_script`](crate::run_script) over a reader whose bytes are known, at most 4,294,967,295 of
+/// them: if neither the reader nor the writer fails, the transcript of the script is written, its
+/// status is returned, and its state is the disk's.
+pub fn a_run_delivers_a_known_script()
+    ensures { DeliversKnownScripts }
+{}
+
+/// [`run_script`](crate::run_script) over a reader of more bytes: if the writer does not fail, the
+/// result is [`RunFault::Read`](crate::RunFault::Read).
+pub fn a_run_refuses_a_script_past_the_limit()
+    ensures { RefusesLongScripts }
+{}
 
 /// An answer to GET LBA STATUS has the first of the descriptors from its address on, as many as it
 /// may have.

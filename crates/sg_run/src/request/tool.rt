@@ -1,5 +1,5 @@
-// The words of a tool: in a line, or in a text that is no line. The tool's name is read with the line.
-// Its options are read when the line is executed, because that takes memory.
+// The words of a tool: in a line, or in a text that is no line. The tool's name is read with the
+// line. Its options are read when the line is executed, because that takes memory.
 ghost use Rattle.std.specs.Prelude.{◌≡◌, ◌≤◌, ◌<◌, All, true, length, map, take};
 ghost use Rattle.std.specs.List.{list_all};
 ghost use Rattle.std.specs.Str.{IsAscii};
