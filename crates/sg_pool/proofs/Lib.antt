@@ -11,3 +11,4 @@ pub mod ChainLemmas
 pub mod FreeLemmas
 pub mod JumpLemmas
 pub mod LeapLemmas
+pub mod WayLemmas

@@ -1,6 +1,6 @@
 -- Jumps over the links of chains, and leaps over jumps. Each is derived from the links: it says only
 -- what the links say.
-use Rattle.std.specs.Prelude.{◌≡◌, ℕ, zero, suc, ◌+◌, ◌<◌, ◌≤◌, List, length, slice_index}
+use Rattle.std.specs.Prelude.{◌≡◌, ℕ, zero, suc, ◌+◌, ◌<◌, ◌≤◌, List, [], ◌∷◌, length, slice_index}
 use Rattle.sg_pool.specs.Chains.{slot_after}
 use Rattle.sg_pool.specs.declared.jumps.Jumps.{Jumps}
 use Rattle.sg_pool.specs.declared.leaps.Leaps.{Leaps}
@@ -41,6 +41,12 @@ abbrev pub KeepLeaps : (jump target jump' target' : List ℕ) → Type 0
 KeepLeaps jump target jump' target' = (owner count landing reach : List ℕ)
     → AreLeapsOver jump target owner count landing reach
     → AreLeapsOver jump' target' owner count landing reach
+
+-- From a slot on there are leaps over these numbers of links, one after the other.
+abbrev pub AreLeapsAhead : (next count reach : List ℕ) → (first : ℕ) → List ℕ → Type 0
+AreLeapsAhead next count reach first [] = Unit
+AreLeapsAhead next count reach first (n ∷ ns) = (0 < slice_index count first) × (0 < n)
+    × (slice_index reach first ≡ n) × AreLeapsAhead next count reach (slot_after next first n) ns
 
 abbrev pub AreJumps : (next : List ℕ) → Jumps → Type 0
 AreJumps next jumps = AreJumpsOver next jumps.owner.items jumps.count.items jumps.target.items

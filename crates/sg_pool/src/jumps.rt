@@ -100,6 +100,18 @@ fn whole(left: u32) -> u32
     if left < SEGMENT { 0 } else { SEGMENT }
 }
 
+/// The number of links that the jump of a slot goes over, or 0 if it has no jump or goes over more
+/// than `left` links.
+fn jump_within(jumps: &Jumps, slot: u32, left: u32) -> u32
+    requires slot { slot < length jumps.now.count.items }
+    ensures jump { 0 < result → (result ≡ slice_index jumps.now.count.items slot) × (result ≤ left) }
+    ensures all { slice_index jumps.now.count.items slot ≤ left
+        → result ≡ slice_index jumps.now.count.items slot }
+{
+    let links = u32::from(jumps.count[slot as usize]);
+    if links > left { 0 } else { links }
+}
+
 /// Takes a step along a chain of which `left` links are left. It goes over the jump of the slot, or
 /// over one that it lays, or over one link. It counts each link that it read to lay a jump.
 pub(crate) fn step(next: &[u32], jumps: &mut Jumps, slot: u32, left: u32) -> Walk
@@ -113,9 +125,13 @@ pub(crate) fn step(next: &[u32], jumps: &mut Jumps, slot: u32, left: u32) -> Wal
     ensures steps { result.steps ≤ result.passed }
     ensures leaps { KeepLeaps jumps.old.count.items jumps.old.target.items
         jumps.new.count.items jumps.new.target.items }
+    ensures jump { 0 < slice_index jumps.old.count.items slot
+        → slice_index jumps.old.count.items slot ≤ left
+        → (result.passed ≡ slice_index jumps.old.count.items slot) × (result.steps ≡ 1)
+        × (jumps.new ≡ jumps.old) }
 {
-    let links = u32::from(jumps.count[slot as usize]);
-    if 0 < links && links <= left {
+    let links = jump_within(jumps, slot, left);
+    if links > 0 {
         return Walk {
             slot: u32::from(jumps.target[slot as usize]),
             passed: links,

@@ -1,8 +1,8 @@
 // Leaps: from a slot over jumps to a later slot of its chain. A walk takes leaps, then jumps, then
 // links.
-ghost use Rattle.std.specs.Prelude.{◌≡◌, ℕ, ◌<◌, ◌≤◌, length, slice_index};
+ghost use Rattle.std.specs.Prelude.{◌≡◌, ℕ, ◌+◌, ◌*◌, ◌<◌, ◌≤◌, List, length, slice_index, sum};
 ghost use Rattle.sg_pool.specs.Chains.{chain, slot_after, AreBelow};
-ghost use Rattle.sg_pool.specs.Jumps.{segment, span, AreJumps, AreLeaps, AreLeapsOver};
+ghost use Rattle.sg_pool.specs.Jumps.{segment, span, AreJumps, AreLeaps, AreLeapsAhead, AreLeapsOver};
 
 use crate::jumps::{Jumps, SEGMENT, Walk, step};
 use sg_store::MAX_POOL;
@@ -58,7 +58,6 @@ fn lay_leap(
     ensures live { (j : ℕ) → j < result.steps
         → 0 < slice_index jumps.now.count.items (slot_after jumps.now.target.items first j) }
     ensures within { (result.steps ≤ result.passed) × (result.passed ≤ LEAP) }
-    ensures none { 0 < result.steps → 0 < first }
 {
     if first == 0 {
         return Walk {
@@ -99,12 +98,22 @@ fn lay_leap(
     }
 }
 
-/// The slot that lays a leap if `left` links are left: this slot, or 0, which lays none.
-fn leaper(slot: u16, left: u32) -> u16
-    ensures slot { result ≤ slot }
-    ensures enough { 0 < result → (result ≡ slot) × (LEAP ≤ left) }
+/// The number of links that the leap of a slot goes over, or 0 if it has no leap or goes over more
+/// than `left` links.
+fn leap_within(leaps: &Leaps, slot: u32, left: u32) -> u32
+    requires slot { slot < length leaps.now.count.items }
+    requires reach { length leaps.now.reach.items ≡ length leaps.now.count.items }
+    ensures leap { 0 < result → (0 < slice_index leaps.now.count.items slot)
+        × (result ≡ slice_index leaps.now.reach.items slot) × (result ≤ left) }
+    ensures all { 0 < slice_index leaps.now.count.items slot
+        → slice_index leaps.now.reach.items slot ≤ left
+        → result ≡ slice_index leaps.now.reach.items slot }
 {
-    if left < LEAP { 0 } else { slot }
+    let reach = u32::from(leaps.reach[slot as usize]);
+    if leaps.count[slot as usize] == 0 || reach > left {
+        return 0;
+    }
+    reach
 }
 
 /// Takes a step along a chain of which `left` links are left. It goes over the leap of the slot, or
@@ -120,14 +129,30 @@ fn stride(next: &[u32], jumps: &mut Jumps, leaps: &mut Leaps, slot: u32, left: u
     ensures slot { result.slot ≡ slot_after next.now slot result.passed }
     ensures passed { (0 < result.passed) × (result.passed ≤ left) }
     ensures steps { result.steps ≤ result.passed }
+
+    // A leap, or a jump of which too few links for a leap are left, is one step, and lays nothing.
+    ensures leap { 0 < slice_index leaps.old.count.items slot
+        → 0 < slice_index leaps.old.reach.items slot
+        → slice_index leaps.old.reach.items slot ≤ left
+        → (result.passed ≡ slice_index leaps.old.reach.items slot) × (result.steps ≡ 1)
+        × (jumps.new ≡ jumps.old) × (leaps.new ≡ leaps.old) }
+    ensures jump { left < LEAP
+        → (0 < slice_index leaps.old.count.items slot → left < slice_index leaps.old.reach.items slot)
+        → 0 < slice_index jumps.old.count.items slot
+        → slice_index jumps.old.count.items slot ≤ left
+        → (result.passed ≡ slice_index jumps.old.count.items slot) × (result.steps ≡ 1)
+        × (jumps.new ≡ jumps.old) × (leaps.new ≡ leaps.old) }
 {
-    let reach = u32::from(leaps.reach[slot as usize]);
-    if leaps.count[slot as usize] > 0 && 0 < reach && reach <= left {
+    let reach = leap_within(leaps, slot, left);
+    if reach > 0 {
         return Walk {
             slot: u32::from(leaps.landing[slot as usize]),
             passed: reach,
             steps: 1,
         };
+    }
+    if left < LEAP {
+        return step(next, jumps, slot, left);
     }
     let walk = lay_leap(
         jumps,
@@ -135,7 +160,7 @@ fn stride(next: &[u32], jumps: &mut Jumps, leaps: &mut Leaps, slot: u32, left: u
         &mut leaps.count,
         &mut leaps.landing,
         &mut leaps.reach,
-        leaper(slot as u16, left),
+        slot as u16,
     );
     if walk.steps > 0 {
         return walk;
@@ -159,7 +184,13 @@ pub(crate) fn walk(
     ensures leaps { AreLeaps jumps.new leaps.new }
     ensures slot { result.slot ≡ slot_after next.now first count }
     ensures passed { result.passed ≡ count }
+
+    // A step passes a link at least. If there are leaps all the way, each is one step, and there are
+    // at most 64 jumps and 64 links after the last one that it takes.
     ensures steps { result.steps ≤ count }
+    ensures few { (ahead : List ℕ)
+        → AreLeapsAhead next.now leaps.old.count.items leaps.old.reach.items first ahead
+        → count ≤ sum ahead → result.steps ≤ length ahead + 2 * segment }
 {
     let mut slot = first;
     let mut left = count;

@@ -6,31 +6,28 @@ use Rattle.sg_pool.proofs.LinkLemmas.{below-front, slot-low}
 use Rattle.sg_pool.proofs.JumpLemmas.{take-written}
 use Rattle.sg_pool.proofs.jumps.step.Goals as goal
 
+pub jump_within-links-requires : goal.jump_within-links-requires
+jump_within-links-requires c =
+    let low = slot-low (length c.args.next.now) c.args.next.now c.args.slot c.args.left
+    c.requires.not_empty c.requires.below in
+    omega (arith, low, c.requires.jumps.jumps)
+
 pub index-requires : goal.index-requires
 index-requires c =
     let low = slot-low (length c.args.next.now) c.args.next.now c.args.slot c.args.left
     c.requires.not_empty c.requires.below in
-    omega (arith, low, c.requires.jumps.jumps, c.args.jumps.now.count.ok.0)
-
-pub index-requires-then-links-left : goal.index-requires-then-links-left
-index-requires-then-links-left c =
-    let low = slot-low (length c.args.next.now) c.args.next.now c.args.slot c.args.left
-    c.requires.not_empty c.requires.below in
     omega (arith, low, c.requires.jumps.targets, c.args.jumps.now.target.ok.0)
 
-pub returns-then-links-left-clause-slot : goal.returns-then-links-left-clause-slot
-returns-then-links-left-clause-slot c =
+pub returns-then-links-gt0-clause-slot : goal.returns-then-links-gt0-clause-slot
+returns-then-links-gt0-clause-slot c =
     let next = c.args.next.now in
     let s = c.args.slot in
     let jumps = c.args.jumps.now in
     let low = slot-low (length next) next s c.args.left c.requires.not_empty c.requires.below in
-    let links = c.from-links.ensures
-    ∙ get_or_read_under jumps.count.items s jumps.count.len c.index.result.now 0 c.index.ensures
-    (omega (arith, low, c.requires.jumps.jumps, jumps.count.ok.0)) (omega (arith, jumps.count.ok.0)) in
+    let links = (c.jump_within-links.ensures.jump c.if-links-gt0.true).0 in
     c.from.ensures
-    ∙ get_or_read_under jumps.target.items s jumps.target.len c.index-then-links-left.result.now 0
-    c.index-then-links-left.ensures (omega (arith, low, c.requires.jumps.targets, jumps.target.ok.0))
-    (omega (arith, jumps.target.ok.0))
+    ∙ get_or_read_under jumps.target.items s jumps.target.len c.index.result.now 0 c.index.ensures
+    (omega (arith, low, c.requires.jumps.targets, jumps.target.ok.0)) (omega (arith, jumps.target.ok.0))
     ∙ sym (c.requires.jumps.leads s (omega (arith, links, c.if-links-gt0.true)))
     ∙ ap (slot_after next s) (sym links)
 

@@ -2,7 +2,20 @@ use Rattle.std.proofs.Common.{◌≡◌, ℕ, ◌+◌, ◌-◌, length, sym, ap,
 use Rattle.sg_pool.specs.Chains.{chain, slot_after, AreBelow}
 use Rattle.sg_pool.proofs.LinkLemmas.{slot_after-none, slot_after-add}
 use Rattle.sg_pool.proofs.LinkLemmas.{below-from}
+use Rattle.sg_pool.specs.declared.jumps.Jumps.{Jumps}
+use Rattle.sg_pool.specs.declared.leaps.Leaps.{Leaps}
+use Rattle.sg_pool.proofs.WayLemmas.{IsOnWay, IsSame, way-start, way-step, way-end}
 use Rattle.sg_pool.proofs.leaps.walk.Goals as goal
+
+same-tags : (jumps jumps' : Jumps) (tags tags' : Leaps) → jumps' ≡ jumps → tags' ≡ tags
+    → IsSame jumps.count.items jumps.target.items tags.count.items tags.reach.items jumps'.count.items
+    jumps'.target.items tags'.count.items tags'.reach.items
+same-tags jumps jumps' tags tags' js ts = record {
+  jumps = sym (ap (λ (j : Jumps). j.count.items) js);
+  targets = sym (ap (λ (j : Jumps). j.target.items) js);
+  counts = sym (ap (λ (l : Leaps). l.count.items) ts);
+  reaches = sym (ap (λ (l : Leaps). l.reach.items) ts);
+}
 
 pub loop-left-init : goal.loop-left-init
 loop-left-init c =
@@ -14,6 +27,8 @@ loop-left-init c =
           ∙ slot_after-none c.args.next.now c.args.first);
       steps = omega arith;
       leaps = c.requires.leaps;
+      way = way-start c.args.next.now c.args.jumps.now.count.items c.args.jumps.now.target.items
+          c.args.leaps.now.count.items c.args.leaps.now.reach.items c.args.first c.args.count;
     }
 
 pub stride-taken-requires-clause-below : goal.stride-taken-requires-clause-below
@@ -45,4 +60,40 @@ loop-left-preserved c =
           ∙ ap (slot_after next c.args.first) e;
       steps = omega (arith, inv.steps, c.stride-taken.ensures.passed, c.stride-taken.ensures.steps);
       leaps = c.stride-taken.ensures.leaps;
+      way = λ ahead leaps enough.
+          let jumps = c.loop-left.jumps in
+          let tags = c.loop-left.leaps in
+          let jumps' = c.stride-taken.new.jumps in
+          let tags' = c.stride-taken.new.leaps in
+          let e = c.stride-taken.ensures in
+          subst (λ (s : ℕ). IsOnWay next jumps'.count.items jumps'.target.items tags'.count.items
+          tags'.reach.items s (left - passed) (c.loop-left.steps + c.stride-taken.result.steps)
+          (length ahead)) (sym e.slot)
+          (way-step next jumps.owner.items jumps.count.items jumps.target.items tags.owner.items
+          tags.count.items tags.landing.items tags.reach.items jumps'.count.items jumps'.target.items
+          tags'.count.items tags'.reach.items c.loop-left.slot left c.loop-left.steps (length ahead) passed
+          c.stride-taken.result.steps inv.jumps inv.leaps c.loop-left-test.true e.passed.1 e.steps
+          (λ some far le. let t = e.leap some far le in (
+            t.0,
+            t.1,
+            same-tags jumps jumps' tags tags'
+                t.2 t.3,
+          ))
+          (λ low none some le. let t = e.jump low none some le in (
+            t.0,
+            t.1,
+            same-tags jumps jumps' tags
+                tags' t.2 t.3,
+          ))
+          (inv.way ahead leaps enough));
     }
+
+pub returns-clause-few : goal.returns-clause-few
+returns-clause-few c = λ ahead leaps enough.
+    let none : c.loop-left.left ≡ 0 = omega (arith, c.loop-left-test.false) in
+    way-end c.args.next.now c.loop-left.jumps.count.items c.loop-left.jumps.target.items
+    c.loop-left.leaps.count.items c.loop-left.leaps.reach.items c.loop-left.slot c.loop-left.steps
+    (length ahead)
+    (subst (λ (n : ℕ). IsOnWay c.args.next.now c.loop-left.jumps.count.items c.loop-left.jumps.target.items
+    c.loop-left.leaps.count.items c.loop-left.leaps.reach.items c.loop-left.slot n c.loop-left.steps
+    (length ahead)) none (c.loop-left.invariant.way ahead leaps enough))
