@@ -43,8 +43,8 @@ extern "C" {
 #define MDL_SENSE_LENGTH 20u
 #define MDL_CDB_LENGTH 16u
 
-/* A length of the buffer for data-in that serves every command: the 256 blocks that a READ returns at
- * most. */
+/* A buffer for data-in of this length is long enough for every command: a READ returns at most 256
+ * blocks. */
 #define MDL_BUFFER_LENGTH 131072u
 
 /* The least length of the buffer for a tool's data-out: the list of 64 extents that an UNMAP has at
@@ -62,8 +62,8 @@ typedef enum mdl_error {
     MDL_IDENTITY_LOCAL = 6,   /* the local identifier has more than 60 bits */
     MDL_OUT_OF_MEMORY = 7,    /* memory was refused */
     MDL_NO_INITIATOR = 8,     /* the initiator is not 0 to 7 */
-    MDL_BUFFER_TOO_SHORT = 9, /* the buffer is too short for the data-in that the command asks for, or
-                                 has less than MDL_DATA_OUT_LENGTH bytes for a tool's data-out */
+    MDL_BUFFER_TOO_SHORT = 9, /* the buffer is too short for the data-in that the command asks for,
+                                 or shorter than MDL_DATA_OUT_LENGTH for a tool's data-out */
     MDL_NULL_POINTER = 10,    /* a pointer is null that must not be */
     MDL_UNREADABLE = 11,      /* sense data can't be read */
     MDL_BAD_BYTE = 12,        /* a byte of the words is neither printable ASCII nor a tab */
@@ -120,9 +120,10 @@ typedef struct mdl_reply {
     uint64_t links;                  /* links that were followed to reach a block */
 } mdl_reply;
 
-/* Makes a disk of the base profile, of `blocks` blocks, of which `pool` can be mapped or anchored at once, as it is
- * after power on: no block is mapped, and a unit attention, POWER ON, is pending for each
- * initiator. It takes some 610 bytes of memory for each block of the pool, and some 7,000 more.
+/* Makes a disk of the base profile with `blocks` blocks, as it is after power on. At most `pool` of
+ * the blocks can be mapped or anchored at once. No block is mapped, and a unit attention, POWER
+ * ON, is pending for each initiator. The disk takes some 620 bytes of memory for each block of the
+ * pool, and some 7,000 more.
  *     disk      MDL_NONE, or freed. It is to be freed by mdl_free
  *     identity  read during the call; null for the standard identity
  * MDL_NULL_POINTER, MDL_IDENTITY_TEXT, MDL_IDENTITY_LOCAL, MDL_DISK_EXISTS, MDL_BLOCKS, MDL_POOL or
@@ -130,8 +131,8 @@ typedef struct mdl_reply {
 mdl_error mdl_make(mdl_disk *disk, uint64_t blocks, uint32_t pool, const mdl_identity *identity);
 
 /* Makes a disk as mdl_make does, of a profile: one of mdl_profile.
- * MDL_NULL_POINTER, MDL_UNKNOWN_PROFILE, or what mdl_make returns: the first that applies, and `disk`
- * is as it was. */
+ * MDL_NULL_POINTER, MDL_UNKNOWN_PROFILE, or what mdl_make returns: the first that applies, and
+ * `disk` is as it was. */
 mdl_error mdl_make_with_profile(mdl_disk *disk, uint32_t profile, uint64_t blocks, uint32_t pool,
                                 const mdl_identity *identity);
 
@@ -146,12 +147,12 @@ void mdl_free(mdl_disk *disk);
  *     reply     is written
  * MDL_NULL_POINTER, MDL_NO_INITIATOR, MDL_NO_DISK or MDL_BUFFER_TOO_SHORT: the first that applies.
  * Nothing is executed then, and disk, buffer and reply are as they were.
- * The buffer is long enough with MDL_BUFFER_LENGTH bytes, or with as many as the command asks for,
- * where no check refuses the command before it is executed:
+ * A buffer of MDL_BUFFER_LENGTH bytes is long enough for every command, and an empty one for a
+ * command that a check refuses. Any other command needs as many bytes as it asks for:
  *     READ               the bytes of its blocks
  *     READ CAPACITY(10)  8
  *     READ CAPACITY(16)  the allocation length, and no more than 32
- *     other commands     the allocation length, and no more than MDL_BUFFER_LENGTH; 0 without one */
+ *     other commands     the allocation length, at most MDL_BUFFER_LENGTH; 0 if they have none */
 mdl_error mdl_execute(mdl_disk *disk, uint32_t initiator, const uint8_t *cdb, size_t cdb_length,
                       const uint8_t *data_out, size_t data_out_length, uint8_t *data_in,
                       size_t data_in_length, mdl_reply *reply);

@@ -109,11 +109,6 @@ abbrev pub forget_outcome : Option Kept → (initiator : ℕ) → Outcome
 forget_outcome held initiator =
     if not (nat_lt initiator initiator_count) then UnknownInitiator else disk_outcome held
 
--- The outcome of forgetting an initiator's port. The initiator is checked first.
-abbrev pub forget_outcome : Option Kept → (initiator : ℕ) → Outcome
-forget_outcome held initiator =
-    if not (nat_lt initiator initiator_count) then UnknownInitiator else disk_outcome held
-
 abbrev pub power_cycle_outcome : Option Kept → Outcome
 power_cycle_outcome = disk_outcome
 
