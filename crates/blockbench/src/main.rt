@@ -130,19 +130,16 @@ impl Load {
     }
 }
 
-/// Sends a command, and adds one to the count if it is good.
+/// Sends a command. Returns 1 if it is good, and otherwise 0.
 fn send<S: Store>(
     target: &mut Target<S>,
     initiator: Initiator,
     cdb: &CdbBytes,
     data_out: &[u8],
     buf: &mut [u8; BUFFER_LENGTH],
-    good: &mut u64,
-) {
+) -> u64 {
     let reply = target.execute(initiator, cdb.as_slice(), data_out, buf);
-    if reply.status == Status::Good {
-        *good = good.saturating_add(1);
-    }
+    u64::from(reply.status == Status::Good)
 }
 
 /// Maps blocks, reads and writes.
@@ -160,29 +157,18 @@ fn run<S: Store>(target: &mut Target<S>, load: Load, data_out: &[u8]) -> Good {
     for index in 0..load.mapped {
         let lba = load.mapped_at(index);
         let cdb = Command::Write16(Extent16 { lba, count: 1 }).write();
-        send(
-            target,
-            initiator,
-            &cdb,
-            data_out,
-            &mut buf,
-            &mut good.mapped,
-        );
+        let sent = send(target, initiator, &cdb, data_out, &mut buf);
+        good.mapped = good.mapped.saturating_add(sent);
     }
     for index in 0..load.reads {
         let cdb = Command::Read16(load.read(index)).write();
-        send(target, initiator, &cdb, &[], &mut buf, &mut good.read);
+        let sent = send(target, initiator, &cdb, &[], &mut buf);
+        good.read = good.read.saturating_add(sent);
     }
     for index in 0..load.writes {
         let cdb = Command::Write16(load.write(index)).write();
-        send(
-            target,
-            initiator,
-            &cdb,
-            data_out,
-            &mut buf,
-            &mut good.written,
-        );
+        let sent = send(target, initiator, &cdb, data_out, &mut buf);
+        good.written = good.written.saturating_add(sent);
     }
     good
 }
