@@ -1,28 +1,32 @@
 /* Mehdalung: a thin-provisioned SCSI disk in memory, with persistent reservations.
  *
- * The disk itself is proved: for every disk and every command, status, sense data, data-in and the
- * state afterwards are those of a written definition. What this header says of a function holds
- * where its caller keeps the conditions that are stated beside it; nothing checks that it does.
+ * The disk itself is proved. A written definition gives the status, the sense data, the data-in and
+ * the state afterwards, for every disk and every command. The functions do what this header says if
+ * the caller keeps the conditions beside them. Nothing checks that the caller does.
  *
- * Every size is in bytes, but where a function says blocks. A block has 512 bytes.
+ * Sizes are in bytes, unless a function says blocks. A block has 512 bytes.
  *
- * Memory. mdl_make takes all memory of a disk from malloc, and mdl_free gives it back. mdl_tool and
- * mdl_decode take memory for the time of the call. No other function takes or frees any. malloc,
- * realloc and free come from one allocator; the first two align a block to each power of two up to
- * 16 that divides its size, as those of glibc and musl do. None of these functions is called from a
- * signal handler, or from the forked child of a process with threads.
+ * Memory. mdl_make and mdl_make_with_profile take all memory of a disk from malloc, and mdl_free
+ * gives it back. mdl_tool and mdl_decode take memory for the time of the call. No other function
+ * takes or frees any. You have to see to this:
+ *     - malloc, realloc and free belong to one allocator.
+ *     - malloc and realloc align a block to each power of two up to 16 that divides its size. The
+ *       allocators of glibc and musl do.
+ *     - You call no function of this header from a signal handler, or from the forked child of a
+ *       process with threads.
  *
- * Stack. A call needs at most 64 KB of it; nothing checks that it is there.
+ * Stack. A call needs at most 64 KB of stack. Nothing checks that there is so much.
  *
- * Pointers. A pointer is null, or is aligned as its type and points to as many bytes as the
- * function says. Until the function returns nobody else writes these bytes, and nobody else reads
- * those that the function may write. What it may write overlaps nothing else that it is passed. A
- * null pointer to 0 bytes serves, but for a tool's data-out, which has a least length. Any other null
- * pointer is refused, by MDL_NULL_POINTER or MDL_NO_TEXT, unless its function says that it serves.
+ * Pointers. A pointer is null, or it is aligned for its type and points to as many bytes as the
+ * function says. Until the function returns, nobody writes these bytes, and nobody reads the bytes
+ * that the function may write. Those overlap no other bytes that you pass. A null pointer is
+ * allowed with length 0, except for a tool's data-out, which has a minimum length. The function
+ * refuses any other null pointer, by MDL_NULL_POINTER or MDL_NO_TEXT, unless it says that null is
+ * allowed.
  *
- * Threads. A disk is used by one thread at a time, which need not be the one that made it: a lock,
- * or the start or the end of a thread, orders its calls after those of the thread before. Many
- * disks may be used at once, by a thread each. The library has no state of its own.
+ * Threads. Only one thread at a time may use a disk. A disk may go to another thread if a lock, or
+ * the start or end of a thread, orders their calls. Many threads may use a disk each at once. The
+ * library has no state of its own.
  */
 #ifndef MEHDALUNG_H
 #define MEHDALUNG_H
@@ -43,40 +47,40 @@ extern "C" {
 #define MDL_SENSE_LENGTH 20u
 #define MDL_CDB_LENGTH 16u
 
-/* A buffer for data-in of this length is long enough for every command: a READ returns at most 256
- * blocks. */
+/* A buffer of this length is long enough for the data-in of every command: a READ returns at most
+ * 256 blocks. */
 #define MDL_BUFFER_LENGTH 131072u
 
-/* The least length of the buffer for a tool's data-out: the list of 64 extents that an UNMAP has at
- * most. */
+/* The minimum length of the buffer for a tool's data-out. It has room for the longest list, an
+ * UNMAP of 64 extents. */
 #define MDL_DATA_OUT_LENGTH 1032u
 
-/* How a call ends that returns one of these. Where that is not MDL_OK, it has changed nothing. */
+/* The result of a call. If it is not MDL_OK, the call has changed nothing. */
 typedef enum mdl_error {
     MDL_OK = 0,
-    MDL_NO_DISK = 1,          /* there is no disk: it was not made, or it was freed */
+    MDL_NO_DISK = 1,          /* there is no disk: you made none, or you freed it */
     MDL_DISK_EXISTS = 2,      /* there is a disk already */
     MDL_BLOCKS = 3,           /* the number of blocks is not 1 to 2^40 */
     MDL_POOL = 4,             /* the size of the pool is not 1 to 65,536 blocks */
     MDL_IDENTITY_TEXT = 5,    /* a text of the identity has a byte outside 20h to 7Eh */
     MDL_IDENTITY_LOCAL = 6,   /* the local identifier has more than 60 bits */
-    MDL_OUT_OF_MEMORY = 7,    /* memory was refused */
+    MDL_OUT_OF_MEMORY = 7,    /* memory ran out */
     MDL_NO_INITIATOR = 8,     /* the initiator is not 0 to 7 */
     MDL_BUFFER_TOO_SHORT = 9, /* the buffer is too short for the data-in that the command asks for,
                                  or shorter than MDL_DATA_OUT_LENGTH for a tool's data-out */
     MDL_NULL_POINTER = 10,    /* a pointer is null that must not be */
     MDL_UNREADABLE = 11,      /* sense data can't be read */
-    MDL_BAD_BYTE = 12,        /* a byte of the words is neither printable ASCII nor a tab */
+    MDL_BAD_BYTE = 12,        /* a byte of the words is not printable ASCII and no tab */
     MDL_TOO_MANY_WORDS = 13,  /* there are more than 64 words */
     MDL_UNKNOWN_TOOL = 14,    /* there is no word, or the first is not the name of a tool */
-    MDL_USAGE = 15,           /* the words are not those of the tool */
+    MDL_USAGE = 15,           /* the tool does not accept these words */
     MDL_EXCLUSIVE = 16,       /* two options exclude one another */
-    MDL_NUMBER = 17,          /* an option's text has no value, or one that is out of range */
-    MDL_UNKNOWN_PROFILE = 18  /* the profile is none of mdl_profile */
+    MDL_NUMBER = 17,          /* an option's text is no value, or its value is out of range */
+    MDL_UNKNOWN_PROFILE = 18  /* the number is none of mdl_profile */
 } mdl_error;
 
-/* A disk, or none. It begins as MDL_NONE. The caller owns this variable, and neither reads nor
- * writes what is inside. It may be moved: copied once, and the old one never used again. */
+/* A disk, or none. It begins as MDL_NONE. You own this variable. You do not read or write the field
+ * inside. You may move a disk: copy it once, and never use the old variable again. */
 typedef struct mdl_disk {
     void *target;
 } mdl_disk;
@@ -84,7 +88,8 @@ typedef struct mdl_disk {
 /* An initializer; all bytes 0 is the same. */
 #define MDL_NONE { 0 }
 
-/* Texts padded with spaces, without a zero, and the 60 bits of a locally assigned identifier. */
+/* The names of a disk. Its texts are padded with spaces and have no zero at the end. The locally
+ * assigned identifier has 60 bits. */
 typedef struct mdl_identity {
     uint8_t vendor[8];
     uint8_t product[16];
@@ -101,8 +106,8 @@ typedef struct mdl_identity {
 
 /* The commands that a disk has. docs/PROFILE.md of the source lists them. */
 typedef enum mdl_profile {
-    MDL_PROFILE_BASE = 0,    /* those that every disk has */
-    MDL_PROFILE_EXTENDED = 1 /* those and more; in this version there is none more */
+    MDL_PROFILE_BASE = 0,    /* the commands that every disk has */
+    MDL_PROFILE_EXTENDED = 1 /* the same: this version adds none yet */
 } mdl_profile;
 
 #define MDL_GOOD 0x00
@@ -112,96 +117,100 @@ typedef enum mdl_profile {
 /* The reply to a command. */
 typedef struct mdl_reply {
     uint8_t status;                  /* MDL_GOOD, MDL_CHECK_CONDITION, MDL_RESERVATION_CONFLICT */
-    uint8_t sense_length;            /* 0 but under MDL_CHECK_CONDITION */
-    uint8_t sense[MDL_SENSE_LENGTH]; /* sense data, and zeros behind it */
-    size_t data_in_length;           /* data-in is the first bytes of the buffer */
-    uint64_t visits;                 /* whole records of the map that were read */
-    uint64_t probes;                 /* first addresses of records that were compared */
-    uint64_t links;                  /* links that were followed to reach a block */
+    uint8_t sense_length;            /* 0, unless the status is MDL_CHECK_CONDITION */
+    uint8_t sense[MDL_SENSE_LENGTH]; /* sense data, and zeros after it */
+    size_t data_in_length;           /* data-in is at the start of the buffer */
+    uint64_t visits;                 /* how many records of the map the disk read */
+    uint64_t probes;                 /* how many first addresses it compared */
+    uint64_t links;                  /* how many links it followed to reach a block */
 } mdl_reply;
 
-/* Makes a disk of the base profile with `blocks` blocks, as it is after power on. At most `pool` of
- * the blocks can be mapped or anchored at once. No block is mapped, and a unit attention, POWER
- * ON, is pending for each initiator. The disk takes some 620 bytes of memory for each block of the
- * pool, and some 7,000 more.
- *     disk      MDL_NONE, or freed. It is to be freed by mdl_free
- *     identity  read during the call; null for the standard identity
- * MDL_NULL_POINTER, MDL_IDENTITY_TEXT, MDL_IDENTITY_LOCAL, MDL_DISK_EXISTS, MDL_BLOCKS, MDL_POOL or
- * MDL_OUT_OF_MEMORY: the first that applies, and `disk` is as it was. */
+/* Makes a disk of the base profile with `blocks` blocks, as after power on. At most `pool` of the
+ * blocks can be mapped or anchored at once. No block is mapped, and a unit attention, POWER ON, is
+ * pending for each initiator. The disk takes some 620 bytes of memory for each block of the pool,
+ * and some 7,000 more.
+ *     disk      MDL_NONE, or a disk that you freed. Free it by mdl_free.
+ *     identity  The call reads it. Null means the standard identity.
+ * Errors: MDL_NULL_POINTER, MDL_IDENTITY_TEXT, MDL_IDENTITY_LOCAL, MDL_DISK_EXISTS, MDL_BLOCKS,
+ * MDL_POOL or MDL_OUT_OF_MEMORY. The first that applies is returned, and `disk` stays as it was. */
 mdl_error mdl_make(mdl_disk *disk, uint64_t blocks, uint32_t pool, const mdl_identity *identity);
 
-/* Makes a disk as mdl_make does, of a profile: one of mdl_profile.
- * MDL_NULL_POINTER, MDL_UNKNOWN_PROFILE, or what mdl_make returns: the first that applies, and
- * `disk` is as it was. */
+/* Makes a disk as mdl_make does, but of any profile: `profile` is one of mdl_profile.
+ * Errors: MDL_NULL_POINTER, MDL_UNKNOWN_PROFILE, or an error of mdl_make. The first that applies is
+ * returned, and `disk` stays as it was. */
 mdl_error mdl_make_with_profile(mdl_disk *disk, uint32_t profile, uint64_t blocks, uint32_t pool,
                                 const mdl_identity *identity);
 
-/* Frees a disk, which is MDL_NONE then. Null and MDL_NONE serve, and nothing is done. */
+/* Frees a disk. Afterwards it is MDL_NONE. For null and MDL_NONE the call does nothing. */
 void mdl_free(mdl_disk *disk);
 
 /* Executes a command for an initiator, 0 to 7.
- *     cdb       cdb_length bytes, read during the call; any bytes may be sent. Null if there are 0
- *     data_out  data_out_length bytes, read during the call. Null if there are 0
- *     data_in   data_in_length bytes. Data-in is written to the first reply->data_in_length of them,
- *               and those behind it are as they were. Null if there are 0
- *     reply     is written
- * MDL_NULL_POINTER, MDL_NO_INITIATOR, MDL_NO_DISK or MDL_BUFFER_TOO_SHORT: the first that applies.
- * Nothing is executed then, and disk, buffer and reply are as they were.
- * A buffer of MDL_BUFFER_LENGTH bytes is long enough for every command, and an empty one for a
- * command that a check refuses. Any other command needs as many bytes as it asks for:
- *     READ               the bytes of its blocks
- *     READ CAPACITY(10)  8
- *     READ CAPACITY(16)  the allocation length, and no more than 32
- *     other commands     the allocation length, at most MDL_BUFFER_LENGTH; 0 if they have none */
+ *     cdb       cdb_length bytes, which the call reads. You may send any bytes.
+ *     data_out  data_out_length bytes, which the call reads.
+ *     data_in   data_in_length bytes. The call writes data-in to the first reply->data_in_length of
+ *               them. The bytes after these stay as they were.
+ *     reply     The call writes it.
+ * Each of the first three may be null if its length is 0.
+ *
+ * Errors: MDL_NULL_POINTER, MDL_NO_INITIATOR, MDL_NO_DISK or MDL_BUFFER_TOO_SHORT. The first that
+ * applies is returned. The disk then executes nothing, and disk, buffer and reply stay as they
+ * were.
+ *
+ * A buffer of MDL_BUFFER_LENGTH bytes is long enough for every command. An empty buffer is long
+ * enough for a command that a check refuses. Any other command needs as many bytes as it asks for:
+ *     - READ: the bytes of its blocks.
+ *     - READ CAPACITY(10): 8 bytes.
+ *     - READ CAPACITY(16): the allocation length, and no more than 32 bytes.
+ *     - Other commands: the allocation length, at most MDL_BUFFER_LENGTH; 0 if they have none. */
 mdl_error mdl_execute(mdl_disk *disk, uint32_t initiator, const uint8_t *cdb, size_t cdb_length,
                       const uint8_t *data_out, size_t data_out_length, uint8_t *data_in,
                       size_t data_in_length, mdl_reply *reply);
 
-/* Takes the power of a disk away and gives it back. The blocks are as they were. Registrations and
- * reservation are as they were where they persist through a power loss (APTPL), and gone where not.
- * The saved mode pages are the current ones, PRGENERATION is 0, and POWER ON alone is pending for
- * each initiator. MDL_NULL_POINTER or MDL_NO_DISK. */
+/* Takes the power of a disk away and gives it back. The blocks stay as they were. Registrations and
+ * reservation stay if they persist through a power loss (APTPL). Otherwise they are gone. The saved
+ * mode pages become the current ones, and PRGENERATION becomes 0. Only POWER ON is pending for each
+ * initiator. Errors: MDL_NULL_POINTER or MDL_NO_DISK. */
 mdl_error mdl_power_cycle(mdl_disk *disk);
 
-/* Which initiators are registered, by PERSISTENT RESERVE OUT: bit i of `mask` is set if initiator i
- * is, and its other bits are not. A transport keeps the number of such an initiator's port for it.
- * Nothing is executed: no unit attention is reported or cleared.
- *     mask  is written
- * MDL_NULL_POINTER or MDL_NO_DISK: `mask` is as it was. */
+/* Says which initiators are registered by PERSISTENT RESERVE OUT. Bit i of `mask` is set if
+ * initiator i is registered. No other bit is set. A transport keeps the number of such an
+ * initiator's port for it. The disk executes nothing, and reports or clears no unit attention.
+ *     mask  The call writes it.
+ * Errors: MDL_NULL_POINTER or MDL_NO_DISK. Then `mask` stays as it was. */
 mdl_error mdl_registered(mdl_disk *disk, uint32_t *mask);
 
-/* The port of an initiator, 0 to 7, is gone: clears the unit attentions that are pending for it, so
- * that the next port with its number begins without them. All else is as it was, registrations and
- * reservation too. MDL_NULL_POINTER, MDL_NO_INITIATOR or MDL_NO_DISK: the first that applies. */
+/* Clears the unit attentions of an initiator, 0 to 7, whose port is gone. So the next port with its
+ * number begins without them. Everything else stays as it was, registrations and reservation too.
+ * Errors: MDL_NULL_POINTER, MDL_NO_INITIATOR or MDL_NO_DISK. The first that applies is returned. */
 mdl_error mdl_forget(mdl_disk *disk, uint32_t initiator);
 
-/* The fields of sense data. A field that is not there is 0. */
+/* The fields of sense data. A missing field is 0. */
 typedef struct mdl_sense {
     uint8_t key;              /* the sense key, at most 15 */
     uint8_t asc;              /* additional sense code */
     uint8_t ascq;             /* additional sense code qualifier */
-    uint8_t has_information;  /* 1 where there is an INFORMATION field, else 0 */
-    uint8_t has_pointer;      /* 1 where there is a field pointer, else 0 */
-    uint8_t in_command;       /* 1 where it points into the CDB, 0 into the parameter list */
+    uint8_t has_information;  /* 1 if there is an INFORMATION field, 0 if not */
+    uint8_t has_pointer;      /* 1 if there is a field pointer, 0 if not */
+    uint8_t in_command;       /* 1 if it points into the CDB, 0 if into the parameter list */
     uint16_t byte;            /* the byte in error, from 0 */
-    uint64_t information;     /* for this disk a logical block address */
+    uint64_t information;     /* this disk puts a logical block address there */
 } mdl_sense;
 
 /* Reads the fields of `length` bytes of sense data, in fixed or descriptor format.
- *     sense   read during the call. Null if there are 0 bytes
- *     fields  are written
- * MDL_NULL_POINTER, or MDL_UNREADABLE, also for deferred errors and for 0 bytes: `fields` are as
- * they were. */
+ *     sense   The call reads it. It may be null if `length` is 0.
+ *     fields  The call writes them.
+ * Errors: MDL_NULL_POINTER, or MDL_UNREADABLE, even for a deferred error and for 0 bytes. Then
+ * `fields` stay as they were. */
 mdl_error mdl_read_sense(const uint8_t *sense, size_t length, mdl_sense *fields);
 
-/* The exit status that the tools of sg3_utils have for a reply, as far as docs/SCRIPT.md of the
- * source says: its "Exit status" has the differences.
- *     reply  one that mdl_execute has written. Null serves as one that has neither a known status
- *            nor sense data: 99 */
+/* Returns the exit status that the tools of sg3_utils have for a reply. docs/SCRIPT.md of the
+ * source lists the differences under "Exit status".
+ *     reply  a reply that mdl_execute has written. Null is allowed, and returns 99, as a reply with
+ *            an unknown status and no sense data does. */
 int mdl_exit_status(const mdl_reply *reply);
 
-/* What the bytes of an answer are, by which mdl_decode prints them. docs/SCRIPT.md of the source
- * has the texts: `show` and the tools of a script print the same. */
+/* The kinds of answers that mdl_decode prints. `show` and the tools of a script print the same
+ * texts, which docs/SCRIPT.md of the source shows. */
 typedef enum mdl_kind {
     MDL_NOTHING = 0,           /* bytes that are not printed */
     MDL_HEX = 1,               /* any bytes, in lines of sixteen */
@@ -218,47 +227,52 @@ typedef enum mdl_kind {
     MDL_SENSE = 12             /* sense data */
 } mdl_kind;
 
-/* What mdl_decode and mdl_version return where there is no text. It is the greatest size_t, so one
- * more is 0: a caller that makes room for a length and a zero looks for it first. */
+/* mdl_decode and mdl_version return this if there is no text. It is the greatest size_t, so one
+ * more is 0. Test for it before you make room for a length and a zero. */
 #define MDL_NO_TEXT ((size_t)-1)
 
-/* Writes what an answer of a kind contains, in lines, into `text`, cut to `text_length` bytes, of
- * which the last one is a zero. Returns the whole length without the zero, as snprintf does.
+/* Writes into `text` what an answer contains, in lines. The text is cut to `text_length` bytes, and
+ * its last byte there is a zero. Returns the whole length without the zero, as snprintf does.
  *     kind     one of mdl_kind
- *     data_in  length bytes, read during the call; any bytes have a text. Null if there are 0
- *     text     text_length bytes. Null if there are 0
- * MDL_NO_TEXT where `kind` is none of mdl_kind, a pointer is null that must not be, or memory was
- * refused: `text` is as it was. */
+ *     data_in  length bytes, which the call reads. Any bytes have a text.
+ *     text     text_length bytes
+ * Each of the last two may be null if its length is 0.
+ *
+ * Returns MDL_NO_TEXT if `kind` is none of mdl_kind, if a pointer is null that must not be, or if
+ * memory runs out. Then `text` stays as it was. */
 size_t mdl_decode(uint32_t kind, const uint8_t *data_in, size_t length, char *text,
                   size_t text_length);
 
-/* What a tool sends, and how its answer is printed. */
+/* The command of a tool, and the kind of its answer. */
 typedef struct mdl_command {
-    uint8_t cdb[MDL_CDB_LENGTH]; /* the CDB, and zeros behind it */
+    uint8_t cdb[MDL_CDB_LENGTH]; /* the CDB, and zeros after it */
     uint8_t cdb_length;          /* its length */
-    uint32_t kind;               /* the mdl_kind of its data-in, where it ends with MDL_GOOD */
-    size_t data_out_length;      /* data-out is the first bytes of the buffer */
+    uint32_t kind;               /* the mdl_kind of its data-in, if it ends with MDL_GOOD */
+    size_t data_out_length;      /* data-out is at the start of the buffer */
 } mdl_command;
 
-/* Plans the command that words ask a tool for, as "sg_vpd -p lbpv": the first is the name of the
- * tool, sg_inq, sg_vpd, sg_modes, sg_unmap, sg_get_lba_status or sg_persist, and the others are its
- * options. docs/SCRIPT.md of the source has them: a line of a script has the same words, behind an
- * initiator. mdl_execute sends the command, and mdl_decode prints its data-in.
- *     words     up to a zero, with blanks or tabs between them, read during the call
- *     data_out  data_out_length bytes, MDL_DATA_OUT_LENGTH at least. Data-out is written to the
- *               first command->data_out_length of them, and those behind it are as they were
- *     command   is written
- * MDL_NULL_POINTER, MDL_BUFFER_TOO_SHORT, MDL_BAD_BYTE, MDL_TOO_MANY_WORDS or MDL_UNKNOWN_TOOL: the
- * first that applies; and then MDL_USAGE, MDL_EXCLUSIVE or MDL_NUMBER, as the tool refuses its
- * words, or MDL_OUT_OF_MEMORY where memory is refused. Buffer and record are as they were. */
+/* Plans the command that the words of a tool ask for, such as "sg_vpd -p lbpv". The first word is
+ * the name of the tool: sg_inq, sg_vpd, sg_modes, sg_unmap, sg_get_lba_status or sg_persist. The
+ * other words are its options, which docs/SCRIPT.md of the source lists. A line of a script has the
+ * same words after an initiator. mdl_execute sends the command, and mdl_decode prints its data-in.
+ *     words     The call reads them, up to a zero. Blanks or tabs are between them.
+ *     data_out  data_out_length bytes, at least MDL_DATA_OUT_LENGTH. The call writes data-out to
+ *               the first command->data_out_length of them. The bytes after these stay as they
+ *               were.
+ *     command   The call writes it.
+ *
+ * Errors: MDL_NULL_POINTER, MDL_BUFFER_TOO_SHORT, MDL_BAD_BYTE, MDL_TOO_MANY_WORDS or
+ * MDL_UNKNOWN_TOOL. The first that applies is returned. After these come MDL_USAGE, MDL_EXCLUSIVE
+ * or MDL_NUMBER, if the tool refuses its words, and MDL_OUT_OF_MEMORY, if memory runs out. On every
+ * error buffer and record stay as they were. */
 mdl_error mdl_tool(const char *words, uint8_t *data_out, size_t data_out_length,
                    mdl_command *command);
 
-/* Writes the version of the library and of the proof, in one line, into `text`, cut to
- * `text_length` bytes, of which the last one is a zero. Returns the whole length without the zero,
- * as snprintf does.
- *     text  text_length bytes. Null if there are 0
- * MDL_NO_TEXT where `text` is null that must not be. */
+/* Writes into `text` the version of the library and of the proof, in one line. The text is cut to
+ * `text_length` bytes, and its last byte there is a zero. Returns the whole length without the
+ * zero, as snprintf does.
+ *     text  text_length bytes. It may be null if `text_length` is 0.
+ * Returns MDL_NO_TEXT if `text` is null and `text_length` is not 0. */
 size_t mdl_version(char *text, size_t text_length);
 
 #ifdef __cplusplus
