@@ -66,10 +66,10 @@ IS_AT(mdl_command, cdb_length, 16);
 IS_AT(mdl_command, kind, 20);
 IS_AT(mdl_command, data_out_length, 24);
 
-/* What no bytes are at. */
+/* The place of an empty buffer. */
 static const uint8_t nothing[1] = { 0 };
 
-/* Whether there are bytes to be read, and no pointer to them. */
+/* Returns 1 if there are bytes to read, and no pointer to them. */
 static int are_missing(const uint8_t *bytes, size_t length)
 {
     return !bytes && length;

@@ -1,8 +1,7 @@
-/* Texts of random answers, from a seed:
- *     answers script SEED COUNT      prints them as a script of sgrun, a `show` each
- *     answers decode SEED COUNT      decodes them by the library, in a thread with a small stack, and
- *                                    prints what sgrun prints; each text is tried at every length of
- *                                    the buffer */
+/* Texts of random answers, from a seed.
+ *     answers script SEED COUNT      prints them as a script of sgrun, a `show` each.
+ *     answers decode SEED COUNT      decodes them by the library, and prints what sgrun prints.
+ * `decode` runs in a thread with a small stack, and tries each text at every length of the buffer. */
 #include <stdint.h>
 #include <stdio.h>
 #include <stdlib.h>

@@ -1,4 +1,4 @@
-/* How mdl_decode cuts a text to the buffer. */
+/* Tries how mdl_decode cuts a text to the buffer. */
 #ifndef CUT_H
 #define CUT_H
 
@@ -8,8 +8,9 @@
 
 enum { MOST_TEXT = 65536 };
 
-/* Whether the text of an answer, which has `length` bytes and is shorter than MOST_TEXT - 4, is cut
- * to each length of the buffer: a prefix of it and a zero are there, and nothing behind changes. */
+/* Returns 1 if mdl_decode cuts the text of an answer to each length of the buffer. It has to write
+ * a prefix and a zero, and to change nothing after them. The text has `length` bytes, fewer than
+ * MOST_TEXT - 4. */
 static inline int is_cut(uint32_t kind, const uint8_t *data_in, size_t data_in_length,
                          const char *whole, size_t length)
 {

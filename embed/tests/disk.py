@@ -1,5 +1,5 @@
 #!/usr/bin/env python3
-"""What examples/python/mehdalung.py has beside what the first minute uses."""
+"""Tries the parts of examples/python/mehdalung.py that the first minute does not use."""
 from mehdalung import (CHECK_CONDITION, GOOD, Disk, Error, Kind, Profile, Refused, decode, identity,
                        version)
 

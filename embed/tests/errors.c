@@ -1,5 +1,5 @@
-/* Each named error, and that the call has then changed nothing and keeps no memory; that no command
- * takes memory; and what the fields of the records have. */
+/* Tries each named error: the call changes nothing and keeps no memory. Also tries that no command
+ * takes memory, and what the fields of the records contain. */
 #include <stdio.h>
 #include <stdlib.h>
 #include <string.h>
@@ -116,7 +116,7 @@ static const struct {
 static uint8_t data_out[MDL_DATA_OUT_LENGTH], before_out[MDL_DATA_OUT_LENGTH];
 static mdl_command command, before_command;
 
-/* That words are refused, with record and buffer as they were. */
+/* Words are refused, and record and buffer stay as they were. */
 static int is_refused(const char *words, size_t length, mdl_error error)
 {
     return mdl_tool(words, data_out, length, &command) == error
@@ -215,7 +215,7 @@ static int status_of(const uint8_t *cdb, size_t length, const uint8_t *bytes, si
     return reply.status;
 }
 
-/* Whether a command is refused, with record, buffer and disk as they were. */
+/* Returns 1 if a command is refused, and record, buffer and disk stay as they were. */
 static int is_refused_command(mdl_disk *of, uint32_t initiator, size_t room, mdl_error error)
 {
     return mdl_execute(of, initiator, ready, 6, NULL, 0, data_in, room, &reply) == error
@@ -332,7 +332,7 @@ static void read_sense(void)
     WANT(mdl_exit_status(&reply) == 5);
 }
 
-/* Whether the disk has the texts and the number of an identity: INQUIRY, pages 80h and 83h. */
+/* Returns 1 if INQUIRY and the pages 80h and 83h show the texts and the number of an identity. */
 static int has_identity(const char *texts, const char *serial, uint8_t local)
 {
     static const uint8_t inquiry[6] = { 0x12, 0, 0, 0, 36 }, page_80[6] = { 0x12, 1, 0x80, 0, 255 };
@@ -368,7 +368,7 @@ static void show_identities(void)
     disk = kept;
 }
 
-/* Commands of each kind, each of which ends with GOOD behind the one before it. */
+/* Commands of each kind. Each ends with GOOD after the one before it. */
 static const struct {
     uint8_t cdb[MDL_CDB_LENGTH];
     uint8_t length, list[24];
@@ -392,7 +392,7 @@ static const struct {
     { { 0x03, 0, 0, 0, 252 }, 6, { 0 }, 0 },                           /* REQUEST SENSE */
 };
 
-/* No command takes memory, nor does one that is refused, nor a power cycle. */
+/* No command takes memory, not even a refused one. A power cycle takes none either. */
 static void take_no_memory(void)
 {
     static uint8_t bytes[3 * MDL_BLOCK_LENGTH];
@@ -413,7 +413,7 @@ static void take_no_memory(void)
     WANT(mdl_exit_status(&reply) == 6 && requests == taken && held == held_before);
 }
 
-/* Nor does any of 10,000 random commands, whatever status it ends with. */
+/* None of 10,000 random commands takes memory, whatever status it ends with. */
 static void take_no_memory_at_random(void)
 {
     unsigned long taken, good = 0, checks = 0, conflicts = 0, cycles = 0;
@@ -456,11 +456,11 @@ static void access_blocks(uint8_t opcode, uint8_t lba, uint8_t count)
     WANT(status_of(cdb, sizeof cdb, bytes, sizeof bytes) == MDL_GOOD);
 }
 
-/* By crates/sg_block_map/specs/RunCost.antt, on a disk with 17 maximal runs: a command visits each
- * run that its range meets and at most two records more; as 17 < 2^5, it compares at most 6
- * addresses; and it follows at most as many links as the runs have blocks that its range meets or
- * touches. That links are followed at all, one for each block before the one that is read, is how
- * the store is made (docs/ARCHITECTURE.md): the slots of a run are a chain. */
+/* The rules are in crates/sg_block_map/specs/RunCost.antt, and the disk has 17 maximal runs. A
+ * command visits each run that its range meets, and at most two records more. It compares at most 6
+ * addresses, because 17 < 2^5. It follows at most as many links as the runs that its range meets or
+ * touches have blocks. The store follows a link for each block before the block that it reads,
+ * because the slots of a run are a chain (docs/ARCHITECTURE.md). */
 static void count_visits(void)
 {
     mdl_disk kept = disk;

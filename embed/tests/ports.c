@@ -109,7 +109,7 @@ static void ask(void)
     uint32_t initiator;
 
     WANT(registered() == 0);
-    /* What is asked reports no unit attention, POWER ON here, and clears none. */
+    /* The question reports no unit attention, such as POWER ON here, and clears none. */
     for (initiator = 0; initiator < MDL_INITIATORS; initiator++)
         WANT(!is_ready(initiator) && is_ready(initiator));
     put_key(1, 0x11);

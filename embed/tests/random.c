@@ -1,10 +1,10 @@
-/* Random commands, from a seed:
- *     random script SEED COUNT       prints them as a script of sgrun
- *     random run SEED COUNT          executes them by the library, and prints what sgrun prints
- *     random extended SEED COUNT     does so by a disk of the extended profile
- *     random shared SEED COUNT       does so by four threads, which take turns at one disk
- *     random threads SEED COUNT DIR  does so for SEED to SEED + 3, in a thread each with a disk each,
- *                                    into DIR/SEED */
+/* Random commands, from a seed.
+ *     random script SEED COUNT       prints them as a script of sgrun.
+ *     random run SEED COUNT          executes them by the library, and prints what sgrun prints.
+ *     random extended SEED COUNT     does so on a disk of the extended profile.
+ *     random shared SEED COUNT       does so by four threads, which take turns at one disk.
+ *     random threads SEED COUNT DIR  does so for SEED to SEED + 3, by a thread with a disk for each,
+ *                                    and prints into DIR/SEED. */
 #include <inttypes.h>
 #include <pthread.h>
 #include <stdio.h>
@@ -138,7 +138,7 @@ static void end_run(struct run *it)
     free(it->data_in);
 }
 
-/* Executes the next command. Not 0 where there is none, or where it is refused by an error. */
+/* Executes the next command. Not 0 if there is none, or if an error refuses it. */
 static int next_line(struct run *it)
 {
     static const char *const names[] = { "GOOD", "CHECK CONDITION", "RESERVATION CONFLICT" };
@@ -191,8 +191,8 @@ static void *take_turns(void *argument)
     return NULL;
 }
 
-/* The thread that makes the disk executes nothing, and frees it after the others have. Where one of
- * these can't be started, the program ends: those that were use `it`. */
+/* The thread that makes the disk executes nothing, and frees it after the others have. If one of
+ * these can't be started, the program ends, because the others use `it`. */
 static int run_shared(uint64_t seed, unsigned long count)
 {
     pthread_t threads[4];

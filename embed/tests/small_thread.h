@@ -1,4 +1,4 @@
-/* Threads with no more stack than a call may need by the header. What is here takes some of it. */
+/* Threads with no more stack than a call may need by the header. The code here takes some of it. */
 #ifndef SMALL_THREAD_H
 #define SMALL_THREAD_H
 
@@ -37,7 +37,7 @@ static inline void *run_seeded(void *argument)
     return NULL;
 }
 
-/* What a function returns that runs in such a thread, or 99 where there is no thread. */
+/* Runs a function in such a thread and returns its result, or 99 if there is no thread. */
 static inline int in_small_thread(int (*run)(uint64_t seed, unsigned long count), uint64_t seed,
                                   unsigned long count)
 {

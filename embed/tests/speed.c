@@ -1,9 +1,9 @@
-/* speed BLOCKS CALLS: calls of mdl_execute, for bench/call to measure from outside, beside the same
- * calls in Rattle, those of crates/callbench.
+/* speed BLOCKS CALLS: calls mdl_execute, so that bench/call can measure the calls from outside.
+ * crates/callbench makes the same calls in Rattle.
  *
- * A disk of 4,096 blocks with a pool of 64 gets 64 blocks by one WRITE. Then come CALLS of READ(10) of
- * the first BLOCKS blocks, or of TEST UNIT READY where BLOCKS is 0. The number of these that were good
- * is printed. */
+ * A disk of 4,096 blocks with a pool of 64 gets 64 blocks by one WRITE. Then come CALLS times READ(10)
+ * of the first BLOCKS blocks, or TEST UNIT READY if BLOCKS is 0. The program prints how many of these
+ * were good. */
 #include <stdio.h>
 #include <stdlib.h>
 

@@ -1,8 +1,8 @@
-/* Lines of tools, some chosen and the others random from a seed:
- *     tools script SEED COUNT   prints them as a script of sgrun, each behind an initiator
- *     tools run SEED COUNT      plans and executes them by the library, and prints what sgrun prints,
- *                               in a thread with a small stack
- * Now and then a line is a `fill`, so that there are blocks to unmap. */
+/* Lines of tools. Some are chosen, and the others are random from a seed.
+ *     tools script SEED COUNT   prints them as a script of sgrun, each after an initiator.
+ *     tools run SEED COUNT      plans and executes them by the library, and prints what sgrun prints.
+ * `run` uses a thread with a small stack. Now and then a line is a `fill`, so that there are blocks
+ * to unmap. */
 #include <stdint.h>
 #include <stdio.h>
 #include <stdlib.h>
@@ -14,7 +14,7 @@
 
 enum { BLOCKS = 4096, POOL = 16, MOST_WORDS = 2048, MOST_TEXT = 65536, FILLED = 4 };
 
-/* The texts of options: those of a kind, each ended by a null pointer. */
+/* The texts of options, a list for each kind. A null pointer ends each list. */
 static const char *const numbers[] = {
     "0", "1", "2", "3", "4", "7", "17", "24", "31", "32", "39", "0x10", "0xFC", "10h", "252", "255", "256",
     "65535", "65536", "4095", "4096", "4294967295", "4294967296", "18446744073709551615",
@@ -63,7 +63,7 @@ static const struct tool {
     { "sg_get_lba_status", OPTIONS(lba_status) }, { "sg_persist", OPTIONS(persist) },
 };
 
-/* One of each fault, in the order in which they are looked for, and of each tool. */
+/* A line with each fault, in the order of the checks, and a line for each tool. */
 static const char *const chosen[] = {
     "sg_inq\x01", "\xEF\xBB\xBFsg_inq", "sg_foo \x7F", "sg_vpd\r -p sv", "", " \t ", "sg_foo", "SG_INQ",
     "# sg_inq", "sg_inq /dev/sg0", "sg_inq -HH", "sg_vpd --help", "sg_modes -z", "sg_unmap -l 1",
@@ -177,7 +177,7 @@ static void random_words(struct line *l, uint64_t *seed)
             add(l, " -H");
 }
 
-/* What fences: it registers, reserves, releases and preempts with keys that others have too. */
+/* Lines for fencing. They register, reserve, release and preempt with keys that others have too. */
 static void persist_words(struct line *l, uint64_t *seed)
 {
     static const char *const actions[] = { "-G", "-G", "-I", "-R", "-R", "-L", "-P", "-A", "-C", NULL };

@@ -1,5 +1,5 @@
-/* A backing store of tgtd, the iSCSI target of the package tgt: each logical unit of it is a disk
- * of libmehdalung, which gets each CDB as it came, and whose reply is sent as it is.
+/* A backing store of tgtd, the iSCSI target of the package tgt. Each of its logical units is a disk
+ * of libmehdalung. The disk gets each CDB as it came, and tgtd sends the disk's reply unchanged.
  *
  * tgtd loads this object from its folder of backing stores, or by LD_PRELOAD. A logical unit is
  * made with `--bstype mehdalung --backing-store blocks=4096:pool=16`. All that calls this file runs
@@ -27,7 +27,7 @@ enum { TRANSPORT_ID_HEADER = 4, ISID_SEPARATOR = 5 };
 /* The length of the longest CDB of a command of the disk. */
 enum { TRACED_CDB = 16 };
 
-/* What tgtd keeps of a logical unit behind its own record. */
+/* The record of a logical unit, which tgtd keeps after its own. */
 struct unit {
     mdl_disk disk;
     struct port_table table;
@@ -69,7 +69,7 @@ static unsigned numbers_with_session(struct scsi_lu *lu)
     return found;
 }
 
-/* Writes the name of a port to the log, as RFC 7143, 4.4.1, has it: NAME,i,0xISID. */
+/* Writes the name of a port to the log, in the form of RFC 7143, 4.4.1: NAME,i,0xISID. */
 static void log_number(const struct scsi_lu *lu, int number, const struct port *port)
 {
     const char *name = port->transport_id + TRANSPORT_ID_HEADER;
@@ -130,7 +130,7 @@ static int deliver(struct scsi_cmd *cmd, const mdl_reply *reply)
 }
 
 /* A line for a command and its reply, in the log of tgtd while its debug messages are on. The CDB
- * is as a script of sgrun has it. */
+ * is written as in a script of sgrun. */
 static void trace(struct scsi_cmd *cmd, int initiator, const mdl_reply *reply)
 {
     int length = get_scsi_cdb_size(cmd), at;
@@ -179,7 +179,7 @@ static tgtadm_err update(struct scsi_lu *lu, char *params)
     return mdl_power_cycle(&unit_of(lu)->disk) ? TGTADM_INVALID_REQUEST : TGTADM_SUCCESS;
 }
 
-/* Reads a number behind a name, and moves `text` behind it. */
+/* Reads a number after a name, and moves `text` past it. */
 static int read_size(const char **text, const char *name, uint64_t *size)
 {
     size_t length = strlen(name);
@@ -193,8 +193,8 @@ static int read_size(const char **text, const char *name, uint64_t *size)
     return errno == 0;
 }
 
-/* The vendor, product and revision of the standard identity, and a number of the logical unit's
- * own: LUN 1 of target 1 has the standard one, 1. */
+/* The vendor, product and revision are those texts of the standard identity. Each logical unit has
+ * its own number; LUN 1 of target 1 has 1, the standard number. */
 static void identify(const struct scsi_lu *lu, mdl_identity *identity)
 {
     static const mdl_identity standard = MDL_STANDARD_IDENTITY;

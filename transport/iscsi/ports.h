@@ -1,10 +1,10 @@
-/* Which initiator port is which initiator of a disk.
+/* Maps initiator ports to the initiators of a disk.
  *
  * A disk has eight initiators, 0 to 7; an iSCSI target has as many initiator ports as log in. An
  * initiator port is known by its TransportID (SPC-4, 7.6.4), which has its iSCSI name and its ISID.
  * It gets a number with its first command and keeps it, so that a port that comes back after a lost
- * session finds its registration. A number is given to another port where its own has neither a
- * session nor a registration. */
+ * session finds its registration. Another port may get the number once its own port has no session
+ * and no registration. */
 #ifndef PORTS_H
 #define PORTS_H
 
@@ -13,13 +13,13 @@
 /* The numbers of a disk, MDL_INITIATORS. */
 enum { PORT_NUMBERS = 8 };
 
-/* A name has at most 223 bytes (RFC 7143, 4.2.7.1); with all else a TransportID has at most 240. */
+/* A name has at most 223 bytes (RFC 7143, 4.2.7.1), and a whole TransportID at most 240. */
 enum { TRANSPORT_ID_LENGTH = 256 };
 
 /* There is no number for a port. */
 enum { NO_NUMBER = -1 };
 
-/* A TransportID, and zeros behind it. */
+/* A TransportID, and zeros after it. */
 struct port {
     char transport_id[TRANSPORT_ID_LENGTH];
 };
@@ -36,9 +36,9 @@ int port_number(const struct port_table *table, const struct port *port);
 /* Notes that a number is used now. */
 void port_use(struct port_table *table, int number);
 
-/* Gives a number to a port that has none, and uses it: the lowest that no port ever had, or the one
- * used the longest ago of those whose bit in `kept` is 0. NO_NUMBER where there is none, and the
- * table is as it was. */
+/* Gives a number to a port that has none, and uses it. It is the lowest number that no port ever
+ * had. If there is none, it is the number that was used the longest ago and has no bit in `kept`.
+ * Returns NO_NUMBER if there is no such number either, and then leaves the table as it was. */
 int port_take_number(struct port_table *table, const struct port *port, unsigned kept);
 
 #endif

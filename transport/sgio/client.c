@@ -36,7 +36,7 @@ void close_client(struct client *client)
     client->socket = -1;
 }
 
-/* What a call of recv or send that moved no byte means. */
+/* Says what it means that recv or send moved no byte. */
 static enum progress progress_of_error(void)
 {
     return errno == EAGAIN || errno == EWOULDBLOCK || errno == EINTR ? TO_COME : GONE;

@@ -7,22 +7,22 @@
 
 struct client {
     int socket;             /* or -1: this place is free */
-    int is_last;            /* the connection is closed behind this reply */
+    int is_last;            /* the connection is closed after this reply */
     uint8_t *request;       /* MOST_REQUEST bytes */
     size_t received, wanted;
     struct request_header header; /* of the request, once it has arrived */
     uint8_t *reply;         /* MOST_REPLY bytes */
-    size_t sent, to_send;   /* a reply is on its way where to_send is not 0 */
+    size_t sent, to_send;   /* a reply is on its way if to_send is not 0 */
 };
 
-/* Takes memory for a client. Returns 0, with nothing taken, where it is refused. */
+/* Takes memory for a client. Returns 0 if memory is refused, and then takes none. */
 int open_client(struct client *client, int socket);
 
-/* Closes its connection and frees its place. What has arrived of a request is dropped. */
+/* Closes its connection and frees its place. A part of a request that has arrived is dropped. */
 void close_client(struct client *client);
 
 /* Goes on with a client whose socket is ready: receives, executes what is whole, sends. Returns 0
- * where the client is gone, or has sent what is no request and has its reply. */
+ * if the client is gone, or if it sent something that is no request and has its reply. */
 int serve_client(struct client *client, mdl_disk *disk);
 
 #endif

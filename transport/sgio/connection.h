@@ -19,13 +19,13 @@ struct exchange {
  * errno where it can't. */
 int connect_to(const char *path, int flags);
 
-/* Whether a descriptor, which may be anything, is a connection to the server at a path. A duplicate
- * of one is, and so is one that was inherited. errno is as it was. */
+/* Returns 1 if a descriptor, which may be anything, is a connection to the server at a path. A
+ * duplicate of one is, and so is an inherited one. errno stays as it was. */
 int is_connected_to(int descriptor, const char *path);
 
-/* Sends a command and reads its reply. Returns 0, or an errno, after which the connection is of no
- * use: ETIMEDOUT where the time is over, ENODEV where the server is gone or sends what is no reply.
- * One thread at a time: all connections of a process share a buffer. */
+/* Sends a command and reads its reply. Returns 0, or an errno. After an errno the connection is of
+ * no use. ETIMEDOUT means that the time is over. ENODEV means that the server is gone, or sends
+ * something that is no reply. One thread at a time: all connections of a process share a buffer. */
 int exchange_command(int connection, struct exchange *exchange);
 
 /* The same for a power cycle. `reply` is written. */

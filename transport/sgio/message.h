@@ -4,28 +4,28 @@
  * type SOCK_STREAM. A client sends a request and then reads its reply, before it sends the next
  * one. Numbers are big-endian.
  *
- *     request            bytes   content
- *     KIND               0       1 a command, 2 a power cycle
- *     INITIATOR          1       0 to 7; 0 for a power cycle
- *     reserved           2       0
- *     CDB LENGTH         3       0 to 255; 0 for a power cycle
- *     DATA-OUT LENGTH    4-7     0 to 262,144; 0 for a power cycle
- *     CDB                8-      CDB LENGTH bytes
- *     DATA-OUT                   DATA-OUT LENGTH bytes
+ * A request has these bytes:
+ *     - 0: KIND, 1 for a command and 2 for a power cycle. If it is 2, all other bytes are 0.
+ *     - 1: INITIATOR, 0 to 7.
+ *     - 2: reserved, 0.
+ *     - 3: CDB LENGTH, 0 to 255.
+ *     - 4 to 7: DATA-OUT LENGTH, 0 to 262,144.
+ *     - 8 on: the CDB, CDB LENGTH bytes.
+ *     - After it: data-out, DATA-OUT LENGTH bytes.
  *
- *     reply              bytes   content
- *     RESULT             0       an mdl_error, 0 where the request was executed; or 255
- *     STATUS             1       the SCSI status
- *     reserved           2       0
- *     SENSE LENGTH       3       0 to 20
- *     DATA-IN LENGTH     4-7     0 to 131,072
- *     SENSE DATA         8-27    SENSE LENGTH bytes, and zeros behind them
- *     DATA-IN            28-     DATA-IN LENGTH bytes
+ * A reply has these bytes:
+ *     - 0: RESULT, an mdl_error, or 255. It is 0 if the request was executed.
+ *     - 1: STATUS, the SCSI status.
+ *     - 2: reserved, 0.
+ *     - 3: SENSE LENGTH, 0 to 20.
+ *     - 4 to 7: DATA-IN LENGTH, 0 to 131,072.
+ *     - 8 to 27: sense data, SENSE LENGTH bytes, and zeros after them.
+ *     - 28 on: data-in, DATA-IN LENGTH bytes.
  *
- * Where RESULT is not 0, nothing was executed, and all other bytes are 0. RESULT 255 says that the
- * request is none of these; the server closes the connection behind it, for it can't know where the
- * next request begins. A request is executed when its last byte has arrived, and not at all where
- * the client closes before.
+ * If RESULT is not 0, nothing was executed, and all other bytes are 0. RESULT 255 says that the
+ * request is none of these. The server then closes the connection, because it can't know where the
+ * next request begins. A request is executed when its last byte has arrived. If the client closes
+ * before that, it is not executed.
  */
 #ifndef MESSAGE_H
 #define MESSAGE_H

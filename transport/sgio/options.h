@@ -11,7 +11,7 @@ struct options {
 };
 
 /* Reads the words of a command line. Returns null, or what is wrong with them, with the word that it
- * is about in `word`. Which numbers of blocks a disk may have is mdl_make's to say. */
+ * is about in `word`. mdl_make decides which numbers of blocks a disk may have. */
 const char *read_options(int count, char **words, struct options *options, const char **word);
 
 #endif

@@ -78,7 +78,7 @@ static int remove_stale(const struct sockaddr_un *address)
     return is_stale && unlink(address->sun_path) == 0;
 }
 
-/* Listens at a path, for this user alone. Returns -1 with errno where it can't. */
+/* Listens at a path, only for this user. Returns -1 with errno where it can't. */
 static int listen_at(const char *path)
 {
     struct sockaddr_un address;

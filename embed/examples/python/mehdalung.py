@@ -1,7 +1,7 @@
 """A SCSI disk in memory, by the C library Mehdalung: docs/EMBEDDING.md.
 
-It needs nothing but Python 3.8 and libmehdalung.so, which MEHDALUNG_LIBRARY names, or ../../build
-has. A disk is used by one thread at a time."""
+It needs only Python 3.8 and libmehdalung.so. MEHDALUNG_LIBRARY names that file; by default it is in
+../../build. Only one thread at a time may use a disk."""
 import ctypes
 import os
 from ctypes import c_size_t, c_uint8, c_uint32, c_uint64, c_void_p
@@ -63,7 +63,7 @@ class Kind(IntEnum):
 
 
 class Refused(Exception):
-    """Why a call is refused, an Error. It has changed nothing then."""
+    """A call was refused, for the reason `error`. It has changed nothing."""
 
     def __init__(self, error):
         self.error = Error(error)
@@ -95,7 +95,7 @@ class Command(ctypes.Structure):
 
 
 class Sense(ctypes.Structure):
-    """mdl_sense: the fields of sense data. One that is not there is 0."""
+    """mdl_sense: the fields of sense data. A missing field is 0."""
     _fields_ = [("key", c_uint8), ("asc", c_uint8), ("ascq", c_uint8), ("has_information", c_uint8),
                 ("has_pointer", c_uint8), ("in_command", c_uint8), ("byte", ctypes.c_uint16),
                 ("information", c_uint64)]
@@ -134,14 +134,14 @@ def check(error):
 
 
 def within(name, number, bits):
-    """A number, unless ctypes would cut it."""
+    """Returns a number, unless ctypes would cut it."""
     if not 0 <= number < 1 << bits:
         raise ValueError(f"{name} is not 0 to 2^{bits} - 1: {number}")
     return number
 
 
 def text_of(write, *arguments):
-    """The text that a function writes as snprintf does."""
+    """Returns the text that a function writes as snprintf does."""
     length = write(*arguments, None, 0)
     if length != NO_TEXT:
         text = ctypes.create_string_buffer(length + 1)
@@ -151,7 +151,7 @@ def text_of(write, *arguments):
 
 
 def decode(kind, data_in):
-    """What an answer of a kind contains, in lines."""
+    """Returns what an answer of a kind contains, in lines."""
     return text_of(LIBRARY.mdl_decode, Kind(kind), data_in, len(data_in))
 
 
@@ -160,7 +160,7 @@ def version():
 
 
 def identity(vendor="SGMODEL", product="THIN DISK", revision="0100", serial="00000001", local=1):
-    """An identity: texts, which are padded with spaces, and a number of 60 bits."""
+    """Returns an identity: texts, padded with spaces, and a number of 60 bits."""
     record = IdentityRecord(local=within("local", local, 64))
     texts = {"vendor": vendor, "product": product, "revision": revision, "serial": serial}
     for name, text in texts.items():
@@ -172,7 +172,8 @@ def identity(vendor="SGMODEL", product="THIN DISK", revision="0100", serial="000
 
 
 class Reply(NamedTuple):
-    """What a command ends with. Data-in is of the kind that a tool's is, or else of Kind.HEX."""
+    """The reply to a command. Its kind says how data-in is printed: Kind.HEX, unless a tool sent
+    the command."""
     status: int
     sense: bytes
     data_in: bytes
@@ -180,7 +181,8 @@ class Reply(NamedTuple):
     exit_status: int
 
     def text(self):
-        """What sgrun prints of it behind its status: sense data, or else data-in."""
+        """Returns what sgrun prints of it after its status: sense data, or data-in if there is
+        none."""
         if self.sense:
             return decode(Kind.SENSE, self.sense)
         return decode(self.kind, self.data_in) if self.status == GOOD else ""
@@ -193,9 +195,9 @@ class Reply(NamedTuple):
 
 
 class Disk:
-    """A disk of `blocks` blocks, of which `pool` can be mapped or anchored at once, with an
-    identity or the standard one, and of a Profile. It is freed by `close`, by the end of a `with`,
-    or with its last reference."""
+    """A disk of `blocks` blocks. At most `pool` of them can be mapped or anchored at once. It has
+    an identity, by default the standard one, and a Profile. `close`, the end of a `with` or the
+    loss of its last reference frees it."""
 
     def __init__(self, blocks=4096, pool=4, identity=None, profile=Profile.BASE):
         self.slot = Slot()
@@ -215,7 +217,7 @@ class Disk:
                      LIBRARY.mdl_exit_status(record))
 
     def tool(self, initiator, words):
-        """Executes what the words of a tool ask for, as "sg_vpd -p lbpv"."""
+        """Executes what the words of a tool ask for, such as "sg_vpd -p lbpv"."""
         if "\0" in words:
             raise ValueError("C would take the words to end at their NUL")
         command = Command()
@@ -240,7 +242,7 @@ class Disk:
     def close(self):
         LIBRARY.mdl_free(self.slot)
 
-    # LIBRARY may be gone when the interpreter ends, and there is no slot where __init__ made none.
+    # LIBRARY may be gone when the interpreter ends. There is no slot if __init__ made none.
     def __del__(self, free=LIBRARY.mdl_free):
         if hasattr(self, "slot"):
             free(self.slot)

@@ -1,11 +1,12 @@
 /* Sends random and malformed commands to a target, and compares each reply with the library's:
  *     compare URL BLOCKS POOL COUNT SEED
  *
- * The disk at URL is new and has these sizes. Eight initiators send COUNT commands: operation codes
- * of all kinds with random fields, wholly random CDBs, parameter lists that are random, cut or too
- * long, data in the wrong direction, and Expected Data Transfer Lengths that are too short or too
- * long. A disk of the library executes the same list. Status, sense data, data-in and the residual
- * count have to agree at each command, of which none may be without a reply. */
+ * The disk at URL is new and has these sizes. Eight initiators send COUNT commands. They have
+ * operation codes of all kinds with random fields, or wholly random CDBs. Parameter lists are
+ * random, cut or too long. Some data has the wrong direction, and some Expected Data Transfer
+ * Lengths are too short or too long. A disk of the library executes the same list. Status, sense
+ * data, data-in and the residual count have to agree at each command. Each command has to get a
+ * reply. */
 #include <stdio.h>
 #include <stdlib.h>
 #include <string.h>
@@ -37,8 +38,8 @@ static void random_bytes(uint8_t *bytes, size_t length)
         *bytes++ = (uint8_t)below(&state, 256);
 }
 
-/* Of each command of docs/PROFILE.md its operation code, the byte in which a short length ends, and
- * the byte in which a short address ends; 0 where it has none. */
+/* For each command of docs/PROFILE.md: its operation code, the byte where a short length ends, and
+ * the byte where a short address ends. 0 stands for none. */
 static const struct shape {
     uint8_t opcode, action, length_at, address_at;
     enum direction direction;
@@ -184,7 +185,7 @@ static void print_difference(unsigned long number, const struct request *request
 }
 
 /* An INQUIRY each, so that the initiators have their numbers in this order. Any two differ in name
- * or ISID, and some in one alone. */
+ * or ISID, and some differ in only one of them. */
 static void log_in(const char *url)
 {
     static const uint8_t inquiry[6] = { 0x12 };

@@ -1,20 +1,20 @@
-/* Sends commands to a target, from lines, and prints each reply as sgrun does:
+/* Sends commands to a target, from lines, and prints each reply as sgrun does.
  *     initiator [--eight] [--power COMMAND] URL [SCRIPT]
  *
- *     raw I CDB [DATA]            CDB of at most 16 bytes and data-out, in hexadecimal
- *     fill I LBA COUNT BYTE       WRITE(16) of equal blocks, numbers as 17, 0x11 or 11h
- *     drop I                      closes the connection without a logout
- *     logout I                    logs out
- *     reset I                     sends a LOGICAL UNIT RESET
- *     power                       runs COMMAND, which takes the target's power away
- *     # ..                        a comment
+ *     raw I CDB [DATA]            sends a CDB of at most 16 bytes, and data-out, in hexadecimal.
+ *     fill I LBA COUNT BYTE       sends WRITE(16) of equal blocks. Numbers are 17, 0x11 or 11h.
+ *     drop I                      closes the connection without a logout.
+ *     logout I                    logs out.
+ *     reset I                     sends a LOGICAL UNIT RESET.
+ *     power                       runs COMMAND, which takes the target's power away.
+ *     # ..                        is a comment.
  *
- * I is an initiator port, 0 to 9. It logs in with its first line, and again with the first one
- * after `drop` or `logout`, as the same port: its name and its ISID are made from I. With --eight
- * ports 0 to 7 log in at the beginning and send an INQUIRY each, in this order.
+ * I is an initiator port, 0 to 9. It logs in with its first line, and again with the first line
+ * after `drop` or `logout`. It is the same port then: its name and its ISID follow from I. With
+ * --eight, ports 0 to 7 log in at the beginning and send an INQUIRY each, in this order.
  *
- * The exit status is that of the first reply whose status is not 0, as for sgrun. A line with a
- * fault ends the script with status 2. */
+ * The first reply whose status is not 0 decides the exit status, as for sgrun. A line with a fault
+ * ends the script with status 2. */
 #include <inttypes.h>
 #include <stdio.h>
 #include <stdlib.h>
@@ -248,7 +248,7 @@ static void run_line(char *text)
     }
 }
 
-/* A unit attention is neither reported nor cleared by INQUIRY (SPC-4, 6.6.1). */
+/* INQUIRY does not report or clear a unit attention (SPC-4, 6.6.1). */
 static void log_in_eight(void)
 {
     static const uint8_t inquiry[6] = { 0x12 };

@@ -1,14 +1,14 @@
-/* Eight sessions at once, of which one is killed in the middle:
+/* Runs eight sessions at once, and kills one of them in the middle.
  *     load URL SECONDS HISTORY
  *
- * Each session is a process. It sends commands of many kinds, one after the other: writes and
- * unmaps of blocks that are its alone, reads of them, and service actions of persistent
- * reservations. When all have ended, each block holds what its session wrote last, of the writes
- * that were answered; of the killed session it may also be the one that was not. Reservation
- * commands are written to HISTORY with the times before they were sent and after they were
- * answered, for tests/order:
+ * Each session is a process. It sends commands of many kinds, one after the other. It writes,
+ * unmaps and reads blocks of its own, and sends service actions of persistent reservations. When
+ * all have ended, each block has to contain the last answered write of its session. In a block of
+ * the killed session it may be the write that got no answer. Each reservation command is a line of
+ * HISTORY, for tests/order, with the times before it was sent and after its answer:
  *     BEGIN END INITIATOR ACTION KEY ACTION-KEY TYPE STATUS GENERATION KEYS
- * END is 0 where no answer came. ACTION is that of PERSISTENT RESERVE OUT, or 16 for READ KEYS. */
+ * END is 0 if no answer came. ACTION is a service action of PERSISTENT RESERVE OUT, or 16 for READ
+ * KEYS. */
 #include <inttypes.h>
 #include <signal.h>
 #include <stdio.h>
@@ -25,7 +25,7 @@
 enum {
     SESSIONS = 8,
     KILLED = 7,
-    BLOCKS = 64, /* of a session alone */
+    BLOCKS = 64, /* of each session */
     MOST_BLOCKS = 8,
     EVENTS = 1 << 15,
     READ_KEYS = 16,
@@ -42,7 +42,7 @@ struct event {
     uint8_t keys[SESSIONS], key_count;
 };
 
-/* What a session leaves behind, also where it is killed. */
+/* The results of a session, which stay even if it is killed. */
 struct record {
     uint64_t written[BLOCKS]; /* number of the last answered write; 0 for zeros */
     uint64_t pending[BLOCKS]; /* number of the write that has no answer yet */
@@ -90,7 +90,7 @@ static uint32_t base_of(unsigned number)
     return number * BLOCKS;
 }
 
-/* What a block holds after a write: its address and the number of the write, over and over. */
+/* The content of a block after a write: its address and the number of the write, over and over. */
 static void fill_block(uint8_t *block, uint32_t address, uint64_t write)
 {
     uint64_t words[MDL_BLOCK_LENGTH / 8];
@@ -159,8 +159,8 @@ static void unmap_own(uint32_t first, uint32_t count)
     note_answered(first, count, 0);
 }
 
-/* Whether the blocks that were read are those of the writes that were answered. Of a block that is
- * `pending` either will do. */
+/* Returns 1 if a READ returned the blocks of the answered writes. Of a block that is `pending`
+ * either will do. */
 static void compare(unsigned owner, uint32_t first, uint32_t count)
 {
     uint8_t expected[MDL_BLOCK_LENGTH], other[MDL_BLOCK_LENGTH];
@@ -267,7 +267,7 @@ static void reserve(void)
         key = event.action_key;
 }
 
-/* Any two ports differ in name or ISID, and some in one alone. */
+/* Any two ports differ in name or ISID, and some differ in only one of them. */
 static struct session *log_in(const char *url, unsigned port)
 {
     struct session *opened = session_open(url, port / 2, port % 2);

@@ -67,7 +67,7 @@ static long residual_of(const struct scsi_task *task)
     }
 }
 
-/* Sense data is in the data segment, behind its length of two bytes (RFC 7143, 11.4.7.2). */
+/* Sense data is in the data segment, after its length of two bytes (RFC 7143, 11.4.7.2). */
 static void read_answer(const struct scsi_task *task, struct answer *answer)
 {
     const uint8_t *bytes = task->datain.data;

@@ -1,9 +1,9 @@
 /* Measures commands a second over iSCSI:
  *     speed NAME URL [NAME URL ..]
  *
- * For each logical unit a line: TEST UNIT READY, READ(10) and WRITE(10) of 8 blocks, from one
- * session that waits for each reply, and from eight such sessions at once. Each figure is the best
- * of three measurements of half a second. */
+ * Each logical unit has a line: TEST UNIT READY, READ(10) and WRITE(10) of 8 blocks. One session
+ * sends them and waits for each reply, and then eight such sessions at once. Each figure is the
+ * best of three measurements of half a second. */
 #include <inttypes.h>
 #include <stdio.h>
 #include <stdlib.h>

@@ -1,5 +1,6 @@
-/* Not proved. The ioctls of an sg node but for SG_IO: those that the tools use, answered as Linux's
- * sg driver answers for host 0, channel 0, target 0, logical unit 0. Others it does not know. */
+/* Not proved. Answers the ioctls of an sg node that the tools use, except SG_IO. Linux's sg driver
+ * gives the same answers for host 0, channel 0, target 0, logical unit 0. It does not know other
+ * ioctls. */
 #include "node.h"
 
 #include <errno.h>
@@ -9,8 +10,8 @@
 #include "../message.h"
 
 enum {
-    SG_VERSION = 30536,         /* 3.5.36, that of Linux since 2.6.27: the header of version 3 */
-    TICKS_A_MINUTE = 6000       /* of 10 ms, in which SG_GET_TIMEOUT counts */
+    SG_VERSION = 30536,         /* 3.5.36, as in Linux since 2.6.27: the header of version 3 */
+    TICKS_A_MINUTE = 6000       /* of 10 ms each, the unit of SG_GET_TIMEOUT */
 };
 
 struct identity_and_lun {

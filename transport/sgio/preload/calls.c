@@ -1,5 +1,6 @@
-/* Not proved. The functions of the C library that are ours for the node, and its own for all else.
- * They are those by which the tools of Debian 12 reach a device. */
+/* Not proved. Functions of the C library that we replace for the node. For everything that is not
+ * the node they call the library's own. The tools of Debian 12 reach a device by these
+ * functions. */
 #include <dlfcn.h>
 #include <errno.h>
 #include <fcntl.h>
@@ -16,10 +17,10 @@
 /* So one body serves both names of a function. */
 _Static_assert(sizeof(struct stat) == sizeof(struct stat64), "off_t has 64 bits");
 
-/* All else of this object is hidden from the program. */
+/* The program sees no other name of this object. */
 #pragma GCC visibility push(default)
 
-/* The mode is there where a file is made. O_TMPFILE has the bit of O_DIRECTORY, too. */
+/* A call that makes a file has a mode. O_TMPFILE has the bit of O_DIRECTORY, too. */
 static mode_t mode_of(int flags, va_list arguments)
 {
     int is_made = flags & O_CREAT || (flags & O_TMPFILE) == O_TMPFILE;
@@ -27,7 +28,8 @@ static mode_t mode_of(int flags, va_list arguments)
     return is_made ? va_arg(arguments, mode_t) : 0;
 }
 
-/* Each macro makes the function NAME: of the node for the node, the library's for all else. */
+/* Each macro makes the function NAME. For the node it does what the node does; otherwise it calls
+ * the library's. */
 #define OPEN(NAME) \
     int NAME(const char *path, int flags, ...) \
     { \
@@ -150,7 +152,7 @@ FSTAT(fstat64, stat64)
 FSTATAT(fstatat, stat)
 FSTATAT(fstatat64, stat64)
 
-/* What ls and stat ask. */
+/* ls and stat call this. */
 int statx(int folder, const char *path, int flags, unsigned mask, struct statx *status)
 {
     int (*next)(int, const char *, int, unsigned, struct statx *);
@@ -184,8 +186,8 @@ int ioctl(int descriptor, unsigned long request, ...)
     return -1;
 }
 
-/* An sg node is read and written by headers of commands that run on beside the program. That is not
- * carried, and their bytes must not get into the connection. */
+/* Programs read and write an sg node to send headers of commands that go on beside the program. We
+ * do not carry these, and their bytes must not get into the connection. */
 #define MOVE(NAME, BUFFER) \
     ssize_t NAME(int descriptor, BUFFER buffer, size_t length) \
     { \

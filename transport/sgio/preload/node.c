@@ -1,4 +1,5 @@
-/* Not proved. Which paths and descriptors are the node's, and how it looks from outside. */
+/* Not proved. Finds the paths and descriptors of the node, and says how the node looks from
+ * outside. */
 #include "node.h"
 
 #include <errno.h>
@@ -12,8 +13,9 @@
 
 #include "../connection.h"
 
-/* The major number of Linux's sg driver, by which tools know an sg node. No sg node has this minor
- * number (there are 32,768 at most), so nobody takes ours for one that the kernel has. */
+/* The major number of Linux's sg driver. Tools recognize an sg node by it. No sg node of the kernel
+ * has this minor number, because there are at most 32,768. So nobody takes ours for one of the
+ * kernel's. */
 enum { SG_MAJOR = 21, NODE_MINOR = 0xFFFFF };
 
 static const char *variable(const char *name, const char *otherwise)

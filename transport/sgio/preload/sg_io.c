@@ -1,5 +1,6 @@
-/* Not proved. SG_IO with the header of sg's version 3, as drivers/scsi/sg.c of Linux has it: which
- * headers are refused and how, and what is written into one when its command has ended. */
+/* Not proved. SG_IO with the header of sg's version 3, like drivers/scsi/sg.c of Linux. It says
+ * which headers are refused, and how. It says what is written into a header when its command has
+ * ended. */
 #include "node.h"
 
 #include <errno.h>
@@ -12,7 +13,7 @@
 enum {
     LEAST_CDB = 6,
     MOST_SG_CDB = 252,
-    DEFAULT_TIMEOUT = 30000,  /* the block layer's, where the header has 0 */
+    DEFAULT_TIMEOUT = 30000,  /* the block layer's, if the header has 0 */
     LONGEST_TIMEOUT = 86400000,
     HOST_TIMED_OUT = 3,       /* DID_TIME_OUT */
     DRIVER_HAS_SENSE = 8      /* DRIVER_SENSE */
@@ -22,7 +23,7 @@ enum {
 static pthread_mutex_t exchanges = PTHREAD_MUTEX_INITIALIZER;
 static uint8_t data_out[MOST_DATA_OUT], data_in[MDL_BUFFER_LENGTH];
 
-/* Whether direction, buffer and length fit together: sg_is_valid_dxfer. */
+/* Returns 1 if direction, buffer and length fit together: sg_is_valid_dxfer. */
 static int is_valid_transfer(const sg_io_hdr_t *header)
 {
     int has_buffer = header->dxferp != NULL, has_length = header->dxfer_len > 0;
@@ -100,8 +101,8 @@ static void put_sense(sg_io_hdr_t *header, const struct reply_header *reply)
     header->driver_status = DRIVER_HAS_SENSE;
 }
 
-/* What a reply means for the header. Of data-in that has no room the rest is dropped. The disk does
- * not report how much of data-out it took, so the residual count of data-out is 0. */
+/* Writes a reply into the header. Data-in that has no room is dropped. The disk does not report how
+ * much of data-out it took, so the residual count of data-out is 0. */
 static void put_reply(sg_io_hdr_t *header, const struct reply_header *reply)
 {
     uint32_t length = reply->data_in_length;

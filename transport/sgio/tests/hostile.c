@@ -1,8 +1,8 @@
-/* Not proved. Random commands and broken messages at the server's socket, and through SG_IO:
- *     hostile messages SEED COUNT   at MDL_SOCKET
- *     hostile node SEED COUNT       at the path of $disk, under LD_PRELOAD
- * Each reply is looked at; behind all of them each initiator's TEST UNIT READY has to be answered.
- * Status 1, with a line, where one is not as it should be. */
+/* Not proved. Sends random commands and broken messages.
+ *     hostile messages SEED COUNT   sends them to the server's socket, MDL_SOCKET.
+ *     hostile node SEED COUNT       sends them by SG_IO, to the path of $disk, under LD_PRELOAD.
+ * It checks the form of each reply. After all of them each initiator's TEST UNIT READY has to be
+ * answered. If a reply is not as it should be, it prints a line and has status 1. */
 #include <errno.h>
 #include <fcntl.h>
 #include <scsi/sg.h>
@@ -46,7 +46,7 @@ static void count_status(uint8_t status)
     conflicts += status == MDL_RESERVATION_CONFLICT;
 }
 
-/* What holds for each reply, whatever was sent. */
+/* Checks a reply, whatever was sent. */
 static void look_at(const struct reply_header *reply)
 {
     int is_check = reply->status == MDL_CHECK_CONDITION;
@@ -132,7 +132,7 @@ static void send_malformed(uint64_t *seed)
     close(connection);
 }
 
-/* A client that closes in the middle of a request, or behind it without reading the reply. */
+/* A client that closes in the middle of a request, or after it without reading the reply. */
 static void send_and_close(uint64_t *seed)
 {
     int connection = open_connection();
@@ -214,7 +214,7 @@ static void cut_a_write(void)
     close(connection);
 }
 
-/* More clients than there are places: some find their connection closed, and all else goes on. */
+/* More clients than there are places: some find their connection closed, and the others go on. */
 static void open_many(void)
 {
     int connections[MANY], at, refused = 0;
@@ -233,8 +233,8 @@ static void open_many(void)
         close(connections[at]);
 }
 
-/* A client that asks for much and reads nothing keeps no other from its replies, and finds all its own
- * when it reads: each once, and whole. How many of them the socket holds is the system's. */
+/* A client that asks for much and reads nothing keeps no other from its replies. When it reads, it
+ * finds all its own, each once and whole. The system decides how many of them the socket holds. */
 static void ask_and_read_late(int count)
 {
     static const uint8_t read_256[10] = { 0x28, 0, 0, 0, 0, 0, 0, 1, 0, 0 };
@@ -281,7 +281,7 @@ static void send_longest(void)
     close(connection);
 }
 
-/* The last word: each initiator's second TEST UNIT READY, behind unit attentions, is GOOD. */
+/* At the end, after unit attentions, each initiator's second TEST UNIT READY is GOOD. */
 static void ask_all(void)
 {
     struct reply_header reply;
@@ -325,7 +325,7 @@ static void run_messages(uint64_t seed, unsigned long count)
     ask_all();
 }
 
-/* Fills a header of SG_IO for a command. Where it has data-out, the transfer is to the disk. */
+/* Fills a header of SG_IO for a command. If it has data-out, the transfer is to the disk. */
 static void put_header(uint64_t *seed, struct random_command *command, sg_io_hdr_t *header)
 {
     memset(header, 0, sizeof *header);
@@ -361,7 +361,7 @@ static int spoil_header(uint64_t *seed, sg_io_hdr_t *header)
     }
 }
 
-/* What sg promises of a header whose command has ended. */
+/* Checks what sg promises of a header whose command has ended. */
 static void look_at_header(const sg_io_hdr_t *header, const uint8_t *sense)
 {
     int is_check = header->status == MDL_CHECK_CONDITION, has_sense = header->sb_len_wr > 0;
@@ -433,7 +433,7 @@ int main(int count, char **words)
     server = getenv("MDL_SOCKET");
     if (count != 4 || !server)
         return 2;
-    alarm(LONGEST); /* where a reply does not come, SIGALRM ends this */
+    alarm(LONGEST); /* if a reply does not come, SIGALRM ends this */
     if (strcmp(words[1], "messages") == 0)
         run_messages(strtoull(words[2], NULL, 10), strtoul(words[3], NULL, 10));
     else

@@ -1,8 +1,9 @@
-/* Not proved. Eight processes, each an initiator, use the path of $disk at once for some seconds:
- *     load SECONDS     in the environment of `join`, on a new disk of 4,096 blocks
- * Each has 32 blocks of its own, in which it writes, reads, unmaps and anchors, and it registers a key,
- * and unregisters it. Half the time gone, one of them is killed. The others have to end, with their
- * blocks as they left them; of the killed one each block is whole. It is an ordinary program of sg. */
+/* Not proved. Eight processes, each an initiator, use the path of $disk at once for some seconds.
+ *     load SECONDS     runs in the environment of `join`, on a new disk of 4,096 blocks.
+ * Each process has 32 blocks of its own. It writes, reads, unmaps and anchors them. It registers a key
+ * and unregisters it. After half of the time one process is killed. The others have to end, with
+ * their blocks as they left them. Each block of the killed one has to be whole. The program uses sg
+ * as any other does. */
 #include <errno.h>
 #include <fcntl.h>
 #include <inttypes.h>
@@ -183,7 +184,8 @@ static pid_t start(int initiator, time_t end)
     exit(0);
 }
 
-/* What the killed one left: whole blocks of its own, and perhaps its registration. */
+/* Checks the remains of the killed process: whole blocks of its own, and perhaps its
+ * registration. */
 static void look_at_killed(void)
 {
     static const uint8_t own_key[8] = { [7] = 0xA0 + KILLED };

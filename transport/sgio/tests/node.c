@@ -1,7 +1,8 @@
-/* Not proved. What a program sees of the path, beside the commands: how it opens and looks, what its
- * descriptors do, each field of SG_IO's header, a server that does not answer or is gone.
- *     node      in the environment of `join`, with a server of its own at MDL_SOCKET
- * Status 1, with a line, where something is not as it should be. */
+/* Not proved. Tries all that a program sees of the path, apart from commands: how it opens and looks,
+ * and what its descriptors do. Then it tries each field of SG_IO's header, and a server that does not
+ * answer or is gone.
+ *     node      runs in the environment of `join`, with a server of its own at MDL_SOCKET.
+ * If something is not as it should be, it prints a line and has status 1. */
 #include <errno.h>
 #include <fcntl.h>
 #include <pthread.h>

@@ -3,8 +3,8 @@
 
 #include <string.h>
 
-/* A row of the commands of the disk: which bits of byte 1 may be set, where the last bytes of its
- * address and its count are (0: nowhere), and what data-out it has for each of its count. */
+/* A row of the disk's commands. It says which bits of byte 1 may be set, and where address and
+ * count end (0 for none). It says how much data-out the command has for each of its count. */
 struct row {
     uint8_t opcode, length, flags, address, count;
     uint16_t data_out;

@@ -7,14 +7,14 @@
 
 #include "tests/below.h"
 
-/* Bytes of which many are 0. */
+/* Random bytes. Many of them are 0. */
 void random_bytes(uint64_t *seed, uint8_t *bytes, size_t length);
 
 enum { MOST_RANDOM_LIST = 4096 };
 
 struct random_command {
     uint8_t cdb[256], cdb_length;
-    uint32_t data_out_length;           /* of which MOST_RANDOM_LIST are in `data_out` */
+    uint32_t data_out_length;           /* `data_out` has MOST_RANDOM_LIST of them */
     uint8_t data_out[MOST_RANDOM_LIST];
 };
 
