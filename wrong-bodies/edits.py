@@ -1,5 +1,5 @@
 """Wrong bodies, as the scripts of this folder read them. A wrong body is a list of changes of a crate's
-source, each a line `old: TEXT` and a line `new: TEXT`, where each old text is in its file just once.
+source. Each change is a line `old: TEXT` and a line `new: TEXT`. Each old text is in its file just once.
 
 `wrong-bodies/CRATE/SOURCE.edits` has the wrong bodies of the crate's file src/SOURCE.rt. Its first line
 is `file: src/SOURCE.rt`. Each wrong body has a line `## NAME`, and its changes below it. A body that

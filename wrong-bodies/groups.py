@@ -1,4 +1,4 @@
-"""Which wrong bodies of a crate the prover can judge in one check, and which `./check` tries."""
+"""Finds the wrong bodies of a crate that the prover can judge in one check, and those of `./check`."""
 
 import os
 import re
@@ -13,7 +13,7 @@ from functions import functions_in, functions_of
 # A function of a crate: its file, what is said of it there, and its body.
 Place = namedtuple("Place", "file function text")
 
-# How many checks of a crate ./check makes. Of a program or a library for C it makes one.
+# ./check makes so many checks of a crate. Of a program or a library for C it makes one.
 CHECKS = 2
 
 
@@ -31,7 +31,7 @@ def places_of(folder):
 
 
 def place_of(changes, places, folder):
-    """The one function whose body changes change. None where they change anything else."""
+    """Returns the one function whose body changes change, or None if they change anything more."""
     found = set()
     for file, old, _ in changes:
         if not file.startswith("src/"):
@@ -52,7 +52,7 @@ CALL = re.compile(r"(\.|\b[A-Za-z_]\w*(?:::<[^;(]*?>)?::)?\b([a-z_]\w*)\b"
 
 
 def is_called(before, place, other):
-    """Whether what is before a name in a function may lead to another function of that name."""
+    """Returns whether a call, by the text before its name, may lead to another function of that name."""
     owner, of = re.sub(r"::.*", "", before), other.function.type
     if before == ".":
         return bool(of)
@@ -92,25 +92,25 @@ def first(root):
 
 
 def ranks(root, crate):
-    """The rank of each name of a crate's wrong bodies that come before others: 0 for those of the file
-    `first`, 1 for those that docs/PROMISES.md gives as refused."""
+    """Returns the ranks of the names that come before others. A name in the file `first` has rank 0. A
+    name in docs/PROMISES.md has rank 1."""
     with open(f"{root}/docs/PROMISES.md", encoding="utf-8") as it:
         found = dict.fromkeys(re.findall(r"[a-z0-9]+(?:-[a-z0-9]+)+", it.read()), 1)
     return {**found, **{name: 0 for of, name in first(root) if of == crate}}
 
 
 def collisions_of(of, places):
-    """For each name those that one check can't judge beside it, by the functions that they change: the
-    same function, or one that leads to the other by its calls."""
+    """Returns for each name the names that one check can't judge beside it. Both change the same
+    function, or the calls of one function lead to the other."""
     reached = reached_from(places)
     return {one: {other for other in of if of[one] == of[other]
                   or of[one] in reached[of[other]] or of[other] in reached[of[one]]} for one in of}
 
 
 def together(bodies, folder, rank):
-    """Puts wrong bodies into groups, each for one check that judges each of the group by itself. The
-    first groups have as many as they can, and those of a lower rank before others. Returns the groups,
-    as pairs of a wrong body and its place, and the wrong bodies that change no one function."""
+    """Puts wrong bodies into groups. One check judges each body of a group by itself. The first groups
+    are as large as possible, and prefer bodies of a lower rank. Returns the groups, as pairs of a wrong
+    body and its place, and the wrong bodies that change more than one function."""
     places = places_of(folder)
     body_of = {it.name: it for it in sorted(bodies, key=lambda it: it.name)}
     of = {name: place_of(it.changes, places, folder) for name, it in body_of.items()}
@@ -138,7 +138,7 @@ def together(bodies, folder, rank):
 
 
 def links(folder):
-    """Whether a crate is linked with all that it stands on: a program, or a library for C."""
+    """Returns whether a crate is linked with all crates below it: a program, or a library for C."""
     with open(f"{folder}/../../crates.txt", encoding="utf-8") as it:
         is_static = re.search(rf"(?m)^{os.path.basename(folder)} staticlib:", it.read())
     return bool(is_static) or os.path.exists(f"{folder}/src/main.rt")
@@ -152,5 +152,5 @@ def first_groups(root, crate):
 
 
 def tried_by_check(root):
-    """How many wrong bodies of this folder ./check tries."""
+    """Counts the wrong bodies of this folder that ./check tries."""
     return sum(len(group) for it in edits.crates(root) for group in first_groups(root, it))
