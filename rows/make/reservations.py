@@ -48,6 +48,7 @@ class Reservations:
         self.generation = 0
 
     def holders(self):
+        """SPC-4, 5.13 (reservation holder)"""
         if self.type is None:
             return []
         return list(self.keys) if self.type in ALL_REGISTRANTS else [self.taker]
@@ -61,16 +62,20 @@ class Reservations:
         return reservation_class == "reads" and self.type not in EXCLUSIVE
 
     def count_change(self):
+        """SPC-4, 6.15.2 (PRGENERATION)"""
         self.generation = (self.generation + 1) % 2**32
 
     def take(self, initiator, kind):
+        """SPC-4, 5.13 (reserving)"""
         self.type, self.taker = kind, initiator
 
     def end(self):
+        """SPC-4, 5.13 (releasing)"""
         self.type, self.taker = None, None
 
     def remove(self, initiators):
-        """Unregisters. The reservation ends if no holder is left; returns its type then."""
+        """SPC-4, 5.13 (unregistering): the reservation ends if no holder is left. Returns its type
+        then."""
         for initiator in initiators:
             del self.keys[initiator]
         ended = self.type
@@ -148,11 +153,13 @@ class Request:
         self.registered_before = list(self.state.keys)
 
     def notify(self, initiators, code):
-        """Only who was registered before the command, and never the caller."""
+        """Unit attentions for initiators that were registered before the command, and never for the
+        caller (SPC-4, 5.13: the rules of each service action)"""
         told = [other for other in self.registered_before if other != self.caller]
         self.device.raise_attention([other for other in told if other in initiators], code)
 
     def under_action_key(self):
+        """SPC-4, 6.16.3 (SERVICE ACTION RESERVATION KEY)"""
         return [who for who, key in self.state.keys.items() if key == self.action_key]
 
 
@@ -173,13 +180,15 @@ def persistent_reserve_out(device, caller, command, data_out):
 
 
 def check_scope_and_type(command):
-    """SCOPE 0h is the logical unit; both fields are in command byte 2."""
+    """SPC-4, 6.15.3.3 (scope) and 6.15.3.4 (type): SCOPE 0h is the logical unit. Both fields are in
+    command byte 2."""
     if command["scope"] != 0 or command["type"] not in TYPES:
         raise command.unsupported("type")
 
 
 def check_key(request):
-    """RESERVATION KEY is the caller's, or 0 for a REGISTER of who is not registered."""
+    """SPC-4, 5.13 and 6.16.3 (RESERVATION KEY): the key is the caller's. If the caller is not
+    registered, it is 0, and the service action is REGISTER."""
     if request.command.name == "REGISTER AND IGNORE EXISTING KEY":
         return
     if request.caller in request.state.keys:
@@ -238,7 +247,7 @@ def clear(request):
 
 
 def preempt(request):
-    """SPC-4, 5.13 (preempting): five cases, of which the first that applies decides"""
+    """SPC-4, 5.13 (preempting): the first of five cases that applies decides"""
     state, key = request.state, request.action_key
     has_one_holder = state.type is not None and state.type not in ALL_REGISTRANTS
     removed = request.under_action_key()
@@ -257,7 +266,8 @@ def preempt(request):
 
 
 def preempt_reservation(request, removed):
-    """The caller stays registered and takes the reservation, with TYPE of the command."""
+    """SPC-4, 5.13 (preempting a reservation): the caller stays registered and takes it, with TYPE of
+    the command."""
     check_scope_and_type(request.command)
     state, kind_before = request.state, request.state.type
     removed = [who for who in removed if who != request.caller]
