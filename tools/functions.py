@@ -10,9 +10,9 @@ from collections import namedtuple
 HEAD = re.compile(r'( *)(pub(?:\([a-z]+\))? )?(?:const )?(?:extern "C" )?fn (\w+)')
 IMPL = re.compile(r"impl(?:<[^{]*?>)?\s+(.*?)\s*(?:where.*)?\{?\s*$")
 
-# A function in the text of a file. `line` is the number of its first line, and `lines` counts those
-# of its body. It begins at `start`, its body at `body`, which is None where it has none, and it ends
-# at `end`. Its impl is for `type` and of `trait`.
+# A function in the text of a file. `line` is the number of its first line, and `lines` counts the
+# lines of its body. It begins at `start`, its body at `body`, which is None where it has none, and
+# it ends at `end`. Its impl is for `type` and of `trait`.
 Function = namedtuple("Function", "name type trait is_public line lines start body end")
 
 

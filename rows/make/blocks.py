@@ -1,7 +1,7 @@
-"""The commands that read and write logical blocks, and those of provisioning (SBC-3, 5).
+"""The commands that read and write logical blocks, and the commands of provisioning (SBC-3, 5).
 
-The lines of each command are in the order of checks 7 to 12 of docs/PROFILE.md: values that are not
-supported, data-out, the parameter list, addresses, write protection, room in the pool.
+The lines of each command are in the order of checks 7 to 12 of docs/PROFILE.md. These are
+unsupported values, data-out, the parameter list, addresses, write protection, and room in the pool.
 """
 
 from provisioning import BLOCK_LENGTH, ZEROS
@@ -36,7 +36,7 @@ def transfer_length(command):
 
 
 def need_data_out(data_out, length):
-    """What the command needs of its data-out: less is an error, more is ignored."""
+    """Returns as much data-out as the command needs. Less is an error, and more is ignored."""
     if len(data_out) < length:
         raise CheckCondition(ABORTED_COMMAND, DATA_PHASE_ERROR)
     return data_out[:length]

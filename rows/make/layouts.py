@@ -1,9 +1,9 @@
 """The command descriptor blocks of the profile (SPC-4, 4.2.5, and the section of each command).
 
 One table: operation code, service action, name, reservation class, fields, ignored bits. A field is
-written with the bytes that it takes: `4`, `2-5`, and with the bits of its first byte under a mask,
-as `1:10` or `1:1F-3`. SERVICE ACTION, if the command has one, is 1:1F. A bit that is neither a
-field's nor ignored has to be zero, so each bit of CONTROL, the last byte, too.
+written with its bytes, such as `4` or `2-5`. A mask gives the bits of its first byte, such as
+`1:10` or `1:1F-3`. SERVICE ACTION, if the command has one, is 1:1F. A bit has to be zero unless it
+belongs to a field or is ignored. So each bit of CONTROL, the last byte, has to be zero.
 
 Reservation classes (SPC-4, 5.13, and SBC-3, the tables of commands that a reservation allows):
 `allowed` under every reservation, `reads` and `writes` as their names say.

@@ -1,7 +1,7 @@
 """Scripts of random commands. A seed decides the script and the disk.
 
-The commands are near to valid ones: fields have values that matter, lists are whole or nearly so,
-and a bit is turned now and then. So most states of a small disk come up within some hundred lines.
+The commands are nearly valid. Fields have values that matter, and lists are whole or nearly so. Now
+and then a bit is turned. So most states of a small disk come up within some hundred lines.
 """
 
 import random

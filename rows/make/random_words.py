@@ -62,7 +62,7 @@ def tool_line(random, initiator):
 
 
 def forms_of(random, option):
-    """The words of an option: short or long, its text attached or behind it."""
+    """The words of an option: short or long, with its text attached or after it."""
     text = random.choice(TEXTS)
     short = option.short and random.random() < 0.6
     named = f"-{option.short}" if short else f"--{option.long}"

@@ -1,6 +1,6 @@
 """Scripts: lines, their faults, what each prints, and the exit status (docs/SCRIPT.md).
 
-What this module asks of the two that decode answers and read the words of tools:
+Two modules decode answers and read the words of tools. This module uses these parts of them:
 
     texts.KINDS                the kinds of answers of `show`: "inq", "vpd", .. "sense"
     texts.show(kind, data)     the lines of an answer: a list of str, with their leading blanks and
@@ -25,7 +25,7 @@ from words import hex_bytes, hex_lines, number
 
 LONGEST_LINE = 4096
 MOST_WORDS = 64
-BAD_BYTE = re.compile(rb"[^\t -~]")  # neither a tab nor printable ASCII
+BAD_BYTE = re.compile(rb"[^\t -~]")  # no tab and no printable ASCII
 STATUS_OF_A_FAULT = 1
 STATUS_NAMES = {
     GOOD: "GOOD",
@@ -57,7 +57,8 @@ class Run:
         self.status = self.status or status
 
     def _executed(self, line):
-        """What the line prints, and its status: the first row of the table in SCRIPT, "Lines"."""
+        """Returns the text of the line and its status, by the first row that applies in SCRIPT,
+        "Lines"."""
         if len(line) > LONGEST_LINE:
             raise Fault("too long")
         line = line.removesuffix(b"\r")

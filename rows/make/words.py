@@ -1,6 +1,6 @@
 """The words of a script's line, and the bytes that a script prints (docs/SCRIPT.md).
 
-What `script.py` and `tools.py` have in common: numbers, hexadecimal bytes, hex lines.
+`script.py` and `tools.py` both use these: numbers, hexadecimal bytes, hex lines.
 """
 
 import re

@@ -19,7 +19,7 @@ def more_than_512_extents():
 
 @row("get-lba-status/cut-at-each-length")
 def cut():
-    """Four extents, cut: PARAMETER DATA LENGTH stays that of all (SPC-4, 4.2.5.6)"""
+    """Four extents, cut: PARAMETER DATA LENGTH counts all of them (SPC-4, 4.2.5.6)"""
     yield from POWER_ON_TAKEN
     for address in (0, 2):
         yield write_10(address, 512 * b"\xAB")

@@ -26,7 +26,7 @@ def test_unit_ready(initiator):
     return raw(initiator, "000000000000")
 
 
-# What most scripts begin with: no unit attention is pending afterwards. Either the condition of
+# Most scripts begin with this. Afterwards no unit attention is pending. Either the condition of
 # power on is returned as data, or it is reported.
 POWER_ON_TAKEN = [request_sense(initiator) for initiator in INITIATORS]
 POWER_ON_REPORTED = [test_unit_ready(initiator) for initiator in INITIATORS]
@@ -94,7 +94,7 @@ def get_lba_status(start, length):
 
 
 def unmap_list(extents, data_length=None, descriptors_length=None):
-    """The parameter list of UNMAP; its two lengths are those of its bytes, unless given."""
+    """The parameter list of UNMAP. Its two lengths count its bytes, unless they are given."""
     descriptors = b"".join(
         address.to_bytes(8, "big") + count.to_bytes(4, "big") + bytes(4)
         for address, count in extents)

@@ -21,10 +21,10 @@ SHORT_HEADER = bytes.fromhex("0000 00 00 00 00 0008")
 @row("mode-select/six-with-each-value-in-the-control-page", 0x0A)
 @row("mode-select/six-with-each-value-in-the-informational-exceptions-control-page", 0x1C)
 def each_value(code):
-    """A list of one page, each byte of which takes each value (SPC-4, 6.11).
+    """A list of one page. Each of its bytes takes each value (SPC-4, 6.11).
 
-    Only changeable bits may differ, and PS; of another byte its number is reported. The page is
-    read if a list is accepted and pages are not the default ones then, and the default page is
+    Only changeable bits may differ, and PS; of another byte its number is reported. If a list is
+    accepted and the pages are not the default ones then, the page is read. The default page is
     selected again before the next byte. In the end each other initiator has one unit attention.
     """
     session = Session()
@@ -89,8 +89,8 @@ def each_bit(select, size):
 def each_bit_of_the_descriptor(select, header, descriptor):
     """Each byte of the block descriptor: each bit turned, all bits turned, and zero.
 
-    The descriptor has to be the disk's own (SBC-3, 6.4.2), or has a number of blocks of 0; then its
-    other bytes still have to be the disk's.
+    The descriptor has to be the disk's own (SBC-3, 6.4.2). It may have a number of blocks of 0, but
+    its other bytes still have to be the disk's.
     """
     yield from POWER_ON_TAKEN
     for place, own in enumerate(descriptor):

@@ -12,7 +12,7 @@ MISSING_PAGES = [page for page in range(ALL_PAGES) if page not in MODE_PAGES]
 
 
 def pages_with(error_recovery, wce, control):
-    """All four pages, the changeable bits of which have values of their own."""
+    """All four pages. Their changeable bits have values of their own."""
     recovery = bytes.fromhex("01 0A") + bytes.fromhex(error_recovery)
     return (recovery + with_byte(mode_page(0x08), 2, wce) + bytes.fromhex("0A 0A")
             + bytes.fromhex(control) + mode_page(0x1C))
@@ -32,7 +32,7 @@ def lengths_of(page, header_and_descriptor):
 def six_cut():
     """Each page under each PC, cut at each allocation length, without and with DBD.
 
-    MODE DATA LENGTH is that of the full list, however it is cut (SPC-4, 4.2.5.6 and 7.5.5). Saved,
+    MODE DATA LENGTH counts the full list, however it is cut (SPC-4, 4.2.5.6 and 7.5.5). Saved,
     current, default and changeable values all differ. With all subpages the list is the same.
     """
     yield from POWER_ON_TAKEN
@@ -85,7 +85,8 @@ def ten_cut_without_descriptor():
 def missing_pages(size):
     """Each page code that the disk does not have, under each PC: command byte 2 (SPC-4, 6.13).
 
-    Other fields take turns. A subpage that is missing too does not matter, nor does a length of 0.
+    Other fields take turns. A subpage that is missing too does not matter. A length of 0 does not
+    matter either.
     """
     yield from POWER_ON_TAKEN
     for page in MISSING_PAGES:

@@ -46,7 +46,7 @@ def cut(action, lengths):
 
 @row("persistent-reserve-in/cut-at-each-length")
 def cut_at_each_length():
-    """Each answer, cut: ADDITIONAL LENGTH stays that of the full answer (SPC-4, 6.15)"""
+    """Each answer, cut: ADDITIONAL LENGTH counts the full answer (SPC-4, 6.15)"""
     yield from POWER_ON_TAKEN
     for action in (0, 1, 2):
         yield from cut(action, 10)

@@ -7,7 +7,7 @@ from rows_of.lines import POWER_ON_TAKEN, raw, test_unit_ready
 from rows_of.tour import ACTIONS, SECTIONS, Tour, A, B, C, F, reserve_in, reserve_out
 
 REGISTRANTS = [(0, A), (1, B), (2, C), (3, C)]
-# Who sends, and the keys that it sends, its own first. 3 does as 2, and 4 is not registered.
+# The sender, and the keys that it sends, its own first. 3 does as 2, and 4 is not registered.
 KEYS = {0: [A, B, C, F, 0], 1: [B, A, C, F, 0], 2: [C, A, F, 0], 4: [A, C, F, 0]}
 TYPES = (0x1, 0x3, 0x5, 0x6, 0x7, 0x8)
 # SCOPE and TYPE of actions that ignore them: valid ones, and scopes and types that are none.
@@ -85,7 +85,7 @@ def clear():
 @row("persistent-reserve-out/reserve-under-each-type", "RESERVE")
 @row("persistent-reserve-out/release-under-each-type", "RELEASE")
 def reserve_and_release(action):
-    """Each initiator asks for each type under each type, that of the reservation last"""
+    """Under each type, each initiator asks for each type, and for the reservation's type last"""
     tour = tour_of_four()
     for held_type in SECTIONS:
         tour.section(held_type)

@@ -52,7 +52,7 @@ def read_reservation():
 
 @row("sg_persist/types")
 def types():
-    """The row has each value of T, six of which are types, and texts that are no value of T."""
+    """The row has each value of T, and texts that are no value of T. Six values are types."""
     yield request_sense(0)
     yield tool("sg_persist -G -S 1")
     for kind in [*"0123456789aF", "0x5", "0X7"]:

@@ -32,8 +32,8 @@ def long_names():
 
 @row("tools/under-each-reservation")
 def reservations():
-    """Under each type the row has each tool, sent by the holder, by another registrant and by an
-    initiator that is not registered (docs/PROFILE.md, "Which commands a reservation allows")."""
+    """Under each type the row has each tool. The holder, another registrant and an unregistered
+    initiator send it (docs/PROFILE.md, "Which commands a reservation allows")."""
     yield from map(request_sense, range(3))
     yield tool("sg_persist -G -S a")
     yield tool("sg_persist -G -S b", initiator=1)

@@ -56,7 +56,8 @@ class Tour(Session):
         self.set_up()
 
     def set_up(self):
-        """Who is registered first clears, all attentions are taken, all register, one reserves."""
+        """The first registrant clears, all attentions are reported, all register, and one
+        reserves."""
         registered = self.device.reservations.keys
         if registered:
             first = min(registered)

@@ -27,7 +27,7 @@ def cut_list():
 
 @row("unmap/lengths-that-disagree")
 def lengths_that_disagree():
-    """UNMAP BLOCK DESCRIPTOR DATA LENGTH and the bytes that are there: the smaller one counts.
+    """UNMAP BLOCK DESCRIPTOR DATA LENGTH and the bytes of the list: the smaller number counts.
 
     UNMAP DATA LENGTH does not matter. 65 descriptors are refused only if 65 are whole.
     """

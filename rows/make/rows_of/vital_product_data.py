@@ -29,6 +29,6 @@ def cut_with_far_lengths(page, evpd):
 @row("vital-product-data/block-limits-cut-at-each-length", 0xB0, 67)
 @row("vital-product-data/supported-pages-cut-at-each-length", 0x00, 59)
 def cut(page, lengths):
-    """Cut at each allocation length (SPC-4, 4.2.5.6): PAGE LENGTH stays that of the full page"""
+    """Cut at each allocation length (SPC-4, 4.2.5.6): PAGE LENGTH counts the full page"""
     for length in range(lengths):
         yield inquiry(page, length)

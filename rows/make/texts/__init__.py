@@ -24,7 +24,7 @@ KINDS = {
     "sense": lambda data: [sense.line(data)],
 }
 
-# What only a tool shows: sg_get_lba_status --brief.
+# Only a tool shows this kind: sg_get_lba_status --brief.
 TOOL_KINDS = KINDS | {"lba-brief": provisioning.brief}
 
 

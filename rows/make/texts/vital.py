@@ -49,7 +49,7 @@ def serial_number(answer):
 
 
 def designators(answer):
-    """Page 83h (SPC-4, 7.8.6): each designator is two lines, of which the second has its bytes."""
+    """Page 83h (SPC-4, 7.8.6): each designator is two lines. The second has its bytes."""
     at = 4
     while at < answer.end:
         head = answer.take(at, 4)

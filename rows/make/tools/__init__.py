@@ -12,7 +12,7 @@ from .options import Refused, given
 
 
 class Plan(NamedTuple):
-    """A fault, or else a CDB, data-out, and a function from data-in to the lines shown."""
+    """Returns a fault, or a CDB, data-out, and a function from data-in to the lines shown."""
 
     fault: str | None
     cdb: bytes = b""

@@ -1,4 +1,4 @@
-"""How options are written: clap's rule for a simple command (docs/SCRIPT.md, "I TOOL OPTIONS")."""
+"""Reads options by clap's rule for a simple command (docs/SCRIPT.md, "I TOOL OPTIONS")."""
 
 from typing import Callable, NamedTuple
 
@@ -23,7 +23,7 @@ def given(options, words):
     found, rest = {}, list(words)
     while rest:
         word = rest.pop(0)
-        if word == "--":  # it ends the options, and there is nothing else to give
+        if word == "--":  # it ends the options, and no other word may follow
             if rest:
                 raise Refused
         elif word.startswith("--"):
