@@ -9,10 +9,10 @@ pub use error::Error;
 pub use sys::{kind, mdl_identity as Identity, mdl_sense as Sense, profile};
 pub use sys::{CHECK_CONDITION, GOOD, RESERVATION_CONFLICT};
 
-/// The text that is written as snprintf(3) writes, or none.
+/// Returns the text that a function writes as snprintf(3) does, or None.
 fn text_of(write: impl Fn(&mut [u8]) -> usize) -> Option<String> {
     let length = write(&mut []);
-    // Where there is no text, the length is the greatest number.
+    // If there is no text, the length is the greatest number.
     let mut text = vec![0; length.checked_add(1)?];
     if write(&mut text) != length {
         return None;
@@ -21,7 +21,8 @@ fn text_of(write: impl Fn(&mut [u8]) -> usize) -> Option<String> {
     String::from_utf8(text).ok()
 }
 
-/// What an answer of a `kind` contains, in lines. None where there is no such kind, or no memory.
+/// Returns what an answer of a `kind` contains, in lines. Returns None if there is no such kind, or if
+/// memory runs out.
 pub fn decode(kind: u32, data_in: &[u8]) -> Option<String> {
     // SAFETY: each pointer has the bytes that its length says, and they don't overlap.
     text_of(|text| unsafe {
@@ -35,8 +36,8 @@ pub fn version() -> Option<String> {
     text_of(|text| unsafe { sys::mdl_version(text.as_mut_ptr().cast(), text.len()) })
 }
 
-/// The reply to a command. Its data-in is that of the disk until the next command, and of the kind
-/// that a tool's is, or else of `kind::HEX`.
+/// The reply to a command. It borrows the disk's data-in until the next command. `kind` says how
+/// data-in is printed: `kind::HEX`, unless a tool sent the command.
 pub struct Reply<'a> {
     record: sys::mdl_reply,
     pub data_in: &'a [u8],
@@ -60,7 +61,8 @@ impl Reply<'_> {
         Some(fields)
     }
 
-    /// What sgrun prints of it behind its status, data-in or sense data. None without memory.
+    /// Returns what sgrun prints of it after its status: data-in or sense data. Returns None if memory
+    /// runs out.
     pub fn text(&self) -> Option<String> {
         match self.status() {
             GOOD => decode(self.kind, self.data_in),
@@ -69,7 +71,8 @@ impl Reply<'_> {
         }
     }
 
-    /// The exit status that the tools of sg3_utils have for it, as far as docs/SCRIPT.md says.
+    /// Returns the exit status that the tools of sg3_utils have for it. docs/SCRIPT.md lists the
+    /// differences.
     pub fn exit_status(&self) -> u8 {
         // SAFETY: the pointer is to a whole record.
         unsafe { sys::mdl_exit_status(&self.record) as u8 }
@@ -82,18 +85,18 @@ pub struct Disk {
     data_in: Box<[u8]>,
 }
 
-// SAFETY: by the header, a disk may go to another thread, where the calls are ordered, as a move of
-// a `Send` value orders them.
+// SAFETY: by the header, a disk may go to another thread if the calls are ordered. A move of a `Send`
+// value orders them.
 unsafe impl Send for Disk {}
 
 impl Disk {
-    /// A disk of the base profile, of `blocks` blocks, of which `pool` can be mapped or anchored at
-    /// once. None is the standard identity.
+    /// Makes a disk of the base profile with `blocks` blocks. At most `pool` of them can be mapped or
+    /// anchored at once. None is the standard identity.
     pub fn new(blocks: u64, pool: u32, identity: Option<&Identity>) -> Result<Disk, Error> {
         Disk::with_profile(profile::BASE, blocks, pool, identity)
     }
 
-    /// A disk as `new` makes it, of a profile of `profile`.
+    /// Makes a disk as `new` does, but of any profile, a number of the module `profile`.
     pub fn with_profile(
         profile: u32,
         blocks: u64,
@@ -125,7 +128,7 @@ impl Disk {
         Ok(Reply { record, data_in: &self.data_in[..record.data_in_length], kind: kind::HEX })
     }
 
-    /// Executes what the words of a tool ask for, as "sg_vpd -p lbpv".
+    /// Executes what the words of a tool ask for, such as "sg_vpd -p lbpv".
     pub fn tool(&mut self, initiator: u32, words: &str) -> Result<Reply<'_>, Error> {
         let words = CString::new(words).map_err(|_| Error::BadByte)?;
         let mut data_out = [0; sys::DATA_OUT_LENGTH];

@@ -1,4 +1,4 @@
-//! What the crate has beside what the first minute uses.
+//! Tries the parts of the crate that the first minute does not use.
 use mehdalung::{decode, kind, profile, version, Disk, Error, Identity, Reply, CHECK_CONDITION, GOOD};
 
 const TEST_UNIT_READY: [u8; 6] = [0; 6];
