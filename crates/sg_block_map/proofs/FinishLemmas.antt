@@ -8,7 +8,7 @@ use Rattle.std.specs.Prelude.{unwrap_or, option_to_list, IfSome}
 use Rattle.sg_store.specs.Disk.{Contents, Mapping, used_among, remapped}
 use Rattle.sg_table.specs.Records.{run_at, same_kind}
 use Rattle.sg_pool.specs.MappedRecords.{mapping_in, contents_of}
-use Rattle.sg_store.specs.Disk.{used_at, max_capacity}
+use Rattle.sg_store.specs.Disk.{used_at, max_capacity, max_pool}
 use Rattle.sg_pool.specs.Slots.{Slots}
 use Rattle.sg_table.specs.Records.{slots_of}
 use Rattle.sg_pool.specs.MappedRecords.{IsConsistent}
@@ -387,16 +387,6 @@ free-there before after runs done run at lba i count old now rs f w up none t sa
     omega (arith, w.consistent.count, t.count)
 
 -- a run that is being written has no more addresses than the pool has slots
-pub done-fits : (before : List Run) (done : Run) (rest : List Run) (slots : Slots) (lba : ℕ)
-    → IsWriting before done rest slots lba → done.count ≤ length slots.next
-done-fits before done rest slots lba w =
-    let a = ap length (expanded-append slots.next before (done ∷ rest))
-    ∙ length-append (expanded slots.next before) (expanded slots.next (done ∷ rest)) in
-    let b = ap length (expanded-more slots.next done rest)
-    ∙ length-append (singles_of slots.next done) (expanded slots.next rest) in
-    let d = length-singles slots.next done.start done.first done.count done.kind in
-    omega (arith, w.consistent.count)
-
 pub next-fits : (before : List Run) (done run : Run) (rest : List Run) (slots : Slots) (lba : ℕ)
     → IsWriting before done (run ∷ rest) slots lba → done.count + run.count ≤ length slots.next
 next-fits before done run rest slots lba w =
@@ -480,9 +470,26 @@ walk_from-kind kind None lba = refl
 walk_from-kind kind (Some front) lba = by_kind (λ parts. parts.1.kind ≡ kind) kind front lba
     (λ same. alike front.kind kind same) (λ _. refl)
 
+-- one more address fits: the next run has one, or a slot is free
+pub one-fits : (before after runs : List Run) (done : Run) (run : Option Run) (at lba : ℕ)
+    (slots : Slots) → IsWriting before done (ahead_of runs run at ++ after) slots lba
+    → (run_at run lba ≡ None → 0 < length slots.free) → done.count < length slots.next
+one-fits before after runs done None at lba slots w free =
+    let some = free refl in
+    let a = ap length (expanded-append slots.next before (done ∷ after))
+    ∙ length-append (expanded slots.next before) (expanded slots.next (done ∷ after)) in
+    let b = ap length (expanded-more slots.next done after)
+    ∙ length-append (singles_of slots.next done) (expanded slots.next after) in
+    let d = length-singles slots.next done.start done.first done.count done.kind in
+    omega (arith, w.consistent.count)
+one-fits before after runs done (Some found) at lba slots w free =
+    let fits = next-fits before done found (drop at runs ++ after) slots lba w in
+    let some : 0 < found.count = w.after.1 in
+    omega arith
+
 pub ahead-fits : (before after runs : List Run) (done : Run) (run : Option Run) (at lba : ℕ)
     (slots : Slots) → IsWriting before done (ahead_of runs run at ++ after) slots lba
-    → length slots.next ≤ 65536 → IfSome run (λ (found : Run). done.count + found.count < 2 ^ 32)
+    → length slots.next ≤ max_pool → IfSome run (λ (found : Run). done.count + found.count < 2 ^ 32)
 ahead-fits before after runs done None at lba slots w le = tt
 ahead-fits before after runs done (Some found) at lba slots w le = let fits =
     next-fits before done found (drop at runs ++ after) slots lba w in omega arith

@@ -101,7 +101,7 @@ module _ (rs : List Run) (capacity lba : ℕ) (cursor : Cursor) (t : IsRunTable 
     ends-within rs 0 capacity cursor.index (apart t) there.0,
   )
 
-  pub over-short : end_of run ≤ run.start + 65536
+  pub over-short : end_of run ≤ run.start + max_pool
   over-short = omega (arith, over-end, over-start, t.short cursor.index there.0)
 
   over_kind : kind_at rs cursor.index ≡ run.kind

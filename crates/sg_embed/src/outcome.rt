@@ -15,7 +15,8 @@ pub enum Outcome {
     DiskExists = 2,
     /// The number of blocks is not 1 to 2^40.
     BlockCount = 3,
-    /// The size of the pool is not 1 to 65,536 blocks.
+    /// The pool has no block, or more than the profile allows: 65,536 in the base profile, and
+    /// 4,294,967,295 in the extended one.
     PoolSize = 4,
     /// A text of the identity has a byte outside 20h to 7Eh.
     IdentityText = 5,

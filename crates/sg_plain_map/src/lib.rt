@@ -6,8 +6,10 @@ mod kind;
 mod need;
 mod plain_map;
 mod read;
+mod search;
 mod status;
 mod unmap;
 mod write;
 
 pub use plain_map::PlainMap;
+pub use search::MAX_RECORDS;

@@ -8,11 +8,13 @@ ghost use Rattle.sg_plain_map.specs.PlainCost.{plain_price, plain_price-within, 
 ghost use Rattle.sg_plain_map.specs.PlainCost.{plain_least-positive, plain_price-joined};
 ghost use Rattle.sg_plain_map.specs.Editing.{AreSingle, stored};
 ghost use Rattle.sg_pool.specs.MappedRecords.{IsConsistent};
-ghost use Rattle.sg_store.specs.declared.store.TheConstants.{MAX_CAPACITY, MAX_POOL};
+ghost use Rattle.sg_store.specs.declared.store.TheConstants.{MAX_CAPACITY};
+ghost use Rattle.sg_plain_map.specs.declared.search.TheConstants.{MAX_RECORDS};
 
 use crate::content::Content;
 use crate::need::visit_records;
 use crate::read::read_blocks;
+use crate::search::{MAX_RECORDS, lower_bound};
 use crate::status::write_descriptors;
 use crate::unmap::unmap_records;
 use crate::write::put_range;
@@ -35,7 +37,7 @@ pub struct PlainMap {
     pool: Pool,
     draft: Draft,
     ghost capacity_fits: { capacity ≤ MAX_CAPACITY },
-    ghost pool_fits: { table.room ≤ MAX_POOL },
+    ghost pool_fits: { table.room ≤ MAX_RECORDS },
     ghost draft_fits: { draft.room ≡ table.room },
     ghost well_formed: { IsWellFormed capacity (stored table pool) } by { IsWellFormed-IsProp _ _ },
     ghost single: { AreSingle table.records },
@@ -70,8 +72,8 @@ impl PlainMap {
             (meter_of self.old) (meter_of self.new) }
     {
         disks_stay_well_formed();
-        let from = self.table.lower_bound(lba);
-        let to = self.table.lower_bound(lba + u64::from(count));
+        let from = lower_bound(&mut self.table, lba);
+        let to = lower_bound(&mut self.table, lba + u64::from(count));
         let used = to - from;
         if count as usize > self.pool.free_count() + used {
             return Err(Space);
@@ -100,7 +102,12 @@ impl Store for PlainMap {
 
     ghost least = { plain_least };
 
+    /// # Errors
+    /// Memory was refused, or the pool has more than [`MAX_RECORDS`] blocks.
     fn make(alloc: Global, capacity: u64, pool: u32) -> Result<Self, AllocError> {
+        if pool > MAX_RECORDS {
+            return Err(AllocError);
+        }
         Ok(PlainMap {
             capacity,
             table: RunTable::new(alloc, pool)?,
@@ -110,7 +117,7 @@ impl Store for PlainMap {
     }
 
     fn read(&mut self, lba: u64, count: u32, bytes: &mut [u8]) {
-        let from = self.table.lower_bound(lba);
+        let from = lower_bound(&mut self.table, lba);
         read_blocks(&mut self.table, &self.pool, from, lba, count, bytes);
     }
 
@@ -124,8 +131,8 @@ impl Store for PlainMap {
 
     fn unmap(&mut self, lba: u64, count: u32) {
         disks_stay_well_formed();
-        let from = self.table.lower_bound(lba);
-        let to = self.table.lower_bound(lba + u64::from(count));
+        let from = lower_bound(&mut self.table, lba);
+        let to = lower_bound(&mut self.table, lba + u64::from(count));
         unmap_records(&mut self.table, &mut self.pool, from, to, lba, count);
     }
 
@@ -134,8 +141,8 @@ impl Store for PlainMap {
     }
 
     fn need(&mut self, lba: u64, count: u64) -> u64 {
-        let from = self.table.lower_bound(lba);
-        let to = self.table.lower_bound(lba + count);
+        let from = lower_bound(&mut self.table, lba);
+        let to = lower_bound(&mut self.table, lba + count);
         visit_records(&mut self.table, from, to);
         count - (to - from) as u64
     }
@@ -145,7 +152,7 @@ impl Store for PlainMap {
         parts_are_replaced();
         let at = cut.written();
         cut.put(&status_header(0));
-        let from = self.table.lower_bound(lba);
+        let from = lower_bound(&mut self.table, lba);
         let count = write_descriptors(&mut self.table, from, lba, self.capacity, cut);
         // The number of descriptors is known only now. The header with it replaces the first
         // header.

@@ -59,14 +59,14 @@ pub record LinksHaveOnlyTheirParts : Type 0 where
       ∷ leaps.the_field  -- leaps
       ∷ [])
   pub jumps : HasOnly jumps.struct.parts (
-      vec_field u16  -- owner
+      vec_field u32  -- owner
       ∷ vec_field u8  -- count
-      ∷ vec_field u16  -- target
+      ∷ vec_field u32  -- target
       ∷ [])
   pub leaps : HasOnly leaps.struct.parts (
-      vec_field u16  -- owner
+      vec_field u32  -- owner
       ∷ vec_field u8  -- count
-      ∷ vec_field u16  -- landing
+      ∷ vec_field u32  -- landing
       ∷ vec_field u16  -- reach
       ∷ [])
 

@@ -3,24 +3,20 @@ ghost use Rattle.std.specs.Prelude.{◌≡◌, ◌<◌, ◌≤◌, length, repli
 ghost use Rattle.sg_pool.specs.Chains.{chain, slot_after, AreBelow};
 ghost use Rattle.sg_pool.specs.Jumps.{segment, AreJumps, AreJumpsOver, KeepLeaps};
 
-use sg_store::MAX_POOL;
 use std::alloc::{AllocError, Global};
 
 /// The number of links that a jump goes over, and the number of jumps that a leap goes over.
 pub(crate) const SEGMENT: u32 = 64;
 
-/// The greatest number of a slot.
-const LAST_SLOT: u32 = MAX_POOL - 1;
-
 /// At most one jump from each slot, and at most one jump over each link.
 #[derive(Drop)]
 pub(crate) struct Jumps {
     /// The slot whose jump goes over the link of this slot, if there is such a jump.
-    pub(crate) owner: Vec<u16>,
+    pub(crate) owner: Vec<u32>,
     /// The number of links that the jump of this slot goes over, or 0 if it has no jump.
     pub(crate) count: Vec<u8>,
     /// The slot that the jump of this slot comes to.
-    pub(crate) target: Vec<u16>,
+    pub(crate) target: Vec<u32>,
 }
 
 /// What a walk along a chain did.
@@ -35,7 +31,7 @@ pub(crate) struct Walk {
 }
 
 /// `count` numbers of slots, each 0.
-pub(crate) fn zero_slots(alloc: Global, count: u32) -> Result<Vec<u16>, AllocError>
+pub(crate) fn zero_slots(alloc: Global, count: u32) -> Result<Vec<u32>, AllocError>
     ensures { IfOk result (λ zeros. zeros.items ≡ replicate count 0) }
 {
     vec![in alloc; 0; count as usize]
@@ -52,10 +48,10 @@ pub(crate) fn zero_lengths(alloc: Global, count: u32) -> Result<Vec<u8>, AllocEr
 /// goes over. The result is the number of links that it goes over.
 fn lay(
     next: &[u32],
-    owner: &mut [u16],
+    owner: &mut [u32],
     jump: &mut [u8],
-    target: &mut [u16],
-    first: u16,
+    target: &mut [u32],
+    first: u32,
     limit: u32,
 ) -> u32
     requires jumps { AreJumpsOver next.now owner.old jump.old target.old }
@@ -77,12 +73,8 @@ fn lay(
         if jump[owner[slot as usize] as usize] != 0 {
             break;
         }
-        let to = next[slot as usize];
-        if to > LAST_SLOT {
-            break;
-        }
         owner[slot as usize] = first;
-        slot = to as u16;
+        slot = next[slot as usize];
         laid += 1;
     }
     if laid > 0 {
@@ -115,7 +107,6 @@ fn jump_within(jumps: &Jumps, slot: u32, left: u32) -> u32
 /// Takes a step along a chain of which `left` links are left. It goes over the jump of the slot, or
 /// over one that it lays, or over one link. It counts each link that it read to lay a jump.
 pub(crate) fn step(next: &[u32], jumps: &mut Jumps, slot: u32, left: u32) -> Walk
-    requires size { length next.now ≤ MAX_POOL }
     requires jumps { AreJumps next.now jumps.old }
     requires below { AreBelow (length next.now) (chain next.now slot left) }
     requires not_empty { 0 < left }
@@ -133,7 +124,7 @@ pub(crate) fn step(next: &[u32], jumps: &mut Jumps, slot: u32, left: u32) -> Wal
     let links = jump_within(jumps, slot, left);
     if links > 0 {
         return Walk {
-            slot: u32::from(jumps.target[slot as usize]),
+            slot: jumps.target[slot as usize],
             passed: links,
             steps: 1,
         };
@@ -143,12 +134,12 @@ pub(crate) fn step(next: &[u32], jumps: &mut Jumps, slot: u32, left: u32) -> Wal
         &mut jumps.owner,
         &mut jumps.count,
         &mut jumps.target,
-        slot as u16,
+        slot,
         whole(left),
     );
     if laid > 0 {
         return Walk {
-            slot: u32::from(jumps.target[slot as usize]),
+            slot: jumps.target[slot as usize],
             passed: laid,
             steps: laid,
         };

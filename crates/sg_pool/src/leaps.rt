@@ -1,11 +1,12 @@
 // Leaps: from a slot over jumps to a later slot of its chain. A walk takes leaps, then jumps, then
 // links.
-ghost use Rattle.std.specs.Prelude.{◌≡◌, ℕ, ◌+◌, ◌*◌, ◌<◌, ◌≤◌, List, length, slice_index, sum};
+ghost use Rattle.std.specs.Prelude.{◌≡◌, ℕ, ◌+◌, ◌*◌, ◌<◌, ◌≤◌, List, length, replicate, slice_index, sum};
+ghost use Rattle.std.specs.Prelude.{IfOk};
 ghost use Rattle.sg_pool.specs.Chains.{chain, slot_after, AreBelow};
 ghost use Rattle.sg_pool.specs.Jumps.{segment, span, AreJumps, AreLeaps, AreLeapsAhead, AreLeapsOver};
 
 use crate::jumps::{Jumps, SEGMENT, Walk, step};
-use sg_store::MAX_POOL;
+use std::alloc::{AllocError, Global};
 
 /// The most links that a leap goes over.
 const LEAP: u32 = SEGMENT * SEGMENT;
@@ -14,17 +15,24 @@ const LEAP: u32 = SEGMENT * SEGMENT;
 #[derive(Drop)]
 pub(crate) struct Leaps {
     /// The slot whose leap goes over the jump of this slot, if there is such a leap.
-    pub(crate) owner: Vec<u16>,
+    pub(crate) owner: Vec<u32>,
     /// The number of jumps that the leap of this slot goes over, or 0 if it has no leap.
     pub(crate) count: Vec<u8>,
     /// The slot that the leap of this slot comes to.
-    pub(crate) landing: Vec<u16>,
+    pub(crate) landing: Vec<u32>,
     /// The number of links that the leap of this slot goes over.
     pub(crate) reach: Vec<u16>,
 }
 
+/// `count` numbers of links, each 0.
+pub(crate) fn zero_reaches(alloc: Global, count: u32) -> Result<Vec<u16>, AllocError>
+    ensures { IfOk result (λ zeros. zeros.items ≡ replicate count 0) }
+{
+    vec![in alloc; 0; count as usize]
+}
+
 /// The number of links that the jump of a slot goes over, or 0 if there is no such slot.
-fn jump_at(jumps: &Jumps, slot: u16) -> u8
+fn jump_at(jumps: &Jumps, slot: u32) -> u8
     ensures { result ≡ slice_index jumps.now.count.items slot }
 {
     if (slot as usize) < jumps.count.len() {
@@ -37,11 +45,11 @@ fn jump_at(jumps: &Jumps, slot: u16) -> u8
 /// before a jump that another leap goes over. It counts each jump that it read.
 fn lay_leap(
     jumps: &Jumps,
-    owner: &mut [u16],
+    owner: &mut [u32],
     count: &mut [u8],
-    landing: &mut [u16],
+    landing: &mut [u32],
     reach: &mut [u16],
-    first: u16,
+    first: u32,
 ) -> Walk
     requires leaps { AreLeapsOver jumps.now.count.items jumps.now.target.items
         owner.old count.old landing.old reach.old }
@@ -73,7 +81,7 @@ fn lay_leap(
         let links = jump_at(jumps, slot);
         if links == 0 {
             return Walk {
-                slot: u32::from(slot),
+                slot,
                 passed: u32::from(passed),
                 steps: u32::from(laid),
             };
@@ -92,7 +100,7 @@ fn lay_leap(
         reach[first as usize] = passed;
     }
     Walk {
-        slot: u32::from(slot),
+        slot,
         passed: u32::from(passed),
         steps: u32::from(laid),
     }
@@ -119,7 +127,6 @@ fn leap_within(leaps: &Leaps, slot: u32, left: u32) -> u32
 /// Takes a step along a chain of which `left` links are left. It goes over the leap of the slot, or
 /// over the jumps ahead as it lays a leap over them, or it is the step that `step` takes.
 fn stride(next: &[u32], jumps: &mut Jumps, leaps: &mut Leaps, slot: u32, left: u32) -> Walk
-    requires size { length next.now ≤ MAX_POOL }
     requires jumps { AreJumps next.now jumps.old }
     requires leaps { AreLeaps jumps.old leaps.old }
     requires below { AreBelow (length next.now) (chain next.now slot left) }
@@ -146,7 +153,7 @@ fn stride(next: &[u32], jumps: &mut Jumps, leaps: &mut Leaps, slot: u32, left: u
     let reach = leap_within(leaps, slot, left);
     if reach > 0 {
         return Walk {
-            slot: u32::from(leaps.landing[slot as usize]),
+            slot: leaps.landing[slot as usize],
             passed: reach,
             steps: 1,
         };
@@ -160,7 +167,7 @@ fn stride(next: &[u32], jumps: &mut Jumps, leaps: &mut Leaps, slot: u32, left: u
         &mut leaps.count,
         &mut leaps.landing,
         &mut leaps.reach,
-        slot as u16,
+        slot,
     );
     if walk.steps > 0 {
         return walk;
@@ -176,7 +183,6 @@ pub(crate) fn walk(
     first: u32,
     count: u32,
 ) -> Walk
-    requires size { length next.now ≤ MAX_POOL }
     requires jumps { AreJumps next.now jumps.old }
     requires leaps { AreLeaps jumps.old leaps.old }
     requires below { AreBelow (length next.now) (chain next.now first count) }

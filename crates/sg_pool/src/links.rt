@@ -4,7 +4,7 @@ ghost use Rattle.std.specs.Prelude.{◌≡◌, ◌<◌, ◌≤◌, length, repli
 ghost use Rattle.sg_pool.specs.Chains.{chain, slot_after, AreBelow};
 
 use crate::jumps::{Jumps, zero_lengths, zero_slots};
-use crate::leaps::{Leaps, walk};
+use crate::leaps::{Leaps, walk, zero_reaches};
 use sg_store::MAX_POOL;
 use std::alloc::{AllocError, Global};
 use std::marker::Model;
@@ -58,7 +58,7 @@ impl Links {
                 owner: zero_slots(alloc, count)?,
                 count: zero_lengths(alloc, count)?,
                 landing: zero_slots(alloc, count)?,
-                reach: zero_slots(alloc, count)?,
+                reach: zero_reaches(alloc, count)?,
             },
         })
     }

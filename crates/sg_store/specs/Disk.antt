@@ -18,7 +18,7 @@ abbrev pub max_capacity : ℕ
 max_capacity = 2 ^ 40
 
 abbrev pub max_pool : ℕ
-max_pool = 65536
+max_pool = 4294967295
 
 -- The use that an address makes of its block of the pool: data, or none yet. Without data it is
 -- anchored (SBC-3, 4.7.4): it reads as zeros, and writing it takes no more of the pool.

@@ -22,7 +22,7 @@ pub const BLOCK_LENGTH: usize = 512;
 pub const MAX_CAPACITY: u64 = 1 << 40;
 
 /// The most addresses that can be mapped or anchored at once.
-pub const MAX_POOL: u32 = 65_536;
+pub const MAX_POOL: u32 = u32::MAX;
 
 /// The most that a count may have reached before a call. The counts of a call can then be added.
 pub const MAX_COUNT: u64 = 1 << 62;

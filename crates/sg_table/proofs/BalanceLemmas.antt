@@ -17,20 +17,53 @@ use Rattle.sg_table.specs.declared.run.Run.{Run}
 
 -- two neighbours become one leaf
 pub merged : (ls : List (List Run)) (k : ℕ) (all : List Run) → suc k < length ls
-    → remove (set ls k all) (suc k) ≡ take k ls ++ all ∷ drop (suc (suc k)) ls
+    → set (remove ls (suc k)) k all ≡ take k ls ++ all ∷ drop (suc (suc k)) ls
 merged [] k all lt = absurd (omega arith)
 merged (leaf ∷ []) k all lt = absurd (omega arith)
 merged (leaf ∷ other ∷ ls) zero all lt = refl
 merged (leaf ∷ other ∷ ls) (suc k) all lt = ap (λ x. leaf ∷ x) (merged (other ∷ ls) k all (omega arith))
 
--- two neighbours get other records
+-- two neighbours get other records, the second one after it was emptied
 pub levelled : (ls : List (List Run)) (k : ℕ) (a b : List Run) → suc k < length ls
-    → set (set ls k a) (suc k) b ≡ take k ls ++ a ∷ b ∷ drop (suc (suc k)) ls
+    → set (set (set ls (suc k) []) k a) (suc k) b ≡ take k ls ++ a ∷ b ∷ drop (suc (suc k)) ls
 levelled [] k a b lt = absurd (omega arith)
 levelled (leaf ∷ []) k a b lt = absurd (omega arith)
 levelled (leaf ∷ other ∷ ls) zero a b lt = refl
 levelled (leaf ∷ other ∷ ls) (suc k) a b lt =
     ap (λ x. leaf ∷ x) (levelled (other ∷ ls) k a b (omega arith))
+
+-- the leaf before a removed one
+pub leaf-before : (ls : List (List Run)) (k : ℕ) → leaf_at (remove ls (suc k)) k ≡ leaf_at ls k
+leaf-before [] k = refl
+leaf-before (leaf ∷ ls) zero = refl
+leaf-before (leaf ∷ ls) (suc k) = leaf-before ls k
+
+-- the number of records without a leaf
+count-removed : (ls : List (List Run)) (k : ℕ) → k < length ls
+    → length (joined (remove ls k)) + length (leaf_at ls k) ≡ length (joined ls)
+count-removed [] k lt = absurd (omega arith)
+count-removed (leaf ∷ ls) zero lt = omega (arith, length-append leaf (joined ls))
+count-removed (leaf ∷ ls) (suc k) lt =
+    omega (
+      arith,
+      count-removed ls k (omega arith),
+      length-append leaf (joined (remove ls k)),
+      length-append leaf (joined ls),
+    )
+
+-- one of two neighbours, and the number of records without it and with those of both once more
+pub count-merged : (ls : List (List Run)) (k : ℕ) → k + 1 < length ls
+    → (leaf_at (remove ls (k + 1)) k ≡ leaf_at ls k)
+    × (length (joined (remove ls (k + 1))) + length (pair_at ls k) ≡ length (joined ls) + length (leaf_at ls k))
+count-merged ls k lt =
+    let one : k + 1 ≡ suc k = add-one k in (
+      rw one (leaf-before ls k),
+      omega (
+        arith,
+        count-removed ls (k + 1) lt,
+        length-append (leaf_at ls k) (leaf_at ls (k + 1)),
+      ),
+    )
 
 pub joined-merged : (ls : List (List Run)) (k : ℕ) → suc k < length ls
     → joined (take k ls ++ (leaf_at ls k ++ leaf_at ls (suc k)) ∷ drop (suc (suc k)) ls) ≡ joined ls
@@ -56,14 +89,14 @@ whole-spliced old all count e =
     ap (λ x. all ++ x) (drop_all count old (omega arith)) ∙ append-nil all
 
 pub merged-at : (ls : List (List Run)) (k : ℕ) (all : List Run) → k + 1 < length ls
-    → remove (set ls k all) (k + 1) ≡ take k ls ++ all ∷ drop (k + 2) ls
+    → set (remove ls (k + 1)) k all ≡ take k ls ++ all ∷ drop (k + 2) ls
 merged-at ls k all lt =
     let one : k + 1 ≡ suc k = add-one k in
     let two : k + 2 ≡ suc (suc k) = omega arith in
     rw (one, two) (merged ls k all (omega arith))
 
 pub halved-at : (ls : List (List Run)) (k : ℕ) (a b : List Run) → k + 1 < length ls
-    → set (set ls k a) (k + 1) b ≡ take k ls ++ a ∷ b ∷ drop (k + 2) ls
+    → set (set (set ls (k + 1) []) k a) (k + 1) b ≡ take k ls ++ a ∷ b ∷ drop (k + 2) ls
 halved-at ls k a b lt =
     let one : k + 1 ≡ suc k = add-one k in
     let two : k + 2 ≡ suc (suc k) = omega arith in

@@ -29,8 +29,13 @@ halved-less s n m c h half =
 
 -- a search of the largest table keeps to its bound
 pub probes-le : (s c : ℕ) → 2 ^ s ≤ 4 * c + 1 → c ≤ MAX_RECORDS → s ≤ search_bound
-probes-le s c h small = elim (cases_lt s 19)
-    [ inl lt ↦ omega arith | inr ge ↦ let p : 2 ^ 19 ≤ 2 ^ s = pow_mono ge in absurd (omega arith) ]
+probes-le s c h small = elim (cases_lt s 34)
+    [ inl lt ↦ omega arith | inr ge ↦ let p : 2 ^ 34 ≤ 2 ^ s = pow_mono ge in absurd (omega arith) ]
+
+-- and a search of a table of at most half as many records to one less
+pub few-probes : (c p : ℕ) → CostsSearch c p → c < 2 ^ 31 → p ≤ 32
+few-probes c p is small = let most = is.most_probes in elim (cases_lt p 33)
+    [ inl lt ↦ omega arith | inr ge ↦ let more : 2 ^ 33 ≤ 2 ^ p = pow_mono ge in absurd (omega arith) ]
 
 -- and a search of any list can be counted
 pub halvings-fit : (s c : ℕ) → 2 ^ s ≤ 2 * c + 1 → c < 2 ^ 64 → s ≤ 65

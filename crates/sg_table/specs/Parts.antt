@@ -26,7 +26,7 @@ use Rattle.sg_table.specs.declared.leaf_list.LeafList.TheView.{invariant as leaf
 use Rattle.sg_table.specs.declared.leaves.Leaves.TheInside.{Inside as LeavesInside}
 use Rattle.sg_table.specs.declared.leaves.Leaves.TheView.{invariant as leaves_invariant}
 use Rattle.sg_table.specs.declared.table.RunTable.TheInside.{Inside as TableInside}
-use denote.Builtin.{u16, u32, u64, unit}
+use denote.Builtin.{u32, u64, unit}
 use denote.Param.{number}
 use denote.Struct.Field.{u32-field, u64-field, usize-field}
 
@@ -108,8 +108,8 @@ LeafListIsItsParts = (list other : LeafListInside) → IsSameList list other →
 abbrev pub LeafListHasOnlyItsParts : Type 0
 LeafListHasOnlyItsParts = HasOnly leaf_list_inside.parts (
     vec_field leaf.the_row  -- slots
-    ∷ vec_field u16  -- order
-    ∷ vec_field u16  -- free
+    ∷ vec_field u32  -- order
+    ∷ vec_field u32  -- free
     ∷ [])
 
 -- Each slot belongs to one leaf of the table, or is free.

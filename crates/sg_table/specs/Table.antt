@@ -37,7 +37,7 @@ probed table count = record table { probes = table.probes + count }
 
 -- The most addresses that a binary search of the largest table compares.
 abbrev pub search_bound : ℕ
-search_bound = 18
+search_bound = 33
 
 -- The counts of visits and probes begin again.
 abbrev pub restarted_table : Table → Table

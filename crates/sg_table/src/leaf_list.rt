@@ -19,9 +19,9 @@ pub(crate) struct LeafList {
     /// A leaf for each slot that has been in use.
     slots: Vec<Leaf>,
     /// The slots that are in use, in the order of their leaves.
-    order: Vec<u16>,
+    order: Vec<u32>,
     /// The slots that are free again. Their leaves have no records.
-    free: Vec<u16>,
+    free: Vec<u32>,
 }
 
 impl Model for LeafList {
@@ -44,7 +44,7 @@ impl Model for LeafList {
 }
 
 /// Takes a free slot, or a new one if none is free. Its leaf has no records.
-fn take_slot(slots: &mut Vec<Leaf>, free: &mut Vec<u16>) -> u16
+fn take_slot(slots: &mut Vec<Leaf>, free: &mut Vec<u32>) -> u32
     requires empty { AreEmpty slots.old.items free.old.items }
     requires room { length slots.old.items < vec_capacity slots.old + length free.old.items }
     requires count { vec_capacity slots.old ≤ MAX_LEAVES }
@@ -56,7 +56,7 @@ fn take_slot(slots: &mut Vec<Leaf>, free: &mut Vec<u16>) -> u16
     if let Some(slot) = free.pop() {
         return slot;
     }
-    let slot = slots.len() as u16;
+    let slot = slots.len() as u32;
     slots.push_reserved(Leaf::new());
     slot
 }

@@ -17,6 +17,7 @@ use crate::ghost_number::GhostNumber;
 use crate::leaf::MAX_LEAF;
 use crate::leaf_list::LeafList;
 use crate::run::{Run, data_count};
+use crate::table::MAX_RECORDS;
 use arrayvec::ArrayVec;
 use probed::Probed;
 pub(crate) use searching::lower_bound;
@@ -27,8 +28,8 @@ use std::marker::Model;
 /// The fewest records of a leaf, unless it is the only one.
 pub(crate) const MIN_LEAF: usize = 128;
 
-/// The most leaves of a table.
-pub(crate) const MAX_LEAVES: usize = 513;
+/// The most leaves of a table: as many as its records may come to need.
+pub(crate) const MAX_LEAVES: usize = MAX_RECORDS as usize / MIN_LEAF + 1;
 
 /// The most records of two leaves.
 pub(crate) const TWO_LEAVES: usize = 2 * MAX_LEAF;
@@ -306,7 +307,7 @@ impl Leaves {
         requires leaf { leaf < length self.old.leaves }
         requires range { (from ≤ to) × (to ≤ length (leaf_at self.old.leaves leaf)) }
         requires room { length (leaf_at self.old.leaves leaf) + length runs.now ≤ MAX_LEAF + (to - from) }
-        requires count { length (joined self.old.leaves) + length runs.now < 2 ^ 32 }
+        requires count { length (joined self.old.leaves) + length runs.now ≤ MAX_RECORDS + (to - from) }
         ensures { self.new ≡ record self.old {
           leaves = slice_set self.old.leaves leaf
               (splice_list (leaf_at self.old.leaves leaf) from to runs.now);
@@ -346,7 +347,7 @@ impl Leaves {
     pub(crate) fn close(&mut self, leaf: usize)
         requires leaf { leaf < length self.old.leaves }
         requires others { 1 < length self.old.leaves }
-        requires count { length (joined self.old.leaves) < 2 ^ 32 }
+        requires count { length (joined self.old.leaves) ≤ MAX_RECORDS }
         ensures { self.new ≡ record self.old { leaves = remove self.old.leaves leaf } }
     {
         let count = self.leaves.leaf(leaf).len();

@@ -14,7 +14,7 @@ use std::alloc::{AllocError, Global};
 use std::marker::Model;
 
 /// The most records that a table has room for.
-pub const MAX_RECORDS: u32 = 65_536;
+pub const MAX_RECORDS: u32 = u32::MAX;
 
 /// The records of the map, sorted by their addresses. Only the calls that count a record return it.
 #[derive(Drop)]

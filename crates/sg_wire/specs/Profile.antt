@@ -13,14 +13,15 @@ is_in Extended Extended = true
 -- ---- Limits, in blocks
 
 -- The most that a READ or a WRITE moves, and the most that a WRITE SAME writes. The page Block
--- Limits reports both (SBC-3, vital product data parameters).
+-- Limits reports both (SBC-3, vital product data parameters). Then the most that can be mapped or
+-- anchored at once (SBC-3, 4.7).
 abbrev pub base_limits : Limits
-base_limits = record { transfer_length = 256; write_same_length = 65536 }
+base_limits = record { transfer_length = 256; write_same_length = 65536; pool = 65536 }
 
--- The extended profile has the same limits, until it has the commands that need others.
+-- A disk of the extended profile can have a larger pool.
 abbrev pub limits_of : Profile → Limits
 limits_of Base = base_limits
-limits_of Extended = base_limits
+limits_of Extended = record base_limits { pool = 4294967295 }
 
 -- The most that a READ or a WRITE moves on a disk of any profile.
 abbrev pub maximum_transfer_length : ℕ

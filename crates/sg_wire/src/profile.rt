@@ -17,19 +17,28 @@ pub const MAXIMUM_TRANSFER_LENGTH: u32 = 256;
 /// The most blocks that a WRITE SAME writes, on a disk of any profile.
 pub const MAXIMUM_WRITE_SAME_LENGTH: u32 = 65_536;
 
-/// The limits of a disk that depend on its profile. The page Block Limits reports them (SBC-3, vital
-/// product data parameters).
+/// The limits of a disk that depend on its profile.
 #[derive(Clone, Copy)]
 pub struct Limits {
-    /// The most blocks that a READ or a WRITE moves.
+    /// The most blocks that a READ or a WRITE moves. The page Block Limits reports it (SBC-3, vital
+    /// product data parameters).
     pub transfer_length: u32,
-    /// The most blocks that a WRITE SAME writes.
+    /// The most blocks that a WRITE SAME writes. The page Block Limits reports it, too.
     pub write_same_length: u32,
+    /// The most blocks that the pool can have. So at most so many addresses can be mapped or
+    /// anchored at once (SBC-3, 4.7).
+    pub pool: u32,
 }
 
 const BASE_LIMITS: Limits = Limits {
     transfer_length: MAXIMUM_TRANSFER_LENGTH,
     write_same_length: MAXIMUM_WRITE_SAME_LENGTH,
+    pool: 65_536,
+};
+
+const EXTENDED_LIMITS: Limits = Limits {
+    pool: u32::MAX,
+    ..BASE_LIMITS
 };
 
 impl Profile {
@@ -39,8 +48,8 @@ impl Profile {
         ensures at_most { result.transfer_length ≤ maximum_transfer_length }
     {
         match self {
-            // The extended profile gets its own limits with the commands that need them.
-            Profile::Base | Profile::Extended => BASE_LIMITS,
+            Profile::Base => BASE_LIMITS,
+            Profile::Extended => EXTENDED_LIMITS,
         }
     }
 

@@ -105,8 +105,8 @@ fn profile_named(name: Option<&str>) -> Option<Profile>
 fn checked_disk<'a>(blocks: u64, pool: u64, profile: Profile) -> Result<Config, Stop<'a>>
     ensures { result ≡ checked_disk blocks pool profile }
 {
-    // A number that is no u32 is too large, and so is the largest u32.
-    let pool = pool.min(u64::from(u32::MAX)) as u32;
+    // A number that is no u32 is too large for any pool. So it is refused as 0 is.
+    let pool = u32::try_from(pool).unwrap_or(0);
     let identity = Identity::standard().with_profile(profile);
     Ok(Config::new(blocks, pool, identity)?)
 }

@@ -190,8 +190,8 @@ fn merge(leaves: &mut Leaves, leaf: usize, records: &[Run])
     ensures moves { MovesAtMost leaves.old leaves.new (2 * length records.now) }
 {
     let left = leaves.len(leaf);
-    leaves.edit(leaf, 0, left, records);
     leaves.close(leaf + 1);
+    leaves.edit(leaf, 0, left, records);
 }
 
 /// Gives half of the records of two neighbours to each of them. The caller passes the records.
@@ -207,7 +207,9 @@ fn halve(leaves: &mut Leaves, leaf: usize, records: &[Run])
 {
     let half = records.len() / 2;
     let left = leaves.len(leaf);
-    leaves.edit(leaf, 0, left, &records[..half]);
     let right = leaves.len(leaf + 1);
-    leaves.edit(leaf + 1, 0, right, &records[half..]);
+    // The directory has room for no record that two leaves have at once.
+    leaves.edit(leaf + 1, 0, right, &[]);
+    leaves.edit(leaf, 0, left, &records[..half]);
+    leaves.edit(leaf + 1, 0, 0, &records[half..]);
 }

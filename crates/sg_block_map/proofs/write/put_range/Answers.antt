@@ -20,7 +20,7 @@ use Rattle.sg_block_map.proofs.RunSlotLemmas.{runs-fit, gathered-blocks, length-
 use Rattle.sg_block_map.proofs.FinishLemmas.{begin-range, finished, parts-shape, gathered-ahead}
 use Rattle.sg_block_map.proofs.FinishLemmas.{walk_from-near, walk_from-kind, walk_from-start}
 use Rattle.sg_block_map.proofs.FinishLemmas.{walk_from-blocks}
-use Rattle.sg_block_map.proofs.FinishLemmas.{free-there, done-fits, ahead-fits}
+use Rattle.sg_block_map.proofs.FinishLemmas.{free-there, one-fits, ahead-fits}
 use Rattle.sg_block_map.proofs.WriteLemmas.{writing-followed, done-last}
 use Rattle.sg_block_map.proofs.write.put_range.Goals as goal
 
@@ -126,7 +126,14 @@ put_address-progress-requires-clause-free c =
 pub put_address-progress-requires-clause-headroom : goal.put_address-progress-requires-clause-headroom
 put_address-progress-requires-clause-headroom c =
     let inv = c.loop-i.invariant in
-    let fits = done-fits _ _ _ _ _ inv.writing in
+    let w = c.loop-i.progress.walk in
+    let here : c.args.lba + c.from.result ≡ c.args.lba + c.loop-i.i =
+    ap (λ x. c.args.lba + x) c.from.ensures in
+    let fits = one-fits (take c.args.gathered.now.from c.args.table.now.records
+    ++ option_to_list c.begin-front.result.0)
+    (drop (end_index c.args.gathered.now) c.args.table.now.records) c.args.gathered.now.records
+    c.loop-i.progress.done w.run w.at (c.args.lba + c.loop-i.i) c.loop-i.pool inv.writing
+    (rw here at (put_address-progress-requires-clause-free c)) in
     let few = gathered-blocks c.args.table.now.records c.args.gathered.now c.args.pool.now
     c.args.table.now.room c.args.lba (c.args.lba + c.args.count)
     (max_capacity + 1) c.requires.ready.runs c.requires.ready.gathered_runs in (

@@ -25,17 +25,10 @@ returns-then-links-gt0-clause-slot c =
     let jumps = c.args.jumps.now in
     let low = slot-low (length next) next s c.args.left c.requires.not_empty c.requires.below in
     let links = (c.jump_within-links.ensures.jump c.if-links-gt0.true).0 in
-    c.from.ensures
-    ∙ get_or_read_under jumps.target.items s jumps.target.len c.index.result.now 0 c.index.ensures
+    get_or_read_under jumps.target.items s jumps.target.len c.index.result.now 0 c.index.ensures
     (omega (arith, low, c.requires.jumps.targets, jumps.target.ok.0)) (omega (arith, jumps.target.ok.0))
     ∙ sym (c.requires.jumps.leads s (omega (arith, links, c.if-links-gt0.true)))
     ∙ ap (slot_after next s) (sym links)
-
-pub overflow_cast-slot-2 : goal.overflow_cast-slot-2
-overflow_cast-slot-2 c =
-    let low = slot-low (length c.args.next.now) c.args.next.now c.args.slot c.args.left
-    c.requires.not_empty c.requires.below in
-    record { fits = omega (arith, low, c.requires.size) }
 
 pub lay-laid-requires-clause-below : goal.lay-laid-requires-clause-below
 lay-laid-requires-clause-below c = below-front (length c.args.next.now) c.args.next.now c.args.slot

@@ -29,8 +29,8 @@ returns-then-reach-gt0-clause-slot c =
     let low = slot-low (length next) next s c.args.left c.requires.not_empty c.requires.below in
     let n = get_or leaps.count.items s 0 in
     let taken = c.leap_within-reach.ensures.leap c.if-reach-gt0.true in
-    let landing = c.from.ensures
-    ∙ get_or_read_under leaps.landing.items s leaps.landing.len c.index.result.now 0 c.index.ensures
+    let landing =
+    get_or_read_under leaps.landing.items s leaps.landing.len c.index.result.now 0 c.index.ensures
     (omega (arith, low, d.derived.targets, c.requires.jumps.targets, leaps.landing.ok.0))
     (omega (arith, leaps.landing.ok.0)) in
     let some : 0 < n = taken.0 in
@@ -38,12 +38,6 @@ returns-then-reach-gt0-clause-slot c =
     ∙ sym (ap (slot_after next s) (taken.1 ∙ d.spans s some)
     ∙ span-leads next jumps.owner.items jumps.count.items jumps.target.items s n
     c.requires.jumps (d.alive s) ∙ d.derived.leads s some)
-
-pub overflow_cast-slot-2 : goal.overflow_cast-slot-2
-overflow_cast-slot-2 c =
-    let low = slot-low (length c.args.next.now) c.args.next.now c.args.slot c.args.left
-    c.requires.not_empty c.requires.below in
-    record { fits = omega (arith, low, c.requires.size) }
 
 pub lay_leap-walk-requires-clause-first : goal.lay_leap-walk-requires-clause-first
 lay_leap-walk-requires-clause-first c =

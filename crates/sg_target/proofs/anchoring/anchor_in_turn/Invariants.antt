@@ -22,5 +22,5 @@ invariant-loop-extent g l =
           (over ++ ranges_in_turn anchored before.contents done) first now;
       visits : now.counts.visits ≤ meter.counts.visits + l.extent-index * 2 ^ 41;
       probes : now.counts.probes ≤ meter.counts.probes + 64 * l.extent-index;
-      links : now.counts.links ≤ meter.counts.links + 65536 * l.extent-index;
+      links : now.counts.links ≤ meter.counts.links + 4294967295 * l.extent-index;
     }

@@ -39,12 +39,12 @@ returns-clause-space c =
 pub invariant_of-self-2-clause-well_formed : goal.invariant_of-self-2-clause-well_formed
 invariant_of-self-2-clause-well_formed c =
     let map = c.args.self.now in
-    let same : stored c.lower_bound-to.new.self map.pool ≡ stored map.table map.pool =
+    let same : stored c.lower_bound-to.new.table map.pool ≡ stored map.table map.pool =
     ap (λ (t : Table). contents_of t.records map.pool.blocks)
     (c.lower_bound-to.ensures.table
     ∙ ap
     (λ (t : Table). probed t
-    (c.lower_bound-to.new.self.probes - c.lower_bound-from.new.self.probes))
+    (c.lower_bound-to.new.table.probes - c.lower_bound-from.new.table.probes))
     c.lower_bound-from.ensures.table) in
     let before = subst (IsWellFormed map.capacity) (sym same) map.well_formed in
     subst (IsWellFormed map.capacity) (sym c.put_range.ensures.contents)

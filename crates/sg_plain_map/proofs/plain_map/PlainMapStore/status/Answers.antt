@@ -1,4 +1,4 @@
-use Rattle.std.proofs.Common.{ap}
+use Rattle.std.proofs.Common.{arith, ap}
 use Rattle.sg_store.specs.LbaStatus.{lba_status}
 use Rattle.sg_table.specs.Table.{Table}
 use Rattle.sg_store.proofs.StatusLemmas.{header-within, header-replaced}
@@ -12,7 +12,7 @@ write_descriptors-count-requires-clause-table c =
     let map = c.args.self.now in
     rw c.lower_bound-from.ensures.table
     (table-of map.capacity map.table.records map.pool.blocks map.pool.free map.table.room
-    map.well_formed map.consistent map.pool_fits map.capacity_fits)
+    map.well_formed map.consistent (omega (arith, map.pool_fits)) map.capacity_fits)
 
 pub replace-requires : goal.replace-requires
 replace-requires c =

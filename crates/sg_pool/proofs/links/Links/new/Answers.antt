@@ -12,7 +12,7 @@ invariant_of-result c = rw (
   c.in_ok-zero_slots-3.ensures,
   c.in_ok-zero_lengths-2.ensures,
   c.in_ok-zero_slots-4.ensures,
-  c.in_ok-zero_slots-5.ensures,
+  c.in_ok-zero_reaches.ensures,
 ) (
   omega (arith, length-replicate {A = ℕ} c.args.count 0, c.requires),
   none-derived c.args.count,

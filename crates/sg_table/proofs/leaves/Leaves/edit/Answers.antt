@@ -7,10 +7,10 @@ use Rattle.sg_table.specs.LeafList.{LeafRow}
 use Rattle.sg_table.specs.Leaves.{FitsLeaf, LeafTable, joined, leaf_at}
 use Rattle.sg_table.specs.Records.{FitCounts, FitsCount, start_of}
 use Rattle.sg_table.specs.declared.run.Run.{Run}
-use Rattle.sg_table.proofs.DataLemmas.{data-edit, data-fits, leaves-fit}
+use Rattle.sg_table.proofs.DataLemmas.{data-edit, leaves-fit}
 use Rattle.sg_table.proofs.SpliceLemmas.{all-splice}
 use Rattle.sg_table.proofs.LeafSearchLemmas.{firsts-set}
-use Rattle.sg_table.proofs.LeavesLemmas.{directory-behind, directory-set, length-splice, same-table}
+use Rattle.sg_table.proofs.LeavesLemmas.{count-set, directory-behind, directory-set, length-splice, same-table}
 use Rattle.sg_table.proofs.leaves.Leaves.edit.Goals as goal
 
 pub overflow_sub-self : goal.overflow_sub-self
@@ -26,16 +26,30 @@ overflow_sub-self c =
 pub overflow_add-self : goal.overflow_add-self
 overflow_add-self c =
     let leaves = c.self.inside.leaves.leaves in
-    let same = ap (λ (l : LeafTable). length (joined l.leaves)) c.self.view_is in
-    let all = leaves-fit leaves c.self.invariant.8 in
-    let added = data-fits c.args.runs.now c.data_count.ensures.short in
+    let k = c.args.leaf in
+    let same = ap (λ (l : LeafTable). l.leaves) c.self.view_is in
+    let within : k < length leaves = omega (arith, c.requires.leaf, ap length same) in
+    let new : List Run = splice (leaf_at leaves k) c.args.from c.args.to c.args.runs.now in
+    let old = ap (λ (l : LeafTable). length (leaf_at l.leaves k)) c.self.view_is in
+    let size = length-splice (leaf_at leaves k) c.args.from c.args.to c.args.runs.now c.requires.range.0
+    (omega (arith, c.requires.range.1, old)) in
+    let fit = leaves-fit (set leaves k new) (All-set FitCounts leaves k new
+    (all-splice FitsCount (leaf_at leaves k) c.args.runs.now c.args.from c.args.to
+    (c.self.invariant.8 k [] within) c.data_count.ensures.short) c.self.invariant.8) in
+    let removed = rw (c.records.ensures.value, c.leaf-2.ensures) at c.data_count-removed.ensures.value in
     record {
       fits = omega (
         arith,
         c.requires.count,
-        same,
-        all,
-        added,
+        c.requires.range.0,
+        c.requires.range.1,
+        ap (λ (l : LeafTable). length (joined l.leaves)) c.self.view_is,
+        old,
+        size,
+        count-set leaves k new within,
+        fit,
+        removed,
+        data-edit leaves k c.args.runs.now c.args.from c.args.to within c.requires.range.0,
         c.self.invariant.9,
         c.data_count.ensures.value,
       );
