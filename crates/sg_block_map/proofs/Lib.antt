@@ -18,6 +18,7 @@ pub mod FinishLemmas
 pub mod CutLemmas
 pub mod RemainingLemmas
 pub mod CutRunsLemmas
+pub mod RemainingPartLemmas
 -- GET LBA STATUS, and what is counted of a range.
 pub mod StatusLemmas
 pub mod OverlapLemmas

@@ -22,8 +22,7 @@ pub record FitTogether (capacity : ℕ) (table : Table) (pool : Slots) : Type 0 
   pub well_formed : IsWellFormed capacity (chained_contents table.records pool)
   pub runs : AreRuns table.records pool table.room
 
--- The `BlockMap` of only these parts: its lists of gathered and remaining runs are empty, and it
--- has no other part.
+-- The `BlockMap` of only these parts: its list of gathered runs is empty, and it has no other part.
 abbrev pub parts : (capacity : ℕ) (table : Table) (pool : Slots) → FitTogether capacity table pool
     → BlockMap
 parts capacity table pool fit = record {
@@ -31,11 +30,9 @@ parts capacity table pool fit = record {
   table = table;
   pool = pool;
   gathered = empty_draft table.room;
-  remaining = empty_draft table.room;
   capacity_fits = fit.capacity_fits;
   pool_fits = fit.pool_fits;
   gathered_empty = refl;
-  remaining_empty = refl;
   well_formed = fit.well_formed;
   runs = fit.runs;
 }
@@ -59,5 +56,4 @@ HasOnlyItsParts = HasOnly struct.parts (
     ∷ table.the_field  -- table
     ∷ pool.the_field  -- pool
     ∷ draft.the_field  -- gathered
-    ∷ draft.the_field  -- remaining
     ∷ [])

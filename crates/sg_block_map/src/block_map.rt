@@ -28,7 +28,7 @@ use sg_pool::{Pool, Source};
 use sg_store::laws::disks_stay_well_formed;
 use sg_store::lba_status::status_header;
 use sg_store::{BLOCK_LENGTH, Counts, MAX_CAPACITY, MAX_POOL, Space, Store};
-use sg_table::{Draft, Kind, RunTable};
+use sg_table::{Kind, RunTable};
 use sg_wire::Cut;
 use sg_wire::laws::{parts_are_put_in_turn, parts_are_replaced};
 use std::alloc::{AllocError, Global};
@@ -43,13 +43,11 @@ pub struct BlockMap {
     capacity: u64,
     table: RunTable,
     pool: Pool,
-    /// The runs near a range, and their remaining parts. Both are empty between calls.
+    /// The runs near a range. It is empty between calls.
     gathered: Gathered,
-    remaining: Draft,
     ghost capacity_fits: { capacity ≤ MAX_CAPACITY },
     ghost pool_fits: { table.room ≤ MAX_POOL },
     ghost gathered_empty: { gathered ≡ empty_draft table.room },
-    ghost remaining_empty: { remaining ≡ empty_draft table.room },
     ghost well_formed: { AreOnDisk capacity table.records pool } by { IsWellFormed-IsProp _ _ },
     ghost runs: { AreRuns table.records pool table.room } by { AreRuns-IsProp _ _ _ },
 }
@@ -135,7 +133,6 @@ impl Store for BlockMap {
             table: RunTable::new(alloc, pool)?,
             pool: Pool::new(alloc, pool)?,
             gathered: Gathered::new(alloc, pool)?,
-            remaining: Draft::new(alloc, pool)?,
         })
     }
 
@@ -225,13 +222,11 @@ impl Store for BlockMap {
             &mut self.table,
             &mut self.pool,
             &self.gathered,
-            &mut self.remaining,
             lba,
             lba + u64::from(count),
         );
         renew_slots(&self.table, &mut self.pool);
         self.gathered.clear();
-        self.remaining.clear();
     }
 
     fn anchor(&mut self, lba: u64, count: u32) -> Result<(), Space>

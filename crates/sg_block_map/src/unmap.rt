@@ -16,13 +16,17 @@ use crate::put::put_runs;
 use crate::split::split_at;
 use sg_pool::Pool;
 use sg_store::{MAX_CAPACITY, MAX_POOL};
-use sg_table::{Draft, Run, RunTable};
+use arrayvec::ArrayVec;
+use sg_table::{Run, RunTable};
+
+/// Room for the parts that runs keep beside a range: one before the range and two after it. A run
+/// that ends after the range is the last one near it, so no more than one part is after it.
+const REMAINING: usize = 3;
 
 /// Keeps a part of a run, if there is one.
-fn keep(remaining: &mut Draft, part: Option<Run>)
-    requires { length remaining.old.records + length (option_to_list part) ≤ remaining.old.room }
-    ensures { remaining.new
-        ≡ record remaining.old { records = remaining.old.records ++ option_to_list part } }
+fn keep(remaining: &mut ArrayVec<Run, REMAINING>, part: Option<Run>)
+    requires { length remaining.old.items + length (option_to_list part) ≤ REMAINING }
+    ensures { remaining.new.items ≡ remaining.old.items ++ option_to_list part }
 {
     if let Some(run) = part {
         remaining.push(run);
@@ -53,15 +57,20 @@ fn give(pool: &mut Pool, part: Option<Run>)
 }
 
 /// Frees the slots of a run's addresses in a range, and keeps its other parts.
-fn unmap_run(pool: &mut Pool, remaining: &mut Draft, run: Run, low: u64, high: u64)
+fn unmap_run(
+    pool: &mut Pool,
+    remaining: &mut ArrayVec<Run, REMAINING>,
+    run: Run,
+    low: u64,
+    high: u64,
+)
     requires slots { HasOwnSlots pool.old run }
-    requires room { length remaining.old.records + run.count ≤ remaining.old.room }
+    requires room { length remaining.old.items + 2 ≤ REMAINING }
     requires range { run.start + run.count ≤ MAX_CAPACITY }
     requires order { low < high }
     requires headroom { pool.old.links + run.count ≤ u64.MAX }
 
-    ensures cut { IsCut pool.old pool.new remaining.old.records remaining.new.records run low high }
-    ensures draft { remaining.new ≡ record remaining.old { records = remaining.new.records } }
+    ensures cut { IsCut pool.old pool.new remaining.old.items remaining.new.items run low high }
 
     // The call follows at most as many links as the run has blocks.
     ensures links { FollowsLinks run.count pool.old pool.new }
@@ -82,21 +91,17 @@ pub(crate) fn unmap_runs(
     table: &mut RunTable,
     pool: &mut Pool,
     gathered: &Gathered,
-    remaining: &mut Draft,
     low: u64,
     high: u64,
 )
     requires ready { IsReadyFor table.old pool.old gathered.now low high }
-    requires room { remaining.old.room ≡ table.old.room }
     requires order { low < high }
 
     // The addresses of the range are gone, and all others have their slots.
     ensures records { expanded pool.new.next table.new.records
         ≡ outside_records (expanded pool.old.next table.old.records) low (high - low) }
-    ensures table { ChangesRuns (move_bound + length remaining.new.records)
-        table.old table.new pool.new }
+    ensures table { ChangesRuns (move_bound + REMAINING) table.old table.new pool.new }
     ensures blocks { pool.new.blocks ≡ pool.old.blocks }
-    ensures draft { remaining.new.room ≡ remaining.old.room }
 
     // The call follows at most as many links as the gathered runs have blocks.
     ensures links { FollowsLinks (blocks_of gathered.now.records) pool.old pool.new }
@@ -106,11 +111,11 @@ pub(crate) fn unmap_runs(
         return;
     }
     let from = gathered.from();
-    remaining.begin(from);
+    let mut remaining = ArrayVec::new();
     for i in 0..runs.len() {
-        unmap_run(pool, remaining, runs[i], low, high);
+        unmap_run(pool, &mut remaining, runs[i], low, high);
     }
-    put_runs(table, gathered, remaining.records());
+    put_runs(table, gathered, remaining.as_slice());
 }
 
 /// Makes the pool return its slots in ascending order again, if no address has one. Earlier writes

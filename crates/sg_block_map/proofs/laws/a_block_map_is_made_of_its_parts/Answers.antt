@@ -5,24 +5,20 @@ use Rattle.sg_table.specs.Draft.{Drafted, empty_draft}
 use Rattle.sg_block_map.specs.Parts.{IsMadeOfParts}
 use Rattle.sg_block_map.proofs.laws.a_block_map_is_made_of_its_parts.Goals as goal
 
--- the lists are empty, and this holds in only one way
+-- the list is empty, and this holds in only one way
 made-of : IsMadeOfParts
 made-of map =
     let none = empty_draft map.table.room in
-    let lists : ◌≡◌ {A = (d : Drafted × Drafted) × ((d.0 ≡ none) × (d.1 ≡ none))}
-    ((map.gathered, map.remaining), (map.gathered_empty, map.remaining_empty))
-    ((none, none), (refl, refl))
-    = Σ_prop_path (λ d. hlevel props) (λ i. (map.gathered_empty i, map.remaining_empty i)) in
+    let list : ◌≡◌ {A = (d : Drafted) × (d ≡ none)} (map.gathered, map.gathered_empty) (none, refl)
+    = Σ_prop_path (λ d. hlevel props) map.gathered_empty in
     λ i. record {
       capacity = map.capacity;
       table = map.table;
       pool = map.pool;
-      gathered = (lists i).0.0;
-      remaining = (lists i).0.1;
+      gathered = (list i).0;
       capacity_fits = map.capacity_fits;
       pool_fits = map.pool_fits;
-      gathered_empty = (lists i).1.0;
-      remaining_empty = (lists i).1.1;
+      gathered_empty = (list i).1;
       well_formed = map.well_formed;
       runs = map.runs;
     }

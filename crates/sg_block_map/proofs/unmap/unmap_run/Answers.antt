@@ -1,6 +1,6 @@
-use Rattle.std.proofs.Common.{◌≡◌, ◌++◌, [], ◌∷◌, length, ap, sym, ◌∙◌, arith}
+use Rattle.std.proofs.Common.{◌≡◌, List, ◌++◌, [], ◌∷◌, length, ap, sym, ◌∙◌, arith}
 use Rattle.std.specs.Prelude.{option_to_list}
-use Rattle.sg_table.specs.Draft.{Drafted}
+use Rattle.sg_table.specs.declared.run.Run.{Run}
 use Rattle.sg_pool.specs.Slots.{Slots}
 use Rattle.sg_block_map.specs.Runs.{expanded, singles_of}
 use Rattle.sg_block_map.proofs.CutLemmas.{slots-one, length-part, part-slots, part-length}
@@ -13,9 +13,9 @@ returns-in_default-clause-cut c =
     let p = c.args.pool.now in
     let one = rw c.in_default.is at c.split_at-front.ensures.split in
     let pool = c.split_at-front.ensures.links.pool in
-    cut-front p c.split_at-front.new.pool c.args.remaining.now.records c.keep.new.remaining.records
+    cut-front p c.split_at-front.new.pool c.args.remaining.now.items c.keep.new.remaining.items
     c.args.run c.args.low c.args.high c.split_at-front.result.0 one
-    (ap (λ (d : Drafted). d.records) c.keep.ensures) (ap (λ (s : Slots). s.next) pool)
+    c.keep.ensures (ap (λ (s : Slots). s.next) pool)
     (ap (λ (s : Slots). s.free) pool) (ap (λ (s : Slots). s.blocks) pool)
 
 pub returns-in_default-clause-links : goal.returns-in_default-clause-links
@@ -117,10 +117,9 @@ returns-clause-cut c =
     let two = rw first at c.split_at-gone.ensures.split in
     let front = c.split_at-front.result.0 in let gone = c.split_at-gone.result.0 in
     let back = c.split_at-gone.result.1 in
-    cut-twice p c.give.new.pool c.args.remaining.now.records c.keep-2.new.remaining.records
+    cut-twice p c.give.new.pool c.args.remaining.now.items c.keep-2.new.remaining.items
     c.args.run c.in-Some.rest c.args.low c.args.high front gone back one two
-    (ap (λ (d : Drafted). d.records) c.keep-2.ensures
-    ∙ ap (λ (d : Drafted). d.records ++ option_to_list back) c.keep.ensures)
+    (c.keep-2.ensures ∙ ap (λ (rs : List Run). rs ++ option_to_list back) c.keep.ensures)
     (rw (next, free) at c.give.ensures.free) (rw next at c.give.ensures.stays)
     (c.give.ensures.length ∙ ap length next) (ap (λ (s : Slots). s.blocks) c.give.ensures.pool ∙ bs)
 

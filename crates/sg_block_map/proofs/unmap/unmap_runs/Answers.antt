@@ -1,7 +1,7 @@
 use Rattle.std.proofs.Common.{◌≡◌, ℕ, ◌+◌, ◌-◌, ◌<◌, ◌≤◌, List, ◌∷◌, ◌++◌, length, take, drop, ap}
 use Rattle.std.proofs.Common.{[], subst, sym, ◌∙◌, arith, refl, length-append, length-drop}
 use Rattle.std.proofs.lemmas.Bool.Decides.{nat_tests}
-use Rattle.std.proofs.lemmas.List.{nil_from_length, take-append-drop, length-take-le}
+use Rattle.std.proofs.lemmas.List.{get_or_default, nil_from_length, take-append-drop, length-take-le}
 use Rattle.std.proofs.lemmas.List.Sums.{sum_by_more, sum_by-take-le}
 use Rattle.std.specs.List.{splice}
 use Rattle.std.specs.Prelude.{slice_index_or}
@@ -17,7 +17,9 @@ use Rattle.sg_block_map.specs.Runs.{expanded, AreRuns}
 use Rattle.sg_block_map.proofs.CutRunsLemmas.{cut-runs, cut-outside, kept-outside}
 use Rattle.sg_block_map.proofs.RunSlotLemmas.{run-chain}
 use Rattle.sg_block_map.proofs.RunSlotLemmas.{run-distinct, run-below, run-lengths, run-range}
+use Rattle.sg_block_map.proofs.FinishLemmas.{gathered-ahead}
 use Rattle.sg_block_map.proofs.RemainingLemmas.{nothing-left}
+use Rattle.sg_block_map.proofs.RemainingPartLemmas.{few-kept, parts-kept}
 use Rattle.sg_block_map.proofs.RunSlotLemmas.{runs-fit, gathered-here}
 use Rattle.sg_block_map.proofs.RunSlotLemmas.{gathered-blocks}
 use Rattle.sg_block_map.proofs.ExpandedLemmas.{expanded-none}
@@ -61,16 +63,18 @@ returns-then-is_empty-clause-records c =
 pub loop-i-init : goal.loop-i-init
 loop-i-init c =
     let rs = c.args.table.now.records in
-    let none = ap (λ (d : Drafted). d.records) c.begin.ensures in
-    let whole : splice rs c.from-from.result (c.from-from.result + 0) c.begin.new.self.records ≡ rs
-    = ap (λ n. splice rs c.from-from.result n c.begin.new.self.records) (omega arith)
+    let none = c.new-remaining.ensures in
+    let whole : splice rs c.from-from.result (c.from-from.result + 0) c.new-remaining.result.items ≡ rs
+    = ap (λ n. splice rs c.from-from.result n c.new-remaining.result.items) (omega arith)
     ∙ ap (splice rs c.from-from.result c.from-from.result) none
     ∙ take-append-drop c.from-from.result rs in
     record {
       runs = rw whole c.requires.ready.runs;
       same = rw whole refl;
       outside = rw (none, expanded-none c.args.pool.now.next) refl;
-      remaining = rw c.begin.ensures (refl, c.requires.room);
+      none = λ _. ap length none;
+      few = λ _. omega (arith, ap length none);
+      most = omega (arith, ap length none);
       blocks = refl;
       rise = omega arith;
       links = omega arith;
@@ -81,7 +85,7 @@ unmap_run-requires c =
     let rs = c.args.table.now.records in
     let inv = c.loop-i.invariant in
     let gathered = c.args.gathered.now in
-    let kept = c.loop-i.remaining.records in
+    let kept = c.loop-i.remaining.items in
     let run : Run = slice_index_or c.records-runs.result.now c.loop-i.i no_run in
     let xs : List Run = take gathered.from rs in
     let tail : List Run = drop (gathered.from + (c.loop-i.i + 1)) rs in
@@ -100,7 +104,7 @@ unmap_run-requires c =
         distinct = run-distinct xs kept tail run c.loop-i.pool room now;
         fits = omega (arith, l.0, c.requires.ready.table_size);
       };
-      room = omega (arith, l.1, inv.remaining.1);
+      room = omega (arith, inv.few c.loop-i-test.true);
       range = run-range xs kept tail run c.loop-i.pool room now;
       order = c.requires.order;
       headroom = omega (
@@ -117,7 +121,7 @@ loop-i-preserved c =
     let rs = c.args.table.now.records in
     let inv = c.loop-i.invariant in
     let gathered = c.args.gathered.now in
-    let kept = c.loop-i.remaining.records in
+    let kept = c.loop-i.remaining.items in
     let run : Run = slice_index_or c.records-runs.result.now c.loop-i.i no_run in
     let xs : List Run = take gathered.from rs in
     let tail : List Run = drop (gathered.from + (c.loop-i.i + 1)) rs in
@@ -125,6 +129,13 @@ loop-i-preserved c =
     c.args.low c.args.high (max_capacity + 1) c.from-from.result c.loop-i.i c.requires.ready.gathered_runs
     c.records-runs.ensures c.from-from.ensures c.loop-i-test.true inv.runs in
     let e = c.unmap_run.ensures in
+    let g = c.requires.ready.gathered_runs in
+    let apart = (gathered-ahead xs gathered.records (drop (end_index gathered) rs) c.args.pool.now
+    c.args.table.now.room (subst (λ zs. AreRuns zs c.args.pool.now c.args.table.now.room) (sym g.same)
+    c.requires.ready.runs)).apart in
+    let here-is : run ≡ slice_index_or gathered.records c.loop-i.i run =
+    get_or_default c.records-runs.result.now c.loop-i.i no_run run c.loop-i-test.true
+    ∙ ap (λ rs. slice_index_or rs c.loop-i.i run) c.records-runs.ensures in
     let order : c.args.low ≤ c.args.high = omega (arith, c.requires.order) in
     let was : splice rs c.from-from.result (c.from-from.result + c.loop-i.i) kept ≡
     xs ++ (kept ++ run ∷ tail)
@@ -133,7 +144,7 @@ loop-i-preserved c =
     (max_capacity + 1) c.loop-i.i no_run c.requires.ready.gathered_runs
     (rw c.records-runs.ensures at c.loop-i-test.true)) in
     let is : splice rs c.from-from.result (c.from-from.result + (c.loop-i.i + 1))
-    c.unmap_run.new.remaining.records ≡ xs ++ (c.unmap_run.new.remaining.records ++ tail) =
+    c.unmap_run.new.remaining.items ≡ xs ++ (c.unmap_run.new.remaining.items ++ tail) =
     rw c.from-from.ensures refl in
     let links = sum_by_more (λ (r : Run). r.count) gathered.records c.loop-i.i no_run
     (rw c.records-runs.ensures at c.loop-i-test.true) in
@@ -146,7 +157,12 @@ loop-i-preserved c =
           ∙ ap (λ zs. outside_records (expanded c.loop-i.pool.next zs) c.args.low
           (c.args.high - c.args.low)) (sym was) ∙ inv.same;
       outside = kept-outside e.cut xs tail now order inv.outside;
-      remaining = rw e.draft inv.remaining;
+      none = λ z. absurd (omega arith);
+      few = λ lt. few-kept gathered.records 0 max_capacity c.loop-i.i c.loop-i.pool c.unmap_run.new.pool kept
+          c.unmap_run.new.remaining.items run c.args.low c.args.high apart g.near here-is e.cut inv.none
+          (inv.few c.loop-i-test.true) (omega (arith, lt, ap length c.records-runs.ensures));
+      most = parts-kept c.loop-i.pool c.unmap_run.new.pool kept c.unmap_run.new.remaining.items run
+          c.args.low c.args.high e.cut (inv.few c.loop-i-test.true);
       blocks = e.cut.blocks ∙ inv.blocks;
       rise = omega (arith, inv.rise, e.links.links_rise);
       links = omega (arith, inv.links, e.links.most_links, links, count);
@@ -163,7 +179,7 @@ put_runs-requires-clause-room c =
     let rs = c.args.table.now.records in
     let inv = c.loop-i.invariant in
     let from = c.from-from.result in
-    let kept = c.loop-i.remaining.records in
+    let kept = c.loop-i.remaining.items in
     let fit = runs-fit (splice rs from (from + c.loop-i.i) kept) c.loop-i.pool c.args.table.now.room
     inv.runs in
     let a = length-append (take from rs) (kept ++ drop (from + c.loop-i.i) rs) in
@@ -172,7 +188,7 @@ put_runs-requires-clause-room c =
     let within = c.requires.ready.gathered_runs.within in
     let starts_in = c.from-from.ensures in
     let runs = ap length c.records-runs.ensures in
-    let records = ap length c.records.ensures in
+    let records = ap length c.as_slice.ensures.value in
     let e = length-take-le from rs (omega arith) in
     omega (arith, c.loop-i-test.false, c.loop-i.auto.i-end)
 
@@ -181,14 +197,14 @@ returns-clause-records c =
     let rs = c.args.table.now.records in
     let inv = c.loop-i.invariant in
     let gathered = c.args.gathered.now in
-    let kept = c.loop-i.remaining.records in
+    let kept = c.loop-i.remaining.items in
     let g = c.requires.ready.gathered_runs in
     let all : c.loop-i.i ≡ length gathered.records =
     omega (arith, c.loop-i-test.false, c.loop-i.auto.i-end, ap length c.records-runs.ensures) in
     let is : c.put_runs.new.table.records ≡ take gathered.from rs ++
     (kept ++ drop (gathered.from + length gathered.records) rs)
     = ap (λ (t : Table). t.records) c.put_runs.ensures.table
-    ∙ rw c.records.ensures refl in
+    ∙ rw c.as_slice.ensures.value refl in
     let now : splice rs c.from-from.result (c.from-from.result + c.loop-i.i) kept ≡
     take gathered.from rs ++ (kept ++ drop (gathered.from + length gathered.records) rs) =
     rw (c.from-from.ensures, all) refl in
