@@ -1,74 +1,71 @@
-//! `blockbench ORDER MAPPED BLOCKS READS WRITES`: block commands on a large disk. `bench/blocks`
-//! measures them from outside.
+//! `blockbench ORDER POOL BLOCKS COMMANDS`: block commands on a disk whose pool is full.
+//! `bench/blocks` makes its tables.
 //!
-//! A disk of 2^30 blocks with a pool of 65,536 gets MAPPED blocks, one WRITE each, in an order:
+//! A disk of the extended profile with a pool of POOL blocks gets as many mapped blocks, in an
+//! order:
 //!
-//! - `scattered`: over a range of twice as many addresses. The store is a `PlainMap`.
-//! - `ascending`: at the first addresses, one after the other. The store is a `BlockMap`, as it is
-//!   in the other two orders.
-//! - `mixed`: at the first addresses too, each far away from the one before.
-//! - `alternate`: at every second address.
+//! - `sparse`: in runs of BLOCKS blocks, with an address that is not mapped after each run. There
+//!   is one WRITE for each run.
+//! - `ascending`: in one run, by one WRITE for each block, one after the other.
+//! - `mixed`: in one run, too, each block far away from the one before.
+//! - `churned`: as `mixed`. Then the program unmaps a block and writes it again, POOL times, each
+//!   time at random.
 //!
-//! Then come READS of BLOCKS blocks, and WRITES. In the order `scattered` each WRITE is of one
-//! block, at an address of the range that is not mapped yet, as long as there are some. In the
-//! other orders it is of BLOCKS blocks that are mapped, at random, and so are the READS. The
-//! program prints the numbers of commands that were good.
+//! Then come COMMANDS READs of BLOCKS blocks, as many WRITEs, and as many UNMAPs, each with a WRITE
+//! of the same blocks. All of them are at random over mapped blocks.
+//!
+//! The program prints how many commands were good. On standard error it prints the nanoseconds that
+//! a command took.
 #![tactic(auto)]
 
 use sg_block_map::BlockMap;
 use sg_pages::Identity;
-use sg_plain_map::PlainMap;
-use sg_store::{BLOCK_LENGTH, Store};
+use sg_store::BLOCK_LENGTH;
 use sg_target::{BUFFER_LENGTH, Config, Status, Target};
-use sg_wire::{CdbBytes, Command, Extent16, Initiator};
-use std::alloc::AllocError;
+use sg_wire::{CdbBytes, Command, Extent16, GroupNumber, Initiator, Profile, Unmap};
 use std::env;
+use std::io;
 use std::process::ExitCode;
 use std::rt::Runtime;
+use std::time::Instant;
 
-const BLOCKS: u64 = 1 << 30;
-
-const POOL: u32 = 65_536;
-
-/// A prime that is no divisor of a range's length, so that its multiples meet each address of the
-/// range once.
+/// A prime that is no divisor of a pool's size, so that its multiples meet each address once.
 const STRIDE: u64 = 1_000_003;
+
+/// The length of UNMAP's parameter list with one descriptor.
+const LIST_LENGTH: usize = 24;
 
 /// The order in which the blocks are mapped.
 #[derive(Clone, Copy)]
 enum Order {
-    Scattered,
+    Sparse,
     Ascending,
     Mixed,
-    Alternate,
+    Churned,
 }
 
 /// What a run does.
 #[derive(Clone, Copy)]
 struct Load {
     order: Order,
-    /// The number of blocks that are mapped.
-    mapped: u64,
+    pool: u32,
     /// The number of blocks of a command.
     blocks: u32,
-    reads: u64,
-    writes: u64,
+    /// The number of commands of each kind.
+    commands: u64,
 }
 
-/// The number of commands of each kind that were good.
-#[derive(Clone, Copy)]
-struct Good {
-    mapped: u64,
-    read: u64,
-    written: u64,
+/// What the commands are sent to and by.
+#[derive(Drop)]
+struct Bench<'a> {
+    target: Target<BlockMap>,
+    initiator: Initiator,
+    data_out: &'a [u8],
+    buf: &'a mut [u8; BUFFER_LENGTH],
+    good: u64,
 }
 
-/// An address below `range`. As the index rises, it meets each of them once.
-fn scattered(index: u64, range: u64) -> u64 {
-    index.wrapping_mul(STRIDE).checked_rem(range).unwrap_or(0)
-}
-
-/// An address below `range`, at random.
+/// A number below `range`, at random.
 fn random(index: u64, range: u64) -> u64 {
     let mixed = index.wrapping_mul(0x9E37_79B9_7F4A_7C15);
     let mixed = (mixed ^ (mixed >> 29)).wrapping_mul(0xBF58_476D_1CE4_E5B9);
@@ -76,109 +73,135 @@ fn random(index: u64, range: u64) -> u64 {
 }
 
 impl Load {
-    /// The range that `scattered` blocks are scattered over, in blocks. Half of it is mapped.
-    fn range(&self) -> u64 {
-        self.mapped.saturating_mul(2).max(16)
+    /// The number of WRITEs that fill the pool, and the number of blocks of each.
+    fn fill(&self) -> (u64, u32) {
+        let pool = u64::from(self.pool);
+        match self.order {
+            Order::Sparse => (
+                pool.checked_div(u64::from(self.blocks)).unwrap_or(0),
+                self.blocks,
+            ),
+            _ => (pool, 1),
+        }
     }
 
-    /// The address of the block that is mapped at an index.
-    fn mapped_at(&self, index: u64) -> u64 {
+    /// The first address of the WRITE at an index, as the pool is filled.
+    fn filled_at(&self, index: u64) -> u64 {
         match self.order {
-            Order::Scattered => scattered(index, self.range()),
+            Order::Sparse => index.wrapping_mul(u64::from(self.blocks).saturating_add(1)),
             Order::Ascending => index,
-            Order::Mixed => scattered(index, self.mapped),
-            Order::Alternate => index.wrapping_mul(2),
+            Order::Mixed | Order::Churned => index
+                .wrapping_mul(STRIDE)
+                .checked_rem(u64::from(self.pool))
+                .unwrap_or(0),
         }
     }
 
     /// The first address of a command over mapped blocks.
     fn covered_at(&self, index: u64) -> u64 {
-        let starts = self
-            .mapped
-            .saturating_sub(u64::from(self.blocks))
-            .saturating_add(1);
-        let block = random(index, starts);
         match self.order {
-            Order::Alternate => block.wrapping_mul(2),
-            _ => block,
-        }
-    }
-
-    fn read(&self, index: u64) -> Extent16 {
-        let blocks = u64::from(self.blocks);
-        let lba = match self.order {
-            Order::Scattered => scattered(index, self.range().saturating_sub(blocks)),
-            _ => self.covered_at(index),
-        };
-        Extent16 {
-            lba,
-            count: self.blocks,
-        }
-    }
-
-    fn write(&self, index: u64) -> Extent16 {
-        match self.order {
-            Order::Scattered => Extent16 {
-                lba: self.mapped_at(self.mapped.saturating_add(index)),
-                count: 1,
-            },
-            _ => Extent16 {
-                lba: self.covered_at(index),
-                count: self.blocks,
-            },
+            Order::Sparse => self.filled_at(random(index, self.fill().0)),
+            _ => {
+                let starts = u64::from(self.pool).saturating_sub(u64::from(self.blocks));
+                random(index, starts.saturating_add(1))
+            }
         }
     }
 }
 
-/// Sends a command. Returns 1 if it is good, and otherwise 0.
-fn send<S: Store>(
-    target: &mut Target<S>,
-    initiator: Initiator,
-    cdb: &CdbBytes,
-    data_out: &[u8],
-    buf: &mut [u8; BUFFER_LENGTH],
-) -> u64 {
-    let reply = target.execute(initiator, cdb.as_slice(), data_out, buf);
-    u64::from(reply.status == Status::Good)
+impl Bench<'_> {
+    fn send(&mut self, cdb: &CdbBytes, data_out: &[u8]) {
+        let reply = self
+            .target
+            .execute(self.initiator, cdb.as_slice(), data_out, self.buf);
+        if reply.status == Status::Good {
+            self.good = self.good.saturating_add(1);
+        }
+    }
+
+    fn read(&mut self, lba: u64, count: u32) {
+        let cdb = Command::Read16(Extent16 { lba, count }).write();
+        self.send(&cdb, &[]);
+    }
+
+    fn write(&mut self, lba: u64, count: u32) {
+        let length = (count as usize).saturating_mul(BLOCK_LENGTH);
+        let cdb = Command::Write16(Extent16 { lba, count }).write();
+        let data_out = self.data_out.get(..length).unwrap_or(&[]);
+        self.send(&cdb, data_out);
+    }
+
+    fn unmap(&mut self, lba: u64, count: u32) {
+        let mut list = [0; LIST_LENGTH];
+        list[1] = 22;
+        list[3] = 16;
+        list[8..16].copy_from_slice(&lba.to_be_bytes());
+        list[16..20].copy_from_slice(&count.to_be_bytes());
+        let cdb = Command::Unmap(Unmap {
+            anchor: false,
+            group: GroupNumber::default(),
+            list_length: LIST_LENGTH as u16,
+        })
+        .write();
+        self.send(&cdb, &list);
+    }
 }
 
-/// Maps blocks, reads and writes.
-fn run<S: Store>(target: &mut Target<S>, load: Load, data_out: &[u8]) -> Good {
-    let mut buf = [0; BUFFER_LENGTH];
-    let mut good = Good {
-        mapped: 0,
-        read: 0,
-        written: 0,
-    };
-    let Some(initiator) = Initiator::new(0) else {
-        return good;
-    };
-    let _ = target.execute(initiator, &[0; 6], &[], &mut buf);
-    for index in 0..load.mapped {
-        let lba = load.mapped_at(index);
-        let cdb = Command::Write16(Extent16 { lba, count: 1 }).write();
-        let sent = send(target, initiator, &cdb, data_out, &mut buf);
-        good.mapped = good.mapped.saturating_add(sent);
+/// The nanoseconds of one of `count` commands, since an instant.
+fn each(rt: &HostRuntime, start: Instant, count: u64) -> io::Result<u64> {
+    let nanoseconds = start.elapsed(rt)?.as_nanos() as u64;
+    Ok(nanoseconds.checked_div(count).unwrap_or(0))
+}
+
+/// Fills the pool, and churns it if that is asked for.
+fn fill(rt: &HostRuntime, bench: &mut Bench, load: Load) -> io::Result<()> {
+    let (writes, blocks) = load.fill();
+    let start = Instant::now(rt)?;
+    for index in 0..writes {
+        bench.write(load.filled_at(index), blocks);
     }
-    for index in 0..load.reads {
-        let cdb = Command::Read16(load.read(index)).write();
-        let sent = send(target, initiator, &cdb, &[], &mut buf);
-        good.read = good.read.saturating_add(sent);
+    eprintln!(rt; "fill {}", each(rt, start, writes)?)?;
+    if let Order::Churned = load.order {
+        for index in 0..u64::from(load.pool) {
+            let lba = random(index, u64::from(load.pool));
+            bench.unmap(lba, 1);
+            bench.write(lba, 1);
+        }
     }
-    for index in 0..load.writes {
-        let cdb = Command::Write16(load.write(index)).write();
-        let sent = send(target, initiator, &cdb, data_out, &mut buf);
-        good.written = good.written.saturating_add(sent);
+    Ok(())
+}
+
+/// Times the commands of each kind.
+fn measure(rt: &HostRuntime, bench: &mut Bench, load: Load) -> io::Result<()> {
+    let start = Instant::now(rt)?;
+    bench.read(load.filled_at(load.fill().0 / 2), load.blocks);
+    eprintln!(rt; "first_read {}", each(rt, start, 1)?)?;
+    let start = Instant::now(rt)?;
+    for index in 0..load.commands {
+        bench.read(load.covered_at(index), load.blocks);
     }
-    good
+    eprintln!(rt; "read {}", each(rt, start, load.commands)?)?;
+    let start = Instant::now(rt)?;
+    for index in 0..load.commands {
+        bench.write(load.covered_at(index), load.blocks);
+    }
+    eprintln!(rt; "write {}", each(rt, start, load.commands)?)?;
+    let start = Instant::now(rt)?;
+    for index in 0..load.commands {
+        let lba = load.covered_at(index);
+        bench.unmap(lba, load.blocks);
+        bench.write(lba, load.blocks);
+    }
+    eprintln!(rt; "unmap_and_write {}", each(rt, start, load.commands)?)?;
+    Ok(())
 }
 
 fn order_of(word: &str) -> Option<Order> {
     match word {
-        "scattered" => Some(Order::Scattered),
+        "sparse" => Some(Order::Sparse),
         "ascending" => Some(Order::Ascending),
         "mixed" => Some(Order::Mixed),
-        "alternate" => Some(Order::Alternate),
+        "churned" => Some(Order::Churned),
         _ => None,
     }
 }
@@ -189,39 +212,48 @@ fn read_load(rt: &HostRuntime) -> Option<Load> {
     args.next()?;
     Some(Load {
         order: order_of(&args.next()?)?,
-        mapped: args.next()?.parse().ok()?,
+        pool: args.next()?.parse().ok()?,
         blocks: args.next()?.parse().ok()?,
-        reads: args.next()?.parse().ok()?,
-        writes: args.next()?.parse().ok()?,
+        commands: args.next()?.parse().ok()?,
     })
 }
 
-/// Runs over the store of the order.
-fn run_load(rt: &HostRuntime, load: Load) -> Result<Good, AllocError> {
-    let config = Config::new(BLOCKS, POOL, Identity::standard()).unwrap();
-    let data_out = vec![in rt.alloc(); 0xAB; BUFFER_LENGTH]?;
-    if let Order::Scattered = load.order {
-        let mut target: Target<PlainMap> = Target::new(rt.alloc(), config)?;
-        return Ok(run(&mut target, load, &data_out));
-    }
-    let mut target: Target<BlockMap> = Target::new(rt.alloc(), config)?;
-    Ok(run(&mut target, load, &data_out))
+/// Runs, and returns how many commands were good.
+fn run(rt: &HostRuntime, load: Load, config: Config) -> io::Result<u64> {
+    let Some(initiator) = Initiator::new(0) else {
+        return Ok(0);
+    };
+    let start = Instant::now(rt)?;
+    let mut bench = Bench {
+        target: Target::new(rt.alloc(), config)?,
+        initiator,
+        data_out: &vec![in rt.alloc(); 0xAB; BUFFER_LENGTH]?,
+        buf: &mut [0; BUFFER_LENGTH],
+        good: 0,
+    };
+    eprintln!(rt; "start {}", each(rt, start, 1)?)?;
+    // The first command reports the unit attention POWER ON.
+    bench.read(0, 1);
+    fill(rt, &mut bench, load)?;
+    measure(rt, &mut bench, load)?;
+    Ok(bench.good)
 }
 
 fn main(rt: HostRuntime) -> ExitCode {
+    let identity = Identity::standard().with_profile(Profile::Extended);
     let Some(load) = read_load(&rt) else {
-        let _ = eprintln!(rt; "blockbench: ORDER MAPPED BLOCKS READS WRITES");
+        let _ = eprintln!(rt; "blockbench: ORDER POOL BLOCKS COMMANDS");
         return ExitCode::from(1);
     };
-    let Ok(good) = run_load(&rt, load) else {
-        let _ = eprintln!(rt; "blockbench: out of memory");
+    let blocks = u64::from(load.pool).saturating_mul(2).saturating_add(1);
+    let Ok(config) = Config::new(blocks, load.pool, identity) else {
+        let _ = eprintln!(rt; "blockbench: the pool has no block");
+        return ExitCode::from(1);
+    };
+    let Ok(good) = run(&rt, load, config) else {
+        let _ = eprintln!(rt; "blockbench: out of memory, or an error of a stream or the clock");
         return ExitCode::from(99);
     };
-    let Good {
-        mapped,
-        read,
-        written,
-    } = good;
-    let _ = println!(rt; "{mapped} blocks mapped, {read} ranges read, {written} blocks written");
+    let _ = println!(rt; "{good} commands were good");
     ExitCode::from(0)
 }
