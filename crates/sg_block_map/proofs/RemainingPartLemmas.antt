@@ -1,6 +1,6 @@
 -- The parts that runs near a range keep: one before it, and one after it.
 use Rattle.std.proofs.Common.{◌≡◌, ℕ, ◌+◌, ◌-◌, ◌<◌, ◌≤◌, zero, suc, List, [], ◌∷◌, ◌++◌, length}
-use Rattle.std.proofs.Common.{arith, refl, sym, ap, ◌∙◌, get_or, length-append, Option, Some, None, inl, inr}
+use Rattle.std.proofs.Common.{arith, refl, ap, get_or, length-append, Option, Some, None, inl, inr}
 use Rattle.std.proofs.lemmas.Bool.{cases_lt}
 use Rattle.std.specs.Prelude.{option_to_list, IfSome}
 use Rattle.sg_pool.specs.Slots.{Slots}

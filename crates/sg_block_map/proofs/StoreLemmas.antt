@@ -7,17 +7,15 @@ use Rattle.std.proofs.lemmas.Nat.{pow-add}
 use Rattle.std.proofs.lemmas.List.{length-map, nil_from_length}
 use Rattle.std.specs.FinMap as map
 use Rattle.std.specs.List.{count_by, range_with_len, sum_by}
-use Rattle.sg_store.specs.Disk.{Contents, Disk, Mapping, IsWellFormed, HasBlockLength, used_among, remapped}
+use Rattle.sg_store.specs.Disk.{Contents, Disk, Mapping, IsWellFormed, used_among, remapped}
 use Rattle.sg_store.specs.Disk.{max_capacity, max_pool}
 use Rattle.sg_table.specs.Draft.{Drafted, empty_draft}
 use Rattle.sg_store.specs.Meter.{Meter, Costs}
-use Rattle.sg_pool.specs.MappedRecords.{mapping_in, contents_of, mapping_as}
+use Rattle.sg_pool.specs.MappedRecords.{mapping_in, contents_of}
 use Rattle.sg_table.specs.Records.{IsSorted}
 use Rattle.sg_table.specs.Search.{CostsSearch}
 use Rattle.sg_pool.specs.Slots.{Slots}
 use Rattle.sg_table.specs.Table.{Table, visited, probed}
-use Rattle.sg_table.specs.declared.run.Kind.{Kind}
-use Rattle.sg_table.specs.declared.run.Kind.TheVariants.{Data, Anchored}
 use Rattle.sg_table.specs.declared.run.Run.{Run}
 use Rattle.sg_block_map.specs.Metering.{SearchesAndVisits}
 use Rattle.sg_block_map.specs.Gathering.{starts_in, overlap, AreGathered, HaveRoom, end_index}
@@ -86,10 +84,6 @@ pub new-contents : (slots : Slots) → chained_contents [] slots ≡ map.empty
 new-contents slots = ap (λ xs. contents_of xs slots.blocks) (expanded-none slots.next)
 
 -- an address gets a whole block, or none
-pub whole-as : (kind : Kind) (block : List ℕ) → length block ≡ 512 → HasBlockLength (mapping_as kind block)
-whole-as Data block e = e
-whole-as Anchored block e = tt
-
 -- the number of mapped addresses
 pub size : (rs : List Run) (slots : Slots) (room : ℕ) → AreRuns rs slots room
     → map.len (chained_contents rs slots) + length slots.free ≡ room

@@ -12,13 +12,16 @@ use Rattle.sg_pool.specs.Chains.{IsChain}
 use Rattle.sg_store.specs.Disk.{Mapping, max_capacity}
 use Rattle.sg_table.specs.Records.{start_of, single, run_at}
 use Rattle.sg_pool.specs.MappedRecords.{Seen, entries_by, contents_by, contents_of, mapping_in}
-use Rattle.sg_pool.specs.MappedRecords.{filled_slot, slot_number, slot_numbers, mapping_as}
+use Rattle.sg_pool.specs.Content.{kind_for, mapping_for}
+use Rattle.sg_pool.specs.MappedRecords.{filled_slot, slot_number, slot_numbers}
+use Rattle.sg_pool.specs.Source.{block_of}
+use Rattle.sg_pool.specs.declared.content.Content.{Content}
+use Rattle.sg_pool.specs.declared.content.Content.TheVariants.{Blocks, Anchor}
 use Rattle.sg_pool.specs.Slots.{Slots, followed}
 use Rattle.sg_table.specs.Records.{slots_of}
 use Rattle.sg_table.specs.Occurrences.{occurrences, IsEachOnce}
 use Rattle.sg_pool.specs.MappedRecords.{IsConsistent}
 use Rattle.sg_table.specs.declared.run.Kind.{Kind}
-use Rattle.sg_table.specs.declared.run.Kind.TheVariants.{Data as DataRun, Anchored as AnchoredRun}
 use Rattle.sg_table.specs.declared.run.Run.{Run}
 use Rattle.sg_block_map.specs.Joining.{joined, linked, IsWriting, KeepSlots}
 use Rattle.sg_block_map.specs.Runs.{end_of, singles_of, expanded, any_from, behind, begins}
@@ -103,20 +106,24 @@ numbers-kind (x ∷ xs) ys lba slot j k =
     ap (λ es. (x.start, slot_number x.first x.kind) ∷ es) (numbers-kind xs ys lba slot j k)
 
 -- the view of the slot of an address that was put
-pub put-length : (kind : Kind) (slot : ℕ) (b : List ℕ) (bs : List (List ℕ))
-    → length (filled_slot bs slot (mapping_as kind b)) ≡ length bs
-put-length DataRun slot b bs = length-set bs slot b
-put-length AnchoredRun slot b bs = refl
+pub put-length : (content : Content) (index slot : ℕ) (bs : List (List ℕ))
+    → length (filled_slot bs slot (mapping_for content index)) ≡ length bs
+put-length (Blocks source) index slot bs = length-set bs slot (block_of source.now index)
+put-length Anchor index slot bs = refl
 
-pub put-others : (kind : Kind) (slot : ℕ) (b : List ℕ) (bs : List (List ℕ))
-    → AreSameBut slot (mapping_in bs) (mapping_in (filled_slot bs slot (mapping_as kind b)))
-put-others DataRun slot b bs = seen-set bs slot b
-put-others AnchoredRun slot b bs = λ t kind other. refl
+pub put-others : (content : Content) (index slot : ℕ) (bs : List (List ℕ))
+    → AreSameBut slot (mapping_in bs) (mapping_in (filled_slot bs slot (mapping_for content index)))
+put-others (Blocks source) index slot bs = seen-set bs slot (block_of source.now index)
+put-others Anchor index slot bs = λ t kind other. refl
 
-pub put-seen : (kind : Kind) (slot : ℕ) (b : List ℕ) (bs : List (List ℕ)) → slot < length bs
-    → mapping_in (filled_slot bs slot (mapping_as kind b)) slot kind ≡ mapping_as kind b
-put-seen DataRun slot b bs low = data-set bs slot b low
-put-seen AnchoredRun slot b bs low = refl
+pub put-seen : (content : Content) (index slot : ℕ) (bs : List (List ℕ)) (kind : Kind)
+    → kind ≡ kind_for content → slot < length bs
+    → mapping_in (filled_slot bs slot (mapping_for content index)) slot kind ≡ mapping_for content index
+put-seen (Blocks source) index slot bs kind is low =
+    ap (mapping_in (filled_slot bs slot (mapping_for (Blocks source) index)) slot) is
+    ∙ data-set bs slot (block_of source.now index) low
+put-seen Anchor index slot bs kind is low =
+    ap (mapping_in (filled_slot bs slot (mapping_for Anchor index)) slot) is
 
 -- only the number of the blocks matters
 pub consistent-other : (rs : List Run) (bs bs' : List (List ℕ)) (free : List ℕ) (room : ℕ)

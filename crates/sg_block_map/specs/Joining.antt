@@ -7,8 +7,8 @@ use Rattle.sg_store.specs.Meter.{max_count}
 use Rattle.sg_pool.specs.Chains.{IsChain}
 use Rattle.sg_pool.specs.MappedRecords.{slot_numbers}
 use Rattle.sg_pool.specs.Slots.{Slots}
-use Rattle.sg_pool.specs.Source.{HasBlocks}
-use Rattle.sg_pool.specs.declared.source.Source.{Source}
+use Rattle.sg_pool.specs.Content.{HasMappings}
+use Rattle.sg_pool.specs.declared.content.Content.{Content}
 use Rattle.sg_pool.specs.MappedRecords.{IsConsistent}
 use Rattle.sg_table.specs.Draft.{Drafted}
 use Rattle.sg_table.specs.Leaves.{move_bound}
@@ -96,13 +96,13 @@ pub record ChangesRuns (most_moves : ℕ) (before after : Table) (slots : Slots)
   pub table : after ≡ record before { records = after.records; moved = after.moved }
   pub moves : after.moved ≤ before.moved + most_moves
 
--- A call can remap a range to the blocks that a source has for it. The range is not empty, and the
--- runs near it were gathered. There are free slots for its addresses that have none.
+-- A call can give a range its new content. The range is not empty, and the runs near it were
+-- gathered. There are free slots for its addresses that have none.
 pub record CanRemap (table : Table) (slots : Slots) (gathered : Drafted) (lba count : ℕ)
-    (source : Source) : Type 0 where
+    (content : Content) : Type 0 where
   pub ready : IsReadyFor table slots gathered lba (lba + count)
   pub range : (0 < count) × (lba + count ≤ max_capacity)
-  pub blocks : HasBlocks source count
+  pub whole : HasMappings content count
   pub free : count ≤ length slots.free
       + used_among (chained_contents table.records slots) lba count
 

@@ -24,11 +24,11 @@ use crate::read::read_runs;
 use crate::status::{cursor_over, write_descriptors};
 use crate::unmap::{renew_slots, unmap_runs};
 use crate::write::write_runs;
-use sg_pool::{Pool, Source};
+use sg_pool::{Content, Pool, Source};
 use sg_store::laws::disks_stay_well_formed;
 use sg_store::lba_status::status_header;
 use sg_store::{BLOCK_LENGTH, Counts, MAX_CAPACITY, MAX_POOL, Space, Store};
-use sg_table::{Kind, RunTable};
+use sg_table::RunTable;
 use sg_wire::Cut;
 use sg_wire::laws::{parts_are_put_in_turn, parts_are_replaced};
 use std::alloc::{AllocError, Global};
@@ -53,8 +53,7 @@ pub struct BlockMap {
 }
 
 impl BlockMap {
-    ghost use Rattle.sg_pool.specs.Source.{HasBlocks, block_of};
-    ghost use Rattle.sg_pool.specs.MappedRecords.{mapping_as};
+    ghost use Rattle.sg_pool.specs.Content.{HasMappings, mapping_for};
     ghost use Rattle.sg_block_map.specs.State.{disk_of, meter_of, records_of};
     ghost use Rattle.sg_block_map.specs.State.{slots_by_address, Keeps};
 
@@ -67,21 +66,21 @@ impl BlockMap {
         self.table.count()
     }
 
-    /// Makes the addresses from one on data, with the blocks of a source, or anchors them.
+    /// Gives the addresses from one on their new content.
     ///
     /// # Errors
     /// More addresses would have a block of the pool than it has. Nothing changes then.
-    fn remap(&mut self, lba: u64, count: u32, kind: Kind, source: &Source) -> Result<(), Space>
+    fn remap(&mut self, lba: u64, count: u32, content: &Content) -> Result<(), Space>
         requires range { lba + count ≤ (disk_of self.old).capacity }
-        requires blocks { HasBlocks source.now count }
+        requires whole { HasMappings content.now count }
         requires headroom { HasHeadroom (meter_of self.old).counts }
 
         // Either the pool has too few blocks and the disk stays as it is, or all addresses are
         // remapped.
-        ensures space { IsErr result ↔ IsOverfull (disk_remapped (disk_of self.old) lba count
-            (λ index. mapping_as kind (block_of source.now index))) }
-        ensures ok { OnOk result (disk_of self.new ≡ disk_remapped (disk_of self.old) lba count
-            (λ index. mapping_as kind (block_of source.now index))) }
+        ensures space { IsErr result
+            ↔ IsOverfull (disk_remapped (disk_of self.old) lba count (mapping_for content.now)) }
+        ensures ok { OnOk result
+            (disk_of self.new ≡ disk_remapped (disk_of self.old) lba count (mapping_for content.now)) }
         ensures err { OnErr result (disk_of self.new ≡ disk_of self.old) }
 
         // Each address that has a slot keeps it.
@@ -107,8 +106,7 @@ impl BlockMap {
             &self.gathered,
             lba,
             count,
-            kind,
-            source,
+            content,
         );
         self.gathered.clear();
         Ok(())
@@ -175,7 +173,7 @@ impl Store for BlockMap {
         ensures costs { CostsRange (disk_of self.old) lba count
             (meter_of self.old) (meter_of self.new) }
     {
-        self.remap(lba, count, Kind::Data, &Source::Joined(bytes))
+        self.remap(lba, count, &Content::Blocks(&Source::Joined(bytes)))
     }
 
     fn fill(&mut self, lba: u64, count: u32, block: &[u8; BLOCK_LENGTH]) -> Result<(), Space>
@@ -197,7 +195,7 @@ impl Store for BlockMap {
         ensures costs { CostsRange (disk_of self.old) lba count
             (meter_of self.old) (meter_of self.new) }
     {
-        self.remap(lba, count, Kind::Data, &Source::Repeated(block))
+        self.remap(lba, count, &Content::Blocks(&Source::Repeated(block)))
     }
 
     fn unmap(&mut self, lba: u64, count: u32)
@@ -245,12 +243,7 @@ impl Store for BlockMap {
         ensures costs { CostsRange (disk_of self.old) lba count
             (meter_of self.old) (meter_of self.new) }
     {
-        self.remap(
-            lba,
-            count,
-            Kind::Anchored,
-            &Source::Repeated(&[0; BLOCK_LENGTH]),
-        )
+        self.remap(lba, count, &Content::Anchor)
     }
 
     fn need(&mut self, lba: u64, count: u64) -> u64

@@ -15,19 +15,18 @@ use sg_pool::{Pool, Source};
 use sg_store::MAX_CAPACITY;
 use sg_table::{Kind, Run};
 
-/// The first of some runs, if the range is to be data, and if the run is data and has all addresses
-/// of the range.
-pub(crate) fn covering(runs: &[Run], lba: u64, count: u32, kind: Kind) -> Option<Run>
+/// The first of some runs, if it is data and has all addresses of the range.
+pub(crate) fn covering(runs: &[Run], lba: u64, count: u32) -> Option<Run>
     requires range { lba + count ≤ MAX_CAPACITY }
-    ensures kind { IfSome result (λ run. (kind ≡ Data) × (run.kind ≡ Data)) }
+    ensures kind { IfSome result (λ run. run.kind ≡ Data) }
     ensures first { IfSome result (λ run. runs.now ≡ run ∷ drop 1 runs.now) }
     ensures covers { IfSome result
         (λ run. (run.start ≤ lba) × (lba + count ≤ end_of run)) }
 {
     let run = *runs.first()?;
     let covers = run.start <= lba && lba - run.start + u64::from(count) <= u64::from(run.count);
-    match (kind, run.kind) {
-        (Kind::Data, Kind::Data) if covers => Some(run),
+    match run.kind {
+        Kind::Data if covers => Some(run),
         _ => None,
     }
 }

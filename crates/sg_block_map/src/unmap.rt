@@ -14,9 +14,9 @@ ghost use Rattle.sg_block_map.specs.Runs.{expanded, AreRuns, blocks_of};
 use crate::gather::Gathered;
 use crate::put::put_runs;
 use crate::split::split_at;
+use arrayvec::ArrayVec;
 use sg_pool::Pool;
 use sg_store::{MAX_CAPACITY, MAX_POOL};
-use arrayvec::ArrayVec;
 use sg_table::{Run, RunTable};
 
 /// Room for the parts that runs keep beside a range: one before the range and two after it. A run

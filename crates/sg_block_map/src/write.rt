@@ -4,9 +4,9 @@ ghost use Rattle.std.specs.Prelude.{◌≡◌, ◌+◌, ◌-◌, ◌^◌, ◌<�
 ghost use Rattle.std.specs.Prelude.{None, Option, option_to_list, IfSome};
 ghost use Rattle.sg_table.specs.Records.{run_at};
 ghost use Rattle.sg_table.specs.Occurrences.{occurrences};
-ghost use Rattle.sg_pool.specs.MappedRecords.{filled_slot, mapping_as};
 ghost use Rattle.sg_pool.specs.Slots.{followed};
-ghost use Rattle.sg_pool.specs.Source.{block_of};
+ghost use Rattle.sg_pool.specs.Content.{kind_for, mapping_for};
+ghost use Rattle.sg_store.specs.Disk.{HasBlockLength};
 ghost use Rattle.sg_block_map.specs.Joining.{begun, joined, linked, IsWriting};
 ghost use Rattle.sg_block_map.specs.Joining.{CanRemap, GoesOn, IsFinished, PutsAddress};
 ghost use Rattle.sg_block_map.specs.Joining.{RemapsRange};
@@ -18,8 +18,8 @@ use crate::gather::Gathered;
 use crate::overwrite::{covering, overwrite};
 use crate::put::put_parts;
 use crate::walk::{Walk, walk_from};
-use sg_pool::{Pool, Source};
-use sg_store::{BLOCK_LENGTH, MAX_CAPACITY};
+use sg_pool::{Content, Pool};
+use sg_store::MAX_CAPACITY;
 use sg_table::{Kind, Run, RunTable, run_at};
 
 /// The state of a write of a range.
@@ -57,21 +57,6 @@ fn join(pool: &mut Pool, done: Run, other: Run) -> Run
     }
 }
 
-/// Puts a block into a slot, if it is for a run of data. For an anchored run it touches no block.
-fn set_block(pool: &mut Pool, slot: u32, kind: Kind, bytes: &[u8])
-    requires slot { slot < length pool.old.blocks }
-    requires byte_count { length bytes.now ≡ BLOCK_LENGTH }
-    ensures { pool.new
-        ≡ record pool.old {
-          blocks = filled_slot pool.old.blocks slot (mapping_as kind bytes.now);
-        } }
-{
-    match kind {
-        Kind::Data => pool.set(slot, bytes),
-        Kind::Anchored => {}
-    }
-}
-
 /// Puts the address where the run ends, and joins the address to the run. An address that has a
 /// slot keeps it, and any other address takes a free slot. A run of data gets the block there.
 fn put_address(
@@ -79,20 +64,22 @@ fn put_address(
     runs: &[Run],
     progress: Progress,
     lba: u64,
-    bytes: &[u8],
+    content: &Content,
+    index: usize,
 ) -> Progress
     requires writing { (before : List Run) × (after : List Run) × IsWriting before progress.done
         (ahead_of runs.now progress.walk.run progress.walk.at ++ after) pool.old lba }
     requires free { run_at progress.walk.run lba ≡ None → 0 < length pool.old.free }
     requires range { lba < MAX_CAPACITY }
-    requires byte_count { length bytes.now ≡ BLOCK_LENGTH }
+    requires kind { progress.done.kind ≡ kind_for content.now }
+    requires whole { HasBlockLength (mapping_for content.now index) }
     requires headroom { (progress.done.count < u32.MAX) × (pool.old.links < u64.MAX) }
 
     // The run comes to the next address.
     ensures puts { PutsAddress progress.done result.done
         (ahead_of runs.now progress.walk.run progress.walk.at)
         (ahead_of runs.now result.walk.run result.walk.at) pool.old pool.new lba
-        (mapping_as progress.done.kind bytes.now) }
+        (mapping_for content.now index) }
     ensures goes_on { GoesOn progress.done result.done
         (ahead_of runs.now progress.walk.run progress.walk.at)
         (ahead_of runs.now result.walk.run result.walk.at) pool.old pool.new lba }
@@ -101,7 +88,7 @@ fn put_address(
 {
     let Some(run) = run_at(progress.walk.run, lba) else {
         let slot = pool.take();
-        set_block(pool, slot, progress.done.kind, bytes);
+        content.fill(pool, slot, index);
         let done = join(
             pool,
             progress.done,
@@ -113,7 +100,7 @@ fn put_address(
         };
     };
     let walk = progress.walk.pass(pool, runs, run);
-    set_block(pool, run.first, progress.done.kind, bytes);
+    content.fill(pool, run.first, index);
     let done = join(
         pool,
         progress.done,
@@ -170,8 +157,7 @@ fn finish(pool: &mut Pool, progress: Progress) -> (Run, Option<Run>)
     (progress.done, Some(run))
 }
 
-/// Puts the addresses from one on into a run of a kind, with the blocks of a source if it is data.
-/// The runs of this kind near the range and its addresses become one run of the table. The
+/// Gives the addresses from one on their new content, in one run. The runs of its kind near the range and its addresses become one run of the table. The
 /// addresses that have no slot need free slots.
 fn put_range(
     table: &mut RunTable,
@@ -179,42 +165,42 @@ fn put_range(
     gathered: &Gathered,
     lba: u64,
     count: u32,
-    kind: Kind,
-    source: &Source,
+    content: &Content,
 )
-    requires { CanRemap table.old pool.old gathered.now lba count source.now }
+    requires { CanRemap table.old pool.old gathered.now lba count content.now }
     ensures { RemapsRange table.old table.new pool.old pool.new gathered.now lba count
-        (λ index. mapping_as kind (block_of source.now index)) }
+        (mapping_for content.now) }
 {
     let runs = gathered.records();
-    let (front, mut progress) = begin(pool, runs, lba, kind);
+    let (front, mut progress) = begin(pool, runs, lba, content.kind());
     for i in 0..count {
-        let block = source.block(i as usize);
-        progress = put_address(pool, runs, progress, lba + u64::from(i), block);
+        let address = lba + u64::from(i);
+        progress = put_address(pool, runs, progress, address, content, i as usize);
     }
     let (run, back) = finish(pool, progress);
     put_parts(table, gathered, front, run, back);
 }
 
-/// Makes the addresses from one on data, with the blocks of a source, or anchors them. The
-/// addresses that have no slot need free slots.
+/// Gives the addresses from one on their new content. The addresses that have no slot need free
+/// slots.
 pub(crate) fn write_runs(
     table: &mut RunTable,
     pool: &mut Pool,
     gathered: &Gathered,
     lba: u64,
     count: u32,
-    kind: Kind,
-    source: &Source,
+    content: &Content,
 )
-    requires { CanRemap table.old pool.old gathered.now lba count source.now }
+    requires { CanRemap table.old pool.old gathered.now lba count content.now }
     ensures { RemapsRange table.old table.new pool.old pool.new gathered.now lba count
-        (λ index. mapping_as kind (block_of source.now index)) }
+        (mapping_for content.now) }
 {
     let runs = gathered.records();
-    if let Some(run) = covering(runs, lba, count, kind) {
-        overwrite(pool, run, lba, count, source);
-        return;
+    if let Content::Blocks(source) = content {
+        if let Some(run) = covering(runs, lba, count) {
+            overwrite(pool, run, lba, count, source);
+            return;
+        }
     }
-    put_range(table, pool, gathered, lba, count, kind, source);
+    put_range(table, pool, gathered, lba, count, content);
 }

@@ -18,9 +18,9 @@ use Rattle.sg_pool.specs.Slots.{Slots}
 use Rattle.sg_pool.specs.MappedRecords.{IsConsistent}
 use Rattle.sg_table.specs.Draft.{Drafted, pushed}
 use Rattle.sg_plain_map.specs.Editing.{edited, IsEditing, IsSingle}
-use Rattle.sg_plain_map.specs.Content.{kind_for, mapping_for}
-use Rattle.sg_plain_map.specs.declared.content.Content.{Content}
-use Rattle.sg_plain_map.specs.declared.content.Content.TheVariants.{Blocks, Anchor}
+use Rattle.sg_pool.specs.Content.{kind_for, mapping_for}
+use Rattle.sg_pool.specs.declared.content.Content.{Content}
+use Rattle.sg_pool.specs.declared.content.Content.TheVariants.{Blocks, Anchor}
 use Rattle.sg_table.specs.Records.{run_at}
 use Rattle.sg_table.specs.declared.run.Kind.{Kind}
 use Rattle.sg_table.specs.declared.run.Run.{Run}

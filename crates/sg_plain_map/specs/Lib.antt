@@ -4,5 +4,4 @@ pub mod State
 pub mod Editing
 pub mod PlainCost
 -- The definitions that only private contracts cite: how the calls read and edit the table.
-pub mod Content
 pub mod Status

@@ -1,7 +1,6 @@
 //! The reference store, for tests: each mapped or anchored address has a record of its own.
 #![tactic(auto)]
 
-mod content;
 mod kind;
 mod need;
 mod plain_map;

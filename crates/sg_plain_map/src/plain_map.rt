@@ -11,14 +11,13 @@ ghost use Rattle.sg_pool.specs.MappedRecords.{IsConsistent};
 ghost use Rattle.sg_store.specs.declared.store.TheConstants.{MAX_CAPACITY};
 ghost use Rattle.sg_plain_map.specs.declared.search.TheConstants.{MAX_RECORDS};
 
-use crate::content::Content;
 use crate::need::visit_records;
 use crate::read::read_blocks;
 use crate::search::{MAX_RECORDS, lower_bound};
 use crate::status::write_descriptors;
 use crate::unmap::unmap_records;
-use crate::write::put_range;
-use sg_pool::{Pool, Source};
+use crate::write::{Range, put_range};
+use sg_pool::{Content, Pool, Source};
 use sg_store::laws::disks_stay_well_formed;
 use sg_store::lba_status::status_header;
 use sg_store::{BLOCK_LENGTH, Counts, Space, Store};
@@ -45,7 +44,7 @@ pub struct PlainMap {
 }
 
 impl PlainMap {
-    ghost use Rattle.sg_plain_map.specs.Content.{HasMappings, mapping_for};
+    ghost use Rattle.sg_pool.specs.Content.{HasMappings, mapping_for};
     ghost use Rattle.sg_plain_map.specs.State.{disk_of, meter_of};
 
     /// Gives the addresses from one on their new content.
@@ -83,8 +82,7 @@ impl PlainMap {
             &mut self.pool,
             &mut self.draft,
             from,
-            lba,
-            count,
+            Range { lba, count },
             content,
         );
         Ok(())

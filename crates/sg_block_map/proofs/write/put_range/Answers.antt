@@ -4,9 +4,9 @@ use Rattle.std.proofs.Common.{add-zero, Option}
 use Rattle.std.proofs.lemmas.List.{length-take-le}
 use Rattle.std.specs.FinMap as map
 use Rattle.std.specs.Prelude.{option_to_list}
-use Rattle.sg_pool.specs.MappedRecords.{contents_of, slot_numbers, mapping_as}
+use Rattle.sg_pool.specs.Content.{mapping_for}
+use Rattle.sg_pool.specs.MappedRecords.{contents_of, slot_numbers}
 use Rattle.sg_pool.specs.Slots.{Slots}
-use Rattle.sg_pool.specs.Source.{block_of}
 use Rattle.sg_table.specs.Table.{Table}
 use Rattle.sg_table.specs.declared.run.Run.{Run}
 use Rattle.sg_store.specs.Disk.{max_capacity}
@@ -75,7 +75,7 @@ loop-i-init c =
     (expanded p.next ((before ++ option_to_list parts.0) ++ parts.1 ∷ (more ++ after))
     ≡ expanded p.next whole)
     × IsWriting (before ++ option_to_list parts.0) parts.1 (more ++ after) p lba) (sym t.2)
-    (begin-range before gathered.records after more p lba high room all g.before up g.near c.args.kind front
+    (begin-range before gathered.records after more p lba high room all g.before up g.near c.kind.result front
     t.1) in
     let xs : List Run = before ++ option_to_list kept in
     let same : expanded now.next (xs ++ progress.done ∷ (more ++ after)) ≡ expanded p.next rs
@@ -86,13 +86,13 @@ loop-i-init c =
           (more ++ after) p now lba (now.links - p.links) pool begins.1);
       contents = ap₂ contents_of same (ap (λ (s : Slots). s.blocks) pool)
           ∙ sym (remapped-none (chained_contents rs p) c.args.lba
-          (λ index. mapping_as c.args.kind (block_of c.args.source.now index)));
+          (mapping_for c.args.content.now));
       keeps = λ q seen e. ap (λ zs. map.get (slot_numbers zs) q) same ∙ e;
       near = walk_from-near p.next gathered.records more lba high front (omega arith) g.near t.1;
       start = subst (λ (parts : Option Run × Run). parts.1.start ≤ lba) (sym t.2)
-          (walk_from-start p.next gathered.records more lba c.args.kind front t.1);
-      kind = subst (λ (parts : Option Run × Run). parts.1.kind ≡ c.args.kind) (sym t.2)
-          (walk_from-kind c.args.kind front lba);
+          (walk_from-start p.next gathered.records more lba c.kind.result front t.1);
+      kind = subst (λ (parts : Option Run × Run). parts.1.kind ≡ c.kind.result) (sym t.2)
+          (walk_from-kind c.kind.result front lba) ∙ c.kind.ensures;
       length = ap length next;
       rise = c.begin-front.ensures.rise;
       links = omega (arith, t.3, walk_from-blocks p.next gathered.records more lba front t.1);
@@ -119,7 +119,7 @@ put_address-progress-requires-clause-free c =
     rw here (λ none. free-there (take gathered.from rs ++ option_to_list c.begin-front.result.0)
     after gathered.records
     c.loop-i.progress.done w.run w.at c.args.lba i c.args.count p c.loop-i.pool rs
-    (λ index. mapping_as c.args.kind (block_of c.args.source.now index)) inv.writing up none
+    (mapping_for c.args.content.now) inv.writing up none
     consistent inv.contents c.loop-i-test.true
     c.requires.free)
 
@@ -165,9 +165,9 @@ loop-i-preserved c =
     record {
       writing = rw on at put.writing;
       contents = put.contents
-          ∙ rw (inv.contents, c.block-block.ensures, inv.kind)
+          ∙ rw inv.contents
           (sym (remapped-more (chained_contents rs p) lba i
-          (λ index. mapping_as c.args.kind (block_of c.args.source.now index))));
+          (mapping_for c.args.content.now)));
       keeps = λ q seen f. put.keeps q seen (inv.keeps q seen f);
       near = goes.near high (omega arith) inv.near;
       start = omega (arith, inv.start, goes.start);

@@ -1,4 +1,5 @@
-use Rattle.std.proofs.Common.{◌+◌, drop}
+use Rattle.std.proofs.Common.{◌+◌, drop, subst}
+use Rattle.sg_pool.specs.Content.{HasMappings}
 use Rattle.sg_block_map.proofs.OverwriteLemmas.{first-below}
 use Rattle.sg_block_map.proofs.write.write_runs.Goals as goal
 
@@ -12,3 +13,7 @@ overwrite-requires-clause-below c =
     (c.args.lba + c.args.count) run (drop 1 gathered.records)
     c.requires.ready.runs c.requires.ready.gathered_runs
     first
+
+pub overwrite-requires-clause-blocks : goal.overwrite-requires-clause-blocks
+overwrite-requires-clause-blocks c =
+    subst (λ content. HasMappings content c.args.count) c.in-Blocks.is c.requires.whole

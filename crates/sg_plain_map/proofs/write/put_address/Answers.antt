@@ -5,7 +5,7 @@ use Rattle.sg_table.specs.Draft.{Drafted, pushed}
 use Rattle.sg_table.specs.Records.{single, with_kind}
 use Rattle.sg_pool.specs.Slots.{Slots}
 use Rattle.sg_table.specs.Table.{visited}
-use Rattle.sg_plain_map.specs.Content.{kind_for, mapping_for}
+use Rattle.sg_pool.specs.Content.{kind_for, mapping_for}
 use Rattle.sg_table.specs.declared.run.Run.{Run}
 use Rattle.sg_pool.proofs.ConsistencyLemmas.{taken_below}
 use Rattle.sg_table.proofs.TableLemmas.{visited-more}
@@ -32,17 +32,17 @@ fill-requires-clause-slot c =
 
 added-here : (c : goal.After-push) → IsPut c.args.table.now.records c.args.table.now.room
     c.args.pool.now c.fill.new.pool c.args.draft.now c.push.new.self c.args.cursor c.args.cursor
-    c.args.lba (mapping_for c.args.content.now c.args.index) (kind_for c.args.content.now)
+    c.args.place.lba (mapping_for c.args.content.now c.args.place.index) (kind_for c.args.content.now)
 added-here c =
-    let run : Run = single c.args.lba c.take-slot.result (kind_for c.args.content.now) in
+    let run : Run = single c.args.place.lba c.take-slot.result (kind_for c.args.content.now) in
     let pushed = c.push.ensures ∙ ap (pushed c.args.draft.now) c.single.ensures
-    ∙ ap (λ k. pushed c.args.draft.now (single c.args.lba c.take-slot.result k)) c.kind.ensures in
+    ∙ ap (λ k. pushed c.args.draft.now (single c.args.place.lba c.take-slot.result k)) c.kind.ensures in
     let taken = rw (sym (ap (λ (s : Slots). s.free) c.fill.ensures)) at c.take-slot.ensures.free in
     let put = rw (ap (λ (s : Slots). s.blocks) c.take-slot.ensures.pool) at
     (ap (λ (s : Slots). s.blocks) c.fill.ensures) in
     added c.requires.editing (sym c.run_at.ensures ∙ c.in_default.is) c.fill.new.pool
-    c.push.new.self run (mapping_for c.args.content.now c.args.index) taken put refl
-    (kind-of c.args.content.now c.args.index) refl pushed
+    c.push.new.self run (mapping_for c.args.content.now c.args.place.index) taken put refl
+    (kind-of c.args.content.now c.args.place.index) refl pushed
 
 pub returns-in_default-clause-contents : goal.returns-in_default-clause-contents
 returns-in_default-clause-contents c = (added-here c).contents
@@ -72,12 +72,12 @@ fill-requires-2-clause-slot c =
 
 over-here : (c : goal.After-new) → IsPut c.args.table.now.records c.args.table.now.room
     c.args.pool.now c.fill-2.new.pool c.args.draft.now c.push-2.new.self c.args.cursor c.new.result
-    c.args.lba (mapping_for c.args.content.now c.args.index) (kind_for c.args.content.now)
+    c.args.place.lba (mapping_for c.args.content.now c.args.place.index) (kind_for c.args.content.now)
 over-here c = rw c.kind-2.ensures at (over c.requires.editing c.in-Some.run'
     (sym c.run_at.ensures ∙ c.in-Some.is) c.fill-2.new.pool c.push-2.new.self
-    (mapping_for c.args.content.now c.args.index) c.kind-2.result c.new.result
+    (mapping_for c.args.content.now c.args.place.index) c.kind-2.result c.new.result
     (ap (λ (s : Slots). s.free) c.fill-2.ensures) (ap (λ (s : Slots). s.blocks) c.fill-2.ensures)
-    (c.kind-2.ensures ∙ kind-of c.args.content.now c.args.index) c.push-2.ensures
+    (c.kind-2.ensures ∙ kind-of c.args.content.now c.args.place.index) c.push-2.ensures
     c.new.ensures.index (rw c.new.ensures.index c.new.ensures.next))
 
 pub returns-clause-contents : goal.returns-clause-contents
@@ -105,7 +105,7 @@ pub returns-clause-cost : goal.returns-clause-cost
 returns-clause-cost c =
     let t = c.args.table.now in
     let passed = c.args.cursor.index + ahead c.args.cursor.next in
-    let paid = ahead-found c.args.cursor.next c.args.lba c.in-Some.run' (sym c.run_at.ensures
+    let paid = ahead-found c.args.cursor.next c.args.place.lba c.in-Some.run' (sym c.run_at.ensures
     ∙ c.in-Some.is) in
     ap (λ t. visited t passed) c.new.ensures.table ∙ visited-more t (ahead c.new.result.next) passed
     ∙ ap (visited t) (omega (arith, c.new.ensures.index))

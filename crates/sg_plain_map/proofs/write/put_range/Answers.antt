@@ -5,7 +5,7 @@ use Rattle.std.specs.List.{splice}
 use Rattle.sg_store.specs.Disk.{used_among}
 use Rattle.sg_pool.specs.MappedRecords.{contents_of}
 use Rattle.sg_store.specs.Disk.{used_at}
-use Rattle.sg_plain_map.specs.Content.{mapping_for}
+use Rattle.sg_pool.specs.Content.{mapping_for}
 use Rattle.sg_plain_map.proofs.CursorLemmas.{of_kind-some}
 use Rattle.sg_table.specs.Records.{ahead, run_at}
 use Rattle.sg_table.specs.Table.{visited}
@@ -21,9 +21,9 @@ loop-i-init c =
     let e = c.new-cursor.ensures in
     let whole : splice t.records c.args.from c.args.from [] ≡ t.records =
     take-append-drop c.args.from t.records in
-    let none = used_among-none contents c.args.lba in
+    let none = used_among-none contents c.args.range.lba in
     let begin : c.args.from + 0 ≡ c.args.from = omega arith in
-    let first : c.args.lba + 0 ≡ c.args.lba = omega arith in
+    let first : c.args.range.lba + 0 ≡ c.args.range.lba = omega arith in
     record {
       editing = rw c.begin.ensures (record {
         single = rw (e.index, whole) c.requires.ready.single;
@@ -33,7 +33,7 @@ loop-i-init c =
         index = rw (e.index, whole, begin, first) c.requires.ready.index;
       });
       contents = rw (c.begin.ensures, e.index, whole)
-          (sym (remapped-none contents c.args.lba (mapping_for c.args.content.now)));
+          (sym (remapped-none contents c.args.range.lba (mapping_for c.args.content.now)));
       draft = rw c.begin.ensures (refl, refl, c.requires.room.1);
       index = omega (arith, e.index, none);
       same = λ _. rw (c.begin.ensures, e.index, whole) refl;
@@ -47,18 +47,18 @@ put_address-cursor-requires-clause-room c =
     let contents = contents_of t.records c.args.pool.now.blocks in
     let inv = c.loop-i.invariant in
     let i = c.loop-i.i in
-    let here : c.args.lba + c.from.result ≡ c.args.lba + i = ap (λ x. c.args.lba + x) c.from.ensures in
+    let here : c.args.range.lba + c.from.result ≡ c.args.range.lba + i = ap (λ x. c.args.range.lba + x) c.from.ensures in
     let same = ap₂ used_at inv.contents here
-    ∙ used_at-past contents c.args.lba i (mapping_for c.args.content.now) in
-    let on : i + 1 + (c.args.count - (i + 1)) ≡ c.args.count = omega arith in
-    let rest = rw on at (used_among-rest contents c.args.lba (i + 1) (c.args.count - (i + 1))) in
+    ∙ used_at-past contents c.args.range.lba i (mapping_for c.args.content.now) in
+    let on : i + 1 + (c.args.range.count - (i + 1)) ≡ c.args.range.count = omega arith in
+    let rest = rw on at (used_among-rest contents c.args.range.lba (i + 1) (c.args.range.count - (i + 1))) in
     record {
       draft_room = omega (arith, inv.draft, c.requires.room);
       free = rw (inv.table, same) (omega (
         arith,
         inv.free,
         c.requires.free,
-        used_among-more contents c.args.lba i,
+        used_among-more contents c.args.range.lba i,
       ));
       table_size = rw inv.table (omega (
         arith,
@@ -74,24 +74,24 @@ loop-i-preserved c =
     let inv = c.loop-i.invariant in
     let i = c.loop-i.i in
     let e = c.put_address-cursor.ensures in
-    let here : c.args.lba + c.from.result ≡ c.args.lba + i = ap (λ x. c.args.lba + x) c.from.ensures in
-    let on : c.args.lba + i + 1 ≡ c.args.lba + (i + 1) = omega arith in
+    let here : c.args.range.lba + c.from.result ≡ c.args.range.lba + i = ap (λ x. c.args.range.lba + x) c.from.ensures in
+    let on : c.args.range.lba + i + 1 ≡ c.args.range.lba + (i + 1) = omega arith in
     let same = ap₂ used_at inv.contents here
-    ∙ used_at-past contents c.args.lba i (mapping_for c.args.content.now) in
+    ∙ used_at-past contents c.args.range.lba i (mapping_for c.args.content.now) in
     let drafts = rw (inv.table, same) at e.drafts in
     let index = drafts.index in
-    let address = c.args.lba + c.from.result in
-    let before = used_among contents c.args.lba i + ahead c.loop-i.cursor.next in
+    let address = c.args.range.lba + c.from.result in
+    let before = used_among contents c.args.range.lba i + ahead c.loop-i.cursor.next in
     let passed = c.loop-i.cursor.index + ahead c.loop-i.cursor.next in
     let after = c.put_address-cursor.result.index + ahead c.put_address-cursor.result.next in
-    let more = used_among-more contents c.args.lba i in
+    let more = used_among-more contents c.args.range.lba i in
     let paid : visited c.put_address-cursor.new.table passed ≡ visited t (before + after) =
     rw inv.table at e.cost ∙ visited-more t before after in
     record {
       editing = rw (inv.table, here, on) at e.editing;
       contents = rw inv.table at e.contents
           ∙ rw (inv.contents, here)
-          (sym (remapped-more contents c.args.lba i (mapping_for c.args.content.now)));
+          (sym (remapped-more contents c.args.range.lba i (mapping_for c.args.content.now)));
       draft = (
         drafts.from ∙ inv.draft.0,
         omega (arith, drafts.drafted, inv.draft.1),

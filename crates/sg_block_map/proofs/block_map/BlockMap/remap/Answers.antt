@@ -1,9 +1,9 @@
-use Rattle.std.proofs.Common.{◌≡◌, ℕ, ◌+◌, ap, sym, subst, ◌∙◌, arith}
+use Rattle.std.proofs.Common.{◌≡◌, ◌+◌, ap, sym, subst, ◌∙◌, arith}
 use Rattle.std.specs.FinMap as map'
 use Rattle.sg_store.specs.Disk.{Contents, IsWellFormed, remapped, used_among, max_capacity}
 use Rattle.sg_store.specs.Meter.{Meter}
-use Rattle.sg_pool.specs.MappedRecords.{slot_numbers, mapping_as}
-use Rattle.sg_pool.specs.Source.{block_of}
+use Rattle.sg_pool.specs.Content.{mapping_for}
+use Rattle.sg_pool.specs.MappedRecords.{slot_numbers}
 use Rattle.sg_table.specs.Table.{Table}
 use Rattle.sg_block_map.specs.RunCost.{CostsRange}
 use Rattle.sg_block_map.specs.Runs.{expanded, chained_contents}
@@ -11,7 +11,7 @@ use Rattle.sg_block_map.specs.State.{disk_of, meter_at, slot_map}
 use Rattle.sg_store.proofs.DiskLemmas.{remapped-none}
 use Rattle.sg_block_map.proofs.RunSlotLemmas.{gathered-blocks}
 use Rattle.sg_block_map.proofs.StoreLemmas.{runs-ahead, gathered-mapped}
-use Rattle.sg_block_map.proofs.StoreLemmas.{size, size-replaced, whole-as}
+use Rattle.sg_block_map.proofs.StoreLemmas.{size, size-replaced}
 use Rattle.sg_block_map.proofs.StoreLemmas.{have-room, gathered-range, nothing-costs}
 use Rattle.sg_block_map.proofs.block_map.BlockMap.remap.Goals as goal
 
@@ -20,7 +20,7 @@ pub returns-then-count-eq0-clause-space : goal.returns-then-count-eq0-clause-spa
 returns-then-count-eq0-clause-space c =
     let s = c.args.self.now in
     let was : Contents = chained_contents s.table.records s.pool in
-    let f = λ (index : ℕ). mapping_as c.args.kind (block_of c.args.source.now index) in
+    let f = mapping_for c.args.content.now in
     let none = ap (λ k. map'.len (remapped was c.args.lba k f)) c.if-count-eq0.true
     ∙ ap map'.len (remapped-none was c.args.lba f) in
     let all = size s.table.records s.pool s.table.room s.runs in
@@ -30,7 +30,7 @@ pub returns-then-count-eq0-clause-ok : goal.returns-then-count-eq0-clause-ok
 returns-then-count-eq0-clause-ok c =
     let s = c.args.self.now in
     let was : Contents = chained_contents s.table.records s.pool in
-    let f = λ (index : ℕ). mapping_as c.args.kind (block_of c.args.source.now index) in
+    let f = mapping_for c.args.content.now in
     let none = ap (λ k. remapped was c.args.lba k f) c.if-count-eq0.true
     ∙ remapped-none was c.args.lba f in
     ap (λ m. record { capacity = s.capacity; pool = s.table.room; contents = m }) (sym none)
@@ -66,7 +66,7 @@ pub returns-then-from-free_count-clause-space : goal.returns-then-from-free_coun
 returns-then-from-free_count-clause-space c =
     let s = c.args.self.now in
     let grown = size-replaced s.table.records s.pool s.table.room c.args.lba c.args.count
-    (λ index. mapping_as c.args.kind (block_of c.args.source.now index)) s.runs in
+    (mapping_for c.args.content.now) s.runs in
     let mapped = gathered-mapped s.table.records s.pool s.table.room c.gather.new.gathered
     c.args.lba c.args.count s.runs c.gather.ensures.gathered in
     let value = rw (c.records.ensures, c.from.ensures) at c.used_between-used.ensures.value in
@@ -104,7 +104,7 @@ write_runs-requires c =
         headroom = c.requires.headroom.links;
       };
       range = (omega (arith, c.if-count-eq0.false), omega (arith, c.requires.range, s.capacity_fits));
-      blocks = c.requires.blocks;
+      whole = c.requires.whole;
       free = omega arith;
     }
 
@@ -117,14 +117,13 @@ invariant_of-self-2-clause-well_formed c =
     let before = subst (IsWellFormed s.capacity) (sym same) s.well_formed in
     subst (IsWellFormed s.capacity) (sym c.write_runs.ensures.contents)
     (c.disks_stay_well_formed.ensures.mapping s.capacity _ c.args.lba c.args.count
-    (λ index. mapping_as c.args.kind (block_of c.args.source.now index)) before c.requires.range
-    (λ i lt. whole-as c.args.kind (block_of c.args.source.now i) (c.requires.blocks i lt)))
+    (mapping_for c.args.content.now) before c.requires.range c.requires.whole)
 
 pub returns-clause-space : goal.returns-clause-space
 returns-clause-space c =
     let s = c.args.self.now in
     let grown = size-replaced s.table.records s.pool s.table.room c.args.lba c.args.count
-    (λ index. mapping_as c.args.kind (block_of c.args.source.now index)) s.runs in
+    (mapping_for c.args.content.now) s.runs in
     let mapped = gathered-mapped s.table.records s.pool s.table.room c.gather.new.gathered
     c.args.lba c.args.count s.runs c.gather.ensures.gathered in
     let value = rw (c.records.ensures, c.from.ensures) at c.used_between-used.ensures.value in

@@ -1,5 +1,5 @@
 use Rattle.sg_pool.proofs.SourceLemmas.{blocks-whole}
 use Rattle.sg_block_map.proofs.block_map.BlockMapStore.write.Goals as goal
 
-pub remap-requires-clause-blocks : goal.remap-requires-clause-blocks
-remap-requires-clause-blocks c = blocks-whole c.args.bytes.now c.args.count c.requires.byte_count
+pub remap-requires-clause-whole : goal.remap-requires-clause-whole
+remap-requires-clause-whole c = blocks-whole c.args.bytes.now c.args.count c.requires.byte_count

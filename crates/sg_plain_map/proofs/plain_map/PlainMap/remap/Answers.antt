@@ -2,7 +2,7 @@ use Rattle.std.proofs.Common.{◌≡◌, ◌-◌, arith, ap, sym, subst, ◌∙�
 use Rattle.sg_store.specs.Disk.{IsWellFormed}
 use Rattle.sg_plain_map.specs.Editing.{stored}
 use Rattle.sg_pool.specs.MappedRecords.{contents_of}
-use Rattle.sg_plain_map.specs.Content.{mapping_for}
+use Rattle.sg_pool.specs.Content.{mapping_for}
 use Rattle.sg_table.specs.Table.{Table, probed}
 use Rattle.sg_plain_map.proofs.RangeLemmas.{len-after, used_between}
 use Rattle.sg_plain_map.proofs.plain_map.PlainMap.remap.Goals as goal

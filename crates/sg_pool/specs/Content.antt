@@ -5,8 +5,8 @@ use Rattle.sg_store.specs.Disk.Mapping.{Data, Anchored}
 use Rattle.sg_pool.specs.Source.{block_of}
 use Rattle.sg_table.specs.declared.run.Kind.{Kind}
 use Rattle.sg_table.specs.declared.run.Kind.TheVariants.{Data as DataKind, Anchored as AnchoredKind}
-use Rattle.sg_plain_map.specs.declared.content.Content.{Content}
-use Rattle.sg_plain_map.specs.declared.content.Content.TheVariants.{Blocks, Anchor}
+use Rattle.sg_pool.specs.declared.content.Content.{Content}
+use Rattle.sg_pool.specs.declared.content.Content.TheVariants.{Blocks, Anchor}
 
 -- The new mapping of the address at an index of the range.
 abbrev pub mapping_for : Content → (index : ℕ) → Mapping

@@ -2,14 +2,15 @@
 ghost use Rattle.std.specs.Prelude.{◌≡◌, ◌<◌, length};
 ghost use Rattle.sg_store.specs.Disk.{HasBlockLength};
 ghost use Rattle.sg_pool.specs.MappedRecords.{filled_slot};
-ghost use Rattle.sg_plain_map.specs.Content.{kind_for, mapping_for};
+ghost use Rattle.sg_pool.specs.Content.{kind_for, mapping_for};
 
-use sg_pool::{Pool, Source};
+use crate::pool::Pool;
+use crate::source::Source;
 use sg_table::Kind;
 
 /// The new content of the addresses of a range.
 #[derive(Drop)]
-pub(crate) enum Content<'a> {
+pub enum Content<'a> {
     /// The blocks of a source.
     Blocks(&'a Source<'a>),
     /// No data: they are anchored.
@@ -18,7 +19,7 @@ pub(crate) enum Content<'a> {
 
 impl Content<'_> {
     /// The kind of the records.
-    pub(crate) fn kind(&self) -> Kind
+    pub fn kind(&self) -> Kind
         ensures { result ≡ kind_for self.now }
     {
         match self {
@@ -29,7 +30,7 @@ impl Content<'_> {
 
     /// Puts the block for an index of the range into a slot. The slot of an anchored address keeps
     /// its bytes, and no reader sees them.
-    pub(crate) fn fill(&self, pool: &mut Pool, slot: u32, index: usize)
+    pub fn fill(&self, pool: &mut Pool, slot: u32, index: usize)
         requires slot { slot < length pool.old.blocks }
         requires whole { HasBlockLength (mapping_for self.now index) }
         ensures { pool.new ≡ record pool.old {
