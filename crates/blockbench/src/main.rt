@@ -23,11 +23,10 @@ use sg_pages::Identity;
 use sg_store::BLOCK_LENGTH;
 use sg_target::{BUFFER_LENGTH, Config, Status, Target};
 use sg_wire::{CdbBytes, Command, Extent16, GroupNumber, Initiator, Profile, Unmap};
-use std::env;
-use std::io;
 use std::process::ExitCode;
 use std::rt::Runtime;
 use std::time::Instant;
+use std::{env, io};
 
 /// A prime that is no divisor of a pool's size, so that its multiples meet each address once.
 const STRIDE: u64 = 1_000_003;
@@ -61,7 +60,7 @@ struct Bench<'a> {
     target: Target<BlockMap>,
     initiator: Initiator,
     data_out: &'a [u8],
-    buf: &'a mut [u8; BUFFER_LENGTH],
+    buf: [u8; BUFFER_LENGTH],
     good: u64,
 }
 
@@ -113,7 +112,7 @@ impl Bench<'_> {
     fn send(&mut self, cdb: &CdbBytes, data_out: &[u8]) {
         let reply = self
             .target
-            .execute(self.initiator, cdb.as_slice(), data_out, self.buf);
+            .execute(self.initiator, cdb.as_slice(), data_out, &mut self.buf);
         if reply.status == Status::Good {
             self.good = self.good.saturating_add(1);
         }
@@ -132,6 +131,9 @@ impl Bench<'_> {
     }
 
     fn unmap(&mut self, lba: u64, count: u32) {
+        let Some(group) = GroupNumber::new(0) else {
+            return;
+        };
         let mut list = [0; LIST_LENGTH];
         list[1] = 22;
         list[3] = 16;
@@ -139,7 +141,7 @@ impl Bench<'_> {
         list[16..20].copy_from_slice(&count.to_be_bytes());
         let cdb = Command::Unmap(Unmap {
             anchor: false,
-            group: GroupNumber::default(),
+            group,
             list_length: LIST_LENGTH as u16,
         })
         .write();
@@ -149,7 +151,7 @@ impl Bench<'_> {
 
 /// The nanoseconds of one of `count` commands, since an instant.
 fn each(rt: &HostRuntime, start: Instant, count: u64) -> io::Result<u64> {
-    let nanoseconds = start.elapsed(rt)?.as_nanos() as u64;
+    let nanoseconds = u64::try_from(start.elapsed(rt)?.as_nanos()).unwrap_or(u64::MAX);
     Ok(nanoseconds.checked_div(count).unwrap_or(0))
 }
 
@@ -223,12 +225,13 @@ fn run(rt: &HostRuntime, load: Load, config: Config) -> io::Result<u64> {
     let Some(initiator) = Initiator::new(0) else {
         return Ok(0);
     };
+    let data_out = vec![in rt.alloc(); 0xAB; BUFFER_LENGTH]?;
     let start = Instant::now(rt)?;
     let mut bench = Bench {
         target: Target::new(rt.alloc(), config)?,
         initiator,
-        data_out: &vec![in rt.alloc(); 0xAB; BUFFER_LENGTH]?,
-        buf: &mut [0; BUFFER_LENGTH],
+        data_out: &data_out,
+        buf: [0; BUFFER_LENGTH],
         good: 0,
     };
     eprintln!(rt; "start {}", each(rt, start, 1)?)?;
