@@ -8,8 +8,8 @@
 //!   is one WRITE for each run.
 //! - `ascending`: in one run, by one WRITE for each block, one after the other.
 //! - `mixed`: in one run, too, each block far away from the one before.
-//! - `churned`: as `mixed`. Then the program unmaps a block and writes it again, POOL times, each
-//!   time at random.
+//! - `churned`: as `mixed`. Then the program unmaps a block at random and writes it again, POOL
+//!   times, but at most 100,000 times.
 //!
 //! Then come COMMANDS READs of BLOCKS blocks, as many WRITEs, and as many UNMAPs, each with a WRITE
 //! of the same blocks. All of them are at random over mapped blocks.
@@ -30,6 +30,9 @@ use std::{env, io};
 
 /// A prime that is no divisor of a pool's size, so that its multiples meet each address once.
 const STRIDE: u64 = 1_000_003;
+
+/// The most blocks that are unmapped and written again in the order `churned`.
+const MOST_CHURNED: u64 = 100_000;
 
 /// The length of UNMAP's parameter list with one descriptor.
 const LIST_LENGTH: usize = 24;
@@ -164,7 +167,7 @@ fn fill(rt: &HostRuntime, bench: &mut Bench, load: Load) -> io::Result<()> {
     }
     eprintln!(rt; "fill {}", each(rt, start, writes)?)?;
     if let Order::Churned = load.order {
-        for index in 0..u64::from(load.pool) {
+        for index in 0..u64::from(load.pool).min(MOST_CHURNED) {
             let lba = random(index, u64::from(load.pool));
             bench.unmap(lba, 1);
             bench.write(lba, 1);

@@ -157,8 +157,8 @@ fn finish(pool: &mut Pool, progress: Progress) -> (Run, Option<Run>)
     (progress.done, Some(run))
 }
 
-/// Gives the addresses from one on their new content, in one run. The runs of its kind near the range and its addresses become one run of the table. The
-/// addresses that have no slot need free slots.
+/// Gives the addresses from one on their new content. They and the runs of its kind near them become
+/// one run of the table. The addresses that have no slot need free slots.
 fn put_range(
     table: &mut RunTable,
     pool: &mut Pool,

@@ -54,7 +54,8 @@ count-removed (leaf ∷ ls) (suc k) lt =
 -- one of two neighbours, and the number of records without it and with those of both once more
 pub count-merged : (ls : List (List Run)) (k : ℕ) → k + 1 < length ls
     → (leaf_at (remove ls (k + 1)) k ≡ leaf_at ls k)
-    × (length (joined (remove ls (k + 1))) + length (pair_at ls k) ≡ length (joined ls) + length (leaf_at ls k))
+    × (length (joined (remove ls (k + 1))) + length (pair_at ls k)
+    ≡ length (joined ls) + length (leaf_at ls k))
 count-merged ls k lt =
     let one : k + 1 ≡ suc k = add-one k in (
       rw one (leaf-before ls k),

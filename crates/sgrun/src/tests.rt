@@ -5,7 +5,7 @@ use std::alloc::{AllocError, Global};
 use std::test::Fail;
 
 /// The words after the program's name, the disk's blocks, pool and profile, and the script's file.
-const ASKED: [(&str, u64, u32, Profile, Option<&str>); 14] = [
+const ASKED: [(&str, u64, u32, Profile, Option<&str>); 15] = [
     ("", 4_096, 4, Profile::Base, None),
     ("--blocks 1", 1, 4, Profile::Base, None),
     ("--blocks=0x1f --pool 5", 31, 5, Profile::Base, None),
@@ -38,10 +38,17 @@ const ASKED: [(&str, u64, u32, Profile, Option<&str>); 14] = [
         Profile::Extended,
         None,
     ),
+    (
+        "--pool 4294967295 --profile extended",
+        4_096,
+        4_294_967_295,
+        Profile::Extended,
+        None,
+    ),
 ];
 
 /// The words after the program's name, and the message of the stop.
-const REFUSED: [(&str, &str); 25] = [
+const REFUSED: [(&str, &str); 27] = [
     ("FILE", "usage"),
     ("-h", "usage"),
     ("--help", "usage"),
@@ -62,6 +69,8 @@ const REFUSED: [(&str, &str); 25] = [
     ("--pool 0", "pool"),
     ("--pool 65537", "pool"),
     ("--pool 4294967297", "pool"),
+    ("--profile extended --pool 0", "pool"),
+    ("--profile extended --pool 4294967296", "pool"),
     ("--profile", "usage"),
     ("--profile base --profile base", "usage"),
     ("--profile Base", "profile"),

@@ -86,8 +86,8 @@ returns-in_default-clause-puts c =
     let bs = filled_slot p.blocks slot (mapping_for content index) in
     let len = put-length content index slot p.blocks in
     let same = put-others content index slot p.blocks in
-    let seen = put-seen content index slot p.blocks done.kind c.requires.kind (slot-taken before done rest p lba slot
-    c.take-slot.new.self.free h c.take-slot.ensures.free) in
+    let seen = put-seen content index slot p.blocks done.kind c.requires.kind
+    (slot-taken before done rest p lba slot c.take-slot.new.self.free h c.take-slot.ensures.free) in
     record {
       writing = rw (run_is, pool_is) (new-writing before done rest p lba slot
           c.take-slot.new.self.free bs (mapping_for content index) h c.take-slot.ensures.free len

@@ -47,7 +47,8 @@ put_address-cursor-requires-clause-room c =
     let contents = contents_of t.records c.args.pool.now.blocks in
     let inv = c.loop-i.invariant in
     let i = c.loop-i.i in
-    let here : c.args.range.lba + c.from.result ≡ c.args.range.lba + i = ap (λ x. c.args.range.lba + x) c.from.ensures in
+    let here : c.args.range.lba + c.from.result ≡ c.args.range.lba + i =
+    ap (λ x. c.args.range.lba + x) c.from.ensures in
     let same = ap₂ used_at inv.contents here
     ∙ used_at-past contents c.args.range.lba i (mapping_for c.args.content.now) in
     let on : i + 1 + (c.args.range.count - (i + 1)) ≡ c.args.range.count = omega arith in
@@ -74,7 +75,8 @@ loop-i-preserved c =
     let inv = c.loop-i.invariant in
     let i = c.loop-i.i in
     let e = c.put_address-cursor.ensures in
-    let here : c.args.range.lba + c.from.result ≡ c.args.range.lba + i = ap (λ x. c.args.range.lba + x) c.from.ensures in
+    let here : c.args.range.lba + c.from.result ≡ c.args.range.lba + i =
+    ap (λ x. c.args.range.lba + x) c.from.ensures in
     let on : c.args.range.lba + i + 1 ≡ c.args.range.lba + (i + 1) = omega arith in
     let same = ap₂ used_at inv.contents here
     ∙ used_at-past contents c.args.range.lba i (mapping_for c.args.content.now) in

@@ -14,7 +14,8 @@ invariant-loop-i l =
     let was = contents_of t.records l.fn.pool.blocks in
     record {
       editing : IsEditing t.records t.room l.pool l.draft l.cursor (l.range.lba + l.i);
-      contents : edited_contents t l.pool l.draft l.cursor ≡ remapped was l.range.lba l.i (mapping_for l.content);
+      contents : edited_contents t l.pool l.draft l.cursor
+          ≡ remapped was l.range.lba l.i (mapping_for l.content);
       draft : (l.draft.from ≡ l.from) × (length l.draft.records ≡ l.i) × (l.draft.room ≡ t.room);
       index : l.cursor.index ≡ l.from + used_among was l.range.lba l.i;
       same : l.same ≡ true → edited t.records l.draft l.cursor ≡ t.records;

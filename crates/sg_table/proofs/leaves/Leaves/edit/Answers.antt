@@ -10,7 +10,8 @@ use Rattle.sg_table.specs.declared.run.Run.{Run}
 use Rattle.sg_table.proofs.DataLemmas.{data-edit, leaves-fit}
 use Rattle.sg_table.proofs.SpliceLemmas.{all-splice}
 use Rattle.sg_table.proofs.LeafSearchLemmas.{firsts-set}
-use Rattle.sg_table.proofs.LeavesLemmas.{count-set, directory-behind, directory-set, length-splice, same-table}
+use Rattle.sg_table.proofs.LeavesLemmas.{count-set, directory-behind, directory-set}
+use Rattle.sg_table.proofs.LeavesLemmas.{length-splice, same-table}
 use Rattle.sg_table.proofs.leaves.Leaves.edit.Goals as goal
 
 pub overflow_sub-self : goal.overflow_sub-self
