@@ -14,8 +14,8 @@ use Rattle.sg_pool.specs.MappedRecords.{mapping_in, contents_of, status_of_kind}
 use Rattle.sg_pool.specs.Slots.{Slots}
 use Rattle.sg_table.specs.Table.{Table, visited, probed}
 use Rattle.sg_table.specs.declared.cursor.Cursor.{Cursor}
-use Rattle.sg_store.specs.declared.lba_status.ProvisioningStatus.TheVariants.{Deallocated}
-use Rattle.sg_store.specs.declared.lba_status.StatusDescriptor.{StatusDescriptor}
+use Rattle.sg_wire.specs.declared.lba_status.ProvisioningStatus.TheVariants.{Deallocated}
+use Rattle.sg_wire.specs.declared.lba_status.StatusDescriptor.{StatusDescriptor}
 use Rattle.sg_store.specs.declared.lba_status.TheConstants.{MAX_ADDRESSES}
 use Rattle.sg_table.specs.declared.run.Kind.{Kind}
 use Rattle.sg_table.specs.declared.run.Kind.TheVariants.{Data as DataRun, Anchored as AnchoredRun}

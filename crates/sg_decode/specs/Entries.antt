@@ -3,6 +3,7 @@ use Rattle.std.specs.Prelude.{ℕ, List, [], ◌∷◌, length, drop, filter, co
 use Rattle.std.specs.Prelude.{Bool, nat_le, ◌==◌, if◌then◌else◌}
 use Rattle.byteorder.specs.Endian.{big_number}
 use Rattle.sg_wire.specs.Bits.{bits_of, has_bit}
+use Rattle.sg_wire.specs.LbaStatus.{status_descriptor_length}
 use Rattle.sg_decode.specs.Lines.{Line, part, line_end}
 use Rattle.sg_decode.specs.Items.{Entry}
 use Rattle.sg_decode.specs.declared.value.Value.TheVariants.{Bits, Code, Number, Address}
@@ -141,7 +142,7 @@ entry_of ModePages = record {
   following = λ page. if has_subpage page then big_number 2 (drop 2 page) else slice_index page 1;
   lines = λ page. page_line page ∷ shown_parameters page;
 }
-entry_of LbaStatusDescriptors = fixed_entry 16 lba_status_descriptor
+entry_of LbaStatusDescriptors = fixed_entry status_descriptor_length lba_status_descriptor
 entry_of ReservationKeys = fixed_entry 8 reservation_key
 entry_of FullStatusDescriptors = record {
   header = λ bytes. 24;

@@ -10,7 +10,7 @@ ghost use Rattle.sg_decode.specs.Lines.{is_sound_line, line_end, line_of, line_t
 
 use crate::line::{line_end, put_line};
 use crate::value::{Field, Value, bits_of, number_of_four, number_of_two};
-use sg_wire::Printer;
+use sg_wire::{Printer, STATUS_DESCRIPTOR_LENGTH};
 use std::io::Write;
 
 /// A kind of entries that follow one another in an answer.
@@ -22,7 +22,7 @@ pub(crate) enum EntryKind {
     Designators,
     /// Mode pages: two bytes, or four with a subpage code, and the parameters (SPC-4, 7.5).
     ModePages,
-    /// LBA status descriptors of 16 bytes (SBC-3, 5.4.2.2).
+    /// LBA status descriptors (SBC-3, 5.4.2.2).
     LbaStatusDescriptors,
     /// Reservation keys of eight bytes.
     ReservationKeys,
@@ -123,7 +123,7 @@ impl EntryKind {
             EntryKind::SupportedPages => 1,
             EntryKind::Designators => 4,
             EntryKind::ModePages => if has_subpage(bytes) { 4 } else { 2 },
-            EntryKind::LbaStatusDescriptors => 16,
+            EntryKind::LbaStatusDescriptors => STATUS_DESCRIPTOR_LENGTH,
             EntryKind::ReservationKeys => 8,
             EntryKind::FullStatusDescriptors => 24,
         }

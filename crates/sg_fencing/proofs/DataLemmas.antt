@@ -14,11 +14,13 @@ use Rattle.sg_store.specs.Disk.{Contents, IsWellFormed, Mapping, anchored, block
 use Rattle.sg_store.specs.Disk.{remapped}
 use Rattle.sg_store.specs.Disk.Mapping.{Data, Anchored}
 use Rattle.sg_store.specs.Laws.{RemappingTakesWhatIsNeeded}
-use Rattle.sg_store.specs.LbaStatus.{code_of, count_alike, descriptors_from, max_addresses}
-use Rattle.sg_store.specs.LbaStatus.{max_descriptors, status_data, status_in}
-use Rattle.sg_store.specs.declared.lba_status.ProvisioningStatus.{ProvisioningStatus}
-use Rattle.sg_store.specs.declared.lba_status.ProvisioningStatus.TheVariants.{Deallocated}
-use Rattle.sg_store.specs.declared.lba_status.StatusDescriptor.{StatusDescriptor}
+use Rattle.sg_wire.specs.LbaStatus.{code_of}
+use Rattle.sg_store.specs.LbaStatus.{count_alike, descriptors_from, max_addresses}
+use Rattle.sg_wire.specs.LbaStatus.{status_data}
+use Rattle.sg_store.specs.LbaStatus.{max_descriptors, status_in}
+use Rattle.sg_wire.specs.declared.lba_status.ProvisioningStatus.{ProvisioningStatus}
+use Rattle.sg_wire.specs.declared.lba_status.ProvisioningStatus.TheVariants.{Deallocated}
+use Rattle.sg_wire.specs.declared.lba_status.StatusDescriptor.{StatusDescriptor}
 use Rattle.sg_target.specs.Effect.{no_space, returning_up_to, storing, with_contents}
 use Rattle.sg_target.specs.ModeCommands.{changing_modes, mode_parameters, selected_modes}
 use Rattle.sg_target.specs.ProvisioningCommands.{changed_in_turn}

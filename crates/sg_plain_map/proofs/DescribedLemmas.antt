@@ -14,8 +14,8 @@ use Rattle.sg_table.specs.Table.{Table, visited}
 use Rattle.sg_plain_map.specs.Editing.{IsAt, VisitsRange}
 use Rattle.sg_table.specs.Records.{run_at, end_of_gap}
 use Rattle.sg_plain_map.specs.Status.{IsTableOf, AreInRow, of_kind}
-use Rattle.sg_store.specs.declared.lba_status.ProvisioningStatus.TheVariants.{Deallocated}
-use Rattle.sg_store.specs.declared.lba_status.StatusDescriptor.{StatusDescriptor}
+use Rattle.sg_wire.specs.declared.lba_status.ProvisioningStatus.TheVariants.{Deallocated}
+use Rattle.sg_wire.specs.declared.lba_status.StatusDescriptor.{StatusDescriptor}
 use Rattle.sg_store.specs.declared.lba_status.TheConstants.{MAX_ADDRESSES}
 use Rattle.sg_table.specs.declared.run.Kind.{Kind}
 use Rattle.sg_table.specs.declared.run.Kind.TheVariants.{Data as DataKind, Anchored as AnchoredKind}

@@ -11,7 +11,7 @@ use Rattle.std.specs.FinMap.{find, get, get-from_entries, contains_key, len, len
 use Rattle.sg_store.specs.Disk.{Mapping, zero_block, block, data_in, lies_in}
 use Rattle.sg_store.specs.Disk.{outside_range, unmapped}
 use Rattle.sg_store.specs.LbaStatus.{status_at, status_in}
-use Rattle.sg_store.specs.declared.lba_status.ProvisioningStatus.TheVariants.{Deallocated}
+use Rattle.sg_wire.specs.declared.lba_status.ProvisioningStatus.TheVariants.{Deallocated}
 use Rattle.sg_table.specs.Records.{start_of, IsSorted}
 use Rattle.sg_pool.specs.MappedRecords.{Seen, entries_by, contents_by, contents_of, mapping_in}
 use Rattle.sg_pool.specs.MappedRecords.{outside_records, status_of_kind}

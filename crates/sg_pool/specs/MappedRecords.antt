@@ -6,9 +6,9 @@ use Rattle.std.specs.FinMap.{FinMap, from_entries}
 use Rattle.std.specs.Ordering.{nat_cmp}
 use Rattle.sg_store.specs.Disk.{Contents, Mapping, lies_in, zero_block}
 use Rattle.sg_store.specs.Disk.Mapping.{Data, Anchored}
-use Rattle.sg_store.specs.declared.lba_status.ProvisioningStatus.{ProvisioningStatus}
-use Rattle.sg_store.specs.declared.lba_status.ProvisioningStatus.TheVariants.{Mapped}
-use Rattle.sg_store.specs.declared.lba_status.ProvisioningStatus.TheVariants.{Anchored as AnchoredStatus}
+use Rattle.sg_wire.specs.declared.lba_status.ProvisioningStatus.{ProvisioningStatus}
+use Rattle.sg_wire.specs.declared.lba_status.ProvisioningStatus.TheVariants.{Mapped}
+use Rattle.sg_wire.specs.declared.lba_status.ProvisioningStatus.TheVariants.{Anchored as AnchoredStatus}
 use Rattle.sg_table.specs.Occurrences.{IsEachOnce}
 use Rattle.sg_table.specs.Records.{IsSorted, slots_of}
 use Rattle.sg_table.specs.declared.run.Kind.{Kind}

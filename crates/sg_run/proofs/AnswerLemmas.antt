@@ -12,10 +12,10 @@ use Rattle.std.proofs.Math.Seq.{take-append-add}
 use Rattle.byteorder.specs.Endian.{big_bytes}
 use Rattle.byteorder.specs.Numbers.{big_from-take, big_number-reads_back}
 use Rattle.sg_wire.specs.CutAnswer.{first_bytes}
-use Rattle.sg_store.specs.LbaStatus.{code_of, descriptor_bytes, status_data}
-use Rattle.sg_store.specs.declared.lba_status.ProvisioningStatus.{ProvisioningStatus}
-use Rattle.sg_store.specs.declared.lba_status.ProvisioningStatus.TheVariants.{Mapped, Deallocated, Anchored}
-use Rattle.sg_store.specs.declared.lba_status.StatusDescriptor.{StatusDescriptor}
+use Rattle.sg_wire.specs.LbaStatus.{code_of, descriptor_bytes, status_data}
+use Rattle.sg_wire.specs.declared.lba_status.ProvisioningStatus.{ProvisioningStatus}
+use Rattle.sg_wire.specs.declared.lba_status.ProvisioningStatus.TheVariants.{Mapped, Deallocated, Anchored}
+use Rattle.sg_wire.specs.declared.lba_status.StatusDescriptor.{StatusDescriptor}
 use Rattle.sg_decode.specs.LbaStatus.{descriptor, descriptor_of, reported_end, whole_count}
 use Rattle.sg_decode.specs.LbaStatus.{whole_descriptors}
 use Rattle.sg_wire.specs.Bits.{bits_of}

@@ -7,9 +7,10 @@ use Rattle.std.proofs.lemmas.List.Elements.{All-nil, All-cons}
 use Rattle.std.specs.List.{prefix_len, range_with_len}
 use Rattle.std.specs.Prelude.{All, min, ◌==◌}
 use Rattle.sg_store.specs.Disk.{Contents}
-use Rattle.sg_store.specs.LbaStatus.{code_of, count_alike, covered, descriptor_at, descriptors_from}
+use Rattle.sg_wire.specs.LbaStatus.{code_of}
+use Rattle.sg_store.specs.LbaStatus.{count_alike, covered, descriptor_at, descriptors_from}
 use Rattle.sg_store.specs.LbaStatus.{max_addresses, status_at}
-use Rattle.sg_store.specs.declared.lba_status.StatusDescriptor.{StatusDescriptor}
+use Rattle.sg_wire.specs.declared.lba_status.StatusDescriptor.{StatusDescriptor}
 use Rattle.sg_store.proofs.DescriptorLemmas.{alike-within, covered-first, descriptors-end}
 use Rattle.sg_store.proofs.DescriptorLemmas.{descriptors-first, descriptors-none}
 

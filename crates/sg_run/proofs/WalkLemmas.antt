@@ -14,7 +14,7 @@ use Rattle.std.proofs.lemmas.List.Sums.{sum_by-cons}
 use Rattle.sg_store.specs.Disk.{Contents, Disk, lies_in}
 use Rattle.sg_store.specs.LbaStatus.{covered, count_alike, descriptor_at, lba_status}
 use Rattle.sg_store.specs.LbaStatus.{max_descriptors}
-use Rattle.sg_store.specs.declared.lba_status.StatusDescriptor.{StatusDescriptor}
+use Rattle.sg_wire.specs.declared.lba_status.StatusDescriptor.{StatusDescriptor}
 use Rattle.sg_store.proofs.DescriptorLemmas.{descriptors-end, descriptors-first, descriptors-none}
 use Rattle.sg_decode.specs.LbaStatus.{Descriptor, address_after, next_start, whole_descriptors}
 use Rattle.sg_run.specs.Walk.{AnswersHaveTheFirst, WalksInOrder, end_of, every_descriptor, every_read}

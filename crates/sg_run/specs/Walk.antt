@@ -10,9 +10,10 @@ use Rattle.sg_wire.specs.CdbDecoding.{command_of}
 use Rattle.sg_wire.specs.declared.command.Command.TheVariants as command
 use Rattle.sg_wire.specs.declared.command.provisioning.GetLbaStatus.{GetLbaStatus}
 use Rattle.sg_store.specs.Disk.{Disk, lies_in}
-use Rattle.sg_store.specs.LbaStatus.{code_of, descriptors_from, lba_status, max_descriptors}
-use Rattle.sg_store.specs.LbaStatus.{status_data}
-use Rattle.sg_store.specs.declared.lba_status.StatusDescriptor.{StatusDescriptor}
+use Rattle.sg_wire.specs.LbaStatus.{code_of}
+use Rattle.sg_store.specs.LbaStatus.{descriptors_from, lba_status, max_descriptors}
+use Rattle.sg_wire.specs.LbaStatus.{status_data}
+use Rattle.sg_wire.specs.declared.lba_status.StatusDescriptor.{StatusDescriptor}
 use Rattle.sg_target.specs.State.{State}
 use Rattle.sg_target.specs.Step.{Step, step}
 use Rattle.sg_target.specs.declared.reply.Status.TheVariants.{Good}

@@ -9,11 +9,12 @@ use Rattle.std.proofs.lemmas.List.Sums.{prefix_len-le-length, sum_by-append, sum
 use Rattle.std.specs.List.{prefix_len, range_with_len}
 use Rattle.std.specs.Prelude.{min, nat_lt, ◌==◌}
 use Rattle.sg_store.specs.Disk.{Contents}
-use Rattle.sg_store.specs.LbaStatus.{code_of, count_alike, covered, descriptor_at, descriptors_from}
+use Rattle.sg_wire.specs.LbaStatus.{code_of}
+use Rattle.sg_store.specs.LbaStatus.{count_alike, covered, descriptor_at, descriptors_from}
 use Rattle.sg_store.specs.LbaStatus.{max_addresses, status_at}
-use Rattle.sg_store.specs.declared.lba_status.ProvisioningStatus.{ProvisioningStatus}
-use Rattle.sg_store.specs.declared.lba_status.ProvisioningStatus.TheVariants.{Mapped, Deallocated, Anchored}
-use Rattle.sg_store.specs.declared.lba_status.StatusDescriptor.{StatusDescriptor}
+use Rattle.sg_wire.specs.declared.lba_status.ProvisioningStatus.{ProvisioningStatus}
+use Rattle.sg_wire.specs.declared.lba_status.ProvisioningStatus.TheVariants.{Mapped, Deallocated, Anchored}
+use Rattle.sg_wire.specs.declared.lba_status.StatusDescriptor.{StatusDescriptor}
 
 -- the numbers of a range that pass a test, before the first number that fails it
 prefix-is : (p : ℕ → Bool) (a n k : ℕ) → k ≤ n → ((i : ℕ) → i < k → p (a + i) ≡ true)

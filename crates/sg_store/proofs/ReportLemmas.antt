@@ -12,9 +12,10 @@ use Rattle.std.specs.Prelude.{All, min, ◌==◌}
 use Rattle.sg_store.specs.Disk.{Contents, Disk, lies_in}
 use Rattle.sg_store.specs.Laws.{status_reported, ReportsEachStatus, CoversTheRest}
 use Rattle.sg_store.specs.Laws.{EndsAtAnotherStatus, CoversTheMost}
-use Rattle.sg_store.specs.LbaStatus.{code_of, status_at, count_alike, covered, descriptor_at}
+use Rattle.sg_wire.specs.LbaStatus.{code_of}
+use Rattle.sg_store.specs.LbaStatus.{status_at, count_alike, covered, descriptor_at}
 use Rattle.sg_store.specs.LbaStatus.{descriptors_from, max_addresses}
-use Rattle.sg_store.specs.declared.lba_status.StatusDescriptor.{StatusDescriptor}
+use Rattle.sg_wire.specs.declared.lba_status.StatusDescriptor.{StatusDescriptor}
 use Rattle.sg_store.proofs.DescriptorLemmas.{alike-within, covered-first, descriptors-end}
 use Rattle.sg_store.proofs.DescriptorLemmas.{descriptors-first, descriptors-none, same_status}
 

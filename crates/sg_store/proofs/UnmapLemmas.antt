@@ -9,7 +9,7 @@ use Rattle.std.specs.Ordering.{nat_cmp}
 use Rattle.sg_store.specs.Disk.{Contents, IsWellFormed, Mapping, data_in, zero_block, lies_in}
 use Rattle.sg_store.specs.Disk.{outside_range, unmapped}
 use Rattle.sg_store.specs.LbaStatus.{status_in}
-use Rattle.sg_store.specs.declared.lba_status.ProvisioningStatus.TheVariants.{Deallocated}
+use Rattle.sg_wire.specs.declared.lba_status.ProvisioningStatus.TheVariants.{Deallocated}
 use Rattle.sg_store.specs.Laws.{UnmapsEachBlock, UnmapsEachAddress}
 
 -- the value that is found at an address afterwards

@@ -6,9 +6,9 @@ use Rattle.sg_store.specs.Disk.{Contents, Disk, Mapping, block, block_at, zero_b
 use Rattle.sg_store.specs.Disk.{written, filled, unmapped, anchored, remapped}
 use Rattle.sg_store.specs.Disk.{IsWellFormed, HasBlockLength, need}
 use Rattle.sg_store.specs.LbaStatus.{covered, lba_status, max_addresses, max_descriptors, status_at}
-use Rattle.sg_store.specs.declared.lba_status.ProvisioningStatus.{ProvisioningStatus}
-use Rattle.sg_store.specs.declared.lba_status.ProvisioningStatus.TheVariants.{Mapped, Deallocated, Anchored}
-use Rattle.sg_store.specs.declared.lba_status.StatusDescriptor.{StatusDescriptor}
+use Rattle.sg_wire.specs.declared.lba_status.ProvisioningStatus.{ProvisioningStatus}
+use Rattle.sg_wire.specs.declared.lba_status.ProvisioningStatus.TheVariants.{Mapped, Deallocated, Anchored}
+use Rattle.sg_wire.specs.declared.lba_status.StatusDescriptor.{StatusDescriptor}
 
 -- After a write, the block at an address is the one given for it inside the range, and the old one
 -- outside.

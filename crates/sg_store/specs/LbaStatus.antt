@@ -1,18 +1,18 @@
 -- The provisioning status of a disk's addresses, as GET LBA STATUS returns it (SBC-3, 5.4).
-use Rattle.std.specs.Prelude.{◌≡◌, ℕ, ◌+◌, ◌-◌, ◌*◌, zero, suc, if◌then◌else◌, ◌==◌}
+use Rattle.std.specs.Prelude.{◌≡◌, ℕ, ◌+◌, ◌-◌, zero, suc, if◌then◌else◌, ◌==◌}
 use Rattle.std.specs.Prelude.{nat_lt, min, Option, Some, None}
-use Rattle.std.specs.Prelude.{List, [], ◌∷◌, ◌++◌, length, replicate, sum_by}
+use Rattle.std.specs.Prelude.{List, [], ◌∷◌, length, sum_by}
 use Rattle.std.specs.List.{flat_map, range_with_len, prefix_len}
 use Rattle.std.specs.FinMap.{get}
-use Rattle.byteorder.specs.Endian.{big_bytes}
 use Rattle.sg_wire.specs.Cut.{Puts}
+use Rattle.sg_wire.specs.LbaStatus.{code_of, descriptor_bytes}
 use Rattle.sg_wire.specs.declared.cut.Cut.{Cut}
+use Rattle.sg_wire.specs.declared.lba_status.ProvisioningStatus.{ProvisioningStatus}
+use Rattle.sg_wire.specs.declared.lba_status.ProvisioningStatus.TheVariants.{Mapped, Deallocated}
+use Rattle.sg_wire.specs.declared.lba_status.ProvisioningStatus.TheVariants.{Anchored as AnchoredStatus}
+use Rattle.sg_wire.specs.declared.lba_status.StatusDescriptor.{StatusDescriptor}
 use Rattle.sg_store.specs.Disk.{Contents, Disk, Mapping}
 use Rattle.sg_store.specs.Disk.Mapping.{Data, Anchored}
-use Rattle.sg_store.specs.declared.lba_status.ProvisioningStatus.{ProvisioningStatus}
-use Rattle.sg_store.specs.declared.lba_status.ProvisioningStatus.TheVariants.{Mapped, Deallocated}
-use Rattle.sg_store.specs.declared.lba_status.ProvisioningStatus.TheVariants.{Anchored as AnchoredStatus}
-use Rattle.sg_store.specs.declared.lba_status.StatusDescriptor.{StatusDescriptor}
 
 -- The most descriptors that an answer has, and the most addresses that one descriptor covers.
 -- NUMBER OF LOGICAL BLOCKS has four bytes.
@@ -25,7 +25,7 @@ max_addresses = 0xFFFFFFFF
 
 -- ---- Which descriptors an answer has
 
--- The status of an address by its mapping, and the code of a status.
+-- The status of an address by its mapping.
 abbrev pub status_in : Option Mapping → ProvisioningStatus
 status_in (Some (Data block)) = Mapped
 status_in (Some Anchored) = AnchoredStatus
@@ -33,12 +33,6 @@ status_in None = Deallocated
 
 abbrev pub status_at : Contents → (lba : ℕ) → ProvisioningStatus
 status_at contents lba = status_in (get contents lba)
-
--- Choice (SBC-3, 5.4.2): status 0 may mean unknown, too.
-abbrev pub code_of : ProvisioningStatus → ℕ
-code_of Mapped = 0
-code_of Deallocated = 1
-code_of AnchoredStatus = 2
 
 -- The number of addresses from one on that have its status, before an address with another status.
 -- The count fits its field, and ends with the disk.
@@ -72,23 +66,6 @@ lba_status disk lba = descriptors_from disk.contents disk.capacity lba max_descr
 -- The number of addresses that they cover.
 abbrev pub covered : List StatusDescriptor → ℕ
 covered descriptors = sum_by (λ (descriptor : StatusDescriptor). descriptor.count) descriptors
-
--- ---- The parameter data (SBC-3, 5.4.2)
-
--- LOGICAL BLOCK ADDRESS, NUMBER OF LOGICAL BLOCKS, PROVISIONING STATUS and three reserved bytes.
-abbrev pub descriptor_bytes : StatusDescriptor → List ℕ
-descriptor_bytes descriptor =
-    big_bytes 8 descriptor.lba
-    ++ (big_bytes 4 descriptor.count ++ (code_of descriptor.status ∷ replicate 3 0))
-
--- PARAMETER DATA LENGTH, the number of all bytes after it, and four reserved bytes.
-abbrev pub status_header : (count : ℕ) → List ℕ
-status_header count = big_bytes 4 (4 + 16 * count) ++ replicate 4 0
-
--- The whole parameter data.
-unfoldable pub status_data : List StatusDescriptor → List ℕ
-status_data descriptors =
-    status_header (length descriptors) ++ flat_map descriptor_bytes descriptors
 
 -- ---- Cited only by private contracts
 

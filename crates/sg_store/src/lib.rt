@@ -1,6 +1,6 @@
 //! The calls of a store of blocks, and nothing about how the blocks are kept: the trait [`Store`].
-//! The meaning of a store is a finite map from addresses to blocks. The crate also has the
-//! parameter data of GET LBA STATUS.
+//! The meaning of a store is a finite map from addresses to blocks. The crate also says what GET LBA
+//! STATUS returns about them.
 #![tactic(auto)]
 
 pub mod laws;

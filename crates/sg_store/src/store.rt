@@ -7,7 +7,8 @@ ghost use Rattle.sg_store.specs.Disk.{Contents, Disk, IsWellFormed, IsOverfull, 
 ghost use Rattle.sg_store.specs.Disk.{blocks, disk_written, disk_filled, disk_unmapped, disk_anchored};
 ghost use Rattle.sg_store.specs.Disk.{data_count, need, used_among};
 ghost use Rattle.sg_wire.specs.Cut.{Puts};
-ghost use Rattle.sg_store.specs.LbaStatus.{lba_status, covered, status_data};
+ghost use Rattle.sg_wire.specs.LbaStatus.{status_data};
+ghost use Rattle.sg_store.specs.LbaStatus.{lba_status, covered};
 ghost use Rattle.sg_store.specs.Meter.{Meter, new_meter, restarted, HasHeadroom};
 ghost use Rattle.sg_store.specs.Meter.{Charged, ChargedOnOk};
 

@@ -32,9 +32,9 @@ use Rattle.sg_target.proofs.Space.{space-left}
 use Rattle.sg_store.specs.Laws.{AnchorsEachAddress, AnchorZeroesEachBlock, FillMapsEachAddress}
 use Rattle.sg_store.specs.Laws.{FillsEachBlock, MapsEachAddress, UnmapsEachAddress, UnmapsEachBlock}
 use Rattle.sg_store.specs.Laws.{WritesEachBlock}
-use Rattle.sg_store.specs.declared.lba_status.ProvisioningStatus.{ProvisioningStatus}
-use Rattle.sg_store.specs.declared.lba_status.ProvisioningStatus.TheVariants.{Mapped, Deallocated}
-use Rattle.sg_store.specs.declared.lba_status.ProvisioningStatus.TheVariants.{Anchored}
+use Rattle.sg_wire.specs.declared.lba_status.ProvisioningStatus.{ProvisioningStatus}
+use Rattle.sg_wire.specs.declared.lba_status.ProvisioningStatus.TheVariants.{Mapped, Deallocated}
+use Rattle.sg_wire.specs.declared.lba_status.ProvisioningStatus.TheVariants.{Anchored}
 use Rattle.sg_target.specs.BlockCommands.{blocks_out, bytes_of, reading, writing}
 use Rattle.sg_target.specs.CommandLaws.{Changes, EndsWithGood, ReadsReturnTheirBlocks, ReturnsBlocks}
 use Rattle.sg_target.specs.CommandLaws.{UnmapsFollowTheirLists, WriteSameFields}

@@ -6,9 +6,11 @@ use Rattle.std.specs.Prelude.{nat_lt}
 use Rattle.std.specs.List.{flat_map}
 use Rattle.std.proofs.lemmas.List.{take_min}
 use Rattle.sg_store.specs.Disk.{Contents, Disk}
-use Rattle.sg_store.specs.LbaStatus.{count_alike, descriptor_at, descriptor_bytes}
-use Rattle.sg_store.specs.LbaStatus.{descriptors_from, lba_status, status_data}
-use Rattle.sg_store.specs.declared.lba_status.StatusDescriptor.{StatusDescriptor}
+use Rattle.sg_wire.specs.LbaStatus.{descriptor_bytes}
+use Rattle.sg_store.specs.LbaStatus.{count_alike, descriptor_at}
+use Rattle.sg_wire.specs.LbaStatus.{status_data}
+use Rattle.sg_store.specs.LbaStatus.{descriptors_from, lba_status}
+use Rattle.sg_wire.specs.declared.lba_status.StatusDescriptor.{StatusDescriptor}
 use Rattle.sg_store.specs.declared.store.Counts.{Counts}
 use Rattle.sg_wire.specs.CutAnswer.{first_bytes, overwritten}
 use Rattle.sg_target.specs.MadeReplies.{executed_reply}

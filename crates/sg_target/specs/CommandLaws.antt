@@ -11,9 +11,9 @@ use Rattle.sg_wire.specs.declared.command.provisioning.Unmap.{Unmap}
 use Rattle.sg_wire.specs.declared.extent.Extent.{Extent}
 use Rattle.sg_store.specs.Disk.{block, block_at, blocks, lies_in, zero_block}
 use Rattle.sg_store.specs.LbaStatus.{status_at}
-use Rattle.sg_store.specs.declared.lba_status.ProvisioningStatus.{ProvisioningStatus}
-use Rattle.sg_store.specs.declared.lba_status.ProvisioningStatus.TheVariants.{Mapped, Deallocated}
-use Rattle.sg_store.specs.declared.lba_status.ProvisioningStatus.TheVariants.{Anchored}
+use Rattle.sg_wire.specs.declared.lba_status.ProvisioningStatus.{ProvisioningStatus}
+use Rattle.sg_wire.specs.declared.lba_status.ProvisioningStatus.TheVariants.{Mapped, Deallocated}
+use Rattle.sg_wire.specs.declared.lba_status.ProvisioningStatus.TheVariants.{Anchored}
 use Rattle.sg_target.specs.Checks.{checked_effect}
 use Rattle.sg_target.specs.Demands.{extent}
 use Rattle.sg_target.specs.Effect.{Effect, with_contents}

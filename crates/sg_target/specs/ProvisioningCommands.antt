@@ -7,7 +7,8 @@ use Rattle.sg_wire.specs.declared.unmap_list.UnmapListFault.{UnmapListFault}
 use Rattle.sg_wire.specs.declared.unmap_list.UnmapListFault.TheVariants.{Short, TooManyDescriptors}
 use Rattle.sg_wire.specs.declared.extent.Extent.{Extent}
 use Rattle.sg_store.specs.Disk.{Contents, Disk, anchored, filled, unmapped}
-use Rattle.sg_store.specs.LbaStatus.{lba_status, status_data}
+use Rattle.sg_wire.specs.LbaStatus.{status_data}
+use Rattle.sg_store.specs.LbaStatus.{lba_status}
 use Rattle.sg_pages.specs.BlockDescriptor.{logical_block_length}
 use Rattle.sg_target.specs.Effect.{Effect, no_effect, returning_up_to, storing, with_contents}
 use Rattle.sg_target.specs.Refusal.{or_refused}
