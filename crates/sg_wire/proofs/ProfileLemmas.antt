@@ -2,8 +2,9 @@
 use Rattle.std.proofs.Common.{◌≡◌, ℕ, ◌==◌, List, [], ◌∷◌, get_or, filter, Bool, true, false, cond}
 use Rattle.std.proofs.Common.{Option, Some, None, Ok, refl, sym, ap, ◌∙◌}
 use Rattle.std.proofs.lemmas.Bool.{and_parts, eqb-true}
+use Rattle.std.specs.List.{list_all}
 use Rattle.std.specs.Prelude.{◌&&◌, if◌then◌else◌}
-use Rattle.sg_wire.specs.CdbDecoding.{command_by_rows, command_in, command_of, rows_in}
+use Rattle.sg_wire.specs.CdbDecoding.{command_by_rows, command_in, command_of, is_blocked_in, rows_in}
 use Rattle.sg_wire.specs.CdbEncoding.{cdb_of}
 use Rattle.sg_wire.specs.Laws.{IsReadAs, has_command}
 use Rattle.sg_wire.specs.Layout.{Layout, layout, table}
@@ -119,6 +120,25 @@ module _ (profile : Profile) where
       let row = row-of opcode rest command e in
       read-same other command (opcode ∷ rest) has row.0
       ∙ sym (read-same profile command (opcode ∷ rest) row.1 row.0) ∙ e
+
+  -- each of them has the same rows of its operation code
+  pub rows-alike : (cdb : List ℕ) (command : Command) → command_in profile cdb ≡ Ok command
+      → (other : Profile) → has_command other command ≡ true
+      → rows_in other (layout command).opcode ≡ rows_in profile (layout command).opcode
+  rows-alike cdb command e other has =
+      rows-same other command has ∙ sym (rows-same profile command (is-in cdb command e))
+
+  -- so a unit attention blocks it in each of them or in none
+  pub blocked-alike : (cdb : List ℕ) (command : Command) → command_in profile cdb ≡ Ok command
+      → (other : Profile) → has_command other command ≡ true
+      → is_blocked_in other cdb ≡ is_blocked_in profile cdb
+  unfolding command_in is_blocked_in
+  blocked-alike [] command e other has = cc
+  blocked-alike (opcode ∷ rest) command e other has =
+      let row = row-of opcode rest command e in
+      ap (list_all (λ (l : Layout). l.blocked_by_attention))
+      (ap (rows_in other) row.0 ∙ rows-alike (opcode ∷ rest) command e other has
+      ∙ ap (rows_in profile) (sym row.0))
 
   -- so it is the command of the CDB
   pub read-any : (cdb : List ℕ) (command : Command) → command_in profile cdb ≡ Ok command

@@ -5,7 +5,7 @@ use Rattle.std.specs.Borrow.{GName}
 use Rattle.sg_wire.specs.Cut.{IsLeftIn, Puts, answer_of}
 use Rattle.sg_wire.specs.CutAnswer.{CutAnswer, empty_answer, first_bytes, overwritten, put}
 use Rattle.sg_wire.specs.CutAnswer.{replace}
-use Rattle.sg_wire.specs.CdbDecoding.{class_in, command_in}
+use Rattle.sg_wire.specs.CdbDecoding.{class_in, command_in, is_blocked_in, rows_in}
 use Rattle.sg_wire.specs.CdbEncoding.{cdb_of}
 use Rattle.sg_wire.specs.Layout.{layout}
 use Rattle.sg_wire.specs.Profile.{is_in}
@@ -33,13 +33,20 @@ ProfilesAreClosed =
     → command_in profile cdb ≡ Ok command → has_command profile command ≡ true
 
 -- A profile only adds: a CDB that is a command in one profile is the same command in each profile
--- that has it, and of the same class.
+-- that has it, and of the same class. Its operation code has the same rows, and so the same masks.
+-- A unit attention blocks it in both profiles or in neither.
 pub record ProfilesOnlyAdd : Type 0 where
   pub command : (profile : Profile) (cdb : List ℕ) (command : Command)
       → command_in profile cdb ≡ Ok command → IsReadAs cdb command
   pub class : (one other : Profile) (cdb : List ℕ) (command : Command)
       → command_in one cdb ≡ Ok command → has_command other command ≡ true
       → class_in other cdb ≡ class_in one cdb
+  pub rows : (one other : Profile) (cdb : List ℕ) (command : Command)
+      → command_in one cdb ≡ Ok command → has_command other command ≡ true
+      → rows_in other (layout command).opcode ≡ rows_in one (layout command).opcode
+  pub attention : (one other : Profile) (cdb : List ℕ) (command : Command)
+      → command_in one cdb ≡ Ok command → has_command other command ≡ true
+      → is_blocked_in other cdb ≡ is_blocked_in one cdb
 
 -- ---- CDBs
 

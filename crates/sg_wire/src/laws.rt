@@ -9,7 +9,8 @@ pub fn profiles_are_closed()
 {}
 
 /// A profile only adds. If a CDB is a command on a disk, it is the same command, of the same class,
-/// on each disk that has the command.
+/// on each disk that has the command. Each such disk has the same rows of its operation code, and
+/// so the same masks. A unit attention blocks the command on each of them or on none.
 pub fn profiles_only_add()
     ensures { ProfilesOnlyAdd }
 {}
