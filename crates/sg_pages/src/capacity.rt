@@ -1,7 +1,8 @@
 // The data that READ CAPACITY returns (SBC-3, 5.15 and 5.16).
-ghost use Rattle.std.specs.Prelude.{◌≡◌};
+ghost use Rattle.std.specs.Prelude.{◌≡◌, length};
 ghost use Rattle.sg_wire.specs.Cut.{Puts};
-ghost use Rattle.sg_pages.specs.CapacityData.{capacity_10, capacity_16};
+ghost use Rattle.sg_pages.specs.CapacityData.{capacity_10, capacity_10_length};
+ghost use Rattle.sg_pages.specs.CapacityData.{capacity_16, capacity_16_length};
 
 use super::mode_pages::LOGICAL_BLOCK_LENGTH;
 use byteorder::{BigEndian, ByteOrder};
@@ -19,14 +20,16 @@ const LBPME_LBPRZ: u8 = 0xC0;
 /// Writes the READ CAPACITY(10) parameter data of a disk of `blocks` logical blocks (SBC-3, 5.15.2).
 /// A last logical block address that does not fit is FFFFFFFFh.
 pub fn write_capacity_10(blocks: u64, cut: &mut Cut)
-    ensures { Puts cut.old cut.new (capacity_10 blocks) }
+    ensures data { Puts cut.old cut.new (capacity_10 blocks) }
+    ensures length { length (capacity_10 blocks) ≡ capacity_10_length }
 {
     cut.put(&capacity_10(blocks));
 }
 
 /// Writes the READ CAPACITY(16) parameter data of a disk of `blocks` logical blocks (SBC-3, 5.16.2).
 pub fn write_capacity_16(blocks: u64, cut: &mut Cut)
-    ensures { Puts cut.old cut.new (capacity_16 blocks) }
+    ensures data { Puts cut.old cut.new (capacity_16 blocks) }
+    ensures length { length (capacity_16 blocks) ≡ capacity_16_length }
 {
     cut.put(&capacity_16(blocks));
 }

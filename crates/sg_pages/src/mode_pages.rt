@@ -12,6 +12,7 @@ pub(crate) use block_descriptor::LOGICAL_BLOCK_LENGTH;
 use mode_page::{D_SENSE, DEFAULT, SWP};
 pub use mode_page::{ModePage, PageValues};
 pub use mode_select::{Changed, ModeSelectFault};
+pub use mode_sense::LONGEST_MODE_LIST;
 pub use request::{ModeSenseFault, ModeSenseRequest};
 
 /// The mode pages of a disk: their current and their saved values (SPC-4, 7.5).

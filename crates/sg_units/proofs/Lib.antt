@@ -2,6 +2,7 @@
 pub mod AttentionLemmas
 -- PERSISTENT RESERVE IN.
 pub mod PartLemmas
+pub mod LengthLemmas
 -- PERSISTENT RESERVE OUT.
 pub mod OutcomeLemmas
 pub mod ConsistencyLemmas

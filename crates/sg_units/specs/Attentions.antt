@@ -1,5 +1,5 @@
 -- Pending unit attention conditions (SAM-5, 5.14).
-use Rattle.std.specs.Prelude.{◌≡◌, ℕ, ◌≤◌, ◌==◌, Bool, if◌then◌else◌, List, [], ◌∷◌, ◌++◌}
+use Rattle.std.specs.Prelude.{◌≡◌, ◌≢◌, ℕ, ◌≤◌, ◌==◌, Bool, if◌then◌else◌, List, [], ◌∷◌, ◌++◌}
 use Rattle.std.specs.Prelude.{length, drop, slice_get, slice_index_or, slice_set, replicate}
 use Rattle.std.specs.Prelude.{Option, Some, None}
 use Rattle.std.specs.List.{list_any}
@@ -63,7 +63,7 @@ with_optional queue (Some condition) = with_condition queue condition
 -- A condition differs from all conditions in a queue.
 abbrev pub IsNotAmong : UnitAttention → List UnitAttention → Type 0
 IsNotAmong condition [] = Unit {0}
-IsNotAmong condition (first ∷ rest) = (condition ≡ first → ⊥) × IsNotAmong condition rest
+IsNotAmong condition (first ∷ rest) = (condition ≢ first) × IsNotAmong condition rest
 
 abbrev pub AreDistinct : List UnitAttention → Type 0
 AreDistinct [] = Unit {0}

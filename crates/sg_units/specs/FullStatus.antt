@@ -3,6 +3,7 @@ use Rattle.std.specs.Prelude.{ℕ, ◌+◌, ◌*◌, List, [], ◌∷◌, ◌++�
 use Rattle.std.specs.Prelude.{Option, Some, None}
 use Rattle.std.specs.List.{flat_map}
 use Rattle.sg_wire.specs.Fields.{Field, field, fields_bytes}
+use Rattle.sg_units.specs.Registrations.{max_registrations}
 use Rattle.sg_units.specs.Reservations.{holds}
 use Rattle.sg_units.specs.ReservationType.{code_of}
 use Rattle.sg_units.specs.ReserveIn.{header}
@@ -66,6 +67,11 @@ abbrev pub full_status_length : ℕ
 full_status_length = 48
 
 -- ---- The data
+
+-- The length of the longest data of PERSISTENT RESERVE IN, in bytes: READ FULL STATUS with all
+-- registrations that there is room for.
+abbrev pub longest_reserve_in : ℕ
+longest_reserve_in = 8 + full_status_length * max_registrations
 
 -- A descriptor for each registration, in their order.
 unfoldable pub full_status_data : ReservationState → List ℕ

@@ -1,5 +1,5 @@
 -- Laws of the definitions, in the words of the standard.
-use Rattle.std.specs.Prelude.{◌≡◌, ◌⊎◌, ◌<◌, ◌+◌, ◌%◌, ◌^◌, ℕ, ◌==◌, Bool, true, false}
+use Rattle.std.specs.Prelude.{◌≡◌, ◌≢◌, ◌⊎◌, ◌<◌, ◌+◌, ◌%◌, ◌^◌, ℕ, ◌==◌, Bool, true, false}
 use Rattle.std.specs.Prelude.{◌&&◌, ◌||◌, List, length, is_some}
 use Rattle.std.specs.Prelude.{Option, Some, None, Ok}
 use Rattle.sg_wire.specs.declared.command.Class.{Class}
@@ -29,7 +29,7 @@ use Rattle.sg_units.specs.declared.unit_attention.UnitAttention.{UnitAttention}
 abbrev pub NoConditionForAnother : Type 0
 NoConditionForAnother =
     (pending : Pending) (initiator other : ℕ) (condition : UnitAttention)
-    → (other ≡ initiator → ⊥)
+    → other ≢ initiator
     → pending_for (raised pending initiator condition) other ≡ pending_for pending other
 
 -- PERSISTENT RESERVE OUT establishes nothing for the initiator that sent it.

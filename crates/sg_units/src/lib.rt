@@ -21,6 +21,7 @@ pub use raised::Raised;
 pub use registrations::Registration;
 pub use reservation::Reservation;
 pub use reservation_change::ReservationChange;
+pub use reservation_state::LONGEST_RESERVE_IN_DATA;
 pub use reservations::Reservations;
 pub use sg_wire::OutList;
 pub use types::ReservationType;

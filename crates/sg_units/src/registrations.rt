@@ -28,7 +28,7 @@ impl Registration {
 }
 
 /// The most registrations that there is room for.
-const MAX_REGISTRATIONS: usize = 6;
+pub(crate) const MAX_REGISTRATIONS: usize = 6;
 
 /// The registrations, in the order in which they were made.
 #[derive(Drop)]

@@ -8,6 +8,8 @@ mod read_full_status;
 mod register;
 mod reserve;
 
+pub use read_full_status::LONGEST_RESERVE_IN_DATA;
+
 ghost use Rattle.std.specs.Prelude.{◌≡◌};
 ghost use Rattle.sg_units.specs.Access.{allows, standing_of};
 ghost use Rattle.sg_units.specs.ReserveOut.{registering, unchanged};

@@ -34,10 +34,10 @@ impl Model for Reservations {
     ghost invariant = { λ r. IsConsistent r.state };
 }
 
-ghost use Rattle.std.specs.Prelude.{◌≡◌, Ok, IfOk};
+ghost use Rattle.std.specs.Prelude.{◌≡◌, ◌≤◌, Ok, IfOk, length};
 ghost use Rattle.sg_wire.specs.Cut.{Puts};
 ghost use Rattle.sg_units.specs.Access.{allows};
-ghost use Rattle.sg_units.specs.FullStatus.{full_status_data};
+ghost use Rattle.sg_units.specs.FullStatus.{full_status_data, longest_reserve_in};
 ghost use Rattle.sg_units.specs.PowerOn.{after_power_on};
 ghost use Rattle.sg_units.specs.ReserveIn.{capabilities_data, keys_data};
 ghost use Rattle.sg_units.specs.ReserveIn.{reservation_data};
@@ -149,7 +149,8 @@ impl Reservations {
     /// Writes the data-in of READ KEYS: PRGENERATION and the keys of all registrants (SPC-4,
     /// 6.15.2).
     pub fn read_keys(&self, cut: &mut Cut)
-        ensures { Puts cut.old cut.new (keys_data self.now) }
+        ensures data { Puts cut.old cut.new (keys_data self.now) }
+        ensures at_most { length (keys_data self.now) ≤ longest_reserve_in }
     {
         self.state.read_keys(cut);
     }
@@ -157,7 +158,8 @@ impl Reservations {
     /// Writes the data-in of READ RESERVATION: PRGENERATION and the reservation that is held, if
     /// any (SPC-4, 6.15.3).
     pub fn read_reservation(&self, cut: &mut Cut)
-        ensures { Puts cut.old cut.new (reservation_data self.now) }
+        ensures data { Puts cut.old cut.new (reservation_data self.now) }
+        ensures at_most { length (reservation_data self.now) ≤ longest_reserve_in }
     {
         self.state.read_reservation(cut);
     }
@@ -166,14 +168,16 @@ impl Reservations {
     /// (SPC-4, 6.15.5). The descriptor has its key, whether it holds the reservation, its target
     /// port and the TransportID of its initiator.
     pub fn read_full_status(&self, cut: &mut Cut)
-        ensures { Puts cut.old cut.new (full_status_data self.now) }
+        ensures data { Puts cut.old cut.new (full_status_data self.now) }
+        ensures at_most { length (full_status_data self.now) ≤ longest_reserve_in }
     {
         self.state.read_full_status(cut);
     }
 
     /// Writes the data-in of REPORT CAPABILITIES (SPC-4, 6.15.4).
     pub fn report_capabilities(&self, cut: &mut Cut)
-        ensures { Puts cut.old cut.new (capabilities_data self.now) }
+        ensures data { Puts cut.old cut.new (capabilities_data self.now) }
+        ensures at_most { length (capabilities_data self.now) ≤ longest_reserve_in }
     {
         let flags = if self.state.persists_through_power_loss {
             TMV + PTPL_A

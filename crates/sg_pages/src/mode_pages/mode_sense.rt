@@ -2,10 +2,10 @@
 ghost use Rattle.std.specs.Prelude.{◌≡◌, ◌≤◌, ◌+◌, [], ◌++◌, IfOk, IfErr, length, if◌then◌else◌};
 ghost use Rattle.std.specs.Result.{result_map_both};
 ghost use Rattle.sg_wire.specs.Cut.{Puts, answer_of};
-ghost use Rattle.sg_pages.specs.ModePage.{page_data};
+ghost use Rattle.sg_pages.specs.ModePage.{page_data, page_length};
 ghost use Rattle.sg_pages.specs.ModeSense.{descriptor_data, fields_of, has_page};
 ghost use Rattle.sg_pages.specs.ModeSense.{header_after_length, is_requested, length_bytes};
-ghost use Rattle.sg_pages.specs.ModeSense.{mode_parameter_list, mode_sense};
+ghost use Rattle.sg_pages.specs.ModeSense.{longest_list, mode_parameter_list, mode_sense};
 ghost use Rattle.sg_pages.specs.ModeSense.{requested_pages, selected_by};
 
 use super::block_descriptor::{
@@ -16,6 +16,9 @@ use super::{ModePage, ModePages, ModeSenseFault, ModeSenseRequest, PageValues};
 use byteorder::{BigEndian, ByteOrder};
 use sg_wire::laws::parts_are_put_in_turn;
 use sg_wire::{CdbWidth, Cut, PageCode, PageControl};
+
+/// The length of the longest mode parameter list that MODE SENSE returns, in bytes.
+pub const LONGEST_MODE_LIST: usize = 80;
 
 /// PAGE CODE of all pages.
 const ALL_PAGES: u8 = 0x3F;
@@ -35,6 +38,8 @@ impl ModePages {
             (mode_sense self.now (fields_of request.now)) }
         ensures list { IfOk (mode_sense self.now (fields_of request.now))
             (λ list. Puts cut.old cut.new list) }
+        ensures at_most { IfOk (mode_sense self.now (fields_of request.now))
+            (λ list. length list ≤ longest_list) }
         ensures nothing { IfErr (mode_sense self.now (fields_of request.now))
             (λ _. answer_of cut.new ≡ answer_of cut.old) }
     {
@@ -49,7 +54,9 @@ impl ModePages {
     }
 
     fn write_list(&self, request: &ModeSenseRequest, cut: &mut Cut)
-        ensures { Puts cut.old cut.new (mode_parameter_list self.now (fields_of request.now)) }
+        ensures list { Puts cut.old cut.new (mode_parameter_list self.now (fields_of request.now)) }
+        ensures at_most { length (mode_parameter_list self.now (fields_of request.now))
+            ≤ longest_list }
     {
         parts_are_put_in_turn();
         let values = self.selected_by(request.page.page_control);
@@ -69,7 +76,7 @@ impl ModePages {
         cut: &mut Cut,
     )
         requires descriptor { descriptor_length ≤ 16 }
-        requires following { following ≤ 96 }
+        requires following { following ≤ 72 }
         ensures { let r = fields_of request.now in
             let header = header_after_length self.now r descriptor_length in
             Puts cut.old cut.new (length_bytes r.width (length header + following) ++ header) }
@@ -153,7 +160,7 @@ fn write_descriptor(request: &ModeSenseRequest, cut: &mut Cut)
 #[tactic(auto, unfolding(crate::specs::ModeSense::requested_pages))]
 fn requested_length(values: &PageValues, page_code: PageCode) -> u16
     ensures length { result ≡ length (requested_pages values.now page_code) }
-    ensures bound { result ≤ 80 }
+    ensures bound { result ≤ 56 }
 {
     let [first, second, third, fourth] = ModePage::ALL;
     length_if_requested(first, values, page_code)
@@ -166,7 +173,7 @@ fn requested_length(values: &PageValues, page_code: PageCode) -> u16
 fn length_if_requested(page: ModePage, values: &PageValues, page_code: PageCode) -> u16
     ensures length { result
         ≡ length (if is_requested page_code page then page_data values.now page else []) }
-    ensures bound { result ≤ 20 }
+    ensures bound { result ≤ 2 + page_length page }
 {
     if is_requested(page_code, page) {
         2 + values.of(page).len() as u16

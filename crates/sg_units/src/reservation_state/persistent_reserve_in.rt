@@ -1,9 +1,10 @@
 // READ KEYS and READ RESERVATION (SPC-4, 6.15.2 and 6.15.3). READ FULL STATUS has a file of its
 // own.
-ghost use Rattle.std.specs.Prelude.{◌≡◌};
+ghost use Rattle.std.specs.Prelude.{◌≡◌, ◌≤◌, length};
 ghost use Rattle.std.specs.List.{flat_map};
 ghost use Rattle.byteorder.specs.Endian.{big_bytes};
 ghost use Rattle.sg_wire.specs.Cut.{Puts};
+ghost use Rattle.sg_units.specs.FullStatus.{longest_reserve_in};
 ghost use Rattle.sg_units.specs.ReserveIn.{descriptor, header, holder_key, key_bytes};
 ghost use Rattle.sg_units.specs.ReserveIn.{keys_data, reservation_data};
 
@@ -22,7 +23,8 @@ impl ReservationState {
     /// READ KEYS.
     #[tactic(auto, unfolding(crate::specs::ReserveIn::keys_data))]
     pub(crate) fn read_keys(&self, cut: &mut Cut)
-        ensures { Puts cut.old cut.new (keys_data self.now) }
+        ensures data { Puts cut.old cut.new (keys_data self.now) }
+        ensures at_most { length (keys_data self.now) ≤ longest_reserve_in }
     {
         parts_are_put_in_turn();
         let registrations = self.registrations.as_slice();
@@ -33,7 +35,8 @@ impl ReservationState {
     /// READ RESERVATION.
     #[tactic(auto, unfolding(crate::specs::ReserveIn::reservation_data))]
     pub(crate) fn read_reservation(&self, cut: &mut Cut)
-        ensures { Puts cut.old cut.new (reservation_data self.now) }
+        ensures data { Puts cut.old cut.new (reservation_data self.now) }
+        ensures at_most { length (reservation_data self.now) ≤ longest_reserve_in }
     {
         parts_are_put_in_turn();
         match &self.reservation {

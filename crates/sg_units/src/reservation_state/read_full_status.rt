@@ -1,12 +1,13 @@
 // READ FULL STATUS (SPC-4, 6.15.5). Initiators have the names of SAS ports.
-ghost use Rattle.std.specs.Prelude.{◌≡◌};
+ghost use Rattle.std.specs.Prelude.{◌≡◌, ◌≤◌, length};
 ghost use Rattle.std.specs.List.{flat_map};
 ghost use Rattle.sg_wire.specs.Cut.{Puts};
 ghost use Rattle.sg_units.specs.FullStatus.{full_status_data, full_status_descriptor};
-ghost use Rattle.sg_units.specs.FullStatus.{held_type, holder_flag, sas_address};
+ghost use Rattle.sg_units.specs.FullStatus.{held_type, holder_flag, longest_reserve_in, sas_address};
 
 use super::ReservationState;
 use super::persistent_reserve_in::header;
+use crate::registrations::MAX_REGISTRATIONS;
 use crate::{Registration, Reservation};
 use byteorder::{BigEndian, ByteOrder};
 use sg_wire::laws::parts_are_put_in_turn;
@@ -16,6 +17,10 @@ use sg_wire::{Cut, Initiator};
 const FULL_STATUS_LENGTH: usize = 48;
 
 const TRANSPORT_ID_LENGTH: u32 = 24;
+
+/// The length of the longest data of PERSISTENT RESERVE IN, in bytes: READ FULL STATUS with all
+/// registrations that there is room for.
+pub const LONGEST_RESERVE_IN_DATA: usize = 8 + FULL_STATUS_LENGTH * MAX_REGISTRATIONS;
 
 /// RELATIVE TARGET PORT IDENTIFIER of the one port of the disk.
 const RELATIVE_TARGET_PORT: u16 = 1;
@@ -28,7 +33,8 @@ const FIRST_SAS_ADDRESS: u64 = 0x3000_0000_0000_0100;
 
 impl ReservationState {
     pub(crate) fn read_full_status(&self, cut: &mut Cut)
-        ensures { Puts cut.old cut.new (full_status_data self.now) }
+        ensures data { Puts cut.old cut.new (full_status_data self.now) }
+        ensures at_most { length (full_status_data self.now) ≤ longest_reserve_in }
     {
         put_full_status(self, cut);
     }
@@ -36,7 +42,8 @@ impl ReservationState {
 
 #[tactic(auto, unfolding(crate::specs::FullStatus::full_status_data))]
 fn put_full_status(state: &ReservationState, cut: &mut Cut)
-    ensures { Puts cut.old cut.new (full_status_data state.now) }
+    ensures data { Puts cut.old cut.new (full_status_data state.now) }
+    ensures at_most { length (full_status_data state.now) ≤ longest_reserve_in }
 {
     parts_are_put_in_turn();
     let registrations = state.registrations.as_slice();

@@ -1,13 +1,24 @@
-use Rattle.std.proofs.Common.{◌∙◌, ◌+◌, length, ap}
+use Rattle.std.proofs.Common.{◌∙◌, ◌+◌, length, ap, arith}
 use Rattle.sg_wire.specs.Cut.{answer_of}
 use Rattle.sg_wire.specs.CutAnswer.{put}
 use Rattle.sg_pages.specs.declared.mode_pages.mode_page.PageValues.{PageValues}
 use Rattle.sg_pages.specs.ModeSense.{descriptor_data, requested_pages, fields_of}
-use Rattle.sg_pages.proofs.ModeSenseLemmas.{list-put}
+use Rattle.sg_pages.proofs.ModeSenseLemmas.{list-put, list-short}
 use Rattle.sg_pages.proofs.mode_pages.ModePages.write_list.Goals as goal
 
-pub returns : goal.returns
-returns c =
+pub returns-clause-at_most : goal.returns-clause-at_most
+returns-clause-at_most c =
+    let asked = fields_of c.args.request.now in
+    let values = c.selected_by-values.ensures in
+    let pages = c.requested_length.ensures.length
+    ∙ ap (λ (v : PageValues). length (requested_pages v asked.page.page_code)) values in
+    list-short c.args.self.now asked
+    (omega (arith, c.descriptor_length-descriptor.ensures.length,
+    c.descriptor_length-descriptor.ensures.bound))
+    (omega (arith, pages, c.requested_length.ensures.bound))
+
+pub returns-clause-list : goal.returns-clause-list
+returns-clause-list c =
     let asked = fields_of c.args.request.now in
     let descriptor = c.descriptor_length-descriptor in
     let values = c.selected_by-values.ensures in
