@@ -5,7 +5,7 @@
 #![tactic(auto)]
 
 ghost use Rattle.std.specs.Prelude.{◌≡◌, ◌≢◌, None, Some, IfOk, MatchOption, Ok, IfErr, length};
-ghost use Rattle.sg_pages.specs.Identity.{standard_identity};
+ghost use Rattle.sg_pages.specs.NewIdentity.{standard_identity};
 ghost use Rattle.sg_tools.specs.ExitStatus.{exit_status};
 ghost use Rattle.sg_wire.specs.SenseReading.{read_sense};
 ghost use Rattle.sg_embed.specs.Executed.{IsAnswered, IsForgotten, IsPowerCycled, disk_config};

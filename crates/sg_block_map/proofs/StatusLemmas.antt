@@ -1,12 +1,10 @@
 -- The descriptors of runs, and the visits that they take.
 use Rattle.std.proofs.Common.{◌≡◌, ◌≢◌, ℕ, ◌+◌, ◌-◌, ◌<◌, ◌≤◌, zero, suc, List, [], ◌∷◌, length}
-use Rattle.std.proofs.Common.{arith, refl, sym, ap, ◌∙◌, ◌⊎◌, inl}
-use Rattle.std.proofs.Common.{inr, Option, Some, None}
+use Rattle.std.proofs.Common.{arith, refl, sym, ap, ◌∙◌, ◌⊎◌, inl, inr, Option, Some, None}
 use Rattle.std.proofs.lemmas.Bool.{cases_lt, leb-true, leb-false}
 use Rattle.std.proofs.lemmas.List.Sums.{sum_by-cons}
 use Rattle.std.specs.FinMap.{get}
-use Rattle.std.specs.Prelude.{slice_index_or, min}
-use Rattle.std.specs.Prelude.{nat_le}
+use Rattle.std.specs.Prelude.{slice_index_or, min, nat_le}
 use Rattle.sg_store.specs.Disk.{IsWellFormed, max_capacity, max_pool}
 use Rattle.sg_store.specs.LbaStatus.{descriptor_at, status_at, status_in}
 use Rattle.sg_table.specs.Records.{start_of, IsSorted, IsLowerBound, IsNext, ahead, end_of_gap}
@@ -22,16 +20,14 @@ use Rattle.sg_table.specs.declared.run.Kind.TheVariants.{Data as DataRun, Anchor
 use Rattle.sg_table.specs.declared.run.Run.{Run}
 use Rattle.sg_block_map.specs.Gathering.{end_at}
 use Rattle.sg_block_map.specs.Runs.{end_of, expanded, any_from, behind, Bound, AreApart, AreChained}
-use Rattle.sg_block_map.specs.Runs.{AreMaximalIn}
-use Rattle.sg_block_map.specs.Runs.{AreRuns, chained_contents, blocks_of}
+use Rattle.sg_block_map.specs.Runs.{AreMaximalIn, AreRuns, chained_contents, blocks_of}
 use Rattle.sg_block_map.specs.Status.{IsRunTable, IsOver, run_over, AreMet, AreFrom}
 use Rattle.sg_store.proofs.DescriptorLemmas.{described}
 use Rattle.sg_store.proofs.WellFormedLemmas.{below-some}
 use Rattle.sg_table.proofs.RecordLemmas.{start_of-read, picked, dropped}
 use Rattle.sg_pool.proofs.MappedLemmas.{status-seen}
 use Rattle.sg_table.proofs.TableLemmas.{visited-more, visited-less}
-use Rattle.sg_block_map.proofs.OrderLemmas.{maximal-sorted, apart-maximal}
-use Rattle.sg_block_map.proofs.OrderLemmas.{behind-high}
+use Rattle.sg_block_map.proofs.OrderLemmas.{maximal-sorted, apart-maximal, behind-high}
 use Rattle.sg_block_map.proofs.RunSlotLemmas.{runs-fit, blocks-fit}
 use Rattle.sg_block_map.proofs.GatheringLemmas.{end_at-read}
 use Rattle.sg_block_map.proofs.AddressLemmas.{kind_at, kinds-differ, get-inside, get-outside}

@@ -2,15 +2,13 @@
 // This file knows no slot and no block: the status of addresses is in the table.
 ghost use Rattle.std.specs.Prelude.{◌≡◌, ◌+◌, ◌-◌, ◌<◌, ◌≤◌, ℕ, length};
 ghost use Rattle.sg_store.specs.LbaStatus.{covered, descriptor_at, descriptors_from};
-ghost use Rattle.sg_store.specs.LbaStatus.{PutsDescriptors};
-ghost use Rattle.sg_table.specs.Records.{ahead};
+ghost use Rattle.sg_store.specs.PutDescriptors.{PutsDescriptors};
+ghost use Rattle.sg_table.specs.Records.{ahead, passed};
 ghost use Rattle.sg_pool.specs.Slots.{Slots};
 ghost use Rattle.sg_table.specs.Table.{visited};
-ghost use Rattle.sg_table.specs.Records.{passed};
 ghost use Rattle.sg_block_map.specs.Metering.{VisitsBetween, SearchesAndVisits};
 ghost use Rattle.sg_block_map.specs.Runs.{chained_contents};
-ghost use Rattle.sg_block_map.specs.Status.{IsOver, IsRunTable, MeetsRange};
-ghost use Rattle.sg_block_map.specs.Status.{records_met, run_over};
+ghost use Rattle.sg_block_map.specs.Status.{IsOver, IsRunTable, MeetsRange, records_met, run_over};
 
 use sg_pool::status_of;
 use sg_store::lba_status::{MAX_ADDRESSES, MAX_DESCRIPTORS, ProvisioningStatus, StatusDescriptor};

@@ -9,7 +9,7 @@ use Rattle.sg_target.specs.Config.{ConfigFields}
 use Rattle.sg_target.specs.Execution.{IsExecuted}
 use Rattle.sg_target.specs.Happenings.{Happens}
 use Rattle.sg_target.specs.Ports.{Forgets}
-use Rattle.sg_target.specs.State.{new_state}
+use Rattle.sg_target.specs.NewState.{new_state}
 use Rattle.sg_target.specs.Target.{TargetFields}
 use Rattle.sg_target.specs.declared.happening.Happening.TheVariants.{Power}
 use Rattle.sg_target.specs.declared.reply.Reply.{Reply}

@@ -1,6 +1,6 @@
 -- The command that is planned for the words of a tool.
 use Rattle.std.specs.Prelude.{◌≡◌, ℕ, List, Some, Ok, length, replicate}
-use Rattle.sg_wire.specs.CutAnswer.{overwritten}
+use Rattle.sg_wire.specs.FirstBytes.{overwritten}
 use Rattle.sg_wire.specs.CdbEncoding.{cdb_of}
 use Rattle.sg_tools.specs.ParameterLists.{parameter_list}
 use Rattle.sg_tools.specs.declared.tool.Plan.{Plan}

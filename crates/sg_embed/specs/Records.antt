@@ -1,8 +1,9 @@
 -- The contents of the header's records.
 use Rattle.std.specs.Prelude.{◌≡◌, ℕ, Bool, true, false, Option, Some, None, Result, length, replicate}
-use Rattle.sg_pages.specs.Identity.{IdentityFields, checked_identity, identity_fields}
+use Rattle.sg_pages.specs.Identity.{IdentityFields}
+use Rattle.sg_pages.specs.NewIdentity.{checked_identity, identity_fields}
 use Rattle.sg_pages.specs.declared.identity.IdentityFault.{IdentityFault}
-use Rattle.sg_wire.specs.CutAnswer.{overwritten}
+use Rattle.sg_wire.specs.FirstBytes.{overwritten}
 use Rattle.sg_wire.specs.SenseData.{SenseFields}
 use Rattle.sg_wire.specs.declared.sense.Pointer.{Pointer}
 use Rattle.sg_target.specs.Status.{status_code}

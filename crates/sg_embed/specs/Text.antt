@@ -1,6 +1,6 @@
 -- Texts as C takes them: cut to a buffer, with a zero after the text.
 use Rattle.std.specs.Prelude.{◌≡◌, ◌⊎◌, ℕ, List, [], ◌∷◌, ◌++◌, MatchOption, codes, length, take}
-use Rattle.sg_wire.specs.CutAnswer.{overwritten}
+use Rattle.sg_wire.specs.FirstBytes.{overwritten}
 use Rattle.sg_run.specs.AnswerText.{answer_text}
 use Rattle.sg_embed.specs.Kinds.{kind_numbered}
 

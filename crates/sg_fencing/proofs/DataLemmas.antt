@@ -8,15 +8,14 @@ use Rattle.std.specs.FinMap.{contains_key, get, len, same_map, nat_cmp-IsAntisym
 use Rattle.std.specs.List.{prefix_len, range_with_len}
 use Rattle.std.specs.Option.{option_map_or}
 use Rattle.std.specs.Prelude.{◌-◌, ◌==◌, min, nat_lt}
-use Rattle.sg_wire.specs.CutAnswer.{first_bytes}
+use Rattle.sg_wire.specs.FirstBytes.{first_bytes}
 use Rattle.sg_wire.specs.declared.extent.Extent.{Extent}
 use Rattle.sg_store.specs.Disk.{Contents, IsWellFormed, Mapping, anchored, block_at, lies_in, need}
 use Rattle.sg_store.specs.Disk.{remapped}
 use Rattle.sg_store.specs.Disk.Mapping.{Data, Anchored}
 use Rattle.sg_store.specs.Laws.{RemappingTakesWhatIsNeeded}
-use Rattle.sg_wire.specs.LbaStatus.{code_of}
+use Rattle.sg_wire.specs.LbaStatus.{code_of, status_data}
 use Rattle.sg_store.specs.LbaStatus.{count_alike, descriptors_from, max_addresses}
-use Rattle.sg_wire.specs.LbaStatus.{status_data}
 use Rattle.sg_store.specs.LbaStatus.{max_descriptors, status_in}
 use Rattle.sg_wire.specs.declared.lba_status.ProvisioningStatus.{ProvisioningStatus}
 use Rattle.sg_wire.specs.declared.lba_status.ProvisioningStatus.TheVariants.{Deallocated}

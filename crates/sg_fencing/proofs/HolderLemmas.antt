@@ -8,11 +8,10 @@ use Rattle.std.proofs.lemmas.Bool.{and_right, cases_lt, eq-eqb, eqb-true, falseâ
 use Rattle.std.proofs.lemmas.List.{get_or-set_other, get_or_past}
 use Rattle.std.proofs.lemmas.List.FromFn.{get_or-map-range_with_len, length-map-range_with_len}
 use Rattle.sg_units.specs.Attentions.{Pending, pending_for, with_optional, without_oldest}
-use Rattle.sg_units.specs.Laws.{IsRefused, OthersAreRefused}
+use Rattle.sg_units.specs.Laws.{IsRefused, OthersAreRefused, is_exclusive_access}
 use Rattle.sg_units.specs.Raised.{Conditions, queue_after, raised_for_each}
 use Rattle.sg_units.specs.Registrations.{is_registered, key_of}
-use Rattle.sg_units.specs.ReservationType.{is_all_registrants, is_exclusive_access, is_same_type}
-use Rattle.sg_units.specs.ReservationType.{is_shared}
+use Rattle.sg_units.specs.ReservationType.{is_all_registrants, is_same_type, is_shared}
 use Rattle.sg_units.specs.Reservations.{has_type, holds, is_held_by, is_holder}
 use Rattle.sg_units.specs.Reservations.{names_holder, names_holder_if_any}
 use Rattle.sg_units.specs.declared.registrations.Registration.{Registration}

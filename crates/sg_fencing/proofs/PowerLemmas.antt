@@ -8,9 +8,8 @@ use Rattle.sg_wire.specs.declared.command.Class.TheVariants.{Writes}
 use Rattle.sg_wire.specs.Initiator.{initiator_count}
 use Rattle.sg_units.specs.Attentions.{pending_for}
 use Rattle.sg_units.specs.Laws.{OthersAreRefused}
-use Rattle.sg_units.specs.PowerOn.{after_power_on}
+use Rattle.sg_units.specs.PowerOn.{after_power_on, empty_state}
 use Rattle.sg_units.specs.Registrations.{is_registered}
-use Rattle.sg_units.specs.Reservations.{empty_state}
 use Rattle.sg_units.specs.declared.registrations.Registration.{Registration}
 use Rattle.sg_units.specs.declared.reservation.Reservation.{Reservation}
 use Rattle.sg_units.specs.declared.reservation_state.ReservationState.{ReservationState}

@@ -8,19 +8,19 @@ use Rattle.std.proofs.lemmas.List.{take-map}
 use Rattle.sg_wire.specs.Laws.{CommandsHaveTheirClass}
 use Rattle.sg_wire.specs.CdbDecoding.{command_of}
 use Rattle.std.specs.Prelude.{if◌then◌else◌, ◌||◌, slice_get}
-use Rattle.sg_pages.specs.ModePage.{after_power_on as pages_after_power_on}
-use Rattle.sg_units.specs.Attentions.{power_on_pending, pending_for}
+use Rattle.sg_pages.specs.ModePowerOn.{after_power_on as pages_after_power_on}
+use Rattle.sg_units.specs.Attentions.{pending_for}
+use Rattle.sg_units.specs.PowerOn.{power_on_pending, empty_state}
 use Rattle.sg_units.specs.Laws.{OneKeyEach, OthersAreRefused}
 use Rattle.sg_units.specs.Registrations.{key_of}
-use Rattle.sg_units.specs.Reservations.{empty_state, has_type, is_holder}
+use Rattle.sg_units.specs.Reservations.{has_type, is_holder}
 use Rattle.sg_units.specs.declared.reservation_state.ReservationState.{ReservationState}
 use Rattle.sg_units.specs.declared.types.ReservationType.TheVariants.{ExclusiveAccess}
 use Rattle.sg_units.specs.declared.types.ReservationType.TheVariants.{WriteExclusive}
 use Rattle.sg_fencing.specs.Fencing.{IsAsIfAlone, View, calls_of, holds_alone}
 use Rattle.sg_fencing.specs.Fencing.{is_compared, is_from, shows_others, view_of}
 use Rattle.sg_fencing.specs.ChosenAnswers.{answers_among, calls_among}
-use Rattle.sg_fencing.specs.PowerCycles.{events_of, persists}
-use Rattle.sg_fencing.specs.PowerCycles.{PersistAtPowerCycles}
+use Rattle.sg_fencing.specs.PowerCycles.{events_of, persists, PersistAtPowerCycles}
 use Rattle.sg_target.specs.PowerCycle.{after_power_cycle}
 use Rattle.sg_target.specs.declared.happening.Happening.TheVariants.{Power}
 use Rattle.sg_target.specs.Runs.{all_calls, answers_to_events, state_after_all}

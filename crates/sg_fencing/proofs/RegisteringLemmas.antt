@@ -3,7 +3,7 @@ use Rattle.std.proofs.Common.{◌≡◌, ◌==◌, ℕ, zero, suc, Bool, true, f
 use Rattle.std.proofs.Common.{Option, Some, None, Result, Ok, Err, refl, sym, ap, ◌∙◌, subst}
 use Rattle.std.specs.Option.{option_map_or}
 use Rattle.std.proofs.lemmas.Bool.{eqb-false, eqb-true, false≢true}
-use Rattle.sg_wire.specs.CutAnswer.{first_bytes}
+use Rattle.sg_wire.specs.FirstBytes.{first_bytes}
 use Rattle.sg_wire.specs.CdbDecoding.{command_of}
 use Rattle.sg_wire.specs.OutList.{out_list}
 use Rattle.sg_wire.specs.declared.command.CdbFault.{CdbFault}

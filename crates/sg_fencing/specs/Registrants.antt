@@ -6,7 +6,7 @@ use Rattle.std.specs.Prelude.{Option, Some, None, Result, Ok, if◌then◌else�
 use Rattle.std.specs.Prelude.{is_some, slice_get, take}
 use Rattle.std.specs.List.{list_any}
 use Rattle.std.specs.Option.{option_map, option_map_or}
-use Rattle.sg_wire.specs.CutAnswer.{first_bytes}
+use Rattle.sg_wire.specs.FirstBytes.{first_bytes}
 use Rattle.sg_wire.specs.CdbDecoding.{class_of, command_of}
 use Rattle.sg_wire.specs.declared.command.CdbFault.{CdbFault}
 use Rattle.sg_wire.specs.declared.command.Class.{Class}
@@ -21,7 +21,7 @@ use Rattle.sg_store.specs.Disk.{Contents}
 use Rattle.sg_wire.specs.OutList.{out_list}
 use Rattle.sg_wire.specs.declared.out_list.OutList.{OutList}
 use Rattle.sg_units.specs.Registrations.{is_registered, key_of}
-use Rattle.sg_units.specs.ReservationType.{is_exclusive_access}
+use Rattle.sg_units.specs.Laws.{is_exclusive_access}
 use Rattle.sg_units.specs.declared.reservation.Reservation.{Reservation}
 use Rattle.sg_target.specs.Effect.{with_contents}
 use Rattle.sg_target.specs.Runs.{all_calls, answers, state_after_all, state_after_events, step_of}

@@ -8,8 +8,8 @@ use Rattle.sg_wire.specs.Laws.{PartsArePutInTurn}
 use Rattle.sg_pages.specs.ModePage.{ModeState}
 use Rattle.sg_pages.specs.ModeSense.{RequestFields, selected_by, descriptor_data, requested_pages}
 use Rattle.sg_pages.specs.ModeSense.{length_bytes, header_after_length, list_after_length}
-use Rattle.sg_pages.specs.ModeSense.{device_specific, is_long, longest_list, longlba_bytes}
-use Rattle.sg_pages.specs.ModeSense.{mode_parameter_list}
+use Rattle.sg_pages.specs.ModeSense.{device_specific, is_long, longlba_bytes, mode_parameter_list}
+use Rattle.sg_pages.specs.DataLengths.{longest_list}
 use Rattle.sg_pages.proofs.PageLemmas.{put-two}
 
 -- header, block descriptor and pages, if the header has their lengths

@@ -17,8 +17,9 @@ use Rattle.sg_pages.specs.declared.mode_pages.mode_page.ModePage.TheVariants.{Re
 use Rattle.sg_pages.specs.declared.mode_pages.mode_page.ModePage.TheVariants.{Caching, Control}
 use Rattle.sg_pages.specs.declared.mode_pages.mode_page.ModePage.TheVariants.{InformationalExceptionsControl}
 use Rattle.sg_pages.specs.ModePage.{row_of, code_of, page_with_code, each_page, values_of, by_page}
-use Rattle.sg_pages.specs.ModePage.{page_data, page_bytes, changeable_bits, with_values}
-use Rattle.sg_pages.specs.ModeSelect.{part_at, page_at, sent_code, faults_against, with_sent}
+use Rattle.sg_pages.specs.ModePage.{page_data, page_bytes, changeable_bits}
+use Rattle.sg_pages.specs.SentValues.{with_values, with_sent}
+use Rattle.sg_pages.specs.ModeSelect.{part_at, page_at, sent_code, faults_against}
 use Rattle.sg_pages.specs.ModeSelect.{differences, part_faults, page_faults, least, fault_at}
 use Rattle.sg_pages.specs.ModeSelect.{first_fault, unless_fault}
 use Rattle.sg_pages.proofs.FaultLemmas.{From, From-append, differences-append}

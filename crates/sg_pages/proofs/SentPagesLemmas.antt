@@ -14,7 +14,8 @@ use Rattle.sg_pages.specs.declared.mode_pages.mode_page.ModePage.{ModePage}
 use Rattle.sg_pages.specs.ModePage.{row_of, page_with_code, page_data}
 use Rattle.sg_pages.specs.ModeSelect.{Part, page_at, pages_up_to, pages_from, sent_code}
 use Rattle.sg_pages.specs.ModeSelect.{faults_against, page_faults, first_fault, unless_fault}
-use Rattle.sg_pages.specs.ModeSelect.{last_sent, values_after, with_sent}
+use Rattle.sg_pages.specs.ModeSelect.{last_sent, values_after}
+use Rattle.sg_pages.specs.SentValues.{with_sent}
 use Rattle.sg_pages.proofs.FaultLemmas.{From, Below, From-append, From-weaker, part_faults-from}
 use Rattle.sg_pages.proofs.FaultLemmas.{part_faults-below, first_fault-append}
 

@@ -1,11 +1,16 @@
--- Public contracts cite all of these.
+-- Modules that public contracts cite.
 pub mod BlockDescriptor
 pub mod CapacityData
+pub mod DataLengths
 pub mod Identity
+pub mod NewIdentity
 pub mod InquiryData
 pub mod ModeLaws
 pub mod ModePage
+pub mod ModePowerOn
 pub mod ModeSelect
 pub mod ModeSense
 pub mod ProvisioningPages
 pub mod VitalProductData
+-- A module that only private contracts cite.
+pub mod SentValues

@@ -1,13 +1,12 @@
 -- The mode pages of the disk (SPC-4, 7.5; SBC-3, 6.4).
-use Rattle.std.specs.Prelude.{ℕ, ◌+◌, ◌==◌, Option, Bool, if◌then◌else◌}
+use Rattle.std.specs.Prelude.{ℕ, ◌+◌, ◌==◌, Option, Bool}
 use Rattle.std.specs.Prelude.{List, [], ◌∷◌, length, slice_index, map, find}
 use Rattle.std.specs.List.{range_with_len}
 use Rattle.std.specs.Option.{option_map_or}
 use Rattle.sg_wire.specs.Bits.{has_bit}
 use Rattle.sg_pages.specs.declared.mode_pages.mode_page.ModePage.{ModePage}
 use Rattle.sg_pages.specs.declared.mode_pages.mode_page.ModePage.TheVariants.{ReadWriteErrorRecovery}
-use Rattle.sg_pages.specs.declared.mode_pages.mode_page.ModePage.TheVariants.{Caching}
-use Rattle.sg_pages.specs.declared.mode_pages.mode_page.ModePage.TheVariants.{Control}
+use Rattle.sg_pages.specs.declared.mode_pages.mode_page.ModePage.TheVariants.{Caching, Control}
 use Rattle.sg_pages.specs.declared.mode_pages.mode_page.ModePage.TheVariants.{InformationalExceptionsControl}
 use Rattle.sg_pages.specs.declared.mode_pages.mode_page.PageValues.{PageValues}
 
@@ -127,14 +126,6 @@ pub record ModeState : Type 0 where
   pub current : PageValues
   pub saved : PageValues
 
--- The pages of a new disk.
-abbrev pub initial_state : ModeState
-initial_state = record { current = default_values; saved = default_values }
-
--- A power cycle: the saved values become the current ones (SPC-4, 7.5).
-abbrev pub after_power_on : ModeState → ModeState
-after_power_on state = record { current = state.saved; saved = state.saved }
-
 -- A byte, by its number in the page.
 abbrev pub byte_2 : List ℕ → ℕ
 byte_2 values = slice_index values 0
@@ -151,8 +142,3 @@ abbrev pub write_protected : ModeState → Bool
 write_protected state = has_bit (byte_4 (values_of state.current Control)) swp
 
 -- ---- Cited only by private contracts
-
--- The values with other bytes for a page.
-abbrev pub with_values : PageValues → ModePage → List ℕ → PageValues
-with_values values changed bytes =
-    by_page (λ page. if code_of changed == code_of page then bytes else values_of values page)

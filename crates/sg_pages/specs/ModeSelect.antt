@@ -1,8 +1,7 @@
 -- The effect of MODE SELECT with a mode parameter list (SPC-4, 7.5).
 use Rattle.std.specs.Prelude.{ℕ, zero, suc, ◌+◌, ◌<◌, ⊤, min, nat_lt, bit_or}
 use Rattle.std.specs.Prelude.{List, [], ◌∷◌, ◌++◌, length, take, drop, slice_index}
-use Rattle.std.specs.Prelude.{map, find, reverse, Bool, false, not, ◌&&◌, ◌||◌, ◌==◌}
-use Rattle.std.specs.Prelude.{if◌then◌else◌}
+use Rattle.std.specs.Prelude.{map, find, reverse, Bool, false, not, ◌&&◌, ◌||◌, ◌==◌, if◌then◌else◌}
 use Rattle.std.specs.Prelude.{Option, Some, None, unwrap_or, Result, Ok, Err}
 use Rattle.std.specs.List.{flat_map, list_all}
 use Rattle.std.specs.Option.{option_map, option_map_or}
@@ -235,10 +234,3 @@ abbrev pub changed_by : (before after : ModeState) → Changed
 changed_by before after = record { 0 = differ after.current before.current }
 
 -- ---- Cited only by private contracts
-
--- The values after one more page that is sent.
-abbrev pub with_sent : PageValues → Part → PageValues
-with_sent values sent =
-    let value = λ (page : ModePage). if sent_code sent == code_of page then drop 2 sent.bytes
-    else values_of values page in
-    by_page value

@@ -1,5 +1,5 @@
 -- The mode parameter list that MODE SENSE returns (SPC-4, 7.5).
-use Rattle.std.specs.Prelude.{ℕ, ◌+◌, List, [], ◌∷◌, ◌++◌, length, sum_by, Result, Ok, Err}
+use Rattle.std.specs.Prelude.{ℕ, ◌+◌, List, [], ◌∷◌, ◌++◌, length, Result, Ok, Err}
 use Rattle.std.specs.Prelude.{Bool, not, ◌&&◌, ◌||◌, ◌==◌, if◌then◌else◌}
 use Rattle.std.specs.List.{flat_map, list_any}
 use Rattle.byteorder.specs.Endian.{big_bytes}
@@ -15,7 +15,7 @@ use Rattle.sg_pages.specs.declared.mode_pages.mode_page.PageValues.{PageValues}
 use Rattle.sg_pages.specs.declared.mode_pages.request.ModeSenseRequest.{ModeSenseRequest}
 use Rattle.sg_pages.specs.declared.mode_pages.request.ModeSenseFault.{ModeSenseFault}
 use Rattle.sg_pages.specs.declared.mode_pages.request.ModeSenseFault.TheVariants.{Page, Subpage}
-use Rattle.sg_pages.specs.ModePage.{ModeState, each_page, code_of, page_data, page_length}
+use Rattle.sg_pages.specs.ModePage.{ModeState, each_page, code_of, page_data}
 use Rattle.sg_pages.specs.ModePage.{default_values, changeable_bits, write_protected}
 use Rattle.sg_pages.specs.BlockDescriptor.{block_descriptor}
 
@@ -96,11 +96,6 @@ header_after_length state r descriptor_length =
     ++ (longlba_bytes r.width (is_long r) ++ length_bytes r.width descriptor_length)
 
 -- ---- The whole list
-
--- The length of the longest list, in bytes: the header of MODE SENSE(10), the long block descriptor,
--- and all pages.
-abbrev pub longest_list : ℕ
-longest_list = 8 + 16 + sum_by (λ page. 2 + page_length page) each_page
 
 -- All that follows MODE DATA LENGTH.
 unfoldable pub list_after_length : ModeState → RequestFields → List ℕ

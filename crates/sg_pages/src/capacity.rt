@@ -1,8 +1,8 @@
 // The data that READ CAPACITY returns (SBC-3, 5.15 and 5.16).
 ghost use Rattle.std.specs.Prelude.{◌≡◌, length};
 ghost use Rattle.sg_wire.specs.Cut.{Puts};
-ghost use Rattle.sg_pages.specs.CapacityData.{capacity_10, capacity_10_length};
-ghost use Rattle.sg_pages.specs.CapacityData.{capacity_16, capacity_16_length};
+ghost use Rattle.sg_pages.specs.CapacityData.{capacity_10, capacity_16};
+ghost use Rattle.sg_pages.specs.DataLengths.{capacity_10_length, capacity_16_length};
 
 use super::mode_pages::LOGICAL_BLOCK_LENGTH;
 use byteorder::{BigEndian, ByteOrder};

@@ -33,8 +33,8 @@ impl Model for ModePages {
 }
 
 ghost use Rattle.std.specs.Prelude.{◌≡◌};
-ghost use Rattle.sg_pages.specs.ModePage.{after_power_on, descriptor_sense, initial_state};
-ghost use Rattle.sg_pages.specs.ModePage.{write_protected};
+ghost use Rattle.sg_pages.specs.ModePage.{descriptor_sense, write_protected};
+ghost use Rattle.sg_pages.specs.ModePowerOn.{after_power_on, initial_state};
 
 impl ModePages {
     /// The pages of a new disk: the current and the saved values are the default ones.

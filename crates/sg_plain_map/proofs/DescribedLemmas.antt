@@ -8,8 +8,7 @@ use Rattle.std.specs.FinMap.{get}
 use Rattle.sg_store.specs.Disk.{IsWellFormed, max_capacity, max_pool}
 use Rattle.sg_store.specs.LbaStatus.{descriptor_at, status_at}
 use Rattle.sg_table.specs.Records.{start_of, IsSorted, IsLowerBound, IsNext, ahead}
-use Rattle.sg_pool.specs.MappedRecords.{contents_of, status_of_kind}
-use Rattle.sg_pool.specs.MappedRecords.{IsConsistent}
+use Rattle.sg_pool.specs.MappedRecords.{contents_of, status_of_kind, IsConsistent}
 use Rattle.sg_table.specs.Table.{Table, visited}
 use Rattle.sg_plain_map.specs.Editing.{IsAt, VisitsRange}
 use Rattle.sg_table.specs.Records.{run_at, end_of_gap}

@@ -2,13 +2,11 @@
 // the gaps between them. This file knows no slot and no block.
 ghost use Rattle.std.specs.Prelude.{◌≡◌, ℕ, ◌+◌, ◌-◌, ◌<◌, ◌≤◌, List, None};
 ghost use Rattle.sg_store.specs.LbaStatus.{covered, descriptor_at, descriptors_from};
-ghost use Rattle.sg_store.specs.LbaStatus.{PutsDescriptors};
-ghost use Rattle.sg_table.specs.Records.{IsLowerBound};
+ghost use Rattle.sg_store.specs.PutDescriptors.{PutsDescriptors};
+ghost use Rattle.sg_table.specs.Records.{IsLowerBound, passed, run_at};
 ghost use Rattle.sg_pool.specs.MappedRecords.{contents_of};
 ghost use Rattle.sg_table.specs.Table.{visited};
 ghost use Rattle.sg_plain_map.specs.Editing.{IsAt, VisitsRange};
-ghost use Rattle.sg_table.specs.Records.{passed};
-ghost use Rattle.sg_table.specs.Records.{run_at};
 ghost use Rattle.sg_plain_map.specs.Status.{AreInRow, IsTableOf, of_kind};
 
 use crate::kind::run_of_kind;

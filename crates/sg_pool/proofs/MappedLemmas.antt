@@ -1,7 +1,6 @@
 -- The slot and the kind at an address, by the records.
 use Rattle.std.proofs.Common.{◌≡◌, ◌≢◌, ℕ, ◌+◌, ◌<◌, zero, suc, List, [], ◌∷◌, length, get_or}
-use Rattle.std.proofs.Common.{arith, refl, sym, ap, ◌∙◌, Some, None, cond, Bool, true}
-use Rattle.std.proofs.Common.{false}
+use Rattle.std.proofs.Common.{arith, refl, sym, ap, ◌∙◌, Some, None, cond, Bool, true, false}
 use Rattle.std.proofs.lemmas.Bool.{eqb-true}
 use Rattle.std.specs.Prelude.{is_some, not, Option}
 use Rattle.std.specs.Ordering.{nat_cmp, eq_by_cmp}
@@ -9,19 +8,17 @@ use Rattle.std.specs.Cmp.{nat_cmp_total, unsigned_tied}
 use Rattle.std.specs.FinMap.{same_map, nat_cmp-IsAntisymmetric}
 use Rattle.std.specs.FinMap.{find, get, get-from_entries, contains_key, len, len-insert, len-empty}
 use Rattle.sg_store.specs.Disk.{Mapping, zero_block, block, data_in, lies_in}
-use Rattle.sg_store.specs.Disk.{outside_range, unmapped}
+use Rattle.sg_store.specs.Disk.{outside_range, unmapped, used_at}
 use Rattle.sg_store.specs.LbaStatus.{status_at, status_in}
 use Rattle.sg_wire.specs.declared.lba_status.ProvisioningStatus.TheVariants.{Deallocated}
 use Rattle.sg_table.specs.Records.{start_of, IsSorted}
 use Rattle.sg_pool.specs.MappedRecords.{Seen, entries_by, contents_by, contents_of, mapping_in}
 use Rattle.sg_pool.specs.MappedRecords.{outside_records, status_of_kind}
-use Rattle.sg_store.specs.Disk.{used_at}
 use Rattle.sg_table.specs.declared.run.Kind.{Kind}
 use Rattle.sg_table.specs.declared.run.Kind.TheVariants.{Data, Anchored}
 use Rattle.sg_table.specs.declared.run.Run.{Run}
-use Rattle.sg_store.proofs.DiskLemmas.{eq_other}
+use Rattle.sg_store.proofs.DiskLemmas.{eq_other, eq_same}
 use Rattle.sg_table.proofs.RecordLemmas.{start_of-read, sorted_tail}
-use Rattle.sg_store.proofs.DiskLemmas.{eq_same}
 use Rattle.sg_store.proofs.UnmapLemmas.{get-outside}
 
 -- no record has the address

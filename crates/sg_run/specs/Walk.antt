@@ -5,14 +5,13 @@ use Rattle.std.specs.Prelude.{List, [], ◌∷◌, ◌++◌, All, length, map, t
 use Rattle.std.specs.Prelude.{Ok}
 use Rattle.std.specs.List.{flat_map, last_or}
 use Rattle.std.specs.Option.{option_map_or}
-use Rattle.sg_wire.specs.CutAnswer.{first_bytes}
+use Rattle.sg_wire.specs.FirstBytes.{first_bytes}
 use Rattle.sg_wire.specs.CdbDecoding.{command_of}
 use Rattle.sg_wire.specs.declared.command.Command.TheVariants as command
 use Rattle.sg_wire.specs.declared.command.provisioning.GetLbaStatus.{GetLbaStatus}
 use Rattle.sg_store.specs.Disk.{Disk, lies_in}
-use Rattle.sg_wire.specs.LbaStatus.{code_of}
+use Rattle.sg_wire.specs.LbaStatus.{code_of, status_data}
 use Rattle.sg_store.specs.LbaStatus.{descriptors_from, lba_status, max_descriptors}
-use Rattle.sg_wire.specs.LbaStatus.{status_data}
 use Rattle.sg_wire.specs.declared.lba_status.StatusDescriptor.{StatusDescriptor}
 use Rattle.sg_target.specs.State.{State}
 use Rattle.sg_target.specs.Step.{Step, step}

@@ -9,9 +9,8 @@ use Rattle.sg_wire.specs.CutAnswer.{CutAnswer, put, replace}
 use Rattle.sg_wire.specs.declared.cut.Cut.{Cut}
 use Rattle.sg_wire.specs.Laws.{PartsArePutInTurn, PartsAreReplaced}
 use Rattle.sg_store.specs.Disk.{Contents}
-use Rattle.sg_wire.specs.LbaStatus.{descriptor_bytes}
+use Rattle.sg_wire.specs.LbaStatus.{descriptor_bytes, status_header, status_data}
 use Rattle.sg_store.specs.LbaStatus.{covered, descriptor_at, descriptors_from}
-use Rattle.sg_wire.specs.LbaStatus.{status_header, status_data}
 use Rattle.sg_wire.specs.declared.lba_status.StatusDescriptor.{StatusDescriptor}
 use Rattle.sg_store.proofs.DescriptorLemmas.{descriptors-more, descriptors-end, descriptors-none}
 use Rattle.sg_store.proofs.DescriptorLemmas.{covered-more}

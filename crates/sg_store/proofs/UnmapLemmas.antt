@@ -1,6 +1,5 @@
 -- A range that is unmapped.
-use Rattle.std.proofs.Common.{◌≡◌, ℕ}
-use Rattle.std.proofs.Common.{refl, sym, ap, ◌∙◌, cond, Bool}
+use Rattle.std.proofs.Common.{◌≡◌, ℕ, refl, sym, ap, ◌∙◌, cond, Bool}
 use Rattle.std.proofs.Common.{true, false, Option, Some, None}
 use Rattle.std.specs.Prelude.{not}
 use Rattle.std.specs.FinMap as map

@@ -1,12 +1,9 @@
 -- The provisioning status of a disk's addresses, as GET LBA STATUS returns it (SBC-3, 5.4).
-use Rattle.std.specs.Prelude.{◌≡◌, ℕ, ◌+◌, ◌-◌, zero, suc, if◌then◌else◌, ◌==◌}
-use Rattle.std.specs.Prelude.{nat_lt, min, Option, Some, None}
-use Rattle.std.specs.Prelude.{List, [], ◌∷◌, length, sum_by}
-use Rattle.std.specs.List.{flat_map, range_with_len, prefix_len}
+use Rattle.std.specs.Prelude.{ℕ, ◌+◌, ◌-◌, zero, suc, if◌then◌else◌, ◌==◌}
+use Rattle.std.specs.Prelude.{nat_lt, min, Option, Some, None, List, [], ◌∷◌, sum_by}
+use Rattle.std.specs.List.{range_with_len, prefix_len}
 use Rattle.std.specs.FinMap.{get}
-use Rattle.sg_wire.specs.Cut.{Puts}
-use Rattle.sg_wire.specs.LbaStatus.{code_of, descriptor_bytes}
-use Rattle.sg_wire.specs.declared.cut.Cut.{Cut}
+use Rattle.sg_wire.specs.LbaStatus.{code_of}
 use Rattle.sg_wire.specs.declared.lba_status.ProvisioningStatus.{ProvisioningStatus}
 use Rattle.sg_wire.specs.declared.lba_status.ProvisioningStatus.TheVariants.{Mapped, Deallocated}
 use Rattle.sg_wire.specs.declared.lba_status.ProvisioningStatus.TheVariants.{Anchored as AnchoredStatus}
@@ -68,10 +65,3 @@ abbrev pub covered : List StatusDescriptor → ℕ
 covered descriptors = sum_by (λ (descriptor : StatusDescriptor). descriptor.count) descriptors
 
 -- ---- Cited only by private contracts
-
--- The descriptors from an address on are put, `count` of them.
-pub record PutsDescriptors (contents : Contents) (capacity lba : ℕ) (old new : Cut) (count : ℕ) :
-    Type 0 where
-  pub bytes : Puts old new
-      (flat_map descriptor_bytes (descriptors_from contents capacity lba max_descriptors))
-  pub count_is : count ≡ length (descriptors_from contents capacity lba max_descriptors)

@@ -8,3 +8,5 @@ pub mod Laws
 -- nothing of the disk.
 pub mod DiskProps
 pub mod ContentsCode
+-- A module that only private contracts of stores cite.
+pub mod PutDescriptors

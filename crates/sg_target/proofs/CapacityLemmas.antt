@@ -2,7 +2,7 @@
 use Rattle.std.proofs.Common.{◌≡◌, ℕ, min, length, take, refl, ap, ◌∙◌, arith}
 use Rattle.std.proofs.lemmas.List.{take_min}
 use Rattle.sg_pages.specs.CapacityData.{capacity_10, capacity_16}
-use Rattle.sg_wire.specs.CutAnswer.{first_bytes}
+use Rattle.sg_wire.specs.FirstBytes.{first_bytes}
 
 -- it is whole
 pub whole-capacity_10 : (capacity : ℕ) → first_bytes 8 (capacity_10 capacity) ≡ capacity_10 capacity

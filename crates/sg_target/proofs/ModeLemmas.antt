@@ -8,7 +8,7 @@ use Rattle.sg_pages.specs.ModePage.{ModeState}
 use Rattle.sg_pages.specs.ModeSense.{RequestFields, mode_sense}
 use Rattle.sg_pages.specs.declared.mode_pages.request.ModeSenseFault.{ModeSenseFault}
 use Rattle.sg_pages.specs.declared.mode_pages.request.ModeSenseFault.TheVariants.{Page, Subpage}
-use Rattle.sg_wire.specs.CutAnswer.{first_bytes, overwritten}
+use Rattle.sg_wire.specs.FirstBytes.{first_bytes, overwritten}
 use Rattle.sg_target.specs.Effect.{returning_up_to}
 use Rattle.sg_target.specs.ModeCommands.{mode_parameters, sense_refusal}
 use Rattle.sg_target.specs.Reply.{Carries}

@@ -12,7 +12,7 @@ use Rattle.sg_wire.specs.LbaStatus.{status_data}
 use Rattle.sg_store.specs.LbaStatus.{descriptors_from, lba_status}
 use Rattle.sg_wire.specs.declared.lba_status.StatusDescriptor.{StatusDescriptor}
 use Rattle.sg_store.specs.declared.store.Counts.{Counts}
-use Rattle.sg_wire.specs.CutAnswer.{first_bytes, overwritten}
+use Rattle.sg_wire.specs.FirstBytes.{first_bytes, overwritten}
 use Rattle.sg_target.specs.MadeReplies.{executed_reply}
 use Rattle.sg_target.specs.Reply.{Carries}
 use Rattle.sg_target.specs.Step.{good}

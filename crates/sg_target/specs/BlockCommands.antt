@@ -1,6 +1,6 @@
 -- The effects of the block commands (SBC-3, 5).
 use Rattle.std.specs.Prelude.{ℕ, ◌*◌, List}
-use Rattle.sg_wire.specs.CutAnswer.{first_bytes}
+use Rattle.sg_wire.specs.FirstBytes.{first_bytes}
 use Rattle.sg_wire.specs.Profile.{maximum_transfer_length}
 use Rattle.sg_wire.specs.declared.extent.Extent.{Extent}
 use Rattle.sg_store.specs.Disk.{blocks, written}

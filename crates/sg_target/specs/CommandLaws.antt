@@ -1,7 +1,7 @@
 -- Laws of the commands on blocks: what `step` returns and leaves if one of them ends with GOOD.
 use Rattle.std.specs.Prelude.{◌≡◌, ◌≢◌, ℕ, ◌-◌, List, Bool, true, if◌then◌else◌}
 use Rattle.std.specs.Prelude.{Option, Some, None, Result, Ok}
-use Rattle.sg_wire.specs.CutAnswer.{first_bytes}
+use Rattle.sg_wire.specs.FirstBytes.{first_bytes}
 use Rattle.sg_wire.specs.CdbDecoding.{command_of}
 use Rattle.sg_wire.specs.UnmapList.{unmap_list}
 use Rattle.sg_wire.specs.declared.command.CdbFault.{CdbFault}

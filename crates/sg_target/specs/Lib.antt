@@ -1,6 +1,7 @@
 -- Modules that public contracts cite. Read them in this order.
 pub mod Config
 pub mod State
+pub mod NewState
 pub mod Effect
 pub mod Refusal
 pub mod PrimaryCommands

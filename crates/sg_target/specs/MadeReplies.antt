@@ -1,6 +1,6 @@
 -- The replies that a target makes.
 use Rattle.std.specs.Prelude.{◌≡◌, ℕ, List, [], length}
-use Rattle.sg_wire.specs.CutAnswer.{overwritten}
+use Rattle.sg_wire.specs.FirstBytes.{overwritten}
 use Rattle.sg_wire.specs.declared.sense.Format.{Format}
 use Rattle.sg_store.specs.Meter.{no_counts}
 use Rattle.sg_store.specs.declared.store.Counts.{Counts}

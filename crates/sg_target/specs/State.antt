@@ -2,11 +2,11 @@
 use Rattle.std.specs.Prelude.{◌≤◌}
 use Rattle.std.specs.FinMap.{len}
 use Rattle.sg_wire.specs.declared.profile.Profile.{Profile}
-use Rattle.sg_store.specs.Disk.{Disk, IsWellFormed, empty_disk}
+use Rattle.sg_store.specs.Disk.{Disk, IsWellFormed}
 use Rattle.sg_pages.specs.Identity.{IdentityFields}
-use Rattle.sg_pages.specs.ModePage.{ModeState, initial_state}
-use Rattle.sg_units.specs.Attentions.{ArePending, Pending, power_on_pending}
-use Rattle.sg_units.specs.Reservations.{IsConsistent, empty_state}
+use Rattle.sg_pages.specs.ModePage.{ModeState}
+use Rattle.sg_units.specs.Attentions.{ArePending, Pending}
+use Rattle.sg_units.specs.Reservations.{IsConsistent}
 use Rattle.sg_units.specs.declared.reservation_state.ReservationState.{ReservationState}
 use Rattle.sg_target.specs.Config.{ConfigFields}
 
@@ -24,18 +24,6 @@ config_of state =
 
 abbrev pub profile_of : State → Profile
 profile_of state = state.identity.profile
-
--- On a new disk no block is mapped, and the mode pages have their default values. POWER ON is
--- pending for each initiator, and none is registered. `PowerCycle` defines the disk after a power
--- cycle.
-abbrev pub new_state : ConfigFields → State
-new_state config = record {
-  identity = config.identity;
-  disk = empty_disk config.blocks config.pool;
-  modes = initial_state;
-  attentions = power_on_pending;
-  reservations = empty_state;
-}
 
 -- No table of the disk is past its limit. No more addresses are used than the pool has blocks. Each
 -- of the eight initiators has a queue of at most five pending conditions, all distinct. At most six

@@ -1,7 +1,7 @@
 -- The step of a command: the answer to it, and the state after it.
 use Rattle.std.specs.Option.{option_map_or}
 use Rattle.std.specs.Prelude.{ℕ, List, [], Option, Some, None, Result, Ok, Err}
-use Rattle.sg_wire.specs.CutAnswer.{first_bytes}
+use Rattle.sg_wire.specs.FirstBytes.{first_bytes}
 use Rattle.sg_wire.specs.SenseData.{sense_data}
 use Rattle.sg_wire.specs.declared.sense.Format.{Format}
 use Rattle.sg_pages.specs.ModePage.{descriptor_sense}

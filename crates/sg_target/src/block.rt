@@ -4,7 +4,7 @@ ghost use Rattle.std.specs.Prelude.{◌≡◌, ◌≤◌, ◌+◌, ◌∷◌, []
 ghost use Rattle.std.specs.Prelude.{IfOk, IfErr, min};
 ghost use Rattle.sg_pages.specs.CapacityData.{capacity_10, capacity_16};
 ghost use Rattle.sg_wire.specs.Profile.{maximum_transfer_length};
-ghost use Rattle.sg_wire.specs.CutAnswer.{first_bytes};
+ghost use Rattle.sg_wire.specs.FirstBytes.{first_bytes};
 ghost use Rattle.sg_target.specs.BlockCommands.{bytes_of, reading, writing};
 ghost use Rattle.sg_target.specs.Checks.{requested, unsupported_value};
 ghost use Rattle.sg_target.specs.Demands.{read, too_long, write};

@@ -1,7 +1,7 @@
 // Data-in that is in no block, and its writing.
 ghost use Rattle.std.specs.Prelude.{◌≡◌, ◌≤◌, length};
 ghost use Rattle.sg_wire.specs.Cut.{Puts};
-ghost use Rattle.sg_wire.specs.CutAnswer.{first_bytes, overwritten};
+ghost use Rattle.sg_wire.specs.FirstBytes.{first_bytes, overwritten};
 ghost use Rattle.sg_target.specs.DataIn.{data_of};
 ghost use Rattle.sg_target.specs.MadeReplies.{ReturnsData};
 

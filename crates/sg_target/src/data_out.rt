@@ -1,6 +1,6 @@
 // A command without all of its data-out is refused before any address is checked.
 ghost use Rattle.std.specs.Prelude.{◌≡◌, ◌≤◌, length, Some, None, IfOk, IfErr};
-ghost use Rattle.sg_wire.specs.CutAnswer.{first_bytes};
+ghost use Rattle.sg_wire.specs.FirstBytes.{first_bytes};
 ghost use Rattle.sg_target.specs.Checks.{short_data_out};
 
 use crate::refusal::{Reason, Refusal};

@@ -1,7 +1,7 @@
 // REQUEST SENSE and INQUIRY (SPC-4, 6). TEST UNIT READY has nothing to check or to do.
 ghost use Rattle.std.specs.Prelude.{◌≡◌, ◌≤◌, [], length};
 ghost use Rattle.sg_wire.specs.Cut.{Puts};
-ghost use Rattle.sg_wire.specs.CutAnswer.{first_bytes};
+ghost use Rattle.sg_wire.specs.FirstBytes.{first_bytes};
 ghost use Rattle.sg_target.specs.Checks.{requested};
 ghost use Rattle.sg_target.specs.Demands.{inquiry};
 ghost use Rattle.sg_target.specs.Effect.{without_attention};

@@ -1,7 +1,7 @@
 // PERSISTENT RESERVE IN and PERSISTENT RESERVE OUT (SPC-4, 5.13).
 ghost use Rattle.std.specs.Prelude.{◌≡◌, ◌≤◌, [], length};
 ghost use Rattle.sg_wire.specs.Cut.{Puts};
-ghost use Rattle.sg_wire.specs.CutAnswer.{first_bytes};
+ghost use Rattle.sg_wire.specs.FirstBytes.{first_bytes};
 ghost use Rattle.sg_target.specs.Checks.{requested};
 ghost use Rattle.sg_target.specs.Demands.{reserve_out};
 ghost use Rattle.sg_target.specs.Charge.{TakesStep, cost_bounds};

@@ -66,7 +66,7 @@ ghost use Rattle.sg_target.specs.Charge.{ChargesCommand, cost_bounds};
 ghost use Rattle.sg_target.specs.Execution.{IsExecuted};
 ghost use Rattle.sg_target.specs.Happenings.{Happens};
 ghost use Rattle.sg_target.specs.MadeReplies.{refused_reply};
-ghost use Rattle.sg_target.specs.State.{new_state};
+ghost use Rattle.sg_target.specs.NewState.{new_state};
 ghost use Rattle.sg_target.specs.Step.{after_refusal, sense_format};
 
 impl<S: Store> Target<S> {

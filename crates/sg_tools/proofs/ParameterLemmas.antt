@@ -1,7 +1,7 @@
 -- A parameter list that is put whole into a buffer.
 use Rattle.std.proofs.Common.{◌≡◌, ◌≤◌, ℕ, List, length, ap, ◌∙◌}
 use Rattle.std.proofs.lemmas.List.{take_all}
-use Rattle.sg_wire.specs.CutAnswer.{first_bytes, overwritten}
+use Rattle.sg_wire.specs.FirstBytes.{first_bytes, overwritten}
 
 pub put-whole : (limit : ℕ) (list old new : List ℕ)
     → new ≡ overwritten (first_bytes limit list) old → length list ≤ limit

@@ -1,7 +1,8 @@
 -- The data-out of a tool: a list of UNMAP or of PERSISTENT RESERVE OUT, or no byte.
 use Rattle.std.specs.Prelude.{ℕ, List, []}
-use Rattle.sg_wire.specs.OutList.{out_list_bytes}
-use Rattle.sg_wire.specs.UnmapList.{maximum_unmap_descriptors, unmap_list_bytes, unmap_list_length}
+use Rattle.sg_wire.specs.OutListBytes.{out_list_bytes}
+use Rattle.sg_wire.specs.UnmapList.{maximum_unmap_descriptors, unmap_list_length}
+use Rattle.sg_wire.specs.UnmapListBytes.{unmap_list_bytes}
 use Rattle.sg_tools.specs.declared.parameters.Parameters.{Parameters}
 use Rattle.sg_tools.specs.declared.parameters.Parameters.TheVariants as parameters
 

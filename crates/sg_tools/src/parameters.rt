@@ -1,7 +1,7 @@
 // The parameter lists that tools send, as `sg_wire` writes them.
 ghost use Rattle.std.specs.Prelude.{◌≡◌, ◌≤◌, length};
 ghost use Rattle.sg_wire.specs.Cut.{Puts};
-ghost use Rattle.sg_wire.specs.CutAnswer.{overwritten};
+ghost use Rattle.sg_wire.specs.FirstBytes.{overwritten};
 ghost use Rattle.sg_tools.specs.ParameterLists.{max_data_out, parameter_list};
 
 use sg_wire::laws::answers_are_in_their_buffers;

@@ -1,6 +1,6 @@
 // The words of a tool become a command with its parameter list, and these become bytes.
 ghost use Rattle.std.specs.Prelude.{◌≡◌, ◌≤◌, Ok, length, map};
-ghost use Rattle.sg_wire.specs.CutAnswer.{overwritten};
+ghost use Rattle.sg_wire.specs.FirstBytes.{overwritten};
 ghost use Rattle.sg_wire.specs.CdbEncoding.{cdb_of};
 ghost use Rattle.sg_tools.specs.GivenOptions.{IsUnlessOutOfMemory};
 ghost use Rattle.sg_tools.specs.ParameterLists.{max_data_out, parameter_list};

@@ -10,7 +10,8 @@ use Rattle.std.proofs.lemmas.List.Sums.{sum_by-cons}
 use Rattle.std.proofs.lemmas.Bool.Decides.{nat_tests}
 use Rattle.arrayvec.specs.ArrayVec.{ArrayVec}
 use Rattle.sg_units.specs.Attentions.{AreDistinct, ArePending, AreQueues, IsNotAmong, IsQueue}
-use Rattle.sg_units.specs.Attentions.{Pending, is_pending, pending_for, power_on_pending}
+use Rattle.sg_units.specs.Attentions.{Pending, is_pending, pending_for}
+use Rattle.sg_units.specs.PowerOn.{power_on_pending}
 use Rattle.sg_units.specs.Attentions.{with_optional, without_oldest}
 use Rattle.sg_units.specs.Raised.{Conditions, queue_after, raised_for_each}
 use Rattle.sg_units.specs.UnitAttention.{condition_count, number_of}

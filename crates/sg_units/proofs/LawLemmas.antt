@@ -11,14 +11,13 @@ use Rattle.sg_wire.specs.declared.command.Class.{Class}
 use Rattle.sg_wire.specs.declared.command.Class.TheVariants.{Always, Reads, Writes}
 use Rattle.sg_units.specs.Access.{access_of, allowed, allows, highest_class, is_within, standing_of}
 use Rattle.sg_units.specs.Laws.{CountsChanges, HasOneHolder, IsHeldByAll, IsRefused}
-use Rattle.sg_units.specs.ReserveOut.{Outcome, action_outcome}
-use Rattle.sg_units.specs.ReserveOut.{generation_after, outcome}
+use Rattle.sg_units.specs.ReserveOut.{Outcome, action_outcome, generation_after, outcome}
 use Rattle.sg_units.specs.ReserveOut.{preempt_cases, register_cases, release_cases}
 use Rattle.sg_units.specs.ReserveOut.{reserve_cases, state_after, unchanged}
 use Rattle.sg_units.specs.Registrations.{is_of, is_registered, is_registered_under, is_under}
 use Rattle.sg_units.specs.Registrations.{registrations_of}
-use Rattle.sg_units.specs.ReservationType.{is_all_registrants, is_exclusive_access, is_shared}
-use Rattle.sg_units.specs.ReservationType.{type_of}
+use Rattle.sg_units.specs.ReservationType.{is_all_registrants, is_shared, type_of}
+use Rattle.sg_units.specs.Laws.{is_exclusive_access}
 use Rattle.sg_units.specs.Reservations.{IsConsistent, has_holder, is_held_by}
 use Rattle.sg_units.specs.Reservations.{is_held_if_any, is_holder, names_holder}
 use Rattle.sg_units.specs.Reservations.{names_holder_if_any}

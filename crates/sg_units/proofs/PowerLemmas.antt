@@ -1,8 +1,8 @@
 -- The state after a power cycle is consistent.
 use Rattle.std.proofs.Common.{Bool, true, false}
 use Rattle.std.specs.Prelude.{if◌then◌else◌}
-use Rattle.sg_units.specs.PowerOn.{after_power_on}
-use Rattle.sg_units.specs.Reservations.{IsConsistent, empty_state}
+use Rattle.sg_units.specs.PowerOn.{after_power_on, empty_state}
+use Rattle.sg_units.specs.Reservations.{IsConsistent}
 use Rattle.sg_units.specs.declared.reservation_state.ReservationState.{ReservationState}
 use Rattle.sg_units.proofs.ConsistencyLemmas.{consistent-none}
 

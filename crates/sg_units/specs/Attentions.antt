@@ -1,23 +1,17 @@
 -- Pending unit attention conditions (SAM-5, 5.14).
 use Rattle.std.specs.Prelude.{◌≡◌, ◌≢◌, ℕ, ◌≤◌, ◌==◌, Bool, if◌then◌else◌, List, [], ◌∷◌, ◌++◌}
-use Rattle.std.specs.Prelude.{length, drop, slice_get, slice_index_or, slice_set, replicate}
+use Rattle.std.specs.Prelude.{length, drop, slice_get, slice_index_or, slice_set}
 use Rattle.std.specs.Prelude.{Option, Some, None}
 use Rattle.std.specs.List.{list_any}
 use Rattle.sg_wire.specs.Initiator.{initiator_count}
 use Rattle.sg_units.specs.UnitAttention.{condition_count, number_of}
 use Rattle.sg_units.specs.declared.unit_attention.UnitAttention.{UnitAttention}
-use Rattle.sg_units.specs.declared.unit_attention.UnitAttention.TheVariants.{PowerOn}
 
 -- ---- Queues of conditions
 
 -- For each initiator the queue of its pending conditions, the oldest first.
 abbrev pub Pending : Type 0
 Pending = List (List UnitAttention)
-
--- The queues after power on.
--- Choice (SAM-5, 5.14): 29h/01h, POWER ON OCCURRED, may be reported.
-abbrev pub power_on_pending : Pending
-power_on_pending = replicate initiator_count (PowerOn ∷ [])
 
 abbrev pub pending_for : Pending → (initiator : ℕ) → List UnitAttention
 pending_for pending initiator = slice_index_or pending initiator []

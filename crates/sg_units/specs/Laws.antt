@@ -1,20 +1,18 @@
 -- Laws of the definitions, in the words of the standard.
 use Rattle.std.specs.Prelude.{◌≡◌, ◌≢◌, ◌⊎◌, ◌<◌, ◌+◌, ◌%◌, ◌^◌, ℕ, ◌==◌, Bool, true, false}
-use Rattle.std.specs.Prelude.{◌&&◌, ◌||◌, List, length, is_some}
-use Rattle.std.specs.Prelude.{Option, Some, None, Ok}
+use Rattle.std.specs.Prelude.{◌&&◌, ◌||◌, List, length, is_some, Option, Some, None, Ok}
 use Rattle.sg_wire.specs.declared.command.Class.{Class}
 use Rattle.sg_wire.specs.declared.command.out_action.OutAction.{OutAction}
 use Rattle.sg_wire.specs.declared.command.out_action.OutAction.TheVariants.{Clear, Preempt}
 use Rattle.sg_wire.specs.declared.command.out_action.OutAction.TheVariants.{PreemptAndAbort}
 use Rattle.sg_wire.specs.declared.command.Class.TheVariants.{Reads, Writes}
 use Rattle.sg_units.specs.Access.{allows}
-use Rattle.sg_units.specs.Attentions.{ArePending, Pending, pending_for, power_on_pending, raised}
-use Rattle.sg_units.specs.Attentions.{without_oldest}
-use Rattle.sg_units.specs.PowerOn.{after_power_on}
+use Rattle.sg_units.specs.Attentions.{ArePending, Pending, pending_for, raised, without_oldest}
+use Rattle.sg_units.specs.PowerOn.{power_on_pending, after_power_on}
 use Rattle.sg_units.specs.Raised.{Conditions, raised_for_each}
 use Rattle.sg_units.specs.ReserveOut.{IsConsistentChange, outcome, raised_for, state_after}
 use Rattle.sg_units.specs.Registrations.{is_registered, is_registered_under}
-use Rattle.sg_units.specs.ReservationType.{is_all_registrants, is_exclusive_access, is_shared}
+use Rattle.sg_units.specs.ReservationType.{is_all_registrants, is_shared}
 use Rattle.sg_units.specs.Reservations.{IsConsistent, is_holder}
 use Rattle.sg_units.specs.declared.reservation_change.ReservationChange.{ReservationChange}
 use Rattle.sg_wire.specs.declared.out_list.OutList.{OutList}
@@ -22,6 +20,18 @@ use Rattle.sg_units.specs.declared.registrations.Registration.{Registration}
 use Rattle.sg_units.specs.declared.reservation.Reservation.{Reservation}
 use Rattle.sg_units.specs.declared.reservation_state.ReservationState.{ReservationState}
 use Rattle.sg_units.specs.declared.unit_attention.UnitAttention.{UnitAttention}
+use Rattle.std.specs.Prelude.{ℕ, ◌==◌, Bool, true, false}
+use Rattle.sg_units.specs.declared.types.ReservationType.{ReservationType}
+use Rattle.sg_units.specs.declared.types.ReservationType.TheVariants.{ExclusiveAccess}
+use Rattle.sg_units.specs.declared.types.ReservationType.TheVariants.{ExclusiveAccessRegistrantsOnly}
+use Rattle.sg_units.specs.declared.types.ReservationType.TheVariants.{ExclusiveAccessAllRegistrants}
+
+-- Others may not read either: the exclusive access types.
+abbrev pub is_exclusive_access : ReservationType → Bool
+is_exclusive_access ExclusiveAccess = true
+is_exclusive_access ExclusiveAccessRegistrantsOnly = true
+is_exclusive_access ExclusiveAccessAllRegistrants = true
+is_exclusive_access type = false
 
 -- ---- Unit attention conditions
 

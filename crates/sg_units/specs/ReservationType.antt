@@ -44,10 +44,3 @@ abbrev pub is_shared : ReservationType → Bool
 is_shared WriteExclusive = false
 is_shared ExclusiveAccess = false
 is_shared type = true
-
--- Others may not read either: the exclusive access types.
-abbrev pub is_exclusive_access : ReservationType → Bool
-is_exclusive_access ExclusiveAccess = true
-is_exclusive_access ExclusiveAccessRegistrantsOnly = true
-is_exclusive_access ExclusiveAccessAllRegistrants = true
-is_exclusive_access type = false

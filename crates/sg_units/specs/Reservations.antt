@@ -1,6 +1,6 @@
 -- Registrations and the persistent reservation (SPC-4, 5.13).
 use Rattle.std.specs.Prelude.{ℕ, ◌≡◌, ◌≤◌, ◌==◌, Bool, true, false, ◌&&◌, if◌then◌else◌}
-use Rattle.std.specs.Prelude.{List, [], length, Option, Some, None, is_some, is_none}
+use Rattle.std.specs.Prelude.{List, length, Option, Some, None, is_some, is_none}
 use Rattle.std.specs.List.{list_any}
 use Rattle.std.specs.Option.{option_map_or}
 use Rattle.sg_units.specs.Registrations.{has_key, is_registered, max_registrations}
@@ -10,14 +10,6 @@ use Rattle.sg_units.specs.declared.registrations.Registration.{Registration}
 use Rattle.sg_units.specs.declared.reservation.Reservation.{Reservation}
 use Rattle.sg_units.specs.declared.reservation_state.ReservationState.{ReservationState}
 use Rattle.sg_units.specs.declared.types.ReservationType.{ReservationType}
-
-abbrev pub empty_state : ReservationState
-empty_state = record {
-  registrations = [];
-  reservation = None;
-  generation = 0;
-  persists_through_power_loss = false;
-}
 
 -- ---- Holders
 

@@ -27,7 +27,8 @@ impl Model for Attentions {
 ghost use Rattle.std.specs.Prelude.{◌≡◌, ◌<◌, [], ◌∷◌, drop, slice_set};
 ghost use Rattle.sg_wire.specs.Initiator.{initiator_count};
 ghost use Rattle.sg_units.specs.Attentions.{ArePending, IsQueue, is_pending, oldest, pending_for};
-ghost use Rattle.sg_units.specs.Attentions.{power_on_pending, raised, with_optional};
+ghost use Rattle.sg_units.specs.Attentions.{raised, with_optional};
+ghost use Rattle.sg_units.specs.PowerOn.{power_on_pending};
 ghost use Rattle.sg_units.specs.Attentions.{without_attentions, without_oldest};
 ghost use Rattle.sg_units.specs.Raised.{raised_for_each};
 

@@ -13,7 +13,8 @@ pub use read_full_status::LONGEST_RESERVE_IN_DATA;
 ghost use Rattle.std.specs.Prelude.{◌≡◌};
 ghost use Rattle.sg_units.specs.Access.{allows, standing_of};
 ghost use Rattle.sg_units.specs.ReserveOut.{registering, unchanged};
-ghost use Rattle.sg_units.specs.Reservations.{empty_state, has_type, is_holder, while_held};
+ghost use Rattle.sg_units.specs.Reservations.{has_type, is_holder, while_held};
+ghost use Rattle.sg_units.specs.PowerOn.{empty_state};
 
 use crate::access::{Standing, highest_class, is_within};
 use crate::registrations::Registrations;

@@ -38,13 +38,12 @@ ghost use Rattle.std.specs.Prelude.{◌≡◌, ◌≤◌, Ok, IfOk, length};
 ghost use Rattle.sg_wire.specs.Cut.{Puts};
 ghost use Rattle.sg_units.specs.Access.{allows};
 ghost use Rattle.sg_units.specs.FullStatus.{full_status_data, longest_reserve_in};
-ghost use Rattle.sg_units.specs.PowerOn.{after_power_on};
-ghost use Rattle.sg_units.specs.ReserveIn.{capabilities_data, keys_data};
-ghost use Rattle.sg_units.specs.ReserveIn.{reservation_data};
+ghost use Rattle.sg_units.specs.PowerOn.{after_power_on, empty_state};
+ghost use Rattle.sg_units.specs.ReserveIn.{capabilities_data, keys_data, reservation_data};
 ghost use Rattle.sg_units.specs.ReserveOut.{IsConsistentChange, generation_after, outcome};
 ghost use Rattle.sg_units.specs.ReserveOut.{raised_by, reply_of, state_after};
 ghost use Rattle.sg_units.specs.Registrations.{registered_mask};
-ghost use Rattle.sg_units.specs.Reservations.{IsConsistent, empty_state};
+ghost use Rattle.sg_units.specs.Reservations.{IsConsistent};
 
 impl Reservations {
     /// No initiator is registered, no reservation is held, and PRGENERATION is 0.

@@ -3,7 +3,8 @@ use Rattle.std.proofs.Common.{◌≡◌, ◌<◌, ◌^◌, ℕ, List, [], ◌∷
 use Rattle.byteorder.specs.Endian.{big_bytes, big_number}
 use Rattle.byteorder.specs.Numbers.{big_number-reads_back}
 use Rattle.sg_wire.specs.Bits.{has_bit}
-use Rattle.sg_wire.specs.OutList.{out_list, out_list_bytes}
+use Rattle.sg_wire.specs.OutList.{out_list}
+use Rattle.sg_wire.specs.OutListBytes.{out_list_bytes}
 use Rattle.sg_wire.specs.declared.out_list.OutList.{OutList}
 
 abbrev list_with : (key action_key : ℕ) (spec_i_pt all_tg_pt aptpl : Bool) → OutList

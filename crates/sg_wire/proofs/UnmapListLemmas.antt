@@ -9,8 +9,8 @@ use Rattle.std.proofs.lemmas.Bool.Decides.{nat_tests}
 use Rattle.byteorder.specs.Endian.{big_bytes, big_number}
 use Rattle.byteorder.specs.Numbers.{big_number-reads_back}
 use Rattle.sg_wire.specs.CutAnswer.{CutAnswer, put}
-use Rattle.sg_wire.specs.UnmapList.{descriptor_at, descriptor_count, unmap_descriptor, unmap_header}
-use Rattle.sg_wire.specs.UnmapList.{unmap_list, unmap_list_bytes}
+use Rattle.sg_wire.specs.UnmapList.{descriptor_at, descriptor_count, unmap_list}
+use Rattle.sg_wire.specs.UnmapListBytes.{unmap_descriptor, unmap_header, unmap_list_bytes}
 use Rattle.sg_wire.specs.declared.extent.Extent.{Extent}
 use Rattle.sg_wire.proofs.CutLemmas.{put-put}
 

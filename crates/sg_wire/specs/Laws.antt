@@ -3,8 +3,8 @@ use Rattle.std.specs.Prelude.{◌≡◌, ◌<◌, ◌≤◌, ℕ, ◌==◌, List
 use Rattle.std.specs.Prelude.{Bool, true, if◌then◌else◌}
 use Rattle.std.specs.Borrow.{GName}
 use Rattle.sg_wire.specs.Cut.{IsLeftIn, Puts, answer_of}
-use Rattle.sg_wire.specs.CutAnswer.{CutAnswer, empty_answer, first_bytes, overwritten, put}
-use Rattle.sg_wire.specs.CutAnswer.{replace}
+use Rattle.sg_wire.specs.CutAnswer.{CutAnswer, empty_answer, put, replace}
+use Rattle.sg_wire.specs.FirstBytes.{first_bytes, overwritten}
 use Rattle.sg_wire.specs.CdbDecoding.{class_in, command_in, is_blocked_in, rows_in}
 use Rattle.sg_wire.specs.CdbEncoding.{cdb_of}
 use Rattle.sg_wire.specs.Layout.{layout}

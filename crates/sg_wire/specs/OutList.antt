@@ -1,7 +1,6 @@
 -- The parameter list of PERSISTENT RESERVE OUT (SPC-4, 6.16.3).
-use Rattle.std.specs.Prelude.{ℕ, ◌+◌, List, ◌∷◌, ◌++◌, drop, replicate, slice_index}
-use Rattle.std.specs.Prelude.{if◌then◌else◌}
-use Rattle.byteorder.specs.Endian.{big_bytes, big_number}
+use Rattle.std.specs.Prelude.{ℕ, List, drop, slice_index}
+use Rattle.byteorder.specs.Endian.{big_number}
 use Rattle.sg_wire.specs.Bits.{has_bit}
 use Rattle.sg_wire.specs.declared.out_list.OutList.{OutList}
 
@@ -26,15 +25,3 @@ out_list bytes = record {
   all_tg_pt = has_bit (slice_index bytes flags_at) 0x04;
   aptpl = has_bit (slice_index bytes flags_at) 0x01;
 }
-
--- SPEC_I_PT, ALL_TG_PT and APTPL in one byte.
-abbrev pub flag_byte : OutList → ℕ
-flag_byte list =
-    (if list.spec_i_pt then 0x08 else 0) + (if list.all_tg_pt then 0x04 else 0)
-    + (if list.aptpl then 0x01 else 0)
-
--- The bytes of a list: the keys, four bytes of zero, the flags, and three bytes of zero.
-abbrev pub out_list_bytes : OutList → List ℕ
-out_list_bytes list =
-    big_bytes 8 list.reservation_key ++ big_bytes 8 list.service_action_key
-    ++ replicate 4 0 ++ flag_byte list ∷ replicate 3 0

@@ -1,6 +1,7 @@
 // The parameter list of PERSISTENT RESERVE OUT, read and written.
 ghost use Rattle.std.specs.Prelude.{◌≡◌, ◌+◌, ◌≤◌, length, if◌then◌else◌};
-ghost use Rattle.sg_wire.specs.OutList.{flag_byte, list_length, out_list, out_list_bytes};
+ghost use Rattle.sg_wire.specs.OutList.{list_length, out_list};
+ghost use Rattle.sg_wire.specs.OutListBytes.{flag_byte, out_list_bytes};
 
 use byteorder::{BigEndian, ByteOrder};
 

@@ -3,10 +3,9 @@ ghost use Rattle.std.specs.Prelude.{◌≡◌, ◌≤◌, ◌<◌, ◌+◌, ◌-
 ghost use Rattle.std.specs.Prelude.{IfErr, IfOk};
 ghost use Rattle.sg_wire.specs.Cut.{Puts};
 ghost use Rattle.sg_wire.specs.UnmapList.{descriptor_at, descriptor_count};
-ghost use Rattle.sg_wire.specs.UnmapList.{maximum_unmap_descriptors, unmap_descriptor};
-ghost use Rattle.sg_wire.specs.UnmapList.{unmap_descriptor_length, unmap_header};
-ghost use Rattle.sg_wire.specs.UnmapList.{unmap_header_length, unmap_list, unmap_list_bytes};
-ghost use Rattle.sg_wire.specs.UnmapList.{unmap_list_length};
+ghost use Rattle.sg_wire.specs.UnmapList.{maximum_unmap_descriptors, unmap_descriptor_length};
+ghost use Rattle.sg_wire.specs.UnmapListBytes.{unmap_descriptor, unmap_header, unmap_list_bytes};
+ghost use Rattle.sg_wire.specs.UnmapList.{unmap_header_length, unmap_list, unmap_list_length};
 
 use crate::cut::Cut;
 use crate::extent::Extent;

@@ -2,7 +2,8 @@
 use Rattle.std.proofs.Common.{◌≡◌, ℕ, Result, Err, inr, refl}
 use Rattle.sg_run.specs.ScriptRun.{Snapshot}
 use Rattle.sg_target.specs.Config.{ConfigFields}
-use Rattle.sg_target.specs.State.{State, new_state}
+use Rattle.sg_target.specs.State.{State}
+use Rattle.sg_target.specs.NewState.{new_state}
 use Rattle.sgrun.specs.NewDisk.{RunsOnNewDisk, RunsUnlessRefused}
 use Rattle.sgrun.specs.declared.stop.Stop.{Stop}
 use Rattle.sgrun.specs.declared.stop.Stop.TheVariants.{OutOfMemory}

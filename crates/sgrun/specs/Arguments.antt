@@ -6,7 +6,7 @@ use Rattle.std.specs.Prelude.{Err, [], ◌∷◌, bytes_eq, find}
 use Rattle.clap.specs.Words.{Row, Text}
 use Rattle.sg_wire.specs.declared.profile.Profile.{Profile}
 use Rattle.sg_wire.specs.declared.profile.Profile.TheVariants.{Base, Extended}
-use Rattle.sg_pages.specs.Identity.{standard_identity}
+use Rattle.sg_pages.specs.NewIdentity.{standard_identity}
 use Rattle.sg_target.specs.Config.{ConfigFields, checked_config}
 use Rattle.sg_target.specs.declared.config.ConfigFault.{ConfigFault}
 use Rattle.sg_tools.specs.GivenOptions.{given_options, text_of}

@@ -3,7 +3,8 @@ use Rattle.std.specs.Prelude.{◌≡◌, ℕ, Result, Ok, Err, ◌⊎◌}
 use Rattle.sg_run.specs.ScriptRun.{RunsScript, Snapshot}
 use Rattle.sg_run.specs.declared.run.RunFault.{RunFault}
 use Rattle.sg_target.specs.Config.{ConfigFields}
-use Rattle.sg_target.specs.State.{State, new_state}
+use Rattle.sg_target.specs.State.{State}
+use Rattle.sg_target.specs.NewState.{new_state}
 use Rattle.sgrun.specs.Stops.{stop_of_run}
 use Rattle.sgrun.specs.declared.stop.Stop.{Stop}
 use Rattle.sgrun.specs.declared.stop.Stop.TheVariants.{OutOfMemory}

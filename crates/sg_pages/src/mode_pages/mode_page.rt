@@ -1,7 +1,7 @@
 // The four mode pages of the disk, by code, and the bytes of each from byte 2 on.
 ghost use Rattle.std.specs.Prelude.{◌≡◌, ◌<◌, ◌≤◌, length};
-ghost use Rattle.sg_pages.specs.ModePage.{code_of, page_length, page_with_code};
-ghost use Rattle.sg_pages.specs.ModePage.{values_of, with_values};
+ghost use Rattle.sg_pages.specs.ModePage.{code_of, page_length, page_with_code, values_of};
+ghost use Rattle.sg_pages.specs.SentValues.{with_values};
 
 /// A mode page that the disk has (SPC-4, 7.5; SBC-3, 6.4), with its page code.
 #[derive(Clone, Copy)]

@@ -6,7 +6,8 @@ ghost use Rattle.std.specs.Result.{result_map_both, result_unwrap_or};
 ghost use Rattle.sg_pages.specs.ModePage.{page_bytes, parameters_saveable};
 ghost use Rattle.sg_pages.specs.ModeSelect.{IsInside, changed_by, first_fault, mode_select};
 ghost use Rattle.sg_pages.specs.ModeSelect.{page_at, page_faults, pages_from, part_faults};
-ghost use Rattle.sg_pages.specs.ModeSelect.{selected_values, unless_fault, values_after, with_sent};
+ghost use Rattle.sg_pages.specs.ModeSelect.{selected_values, unless_fault, values_after};
+ghost use Rattle.sg_pages.specs.SentValues.{with_sent};
 
 use super::list_check::{check, check_descriptor, check_header, header_length};
 use super::mode_page::{CHANGEABLE, PS};

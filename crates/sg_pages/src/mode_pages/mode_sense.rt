@@ -5,7 +5,8 @@ ghost use Rattle.sg_wire.specs.Cut.{Puts, answer_of};
 ghost use Rattle.sg_pages.specs.ModePage.{page_data, page_length};
 ghost use Rattle.sg_pages.specs.ModeSense.{descriptor_data, fields_of, has_page};
 ghost use Rattle.sg_pages.specs.ModeSense.{header_after_length, is_requested, length_bytes};
-ghost use Rattle.sg_pages.specs.ModeSense.{longest_list, mode_parameter_list, mode_sense};
+ghost use Rattle.sg_pages.specs.ModeSense.{mode_parameter_list, mode_sense};
+ghost use Rattle.sg_pages.specs.DataLengths.{longest_list};
 ghost use Rattle.sg_pages.specs.ModeSense.{requested_pages, selected_by};
 
 use super::block_descriptor::{

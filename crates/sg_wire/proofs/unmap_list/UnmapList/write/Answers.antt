@@ -1,7 +1,8 @@
 use Rattle.std.proofs.Common.{◌≡◌, ◌≤◌, ◌∙◌, List, Ok, length, get_or, ap, subst, arith}
 use Rattle.sg_wire.specs.Cut.{answer_of}
 use Rattle.sg_wire.specs.CutAnswer.{put}
-use Rattle.sg_wire.specs.UnmapList.{unmap_header, unmap_list, unmap_list_bytes}
+use Rattle.sg_wire.specs.UnmapList.{unmap_list}
+use Rattle.sg_wire.specs.UnmapListBytes.{unmap_header, unmap_list_bytes}
 use Rattle.sg_wire.specs.declared.extent.Extent.{Extent}
 use Rattle.sg_wire.proofs.UnmapListLemmas.{all-fit, all-put, bytes-long, descriptor-put, fit-next}
 use Rattle.sg_wire.proofs.UnmapListLemmas.{Fits, reads_back-unmap_list}

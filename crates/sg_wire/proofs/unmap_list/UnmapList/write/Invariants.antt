@@ -1,7 +1,7 @@
 use Rattle.std.proofs.Common.{◌++◌, length, take}
 use Rattle.std.specs.List.{flat_map}
 use Rattle.sg_wire.specs.Cut.{Puts}
-use Rattle.sg_wire.specs.UnmapList.{unmap_descriptor, unmap_header}
+use Rattle.sg_wire.specs.UnmapListBytes.{unmap_descriptor, unmap_header}
 use Rattle.sg_wire.proofs.UnmapListLemmas.{AllFit}
 use Rattle.sg_wire.proofs.unmap_list.UnmapList.write.Given as goal
 

@@ -1,0 +1,10 @@
+-- The mode pages of a new disk, and after a power cycle (SPC-4, 7.5).
+use Rattle.sg_pages.specs.ModePage.{ModeState, default_values}
+
+-- The pages of a new disk.
+abbrev pub initial_state : ModeState
+initial_state = record { current = default_values; saved = default_values }
+
+-- A power cycle: the saved values become the current ones (SPC-4, 7.5).
+abbrev pub after_power_on : ModeState → ModeState
+after_power_on state = record { current = state.saved; saved = state.saved }

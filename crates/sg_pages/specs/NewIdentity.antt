@@ -1,0 +1,38 @@
+-- The identity that a disk is made with: which texts are accepted, and the default ones.
+use Rattle.std.specs.Prelude.{ℕ, ◌^◌, List, Bool, Result, Ok, Err, ◌&&◌, not, nat_lt}
+use Rattle.std.specs.Prelude.{if◌then◌else◌, codes}
+use Rattle.std.specs.List.{list_all}
+use Rattle.sg_wire.specs.Ascii.{is_printable}
+use Rattle.sg_wire.specs.declared.profile.Profile.TheVariants.{Base}
+use Rattle.sg_pages.specs.declared.identity.IdentityFault.{IdentityFault}
+use Rattle.sg_pages.specs.declared.identity.IdentityFault.TheVariants.{Text, Local}
+use Rattle.sg_pages.specs.Identity.{IdentityFields}
+
+-- The names of a disk of the base profile.
+abbrev pub identity_fields : (vendor product revision serial : List ℕ) (local : ℕ) → IdentityFields
+identity_fields vendor product revision serial local = record {
+  vendor = vendor;
+  product = product;
+  revision = revision;
+  serial = serial;
+  local = local;
+  profile = Base;
+}
+
+-- The default identity of a disk.
+-- Departure (SPC-4, 6.6.2): T10 assigns the vendor identification there.
+abbrev pub standard_identity : IdentityFields
+standard_identity =
+    identity_fields
+    (codes "SGMODEL ") (codes "THIN DISK       ") (codes "0100") (codes "00000001") 1
+
+-- Every text consists of printable characters.
+abbrev pub are_texts : IdentityFields → Bool
+are_texts i =
+    list_all is_printable i.vendor && list_all is_printable i.product
+    && list_all is_printable i.revision && list_all is_printable i.serial
+
+-- An identity, or its first fault.
+abbrev pub checked_identity : IdentityFields → Result IdentityFields IdentityFault
+checked_identity i =
+    if not (are_texts i) then Err Text else (if nat_lt i.local (2 ^ 60) then Ok i else Err Local)

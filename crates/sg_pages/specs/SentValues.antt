@@ -1,0 +1,18 @@
+-- The values of the mode pages after a page that MODE SELECT sent.
+use Rattle.std.specs.Prelude.{ℕ, ◌==◌, if◌then◌else◌, List, drop}
+use Rattle.sg_pages.specs.declared.mode_pages.mode_page.ModePage.{ModePage}
+use Rattle.sg_pages.specs.declared.mode_pages.mode_page.PageValues.{PageValues}
+use Rattle.sg_pages.specs.ModePage.{by_page, code_of, values_of}
+use Rattle.sg_pages.specs.ModeSelect.{Part, sent_code}
+
+-- The values after one more page that is sent.
+abbrev pub with_sent : PageValues → Part → PageValues
+with_sent values sent =
+    let value = λ (page : ModePage). if sent_code sent == code_of page then drop 2 sent.bytes
+    else values_of values page in
+    by_page value
+
+-- The values with other bytes for a page.
+abbrev pub with_values : PageValues → ModePage → List ℕ → PageValues
+with_values values changed bytes =
+    by_page (λ page. if code_of changed == code_of page then bytes else values_of values page)
