@@ -24,3 +24,4 @@ mod ChargingLemmas
 -- The limits of a state.
 pub mod BlocksLemmas
 mod LimitLemmas
+mod ConfigurationLemmas

@@ -10,7 +10,7 @@ use Rattle.sg_target.specs.Checks.{checked_effect}
 use Rattle.sg_target.specs.Effect.{Effect}
 use Rattle.sg_target.specs.Happenings.{after_happening}
 use Rattle.sg_target.specs.ProvisioningCommands.{anchoring, unmapping}
-use Rattle.sg_target.specs.State.{IsWithinLimits, State}
+use Rattle.sg_target.specs.State.{IsWithinLimits, State, config_of}
 use Rattle.sg_target.specs.Step.{refusal_answer, sense_format, step}
 use Rattle.sg_target.specs.declared.happening.Happening.{Happening}
 use Rattle.sg_target.specs.declared.refusal.Refusal.{Refusal}
@@ -21,6 +21,14 @@ pub record LimitsAreKept : Type 0 where
       → IsWithinLimits (step state initiator cdb data_out).state
   pub happening : (happening : Happening) (state : State) → IsWithinLimits state
       → IsWithinLimits (after_happening happening state)
+
+-- No command and no happening changes the configuration of a disk: its number of blocks, its pool,
+-- and its identity with its profile.
+pub record ConfigurationStays : Type 0 where
+  pub command : (state : State) (initiator : ℕ) (cdb data_out : List ℕ)
+      → config_of (step state initiator cdb data_out).state ≡ config_of state
+  pub happening : (happening : Happening) (state : State)
+      → config_of (after_happening happening state) ≡ config_of state
 
 -- An operation that finds a refusal on its way changes nothing: the reply reports the refusal, and
 -- the state stays, with each unit attention that is pending.

@@ -3,8 +3,8 @@
 ghost use Rattle.sg_target.specs.CommandLaws.{ReadsReturnTheirBlocks, UnmapsFollowTheirLists};
 ghost use Rattle.sg_target.specs.CommandLaws.{WriteSamesLeaveTheirBlock, WritesLeaveTheirData};
 ghost use Rattle.sg_target.specs.CommandLaws.{WritesOverUsedAddressesHaveSpace};
-ghost use Rattle.sg_target.specs.Laws.{AnchorsEachExtent, FoundRefusalsChangeNothing, LimitsAreKept};
-ghost use Rattle.sg_target.specs.Laws.{UnmapsEachExtent};
+ghost use Rattle.sg_target.specs.Laws.{AnchorsEachExtent, ConfigurationStays};
+ghost use Rattle.sg_target.specs.Laws.{FoundRefusalsChangeNothing, LimitsAreKept, UnmapsEachExtent};
 
 /// No command and no happening takes a table of the disk past its limit.
 pub fn limits_are_kept()
@@ -17,6 +17,12 @@ pub fn limits_are_kept()
     sg_store::laws::an_unmap_zeroes_the_blocks_of_its_range();
     sg_store::laws::remapping_takes_what_is_needed();
 }
+
+/// No command and no happening changes the number of blocks of a disk, its pool, or its identity. So
+/// a disk keeps its profile.
+pub fn the_configuration_stays()
+    ensures { ConfigurationStays }
+{}
 
 /// If an operation finds a refusal on its way, as a want of space, the command reports that refusal and
 /// changes nothing. No unit attention is cleared.

@@ -1,0 +1,5 @@
+use Rattle.sg_target.proofs.ConfigurationLemmas.{happening-keeps, step-keeps}
+use Rattle.sg_target.proofs.laws.the_configuration_stays.Goals as goal
+
+pub returns : goal.returns
+returns c = record { command = step-keeps; happening = happening-keeps }
