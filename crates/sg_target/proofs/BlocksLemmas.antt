@@ -24,7 +24,7 @@ use Rattle.sg_target.specs.Checks.{checked_parse, out_of_range, past_capacity}
 use Rattle.sg_target.specs.Checks.{requested, short_data_out, unsupported_value, write_protection}
 use Rattle.sg_target.specs.Config.{ConfigFields}
 use Rattle.sg_target.specs.Demands.{Demands, bad_count, demands, extent, takes}
-use Rattle.sg_target.specs.Demands.{too_long, unless_anchor_alone, unmap_extent, unmap_extents}
+use Rattle.sg_target.specs.Demands.{too_long, bad_anchor, unmap_extent, unmap_extents}
 use Rattle.sg_target.specs.Demands.{unmap_or_fill}
 use Rattle.sg_target.specs.Effect.{Effect}
 use Rattle.sg_target.specs.Extents.{AreOnDisk}
@@ -118,10 +118,10 @@ command-sound config (command.Write16 c) data_out =
     write-sound (extent c.lba c.count) (too_long config c.count 10) data_out
 command-sound config (command.WriteSame10 c) data_out =
     write_same-sound c.anchor c.unmap (extent c.lba c.count)
-    (unless_anchor_alone c.anchor c.unmap (bad_count config c.count 7)) data_out
+    (bad_anchor c.anchor c.unmap (bad_count config c.count 7)) data_out
 command-sound config (command.WriteSame16 c) data_out =
     write_same-sound c.anchor c.unmap (extent c.lba c.count)
-    (unless_anchor_alone c.anchor c.unmap (bad_count config c.count 10)) data_out
+    (bad_anchor c.anchor c.unmap (bad_count config c.count 10)) data_out
 command-sound config (command.Inquiry c) data_out =
     requested-sound (demands config (command.Inquiry c) data_out) data_out
     (when (ok_or (inquiry_page c.evpd c.page_code) (CheckCondition (InvalidFieldInCdb 2)))

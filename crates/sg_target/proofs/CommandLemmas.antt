@@ -16,17 +16,15 @@ use Rattle.sg_wire.specs.declared.command.Command.TheVariants as command
 use Rattle.sg_wire.specs.declared.command.provisioning.Unmap.{Unmap}
 use Rattle.sg_wire.specs.declared.extent.Extent.{Extent}
 use Rattle.sg_wire.specs.declared.unmap_list.UnmapListFault.{UnmapListFault}
-use Rattle.sg_store.specs.Disk.{Contents, block, block_at, lies_in, zero_block}
-use Rattle.sg_store.specs.LbaStatus.{status_at}
-use Rattle.sg_store.specs.Disk.{Mapping, need}
+use Rattle.sg_store.specs.Disk.{Contents, block, block_at, lies_in, zero_block, Mapping, need}
+use Rattle.sg_store.specs.LbaStatus.{status_at, status_in}
 use Rattle.sg_store.specs.Disk.Mapping.{Data}
-use Rattle.sg_store.specs.LbaStatus.{status_in}
 use Rattle.sg_store.specs.Laws.{RemappingTakesWhatIsNeeded}
 use Rattle.std.specs.FinMap.{contains_key, get, len}
 use Rattle.std.proofs.Common.{zero, suc, ap₂, is_some}
 use Rattle.sg_target.specs.Checks.{checked_cdb}
 use Rattle.sg_target.specs.CommandLaws.{WritesOverUsedAddressesHaveSpace}
-use Rattle.sg_target.specs.Refusal.{checked_next}
+use Rattle.sg_target.specs.Refusal.{checked_next, first_some, or_refused, when_sound}
 use Rattle.sg_target.proofs.NeedLemmas.{inside}
 use Rattle.sg_target.proofs.Space.{space-left}
 use Rattle.sg_store.specs.Laws.{AnchorsEachAddress, AnchorZeroesEachBlock, FillMapsEachAddress}
@@ -42,13 +40,12 @@ use Rattle.sg_target.specs.CommandLaws.{WriteSamesLeaveTheirBlock, WritesLeaveTh
 use Rattle.sg_target.specs.CommandLaws.{blocks_to_read, blocks_to_write, status_of_same}
 use Rattle.sg_target.specs.CommandLaws.{unmapped_status, write_same_fields}
 use Rattle.sg_target.specs.Config.{ConfigFields}
-use Rattle.sg_target.specs.Demands.{bad_count, demands, extent, unless_anchor_alone, unmap_extent}
+use Rattle.sg_target.specs.Demands.{bad_count, demands, extent, bad_anchor, unmap_extent}
 use Rattle.sg_target.specs.Demands.{unmap_extents, unmap_or_fill}
 use Rattle.sg_target.specs.Effect.{Effect, with_contents}
 use Rattle.sg_target.specs.Laws.{AnchorsEachExtent, UnmapsEachExtent, lies_in_any}
 use Rattle.sg_target.specs.ProvisioningCommands.{anchoring, block_out, filling, unmap_list_refusal}
 use Rattle.sg_target.specs.ProvisioningCommands.{unmapping, unmaps}
-use Rattle.sg_target.specs.Refusal.{first_some, or_refused, when_sound}
 use Rattle.sg_target.specs.Semantics.{effect_of}
 use Rattle.sg_target.specs.State.{State, config_of}
 use Rattle.sg_target.specs.Step.{Step, executed, outcome, refused, step}
@@ -321,9 +318,9 @@ same-long : (config : ConfigFields) (k : Command) (data_out : List ℕ) (c : Wri
     → first_some (request_checks (demands config k data_out) data_out) ≡ None
     → write_same_fields (Ok k) ≡ Some c → 512 ≤ length data_out
 same-long config (command.WriteSame10 w) data_out c e h =
-    long_enough (unless_anchor_alone w.anchor w.unmap (bad_count config w.count 7)) 512 data_out e
+    long_enough (bad_anchor w.anchor w.unmap (bad_count config w.count 7)) 512 data_out e
 same-long config (command.WriteSame16 w) data_out c e h =
-    long_enough (unless_anchor_alone w.anchor w.unmap (bad_count config w.count 10)) 512 data_out e
+    long_enough (bad_anchor w.anchor w.unmap (bad_count config w.count 10)) 512 data_out e
 same-long config _ data_out c e h = cc
 
 -- a block of zeros is the block of zeros

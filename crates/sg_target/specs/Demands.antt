@@ -21,11 +21,11 @@ use Rattle.sg_wire.specs.declared.extent.Extent.{Extent}
 use Rattle.sg_target.specs.BlockCommands.{blocks_out, bytes_of}
 use Rattle.sg_pages.specs.BlockDescriptor.{logical_block_length}
 use Rattle.sg_target.specs.Config.{ConfigFields, limits_for}
-use Rattle.sg_target.specs.ModeCommands.{unless_page_format}
+use Rattle.sg_target.specs.ModeCommands.{bad_page_format}
 use Rattle.sg_target.specs.PrimaryCommands.{format_of, inquiry_page}
 use Rattle.sg_target.specs.ProvisioningCommands.{block_out, listed_extents, unmaps}
 use Rattle.sg_target.specs.Refusal.{when_sound}
-use Rattle.sg_target.specs.ReservationCommands.{fields_out, unless_type}
+use Rattle.sg_target.specs.ReservationCommands.{fields_out, bad_type}
 use Rattle.sg_target.specs.declared.operation.Operation.{Operation}
 use Rattle.sg_target.specs.declared.operation.Operation.TheVariants as operation
 use Rattle.sg_target.specs.declared.refusal.Reason.TheVariants.{InvalidFieldInCdb}
@@ -66,7 +66,7 @@ inquiry c =
 
 abbrev pub mode_select : CdbWidth → (pf sp : Bool) (list_length : ℕ) (data_out : List ℕ) → Demands
 mode_select width pf sp n data_out =
-    takes n (unless_page_format pf) (Ok (operation.ChangeModes width sp (first_bytes n data_out)))
+    takes n (bad_page_format pf) (Ok (operation.ChangeModes width sp (first_bytes n data_out)))
 
 abbrev pub mode_select_6 : ModeSelect6 → (data_out : List ℕ) → Demands
 mode_select_6 c data_out = mode_select Six c.pf c.sp c.list_length data_out
@@ -89,7 +89,7 @@ mode_sense_10 blocks c = mode_sense Ten c.llbaa c.page blocks c.allocation_lengt
 
 abbrev pub reserve_out : PersistentReserveOut → (data_out : List ℕ) → Demands
 reserve_out c data_out =
-    takes c.list_length (unless_type c.action c.scope_type)
+    takes c.list_length (bad_type c.action c.scope_type)
     (when_sound (fields_out (first_bytes c.list_length data_out))
     (operation.ChangeReservations c.action c.scope_type))
 
@@ -113,8 +113,8 @@ write extent unsupported data_out =
     takes (bytes_of extent) unsupported (Ok (operation.Write (blocks_out extent data_out)))
 
 -- Without UNMAP no block is anchored: ANCHOR, in byte 1, is not supported then.
-abbrev pub unless_anchor_alone : (anchor unmap : Bool) → (otherwise : Option ℕ) → Option ℕ
-unless_anchor_alone anchor unmap otherwise = if anchor && not unmap then Some 1 else otherwise
+abbrev pub bad_anchor : (anchor unmap : Bool) → (otherwise : Option ℕ) → Option ℕ
+bad_anchor anchor unmap otherwise = if anchor && not unmap then Some 1 else otherwise
 
 -- WRITE SAME writes at least one block, and no more than the page Block Limits says; the byte is
 -- where NUMBER OF LOGICAL BLOCKS begins.
@@ -135,7 +135,7 @@ unmap_or_fill anchor unmap extent block =
 abbrev pub write_same : ConfigFields → (anchor unmap : Bool) → Extent → (byte : ℕ)
     → (data_out : List ℕ) → Demands
 write_same config anchor unmap extent byte data_out =
-    takes logical_block_length (unless_anchor_alone anchor unmap (bad_count config extent.count byte))
+    takes logical_block_length (bad_anchor anchor unmap (bad_count config extent.count byte))
     (Ok (unmap_or_fill anchor unmap extent (block_out data_out)))
 
 abbrev pub write_same_10 : ConfigFields → WriteSame10 → (data_out : List ℕ) → Demands

@@ -37,7 +37,7 @@ abbrev pub without_attention : State → (initiator : ℕ) → State
 without_attention state initiator =
     record state { attentions = without_oldest state.attentions initiator }
 
--- Other blocks are mapped.
+-- The disk has other contents.
 abbrev pub with_contents : State → Contents → State
 with_contents state contents = record state { disk = record state.disk { contents = contents } }
 

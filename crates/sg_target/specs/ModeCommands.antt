@@ -66,5 +66,5 @@ changing_modes state initiator modes = let changed = (changed_by state.modes mod
 -- set.
 -- Departure (SPC-4, 6.11): with PF 0 a list of no byte is no error there.
 -- Choice (SPC-4, 6.11): with PF 0 pages of the vendor may be sent.
-abbrev pub unless_page_format : (pf : Bool) → Option ℕ
-unless_page_format pf = if pf then None else Some 1
+abbrev pub bad_page_format : (pf : Bool) → Option ℕ
+bad_page_format pf = if pf then None else Some 1

@@ -52,8 +52,8 @@ always_needs_type _ = false
 
 -- Departure (SPC-4, 5.13, releasing): GOOD for a registrant that holds nothing there.
 -- Choice (SPC-4, 5.13, reserving): a conflict may come before a bad SCOPE or TYPE.
-unfoldable pub unless_type : OutAction → (scope_type : ℕ) → Option ℕ
-unless_type action scope_type =
+unfoldable pub bad_type : OutAction → (scope_type : ℕ) → Option ℕ
+bad_type action scope_type =
     if always_needs_type action && is_none (type_of scope_type) then Some 2 else None
 
 -- The status or the sense data of each fault.

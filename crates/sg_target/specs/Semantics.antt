@@ -71,7 +71,9 @@ medium_use (ChangeReservations action scope_type list) = uses_no_block
 -- ---- The effect
 
 -- The effect of an initiator's operation, or what is wrong with its page or its parameter list on a
--- disk in this state. SYNCHRONIZE CACHE does nothing, because there is no cache.
+-- disk in this state. SYNCHRONIZE CACHE does nothing, because there is no cache. `Fill` is a WRITE
+-- SAME that writes its block, and a WRITE SAME that unmaps or anchors is `UnmapExtent` or
+-- `AnchorExtent`.
 abbrev pub effect_of : State → (initiator : ℕ) → Operation → Result Effect Refusal
 effect_of state i Nothing = Ok (no_effect state)
 effect_of state i (ReturnSense format n) = Ok (returning_sense state i format n)

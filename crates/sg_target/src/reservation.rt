@@ -97,7 +97,7 @@ fn always_needs_type(action: OutAction) -> bool
     matches!(action, OutAction::Reserve | OutAction::Release)
 }
 
-#[tactic(auto, unfolding(crate::specs::ReservationCommands::unless_type))]
+#[tactic(auto, unfolding(crate::specs::ReservationCommands::bad_type))]
 pub(crate) fn check_reserve_out(
     fields: PersistentReserveOut,
     data_out: &[u8],
