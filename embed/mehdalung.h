@@ -160,8 +160,14 @@ void mdl_free(mdl_disk *disk);
  * enough for a command that a check refuses. Any other command needs as many bytes as it asks for:
  *     - READ: the bytes of its blocks.
  *     - READ CAPACITY(10): 8 bytes.
- *     - READ CAPACITY(16): the allocation length, and no more than 32 bytes.
- *     - Other commands: the allocation length, at most MDL_BUFFER_LENGTH; 0 if they have none. */
+ *     - A command with an allocation length: that length, and no more than its longest data:
+ *           REQUEST SENSE              18
+ *           READ CAPACITY(16)          32
+ *           INQUIRY                    64
+ *           MODE SENSE                 80
+ *           PERSISTENT RESERVE IN     296
+ *           GET LBA STATUS          8,200
+ *     - Other commands: 0. */
 mdl_error mdl_execute(mdl_disk *disk, uint32_t initiator, const uint8_t *cdb, size_t cdb_length,
                       const uint8_t *data_out, size_t data_out_length, uint8_t *data_in,
                       size_t data_in_length, mdl_reply *reply);

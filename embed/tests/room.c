@@ -48,13 +48,14 @@ static const struct {
 } commands[] = {
     { { 0x00 }, 6, 0, MDL_GOOD },                                 /* TEST UNIT READY */
     { { 0x12, 0, 0, 0, 36 }, 6, 36, MDL_GOOD },                   /* INQUIRY */
-    { { 0x12, 0, 0, 1, 0 }, 6, 256, MDL_GOOD },                   /* and more than it has */
+    { { 0x12, 0, 0, 1, 0 }, 6, 64, MDL_GOOD },                    /* and more than it has */
     { { 0x12, 0, 0, 0, 5 }, 6, 5, MDL_GOOD },                     /* and less */
     { { 0x12, 1, 0xFF, 0, 36 }, 6, 0, MDL_CHECK_CONDITION },      /* a page that is not there */
-    { { 0x03, 0, 0, 0, 18 }, 6, 18, MDL_GOOD },                   /* REQUEST SENSE */
-    { { 0x1A, 0, 0x3F, 0, 255 }, 6, 255, MDL_GOOD },              /* MODE SENSE(6) */
-    { { 0x5A, 0, 0x3F, [7] = 1, 2 }, 10, 258, MDL_GOOD },         /* MODE SENSE(10) */
-    { { 0x1A, 0, 0x3E, 0, 255 }, 6, 255, MDL_CHECK_CONDITION },   /* refused as it is executed */
+    { { 0x03, 0, 0, 0, 17 }, 6, 17, MDL_GOOD },                   /* REQUEST SENSE */
+    { { 0x03, 0, 0, 0, 252 }, 6, 18, MDL_GOOD },
+    { { 0x1A, 0, 0x3F, 0, 255 }, 6, 80, MDL_GOOD },               /* MODE SENSE(6) */
+    { { 0x5A, 0x10, 0x3F, [7] = 1, 2 }, 10, 80, MDL_GOOD },       /* MODE SENSE(10) */
+    { { 0x1A, 0, 0x3E, 0, 255 }, 6, 80, MDL_CHECK_CONDITION },    /* refused as it is executed */
     { { 0x25 }, 10, 8, MDL_GOOD },                                /* READ CAPACITY(10) */
     { { 0x9E, 0x10, [13] = 12 }, 16, 12, MDL_GOOD },              /* READ CAPACITY(16) */
     { { 0x9E, 0x10, [12] = 1 }, 16, 32, MDL_GOOD },
@@ -67,9 +68,10 @@ static const struct {
     { { 0x88, [13] = 1 }, 16, 512, MDL_GOOD },                    /* READ(16) */
     { { 0x2A, [8] = 1 }, 10, 0, MDL_GOOD },                       /* WRITE(10) */
     { { 0x9E, 0x12, [13] = 24 }, 16, 24, MDL_GOOD },              /* GET LBA STATUS */
-    { { 0x9E, 0x12, [10] = 1 }, 16, MDL_BUFFER_LENGTH, MDL_GOOD }, /* and more than it has */
+    { { 0x9E, 0x12, [10] = 1 }, 16, 8200, MDL_GOOD },             /* and more than it has */
     { { 0x5E, 0, [8] = 255 }, 10, 255, MDL_GOOD },                /* READ KEYS */
     { { 0x5E, 3, [7] = 1 }, 10, 256, MDL_GOOD },                  /* READ FULL STATUS */
+    { { 0x5E, 3, [7] = 2 }, 10, 296, MDL_GOOD },                  /* and more than it has */
     { { 0xFF }, 10, 0, MDL_CHECK_CONDITION },                     /* no command */
     { { 0x00 }, 0, 0, MDL_CHECK_CONDITION },                      /* no byte */
 };

@@ -4,7 +4,7 @@ pub mod LiftLemmas
 pub mod SenseLemmas
 pub mod RunLemmas
 -- Parameter data.
-pub mod CapacityLemmas
+pub mod LengthLemmas
 pub mod ModeLemmas
 pub mod StatusLemmas
 -- Extents: those on the disk, those that are unmapped, those that are joined and anchored.

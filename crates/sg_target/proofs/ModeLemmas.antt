@@ -1,5 +1,5 @@
 -- MODE SENSE returns a list or is refused.
-use Rattle.std.proofs.Common.{◌≡◌, ℕ, zero, suc, List, [], length, Result, Ok, Err, refl, sym, ap, ◌∙◌}
+use Rattle.std.proofs.Common.{◌≡◌, ◌≤◌, min, ℕ, zero, suc, List, [], length, Result, Ok, Err, refl, sym, ap, subst, ◌∙◌}
 use Rattle.std.specs.Prelude.{IfOk, IfErr}
 use Rattle.std.specs.Result.{result_map_both}
 use Rattle.sg_store.specs.Meter.{no_counts}
@@ -9,6 +9,7 @@ use Rattle.sg_pages.specs.ModeSense.{RequestFields, mode_sense}
 use Rattle.sg_pages.specs.declared.mode_pages.request.ModeSenseFault.{ModeSenseFault}
 use Rattle.sg_pages.specs.declared.mode_pages.request.ModeSenseFault.TheVariants.{Page, Subpage}
 use Rattle.sg_wire.specs.FirstBytes.{first_bytes, overwritten}
+use Rattle.sg_target.proofs.LengthLemmas.{cut-at}
 use Rattle.sg_target.specs.Effect.{returning_up_to}
 use Rattle.sg_target.specs.ModeCommands.{mode_parameters, sense_refusal}
 use Rattle.sg_target.specs.Reply.{Carries}
@@ -40,6 +41,15 @@ pub if-fault : (P : Type 0) (fault : ModeSenseFault) (sensed : Result (List ℕ)
 if-fault P fault (Ok list) e p = cc
 if-fault P fault (Err other) e p = p
 
+same-list : (sensed : Result (List ℕ) ModeSenseFault) (one other : List ℕ) → sensed ≡ Ok one
+    → sensed ≡ Ok other → one ≡ other
+same-list sensed one other e f = cc
+
+pub if-list : (P : List ℕ → Type 0) (list : List ℕ) (sensed : Result (List ℕ) ModeSenseFault)
+    → sensed ≡ Ok list → IfOk sensed P → P list
+if-list P list (Ok other) e p = subst P (same-list (Ok other) other list refl e) p
+if-list P list (Err fault) e p = cc
+
 pub nothing-put : (limit : ℕ) (buffer : List ℕ)
     → overwritten (first_bytes limit []) buffer ≡ buffer
 nothing-put zero buffer = refl
@@ -64,12 +74,12 @@ module _ (state : State) (i n : ℕ) (request request' : RequestFields) (modes :
   unfolding mode_parameters
   refused-by fault e = rw e refl
 
-  pub list-carried : (list : List ℕ) (limit len : ℕ) → limit ≡ n
+  pub list-carried : (list : List ℕ) (limit most len : ℕ) → limit ≡ min most n → length list ≤ most
       → mode_sense modes request' ≡ Ok list → len ≡ length (first_bytes limit list)
       → after ≡ overwritten (first_bytes limit list) before → reply ≡ executed_reply len no_counts
       → Carries (step_by state i (ReturnModes request n)).answer reply before after
-  list-carried list limit len cut e size bytes is =
-      let same = ap (λ k. first_bytes k list) cut in
+  list-carried list limit most len cut short e size bytes is =
+      let same = cut-at limit most n list cut short in
       rw (returned list (at-state (Ok list) e)) (record {
         status = ap (λ (r : Reply). r.status) is;
         sense = ap (λ (r : Reply). r.sense) is;

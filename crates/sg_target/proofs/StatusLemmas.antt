@@ -6,13 +6,12 @@ use Rattle.std.specs.Prelude.{nat_lt}
 use Rattle.std.specs.List.{flat_map}
 use Rattle.std.proofs.lemmas.List.{take_min}
 use Rattle.sg_store.specs.Disk.{Contents, Disk}
-use Rattle.sg_wire.specs.LbaStatus.{descriptor_bytes}
-use Rattle.sg_store.specs.LbaStatus.{count_alike, descriptor_at}
-use Rattle.sg_wire.specs.LbaStatus.{status_data}
-use Rattle.sg_store.specs.LbaStatus.{descriptors_from, lba_status}
+use Rattle.sg_wire.specs.LbaStatus.{descriptor_bytes, status_data}
+use Rattle.sg_store.specs.LbaStatus.{count_alike, descriptor_at, descriptors_from, lba_status}
 use Rattle.sg_wire.specs.declared.lba_status.StatusDescriptor.{StatusDescriptor}
 use Rattle.sg_store.specs.declared.store.Counts.{Counts}
 use Rattle.sg_wire.specs.FirstBytes.{first_bytes, overwritten}
+use Rattle.sg_target.proofs.LengthLemmas.{cut-within}
 use Rattle.sg_target.specs.MadeReplies.{executed_reply}
 use Rattle.sg_target.specs.Reply.{Carries}
 use Rattle.sg_target.specs.Step.{good}
@@ -43,12 +42,6 @@ unfolding status_data
 status-within disk start =
     let found = lba_status disk start in
     omega (arith, length-descriptors found, descriptors-within disk.contents disk.capacity start 512)
-
-cut-within : (most n : ℕ) (full : List ℕ) → length full ≤ most
-    → take (min most n) full ≡ take n full
-cut-within most n full h =
-    let least : min (min most n) (length full) ≡ min n (length full) = omega arith in
-    sym (take_min (min most n) full) ∙ ap (λ k. take k full) least ∙ take_min n full
 
 -- a longer allocation length than the buffer has cuts nothing more
 pub cut-status : (most n : ℕ) (disk : Disk) (start : ℕ) → 8200 ≤ most

@@ -1,12 +1,21 @@
 -- Data-in that no refusal follows, in the words of the definitions.
-use Rattle.std.specs.Prelude.{ℕ, List}
+use Rattle.std.specs.Prelude.{ℕ, Bool, true, false, List}
 use Rattle.sg_wire.specs.SenseData.{sense_data}
 use Rattle.sg_pages.specs.CapacityData.{capacity_10, capacity_16}
+use Rattle.sg_pages.specs.DataLengths.{capacity_10_length, capacity_16_length}
 use Rattle.sg_pages.specs.Identity.{IdentityFields}
 use Rattle.sg_units.specs.declared.reservation_state.ReservationState.{ReservationState}
+use Rattle.sg_units.specs.FullStatus.{longest_reserve_in}
+use Rattle.sg_target.specs.DataInBound.{longest_inquiry, longest_sense}
 use Rattle.sg_target.specs.PrimaryCommands.{inquiry_data}
 use Rattle.sg_target.specs.Refusal.{pending_sense}
 use Rattle.sg_target.specs.ReservationCommands.{reserve_in_data}
+use Rattle.sg_target.specs.declared.operation.Operation.{Operation}
+use Rattle.sg_target.specs.declared.operation.Operation.TheVariants.{ReturnSense, ReturnInquiry}
+use Rattle.sg_target.specs.declared.operation.Operation.TheVariants.{ReturnModes, ReturnCapacity10}
+use Rattle.sg_target.specs.declared.operation.Operation.TheVariants.{ReturnCapacity16, Read}
+use Rattle.sg_target.specs.declared.operation.Operation.TheVariants.{ReturnLbaStatus}
+use Rattle.sg_target.specs.declared.operation.Operation.TheVariants.{ReturnReservations}
 use Rattle.sg_target.specs.declared.data_in.DataIn.{DataIn}
 use Rattle.sg_target.specs.declared.data_in.DataIn.TheVariants.{Sense, Inquiry, Reservations}
 use Rattle.sg_target.specs.declared.data_in.DataIn.TheVariants.{Capacity10, Capacity16}
@@ -19,3 +28,23 @@ data_of identity capacity reservations (Inquiry page) = inquiry_data identity pa
 data_of identity capacity reservations (Reservations action) = reserve_in_data reservations action
 data_of identity capacity reservations Capacity10 = capacity_10 capacity
 data_of identity capacity reservations Capacity16 = capacity_16 capacity
+
+-- An operation returns data.
+abbrev pub returns_data : Operation → Bool
+returns_data (ReturnSense format n) = true
+returns_data (ReturnInquiry page n) = true
+returns_data (ReturnModes request n) = true
+returns_data ReturnCapacity10 = true
+returns_data (ReturnCapacity16 n) = true
+returns_data (Read extent) = true
+returns_data (ReturnLbaStatus start n) = true
+returns_data (ReturnReservations action n) = true
+returns_data operation = false
+
+-- The length of the longest data-in of a kind, in bytes.
+abbrev pub longest_of : DataIn → ℕ
+longest_of (Sense condition format) = longest_sense
+longest_of (Inquiry page) = longest_inquiry
+longest_of (Reservations action) = longest_reserve_in
+longest_of Capacity10 = capacity_10_length
+longest_of Capacity16 = capacity_16_length

@@ -1,6 +1,11 @@
 -- How long the buffer for data-in has to be, by what a command asks for.
-use Rattle.std.specs.Prelude.{ℕ, min, List, Result, Ok, Err}
-use Rattle.sg_target.specs.BlockCommands.{bytes_of, longest_data_in}
+use Rattle.std.specs.Prelude.{ℕ, max, min, List, Result, Ok, Err}
+use Rattle.sg_wire.specs.LbaStatus.{status_data_length}
+use Rattle.sg_store.specs.LbaStatus.{max_descriptors}
+use Rattle.sg_pages.specs.DataLengths.{capacity_10_length, capacity_16_length, longest_list}
+use Rattle.sg_pages.specs.DataLengths.{longest_page, standard_inquiry_length}
+use Rattle.sg_units.specs.FullStatus.{longest_reserve_in}
+use Rattle.sg_target.specs.BlockCommands.{bytes_of}
 use Rattle.sg_target.specs.Checks.{checked_cdb}
 use Rattle.sg_target.specs.State.{State}
 use Rattle.sg_target.specs.declared.operation.Operation.{Operation}
@@ -11,24 +16,30 @@ use Rattle.sg_target.specs.declared.operation.Operation.TheVariants.{ReturnLbaSt
 use Rattle.sg_target.specs.declared.operation.Operation.TheVariants.{ReturnReservations}
 use Rattle.sg_target.specs.declared.refusal.Refusal.{Refusal}
 
--- The lengths of READ CAPACITY parameter data, in bytes (SBC-3, 5.15.2 and 5.16.2).
-abbrev pub capacity_10_length : ℕ
-capacity_10_length = 8
+-- The longest data-in of a command, in bytes.
 
-abbrev pub capacity_16_length : ℕ
-capacity_16_length = 32
+-- REQUEST SENSE: fixed format (SPC-4, 4.5.3). Descriptor format is shorter, because a unit attention
+-- has neither INFORMATION nor a field pointer.
+abbrev pub longest_sense : ℕ
+longest_sense = 18
 
--- The most bytes of data-in that an operation returns: its allocation length, or the length of its
--- data where no allocation length is shorter. Other operations return none.
+abbrev pub longest_inquiry : ℕ
+longest_inquiry = max standard_inquiry_length longest_page
+
+abbrev pub longest_status : ℕ
+longest_status = status_data_length max_descriptors
+
+-- The most bytes of data-in that an operation returns: its allocation length, or the longest data
+-- that it can return, if that is less. Other operations return none.
 abbrev pub data_in_bound : Operation → ℕ
-data_in_bound (ReturnSense format n) = n
-data_in_bound (ReturnInquiry page n) = n
-data_in_bound (ReturnModes request n) = n
+data_in_bound (ReturnSense format n) = min longest_sense n
+data_in_bound (ReturnInquiry page n) = min longest_inquiry n
+data_in_bound (ReturnModes request n) = min longest_list n
 data_in_bound ReturnCapacity10 = capacity_10_length
 data_in_bound (ReturnCapacity16 n) = min capacity_16_length n
 data_in_bound (Read extent) = bytes_of extent
-data_in_bound (ReturnLbaStatus start n) = min longest_data_in n
-data_in_bound (ReturnReservations action n) = n
+data_in_bound (ReturnLbaStatus start n) = min longest_status n
+data_in_bound (ReturnReservations action n) = min longest_reserve_in n
 data_in_bound operation = 0
 
 -- The same for a command that the checks have passed, or refused.

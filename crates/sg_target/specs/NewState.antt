@@ -1,8 +1,7 @@
 -- The state of a new disk.
 use Rattle.sg_store.specs.Disk.{empty_disk}
 use Rattle.sg_pages.specs.ModePowerOn.{initial_state}
-use Rattle.sg_units.specs.PowerOn.{power_on_pending}
-use Rattle.sg_units.specs.PowerOn.{empty_state}
+use Rattle.sg_units.specs.PowerOn.{power_on_pending, empty_state}
 use Rattle.sg_target.specs.Config.{ConfigFields}
 use Rattle.sg_target.specs.State.{State}
 

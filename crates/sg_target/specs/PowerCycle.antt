@@ -1,7 +1,6 @@
 -- The disk after a power cycle.
 use Rattle.sg_pages.specs.ModePowerOn.{after_power_on as pages_after_power_on}
-use Rattle.sg_units.specs.PowerOn.{power_on_pending}
-use Rattle.sg_units.specs.PowerOn.{after_power_on as reservations_after_power_on}
+use Rattle.sg_units.specs.PowerOn.{power_on_pending, after_power_on as reservations_after_power_on}
 use Rattle.sg_target.specs.State.{State}
 
 -- The blocks are as they were. The saved mode pages are the current ones (SPC-4, 7.5).

@@ -204,7 +204,7 @@ impl<S: Store> Target<S> {
 
 impl<S: Store> Target<S> {
     /// Returns READ CAPACITY(10) parameter data.
-    #[tactic(auto, using(crate::proofs::CapacityLemmas::capacity_lengths))]
+    #[tactic(auto, using(crate::proofs::LengthLemmas::data_lengths))]
     pub(crate) fn return_capacity_10(&self, buf: &mut [u8]) -> Reply
         requires { CAPACITY_10_LENGTH ≤ length buf.old }
         ensures { ReturnsData (capacity_10 self.now.state.disk.capacity) result buf.old buf.new }
@@ -213,13 +213,11 @@ impl<S: Store> Target<S> {
     }
 
     /// Returns READ CAPACITY(16) parameter data.
-    #[tactic(auto, using(crate::proofs::CapacityLemmas::capacity_lengths))]
     pub(crate) fn return_capacity_16(&self, allocation_length: u32, buf: &mut [u8]) -> Reply
         requires { min CAPACITY_16_LENGTH allocation_length ≤ length buf.old }
         ensures { let full = capacity_16 self.now.state.disk.capacity in
             ReturnsData (first_bytes allocation_length full) result buf.old buf.new }
     {
-        let limit = CAPACITY_16_LENGTH.min(allocation_length as usize);
-        self.return_data(DataIn::Capacity16, limit, buf)
+        self.return_data(DataIn::Capacity16, allocation_length as usize, buf)
     }
 }

@@ -1,19 +1,19 @@
 // Data-in that is in no block, and its writing.
-ghost use Rattle.std.specs.Prelude.{◌≡◌, ◌≤◌, length};
+ghost use Rattle.std.specs.Prelude.{◌≡◌, ◌≤◌, length, min};
 ghost use Rattle.sg_wire.specs.Cut.{Puts};
 ghost use Rattle.sg_wire.specs.FirstBytes.{first_bytes, overwritten};
-ghost use Rattle.sg_target.specs.DataIn.{data_of};
+ghost use Rattle.sg_target.specs.DataIn.{data_of, longest_of};
 ghost use Rattle.sg_target.specs.MadeReplies.{ReturnsData};
 
 use crate::config::Config;
-use crate::primary::InquiryPage;
+use crate::primary::{InquiryPage, LONGEST_INQUIRY_DATA, LONGEST_SENSE_DATA};
 use crate::refusal::pending_sense;
 use crate::reply::Reply;
 use crate::reservation::write_reserve_in_data;
 use crate::target::Target;
-use sg_pages::{write_capacity_10, write_capacity_16};
+use sg_pages::{CAPACITY_10_LENGTH, CAPACITY_16_LENGTH, write_capacity_10, write_capacity_16};
 use sg_store::Store;
-use sg_units::{Reservations, UnitAttention};
+use sg_units::{LONGEST_RESERVE_IN_DATA, Reservations, UnitAttention};
 use sg_wire::laws::answers_are_in_their_buffers;
 use sg_wire::{Cut, Format, InAction};
 
@@ -34,30 +34,47 @@ pub(crate) enum DataIn {
 }
 
 impl DataIn {
-    /// Writes the data at the beginning of a buffer, at most `limit` bytes of it. Returns the
-    /// number of bytes that were written.
+    /// The length of the longest data of its kind, in bytes.
+    fn longest(self) -> usize
+        ensures { result ≡ longest_of self }
+    {
+        match self {
+            DataIn::Sense { .. } => LONGEST_SENSE_DATA,
+            DataIn::Inquiry(_) => LONGEST_INQUIRY_DATA,
+            DataIn::Reservations(_) => LONGEST_RESERVE_IN_DATA,
+            DataIn::Capacity10 => CAPACITY_10_LENGTH,
+            DataIn::Capacity16 => CAPACITY_16_LENGTH,
+        }
+    }
+
+    /// Writes the data at the beginning of a buffer, at most `allocation_length` bytes of it.
+    /// Returns the number of bytes that were written.
     pub(crate) fn write_up_to(
         self,
-        limit: usize,
+        allocation_length: usize,
         config: &Config,
         reservations: &Reservations,
         buf: &mut [u8],
     ) -> usize
-        requires { limit ≤ length buf.old }
+        requires { min (longest_of self) allocation_length ≤ length buf.old }
         ensures length { let full = data_of config.now.identity config.now.blocks reservations.now self in
-            result ≡ length (first_bytes limit full) }
+            result ≡ length (first_bytes allocation_length full) }
         ensures data_in { let full = data_of config.now.identity config.now.blocks reservations.now self in
-            buf.new ≡ overwritten (first_bytes limit full) buf.old }
+            buf.new ≡ overwritten (first_bytes allocation_length full) buf.old }
     {
+        let limit = self.longest().min(allocation_length);
         answers_are_in_their_buffers();
         let mut cut = Cut::new(buf, limit);
         self.write(config, reservations, &mut cut);
         cut.written()
     }
 
+    #[tactic(auto, using(crate::proofs::LengthLemmas::data_lengths))]
     fn write(self, config: &Config, reservations: &Reservations, cut: &mut Cut)
-        ensures { Puts cut.old cut.new
+        ensures data { Puts cut.old cut.new
             (data_of config.now.identity config.now.blocks reservations.now self) }
+        ensures at_most { length (data_of config.now.identity config.now.blocks reservations.now self)
+            ≤ longest_of self }
     {
         match self {
             DataIn::Sense { condition, format } => pending_sense(condition).write(format, cut),
@@ -70,14 +87,20 @@ impl DataIn {
 }
 
 impl<S: Store> Target<S> {
-    /// Returns data, at most `limit` bytes of it.
-    pub(crate) fn return_data(&self, data_in: DataIn, limit: usize, buf: &mut [u8]) -> Reply
-        requires { limit ≤ length buf.old }
+    /// Returns data, at most `allocation_length` bytes of it.
+    pub(crate) fn return_data(
+        &self,
+        data_in: DataIn,
+        allocation_length: usize,
+        buf: &mut [u8],
+    ) -> Reply
+        requires { min (longest_of data_in) allocation_length ≤ length buf.old }
         ensures { let state = self.now.state in
             let full = data_of state.identity state.disk.capacity state.reservations data_in in
-            ReturnsData (first_bytes limit full) result buf.old buf.new }
+            ReturnsData (first_bytes allocation_length full) result buf.old buf.new }
     {
-        let written = data_in.write_up_to(limit, &self.config, &self.reservations, buf);
+        let config = &self.config;
+        let written = data_in.write_up_to(allocation_length, config, &self.reservations, buf);
         Reply::without_blocks(written)
     }
 }

@@ -1,5 +1,6 @@
 // MODE SENSE and MODE SELECT (SPC-4, 6).
-ghost use Rattle.std.specs.Prelude.{◌≡◌, ◌≤◌, ◌<◌, ◌^◌, [], length};
+ghost use Rattle.std.specs.Prelude.{◌≡◌, ◌≤◌, ◌<◌, ◌^◌, [], length, min};
+ghost use Rattle.sg_pages.specs.DataLengths.{longest_list};
 ghost use Rattle.sg_target.specs.Checks.{requested};
 ghost use Rattle.sg_target.specs.Demands.{mode_select, mode_select_6, mode_select_10};
 ghost use Rattle.sg_target.specs.Demands.{mode_sense_6, mode_sense_10};
@@ -13,7 +14,7 @@ use crate::operation::Operation;
 use crate::refusal::{Reason, Refusal};
 use crate::reply::Reply;
 use crate::target::Target;
-use sg_pages::{Changed, ModeSelectFault, ModeSenseFault, ModeSenseRequest};
+use sg_pages::{Changed, LONGEST_MODE_LIST, ModeSelectFault, ModeSenseFault, ModeSenseRequest};
 use sg_store::{Counts, Store};
 use sg_units::{Raised, UnitAttention};
 use sg_wire::laws::{answers_are_in_their_buffers, parts_are_put_in_turn};
@@ -100,14 +101,15 @@ impl<S: Store> Target<S> {
         buf: &mut [u8],
     ) -> Reply
         requires limits { IsWithinLimits self.old.state }
-        requires room { allocation_length ≤ length buf.old }
+        requires room { min longest_list allocation_length ≤ length buf.old }
         ensures { let operation = Operation.ReturnModes requested.now allocation_length in
             TakesStep (cost_bounds S.price S.least) (step_by self.old.state initiator operation)
             [] self.old self.new result buf.old buf.new }
     {
+        let limit = LONGEST_MODE_LIST.min(usize::from(allocation_length));
         answers_are_in_their_buffers();
         parts_are_put_in_turn();
-        let mut cut = Cut::new(buf, usize::from(allocation_length));
+        let mut cut = Cut::new(buf, limit);
         match self.modes.sense(&requested.request, &mut cut) {
             Ok(()) => Reply::without_blocks(cut.written()),
             Err(fault) => self.refuse(initiator, Refusal::from(fault), Counts::default()),

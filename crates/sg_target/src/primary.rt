@@ -1,8 +1,9 @@
 // REQUEST SENSE and INQUIRY (SPC-4, 6). TEST UNIT READY has nothing to check or to do.
-ghost use Rattle.std.specs.Prelude.{◌≡◌, ◌≤◌, [], length};
+ghost use Rattle.std.specs.Prelude.{◌≡◌, ◌≤◌, [], length, min};
 ghost use Rattle.sg_wire.specs.Cut.{Puts};
 ghost use Rattle.sg_wire.specs.FirstBytes.{first_bytes};
 ghost use Rattle.sg_target.specs.Checks.{requested};
+ghost use Rattle.sg_target.specs.DataInBound.{longest_inquiry, longest_sense};
 ghost use Rattle.sg_target.specs.Demands.{inquiry};
 ghost use Rattle.sg_target.specs.Effect.{without_attention};
 ghost use Rattle.sg_target.specs.PrimaryCommands.{format_of, inquiry_data, inquiry_page};
@@ -14,11 +15,14 @@ use crate::operation::Operation;
 use crate::refusal::{Reason, Refusal};
 use crate::reply::{Reply, format_of};
 use crate::target::Target;
-use sg_pages::{Identity, VpdPage, write_standard_inquiry, write_vpd_page};
+use sg_pages::{Identity, LONGEST_VPD_PAGE, VpdPage, write_standard_inquiry, write_vpd_page};
 use sg_store::Store;
 use sg_wire::{Cut, Format, Initiator, Inquiry, RequestSense};
 
 // ---- REQUEST SENSE
+
+/// The length of the longest data of REQUEST SENSE, in bytes: fixed format (SPC-4, 4.5.3).
+pub(crate) const LONGEST_SENSE_DATA: usize = 18;
 
 pub(crate) fn check_request_sense(fields: RequestSense) -> Operation<'static>
     ensures { result ≡ Operation.ReturnSense (format_of fields.desc) fields.allocation_length }
@@ -38,7 +42,7 @@ impl<S: Store> Target<S> {
         allocation_length: u8,
         buf: &mut [u8],
     ) -> Reply
-        requires { allocation_length ≤ length buf.old }
+        requires { min longest_sense allocation_length ≤ length buf.old }
         ensures reply { let done = returning_sense self.old.state initiator format allocation_length in
             ReturnsData (first_bytes allocation_length done.data_in) result buf.old buf.new }
         ensures state { self.new.state ≡ without_attention self.old.state initiator }
@@ -52,6 +56,9 @@ impl<S: Store> Target<S> {
 }
 
 // ---- INQUIRY
+
+/// The length of the longest data of INQUIRY, in bytes. The standard INQUIRY data is shorter.
+pub(crate) const LONGEST_INQUIRY_DATA: usize = LONGEST_VPD_PAGE;
 
 /// Where PAGE CODE is in the CDB.
 const PAGE_CODE_BYTE: u16 = 2;
@@ -82,7 +89,8 @@ impl InquiryPage {
 
     /// Writes the data, whole.
     pub(crate) fn write(self, identity: &Identity, cut: &mut Cut)
-        ensures { Puts cut.old cut.new (inquiry_data identity.now self) }
+        ensures data { Puts cut.old cut.new (inquiry_data identity.now self) }
+        ensures at_most { length (inquiry_data identity.now self) ≤ longest_inquiry }
     {
         match self {
             InquiryPage::Standard => write_standard_inquiry(identity, cut),

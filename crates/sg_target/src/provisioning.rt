@@ -6,6 +6,7 @@ ghost use Rattle.sg_store.specs.Disk.{unmapped};
 ghost use Rattle.sg_store.specs.Meter.{no_counts};
 ghost use Rattle.sg_target.specs.Anchoring.{HasAllowedSize};
 ghost use Rattle.sg_target.specs.Checks.{out_of_range, requested, unsupported_value};
+ghost use Rattle.sg_target.specs.DataInBound.{longest_status};
 ghost use Rattle.sg_target.specs.Demands.{bad_count, unmap as demands_of_unmap, write_same};
 ghost use Rattle.sg_target.specs.Demands.{write_same_10, write_same_16};
 ghost use Rattle.sg_target.specs.Charge.{IsCounted, TakesStep, cost_bounds};
@@ -24,13 +25,11 @@ use crate::extent::first_past_capacity;
 use crate::operation::Operation;
 use crate::refusal::{Reason, Refusal};
 use crate::reply::Reply;
-use crate::target::{BUFFER_LENGTH, Target};
+use crate::target::Target;
+use sg_store::lba_status::MAX_DESCRIPTORS;
 use sg_store::{BLOCK_LENGTH, MAX_CAPACITY, Store};
 use sg_wire::laws::answers_are_in_their_buffers;
-use sg_wire::{
-    Cut, Extent, Initiator, ListedExtents, Unmap, UnmapList, UnmapListFault, WriteSame10,
-    WriteSame16, are_zeros,
-};
+use sg_wire::{Cut, Extent, Initiator, ListedExtents, Unmap, UnmapList, UnmapListFault, WriteSame10, WriteSame16, are_zeros, STATUS_DESCRIPTOR_LENGTH, STATUS_HEADER_LENGTH};
 use std::marker::Model;
 
 /// Where ANCHOR is in the CDB of WRITE SAME.
@@ -316,6 +315,10 @@ impl<S: Store> Target<S> {
 
 // ---- GET LBA STATUS
 
+/// The length of the longest data of GET LBA STATUS, in bytes.
+pub(crate) const LONGEST_STATUS_DATA: usize =
+    STATUS_HEADER_LENGTH + STATUS_DESCRIPTOR_LENGTH * MAX_DESCRIPTORS;
+
 impl<S: Store> Target<S> {
     /// Returns which blocks are mapped, from an address on.
     pub(crate) fn return_lba_status(
@@ -325,13 +328,13 @@ impl<S: Store> Target<S> {
         buf: &mut [u8],
     ) -> Reply
         requires on_disk { start + 1 ≤ self.old.state.disk.capacity }
-        requires room { min BUFFER_LENGTH allocation_length ≤ length buf.old }
+        requires room { min longest_status allocation_length ≤ length buf.old }
         ensures { TakesStep (cost_bounds S.price S.least)
             (executed (reporting_status self.old.state start allocation_length))
             (status_ranges self.old.state.disk start)
             self.old self.new result buf.old buf.new }
     {
-        let limit = BUFFER_LENGTH.min(allocation_length as usize);
+        let limit = LONGEST_STATUS_DATA.min(allocation_length as usize);
         self.store.restart_counts();
         answers_are_in_their_buffers();
         let mut cut = Cut::new(buf, limit);

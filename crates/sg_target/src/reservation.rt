@@ -1,7 +1,8 @@
 // PERSISTENT RESERVE IN and PERSISTENT RESERVE OUT (SPC-4, 5.13).
-ghost use Rattle.std.specs.Prelude.{◌≡◌, ◌≤◌, [], length};
+ghost use Rattle.std.specs.Prelude.{◌≡◌, ◌≤◌, [], length, min};
 ghost use Rattle.sg_wire.specs.Cut.{Puts};
 ghost use Rattle.sg_wire.specs.FirstBytes.{first_bytes};
+ghost use Rattle.sg_units.specs.FullStatus.{longest_reserve_in};
 ghost use Rattle.sg_target.specs.Checks.{requested};
 ghost use Rattle.sg_target.specs.Demands.{reserve_out};
 ghost use Rattle.sg_target.specs.Charge.{TakesStep, cost_bounds};
@@ -28,7 +29,8 @@ const SCOPE_TYPE_BYTE: u16 = 2;
 
 /// Writes what a service action of PERSISTENT RESERVE IN returns, whole.
 pub(crate) fn write_reserve_in_data(action: InAction, reservations: &Reservations, cut: &mut Cut)
-    ensures { Puts cut.old cut.new (reserve_in_data reservations.now action) }
+    ensures data { Puts cut.old cut.new (reserve_in_data reservations.now action) }
+    ensures at_most { length (reserve_in_data reservations.now action) ≤ longest_reserve_in }
 {
     match action {
         InAction::ReadKeys => reservations.read_keys(cut),
@@ -57,7 +59,7 @@ impl<S: Store> Target<S> {
         allocation_length: u16,
         buf: &mut [u8],
     ) -> Reply
-        requires { allocation_length ≤ length buf.old }
+        requires { min longest_reserve_in allocation_length ≤ length buf.old }
         ensures { let full = reserve_in_data self.now.state.reservations action in
             ReturnsData (first_bytes allocation_length full) result buf.old buf.new }
     {

@@ -13,11 +13,14 @@ use crate::call::Call;
 use crate::extent::byte_length;
 use crate::laws::limits_are_kept;
 use crate::operation::Operation;
+use crate::primary::{LONGEST_INQUIRY_DATA, LONGEST_SENSE_DATA};
+use crate::provisioning::LONGEST_STATUS_DATA;
 use crate::refusal::Refusal;
 use crate::reply::Reply;
-use crate::target::{BUFFER_LENGTH, Target};
-use sg_pages::{CAPACITY_10_LENGTH, CAPACITY_16_LENGTH};
+use crate::target::Target;
+use sg_pages::{CAPACITY_10_LENGTH, CAPACITY_16_LENGTH, LONGEST_MODE_LIST};
 use sg_store::{Counts, Store};
+use sg_units::LONGEST_RESERVE_IN_DATA;
 use sg_wire::Initiator;
 
 impl<'a> Operation<'a> {
@@ -30,19 +33,19 @@ impl<'a> Operation<'a> {
             Operation::ReturnSense {
                 allocation_length,
                 ..
-            } => usize::from(*allocation_length),
+            } => LONGEST_SENSE_DATA.min(usize::from(*allocation_length)),
             Operation::ReturnInquiry {
                 allocation_length,
                 ..
-            }
-            | Operation::ReturnModes {
+            } => LONGEST_INQUIRY_DATA.min(usize::from(*allocation_length)),
+            Operation::ReturnModes {
                 allocation_length,
                 ..
-            }
-            | Operation::ReturnReservations {
+            } => LONGEST_MODE_LIST.min(usize::from(*allocation_length)),
+            Operation::ReturnReservations {
                 allocation_length,
                 ..
-            } => { usize::from(*allocation_length) }
+            } => LONGEST_RESERVE_IN_DATA.min(usize::from(*allocation_length)),
             Operation::ReturnCapacity10 => CAPACITY_10_LENGTH,
             Operation::ReturnCapacity16(allocation_length) => {
                 CAPACITY_16_LENGTH.min(*allocation_length as usize)
@@ -51,7 +54,7 @@ impl<'a> Operation<'a> {
             Operation::ReturnLbaStatus {
                 allocation_length,
                 ..
-            } => { BUFFER_LENGTH.min(*allocation_length as usize) }
+            } => LONGEST_STATUS_DATA.min(*allocation_length as usize),
             Operation::Nothing
             | Operation::ChangeModes { .. }
             | Operation::Write(_)
@@ -81,7 +84,7 @@ impl<S: Store> Target<S> {
     /// Executes a command as [`Target::execute`] does, with a buffer of any length. None if the
     /// buffer is shorter than the data-in that the command asks for. Nothing has changed then.
     ///
-    /// A buffer of [`BUFFER_LENGTH`] bytes is long enough for every command, and an empty one for a
+    /// A buffer of [`BUFFER_LENGTH`](crate::BUFFER_LENGTH) bytes is long enough for every command, and an empty one for a
     /// command that is refused or has no data-in.
     pub fn execute_within(
         &mut self,
