@@ -1,8 +1,9 @@
 // The operation that a command asks for, and its execution.
-ghost use Rattle.std.specs.Prelude.{◌≡◌, ◌≤◌, ◌∷◌, [], length, IfNone};
+ghost use Rattle.std.specs.Prelude.{◌≡◌, ◌≤◌, ◌∷◌, [], length, true, IfNone};
 ghost use Rattle.sg_target.specs.Checks.{out_of_range, requested};
 ghost use Rattle.sg_target.specs.Demands.{demands};
 ghost use Rattle.sg_target.specs.Charge.{TakesStep, cost_bounds};
+ghost use Rattle.sg_target.specs.DataIn.{returns_data};
 ghost use Rattle.sg_target.specs.DataInBound.{data_in_bound};
 ghost use Rattle.sg_target.specs.Extents.{AreOnDisk};
 ghost use Rattle.sg_target.specs.Ranges.{ranges_of};
@@ -226,43 +227,76 @@ impl<S: Store> Target<S> {
     {
         match operation {
             Operation::Nothing | Operation::Synchronize(_) => Reply::without_blocks(0),
-            Operation::ReturnSense {
-                format,
-                allocation_length,
-            } => self.return_sense(initiator, format, allocation_length, buf),
-            Operation::ReturnInquiry {
-                page,
-                allocation_length,
-            } => self.return_data(DataIn::Inquiry(page), usize::from(allocation_length), buf),
-            Operation::ReturnModes {
-                request,
-                allocation_length,
-            } => self.return_modes(initiator, &request, allocation_length, buf),
+            Operation::ReturnSense { .. }
+            | Operation::ReturnInquiry { .. }
+            | Operation::ReturnModes { .. }
+            | Operation::ReturnCapacity10
+            | Operation::ReturnCapacity16(_)
+            | Operation::Read(_)
+            | Operation::ReturnLbaStatus { .. }
+            | Operation::ReturnReservations { .. } => {
+                self.return_asked(initiator, &operation, buf)
+            }
             Operation::ChangeModes { width, sp, list } => {
                 self.change_modes(initiator, width, sp, &list, buf)
             }
-            Operation::ReturnCapacity10 => self.return_capacity_10(buf),
-            Operation::ReturnCapacity16(length) => self.return_capacity_16(length, buf),
-            Operation::Read(blocks) => self.read(&blocks, buf),
             Operation::Write(blocks) => self.write(initiator, &blocks, buf),
             Operation::Fill { extent, block } => self.fill(initiator, extent, &block, buf),
             Operation::Unmap(extents) => self.unmap_listed(&extents, buf),
             Operation::UnmapExtent(extent) => self.unmap(&[extent], buf),
             Operation::Anchor(extents) => self.anchor_listed(initiator, &extents, buf),
             Operation::AnchorExtent(extent) => self.anchor(initiator, &[extent], buf),
-            Operation::ReturnLbaStatus {
-                start,
-                allocation_length,
-            } => self.return_lba_status(start, allocation_length, buf),
-            Operation::ReturnReservations {
-                action,
-                allocation_length,
-            } => self.return_reservations(action, allocation_length, buf),
             Operation::ChangeReservations {
                 action,
                 scope_type,
                 list,
             } => self.change_reservations(initiator, action, scope_type, &list, buf),
+        }
+    }
+
+    /// Returns the data that an operation asks for, unless the disk's state refuses it.
+    // Inlined: a command would pay for one more call.
+    #[inline(always)]
+    fn return_asked(
+        &mut self,
+        initiator: Initiator,
+        operation: &Operation<'_>,
+        buf: &mut [u8],
+    ) -> Reply
+        requires returns { returns_data operation.now ≡ true }
+        requires on_disk { AreOnDisk self.old.state.disk.capacity (medium_use operation.now).extents }
+        requires limits { IsWithinLimits self.old.state }
+        requires room { data_in_bound operation.now ≤ length buf.old }
+        ensures { TakesStep (cost_bounds S.price S.least)
+            (step_by self.old.state initiator operation.now)
+            (ranges_of self.old.state operation.now)
+            self.old self.new result buf.old buf.new }
+    {
+        match operation {
+            Operation::ReturnSense {
+                format,
+                allocation_length,
+            } => self.return_sense(initiator, *format, *allocation_length, buf),
+            Operation::ReturnInquiry {
+                page,
+                allocation_length,
+            } => self.return_data(DataIn::Inquiry(*page), usize::from(*allocation_length), buf),
+            Operation::ReturnModes {
+                request,
+                allocation_length,
+            } => self.return_modes(initiator, request, *allocation_length, buf),
+            Operation::ReturnCapacity10 => self.return_capacity_10(buf),
+            Operation::ReturnCapacity16(length) => self.return_capacity_16(*length, buf),
+            Operation::Read(blocks) => self.read(blocks, buf),
+            Operation::ReturnLbaStatus {
+                start,
+                allocation_length,
+            } => self.return_lba_status(*start, *allocation_length, buf),
+            Operation::ReturnReservations {
+                action,
+                allocation_length,
+            } => self.return_reservations(*action, *allocation_length, buf),
+            _ => unreachable!(),
         }
     }
 }
