@@ -25,11 +25,12 @@ use Rattle.sg_units.specs.Raised.{Conditions, queue_after, raised_for_each, rais
 use Rattle.sg_units.specs.declared.reservation_state.ReservationState.{ReservationState}
 use Rattle.sg_units.specs.declared.unit_attention.UnitAttention.{UnitAttention}
 use Rattle.sg_units.specs.declared.unit_attention.UnitAttention.TheVariants.{ModeParametersChanged}
-use Rattle.sg_target.specs.BlockCommands.{read_capacity_10, read_capacity_16, reading, writing}
+use Rattle.sg_target.specs.BlockCommands.{reading, writing}
 use Rattle.sg_target.specs.Checks.{bad_field, cdb_checks, checked_parse, empty_cdb}
 use Rattle.sg_target.specs.Checks.{pending_attention, reservation_conflict, short_cdb}
 use Rattle.sg_target.specs.Checks.{unknown_opcode}
-use Rattle.sg_target.specs.Effect.{Effect, no_effect, returning_up_to}
+use Rattle.sg_pages.specs.CapacityData.{capacity_10, capacity_16}
+use Rattle.sg_target.specs.Effect.{Effect, no_effect, returning, returning_up_to}
 use Rattle.sg_target.specs.ModeCommands.{attentions_after, changing_modes, mode_parameters}
 use Rattle.sg_target.specs.ModeCommands.{selected_modes}
 use Rattle.sg_target.specs.PrimaryCommands.{returning_page, returning_sense}
@@ -37,7 +38,8 @@ use Rattle.sg_target.specs.ProvisioningCommands.{anchoring, filling, reporting_s
 use Rattle.sg_target.specs.Refusal.{first_some, pending_sense, when_sound}
 use Rattle.sg_target.specs.ReservationCommands.{reporting}
 use Rattle.sg_target.specs.State.{State, profile_of}
-use Rattle.sg_target.specs.Step.{Step, cut, executed, good, outcome, refused, step_by}
+use Rattle.sg_target.specs.Step.{Step, cut, executed, good, outcome, refused}
+use Rattle.sg_target.specs.Charge.{step_by}
 use Rattle.sg_target.specs.declared.operation.Operation.{Operation}
 use Rattle.sg_target.specs.declared.operation.Operation.TheVariants.{Nothing, ReturnSense}
 use Rattle.sg_target.specs.declared.operation.Operation.TheVariants.{ReturnInquiry, ReturnModes}
@@ -244,9 +246,11 @@ module _ (Related : ReservationState → ReservationState → Type 0) (s : State
   operation-agrees (ChangeModes width sp list) c =
       sound-agree (selected_modes s width sp list) (changing_modes s i) (changing_modes t i) modes-agree
   operation-agrees ReturnCapacity10 c =
-      leaving (read_capacity_10 s) (read_capacity_10 t) refl refl refl refl refl
+      leaving (returning s (capacity_10 s.disk.capacity))
+      (returning t (capacity_10 t.disk.capacity)) refl refl refl refl refl
   operation-agrees (ReturnCapacity16 n) c =
-      leaving (read_capacity_16 s n) (read_capacity_16 t n) refl refl refl refl refl
+      leaving (returning_up_to s n (capacity_16 s.disk.capacity))
+      (returning_up_to t n (capacity_16 t.disk.capacity)) refl refl refl refl refl
   operation-agrees (Read extent) c = leaving (reading s extent) (reading t extent) refl refl refl refl refl
   operation-agrees (Write out) c = leaving (writing s out) (writing t out) refl refl refl refl refl
   operation-agrees (Synchronize extent) c = leaving (no_effect s) (no_effect t) refl refl refl refl refl

@@ -26,7 +26,8 @@ use Rattle.sg_target.specs.ProvisioningCommands.{changed_in_turn}
 use Rattle.sg_target.specs.ReservationCommands.{changing_reservations, reservation_change}
 use Rattle.sg_target.specs.Semantics.{medium_use}
 use Rattle.sg_target.specs.State.{IsWithinLimits, State}
-use Rattle.sg_target.specs.Step.{executed, good, outcome, refused, step_by}
+use Rattle.sg_target.specs.Step.{executed, good, outcome, refused}
+use Rattle.sg_target.specs.Charge.{step_by}
 use Rattle.sg_target.specs.declared.operation.Operation.{Operation}
 use Rattle.sg_target.specs.declared.operation.Operation.TheVariants as operation
 use Rattle.sg_target.specs.declared.refusal.Reason.TheVariants.{SpaceAllocationFailed}

@@ -1,8 +1,6 @@
 -- The holder's own commands end alike if its views are equal.
 use Rattle.std.proofs.Common.{◌≡◌, ℕ, Bool, true, false, not, ◌||◌, List}
-use Rattle.std.proofs.Common.{get_or, Option, Some, None, Ok, Err, refl, sym, ap}
-use Rattle.std.proofs.Common.{◌∙◌}
-use Rattle.std.proofs.Common.{subst}
+use Rattle.std.proofs.Common.{get_or, Option, Some, None, Ok, Err, refl, sym, ap, ◌∙◌, subst}
 use Rattle.std.specs.Prelude.{if◌then◌else◌, is_some}
 use Rattle.std.specs.Result.{result_map_both}
 use Rattle.std.proofs.lemmas.Bool.{eq-eqb, false≢true}
@@ -23,7 +21,8 @@ use Rattle.sg_target.specs.Refusal.{when_sound}
 use Rattle.sg_target.specs.ReservationCommands.{changing_reservations, out_refusal}
 use Rattle.sg_target.specs.ReservationCommands.{reservation_change}
 use Rattle.sg_target.specs.State.{IsWithinLimits, State, config_of}
-use Rattle.sg_target.specs.Step.{Step, outcome as step_outcome, step, step_by}
+use Rattle.sg_target.specs.Step.{Step, outcome as step_outcome, step}
+use Rattle.sg_target.specs.Charge.{step_by}
 use Rattle.sg_target.specs.declared.operation.Operation.{Operation}
 use Rattle.sg_target.specs.declared.operation.Operation.TheVariants.{ChangeReservations}
 use Rattle.sg_target.specs.declared.operation.Operation.TheVariants.{ReturnReservations}

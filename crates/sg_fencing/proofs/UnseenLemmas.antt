@@ -1,6 +1,5 @@
 -- The answers to an initiator that may neither read nor write do not depend on the blocks.
-use Rattle.std.proofs.Common.{◌≡◌, ℕ, false, List}
-use Rattle.std.proofs.Common.{Some, Result, Ok, Err, refl, sym}
+use Rattle.std.proofs.Common.{◌≡◌, ℕ, false, List, Some, Result, Ok, Err, refl, sym}
 use Rattle.sg_wire.specs.Laws.{CommandsHaveTheirClass}
 use Rattle.sg_wire.specs.declared.command.CdbFault.{CdbFault}
 use Rattle.sg_wire.specs.declared.command.Class.TheVariants.{Reads, Writes}
@@ -13,12 +12,11 @@ use Rattle.sg_target.specs.ModeCommands.{mode_parameters}
 use Rattle.sg_target.specs.Refusal.{when_sound}
 use Rattle.sg_target.specs.ReservationCommands.{changing_reservations, reservation_change}
 use Rattle.sg_target.specs.State.{State}
-use Rattle.sg_target.specs.Step.{Step, outcome, step, step_by}
+use Rattle.sg_target.specs.Step.{Step, outcome, step}
+use Rattle.sg_target.specs.Charge.{step_by}
 use Rattle.sg_target.specs.declared.operation.Operation.{Operation}
-use Rattle.sg_target.specs.declared.operation.Operation.TheVariants.{ReturnModes}
-use Rattle.sg_target.specs.declared.operation.Operation.TheVariants.{ChangeModes}
-use Rattle.sg_target.specs.declared.operation.Operation.TheVariants.{Read, Write}
-use Rattle.sg_target.specs.declared.operation.Operation.TheVariants.{Fill, Unmap}
+use Rattle.sg_target.specs.declared.operation.Operation.TheVariants.{ReturnModes, ChangeModes}
+use Rattle.sg_target.specs.declared.operation.Operation.TheVariants.{Read, Write, Fill, Unmap}
 use Rattle.sg_target.specs.declared.operation.Operation.TheVariants.{UnmapExtent, ReturnLbaStatus}
 use Rattle.sg_target.specs.declared.operation.Operation.TheVariants.{Anchor, AnchorExtent}
 use Rattle.sg_target.specs.declared.operation.Operation.TheVariants.{ChangeReservations}

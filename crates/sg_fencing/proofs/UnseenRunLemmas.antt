@@ -17,13 +17,12 @@ use Rattle.sg_target.specs.Refusal.{when_sound}
 use Rattle.sg_target.specs.ReservationCommands.{changing_reservations, reservation_change}
 use Rattle.sg_target.specs.Runs.{all_calls, answers, step_of}
 use Rattle.sg_target.specs.State.{State}
-use Rattle.sg_target.specs.Step.{Answer, Step, executed, outcome, refused, step, step_by}
+use Rattle.sg_target.specs.Step.{Answer, Step, executed, outcome, refused, step}
+use Rattle.sg_target.specs.Charge.{step_by}
 use Rattle.sg_target.specs.declared.call.Call.{Call}
 use Rattle.sg_target.specs.declared.operation.Operation.{Operation}
-use Rattle.sg_target.specs.declared.operation.Operation.TheVariants.{ReturnModes}
-use Rattle.sg_target.specs.declared.operation.Operation.TheVariants.{ChangeModes}
-use Rattle.sg_target.specs.declared.operation.Operation.TheVariants.{Write}
-use Rattle.sg_target.specs.declared.operation.Operation.TheVariants.{Fill}
+use Rattle.sg_target.specs.declared.operation.Operation.TheVariants.{ReturnModes, ChangeModes}
+use Rattle.sg_target.specs.declared.operation.Operation.TheVariants.{Write, Fill}
 use Rattle.sg_target.specs.declared.operation.Operation.TheVariants.{Anchor, AnchorExtent}
 use Rattle.sg_target.specs.declared.operation.Operation.TheVariants.{ChangeReservations}
 use Rattle.sg_target.specs.declared.refusal.Reason.TheVariants.{SpaceAllocationFailed}

@@ -13,7 +13,8 @@ use Rattle.sg_pages.specs.declared.mode_pages.mode_select.ModeSelectFault.TheVar
 use Rattle.sg_pages.specs.declared.mode_pages.mode_select.ModeSelectFault.TheVariants.{Length}
 use Rattle.sg_pages.specs.declared.mode_pages.mode_page.PageValues.{PageValues}
 use Rattle.sg_pages.specs.BlockDescriptor.{number_length, descriptor_length, block_descriptor}
-use Rattle.sg_pages.specs.ModeSelect.{IsInside, part_at, header_length, header_in, length_offset}
+use Rattle.sg_pages.specs.ModeSelect.{part_at, header_length, header_in, length_offset}
+use Rattle.sg_pages.specs.ModeLaws.{IsInside}
 use Rattle.sg_pages.specs.ModeSelect.{block_descriptor_length, has_longlba, descriptor_in, pages_in}
 use Rattle.sg_pages.specs.ModeSelect.{differences, truncation_of, part_faults, ignored_header_bits}
 use Rattle.sg_pages.specs.ModeSelect.{zeros_for, is_descriptor_length, length_faults, header_faults}

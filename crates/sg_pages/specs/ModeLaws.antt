@@ -1,9 +1,17 @@
 -- Laws of the mode pages, in the subject's words.
-use Rattle.std.specs.Prelude.{◌≡◌, ℕ, List, [], Bool, true, false, Ok}
+use Rattle.std.specs.Prelude.{◌≡◌, ℕ, List, [], Bool, true, false, Ok, ◌<◌, ⊤}
 use Rattle.sg_wire.specs.declared.command.mode.CdbWidth.{CdbWidth}
 use Rattle.sg_pages.specs.declared.mode_pages.mode_page.ModePage.{ModePage}
 use Rattle.sg_pages.specs.ModePage.{ModeState, row_of, values_of}
 use Rattle.sg_pages.specs.ModeSelect.{differences, mode_select}
+use Rattle.sg_pages.specs.declared.mode_pages.mode_select.ModeSelectFault.{ModeSelectFault}
+use Rattle.sg_pages.specs.declared.mode_pages.mode_select.ModeSelectFault.TheVariants.{Length}
+use Rattle.sg_pages.specs.declared.mode_pages.mode_select.ModeSelectFault.TheVariants.{Field}
+
+-- A byte that is at fault is one of the list.
+abbrev pub IsInside : (list_length : ℕ) → ModeSelectFault → Type 0
+IsInside list_length Length = ⊤
+IsInside list_length (Field offset) = offset < list_length
 
 -- A MODE SELECT changes only bits that can be changed: from byte 2 on, no byte of a page differs in
 -- another bit.

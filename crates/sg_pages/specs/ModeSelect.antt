@@ -1,5 +1,5 @@
 -- The effect of MODE SELECT with a mode parameter list (SPC-4, 7.5).
-use Rattle.std.specs.Prelude.{ℕ, zero, suc, ◌+◌, ◌<◌, ⊤, min, nat_lt, bit_or}
+use Rattle.std.specs.Prelude.{ℕ, zero, suc, ◌+◌, min, nat_lt, bit_or}
 use Rattle.std.specs.Prelude.{List, [], ◌∷◌, ◌++◌, length, take, drop, slice_index}
 use Rattle.std.specs.Prelude.{map, find, reverse, Bool, false, not, ◌&&◌, ◌||◌, ◌==◌, if◌then◌else◌}
 use Rattle.std.specs.Prelude.{Option, Some, None, unwrap_or, Result, Ok, Err}
@@ -179,11 +179,6 @@ fault_at list_length offset = if nat_lt offset list_length then Field offset els
 unfoldable pub first_fault : (list_length : ℕ) → (offsets : List ℕ) → Option ModeSelectFault
 first_fault list_length offsets = option_map (fault_at list_length) (least offsets)
 
--- A byte that is at fault is one of the list.
-abbrev pub IsInside : (list_length : ℕ) → ModeSelectFault → Type 0
-IsInside list_length Length = ⊤
-IsInside list_length (Field offset) = offset < list_length
-
 -- A value, unless there is a fault.
 abbrev pub unless_fault : {A : Type 0} → Option ModeSelectFault → A → Result A ModeSelectFault
 unless_fault None value = Ok value
@@ -232,5 +227,3 @@ differ a b =
 -- A current byte differs afterwards.
 abbrev pub changed_by : (before after : ModeState) → Changed
 changed_by before after = record { 0 = differ after.current before.current }
-
--- ---- Cited only by private contracts

@@ -63,5 +63,3 @@ lba_status disk lba = descriptors_from disk.contents disk.capacity lba max_descr
 -- The number of addresses that they cover.
 abbrev pub covered : List StatusDescriptor → ℕ
 covered descriptors = sum_by (λ (descriptor : StatusDescriptor). descriptor.count) descriptors
-
--- ---- Cited only by private contracts

@@ -7,14 +7,14 @@ use Rattle.sg_wire.specs.declared.command.CdbFault.{CdbFault}
 use Rattle.sg_wire.specs.declared.command.Command.{Command}
 use Rattle.sg_wire.proofs.ProfileLemmas.{read-any}
 use Rattle.sg_target.specs.Checks.{cdb_checks, checked_cdb, checked_operation, checked_parse, requested}
-use Rattle.sg_target.specs.Checks.{medium_checks}
-use Rattle.sg_target.specs.Checks.{short_data_out, unsupported_value}
+use Rattle.sg_target.specs.Checks.{medium_checks, short_data_out, unsupported_value}
 use Rattle.sg_target.specs.Demands.{Demands, demands}
 use Rattle.sg_target.specs.Refusal.{checked_next, first_some, unless_refused}
 use Rattle.sg_target.specs.Semantics.{effect_of, medium_use}
 use Rattle.sg_target.specs.State.{State, config_of, profile_of}
 use Rattle.sg_target.specs.Effect.{Effect}
-use Rattle.sg_target.specs.Step.{Step, executed, outcome, refused, step, step_by}
+use Rattle.sg_target.specs.Step.{Step, executed, outcome, refused, step}
+use Rattle.sg_target.specs.Charge.{step_by}
 use Rattle.sg_target.specs.declared.operation.Operation.{Operation}
 use Rattle.sg_target.specs.declared.refusal.Refusal.{Refusal}
 use Rattle.sg_target.specs.declared.refusal.Refusal.TheVariants.{Conflict, CheckCondition}

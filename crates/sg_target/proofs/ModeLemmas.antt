@@ -15,7 +15,8 @@ use Rattle.sg_target.specs.ModeCommands.{mode_parameters, sense_refusal}
 use Rattle.sg_target.specs.Reply.{Carries}
 use Rattle.sg_target.specs.MadeReplies.{executed_reply, refused_reply}
 use Rattle.sg_target.specs.State.{State}
-use Rattle.sg_target.specs.Step.{executed, refused, sense_format, step_by}
+use Rattle.sg_target.specs.Step.{executed, refused, sense_format}
+use Rattle.sg_target.specs.Charge.{step_by}
 use Rattle.sg_target.specs.declared.operation.Operation.TheVariants.{ReturnModes}
 use Rattle.sg_target.specs.declared.reply.Reply.{Reply}
 

@@ -8,6 +8,12 @@ use Rattle.sg_target.specs.Charge.{CostBounds, IsWithinPrice, least_over}
 use Rattle.sg_target.specs.Joining.{cost_of}
 use Rattle.sg_target.specs.Ranges.{Range}
 use Rattle.sg_target.specs.declared.joining.AddressRange.{AddressRange}
+use Rattle.sg_wire.specs.declared.extent.Extent.{Extent}
+use Rattle.sg_target.specs.ProvisioningCommands.{Change, changed_in_turn}
+
+abbrev pub disk_changed_in_turn : Change → Disk → List Extent → Disk
+disk_changed_in_turn change disk extents =
+    record disk { contents = changed_in_turn change disk.contents extents }
 
 -- The number of blocks of the pool that ranges need, if they have no address in common.
 abbrev pub need_of : Contents → List AddressRange → ℕ

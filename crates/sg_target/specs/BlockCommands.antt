@@ -1,12 +1,10 @@
 -- The effects of the block commands (SBC-3, 5).
 use Rattle.std.specs.Prelude.{ℕ, ◌*◌, List}
 use Rattle.sg_wire.specs.FirstBytes.{first_bytes}
-use Rattle.sg_wire.specs.Profile.{maximum_transfer_length}
 use Rattle.sg_wire.specs.declared.extent.Extent.{Extent}
 use Rattle.sg_store.specs.Disk.{blocks, written}
-use Rattle.sg_pages.specs.CapacityData.{capacity_10, capacity_16}
 use Rattle.sg_pages.specs.BlockDescriptor.{logical_block_length}
-use Rattle.sg_target.specs.Effect.{Effect, returning, returning_up_to, storing}
+use Rattle.sg_target.specs.Effect.{Effect, returning, storing}
 use Rattle.sg_target.specs.State.{State}
 
 -- READ returns the bytes of its blocks.
@@ -16,10 +14,6 @@ reading state extent = returning state (blocks state.disk.contents extent.lba ex
 -- The number of bytes of an extent's blocks.
 abbrev pub bytes_of : Extent → ℕ
 bytes_of extent = logical_block_length * extent.count
-
--- The longest data-in, in bytes: the data-in of a READ of the most blocks.
-abbrev pub longest_data_in : ℕ
-longest_data_in = logical_block_length * maximum_transfer_length
 
 -- Blocks, and as many bytes as they have.
 pub record BlocksOutFields : Type 0 where
@@ -35,10 +29,3 @@ blocks_out extent data_out =
 abbrev pub writing : State → BlocksOutFields → Effect
 writing state out =
     storing state (written state.disk.contents out.extent.lba out.extent.count out.bytes)
-
--- READ CAPACITY (10) and (16).
-abbrev pub read_capacity_10 : State → Effect
-read_capacity_10 state = returning state (capacity_10 state.disk.capacity)
-
-abbrev pub read_capacity_16 : State → (allocation_length : ℕ) → Effect
-read_capacity_16 state n = returning_up_to state n (capacity_16 state.disk.capacity)

@@ -4,10 +4,13 @@ use Rattle.sg_store.specs.Disk.{Contents}
 use Rattle.sg_store.specs.Meter.{Meter, probe_bound}
 use Rattle.sg_target.specs.Ranges.{Range, ranges}
 use Rattle.sg_target.specs.Reply.{Carries}
-use Rattle.sg_target.specs.Step.{Step}
+use Rattle.sg_target.specs.Step.{Step, outcome}
 use Rattle.sg_target.specs.Target.{TargetFields}
 use Rattle.sg_target.specs.declared.reply.Reply.{Reply}
 use Rattle.sg_target.specs.declared.reply.Status.TheVariants.{Good}
+use Rattle.sg_target.specs.Semantics.{effect_of}
+use Rattle.sg_target.specs.State.{State}
+use Rattle.sg_target.specs.declared.operation.Operation.{Operation}
 
 -- The visits that a call of a store over a range may or must make, by the used addresses, the
 -- address and the count.
@@ -70,6 +73,10 @@ pub record ChargesCommand (bounds : CostBounds) (initiator : ℕ) (cdb data_out 
   pub visits : reply.counts.visits ≤ visit_bound (ranges old.state initiator cdb data_out)
 
 -- ---- Cited only by private contracts
+
+-- The step of an operation that has passed the checks of its command.
+abbrev pub step_by : State → (initiator : ℕ) → Operation → Step
+step_by state initiator operation = outcome state initiator (effect_of state initiator operation)
 
 -- A target takes a step that goes over ranges of blocks.
 pub record TakesStep (bounds : CostBounds) (done : Step) (over : List Range)

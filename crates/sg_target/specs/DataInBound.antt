@@ -1,5 +1,5 @@
 -- How long the buffer for data-in has to be, by what a command asks for.
-use Rattle.std.specs.Prelude.{ℕ, max, min, List, Result, Ok, Err}
+use Rattle.std.specs.Prelude.{ℕ, max, min, List, Result, Ok, Err, ◌*◌}
 use Rattle.sg_wire.specs.LbaStatus.{status_data_length}
 use Rattle.sg_store.specs.LbaStatus.{max_descriptors}
 use Rattle.sg_pages.specs.DataLengths.{capacity_10_length, capacity_16_length, longest_list}
@@ -15,8 +15,14 @@ use Rattle.sg_target.specs.declared.operation.Operation.TheVariants.{ReturnCapac
 use Rattle.sg_target.specs.declared.operation.Operation.TheVariants.{ReturnLbaStatus}
 use Rattle.sg_target.specs.declared.operation.Operation.TheVariants.{ReturnReservations}
 use Rattle.sg_target.specs.declared.refusal.Refusal.{Refusal}
+use Rattle.sg_wire.specs.Profile.{maximum_transfer_length}
+use Rattle.sg_pages.specs.BlockDescriptor.{logical_block_length}
 
--- The longest data-in of a command, in bytes.
+-- The longest data-in, in bytes: the data-in of a READ of the most blocks.
+abbrev pub longest_data_in : ℕ
+longest_data_in = logical_block_length * maximum_transfer_length
+
+-- ---- The longest data-in of some commands, in bytes
 
 -- REQUEST SENSE: fixed format (SPC-4, 4.5.3). Descriptor format is shorter, because a unit attention
 -- has neither INFORMATION nor a field pointer.
@@ -28,6 +34,8 @@ longest_inquiry = max standard_inquiry_length longest_page
 
 abbrev pub longest_status : ℕ
 longest_status = status_data_length max_descriptors
+
+-- ---- How much a command returns
 
 -- The most bytes of data-in that an operation returns: its allocation length, or the longest data
 -- that it can return, if that is less. Other operations return none.

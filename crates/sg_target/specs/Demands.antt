@@ -6,15 +6,9 @@ use Rattle.sg_wire.specs.declared.command.Command.{Command}
 use Rattle.sg_wire.specs.declared.command.Command.TheVariants as command
 use Rattle.sg_wire.specs.declared.command.mode.CdbWidth.{CdbWidth}
 use Rattle.sg_wire.specs.declared.command.mode.CdbWidth.TheVariants.{Six, Ten}
-use Rattle.sg_wire.specs.declared.command.mode.ModeSelect10.{ModeSelect10}
-use Rattle.sg_wire.specs.declared.command.mode.ModeSelect6.{ModeSelect6}
-use Rattle.sg_wire.specs.declared.command.mode.ModeSense10.{ModeSense10}
-use Rattle.sg_wire.specs.declared.command.mode.ModeSense6.{ModeSense6}
 use Rattle.sg_wire.specs.declared.command.mode.PageRequest.{PageRequest}
 use Rattle.sg_wire.specs.declared.command.primary.Inquiry.{Inquiry}
 use Rattle.sg_wire.specs.declared.command.provisioning.Unmap.{Unmap}
-use Rattle.sg_wire.specs.declared.command.provisioning.WriteSame10.{WriteSame10}
-use Rattle.sg_wire.specs.declared.command.provisioning.WriteSame16.{WriteSame16}
 use Rattle.sg_wire.specs.declared.command.reservation.PersistentReserveOut.{PersistentReserveOut}
 use Rattle.sg_wire.specs.FirstBytes.{first_bytes}
 use Rattle.sg_wire.specs.declared.extent.Extent.{Extent}
@@ -68,24 +62,11 @@ abbrev pub mode_select : CdbWidth → (pf sp : Bool) (list_length : ℕ) (data_o
 mode_select width pf sp n data_out =
     takes n (bad_page_format pf) (Ok (operation.ChangeModes width sp (first_bytes n data_out)))
 
-abbrev pub mode_select_6 : ModeSelect6 → (data_out : List ℕ) → Demands
-mode_select_6 c data_out = mode_select Six c.pf c.sp c.list_length data_out
-
-abbrev pub mode_select_10 : ModeSelect10 → (data_out : List ℕ) → Demands
-mode_select_10 c data_out = mode_select Ten c.pf c.sp c.list_length data_out
-
 -- MODE SENSE asks for pages of a disk of some blocks.
 abbrev pub mode_sense : CdbWidth → (llbaa : Bool) → PageRequest → (blocks allocation_length : ℕ)
     → Operation
 mode_sense width llbaa page blocks n =
     operation.ReturnModes (record { width = width; llbaa = llbaa; page = page; blocks = blocks }) n
-
--- The CDB of six bytes has no LLBAA.
-abbrev pub mode_sense_6 : (blocks : ℕ) → ModeSense6 → Operation
-mode_sense_6 blocks c = mode_sense Six false c.page blocks c.allocation_length
-
-abbrev pub mode_sense_10 : (blocks : ℕ) → ModeSense10 → Operation
-mode_sense_10 blocks c = mode_sense Ten c.llbaa c.page blocks c.allocation_length
 
 abbrev pub reserve_out : PersistentReserveOut → (data_out : List ℕ) → Demands
 reserve_out c data_out =
@@ -138,14 +119,6 @@ write_same config anchor unmap extent byte data_out =
     takes logical_block_length (bad_anchor anchor unmap (bad_count config extent.count byte))
     (Ok (unmap_or_fill anchor unmap extent (block_out data_out)))
 
-abbrev pub write_same_10 : ConfigFields → WriteSame10 → (data_out : List ℕ) → Demands
-write_same_10 config c data_out =
-    write_same config c.anchor c.unmap (extent c.lba c.count) 7 data_out
-
-abbrev pub write_same_16 : ConfigFields → WriteSame16 → (data_out : List ℕ) → Demands
-write_same_16 config c data_out =
-    write_same config c.anchor c.unmap (extent c.lba c.count) 10 data_out
-
 -- UNMAP takes a list of extents, which it unmaps or anchors.
 abbrev pub unmap_extents : (anchor : Bool) → List Extent → Operation
 unmap_extents anchor extents =
@@ -158,16 +131,19 @@ unmap c data_out =
 
 -- ---- The row of each command, on a disk of a configuration, with its data-out
 
--- READ(6) and WRITE(6) name at most 256 blocks by their layout.
+-- READ(6) and WRITE(6) name at most 256 blocks by their layout. The CDB of MODE SENSE(6) has no
+-- LLBAA.
 abbrev pub demands : ConfigFields → Command → (data_out : List ℕ) → Demands
 demands config command.TestUnitReady data_out = asks operation.Nothing
 demands config (command.RequestSense c) data_out =
     asks (operation.ReturnSense (format_of c.desc) c.allocation_length)
 demands config (command.Inquiry c) data_out = inquiry c
-demands config (command.ModeSelect6 c) data_out = mode_select_6 c data_out
-demands config (command.ModeSelect10 c) data_out = mode_select_10 c data_out
-demands config (command.ModeSense6 c) data_out = asks (mode_sense_6 config.blocks c)
-demands config (command.ModeSense10 c) data_out = asks (mode_sense_10 config.blocks c)
+demands config (command.ModeSelect6 c) data_out = mode_select Six c.pf c.sp c.list_length data_out
+demands config (command.ModeSelect10 c) data_out = mode_select Ten c.pf c.sp c.list_length data_out
+demands config (command.ModeSense6 c) data_out =
+    asks (mode_sense Six false c.page config.blocks c.allocation_length)
+demands config (command.ModeSense10 c) data_out =
+    asks (mode_sense Ten c.llbaa c.page config.blocks c.allocation_length)
 demands config (command.Read6 short) data_out = read (extent short.0 short.1) None
 demands config (command.Read10 c) data_out =
     read (extent c.lba c.count) (too_long config c.count 7)
@@ -183,8 +159,10 @@ demands config (command.ReadCapacity16 c) data_out =
     asks (operation.ReturnCapacity16 c.allocation_length)
 demands config (command.SynchronizeCache10 c) data_out =
     asks (operation.Synchronize (extent c.lba c.count))
-demands config (command.WriteSame10 c) data_out = write_same_10 config c data_out
-demands config (command.WriteSame16 c) data_out = write_same_16 config c data_out
+demands config (command.WriteSame10 c) data_out =
+    write_same config c.anchor c.unmap (extent c.lba c.count) 7 data_out
+demands config (command.WriteSame16 c) data_out =
+    write_same config c.anchor c.unmap (extent c.lba c.count) 10 data_out
 demands config (command.Unmap c) data_out = unmap c data_out
 demands config (command.GetLbaStatus c) data_out =
     asks (operation.ReturnLbaStatus c.start c.allocation_length)

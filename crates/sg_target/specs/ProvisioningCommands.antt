@@ -6,7 +6,7 @@ use Rattle.sg_wire.specs.UnmapList.{descriptor_data_length_at, unmap_list}
 use Rattle.sg_wire.specs.declared.unmap_list.UnmapListFault.{UnmapListFault}
 use Rattle.sg_wire.specs.declared.unmap_list.UnmapListFault.TheVariants.{Short, TooManyDescriptors}
 use Rattle.sg_wire.specs.declared.extent.Extent.{Extent}
-use Rattle.sg_store.specs.Disk.{Contents, Disk, anchored, filled, unmapped}
+use Rattle.sg_store.specs.Disk.{Contents, anchored, filled, unmapped}
 use Rattle.sg_wire.specs.LbaStatus.{status_data}
 use Rattle.sg_store.specs.LbaStatus.{lba_status}
 use Rattle.sg_pages.specs.BlockDescriptor.{logical_block_length}
@@ -80,9 +80,3 @@ unmaps unmap block = unmap && list_all (λ byte. byte == 0) block
 -- It returns which blocks are mapped, from an address on.
 abbrev pub reporting_status : State → (start allocation_length : ℕ) → Effect
 reporting_status state start n = returning_up_to state n (status_data (lba_status state.disk start))
-
--- ---- Cited only by private contracts
-
-abbrev pub disk_changed_in_turn : Change → Disk → List Extent → Disk
-disk_changed_in_turn change disk extents =
-    record disk { contents = changed_in_turn change disk.contents extents }

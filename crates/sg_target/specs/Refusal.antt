@@ -16,8 +16,7 @@ use Rattle.sg_target.specs.declared.refusal.Reason.TheVariants.{DataPhaseError}
 use Rattle.sg_target.specs.declared.refusal.Reason.TheVariants.{ParameterListLengthError}
 use Rattle.sg_target.specs.declared.refusal.Reason.TheVariants.{InvalidFieldInParameterList}
 use Rattle.sg_target.specs.declared.refusal.Reason.TheVariants.{InsufficientRegistrationResources}
-use Rattle.sg_target.specs.declared.refusal.Reason.TheVariants.{InvalidRelease}
-use Rattle.sg_target.specs.declared.refusal.Reason.TheVariants.{LbaOutOfRange}
+use Rattle.sg_target.specs.declared.refusal.Reason.TheVariants.{InvalidRelease, LbaOutOfRange}
 use Rattle.sg_target.specs.declared.refusal.Reason.TheVariants.{SpaceAllocationFailed}
 use Rattle.sg_target.specs.declared.refusal.Reason.TheVariants.{SoftwareWriteProtected}
 use Rattle.sg_target.specs.declared.refusal.Refusal.{Refusal}
@@ -78,17 +77,16 @@ abbrev pub unless_refused : {A : Type 0} → Option Refusal → Result A Refusal
 unless_refused None result = result
 unless_refused (Some refusal) result = Err refusal
 
+-- What the next check makes of a value, or the refusal of the value.
+abbrev pub checked_next : {A B : Type 0} → Result A Refusal → (A → Result B Refusal)
+    → Result B Refusal
+checked_next (Ok value) next = next value
+checked_next (Err refusal) next = Err refusal
+
 -- A value that was found sound, or the refusal that reports what is wrong with it.
 abbrev pub or_refused : {A F : Type 0} → (F → Refusal) → Result A F → Result A Refusal
 or_refused refusal found = result_map_both (λ value. value) refusal found
 
 -- The result made of a value that was found sound, or the refusal if it was not.
 abbrev pub when_sound : {A B : Type 0} → Result A Refusal → (A → B) → Result B Refusal
-when_sound (Ok value) becomes = Ok (becomes value)
-when_sound (Err refusal) becomes = Err refusal
-
--- The same, if the next check can refuse the value too.
-abbrev pub checked_next : {A B : Type 0} → Result A Refusal → (A → Result B Refusal)
-    → Result B Refusal
-checked_next (Ok value) next = next value
-checked_next (Err refusal) next = Err refusal
+when_sound found becomes = checked_next found (λ value. Ok (becomes value))

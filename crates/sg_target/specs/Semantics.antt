@@ -1,9 +1,10 @@
 -- The meaning of each operation: the blocks that it names, and its effect.
 use Rattle.std.specs.Prelude.{ℕ, List, [], ◌∷◌, Bool, true, false, Result, Ok}
 use Rattle.sg_wire.specs.declared.extent.Extent.{Extent}
-use Rattle.sg_target.specs.BlockCommands.{read_capacity_10, read_capacity_16, reading, writing}
+use Rattle.sg_target.specs.BlockCommands.{reading, writing}
 use Rattle.sg_target.specs.Demands.{extent}
-use Rattle.sg_target.specs.Effect.{Effect, no_effect, returning_up_to}
+use Rattle.sg_pages.specs.CapacityData.{capacity_10, capacity_16}
+use Rattle.sg_target.specs.Effect.{Effect, no_effect, returning, returning_up_to}
 use Rattle.sg_target.specs.ModeCommands.{changing_modes, mode_parameters, selected_modes}
 use Rattle.sg_target.specs.PrimaryCommands.{returning_page, returning_sense}
 use Rattle.sg_target.specs.ProvisioningCommands.{anchoring, filling, reporting_status, unmapping}
@@ -82,8 +83,9 @@ effect_of state i (ReturnModes request n) =
     when_sound (mode_parameters state.modes request) (returning_up_to state n)
 effect_of state i (ChangeModes width sp list) =
     when_sound (selected_modes state width sp list) (changing_modes state i)
-effect_of state i ReturnCapacity10 = Ok (read_capacity_10 state)
-effect_of state i (ReturnCapacity16 n) = Ok (read_capacity_16 state n)
+effect_of state i ReturnCapacity10 = Ok (returning state (capacity_10 state.disk.capacity))
+effect_of state i (ReturnCapacity16 n) =
+    Ok (returning_up_to state n (capacity_16 state.disk.capacity))
 effect_of state i (Read extent) = Ok (reading state extent)
 effect_of state i (Write out) = Ok (writing state out)
 effect_of state i (Synchronize extent) = Ok (no_effect state)

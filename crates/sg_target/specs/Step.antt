@@ -9,9 +9,7 @@ use Rattle.sg_target.specs.Checks.{checked_effect}
 use Rattle.sg_target.specs.Effect.{Effect, without_attention}
 use Rattle.sg_target.specs.PrimaryCommands.{format_of}
 use Rattle.sg_target.specs.Refusal.{sense_of}
-use Rattle.sg_target.specs.Semantics.{effect_of}
 use Rattle.sg_target.specs.State.{State}
-use Rattle.sg_target.specs.declared.operation.Operation.{Operation}
 use Rattle.sg_target.specs.declared.refusal.Refusal.{Refusal}
 use Rattle.sg_target.specs.declared.refusal.Reason.TheVariants.{UnitAttention as Attention}
 use Rattle.sg_target.specs.declared.refusal.Refusal.TheVariants.{Conflict, CheckCondition}
@@ -80,9 +78,3 @@ outcome state initiator (Err refusal) = refused state initiator refusal
 -- The step of a CDB with its data-out.
 abbrev pub step : State → (initiator : ℕ) → (cdb data_out : List ℕ) → Step
 step state initiator cdb data_out = outcome state initiator (checked_effect state initiator cdb data_out)
-
--- ---- Cited only by private contracts
-
--- The step of an operation that has passed the checks of its command.
-abbrev pub step_by : State → (initiator : ℕ) → Operation → Step
-step_by state initiator operation = outcome state initiator (effect_of state initiator operation)

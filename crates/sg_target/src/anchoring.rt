@@ -1,17 +1,16 @@
 // Anchoring the extents of a command: the blocks that they need are counted first, and then they
 // are anchored in turn, as they were sent.
-ghost use Rattle.std.specs.Prelude.{◌≡◌, ◌+◌, ◌≤◌, ◌++◌, ◌↔◌, List, length};
-ghost use Rattle.std.specs.Prelude.{IsErr, OnOk, OnErr};
+ghost use Rattle.std.specs.Prelude.{◌≡◌, ◌+◌, ◌≤◌, ◌++◌, ◌↔◌, List, length, IsErr, OnOk, OnErr};
 ghost use Rattle.std.specs.FinMap.{len};
 ghost use Rattle.sg_wire.specs.UnmapList.{maximum_unmap_descriptors};
 ghost use Rattle.sg_store.specs.Disk.{IsOverfull, anchored, disk_anchored};
 ghost use Rattle.sg_store.specs.Meter.{Charged, HasHeadroom, Meter, no_counts};
 ghost use Rattle.sg_target.specs.Anchoring.{AreOfOneList, CostsOnOk, HasAllowedSize, counted_ranges};
-ghost use Rattle.sg_target.specs.Anchoring.{need_of, visits_of_list};
+ghost use Rattle.sg_target.specs.Anchoring.{need_of, visits_of_list, disk_changed_in_turn};
 ghost use Rattle.sg_target.specs.Charge.{IsCounted, cost_bounds};
 ghost use Rattle.sg_target.specs.Extents.{AreOnDisk};
 ghost use Rattle.sg_target.specs.Joining.{AreWithin};
-ghost use Rattle.sg_target.specs.ProvisioningCommands.{changed_in_turn, disk_changed_in_turn};
+ghost use Rattle.sg_target.specs.ProvisioningCommands.{changed_in_turn};
 ghost use Rattle.sg_target.specs.Ranges.{Range, anchoring_ranges, ranges_in_turn};
 
 use crate::joining::{AddressRange, joined};

@@ -1,13 +1,11 @@
 // MODE SENSE and MODE SELECT (SPC-4, 6).
-ghost use Rattle.std.specs.Prelude.{◌≡◌, ◌≤◌, ◌<◌, ◌^◌, [], length, min};
+ghost use Rattle.std.specs.Prelude.{◌≡◌, ◌≤◌, ◌<◌, ◌^◌, [], length, min, false};
 ghost use Rattle.sg_pages.specs.DataLengths.{longest_list};
 ghost use Rattle.sg_target.specs.Checks.{requested};
-ghost use Rattle.sg_target.specs.Demands.{mode_select, mode_select_6, mode_select_10};
-ghost use Rattle.sg_target.specs.Demands.{mode_sense_6, mode_sense_10};
-ghost use Rattle.sg_target.specs.Charge.{TakesStep, cost_bounds};
+ghost use Rattle.sg_target.specs.Demands.{mode_select, mode_sense};
+ghost use Rattle.sg_target.specs.Charge.{TakesStep, cost_bounds, step_by};
 ghost use Rattle.sg_target.specs.ModeCommands.{attentions_after, select_refusal, sense_refusal};
 ghost use Rattle.sg_target.specs.State.{IsWithinLimits};
-ghost use Rattle.sg_target.specs.Step.{step_by};
 
 use crate::data_out::needed_data_out;
 use crate::operation::Operation;
@@ -46,7 +44,8 @@ impl Model for RequestedModes {
 
 /// MODE SENSE(6), of a disk of `blocks` blocks. Its CDB has no LLBAA.
 pub(crate) fn check_mode_sense_6(blocks: u64, fields: ModeSense6) -> Operation<'static>
-    ensures { result ≡ mode_sense_6 blocks fields }
+    ensures { result
+        ≡ mode_sense CdbWidth.Six false fields.page blocks fields.allocation_length }
 {
     let request = ModeSenseRequest {
         width: CdbWidth::Six,
@@ -62,7 +61,8 @@ pub(crate) fn check_mode_sense_6(blocks: u64, fields: ModeSense6) -> Operation<'
 
 /// MODE SENSE(10), of a disk of `blocks` blocks.
 pub(crate) fn check_mode_sense_10(blocks: u64, fields: ModeSense10) -> Operation<'static>
-    ensures { result ≡ mode_sense_10 blocks fields }
+    ensures { result
+        ≡ mode_sense CdbWidth.Ten fields.llbaa fields.page blocks fields.allocation_length }
 {
     let request = ModeSenseRequest {
         width: CdbWidth::Ten,
@@ -140,7 +140,8 @@ pub(crate) fn check_mode_select_6(
     fields: ModeSelect6,
     data_out: &[u8],
 ) -> Result<Operation<'_>, Refusal>
-    ensures { result ≡ requested (mode_select_6 fields data_out.now) data_out.now }
+    ensures { result ≡ requested (mode_select CdbWidth.Six fields.pf fields.sp fields.list_length
+        data_out.now) data_out.now }
 {
     let list_length = u16::from(fields.list_length);
     check_mode_select(CdbWidth::Six, fields.pf, fields.sp, list_length, data_out)
@@ -151,7 +152,8 @@ pub(crate) fn check_mode_select_10(
     fields: ModeSelect10,
     data_out: &[u8],
 ) -> Result<Operation<'_>, Refusal>
-    ensures { result ≡ requested (mode_select_10 fields data_out.now) data_out.now }
+    ensures { result ≡ requested (mode_select CdbWidth.Ten fields.pf fields.sp fields.list_length
+        data_out.now) data_out.now }
 {
     check_mode_select(
         CdbWidth::Ten,

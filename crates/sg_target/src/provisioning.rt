@@ -4,14 +4,13 @@ ghost use Rattle.std.specs.Prelude.{Some, None, Ok, IfOk, IfErr, IfNone, min};
 ghost use Rattle.sg_wire.specs.UnmapList.{maximum_unmap_descriptors};
 ghost use Rattle.sg_store.specs.Disk.{unmapped};
 ghost use Rattle.sg_store.specs.Meter.{no_counts};
-ghost use Rattle.sg_target.specs.Anchoring.{HasAllowedSize};
+ghost use Rattle.sg_target.specs.Anchoring.{HasAllowedSize, disk_changed_in_turn};
 ghost use Rattle.sg_target.specs.Checks.{out_of_range, requested, unsupported_value};
 ghost use Rattle.sg_target.specs.DataInBound.{longest_status};
-ghost use Rattle.sg_target.specs.Demands.{bad_count, unmap as demands_of_unmap, write_same};
-ghost use Rattle.sg_target.specs.Demands.{write_same_10, write_same_16};
+ghost use Rattle.sg_target.specs.Demands.{bad_count, unmap as demands_of_unmap, write_same, extent};
 ghost use Rattle.sg_target.specs.Charge.{IsCounted, TakesStep, cost_bounds};
 ghost use Rattle.sg_target.specs.Extents.{AreOnDisk};
-ghost use Rattle.sg_target.specs.ProvisioningCommands.{anchoring, disk_changed_in_turn, filling};
+ghost use Rattle.sg_target.specs.ProvisioningCommands.{anchoring, filling};
 ghost use Rattle.sg_target.specs.ProvisioningCommands.{reporting_status, unmap_list_refusal};
 ghost use Rattle.sg_target.specs.ProvisioningCommands.{unmapping, unmaps};
 ghost use Rattle.sg_target.specs.Ranges.{anchoring_ranges, range, ranges_in_turn, status_ranges};
@@ -204,7 +203,8 @@ pub(crate) fn check_write_same_10<'a>(
     fields: WriteSame10,
     data_out: &'a [u8],
 ) -> Result<Operation<'a>, Refusal>
-    ensures { result ≡ requested (write_same_10 config.now fields data_out.now) data_out.now }
+    ensures { result ≡ requested (write_same config.now fields.anchor fields.unmap
+        (extent fields.lba fields.count) 7 data_out.now) data_out.now }
 {
     let extent = Extent {
         lba: u64::from(fields.lba),
@@ -226,7 +226,8 @@ pub(crate) fn check_write_same_16<'a>(
     fields: WriteSame16,
     data_out: &'a [u8],
 ) -> Result<Operation<'a>, Refusal>
-    ensures { result ≡ requested (write_same_16 config.now fields data_out.now) data_out.now }
+    ensures { result ≡ requested (write_same config.now fields.anchor fields.unmap
+        (extent fields.lba fields.count) 10 data_out.now) data_out.now }
 {
     let extent = Extent {
         lba: fields.lba,

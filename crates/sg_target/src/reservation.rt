@@ -5,12 +5,11 @@ ghost use Rattle.sg_wire.specs.FirstBytes.{first_bytes};
 ghost use Rattle.sg_units.specs.FullStatus.{longest_reserve_in};
 ghost use Rattle.sg_target.specs.Checks.{requested};
 ghost use Rattle.sg_target.specs.Demands.{reserve_out};
-ghost use Rattle.sg_target.specs.Charge.{TakesStep, cost_bounds};
+ghost use Rattle.sg_target.specs.Charge.{TakesStep, cost_bounds, step_by};
 ghost use Rattle.sg_target.specs.MadeReplies.{ReturnsData};
 ghost use Rattle.sg_target.specs.ReservationCommands.{always_needs_type, out_refusal};
 ghost use Rattle.sg_target.specs.ReservationCommands.{reserve_in_data};
 ghost use Rattle.sg_target.specs.State.{IsWithinLimits};
-ghost use Rattle.sg_target.specs.Step.{step_by};
 
 use crate::data_in::DataIn;
 use crate::data_out::needed_data_out;

@@ -1,6 +1,6 @@
 // The length that the buffer for data-in needs, and commands with a buffer of any length.
 ghost use Rattle.std.specs.Prelude.{◌≡◌, ◌≤◌, length, IfNone, IfOk, IfSome, is_some, nat_le};
-ghost use Rattle.sg_target.specs.BlockCommands.{longest_data_in};
+ghost use Rattle.sg_target.specs.DataInBound.{longest_data_in};
 ghost use Rattle.sg_target.specs.Charge.{ChargesCommand, cost_bounds};
 ghost use Rattle.sg_target.specs.Checks.{checked_cdb};
 ghost use Rattle.sg_target.specs.DataInBound.{checked_bound, data_in_bound, needed_buffer};

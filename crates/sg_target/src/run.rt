@@ -1,7 +1,6 @@
 // Executes lists of commands, with happenings among them.
-ghost use Rattle.std.specs.Prelude.{◌≡◌, ◌+◌, ◌≤◌, [], ◌∷◌, ◌++◌, length, map};
-ghost use Rattle.std.specs.Prelude.{OnOk, OnErr};
-ghost use Rattle.sg_target.specs.BlockCommands.{longest_data_in};
+ghost use Rattle.std.specs.Prelude.{◌≡◌, ◌+◌, ◌≤◌, [], ◌∷◌, ◌++◌, length, map, OnOk, OnErr};
+ghost use Rattle.sg_target.specs.DataInBound.{longest_data_in};
 ghost use Rattle.sg_target.specs.Charge.{cost_bounds};
 ghost use Rattle.sg_target.specs.Runs.{RunsEvents, SinkFields, all_calls, exchange};
 

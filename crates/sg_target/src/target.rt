@@ -61,7 +61,7 @@ impl<S: Store> Model for Target<S> {
 
 ghost use Rattle.std.specs.Prelude.{◌≡◌, ◌≤◌, length, IfOk};
 ghost use Rattle.sg_store.specs.Meter.{new_meter};
-ghost use Rattle.sg_target.specs.BlockCommands.{longest_data_in};
+ghost use Rattle.sg_target.specs.DataInBound.{longest_data_in};
 ghost use Rattle.sg_target.specs.Charge.{ChargesCommand, cost_bounds};
 ghost use Rattle.sg_target.specs.Execution.{IsExecuted};
 ghost use Rattle.sg_target.specs.Happenings.{Happens};

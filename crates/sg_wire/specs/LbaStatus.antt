@@ -1,5 +1,5 @@
 -- GET LBA STATUS parameter data: a header and descriptors (SBC-3, 5.4.2).
-use Rattle.std.specs.Prelude.{ℕ, ◌+◌, ◌-◌, ◌*◌, List, ◌∷◌, ◌++◌, length, replicate}
+use Rattle.std.specs.Prelude.{ℕ, ◌+◌, ◌*◌, List, ◌∷◌, ◌++◌, length, replicate}
 use Rattle.std.specs.List.{flat_map}
 use Rattle.byteorder.specs.Endian.{big_bytes}
 use Rattle.sg_wire.specs.declared.lba_status.ProvisioningStatus.{ProvisioningStatus}
@@ -32,8 +32,7 @@ descriptor_bytes descriptor =
 
 -- PARAMETER DATA LENGTH, the number of all bytes after it, and four reserved bytes.
 abbrev pub status_header : (count : ℕ) → List ℕ
-status_header count =
-    big_bytes 4 (status_header_length - 4 + status_descriptor_length * count) ++ replicate 4 0
+status_header count = big_bytes 4 (4 + status_descriptor_length * count) ++ replicate 4 0
 
 -- The whole parameter data.
 unfoldable pub status_data : List StatusDescriptor → List ℕ

@@ -2,7 +2,7 @@ use Rattle.std.proofs.Common.{◌≡◌, ◌≤◌, ◌+◌, ◌*◌, ◌^◌, �
 use Rattle.sg_store.specs.Disk.{anchored}
 use Rattle.sg_store.specs.Meter.{Meter}
 use Rattle.sg_target.specs.Charge.{IsCounted, cost_bounds}
-use Rattle.sg_target.specs.ProvisioningCommands.{disk_changed_in_turn}
+use Rattle.sg_target.specs.Anchoring.{disk_changed_in_turn}
 use Rattle.sg_target.specs.Ranges.{Range, ranges_in_turn}
 use Rattle.sg_target.proofs.anchoring.anchor_in_turn.Given as goal
 

@@ -1,7 +1,7 @@
 use Rattle.std.proofs.Common.{◌≡◌, ◌≤◌, ◌*◌, ◌^◌, take}
 use Rattle.sg_store.specs.Disk.{unmapped}
 use Rattle.sg_target.specs.Charge.{IsCounted, cost_bounds}
-use Rattle.sg_target.specs.ProvisioningCommands.{disk_changed_in_turn}
+use Rattle.sg_target.specs.Anchoring.{disk_changed_in_turn}
 use Rattle.sg_target.specs.Ranges.{ranges_in_turn}
 use Rattle.sg_target.proofs.provisioning.unmap_in_turn.Given as goal
 
