@@ -22,8 +22,8 @@ use crate::text::answer::put_answer;
 use crate::text::{put_line_header, put_reply};
 use sg_store::{BLOCK_LENGTH, Store};
 use sg_target::{BUFFER_LENGTH, Call, Happening, Target};
-use sg_tools::{Show, exit_status};
-use sg_wire::{Printer, Sense, Watched};
+use sg_tools::Show;
+use sg_wire::{Printer, Watched};
 use std::alloc::Global;
 use std::io;
 use std::io::Write;
@@ -50,17 +50,24 @@ pub(crate) fn execute_line<W: Write, S: Store>(
 {
     let request = read_request(line, &mut buffers.hex);
     let mut out = Printer::new(writer, &mut buffers.text);
+    let context = LineContext { alloc, number };
     let data_out = &mut buffers.data_out;
     let reply = &mut buffers.reply;
-    let status = execute_request(alloc, number, &request, data_out, reply, target, &mut out);
+    let status = execute_request(context, &request, data_out, reply, target, &mut out);
     out.finish()?;
     Ok(status)
 }
 
-/// Executes the request of a line, and prints its text.
-fn execute_request<W: Write, S: Store>(
+/// A line's number, and where the words of its tool take memory.
+#[derive(Clone, Copy)]
+struct LineContext {
     alloc: Global,
     number: u64,
+}
+
+/// Executes the request of a line, and prints its text.
+fn execute_request<W: Write, S: Store>(
+    context: LineContext,
     request: &Request,
     data_out: &mut [u8],
     buffer: &mut [u8],
@@ -71,8 +78,9 @@ fn execute_request<W: Write, S: Store>(
     requires buffer { length buffer.old ≡ REPLY_LENGTH }
     ensures { HasOutcomeUnlessOutOfMemory W.contents out.old out.new target.new.state result
         (λ out_of_memory.
-        by_request number out_of_memory target.old.state (line_request request.now)) }
+        by_request context.number out_of_memory target.old.state (line_request request.now)) }
 {
+    let number = context.number;
     match request {
         Request::Nothing => 0,
         Request::Faulty(fault) => put_fault(number, *fault, out),
@@ -80,7 +88,7 @@ fn execute_request<W: Write, S: Store>(
         Request::Fill(blocks) => fill_blocks(number, blocks, data_out, buffer, target, out),
         Request::Show(show, bytes) => put_shown(number, *show, bytes, buffer, out),
         Request::Happen(happening) => happen(number, *happening, target, out),
-        Request::Tool(line) => run_tool(alloc, number, line, data_out, buffer, target, out),
+        Request::Tool(line) => run_tool(context, line, data_out, buffer, target, out),
     }
 }
 
@@ -173,8 +181,7 @@ fn fill_prefix(buffer: &mut [u8], len: usize, byte: u8)
 
 /// Sends the command of a tool, prints its reply and returns its exit status.
 fn run_tool<W: Write, S: Store>(
-    alloc: Global,
-    number: u64,
+    context: LineContext,
     line: &ToolLine,
     data_out: &mut [u8],
     buffer: &mut [u8],
@@ -185,9 +192,10 @@ fn run_tool<W: Write, S: Store>(
     requires buffer { length buffer.old ≡ REPLY_LENGTH }
     ensures { HasOutcomeUnlessOutOfMemory W.contents out.old out.new target.new.state result
         (λ out_of_memory.
-        by_request number out_of_memory target.old.state (tool_request line.now)) }
+        by_request context.number out_of_memory target.old.state (tool_request line.now)) }
 {
-    match line.parse(alloc) {
+    let number = context.number;
+    match line.parse(context.alloc) {
         Ok(tool) => {
             let plan = tool.plan(data_out);
             let call = Call {
@@ -216,15 +224,12 @@ fn send<W: Write, S: Store>(
 {
     let (data_in, lines) = buffer.split_at_mut(BUFFER_LENGTH);
     let reply = target.execute(call.initiator, call.cdb, call.data_out, data_in);
-    let sense = Sense::read(reply.sense.as_slice());
     put_reply(
         number,
         &reply,
-        sense,
         show,
         &data_in[..reply.data_in],
         lines,
         out,
-    );
-    exit_status(reply.status.code(), sense)
+    )
 }

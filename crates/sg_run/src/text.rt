@@ -5,6 +5,8 @@ ghost use Rattle.sg_wire.specs.Printer.{PrintsText};
 ghost use Rattle.sg_wire.specs.Sense.{fields_of};
 ghost use Rattle.sg_wire.specs.SenseReading.{read_sense};
 ghost use Rattle.sg_decode.specs.HexText.{gathered_text};
+ghost use Rattle.sg_target.specs.Status.{status_code};
+ghost use Rattle.sg_tools.specs.ExitStatus.{exit_status};
 ghost use Rattle.sg_run.specs.Outcome.{line_header, reply_text, sense_lines, status_name};
 
 pub(crate) mod answer;
@@ -12,7 +14,7 @@ pub(crate) mod answer;
 use answer::put_answer;
 use sg_decode::{put_number, put_read_sense};
 use sg_target::{Reply, Status};
-use sg_tools::Show;
+use sg_tools::{Show, exit_status};
 use sg_wire::{Printer, Sense};
 use std::io::Write;
 
@@ -28,28 +30,31 @@ pub(crate) fn put_line_header<W: Write>(number: u64, message: &[u8], out: &mut P
     out.put(b"\n");
 }
 
-/// Prints a reply: its status, its sense data and, under GOOD, its data-in. `sense` was read from
-/// the sense data. The lines of data-in are gathered in `lines`.
+/// Prints a reply: its status, its sense data and, under GOOD, its data-in. Returns the exit status
+/// of the reply. The lines of data-in are gathered in `lines`.
 #[tactic(auto, using(crate::proofs::TextLemmas::prints))]
 pub(crate) fn put_reply<W: Write>(
     number: u64,
     reply: &Reply,
-    sense: Option<Sense>,
     show: Show,
     data_in: &[u8],
     lines: &mut [u8],
     out: &mut Printer<'_, W>,
-)
+) -> u8
     requires lines { gathered_text ≤ length lines.old }
-    requires sense { option_map fields_of sense ≡ read_sense reply.now.sense }
-    ensures { PrintsText W.contents out.old out.new
+    ensures text { PrintsText W.contents out.old out.new
         (reply_text number show reply.now.status reply.now.sense data_in.now) }
+    ensures status { result
+        ≡ exit_status (status_code reply.now.status) (read_sense reply.now.sense) }
 {
+    let sense = Sense::read(reply.sense.as_slice());
     put_line_header(number, status_name(reply.status), out);
     put_reply_sense(reply.sense.as_slice(), sense, out);
     if let Status::Good = reply.status {
         put_answer(show, data_in, lines, out);
+        return 0;
     }
+    exit_status(reply.status.code(), sense)
 }
 
 fn status_name(status: Status) -> &'static [u8]
