@@ -1,5 +1,5 @@
 -- The mode parameter list, written part by part.
-use Rattle.std.proofs.Common.{◌≡◌, ◌≤◌, ℕ, ◌+◌, ◌++◌, [], ◌∷◌, length, ap, sym, ◌∙◌, append_assoc}
+use Rattle.std.proofs.Common.{◌≡◌, ◌≤◌, ℕ, ◌+◌, ◌++◌, length, ap, sym, ◌∙◌, append_assoc}
 use Rattle.std.proofs.Common.{length-append, arith, lit≤, Bool}
 use Rattle.sg_wire.specs.declared.command.mode.CdbWidth.{CdbWidth}
 use Rattle.sg_wire.specs.declared.command.mode.CdbWidth.TheVariants.{Six, Ten}
@@ -8,7 +8,7 @@ use Rattle.sg_wire.specs.Laws.{PartsArePutInTurn}
 use Rattle.sg_pages.specs.ModePage.{ModeState}
 use Rattle.sg_pages.specs.ModeSense.{RequestFields, selected_by, descriptor_data, requested_pages}
 use Rattle.sg_pages.specs.ModeSense.{length_bytes, header_after_length, list_after_length}
-use Rattle.sg_pages.specs.ModeSense.{device_specific, is_long, longlba_bytes, mode_parameter_list}
+use Rattle.sg_pages.specs.ModeSense.{is_long, longlba_bytes, mode_parameter_list}
 use Rattle.sg_pages.specs.DataLengths.{longest_list}
 use Rattle.sg_pages.proofs.PageLemmas.{put-two}
 

@@ -15,8 +15,9 @@ pub use capacity::{CAPACITY_10_LENGTH, CAPACITY_16_LENGTH, write_capacity_10, wr
 pub use identity::{Identity, IdentityFault};
 pub use inquiry_data::{write_standard_inquiry, write_standard_inquiry as inquiry};
 pub use mode_pages::{
-    Changed, LONGEST_MODE_LIST, ModePage, ModePages, ModeSelectFault, ModeSelectFault as SelectFault, ModeSenseFault,
-    ModeSenseFault as AskFault, ModeSenseRequest, ModeSenseRequest as Ask, PageValues,
+    Changed, LONGEST_MODE_LIST, ModePage, ModePages, ModeSelectFault,
+    ModeSelectFault as SelectFault, ModeSenseFault, ModeSenseFault as AskFault, ModeSenseRequest,
+    ModeSenseRequest as Ask, PageValues,
 };
 pub use sg_wire::{MAXIMUM_TRANSFER_LENGTH, MAXIMUM_WRITE_SAME_LENGTH, PageControl};
 pub use vital_product_data::{LONGEST_VPD_PAGE, VpdPage, vpd, write_vpd_page};

@@ -224,12 +224,5 @@ fn send<W: Write, S: Store>(
 {
     let (data_in, lines) = buffer.split_at_mut(BUFFER_LENGTH);
     let reply = target.execute(call.initiator, call.cdb, call.data_out, data_in);
-    put_reply(
-        number,
-        &reply,
-        show,
-        &data_in[..reply.data_in],
-        lines,
-        out,
-    )
+    put_reply(number, &reply, show, &data_in[..reply.data_in], lines, out)
 }

@@ -1,5 +1,6 @@
 -- MODE SENSE returns a list or is refused.
-use Rattle.std.proofs.Common.{◌≡◌, ◌≤◌, min, ℕ, zero, suc, List, [], length, Result, Ok, Err, refl, sym, ap, subst, ◌∙◌}
+use Rattle.std.proofs.Common.{◌≡◌, ◌≤◌, min, ℕ, zero, suc, List, [], length, Result, Ok, Err}
+use Rattle.std.proofs.Common.{refl, sym, ap, subst, ◌∙◌}
 use Rattle.std.specs.Prelude.{IfOk, IfErr}
 use Rattle.std.specs.Result.{result_map_both}
 use Rattle.sg_store.specs.Meter.{no_counts}

@@ -1,10 +1,9 @@
 -- The parameter data of GET LBA STATUS within its own length.
 use Rattle.std.proofs.Common.{◌≡◌, ◌≤◌, ℕ, ◌+◌, ◌*◌, zero, suc, min, List, [], ◌∷◌, length}
-use Rattle.std.proofs.Common.{length-append, take, Bool, true, false, cond, refl, ap, sym, ◌∙◌}
+use Rattle.std.proofs.Common.{length-append, Bool, true, false, cond, refl, ap, ◌∙◌}
 use Rattle.std.proofs.Common.{arith}
 use Rattle.std.specs.Prelude.{nat_lt}
 use Rattle.std.specs.List.{flat_map}
-use Rattle.std.proofs.lemmas.List.{take_min}
 use Rattle.sg_store.specs.Disk.{Contents, Disk}
 use Rattle.sg_wire.specs.LbaStatus.{descriptor_bytes, status_data}
 use Rattle.sg_store.specs.LbaStatus.{count_alike, descriptor_at, descriptors_from, lba_status}

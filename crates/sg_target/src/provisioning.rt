@@ -28,7 +28,10 @@ use crate::target::Target;
 use sg_store::lba_status::MAX_DESCRIPTORS;
 use sg_store::{BLOCK_LENGTH, MAX_CAPACITY, Store};
 use sg_wire::laws::answers_are_in_their_buffers;
-use sg_wire::{Cut, Extent, Initiator, ListedExtents, Unmap, UnmapList, UnmapListFault, WriteSame10, WriteSame16, are_zeros, STATUS_DESCRIPTOR_LENGTH, STATUS_HEADER_LENGTH};
+use sg_wire::{
+    Cut, Extent, Initiator, ListedExtents, STATUS_DESCRIPTOR_LENGTH, STATUS_HEADER_LENGTH, Unmap,
+    UnmapList, UnmapListFault, WriteSame10, WriteSame16, are_zeros,
+};
 use std::marker::Model;
 
 /// Where ANCHOR is in the CDB of WRITE SAME.
@@ -317,8 +320,8 @@ impl<S: Store> Target<S> {
 // ---- GET LBA STATUS
 
 /// The length of the longest data of GET LBA STATUS, in bytes.
-pub(crate) const LONGEST_STATUS_DATA: usize =
-    STATUS_HEADER_LENGTH + STATUS_DESCRIPTOR_LENGTH * MAX_DESCRIPTORS;
+pub(crate) const LONGEST_STATUS_DATA: usize = STATUS_HEADER_LENGTH
+    + STATUS_DESCRIPTOR_LENGTH * MAX_DESCRIPTORS;
 
 impl<S: Store> Target<S> {
     /// Returns which blocks are mapped, from an address on.

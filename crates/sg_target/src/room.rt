@@ -84,8 +84,8 @@ impl<S: Store> Target<S> {
     /// Executes a command as [`Target::execute`] does, with a buffer of any length. None if the
     /// buffer is shorter than the data-in that the command asks for. Nothing has changed then.
     ///
-    /// A buffer of [`BUFFER_LENGTH`](crate::BUFFER_LENGTH) bytes is long enough for every command, and an empty one for a
-    /// command that is refused or has no data-in.
+    /// A buffer of [`BUFFER_LENGTH`](crate::BUFFER_LENGTH) bytes is long enough for every command,
+    /// and an empty one for a command that is refused or has no data-in.
     pub fn execute_within(
         &mut self,
         initiator: Initiator,

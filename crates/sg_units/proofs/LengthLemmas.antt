@@ -1,5 +1,5 @@
 -- The data of PERSISTENT RESERVE IN within its length.
-use Rattle.std.proofs.Common.{◌≡◌, ◌≤◌, ℕ, ◌*◌, List, [], ◌∷◌, Option, Some, None, length, refl, arith}
+use Rattle.std.proofs.Common.{◌≡◌, ◌≤◌, ◌*◌, List, [], ◌∷◌, Option, Some, None, length, refl, arith}
 use Rattle.std.proofs.Common.{length-append, lit≤}
 use Rattle.std.specs.List.{flat_map}
 use Rattle.sg_units.specs.FullStatus.{full_status_data, full_status_descriptor, longest_reserve_in}
@@ -30,7 +30,7 @@ module _ (reservation : Option Reservation) where
         one,
         rest,
         length-append (full_status_descriptor reservation r)
-        (flat_map (full_status_descriptor reservation) rs),
+            (flat_map (full_status_descriptor reservation) rs),
       )
 
 module _ (state : ReservationState) where

@@ -8,8 +8,6 @@ mod read_full_status;
 mod register;
 mod reserve;
 
-pub use read_full_status::LONGEST_RESERVE_IN_DATA;
-
 ghost use Rattle.std.specs.Prelude.{◌≡◌};
 ghost use Rattle.sg_units.specs.Access.{allows, standing_of};
 ghost use Rattle.sg_units.specs.ReserveOut.{registering, unchanged};
@@ -20,6 +18,7 @@ use crate::access::{Standing, highest_class, is_within};
 use crate::registrations::Registrations;
 use crate::reservation_change::ReservationChange;
 use crate::{Reservation, ReservationType};
+pub use read_full_status::LONGEST_RESERVE_IN_DATA;
 use sg_wire::{Class, Initiator};
 
 /// The registrations, the reservation that is held, PRGENERATION, and whether a power loss leaves

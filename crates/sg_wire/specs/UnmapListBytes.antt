@@ -1,5 +1,5 @@
 -- The bytes of the parameter list of UNMAP, as they are written (SBC-3, 5.28.2).
-use Rattle.std.specs.Prelude.{ℕ, ◌+◌, ◌-◌, ◌*◌, List, ◌++◌, length, replicate}
+use Rattle.std.specs.Prelude.{ℕ, ◌-◌, ◌*◌, List, ◌++◌, length, replicate}
 use Rattle.std.specs.List.{flat_map}
 use Rattle.byteorder.specs.Endian.{big_bytes}
 use Rattle.sg_wire.specs.declared.extent.Extent.{Extent}

@@ -13,8 +13,11 @@ returns-clause-at_most c =
     let pages = c.requested_length.ensures.length
     ∙ ap (λ (v : PageValues). length (requested_pages v asked.page.page_code)) values in
     list-short c.args.self.now asked
-    (omega (arith, c.descriptor_length-descriptor.ensures.length,
-    c.descriptor_length-descriptor.ensures.bound))
+    (omega (
+      arith,
+      c.descriptor_length-descriptor.ensures.length,
+      c.descriptor_length-descriptor.ensures.bound,
+    ))
     (omega (arith, pages, c.requested_length.ensures.bound))
 
 pub returns-clause-list : goal.returns-clause-list
