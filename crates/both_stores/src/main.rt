@@ -1,15 +1,16 @@
-//! `both_stores`: 10,000 commands from a fixed seed over both stores. The replies have to be equal,
-//! except for the stores' counts.
+//! `both_stores`: 10,000 commands from a fixed seed over the three stores. The replies have to be
+//! equal, except for the stores' counts.
 #![tactic(auto)]
 
 mod random;
 
 use random::Random;
 use sg_block_map::BlockMap;
+use sg_extent_map::ExtentMap;
 use sg_pages::Identity;
 use sg_plain_map::PlainMap;
 use sg_store::BLOCK_LENGTH;
-use sg_target::{BUFFER_LENGTH, Config, Status, Target};
+use sg_target::{BUFFER_LENGTH, Config, Reply, Status, Target};
 use sg_wire::{
     Command, Extent10, GetLbaStatus, GroupNumber, Initiator, OutAction, PersistentReserveOut,
     Unmap, WriteSame16,
@@ -40,8 +41,10 @@ const KEY_LIST: usize = 24;
 struct Disks {
     plain: Target<PlainMap>,
     runs: Target<BlockMap>,
+    extents: Target<ExtentMap>,
     of_plain: [u8; BUFFER_LENGTH],
     of_runs: [u8; BUFFER_LENGTH],
+    of_extents: [u8; BUFFER_LENGTH],
 }
 
 /// The number of replies that are equal, and how many of these have each status.
@@ -53,18 +56,25 @@ struct Tally {
     conflict: u64,
 }
 
+/// Whether two replies have the same status and the same sense data.
+fn are_equal(one: &Reply, other: &Reply) -> bool {
+    one.status == other.status && one.sense.as_slice() == other.sense.as_slice()
+}
+
 impl Disks {
     fn new(alloc: Global) -> Option<Disks> {
         let config = Config::new(BLOCKS, POOL, Identity::standard()).ok()?;
         Some(Disks {
             plain: Target::new(alloc, config).ok()?,
             runs: Target::new(alloc, config).ok()?,
+            extents: Target::new(alloc, config).ok()?,
             of_plain: [0; BUFFER_LENGTH],
             of_runs: [0; BUFFER_LENGTH],
+            of_extents: [0; BUFFER_LENGTH],
         })
     }
 
-    /// Executes a command over both, and returns the status if the replies are equal.
+    /// Executes a command over each, and returns the status if the replies are equal.
     fn execute(&mut self, initiator: Initiator, cdb: &[u8], data_out: &[u8]) -> Option<Status> {
         let plain = self
             .plain
@@ -72,16 +82,21 @@ impl Disks {
         let runs = self
             .runs
             .execute(initiator, cdb, data_out, &mut self.of_runs);
-        let are_equal = plain.status == runs.status
-            && plain.sense.as_slice() == runs.sense.as_slice()
-            && self.of_plain[..plain.data_in] == self.of_runs[..runs.data_in];
-        if are_equal { Some(runs.status) } else { None }
+        let extents = self
+            .extents
+            .execute(initiator, cdb, data_out, &mut self.of_extents);
+        let are_equal = are_equal(&plain, &runs)
+            && are_equal(&plain, &extents)
+            && self.of_plain[..plain.data_in] == self.of_runs[..runs.data_in]
+            && self.of_plain[..plain.data_in] == self.of_extents[..extents.data_in];
+        if are_equal { Some(plain.status) } else { None }
     }
 
-    /// Takes both through a power cycle.
+    /// Takes each through a power cycle.
     fn power_cycle(&mut self) {
         self.plain.power_cycle();
         self.runs.power_cycle();
+        self.extents.power_cycle();
     }
 }
 

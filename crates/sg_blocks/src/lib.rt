@@ -3,6 +3,7 @@
 #![tactic(auto)]
 
 pub use sg_block_map::BlockMap;
+pub use sg_extent_map::ExtentMap;
 pub use sg_plain_map::PlainMap;
 pub use sg_pool::Pool;
 pub use sg_store::{BLOCK_LENGTH, Counts, MAX_CAPACITY, MAX_COUNT, MAX_POOL, Space, Store};

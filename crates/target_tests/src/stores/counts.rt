@@ -1,7 +1,8 @@
-// The results of the calls of both stores, the records that they leave, and their counts.
+// The results of the calls of the three stores, the records that they leave, and their counts.
 use super::disk::Call::{Anchor, Fill, Need, Read, Status, Unmap, Write};
 use super::disk::{DONE, NOT_DONE, Step, first_wrong};
 use sg_block_map::BlockMap;
+use sg_extent_map::ExtentMap;
 use sg_plain_map::PlainMap;
 use std::test::Fail;
 
@@ -133,6 +134,68 @@ const OF_BLOCK_MAP: [(&str, u32, &[Step]); 6] = [
 fn a_block_map_counts(rt: HostRuntime) -> Result<(), Fail> {
     for (name, pool, steps) in &OF_BLOCK_MAP {
         let wrong = first_wrong::<BlockMap>(rt.alloc(), *pool, steps)?;
+        assert!(rt; wrong.is_none(), "{name}");
+    }
+    Ok(())
+}
+
+/// Blocks that are written in order lie in one extent. Anchoring cuts the extent, and a write joins
+/// it again. So does a write of addresses that were unmapped: they take the slots that they had.
+const IN_ORDER: [Step; 7] = [
+    (Write(0xA1), 0, 2, DONE, [2, 2, 1], NONE, ANY),
+    (Write(0xA1), 2, 2, DONE, [4, 4, 1], NONE, [1, 1, 0]),
+    (Anchor, 1, 1, DONE, [4, 3, 3], NONE, ANY),
+    (Write(0xB2), 1, 1, DONE, [4, 4, 1], NONE, ANY),
+    (Unmap, 1, 2, DONE, [2, 2, 2], NONE, ANY),
+    (Write(0xB2), 1, 2, DONE, [4, 4, 1], NONE, ANY),
+    (Read(0xB2), 1, 2, DONE, [4, 4, 1], NONE, ANY),
+];
+
+/// Blocks whose slots lie apart have extents of their own. The status joins their addresses.
+const APART: [Step; 5] = [
+    (Write(0xA1), 0, 1, DONE, [1, 1, 1], NONE, ANY),
+    (Write(0xB2), 2, 1, DONE, [2, 2, 2], NONE, ANY),
+    (Write(0xA1), 1, 1, DONE, [3, 3, 3], NONE, ANY),
+    (Read(0xA1), 0, 2, DONE, [3, 3, 3], [3, 0, 0], [3, 2, 0]),
+    (Status, 0, 0, DONE, [3, 3, 3], [3, 0, 0], [3, 2, 0]),
+];
+
+/// A full pool refuses an address without a slot, and takes a write of the others.
+const FULL: [Step; 7] = [
+    (Fill(0xA1), 0, 4, DONE, [4, 4, 1], NONE, ANY),
+    (Write(0xB2), 9, 1, NOT_DONE, [4, 4, 1], NONE, ANY),
+    (Write(0xB2), 3, 2, NOT_DONE, [4, 4, 1], NONE, ANY),
+    (Write(0xB2), 3, 1, DONE, [4, 4, 1], NONE, ANY),
+    (Need, 0, 16, 12, [4, 4, 1], NONE, ANY),
+    (Unmap, 0, 0xFFFF_FFFF, DONE, NONE, NONE, ANY),
+    (Read(0), 0, 4, DONE, NONE, NONE, NONE),
+];
+
+/// A read in the middle of a long extent visits one record and follows no link.
+const LONG: [Step; 2] = [
+    (Fill(0xA1), 0, 65_536, DONE, [65_536, 65_536, 1], NONE, ANY),
+    (
+        Read(0xA1),
+        0x100,
+        256,
+        DONE,
+        [65_536, 65_536, 1],
+        [1, 0, 0],
+        [1, 1, 0],
+    ),
+];
+
+const OF_EXTENT_MAP: [(&str, u32, &[Step]); 4] = [
+    ("in order", 4, &IN_ORDER),
+    ("apart", 4, &APART),
+    ("full", 4, &FULL),
+    ("long", 65_536, &LONG),
+];
+
+#[test]
+fn an_extent_map_counts(rt: HostRuntime) -> Result<(), Fail> {
+    for (name, pool, steps) in &OF_EXTENT_MAP {
+        let wrong = first_wrong::<ExtentMap>(rt.alloc(), *pool, steps)?;
         assert!(rt; wrong.is_none(), "{name}");
     }
     Ok(())

@@ -3,6 +3,7 @@ ghost use Rattle.std.specs.Prelude.{◌≡◌, ◌+◌, ◌≤◌};
 ghost use Rattle.target_tests.specs.declared.stores.disk.TheConstants.{CAPACITY};
 
 use sg_block_map::BlockMap;
+use sg_extent_map::ExtentMap;
 use sg_plain_map::PlainMap;
 use sg_store::{BLOCK_LENGTH, Counts, MAX_POOL, Store};
 use sg_wire::Cut;
@@ -46,6 +47,12 @@ pub(super) trait Records: Store {
 impl Records for BlockMap {
     fn records(&self) -> u64 {
         self.run_count() as u64
+    }
+}
+
+impl Records for ExtentMap {
+    fn records(&self) -> u64 {
+        self.extent_count() as u64
     }
 }
 

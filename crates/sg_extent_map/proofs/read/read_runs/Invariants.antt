@@ -1,0 +1,18 @@
+use Rattle.std.proofs.Common.{◌≡◌, ◌+◌, ◌*◌, ◌++◌, List, take, length}
+use Rattle.sg_store.specs.Disk.{blocks}
+use Rattle.sg_pool.specs.MappedRecords.{contents_of}
+use Rattle.sg_table.specs.declared.run.Run.{Run}
+use Rattle.sg_extent_map.specs.Extents.{singles, AreBetween}
+use Rattle.sg_extent_map.specs.Walking.{ahead_of, AreAhead}
+use Rattle.sg_extent_map.proofs.read.read_runs.Given as goal
+
+-- the blocks so far are read, and the extents ahead have the others
+abbrev pub invariant-loop-i : goal.invariant-loop-i
+invariant-loop-i l =
+    let more = ahead_of l.runs l.walk.run l.walk.at in
+    record {
+      ahead : AreAhead (length l.pool.blocks) (l.lba + l.i) more;
+      parts : (passed : List Run) × (singles l.runs ≡ passed ++ singles more)
+          × AreBetween 0 (l.lba + l.i) passed;
+      bytes : take (512 * l.i) l.bytes ≡ blocks (contents_of (singles l.runs) l.pool.blocks) l.lba l.i;
+    }
