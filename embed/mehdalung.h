@@ -107,7 +107,7 @@ typedef struct mdl_identity {
 /* The commands that a disk has. docs/PROFILE.md of the source lists them. */
 typedef enum mdl_profile {
     MDL_PROFILE_BASE = 0,    /* the commands that every disk has */
-    MDL_PROFILE_EXTENDED = 1 /* the same: this version adds none yet */
+    MDL_PROFILE_EXTENDED = 1 /* the same commands so far, and a far larger pool */
 } mdl_profile;
 
 #define MDL_GOOD 0x00
@@ -127,7 +127,7 @@ typedef struct mdl_reply {
 
 /* Makes a disk of the base profile with `blocks` blocks, as after power on. At most `pool` of the
  * blocks can be mapped or anchored at once. No block is mapped, and a unit attention, POWER ON, is
- * pending for each initiator. The disk takes some 620 bytes of memory for each block of the pool,
+ * pending for each initiator. The disk takes some 610 bytes of memory for each block of the pool,
  * and some 7,000 more.
  *     disk      MDL_NONE, or a disk that you freed. Free it by mdl_free.
  *     identity  The call reads it. Null means the standard identity.
@@ -135,7 +135,8 @@ typedef struct mdl_reply {
  * MDL_POOL or MDL_OUT_OF_MEMORY. The first that applies is returned, and `disk` stays as it was. */
 mdl_error mdl_make(mdl_disk *disk, uint64_t blocks, uint32_t pool, const mdl_identity *identity);
 
-/* Makes a disk as mdl_make does, but of any profile: `profile` is one of mdl_profile.
+/* Makes a disk as mdl_make does, but of any profile: `profile` is one of mdl_profile. The pool of an
+ * extended disk has up to 4,294,967,295 blocks, each of which takes some 630 bytes.
  * Errors: MDL_NULL_POINTER, MDL_UNKNOWN_PROFILE, or an error of mdl_make. The first that applies is
  * returned, and `disk` stays as it was. */
 mdl_error mdl_make_with_profile(mdl_disk *disk, uint32_t profile, uint64_t blocks, uint32_t pool,

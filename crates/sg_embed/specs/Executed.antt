@@ -3,18 +3,13 @@ use Rattle.std.specs.Prelude.{◌≡◌, ℕ, List, Option, None, Some}
 use Rattle.sg_pages.specs.Identity.{IdentityFields}
 use Rattle.sg_store.specs.Meter.{new_meter}
 use Rattle.sg_units.specs.Registrations.{registered_mask}
-use Rattle.sg_block_map.specs.RunCost.{block_price, block_least}
-use Rattle.sg_target.specs.Charge.{ChargesCommand, cost_bounds}
 use Rattle.sg_target.specs.Config.{ConfigFields}
-use Rattle.sg_target.specs.Execution.{IsExecuted}
-use Rattle.sg_target.specs.Happenings.{Happens}
-use Rattle.sg_target.specs.Ports.{Forgets}
 use Rattle.sg_target.specs.NewState.{new_state}
-use Rattle.sg_target.specs.Target.{TargetFields}
-use Rattle.sg_target.specs.declared.happening.Happening.TheVariants.{Power}
 use Rattle.sg_target.specs.declared.reply.Reply.{Reply}
 use Rattle.sg_embed.specs.declared.kept.Kept.{Kept}
 use Rattle.sg_embed.specs.Records.{Shows}
+use Rattle.sg_embed.specs.Served.{target_of, served_in, CyclesPower, Executes, ForgetsPort}
+use Rattle.sg_embed.specs.declared.served.Served.{Served}
 use Rattle.sg_embed.specs.declared.record.ReplyRecord.{ReplyRecord}
 
 -- The configuration that a disk is made with.
@@ -22,11 +17,17 @@ abbrev pub disk_config : (blocks pool : ℕ) → IdentityFields → ConfigFields
 disk_config blocks pool identity = record { blocks = blocks; pool = pool; identity = identity }
 
 -- A disk as it is after power on.
+abbrev pub new_target : ConfigFields → Served
+new_target config = served_in config.identity.profile (record {
+  state = new_state config;
+  meter = new_meter;
+})
+
 abbrev pub new_disk : ConfigFields → Kept
-new_disk config = record { target = record { state = new_state config; meter = new_meter } }
+new_disk config = record { target = new_target config }
 
 -- There was a disk, and something happens to its target.
-pub record HappensToDisk (event : (old new : TargetFields) → Type 0) (old new : Option Kept) : Type 0
+pub record HappensToDisk (event : (old new : Served) → Type 0) (old new : Option Kept) : Type 0
   where
     pub disk : Kept
     pub left : Kept
@@ -36,26 +37,21 @@ pub record HappensToDisk (event : (old new : TargetFields) → Type 0) (old new 
 
 -- The disk has lost power, and power is on again.
 abbrev pub IsPowerCycled : (old new : Option Kept) → Type 0
-IsPowerCycled = HappensToDisk (Happens Power)
+IsPowerCycled = HappensToDisk CyclesPower
 
 -- The disk has forgotten an initiator's port.
 abbrev pub IsForgotten : (initiator : ℕ) → (old new : Option Kept) → Type 0
-IsForgotten initiator = HappensToDisk (Forgets initiator)
+IsForgotten initiator = HappensToDisk (ForgetsPort initiator)
 
 -- The mask of a disk's registrants, if there is a disk.
 abbrev pub registrants : Option Kept → Option ℕ
 registrants None = None
-registrants (Some disk) = Some (registered_mask disk.target.state.reservations.registrations)
-
--- A target executes a command, and its store is charged for it.
-pub record ExecutesCommand (initiator : ℕ) (cdb data_out : List ℕ) (reply : Reply)
-    (before after : List ℕ) (old new : TargetFields) : Type 0 where
-  pub executed : IsExecuted initiator cdb data_out old.state new.state reply before after
-  pub charged : ChargesCommand (cost_bounds block_price block_least) initiator cdb data_out old new reply
+registrants (Some disk) =
+    Some (registered_mask (target_of disk.target).state.reservations.registrations)
 
 -- A command is executed, and a record shows the reply.
 pub record IsAnswered (initiator : ℕ) (cdb data_out : List ℕ) (old new : Option Kept)
     (before after : List ℕ) (shown : ReplyRecord) : Type 0 where
   pub reply : Reply
-  pub executed : HappensToDisk (ExecutesCommand initiator cdb data_out reply before after) old new
+  pub executed : HappensToDisk (Executes initiator cdb data_out reply before after) old new
   pub shows : Shows shown reply

@@ -17,6 +17,7 @@ use Rattle.sg_run.specs.declared.request.text_fault.TextFault.{TextFault}
 use Rattle.sg_run.specs.declared.request.text_fault.TextFault.TheVariants as text_fault
 use Rattle.sg_pages.specs.Identity.{IdentityFields}
 use Rattle.sg_embed.specs.Executed.{disk_config}
+use Rattle.sg_embed.specs.Served.{target_of}
 use Rattle.sg_embed.specs.declared.kept.Kept.{Kept}
 use Rattle.sg_embed.specs.declared.outcome.Outcome.{Outcome}
 use Rattle.sg_embed.specs.declared.outcome.Outcome.TheVariants.{Done, NoDisk, DiskExists}
@@ -94,7 +95,7 @@ disk_outcome None = NoDisk
 abbrev pub room_outcome : Option Kept → (initiator : ℕ) → (cdb data_out : List ℕ) → (room : ℕ) → Outcome
 room_outcome None initiator cdb data_out room = NoDisk
 room_outcome (Some disk) initiator cdb data_out room =
-    if nat_le (needed_buffer disk.target.state initiator cdb data_out) room then Done
+    if nat_le (needed_buffer (target_of disk.target).state initiator cdb data_out) room then Done
     else BufferTooShort
 
 -- The outcome of a command of an initiator, with a buffer for data-in of some length. Each is

@@ -2,14 +2,14 @@
 ghost use Rattle.std.specs.Prelude.{◌≡◌, IfOk};
 ghost use Rattle.sg_embed.specs.Executed.{new_disk};
 
-use sg_block_map::BlockMap;
-use sg_target::{Config, Target};
+use crate::served::Served;
+use sg_target::Config;
 use std::alloc::{AllocError, Global};
 
-/// A target over the store with a record for each run.
+/// A disk: its target, over the store that serves its profile.
 #[derive(Drop)]
 pub struct Kept {
-    pub(crate) target: Target<BlockMap>,
+    pub(crate) target: Served,
 }
 
 impl Kept {
@@ -20,7 +20,7 @@ impl Kept {
     pub(crate) fn new(alloc: Global, config: Config) -> Result<Box<Kept>, AllocError>
         ensures { IfOk result (λ kept. kept.value ≡ new_disk config) }
     {
-        let target = Target::new(alloc, config)?;
+        let target = Served::new(alloc, config)?;
         Ok(Box::new(alloc, Kept { target })?)
     }
 }

@@ -10,6 +10,7 @@ mod outcome;
 mod parts;
 mod profiles;
 mod record;
+mod served;
 mod slot;
 mod text;
 
@@ -19,5 +20,6 @@ pub use kept::Kept;
 pub use outcome::Outcome;
 pub use profiles::identity_with_profile;
 pub use record::{IdentityRecord, ReplyRecord, SenseRecord};
+pub use served::Served;
 pub use slot::Slot;
 pub use text::{copy_text, copy_version};

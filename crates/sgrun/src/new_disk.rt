@@ -1,4 +1,4 @@
-// Makes the disk and runs the script on it. The program names a store only here.
+// Makes the disk and runs the script on it. The program names its stores only here.
 ghost use Rattle.std.specs.Prelude.{◌≡◌, false};
 ghost use Rattle.sg_wire.specs.Watched.{has_failed};
 ghost use Rattle.sg_run.specs.ScriptRun.{snapshot};
@@ -6,14 +6,17 @@ ghost use Rattle.sgrun.specs.NewDisk.{RunsOnNewDisk, RunsUnlessRefused, by_run};
 
 use crate::stop::Stop;
 use sg_block_map::BlockMap;
+use sg_extent_map::ExtentMap;
 use sg_run::{RunFault, Session, run_script};
 use sg_store::Store;
 use sg_target::{Config, Target};
-use sg_wire::Watched;
+use sg_wire::{Profile, Watched};
 use std::alloc::Global;
 use std::io::{Read, Write};
 
-/// Runs a script on a disk as it is after power on. Returns the script's status.
+/// Runs a script on a disk as it is after power on. Returns the script's status. A disk of the base
+/// profile is over a `BlockMap`. One of the extended profile can have a far larger pool, and is over
+/// an `ExtentMap`.
 ///
 /// # Errors
 /// Memory was refused, before anything was read; or the reader or the writer failed.
@@ -30,7 +33,27 @@ pub(crate) fn run_on_new_disk<'a, R: Read, W: Write>(
         (snapshot R.remaining W.contents reader.new writer.new)
         result }
 {
-    let mut target: Target<BlockMap> = Target::new(alloc, disk)?;
+    match disk.identity().profile() {
+        Profile::Base => run_over::<R, W, BlockMap>(alloc, disk, reader, writer),
+        Profile::Extended => run_over::<R, W, ExtentMap>(alloc, disk, reader, writer),
+    }
+}
+
+/// Runs a script on a new disk over a store.
+fn run_over<'a, R: Read, W: Write, S: Store>(
+    alloc: Global,
+    disk: Config,
+    reader: &mut Watched<R>,
+    writer: &mut Watched<W>,
+) -> Result<u8, Stop<'a>>
+    requires reads { has_failed reader.old ≡ false }
+    requires writes { has_failed writer.old ≡ false }
+    ensures { RunsOnNewDisk disk
+        (snapshot R.remaining W.contents reader.old writer.old)
+        (snapshot R.remaining W.contents reader.new writer.new)
+        result }
+{
+    let mut target: Target<S> = Target::new(alloc, disk)?;
     run_in_new_session(alloc, reader, writer, &mut target)
 }
 

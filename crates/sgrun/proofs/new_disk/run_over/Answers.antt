@@ -1,7 +1,7 @@
 use Rattle.std.proofs.Common.{rules}
 use Rattle.sg_run.specs.ScriptRun.{snapshot}
 use Rattle.sgrun.proofs.NewDiskLemmas.{on_new_disk, refused_on_new_disk}
-use Rattle.sgrun.proofs.new_disk.run_on_new_disk.Goals as goal
+use Rattle.sgrun.proofs.new_disk.run_over.Goals as goal
 
 pub returns-in_err-target : goal.returns-in_err-target
 returns-in_err-target g c =
