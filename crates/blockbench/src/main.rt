@@ -1,8 +1,8 @@
-//! `blockbench ORDER POOL BLOCKS COMMANDS`: block commands on a disk whose pool is full.
+//! `blockbench STORE ORDER POOL BLOCKS COMMANDS`: block commands on a disk whose pool is full.
 //! `bench/blocks` makes its tables.
 //!
-//! A disk of the extended profile with a pool of POOL blocks gets as many mapped blocks, in an
-//! order:
+//! The store is `runs`, a `BlockMap`, or `extents`, an `ExtentMap`. A disk of the extended profile
+//! with a pool of POOL blocks gets as many mapped blocks, in an order:
 //!
 //! - `sparse`: in runs of BLOCKS blocks, with an address that is not mapped after each run. There
 //!   is one WRITE for each run.
@@ -19,8 +19,9 @@
 #![tactic(auto)]
 
 use sg_block_map::BlockMap;
+use sg_extent_map::ExtentMap;
 use sg_pages::Identity;
-use sg_store::BLOCK_LENGTH;
+use sg_store::{BLOCK_LENGTH, Store};
 use sg_target::{BUFFER_LENGTH, Config, Status, Target};
 use sg_wire::{CdbBytes, Command, Extent16, GroupNumber, Initiator, Profile, Unmap};
 use std::process::ExitCode;
@@ -46,9 +47,17 @@ enum Order {
     Churned,
 }
 
+/// The store that keeps the blocks.
+#[derive(Clone, Copy)]
+enum Kept {
+    Runs,
+    Extents,
+}
+
 /// What a run does.
 #[derive(Clone, Copy)]
 struct Load {
+    store: Kept,
     order: Order,
     pool: u32,
     /// The number of blocks of a command.
@@ -59,8 +68,8 @@ struct Load {
 
 /// What the commands are sent to and by.
 #[derive(Drop)]
-struct Bench<'a> {
-    target: Target<BlockMap>,
+struct Bench<'a, S: Store> {
+    target: Target<S>,
     initiator: Initiator,
     data_out: &'a [u8],
     buf: [u8; BUFFER_LENGTH],
@@ -111,7 +120,7 @@ impl Load {
     }
 }
 
-impl Bench<'_> {
+impl<S: Store> Bench<'_, S> {
     fn send(&mut self, cdb: &CdbBytes, data_out: &[u8]) {
         let reply = self
             .target
@@ -159,7 +168,7 @@ fn each(rt: &HostRuntime, start: Instant, count: u64) -> io::Result<u64> {
 }
 
 /// Fills the pool, and churns it if that is asked for.
-fn fill(rt: &HostRuntime, bench: &mut Bench, load: Load) -> io::Result<()> {
+fn fill<S: Store>(rt: &HostRuntime, bench: &mut Bench<'_, S>, load: Load) -> io::Result<()> {
     let (writes, blocks) = load.fill();
     let start = Instant::now(rt)?;
     for index in 0..writes {
@@ -177,7 +186,7 @@ fn fill(rt: &HostRuntime, bench: &mut Bench, load: Load) -> io::Result<()> {
 }
 
 /// Times the commands of each kind.
-fn measure(rt: &HostRuntime, bench: &mut Bench, load: Load) -> io::Result<()> {
+fn measure<S: Store>(rt: &HostRuntime, bench: &mut Bench<'_, S>, load: Load) -> io::Result<()> {
     let start = Instant::now(rt)?;
     bench.read(load.filled_at(load.fill().0 / 2), load.blocks);
     eprintln!(rt; "first_read {}", each(rt, start, 1)?)?;
@@ -201,6 +210,14 @@ fn measure(rt: &HostRuntime, bench: &mut Bench, load: Load) -> io::Result<()> {
     Ok(())
 }
 
+fn store_of(word: &str) -> Option<Kept> {
+    match word {
+        "runs" => Some(Kept::Runs),
+        "extents" => Some(Kept::Extents),
+        _ => None,
+    }
+}
+
 fn order_of(word: &str) -> Option<Order> {
     match word {
         "sparse" => Some(Order::Sparse),
@@ -216,6 +233,7 @@ fn read_load(rt: &HostRuntime) -> Option<Load> {
     let mut args = env::args(rt).ok()?;
     args.next()?;
     Some(Load {
+        store: store_of(&args.next()?)?,
         order: order_of(&args.next()?)?,
         pool: args.next()?.parse().ok()?,
         blocks: args.next()?.parse().ok()?,
@@ -223,14 +241,14 @@ fn read_load(rt: &HostRuntime) -> Option<Load> {
     })
 }
 
-/// Runs, and returns how many commands were good.
-fn run(rt: &HostRuntime, load: Load, config: Config) -> io::Result<u64> {
+/// Runs over a store, and returns how many commands were good.
+fn run<S: Store>(rt: &HostRuntime, load: Load, config: Config) -> io::Result<u64> {
     let Some(initiator) = Initiator::new(0) else {
         return Ok(0);
     };
     let data_out = vec![in rt.alloc(); 0xAB; BUFFER_LENGTH]?;
     let start = Instant::now(rt)?;
-    let mut bench = Bench {
+    let mut bench: Bench<'_, S> = Bench {
         target: Target::new(rt.alloc(), config)?,
         initiator,
         data_out: &data_out,
@@ -248,7 +266,7 @@ fn run(rt: &HostRuntime, load: Load, config: Config) -> io::Result<u64> {
 fn main(rt: HostRuntime) -> ExitCode {
     let identity = Identity::standard().with_profile(Profile::Extended);
     let Some(load) = read_load(&rt) else {
-        let _ = eprintln!(rt; "blockbench: ORDER POOL BLOCKS COMMANDS");
+        let _ = eprintln!(rt; "blockbench: STORE ORDER POOL BLOCKS COMMANDS");
         return ExitCode::from(1);
     };
     let blocks = u64::from(load.pool).saturating_mul(2).saturating_add(1);
@@ -256,7 +274,11 @@ fn main(rt: HostRuntime) -> ExitCode {
         let _ = eprintln!(rt; "blockbench: the pool has no block");
         return ExitCode::from(1);
     };
-    let Ok(good) = run(&rt, load, config) else {
+    let good = match load.store {
+        Kept::Runs => run::<BlockMap>(&rt, load, config),
+        Kept::Extents => run::<ExtentMap>(&rt, load, config),
+    };
+    let Ok(good) = good else {
         let _ = eprintln!(rt; "blockbench: out of memory, or an error of a stream or the clock");
         return ExitCode::from(99);
     };
