@@ -193,6 +193,13 @@ static int read_size(const char **text, const char *name, uint64_t *size)
     return errno == 0;
 }
 
+/* Reads the rest of a text: nothing, for the base profile, or a profile's name. */
+static int read_profile(const char *text, uint32_t *profile)
+{
+    *profile = strcmp(text, ":profile=extended") == 0 ? MDL_PROFILE_EXTENDED : MDL_PROFILE_BASE;
+    return *profile == MDL_PROFILE_EXTENDED || *text == '\0' || strcmp(text, ":profile=base") == 0;
+}
+
 /* The vendor, product and revision are those texts of the standard identity. Each logical unit has
  * its own number; LUN 1 of target 1 has 1, the standard number. */
 static void identify(const struct scsi_lu *lu, mdl_identity *identity)
@@ -213,14 +220,17 @@ static int open_disk(struct scsi_lu *lu, char *path, int *fd, uint64_t *size)
     const char *text = path;
     mdl_identity identity;
     uint64_t blocks, pool;
+    uint32_t profile;
     mdl_error error;
 
-    if (!read_size(&text, "blocks=", &blocks) || !read_size(&text, ":pool=", &pool) || *text) {
-        eprintf("%s is not blocks=N:pool=N\n", path);
+    if (!read_size(&text, "blocks=", &blocks) || !read_size(&text, ":pool=", &pool) ||
+        !read_profile(text, &profile)) {
+        eprintf("%s is not blocks=N:pool=N, nor blocks=N:pool=N:profile=extended\n", path);
         return -EINVAL;
     }
     identify(lu, &identity);
-    error = mdl_make(&unit->disk, blocks, pool > UINT32_MAX ? 0 : (uint32_t)pool, &identity);
+    error = mdl_make_with_profile(&unit->disk, profile, blocks,
+                                  pool > UINT32_MAX ? 0 : (uint32_t)pool, &identity);
     if (error) {
         eprintf("no disk of %s: error %d of mehdalung.h\n", path, (int)error);
         return -EINVAL;

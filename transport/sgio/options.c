@@ -56,6 +56,11 @@ static const char *read_option(const char *name, const char *value, struct optio
         if (strcmp(name, texts[at].name) == 0)
             return read_text(value, texts[at].field, texts[at].length)
                        ? NULL : "the value has more characters than the field";
+    if (strcmp(name, "--profile") == 0) {
+        options->profile = strcmp(value, "extended") == 0 ? MDL_PROFILE_EXTENDED : MDL_PROFILE_BASE;
+        return options->profile == MDL_PROFILE_EXTENDED || strcmp(value, "base") == 0
+                   ? NULL : "there is no profile of that name";
+    }
     if (strcmp(name, "--socket") != 0)
         return "there is no such option";
     options->socket = value;
@@ -70,6 +75,7 @@ const char *read_options(int count, char **words, struct options *options, const
 
     memset(options, 0, sizeof *options);
     options->identity = standard;
+    options->profile = MDL_PROFILE_BASE;
     for (at = 1; at < count; at += 2) {
         *word = words[at];
         if (at + 1 == count)

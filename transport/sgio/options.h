@@ -7,6 +7,7 @@
 struct options {
     const char *socket;
     uint64_t blocks, pool; /* the pool is below 2^32 */
+    uint32_t profile;
     mdl_identity identity;
 };
 

@@ -1,6 +1,6 @@
 /* Not proved. The server that holds one disk and executes what its clients send, in one thread.
  *
- *     server --socket PATH --blocks N --pool N
+ *     server --socket PATH --blocks N --pool N [--profile base|extended]
  *            [--vendor TEXT] [--product TEXT] [--revision TEXT] [--serial TEXT] [--local N]
  *
  * It prints a line when it listens, and ends with status 0 on SIGTERM, SIGINT or SIGHUP. The disk is
@@ -214,7 +214,8 @@ int main(int count, char **words)
 
     if (fault)
         return fail(word, fault);
-    error = mdl_make(&disk, options.blocks, (uint32_t)options.pool, &options.identity);
+    error = mdl_make_with_profile(&disk, options.profile, options.blocks, (uint32_t)options.pool,
+                                  &options.identity);
     if (error)
         return fail("the disk", refusals[error]);
     status = run(&options, &disk);
