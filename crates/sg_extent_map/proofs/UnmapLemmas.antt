@@ -3,9 +3,9 @@ use Rattle.std.proofs.Common.{◌≡◌, ℕ, ◌+◌, ◌-◌, ◌<◌, ◌≤�
 use Rattle.std.proofs.Common.{arith, refl, sym, ap, ap₂, ◌∙◌, append_assoc, length-append, take}
 use Rattle.std.proofs.Common.{drop, get_or}
 use Rattle.std.proofs.lemmas.List.{take_more}
-use Rattle.std.proofs.Common.{cond, inl, inr}
+use Rattle.std.proofs.Common.{cond, inl, inr, refl, zero, suc}
 use Rattle.std.proofs.lemmas.Bool.{cases_lt}
-use Rattle.sg_store.specs.Disk.{max_capacity}
+use Rattle.sg_store.specs.Disk.{lies_in, max_capacity}
 use Rattle.sg_store.proofs.DiskLemmas.{inside, below, above}
 use Rattle.std.proofs.lemmas.List.Elements.{All-take}
 use Rattle.sg_extent_map.proofs.MaximalLemmas.{FirstIs, LastIs, max-put}
@@ -18,7 +18,8 @@ use Rattle.sg_table.specs.declared.run.Run.{Run}
 use Rattle.sg_table.proofs.OccurrenceLemmas.{occurrences-append, once-le}
 use Rattle.sg_pool.specs.MappedRecords.{outside_records, IsConsistent}
 use Rattle.sg_pool.specs.Slots.{Slots}
-use Rattle.std.specs.List.{All, splice}
+use Rattle.std.proofs.lemmas.List.FromFn.{length-range_with_len}
+use Rattle.std.specs.List.{All, range_with_len, splice}
 use Rattle.sg_table.proofs.SpliceLemmas.{all-splice}
 use Rattle.sg_extent_map.specs.Drafting.{drafted}
 use Rattle.sg_extent_map.specs.Gathering.{end_index, AreGathered}
@@ -32,7 +33,7 @@ use Rattle.sg_extent_map.proofs.RemainingLemmas.{outside-inside}
 use Rattle.sg_extent_map.proofs.DraftLemmas.{drop-run, none-of}
 use Rattle.sg_extent_map.proofs.SinglesLemmas.{singles-last, singles-more, singles-none}
 use Rattle.sg_extent_map.proofs.WriteLemmas.{apart-by, singles-parts}
-use Rattle.sg_extent_map.proofs.SinglesLemmas.{from-none, length-from, occurrences-from}
+use Rattle.sg_extent_map.proofs.SinglesLemmas.{lies-more, from-none, length-from, occurrences-from}
 use Rattle.sg_extent_map.proofs.SinglesLemmas.{slots-append}
 use Rattle.sg_extent_map.proofs.WalkLemmas.{part-split, part-two}
 
@@ -64,6 +65,17 @@ slots-two t xs ys free =
     ∙ occurrences-append t (slots_of xs) (slots_of ys) in
     omega arith
 
+-- slots that were given back
+occurrences-range : (t first n : ℕ)
+    → occurrences t (range_with_len first n) ≡ cond (lies_in first n t) 1 0
+unfolding occurrences
+occurrences-range t first zero = elim (cases_lt t first) [
+  | inl lt ↦ rw (below first 0 t lt) refl
+  | inr ge ↦ rw (above first 0 t (omega arith)) refl
+]
+occurrences-range t first (suc n) =
+    omega (arith, occurrences-range t (first + 1) n, lies-more t first n)
+
 pub consistent-less : (xs ys : List Run) (start first n : ℕ) (kind : Kind) (old new : Slots) (room : ℕ)
     → IsConsistent (xs ++ (singles_from start first n kind ++ ys)) old.blocks old.free room
     → AreBetween 0 max_capacity (xs ++ (singles_from start first n kind ++ ys))
@@ -81,13 +93,21 @@ consistent-less xs ys start first n kind old new room h between gives =
         each = λ t.
             let a = slots-three t xs ms ys old.free in
             let b = slots-two t xs ys new.free in
-            let d = gives.free t in
+            let d = ap (occurrences t) gives.free
+            ∙ occurrences-append t (range_with_len first n) old.free in
+            let r = occurrences-range t first n in
             let e = occurrences-from t start first n kind in
             let same : occurrences t (slots_of (xs ++ ys) ++ new.free)
             ≡ occurrences t (slots_of (xs ++ (ms ++ ys)) ++ old.free) = omega arith in
             same ∙ h.once.each t;
       };
-      count = omega (arith, h.count, gives.free_count);
+      count = omega (
+        arith,
+        h.count,
+        ap length gives.free,
+        length-append (range_with_len first n) old.free,
+        length-range_with_len first n,
+      );
       pool = h.pool;
     })
 

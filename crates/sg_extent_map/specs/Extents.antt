@@ -29,8 +29,8 @@ unfoldable pub singles : List Run → List Run
 singles [] = []
 singles (run ∷ runs) = singles_of run ++ singles runs
 
--- An extent has an address, and lies on the largest disk. Its slots are below `pool`, and it has the
--- first and the last of them.
+-- An extent has an address, and lies on the largest disk. Its slots are below `pool`, and it has
+-- the first and the last of them.
 pub record IsExtent (pool : ℕ) (run : Run) : Type 0 where
   pub not_empty : 0 < run.count
   pub range : run.start + run.count ≤ max_capacity

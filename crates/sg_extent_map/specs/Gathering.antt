@@ -25,12 +25,14 @@ overlaps low high runs = sum_by (overlap low high) runs
 abbrev pub end_index : Drafted → ℕ
 end_index gathered = gathered.from + length gathered.records
 
--- The first extent of a list begins before an address. The last one begins at an address or past it.
+-- The first extent of a list begins before an address. The last one begins at an address or past
+-- it.
 abbrev pub BeginsBelow : (low : ℕ) → List Run → Type 0
 BeginsBelow low runs = (run : Run) × (more : List Run) × (runs ≡ run ∷ more) × (run.start < low)
 
 abbrev pub EndsFrom : (high : ℕ) → List Run → Type 0
-EndsFrom high runs = (run : Run) × (more : List Run) × (runs ≡ more ++ run ∷ []) × (high ≤ run.start)
+EndsFrom high runs =
+    (run : Run) × (more : List Run) × (runs ≡ more ++ run ∷ []) × (high ≤ run.start)
 
 -- All extents that have an address between two others were gathered from the table, and at most
 -- two others. The extents that were not gathered lie before and after the range.

@@ -1,5 +1,5 @@
--- The parts of an `ExtentMap`. It is the `ExtentMap` of the listed parts. Each part is a field of the
--- listed type, and there is no other field.
+-- The parts of an `ExtentMap`. It is the `ExtentMap` of the listed parts. Each part is a field of
+-- the listed type, and there is no other field.
 use Rattle.std.specs.Prelude.{◌≡◌, ℕ, ◌≤◌, [], ◌∷◌, length}
 use Rattle.std.proofs.Common.{refl}
 use Rattle.sg_store.specs.Disk.{IsWellFormed, max_capacity, max_pool}

@@ -1,8 +1,8 @@
 -- Writing a range: its addresses get slots and blocks one by one, and its extents are replaced.
 use Rattle.std.specs.Prelude.{◌≡◌, ℕ, ◌+◌, ◌-◌, ◌<◌, ◌≤◌, List, ◌∷◌, ◌++◌, length, Option, Some}
 use Rattle.std.specs.Prelude.{None}
-use Rattle.std.specs.Prelude.{if◌then◌else◌}
-use Rattle.sg_store.specs.Disk.{Mapping, lies_in, max_capacity, max_pool}
+use Rattle.std.specs.List.{range_with_len}
+use Rattle.sg_store.specs.Disk.{Mapping, max_capacity, max_pool}
 use Rattle.sg_pool.specs.MappedRecords.{filled_slot, IsConsistent}
 use Rattle.sg_pool.specs.Slots.{Slots}
 use Rattle.sg_table.specs.Draft.{Drafted}
@@ -36,10 +36,11 @@ pub record IsWriting (before rest : List Run) (slots : Slots) (room lba : ℕ) :
   pub high : AreBetween lba max_capacity rest
 
 -- A table of extents over a pool, no larger than allowed, with the extents near a range gathered.
-pub record IsReady (table : Table) (slots : Slots) (gathered : Drafted) (low high : ℕ) : Type 0 where
-  pub extents : AreExtents table.records slots table.room
-  pub near : AreGathered table.records gathered low high
-  pub table_size : table.room ≤ max_pool
+pub record IsReady (table : Table) (slots : Slots) (gathered : Drafted) (low high : ℕ) : Type 0
+  where
+    pub extents : AreExtents table.records slots table.room
+    pub near : AreGathered table.records gathered low high
+    pub table_size : table.room ≤ max_pool
 
 -- The table has other extents over the pool, and no more than `most_moves` records were moved.
 pub record ChangesExtents (most_moves : ℕ) (before after : Table) (slots : Slots) : Type 0 where
@@ -49,11 +50,9 @@ pub record ChangesExtents (most_moves : ℕ) (before after : Table) (slots : Slo
 
 -- ---- Unmapping
 
--- The pool gets `count` slots in a row back.
+-- The pool gets `count` slots in a row back, and returns them in ascending order, before the others.
 pub record GivesSlots (first count : ℕ) (old new : Slots) : Type 0 where
-  pub free : (slot : ℕ) → occurrences slot new.free
-      ≡ (if lies_in first count slot then 1 else 0) + occurrences slot old.free
-  pub free_count : length new.free ≡ length old.free + count
+  pub free : new.free ≡ range_with_len first count ++ old.free
   pub links : length new.next ≡ length old.next
   pub pool : new ≡ record old { next = new.next; free = new.free }
 

@@ -1,5 +1,5 @@
-// The store itself. Its table has a record for each extent. The other files say what its calls do to
-// the extents.
+// The store itself. Its table has a record for each extent. The other files say what its calls do
+// to the extents.
 ghost use Rattle.std.specs.Prelude.{◌≡◌, ◌+◌, ◌≤◌, ◌↔◌, length, IsErr, OnOk, OnErr};
 ghost use Rattle.sg_store.specs.Disk.{IsWellFormed, IsOverfull, disk_remapped};
 ghost use Rattle.sg_store.specs.DiskProps.{IsWellFormed-IsProp};
@@ -73,8 +73,8 @@ impl ExtentMap {
         // remapped.
         ensures space { IsErr result
             ↔ IsOverfull (disk_remapped (disk_of self.old) lba count (mapping_for content.now)) }
-        ensures ok { OnOk result
-            (disk_of self.new ≡ disk_remapped (disk_of self.old) lba count (mapping_for content.now)) }
+        ensures ok { OnOk result (disk_of self.new
+            ≡ disk_remapped (disk_of self.old) lba count (mapping_for content.now)) }
         ensures err { OnErr result (disk_of self.new ≡ disk_of self.old) }
 
         // The cost of the call, and the bounds of its visits.

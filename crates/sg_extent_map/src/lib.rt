@@ -1,5 +1,5 @@
-//! A store of blocks with a record for each extent: addresses in a row that have one kind, and whose
-//! slots are in a row, too.
+//! A store of blocks with a record for each extent: addresses in a row that have one kind, and
+//! whose slots are in a row, too.
 #![tactic(auto)]
 
 mod draft;

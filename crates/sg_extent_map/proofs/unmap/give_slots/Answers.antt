@@ -1,4 +1,5 @@
 use Rattle.std.proofs.Common.{◌≡◌, ℕ, ◌+◌, ◌-◌, suc, length, length-set, ap, ◌∙◌, arith}
+use Rattle.std.proofs.Common.{◌∷◌, refl}
 use Rattle.sg_pool.specs.Slots.{Slots}
 use Rattle.sg_table.specs.Occurrences.{occurrences}
 use Rattle.sg_table.proofs.OccurrenceLemmas.{occurrences-more}
@@ -17,6 +18,7 @@ loop-given-preserved c =
     let was : first + (c.args.count - g) ≡ slot + 1 = omega arith in
     let more : g + 1 ≡ suc g = omega arith in
     record {
+      in_order = free ∙ ap (λ xs. slot ∷ xs) (rw was at inv.in_order) ∙ rw (now, more) refl;
       free = λ t.
           let one = ap (occurrences t) free ∙ occurrences-more t slot c.loop-given.pool.free in
           let lies = lies-more t slot g in
