@@ -1,25 +1,34 @@
 -- The queues of unit attention conditions.
-use Rattle.std.proofs.Common.{◌≡◌, ◌<◌, ◌≤◌, ◌+◌, ◌⊎◌, inl, inr, ◌==◌, ℕ, zero, suc, Bool}
-use Rattle.std.proofs.Common.{true, false, cond, List, [], ◌∷◌, ◌++◌, length, map, drop, get_or}
+use Rattle.std.proofs.Common.{◌≡◌, ◌<◌, ◌≤◌, ◌+◌, ◌⊎◌, inl, inr, ◌==◌, ℕ, zero, suc, Bool, ◌||◌}
+use Rattle.std.proofs.Common.{true, false, not, cond, List, [], ◌∷◌, ◌++◌, length, map, drop, get_or}
 use Rattle.std.proofs.Common.{set, Option, Some, None, refl, sym, ap, ◌∙◌, subst, arith}
-use Rattle.std.specs.Prelude.{if◌then◌else◌, count_by}
-use Rattle.std.proofs.lemmas.Bool.{cases_lt, false≢true, or_parts}
-use Rattle.std.proofs.lemmas.List.{get_or-set_other, get_or-set_same, length-append, length-set, map-set}
+use Rattle.std.specs.Prelude.{if◌then◌else◌, filter, is_some, slice_index_or}
+use Rattle.std.specs.List.{AllByRecursion, IsDistinct, list_any}
+use Rattle.std.proofs.lemmas.Bool.{cases_lt, false≢true, or_parts, or_right}
+use Rattle.std.proofs.lemmas.List.Folds.{list_any-append}
+use Rattle.std.proofs.lemmas.List.{get_or-set_other, get_or-set_same, length-map, length-set, map-set}
 use Rattle.std.proofs.lemmas.List.FromFn.{fill_by_all}
-use Rattle.std.proofs.lemmas.List.Sums.{sum_by-cons}
+use Rattle.std.proofs.lemmas.Map.Steps.{length-le_from_distinct_below}
 use Rattle.std.proofs.lemmas.Bool.Decides.{nat_tests}
 use Rattle.arrayvec.specs.ArrayVec.{ArrayVec}
 use Rattle.sg_units.specs.Attentions.{AreDistinct, ArePending, AreQueues, IsNotAmong, IsQueue}
-use Rattle.sg_units.specs.Attentions.{Pending, is_pending, pending_for}
+use Rattle.sg_units.specs.Attentions.{Pending, covers, is_condition, is_covered, is_higher, is_pending}
+use Rattle.sg_units.specs.Attentions.{pending_for}
+use Rattle.sg_units.specs.Laws.{ReportsFirst}
 use Rattle.sg_units.specs.PowerOn.{power_on_pending}
-use Rattle.sg_units.specs.Attentions.{with_optional, without_oldest}
+use Rattle.sg_units.specs.Attentions.{with_condition, with_optional, without_oldest, without_resets}
 use Rattle.sg_units.specs.Raised.{Conditions, queue_after, raised_for_each}
-use Rattle.sg_units.specs.UnitAttention.{condition_count, number_of}
+use Rattle.sg_units.specs.UnitAttention.{condition_count, each_condition, is_reset, number_of}
+use Rattle.sg_units.specs.UnitAttention.{reset_precedence}
 use Rattle.sg_units.specs.declared.unit_attention.UnitAttention.{UnitAttention}
-use Rattle.sg_units.specs.declared.unit_attention.UnitAttention.TheVariants.{PowerOn, ModeParametersChanged}
-use Rattle.sg_units.specs.declared.unit_attention.UnitAttention.TheVariants.{ReservationsPreempted}
-use Rattle.sg_units.specs.declared.unit_attention.UnitAttention.TheVariants.{ReservationsReleased}
-use Rattle.sg_units.specs.declared.unit_attention.UnitAttention.TheVariants.{RegistrationsPreempted}
+use Rattle.sg_units.specs.declared.unit_attention.UnitAttention.TheVariants.{MediumMayHaveChanged, PowerOn}
+use Rattle.sg_units.specs.declared.unit_attention.UnitAttention.TheVariants.{ScsiBusReset, BusDeviceReset}
+use Rattle.sg_units.specs.declared.unit_attention.UnitAttention.TheVariants.{DeviceInternalReset, NexusLoss}
+use Rattle.sg_units.specs.declared.unit_attention.UnitAttention.TheVariants.{ModeParametersChanged, ReservationsPreempted}
+use Rattle.sg_units.specs.declared.unit_attention.UnitAttention.TheVariants.{ReservationsReleased, RegistrationsPreempted}
+use Rattle.sg_units.specs.declared.unit_attention.UnitAttention.TheVariants.{AsymmetricAccessStateChanged, CapacityDataChanged}
+use Rattle.sg_units.specs.declared.unit_attention.UnitAttention.TheVariants.{SoftThresholdReached, MicrocodeChanged}
+use Rattle.sg_units.specs.declared.unit_attention.UnitAttention.TheVariants.{InquiryDataChanged, ReportedLunsDataChanged}
 
 abbrev items_of : ArrayVec UnitAttention → List UnitAttention
 items_of v = v.items
@@ -28,217 +37,383 @@ items_of v = v.items
 
 condition_with : ℕ → UnitAttention
 condition_with n =
-    if n == 0x2900 then PowerOn
+    if n == 0x2800 then MediumMayHaveChanged
+    else (if n == 0x2900 then PowerOn
+    else (if n == 0x2902 then ScsiBusReset
+    else (if n == 0x2903 then BusDeviceReset
+    else (if n == 0x2904 then DeviceInternalReset
+    else (if n == 0x2907 then NexusLoss
     else (if n == 0x2A01 then ModeParametersChanged
     else (if n == 0x2A03 then ReservationsPreempted
     else (if n == 0x2A04 then ReservationsReleased
-    else RegistrationsPreempted)))
+    else (if n == 0x2A05 then RegistrationsPreempted
+    else (if n == 0x2A06 then AsymmetricAccessStateChanged
+    else (if n == 0x2A09 then CapacityDataChanged
+    else (if n == 0x3807 then SoftThresholdReached
+    else (if n == 0x3F01 then MicrocodeChanged
+    else (if n == 0x3F03 then InquiryDataChanged
+    else ReportedLunsDataChanged))))))))))))))
 
 condition_with-number : (c : UnitAttention) → condition_with (number_of c) ≡ c
 unfolding condition_with
+condition_with-number MediumMayHaveChanged = refl
 condition_with-number PowerOn = refl
+condition_with-number ScsiBusReset = refl
+condition_with-number BusDeviceReset = refl
+condition_with-number DeviceInternalReset = refl
+condition_with-number NexusLoss = refl
 condition_with-number ModeParametersChanged = refl
 condition_with-number ReservationsPreempted = refl
 condition_with-number ReservationsReleased = refl
 condition_with-number RegistrationsPreempted = refl
+condition_with-number AsymmetricAccessStateChanged = refl
+condition_with-number CapacityDataChanged = refl
+condition_with-number SoftThresholdReached = refl
+condition_with-number MicrocodeChanged = refl
+condition_with-number InquiryDataChanged = refl
+condition_with-number ReportedLunsDataChanged = refl
 
 same_condition : (c d : UnitAttention) → number_of c ≡ number_of d → c ≡ d
 same_condition c d e =
     sym (condition_with-number c) ∙ (ap condition_with e ∙ condition_with-number d)
 
-same-number : (c d : UnitAttention) (b : Bool) → (number_of d == number_of c) ≡ b
-    → (c ≡ d → ⊥) → b ≡ false
-same-number c d false e h = refl
-same-number c d true e h = absurd (h (same_condition c d (grind (arith, nat_tests))))
-
--- ---- How often a condition is pending
-
-abbrev times : ℕ → List UnitAttention → ℕ
-times number queue = count_by (λ c. number_of c == number) queue
-
-times-cons : (number : ℕ) (c : UnitAttention) (cs : List UnitAttention)
-    → times number (c ∷ cs) ≡ cond (number_of c == number) 1 0 + times number cs
-times-cons number c cs = sum_by-cons (λ d. cond (number_of d == number) 1 0) c cs
-
--- a condition that is not pending occurs zero times
-times-not_pending : (condition : UnitAttention) (queue : List UnitAttention)
-    → is_pending queue condition ≡ false → times (number_of condition) queue ≡ 0
-times-not_pending condition [] h = refl
-times-not_pending condition (c ∷ cs) h =
-    let rest = times-not_pending condition cs in
-    grind (arith, nat_tests, rest, times-cons)
-
-times-not_among : (c : UnitAttention) (cs : List UnitAttention) → IsNotAmong c cs
-    → times (number_of c) cs ≡ 0
-times-not_among c [] h = refl
-times-not_among c (d ∷ ds) h =
-    let rest = times-not_among c ds h.1 in
-    let other = same-number c d (number_of d == number_of c) refl h.0 in
-    let step = times-cons (number_of c) d ds in
-    let here : cond {A = ℕ} (number_of d == number_of c) 1 0 ≡ 0 =
-    ap (λ b. cond {A = ℕ} b 1 0) other in
-    omega arith
-
-once-here : (c : UnitAttention) (cs : List UnitAttention) (number : ℕ) → IsNotAmong c cs
-    → times number cs ≤ 1 → (b : Bool) → (number_of c == number) ≡ b
-    → cond {A = ℕ} b 1 0 + times number cs ≤ 1
-once-here c cs number h rest true e =
-    let none = times-not_among c cs h in
-    let same : number_of c ≡ number = grind (arith, nat_tests) in
-    let none_here : times number cs ≡ 0 = ap (λ n. times n cs) (sym same) ∙ none in
-    omega arith
-once-here c cs number h rest false e = omega arith
-
-once : (queue : List UnitAttention) (number : ℕ) → AreDistinct queue → times number queue ≤ 1
-once [] number h = omega arith
-once (c ∷ cs) number h =
-    let rest = once cs number h.1 in
-    let here = once-here c cs number h.0 rest (number_of c == number) refl in
-    let step = times-cons number c cs in
-    omega arith
-
 -- ---- At most as many as exist
 
--- each condition is one of those that exist
-of_each : List UnitAttention → ℕ
-of_each queue =
-    times (number_of PowerOn) queue + times (number_of ModeParametersChanged) queue
-    + times (number_of ReservationsPreempted) queue + times (number_of ReservationsReleased) queue
-    + times (number_of RegistrationsPreempted) queue
+-- the place of a condition among those that exist
+place_of : UnitAttention → ℕ
+place_of MediumMayHaveChanged = 0
+place_of PowerOn = 1
+place_of ScsiBusReset = 2
+place_of BusDeviceReset = 3
+place_of DeviceInternalReset = 4
+place_of NexusLoss = 5
+place_of ModeParametersChanged = 6
+place_of ReservationsPreempted = 7
+place_of ReservationsReleased = 8
+place_of RegistrationsPreempted = 9
+place_of AsymmetricAccessStateChanged = 10
+place_of CapacityDataChanged = 11
+place_of SoftThresholdReached = 12
+place_of MicrocodeChanged = 13
+place_of InquiryDataChanged = 14
+place_of ReportedLunsDataChanged = 15
 
-of_each-nil : 0 ≡ of_each []
-unfolding of_each
-of_each-nil = refl
+number_at : ℕ → ℕ
+number_at n = slice_index_or (map number_of each_condition) n 0
 
--- the part that one more condition adds
-of_each-cons : (c : UnitAttention) (cs : List UnitAttention)
-    → of_each (c ∷ cs) ≡ of_each (c ∷ []) + of_each cs
-unfolding of_each
-of_each-cons c cs =
-    omega (
-      arith,
-      times-cons (number_of PowerOn) c cs,
-      times-cons (number_of PowerOn) c [],
-      times-cons (number_of ModeParametersChanged) c cs,
-      times-cons (number_of ModeParametersChanged) c [],
-      times-cons (number_of ReservationsPreempted) c cs,
-      times-cons (number_of ReservationsPreempted) c [],
-      times-cons (number_of ReservationsReleased) c cs,
-      times-cons (number_of ReservationsReleased) c [],
-      times-cons (number_of RegistrationsPreempted) c cs,
-      times-cons (number_of RegistrationsPreempted) c [],
-    )
+number_at-place : (c : UnitAttention) → number_at (place_of c) ≡ number_of c
+unfolding place_of number_at
+number_at-place MediumMayHaveChanged = refl
+number_at-place PowerOn = refl
+number_at-place ScsiBusReset = refl
+number_at-place BusDeviceReset = refl
+number_at-place DeviceInternalReset = refl
+number_at-place NexusLoss = refl
+number_at-place ModeParametersChanged = refl
+number_at-place ReservationsPreempted = refl
+number_at-place ReservationsReleased = refl
+number_at-place RegistrationsPreempted = refl
+number_at-place AsymmetricAccessStateChanged = refl
+number_at-place CapacityDataChanged = refl
+number_at-place SoftThresholdReached = refl
+number_at-place MicrocodeChanged = refl
+number_at-place InquiryDataChanged = refl
+number_at-place ReportedLunsDataChanged = refl
 
-of_each-one : (c : UnitAttention) → of_each (c ∷ []) ≡ 1
-unfolding of_each
-of_each-one PowerOn = refl
-of_each-one ModeParametersChanged = refl
-of_each-one ReservationsPreempted = refl
-of_each-one ReservationsReleased = refl
-of_each-one RegistrationsPreempted = refl
+place_of-below : (c : UnitAttention) → place_of c < condition_count
+unfolding place_of
+place_of-below MediumMayHaveChanged = omega arith
+place_of-below PowerOn = omega arith
+place_of-below ScsiBusReset = omega arith
+place_of-below BusDeviceReset = omega arith
+place_of-below DeviceInternalReset = omega arith
+place_of-below NexusLoss = omega arith
+place_of-below ModeParametersChanged = omega arith
+place_of-below ReservationsPreempted = omega arith
+place_of-below ReservationsReleased = omega arith
+place_of-below RegistrationsPreempted = omega arith
+place_of-below AsymmetricAccessStateChanged = omega arith
+place_of-below CapacityDataChanged = omega arith
+place_of-below SoftThresholdReached = omega arith
+place_of-below MicrocodeChanged = omega arith
+place_of-below InquiryDataChanged = omega arith
+place_of-below ReportedLunsDataChanged = omega arith
 
-length-of_each : (queue : List UnitAttention) → length queue ≡ of_each queue
-length-of_each [] = of_each-nil
-length-of_each (c ∷ cs) = omega (arith, length-of_each cs, of_each-cons c cs, of_each-one c)
+same_place : (c d : UnitAttention) → place_of c ≡ place_of d → c ≡ d
+same_place c d e =
+    same_condition c d (sym (number_at-place c) ∙ (ap number_at e ∙ number_at-place d))
 
-fewer : (condition : UnitAttention) (n : ℕ) (queue : List UnitAttention)
-    → times (number_of condition) queue ≡ 0 → ((number : ℕ) → times number queue ≤ 1)
-    → n ≡ of_each queue → n < condition_count
-unfolding of_each
-fewer PowerOn n queue z h e =
-    omega (
-      arith,
-      h (number_of ModeParametersChanged),
-      h (number_of ReservationsPreempted),
-      h (number_of ReservationsReleased),
-      h (number_of RegistrationsPreempted),
-    )
-fewer ModeParametersChanged n queue z h e =
-    omega (
-      arith,
-      h (number_of PowerOn),
-      h (number_of ReservationsPreempted),
-      h (number_of ReservationsReleased),
-      h (number_of RegistrationsPreempted),
-    )
-fewer ReservationsPreempted n queue z h e =
-    omega (
-      arith,
-      h (number_of PowerOn),
-      h (number_of ModeParametersChanged),
-      h (number_of ReservationsReleased),
-      h (number_of RegistrationsPreempted),
-    )
-fewer ReservationsReleased n queue z h e =
-    omega (
-      arith,
-      h (number_of PowerOn),
-      h (number_of ModeParametersChanged),
-      h (number_of ReservationsPreempted),
-      h (number_of RegistrationsPreempted),
-    )
-fewer RegistrationsPreempted n queue z h e =
-    omega (
-      arith,
-      h (number_of PowerOn),
-      h (number_of ModeParametersChanged),
-      h (number_of ReservationsPreempted),
-      h (number_of ReservationsReleased),
-    )
+other_place : (c d : UnitAttention) (b : Bool) → (place_of c == place_of d) ≡ b → (c ≡ d → ⊥)
+    → b ≡ false
+other_place c d false e h = refl
+other_place c d true e h = absurd (h (same_place c d (grind (arith, nat_tests))))
 
--- so there is room for a condition that is not pending
-pub room : (queue : List UnitAttention) (condition : UnitAttention) → IsQueue queue
-    → is_pending queue condition ≡ false → length queue < condition_count
-room queue condition q e =
-    fewer condition (length queue) queue (times-not_pending condition queue e)
-    (λ number. once queue number q.distinct) (length-of_each queue)
+places : List UnitAttention → List ℕ
+places queue = map place_of queue
 
--- ---- A queue that changes
+other_places : (c : UnitAttention) (cs : List UnitAttention) → IsNotAmong c cs
+    → AllByRecursion (λ place. (place_of c == place) ≡ false) (places cs)
+unfolding places
+other_places c [] h = tt
+other_places c (d ∷ ds) h =
+    (other_place c d (place_of c == place_of d) refl h.0, other_places c ds h.1)
 
-differ : (c d : UnitAttention) → (number_of c == number_of d) ≡ false → c ≡ d → ⊥
+distinct_places : (queue : List UnitAttention) → AreDistinct queue → IsDistinct ◌==◌ (places queue)
+unfolding places IsDistinct
+distinct_places [] h = tt
+distinct_places (c ∷ cs) h = (other_places c cs h.0, distinct_places cs h.1)
+
+below_count : (queue : List UnitAttention) (place : ℕ) → list_any (◌==◌ place) (places queue) ≡ true
+    → place < condition_count
+unfolding places
+below_count [] place h = absurd (false≢true h)
+below_count (c ∷ cs) place h = by_first (place == place_of c) refl h (below_count cs place)
+  where
+    by_first : (b : Bool) → (place == place_of c) ≡ b
+        → (b || list_any (◌==◌ place) (places cs)) ≡ true
+        → (list_any (◌==◌ place) (places cs) ≡ true → place < condition_count)
+        → place < condition_count
+    by_first true e k later =
+        let same : place ≡ place_of c = grind (arith, nat_tests) in
+        omega (arith, place_of-below c)
+    by_first false e k later = later k
+
+length-places : (queue : List UnitAttention) → length (places queue) ≡ length queue
+unfolding places
+length-places queue = length-map queue place_of
+
+-- distinct conditions are at most as many as exist
+at_most_each : (queue : List UnitAttention) → AreDistinct queue → length queue ≤ condition_count
+at_most_each queue h =
+    let bound =
+    length-le_from_distinct_below (places queue) condition_count (distinct_places queue h)
+    (below_count queue) in
+    omega (arith, length-places queue)
+
+-- ---- A condition that no pending one covers
+
+differ : (c d : UnitAttention) → (number_of c == number_of d) ≡ false → d ≡ c → ⊥
 differ c d h e =
-    let same : number_of c ≡ number_of d = ap number_of e in
+    let same : number_of c ≡ number_of d = ap number_of (sym e) in
     let yes : (number_of c == number_of d) ≡ true = grind (arith, nat_tests) in
     false≢true (sym h ∙ yes)
+
+not_covered : (queue : List UnitAttention) (c : UnitAttention) → is_covered queue c ≡ false
+    → IsNotAmong c queue
+not_covered [] c h = tt
+not_covered (d ∷ ds) c h =
+    let parts = or_parts (covers d c) (is_covered ds c) h in
+    let other =
+    or_parts (number_of d == number_of c) (is_higher (reset_precedence d) (reset_precedence c))
+    parts.0 in
+    (differ d c other.0, not_covered ds c parts.1)
+
+-- so there is room for it
+pub room : (queue : List UnitAttention) (condition : UnitAttention) → IsQueue queue
+    → is_covered queue condition ≡ false → length queue < condition_count
+room queue condition q e =
+    let bound = at_most_each (condition ∷ queue) (not_covered queue condition e, q.distinct) in
+    omega arith
+
+-- the condition of a reset goes to the front
+pub with_reset : (queue : List UnitAttention) (c : UnitAttention) → is_covered queue c ≡ false
+    → is_reset c ≡ true → with_condition queue c ≡ c ∷ without_resets queue
+with_reset queue c e r =
+    ap (λ b. if b then queue
+    else (if is_reset c then c ∷ without_resets queue else queue ++ c ∷ [])) e
+    ∙ ap (λ b. if b then c ∷ without_resets queue else queue ++ c ∷ []) r
+
+-- ---- A queue that changes
 
 not_among-push : (d : UnitAttention) (ds : List UnitAttention) (c : UnitAttention) → IsNotAmong d ds
     → (d ≡ c → ⊥) → IsNotAmong d (ds ++ c ∷ [])
 not_among-push d [] c h n = (n, tt)
 not_among-push d (e ∷ es) c h n = (h.0, not_among-push d es c h.1 n)
 
-distinct-push : (queue : List UnitAttention) (c : UnitAttention) → is_pending queue c ≡ false
+distinct-push : (queue : List UnitAttention) (c : UnitAttention) → IsNotAmong c queue
     → AreDistinct queue → AreDistinct (queue ++ c ∷ [])
-distinct-push [] c e h = (tt, tt)
-distinct-push (d ∷ ds) c e h =
-    let parts = or_parts (number_of d == number_of c) (is_pending ds c) e in
-    (not_among-push d ds c h.0 (differ d c parts.0), distinct-push ds c parts.1 h.1)
+distinct-push [] c n h = (tt, tt)
+distinct-push (d ∷ ds) c n h =
+    (not_among-push d ds c h.0 (λ e. n.0 (sym e)), distinct-push ds c n.1 h.1)
 
-by_pending : (queue : List UnitAttention) (c : UnitAttention) (b : Bool) → is_pending queue c ≡ b
-    → IsQueue queue → IsQueue (if b then queue else queue ++ c ∷ [])
-by_pending queue c true e q = q
-by_pending queue c false e q = record {
-  limit = omega (arith, room queue c q e, length-append queue (c ∷ []));
-  distinct = distinct-push queue c e q.distinct;
-}
+not_among-filter : (test : UnitAttention → Bool) (d : UnitAttention) (ds : List UnitAttention)
+    → IsNotAmong d ds → IsNotAmong d (filter test ds)
+not_among-filter test d [] h = tt
+not_among-filter test d (e ∷ es) h = by_test (test e) (not_among-filter test d es h.1)
+  where
+    by_test : (b : Bool) → IsNotAmong d (filter test es)
+        → IsNotAmong d (cond b (e ∷ filter test es) (filter test es))
+    by_test true later = (h.0, later)
+    by_test false later = later
+
+distinct-filter : (test : UnitAttention → Bool) (queue : List UnitAttention) → AreDistinct queue
+    → AreDistinct (filter test queue)
+distinct-filter test [] h = tt
+distinct-filter test (d ∷ ds) h = by_test (test d) (distinct-filter test ds h.1)
+  where
+    by_test : (b : Bool) → AreDistinct (filter test ds)
+        → AreDistinct (cond b (d ∷ filter test ds) (filter test ds))
+    by_test true later = (not_among-filter test d ds h.0, later)
+    by_test false later = later
+
+-- the first condition aside, none is of a reset
+abbrev ResetFirst : List UnitAttention → Type 0
+ResetFirst queue = list_any is_reset (drop 1 queue) ≡ false
+
+resets-without : (queue : List UnitAttention) → list_any is_reset (without_resets queue) ≡ false
+resets-without [] = refl
+resets-without (d ∷ ds) = by_test (is_reset d) refl (resets-without ds)
+  where
+    by_test : (b : Bool) → is_reset d ≡ b → list_any is_reset (without_resets ds) ≡ false
+        → list_any is_reset (cond (not b) (d ∷ without_resets ds) (without_resets ds)) ≡ false
+    by_test true e later = later
+    by_test false e later = ap (λ b. b || list_any is_reset (without_resets ds)) e ∙ later
+
+reset_first-push : (queue : List UnitAttention) (c : UnitAttention) → is_reset c ≡ false
+    → ResetFirst queue → ResetFirst (queue ++ c ∷ [])
+reset_first-push [] c n h = refl
+reset_first-push (d ∷ ds) c n h =
+    list_any-append is_reset ds (c ∷ [])
+    ∙ (ap (λ b. b || (is_reset c || false)) h ∙ ap (λ b. b || false) n)
+
+made-queue : (queue : List UnitAttention) → AreDistinct queue → ResetFirst queue → IsQueue queue
+made-queue queue h r =
+    record { limit = at_most_each queue h; distinct = h; reset_first = r }
+
+by_reset : (queue : List UnitAttention) (c : UnitAttention) (b : Bool) → is_reset c ≡ b
+    → IsNotAmong c queue → IsQueue queue
+    → IsQueue (if b then c ∷ without_resets queue else queue ++ c ∷ [])
+by_reset queue c true e n q =
+    let test = λ (d : UnitAttention). not (is_reset d) in
+    made-queue _ (not_among-filter test c queue n, distinct-filter test queue q.distinct)
+    (resets-without queue)
+by_reset queue c false e n q =
+    made-queue _ (distinct-push queue c n q.distinct) (reset_first-push queue c e q.reset_first)
+
+by_covered : (queue : List UnitAttention) (c : UnitAttention) (b : Bool) → is_covered queue c ≡ b
+    → IsQueue queue → IsQueue (if b then queue
+    else (if is_reset c then c ∷ without_resets queue else queue ++ c ∷ []))
+by_covered queue c true e q = q
+by_covered queue c false e q = by_reset queue c (is_reset c) refl (not_covered queue c e) q
 
 pub IsQueue-with_optional : (queue : List UnitAttention) (condition : Option UnitAttention)
     → IsQueue queue → IsQueue (with_optional queue condition)
 IsQueue-with_optional queue None q = q
-IsQueue-with_optional queue (Some c) q = by_pending queue c (is_pending queue c) refl q
+IsQueue-with_optional queue (Some c) q = by_covered queue c (is_covered queue c) refl q
 
 pub IsQueue-drop : (queue : List UnitAttention) → IsQueue queue → IsQueue (drop 1 queue)
 IsQueue-drop [] q = q
 IsQueue-drop (first ∷ rest) q =
     let m = q.limit in
-    record { limit = omega arith; distinct = q.distinct.1 }
+    record {
+      limit = omega arith;
+      distinct = q.distinct.1;
+      reset_first = later-reset_first rest q.reset_first;
+    }
+  where
+    later-reset_first : (queue : List UnitAttention) → list_any is_reset queue ≡ false
+        → ResetFirst queue
+    later-reset_first [] h = refl
+    later-reset_first (d ∷ ds) h = (or_parts (is_reset d) (list_any is_reset ds) h).1
+
+-- ---- What is reported
+
+-- what covers a reset is a reset
+covers-reset : (d c : UnitAttention) → covers d c ≡ true → is_reset c ≡ true → is_reset d ≡ true
+covers-reset d c e r = by_same (number_of d == number_of c) refl e
+  where
+    by_higher : (p q : Option ℕ) → is_higher p q ≡ true → is_some p ≡ true
+    by_higher (Some p) q h = refl
+    by_higher None q h = absurd (false≢true h)
+
+    by_same : (b : Bool) → (number_of d == number_of c) ≡ b
+        → (b || is_higher (reset_precedence d) (reset_precedence c)) ≡ true → is_reset d ≡ true
+    by_same true k h =
+        let same : d ≡ c = same_condition d c (grind (arith, nat_tests)) in
+        ap is_reset same ∙ r
+    by_same false k h = by_higher (reset_precedence d) (reset_precedence c) h
+
+covered-reset : (queue : List UnitAttention) (c : UnitAttention) → is_covered queue c ≡ true
+    → is_reset c ≡ true → list_any is_reset queue ≡ true
+covered-reset [] c e r = absurd (false≢true e)
+covered-reset (d ∷ ds) c e r = by_first (covers d c) refl e (λ k. covered-reset ds c k r)
+  where
+    by_first : (b : Bool) → covers d c ≡ b → (b || is_covered ds c) ≡ true
+        → (is_covered ds c ≡ true → list_any is_reset ds ≡ true)
+        → (is_reset d || list_any is_reset ds) ≡ true
+    by_first true k h later = ap (λ b. b || list_any is_reset ds) (covers-reset d c k r)
+    by_first false k h later = or_right (is_reset d) (list_any is_reset ds) (later h)
+
+pub covers-itself : (c : UnitAttention) → covers c c ≡ true
+covers-itself c =
+    let same : (number_of c == number_of c) ≡ true = grind (arith, nat_tests) in
+    ap (λ b. b || is_higher (reset_precedence c) (reset_precedence c)) same
+
+first-covers : (queue : List UnitAttention) (c : UnitAttention) → is_covered queue c ≡ true
+    → is_reset c ≡ true → ResetFirst queue → ReportsFirst queue c
+first-covers [] c e r h = absurd (false≢true e)
+first-covers (d ∷ ds) c e r h = by_first (covers d c) refl e
+  where
+    by_first : (b : Bool) → covers d c ≡ b → (b || is_covered ds c) ≡ true
+        → ReportsFirst (d ∷ ds) c
+    by_first true k rest = record { first = d; is_oldest = refl; covers_it = k }
+    by_first false k rest = absurd (false≢true (sym h ∙ covered-reset ds c rest r))
+
+pub reported_first : (queue : List UnitAttention) (c : UnitAttention) → IsQueue queue
+    → is_reset c ≡ true → ReportsFirst (with_condition queue c) c
+reported_first queue c q r = by_covering (is_covered queue c) refl
+  where
+    by_covering : (b : Bool) → is_covered queue c ≡ b → ReportsFirst (with_condition queue c) c
+    by_covering true e =
+        subst (λ b. ReportsFirst (if b then queue
+        else (if is_reset c then c ∷ without_resets queue else queue ++ c ∷ [])) c) (sym e)
+        (first-covers queue c e r q.reset_first)
+    by_covering false e =
+        subst (λ k. ReportsFirst k c) (sym (with_reset queue c e r))
+        (record { first = c; is_oldest = refl; covers_it = covers-itself c })
+
+-- a condition that is no reset's stays
+stays-without : (queue : List UnitAttention) (other : UnitAttention) → is_reset other ≡ false
+    → is_pending queue other ≡ true → is_pending (without_resets queue) other ≡ true
+stays-without [] other n h = h
+stays-without (d ∷ ds) other n h =
+    by_same (number_of d == number_of other) refl (is_reset d) refl h
+    (λ k. stays-without ds other n k)
+  where
+    by_same : (b : Bool) → (number_of d == number_of other) ≡ b → (r : Bool) → is_reset d ≡ r
+        → (b || is_pending ds other) ≡ true
+        → (is_pending ds other ≡ true → is_pending (without_resets ds) other ≡ true)
+        → is_pending (cond (not r) (d ∷ without_resets ds) (without_resets ds)) other ≡ true
+    by_same true k true e rest later =
+        let same : d ≡ other = same_condition d other (grind (arith, nat_tests)) in
+        absurd (false≢true (sym n ∙ (ap is_reset (sym same) ∙ e)))
+    by_same true k false e rest later =
+        ap (λ b. b || is_pending (without_resets ds) other) k
+    by_same false k true e rest later = later rest
+    by_same false k false e rest later =
+        or_right (number_of d == number_of other) (is_pending (without_resets ds) other) (later rest)
+
+pub stays_pending : (queue : List UnitAttention) (c other : UnitAttention) → is_reset other ≡ false
+    → is_pending queue other ≡ true → is_pending (with_condition queue c) other ≡ true
+stays_pending queue c other n h = by_cases (is_covered queue c) (is_reset c)
+  where
+    by_cases : (b r : Bool) → is_pending (if b then queue
+        else (if r then c ∷ without_resets queue else queue ++ c ∷ [])) other ≡ true
+    by_cases true r = h
+    by_cases false true =
+        or_right (number_of c == number_of other) (is_pending (without_resets queue) other)
+        (stays-without queue other n h)
+    by_cases false false =
+        list_any-append (is_condition other) queue (c ∷ [])
+        ∙ ap (λ b. b || is_pending (c ∷ []) other) h
 
 -- ---- One queue of all
 
 one-queue : IsQueue (PowerOn ∷ [])
-one-queue = record { limit = omega arith; distinct = (tt, tt) }
+one-queue = record { limit = omega arith; distinct = (tt, tt); reset_first = refl }
 
 pub no-queue : IsQueue []
-no-queue = record { limit = omega arith; distinct = tt }
+no-queue = record { limit = omega arith; distinct = tt; reset_first = refl }
 
 -- after power on
 pub ArePending-power_on : ArePending power_on_pending

@@ -1,10 +1,10 @@
 -- Pending unit attention conditions (SAM-5, 5.14).
 use Rattle.std.specs.Prelude.{◌≡◌, ◌≢◌, ℕ, ◌≤◌, ◌==◌, Bool, if◌then◌else◌, List, [], ◌∷◌, ◌++◌}
-use Rattle.std.specs.Prelude.{length, drop, slice_get, slice_index_or, slice_set}
-use Rattle.std.specs.Prelude.{Option, Some, None}
+use Rattle.std.specs.Prelude.{length, drop, filter, slice_get, slice_index_or, slice_set}
+use Rattle.std.specs.Prelude.{Option, Some, None, ◌||◌, false, nat_lt, not}
 use Rattle.std.specs.List.{list_any}
 use Rattle.sg_wire.specs.Initiator.{initiator_count}
-use Rattle.sg_units.specs.UnitAttention.{condition_count, number_of}
+use Rattle.sg_units.specs.UnitAttention.{condition_count, is_reset, number_of, reset_precedence}
 use Rattle.sg_units.specs.declared.unit_attention.UnitAttention.{UnitAttention}
 
 -- ---- Queues of conditions
@@ -37,10 +37,32 @@ is_condition condition other = number_of other == number_of condition
 abbrev pub is_pending : List UnitAttention → UnitAttention → Bool
 is_pending queue condition = list_any (is_condition condition) queue
 
--- A condition becomes the newest, unless it is pending already.
+-- A precedence is higher than another, if both exist.
+abbrev pub is_higher : (precedence other : Option ℕ) → Bool
+is_higher (Some precedence) (Some other) = nat_lt precedence other
+is_higher _ _ = false
+
+-- A pending condition says all that a new one would say. It is the same condition, or both are of
+-- resets and the pending one has a higher precedence.
+abbrev pub covers : (pending condition : UnitAttention) → Bool
+covers pending condition =
+    is_condition condition pending
+    || is_higher (reset_precedence pending) (reset_precedence condition)
+
+abbrev pub is_covered : List UnitAttention → UnitAttention → Bool
+is_covered queue condition = list_any (λ pending. covers pending condition) queue
+
+abbrev pub without_resets : List UnitAttention → List UnitAttention
+without_resets queue = filter (λ condition. not (is_reset condition)) queue
+
+-- A condition is established. Nothing changes if a pending condition covers it. The condition of a
+-- reset becomes the oldest, and takes the place of those of lower precedence (SAM-5, 5.14). Every
+-- other condition becomes the newest.
 abbrev pub with_condition : List UnitAttention → UnitAttention → List UnitAttention
 with_condition queue condition =
-    if is_pending queue condition then queue else queue ++ condition ∷ []
+    if is_covered queue condition then queue
+    else (if is_reset condition then condition ∷ without_resets queue
+    else queue ++ condition ∷ [])
 
 -- A condition is established for an initiator.
 abbrev pub raised : Pending → (initiator : ℕ) → UnitAttention → Pending
@@ -63,10 +85,12 @@ abbrev pub AreDistinct : List UnitAttention → Type 0
 AreDistinct [] = Unit {0}
 AreDistinct (first ∷ rest) = IsNotAmong first rest × AreDistinct rest
 
--- A queue has no condition twice. So it has at most as many conditions as exist.
+-- A queue has no condition twice. So it has at most as many conditions as exist. At most its oldest
+-- one is of a reset.
 pub record IsQueue (queue : List UnitAttention) : Type 0 where
   pub limit : length queue ≤ condition_count
   pub distinct : AreDistinct queue
+  pub reset_first : list_any is_reset (drop 1 queue) ≡ false
 
 abbrev pub AreQueues : Pending → Type 0
 AreQueues [] = Unit {0}

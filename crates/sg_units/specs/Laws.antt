@@ -1,13 +1,14 @@
 -- Laws of the definitions, in the words of the standard.
 use Rattle.std.specs.Prelude.{◌≡◌, ◌≢◌, ◌⊎◌, ◌<◌, ◌+◌, ◌%◌, ◌^◌, ℕ, ◌==◌, Bool, true, false}
-use Rattle.std.specs.Prelude.{◌&&◌, ◌||◌, List, length, is_some, Option, Some, None, Ok}
+use Rattle.std.specs.Prelude.{◌&&◌, ◌||◌, List, length, is_some, Option, Some, None, Ok, slice_get}
 use Rattle.sg_wire.specs.declared.command.Class.{Class}
 use Rattle.sg_wire.specs.declared.command.out_action.OutAction.{OutAction}
 use Rattle.sg_wire.specs.declared.command.out_action.OutAction.TheVariants.{Clear, Preempt}
 use Rattle.sg_wire.specs.declared.command.out_action.OutAction.TheVariants.{PreemptAndAbort}
 use Rattle.sg_wire.specs.declared.command.Class.TheVariants.{Reads, Writes}
 use Rattle.sg_units.specs.Access.{allows}
-use Rattle.sg_units.specs.Attentions.{ArePending, Pending, pending_for, raised, without_oldest}
+use Rattle.sg_units.specs.Attentions.{ArePending, IsQueue, Pending, covers, is_pending, pending_for}
+use Rattle.sg_units.specs.Attentions.{raised, with_condition, without_oldest}
 use Rattle.sg_units.specs.PowerOn.{power_on_pending, after_power_on}
 use Rattle.sg_units.specs.Raised.{Conditions, raised_for_each}
 use Rattle.sg_units.specs.ReserveOut.{IsConsistentChange, outcome, raised_for, state_after}
@@ -19,6 +20,7 @@ use Rattle.sg_wire.specs.declared.out_list.OutList.{OutList}
 use Rattle.sg_units.specs.declared.registrations.Registration.{Registration}
 use Rattle.sg_units.specs.declared.reservation.Reservation.{Reservation}
 use Rattle.sg_units.specs.declared.reservation_state.ReservationState.{ReservationState}
+use Rattle.sg_units.specs.UnitAttention.{is_reset}
 use Rattle.sg_units.specs.declared.unit_attention.UnitAttention.{UnitAttention}
 use Rattle.std.specs.Prelude.{ℕ, ◌==◌, Bool, true, false}
 use Rattle.sg_units.specs.declared.types.ReservationType.{ReservationType}
@@ -41,6 +43,24 @@ NoConditionForAnother =
     (pending : Pending) (initiator other : ℕ) (condition : UnitAttention)
     → other ≢ initiator
     → pending_for (raised pending initiator condition) other ≡ pending_for pending other
+
+-- After the condition of a reset is established, the oldest condition covers it. So the next command
+-- that reports a condition reports a reset, and one of the same or a higher precedence.
+pub record ReportsFirst (queue : List UnitAttention) (condition : UnitAttention) : Type 0 where
+  pub first : UnitAttention
+  pub is_oldest : slice_get queue 0 ≡ Some first
+  pub covers_it : covers first condition ≡ true
+
+abbrev pub ResetsAreReportedFirst : Type 0
+ResetsAreReportedFirst =
+    (queue : List UnitAttention) (condition : UnitAttention) → IsQueue queue
+    → is_reset condition ≡ true → ReportsFirst (with_condition queue condition) condition
+
+-- A condition that is no reset's stays pending whatever is established.
+abbrev pub OthersStayPending : Type 0
+OthersStayPending =
+    (queue : List UnitAttention) (condition other : UnitAttention) → is_reset other ≡ false
+    → is_pending queue other ≡ true → is_pending (with_condition queue condition) other ≡ true
 
 -- PERSISTENT RESERVE OUT establishes nothing for the initiator that sent it.
 abbrev pub NothingRaisedForCaller : Type 0

@@ -1,6 +1,7 @@
 -- Modules that public contracts cite, in the best order to read them.
 pub mod UnitAttention
 pub mod Attentions
+pub mod Initiators
 pub mod Raised
 pub mod ReservationType
 pub mod Registrations

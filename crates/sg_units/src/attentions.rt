@@ -1,4 +1,5 @@
-// A queue of conditions for each initiator. A new one goes to the end, and the oldest is reported.
+// A queue of conditions for each initiator. A new one goes to the end, or to the front if it is of a
+// reset. The first one is reported.
 use crate::{Raised, UnitAttention};
 use arrayvec::ArrayVec;
 use sg_wire::Initiator;
@@ -26,8 +27,9 @@ impl Model for Attentions {
 
 ghost use Rattle.std.specs.Prelude.{◌≡◌, ◌<◌, [], ◌∷◌, drop, slice_set};
 ghost use Rattle.sg_wire.specs.Initiator.{initiator_count};
-ghost use Rattle.sg_units.specs.Attentions.{ArePending, IsQueue, is_pending, oldest, pending_for};
-ghost use Rattle.sg_units.specs.Attentions.{raised, with_optional};
+ghost use Rattle.sg_units.specs.Attentions.{ArePending, IsQueue, covers, is_covered, is_higher};
+ghost use Rattle.sg_units.specs.Attentions.{oldest, pending_for, raised, with_condition};
+ghost use Rattle.sg_units.specs.Attentions.{with_optional};
 ghost use Rattle.sg_units.specs.PowerOn.{power_on_pending};
 ghost use Rattle.sg_units.specs.Attentions.{without_attentions, without_oldest};
 ghost use Rattle.sg_units.specs.Raised.{raised_for_each};
@@ -43,8 +45,9 @@ impl Attentions {
         }
     }
 
-    /// Establishes a condition for an initiator. It becomes the newest, unless it is pending
-    /// already.
+    /// Establishes a condition for an initiator. It becomes the newest, unless it is pending already.
+    /// The condition of a reset becomes the oldest, in place of those of lower precedence (SAM-5,
+    /// 5.14).
     pub fn raise(&mut self, initiator: Initiator, condition: UnitAttention)
         ensures pending { self.new ≡ raised self.old initiator condition }
         ensures limits { ArePending self.new }
@@ -70,7 +73,7 @@ impl Attentions {
         ensures limits { ArePending self.new }
         ensures limits_before { ArePending self.old }
     {
-        establish(&mut self.pending[number], condition);
+        establish_optional(&mut self.pending[number], condition);
     }
 
     /// The oldest condition that is pending for an initiator.
@@ -115,8 +118,8 @@ fn power_on() -> ArrayVec<UnitAttention, { UnitAttention::COUNT }>
     queue
 }
 
-/// Adds a condition, if any, to a queue, unless it is there already.
-fn establish(
+/// Establishes a condition, if any, in a queue.
+fn establish_optional(
     queue: &mut ArrayVec<UnitAttention, { UnitAttention::COUNT }>,
     condition: Option<UnitAttention>,
 )
@@ -124,9 +127,27 @@ fn establish(
     ensures { queue.new.items ≡ with_optional queue.old.items condition }
 {
     if let Some(condition) = condition {
-        if !is_pending(queue.as_slice(), condition) {
-            queue.push(condition);
-        }
+        establish(queue, condition);
+    }
+}
+
+/// Establishes a condition in a queue, unless a pending one covers it. The condition of a reset
+/// becomes the oldest, in place of those of lower precedence. Every other one becomes the newest.
+fn establish(
+    queue: &mut ArrayVec<UnitAttention, { UnitAttention::COUNT }>,
+    condition: UnitAttention,
+)
+    requires { IsQueue queue.old.items }
+    ensures { queue.new.items ≡ with_condition queue.old.items condition }
+{
+    if is_covered(queue.as_slice(), condition) {
+        return;
+    }
+    if condition.is_reset() {
+        queue.retain(|pending| !pending.is_reset());
+        queue.insert(0, condition);
+    } else {
+        queue.push(condition);
     }
 }
 
@@ -137,8 +158,25 @@ fn remove_first(queue: &mut ArrayVec<UnitAttention, { UnitAttention::COUNT }>)
     let _ = queue.pop_at(0);
 }
 
-fn is_pending(queue: &[UnitAttention], condition: UnitAttention) -> bool
-    ensures { result ≡ is_pending queue.now condition }
+fn is_covered(queue: &[UnitAttention], condition: UnitAttention) -> bool
+    ensures { result ≡ is_covered queue.now condition }
 {
-    queue.iter().any(|other| *other == condition)
+    queue.iter().any(|pending| covers(*pending, condition))
+}
+
+/// A pending condition says all that a new one would say: it is the same, or both are of resets and
+/// the pending one has a higher precedence.
+fn covers(pending: UnitAttention, condition: UnitAttention) -> bool
+    ensures { result ≡ covers pending condition }
+{
+    pending == condition || is_higher(pending.reset_precedence(), condition.reset_precedence())
+}
+
+fn is_higher(precedence: Option<u8>, other: Option<u8>) -> bool
+    ensures { result ≡ is_higher precedence other }
+{
+    match (precedence, other) {
+        (Some(precedence), Some(other)) => precedence < other,
+        _ => false,
+    }
 }

@@ -1,12 +1,24 @@
 //! Laws of the definitions: each is the contract of a function that does nothing.
 ghost use Rattle.sg_units.specs.Laws.{EachRegistrantHolds, GenerationCountsChanges};
 ghost use Rattle.sg_units.specs.Laws.{NoConditionForAnother, NothingRaisedForCaller, OneHolder};
-ghost use Rattle.sg_units.specs.Laws.{OneKeyEach, OthersAreRefused, QueuesKeepTheirLimits};
-ghost use Rattle.sg_units.specs.Laws.{ReservationsStayConsistent, SharersAreAllowed};
+ghost use Rattle.sg_units.specs.Laws.{OneKeyEach, OthersAreRefused, OthersStayPending};
+ghost use Rattle.sg_units.specs.Laws.{QueuesKeepTheirLimits, ReservationsStayConsistent};
+ghost use Rattle.sg_units.specs.Laws.{ResetsAreReportedFirst, SharersAreAllowed};
 
 /// A unit attention condition that is established for one initiator is pending for no other.
 pub fn no_condition_for_another()
     ensures { NoConditionForAnother }
+{}
+
+/// After the condition of a reset is established, the oldest condition covers it. So the next
+/// command that reports a condition reports a reset.
+pub fn resets_are_reported_first()
+    ensures { ResetsAreReportedFirst }
+{}
+
+/// A condition that is no reset's stays pending whatever is established.
+pub fn others_stay_pending()
+    ensures { OthersStayPending }
 {}
 
 /// PERSISTENT RESERVE OUT establishes nothing for the initiator that sent it.

@@ -4,6 +4,7 @@
 
 mod access;
 mod attentions;
+mod initiators;
 pub mod laws;
 mod out_fault;
 mod raised;
@@ -16,6 +17,7 @@ mod types;
 mod unit_attention;
 
 pub use attentions::Attentions;
+pub use initiators::Initiators;
 pub use out_fault::OutFault;
 pub use raised::Raised;
 pub use registrations::Registration;

@@ -1,0 +1,20 @@
+use Rattle.std.proofs.Common.{◌∙◌, ◌<◌, None, ap, arith, get_or, length, set}
+use Rattle.std.proofs.lemmas.List.{length-set}
+use Rattle.std.proofs.lemmas.List.Edits.{fill_by_more}
+use Rattle.sg_units.specs.Raised.{raised_for_member}
+use Rattle.sg_units.proofs.raised.Raised.for_members.Goals as goal
+
+pub loop-number-preserved : goal.loop-number-preserved
+loop-number-preserved c =
+    let conditions = c.loop-number.conditions in
+    let number = c.loop-number.number in
+    let now = raised_for_member c.args.initiators.now c.args.condition in
+    let e = ap (set conditions number) c.raised_for_member.ensures in
+    let so_far = c.loop-number.invariant.raised_so_far in
+    let room : number < length conditions = omega arith in
+    record {
+      eight = omega (arith, length-set conditions number c.raised_for_member.result);
+      raised_so_far =
+          λ k h.
+          ap (λ xs. get_or xs k None) e ∙ fill_by_more now conditions number None room so_far k h;
+    }

@@ -1,0 +1,66 @@
+// A set of initiators is a value of its own, for what happens to some of them only.
+use sg_wire::Initiator;
+use std::marker::Model;
+
+/// A set of the initiators that the disk serves.
+#[derive(Clone, Copy)]
+pub struct Initiators {
+    members: [bool; Initiator::COUNT],
+}
+
+impl Model for Initiators {
+    ghost use Rattle.std.specs.Prelude.{Bool, List};
+
+    ghost Value = { List Bool };
+
+    ghost view = { λ s. s.members };
+
+    ghost inverse = { λ m. record { members = m } };
+}
+
+ghost use Rattle.std.specs.Prelude.{◌≡◌, ◌<◌};
+ghost use Rattle.sg_wire.specs.Initiator.{initiator_count};
+ghost use Rattle.sg_units.specs.Initiators.{all_initiators, is_member, no_initiators, with_member};
+
+impl Initiators {
+    /// No initiator.
+    pub fn none() -> Initiators
+        ensures { result ≡ no_initiators }
+    {
+        Initiators {
+            members: [false; Initiator::COUNT],
+        }
+    }
+
+    /// Every initiator.
+    pub fn all() -> Initiators
+        ensures { result ≡ all_initiators }
+    {
+        Initiators {
+            members: [true; Initiator::COUNT],
+        }
+    }
+
+    /// These initiators, and another one.
+    pub fn with(mut self, initiator: Initiator) -> Initiators
+        ensures { result ≡ with_member self initiator }
+    {
+        self.members[usize::from(initiator.number())] = true;
+        self
+    }
+
+    /// An initiator is one of them.
+    pub fn contains(&self, initiator: Initiator) -> bool
+        ensures { result ≡ is_member self.now initiator }
+    {
+        self.at(usize::from(initiator.number()))
+    }
+
+    /// The initiator with a number is one of them.
+    pub(crate) fn at(&self, number: usize) -> bool
+        requires { number < initiator_count }
+        ensures { result ≡ is_member self.now number }
+    {
+        self.members[number]
+    }
+}
