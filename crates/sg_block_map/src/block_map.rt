@@ -288,6 +288,11 @@ impl Store for BlockMap {
         cut.replace(at, &status_header(count));
     }
 
+    fn grow(&mut self, capacity: u64) {
+        disks_stay_well_formed();
+        self.capacity = capacity;
+    }
+
     fn mapped(&self) -> u32
         ensures value { result ≡ data_count (disk_of self.now).contents }
 

@@ -186,6 +186,11 @@ impl Store for ExtentMap {
         cut.replace(at, &status_header(count));
     }
 
+    fn grow(&mut self, capacity: u64) {
+        disks_stay_well_formed();
+        self.capacity = capacity;
+    }
+
     fn mapped(&self) -> u32 {
         self.table.data_count() as u32
     }

@@ -2,13 +2,14 @@
 -- initiators, registrations and reservation. The registrations and reservations of both are related
 -- in some way.
 use Rattle.std.proofs.Common.{◌≡◌, ◌<◌, ◌≤◌, ◌⊎◌, inl, inr, ℕ, Bool, true, false, cond, List, [], ◌∷◌}
-use Rattle.std.proofs.Common.{get_or, drop, Option, Some, None, Result, Ok, Err, refl, sym, ap, ◌∙◌}
+use Rattle.std.proofs.Common.{get_or, drop, length, Option, Some, None, Result, Ok, Err, refl, sym}
+use Rattle.std.proofs.Common.{ap, ◌∙◌}
 use Rattle.std.proofs.Common.{subst, arith}
 use Rattle.std.specs.Prelude.{map, option_and_then, slice_get, if◌then◌else◌}
 use Rattle.std.specs.List.{range_with_len}
 use Rattle.std.specs.Option.{option_map, option_map_or}
 use Rattle.std.proofs.lemmas.Bool.{cases_eq, cases_lt}
-use Rattle.std.proofs.lemmas.List.{get_or_past}
+use Rattle.std.proofs.lemmas.List.{get_or_past, get_or-set_other, get_or-set_same, length-set}
 use Rattle.std.proofs.lemmas.List.FromFn.{get_or-map-range_with_len, length-map-range_with_len}
 use Rattle.sg_wire.specs.CdbDecoding.{class_in, command_in, is_blocked_in}
 use Rattle.sg_wire.specs.SenseData.{sense_data}
@@ -20,7 +21,9 @@ use Rattle.sg_wire.specs.declared.sense.Format.{Format}
 use Rattle.sg_pages.specs.ModePage.{ModeState}
 use Rattle.sg_pages.specs.ModeSelect.{changed_by}
 use Rattle.sg_units.specs.Access.{allows}
-use Rattle.sg_units.specs.Attentions.{Pending, pending_for, with_optional, without_oldest}
+use Rattle.sg_wire.specs.Initiator.{initiator_count}
+use Rattle.sg_units.specs.Attentions.{Pending, pending_for, raised, with_condition, with_optional}
+use Rattle.sg_units.specs.Attentions.{without_oldest}
 use Rattle.sg_units.specs.Raised.{Conditions, queue_after, raised_for_each, raised_for_others}
 use Rattle.sg_units.specs.declared.reservation_state.ReservationState.{ReservationState}
 use Rattle.sg_units.specs.declared.unit_attention.UnitAttention.{UnitAttention}
@@ -91,6 +94,30 @@ raised-equal p q conditions k e = by-case (cases_lt k 8)
         let second = length-map-range_with_len (queue_after q conditions) 0 8 in
         get_or_past (map (queue_after p conditions) (range_with_len 0 8)) k [] (omega arith)
         ∙ sym (get_or_past (map (queue_after q conditions) (range_with_len 0 8)) k [] (omega arith))
+
+pub raised_one-equal : (p q : Pending) (j : ℕ) (condition : UnitAttention) (k : ℕ)
+    → length p ≡ initiator_count → length q ≡ initiator_count
+    → pending_for p k ≡ pending_for q k
+    → pending_for (raised p j condition) k ≡ pending_for (raised q j condition) k
+raised_one-equal p q j condition k l m e = by-case (cases_eq j k) (cases_lt k initiator_count)
+  where
+    new : Pending → List UnitAttention
+    new pending = with_condition (pending_for pending j) condition
+
+    by-case : (j ≡ k) ⊎ (j ≡ k → ⊥) → (k < initiator_count) ⊎ (initiator_count ≤ k)
+        → pending_for (raised p j condition) k ≡ pending_for (raised q j condition) k
+    by-case (inl own) (inl less) =
+        subst (λ n. pending_for (raised p n condition) k ≡ pending_for (raised q n condition) k)
+        (sym own)
+        (get_or-set_same p k (with_condition (pending_for p k) condition) [] (omega arith)
+        ∙ (ap (λ queue. with_condition queue condition) e
+        ∙ sym (get_or-set_same q k (with_condition (pending_for q k) condition) [] (omega arith))))
+    by-case (inl own) (inr past) =
+        get_or_past (raised p j condition) k [] (omega (arith, length-set p j (new p)))
+        ∙ sym (get_or_past (raised q j condition) k [] (omega (arith, length-set q j (new q))))
+    by-case (inr other) last =
+        get_or-set_other p j k (new p) [] (λ same. other (sym same))
+        ∙ (e ∙ sym (get_or-set_other q j k (new q) [] (λ same. other (sym same))))
 
 -- ---- Words
 

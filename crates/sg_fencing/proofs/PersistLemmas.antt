@@ -27,7 +27,8 @@ use Rattle.sg_units.proofs.OutcomeLemmas.{refused, taking, typed}
 use Rattle.sg_target.specs.Happenings.{after_happening}
 use Rattle.sg_target.specs.PowerCycle.{after_power_cycle}
 use Rattle.sg_target.specs.declared.happening.Happening.{Happening}
-use Rattle.sg_target.specs.declared.happening.Happening.TheVariants.{Power}
+use Rattle.sg_target.specs.declared.happening.Happening.TheVariants.{Grow, Power}
+use Rattle.sg_target.proofs.GrowthLemmas.{by-growth}
 use Rattle.sg_target.specs.Refusal.{when_sound}
 use Rattle.sg_target.specs.ReservationCommands.{changing_reservations, out_refusal}
 use Rattle.sg_target.specs.ReservationCommands.{reservation_change}
@@ -283,6 +284,9 @@ module _ (keeps_refused : RefusedChangesNothing) where
   happening-leaves : (happening : Happening) (state : State)
       → persists (after_happening happening state) ≡ persists state
   happening-leaves Power state = power-leaves state (persists state) refl
+  happening-leaves (Grow capacity) state =
+      by-growth (λ after. persists after ≡ persists state) capacity state (λ more fits. refl) refl
+  happening-leaves _ state = refl
 
   none-decides : (state : State) (events : List Event) → NoneCountsFrom 0 state events
       → persists (state_after_events state events) ≡ persists state

@@ -17,7 +17,8 @@ use Rattle.sg_units.specs.declared.unit_attention.UnitAttention.TheVariants.{Pow
 use Rattle.sg_target.specs.Happenings.{after_happening}
 use Rattle.sg_target.specs.PowerCycle.{after_power_cycle}
 use Rattle.sg_target.specs.declared.happening.Happening.{Happening}
-use Rattle.sg_target.specs.declared.happening.Happening.TheVariants.{Power}
+use Rattle.sg_target.specs.declared.happening.Happening.TheVariants.{Grow, Power}
+use Rattle.sg_target.proofs.GrowthLemmas.{by-growth}
 use Rattle.sg_target.specs.Runs.{state_after_events, step_of}
 use Rattle.sg_target.specs.State.{State}
 use Rattle.sg_target.specs.declared.call.Call.{Call}
@@ -85,6 +86,9 @@ unknown-after Power state i unknown = split (persists state)
     split : (b : Bool) → is_registered (left b state.reservations).registrations i ≡ false
     split true = unknown
     split false = refl
+unknown-after (Grow capacity) state i unknown =
+    by-growth (λ after. is_registrant after i ≡ false) capacity state (λ more fits. unknown) unknown
+unknown-after _ state i unknown = unknown
 
 pub unknown-still : (state : State) (i : ℕ) (events : List Event) → is_registrant state i ≡ false
     → IsNeverGranted i state events → is_registrant (state_after_events state events) i ≡ false

@@ -1,15 +1,22 @@
--- Over a list of commands and power cycles the holder's view and its answers depend only on its
--- commands and the power cycles.
+-- Over a list of events the holder's view and its answers depend only on its commands and the
+-- happenings.
 use Rattle.std.proofs.Common.{◌≡◌, ℕ, suc, Bool, true, false, cond, ◌&&◌, List, [], ◌∷◌, Some}
 use Rattle.std.proofs.Common.{filter, take, refl, sym, ap, ◌∙◌, zero}
 use Rattle.std.specs.List.{zip}
-use Rattle.std.proofs.lemmas.Bool.{eqb-false, eqb-true}
+use Rattle.std.proofs.lemmas.Bool.{eqb-false, eqb-true, false≢true}
 use Rattle.std.proofs.lemmas.List.{take-map}
 use Rattle.sg_wire.specs.Laws.{CommandsHaveTheirClass}
 use Rattle.sg_wire.specs.CdbDecoding.{command_of}
-use Rattle.std.specs.Prelude.{if◌then◌else◌, ◌||◌, slice_get}
+use Rattle.std.specs.Prelude.{if◌then◌else◌, ◌||◌, nat_le, nat_lt, slice_get}
 use Rattle.sg_pages.specs.ModePowerOn.{after_power_on as pages_after_power_on}
+use Rattle.sg_store.specs.Disk.{disk_grown, max_capacity}
 use Rattle.sg_units.specs.Attentions.{pending_for}
+use Rattle.sg_units.specs.Raised.{Conditions, raised_for_all, raised_for_each, raised_for_members}
+use Rattle.sg_units.specs.declared.unit_attention.UnitAttention.{UnitAttention}
+use Rattle.sg_units.specs.declared.unit_attention.UnitAttention.TheVariants as attention
+use Rattle.sg_units.specs.declared.unit_attention.UnitAttention.TheVariants.{BusDeviceReset}
+use Rattle.sg_units.specs.declared.unit_attention.UnitAttention.TheVariants.{CapacityDataChanged}
+use Rattle.sg_units.specs.declared.unit_attention.UnitAttention.TheVariants.{ScsiBusReset}
 use Rattle.sg_units.specs.PowerOn.{power_on_pending, empty_state}
 use Rattle.sg_units.specs.Laws.{OneKeyEach, OthersAreRefused}
 use Rattle.sg_units.specs.Registrations.{key_of}
@@ -22,7 +29,11 @@ use Rattle.sg_fencing.specs.Fencing.{is_compared, is_from, shows_others, view_of
 use Rattle.sg_fencing.specs.ChosenAnswers.{answers_among, calls_among}
 use Rattle.sg_fencing.specs.PowerCycles.{events_of, persists, PersistAtPowerCycles}
 use Rattle.sg_target.specs.PowerCycle.{after_power_cycle}
-use Rattle.sg_target.specs.declared.happening.Happening.TheVariants.{Power}
+use Rattle.sg_target.specs.Happenings.{after_growth, after_happening, after_reset, grown, with_raised}
+use Rattle.sg_target.specs.declared.happening.Happening.{Happening}
+use Rattle.sg_target.specs.declared.happening.Happening.TheVariants.{Power, LogicalUnitReset}
+use Rattle.sg_target.specs.declared.happening.Happening.TheVariants.{TargetReset, NexusLoss}
+use Rattle.sg_target.specs.declared.happening.Happening.TheVariants.{Establish, Grow}
 use Rattle.sg_target.specs.Runs.{all_calls, answers_to_events, state_after_all}
 use Rattle.sg_target.specs.Runs.{state_after_events, step_of}
 use Rattle.sg_target.specs.State.{IsWithinLimits, State}
@@ -30,7 +41,9 @@ use Rattle.sg_target.specs.Step.{Answer}
 use Rattle.sg_target.specs.declared.call.Call.{Call}
 use Rattle.sg_target.specs.declared.event.Event.{Event}
 use Rattle.sg_target.specs.declared.event.Event.TheVariants as event
-use Rattle.sg_target.specs.Laws.{LimitsAreKept}
+use Rattle.sg_target.specs.Laws.{LimitsAreKept, is_power_cycle}
+use Rattle.sg_target.proofs.GrowthLemmas.{by-growth}
+use Rattle.sg_fencing.proofs.AlikeLemmas.{raised-equal, raised_one-equal}
 use Rattle.sg_fencing.proofs.FencedRunLemmas.{both-more, none-more, own-step}
 use Rattle.sg_fencing.proofs.OthersLemmas.{others-keep}
 use Rattle.sg_fencing.proofs.OwnLemmas.{StepsAlike}
@@ -92,6 +105,83 @@ module _ (limits : LimitsAreKept) (refuses : OthersAreRefused) (one : OneKeyEach
     second_within = limits.happening Power second h.second_within;
     identity = h.identity;
     view = view-powered first p ∙ ap powered h.view ∙ sym (view-powered second q);
+  }
+
+  -- ---- another happening
+
+  raised-alike : (first second : State) (conditions : Conditions) → LookAlike first second i
+      → pending_for (raised_for_each first.attentions conditions) i
+      ≡ pending_for (raised_for_each second.attentions conditions) i
+  raised-alike first second conditions h =
+      raised-equal first.attentions second.attentions conditions i
+      (ap (λ (view : View). view.attentions) h.view)
+
+  view-raised : (first second : State) (conditions : Conditions) → LookAlike first second i
+      → view_of (with_raised first conditions) i ≡ view_of (with_raised second conditions) i
+  view-raised first second conditions h = λ d. record (h.view d) {
+    attentions = raised-alike first second conditions h d;
+  }
+
+  view-reset : (first second : State) (condition : UnitAttention) → LookAlike first second i
+      → view_of (after_reset condition first) i ≡ view_of (after_reset condition second) i
+  view-reset first second condition h = λ d. record (h.view d) {
+    modes = pages_after_power_on (h.view d).modes;
+    attentions = raised-alike first second (raised_for_all condition) h d;
+  }
+
+  view-nexus : (first second : State) (j : ℕ) → LookAlike first second i
+      → view_of (after_happening (NexusLoss j) first) i
+      ≡ view_of (after_happening (NexusLoss j) second) i
+  view-nexus first second j h = λ d. record (h.view d) {
+    attentions = raised_one-equal first.attentions second.attentions j attention.NexusLoss i
+        h.first_within.pending.one_for_each h.second_within.pending.one_for_each
+        (ap (λ (view : View). view.attentions) h.view) d;
+  }
+
+  view-grown : (first second : State) (capacity : ℕ) → LookAlike first second i
+      → view_of (after_growth capacity first) i ≡ view_of (after_growth capacity second) i
+  view-grown first second capacity h =
+      by-test (nat_lt first.disk.capacity capacity && nat_le capacity max_capacity)
+      ∙ ap (λ (view : View). view_of (grown-if
+      (nat_lt view.disk.capacity capacity && nat_le capacity max_capacity)) i) h.view
+    where
+      grown-if : Bool → State
+      grown-if test = if test then grown capacity second else second
+
+      by-test : (test : Bool)
+          → view_of (if test then grown capacity first else first) i ≡ view_of (grown-if test) i
+      by-test true = λ d. record (h.view d) {
+        disk = disk_grown (h.view d).disk capacity;
+        attentions = raised-alike first second (raised_for_all CapacityDataChanged) h d;
+      }
+      by-test false = h.view
+
+  view-alike : (happening : Happening) (first second : State) → is_power_cycle happening ≡ false
+      → LookAlike first second i
+      → view_of (after_happening happening first) i ≡ view_of (after_happening happening second) i
+  view-alike Power first second n h = absurd (false≢true (sym n))
+  view-alike LogicalUnitReset first second n h = view-reset first second BusDeviceReset h
+  view-alike TargetReset first second n h = view-reset first second ScsiBusReset h
+  view-alike (NexusLoss j) first second n h = view-nexus first second j h
+  view-alike (Establish condition initiators) first second n h =
+      view-raised first second (raised_for_members initiators condition) h
+  view-alike (Grow capacity) first second n h = view-grown first second capacity h
+
+  identity-left : (happening : Happening) (state : State)
+      → (after_happening happening state).identity ≡ state.identity
+  identity-left (Grow capacity) state =
+      by-growth (λ after. after.identity ≡ state.identity) capacity state (λ more fits. refl) refl
+  identity-left _ state = refl
+
+  happening-alike : (happening : Happening) (first second : State)
+      → is_power_cycle happening ≡ false → LookAlike first second i
+      → LookAlike (after_happening happening first) (after_happening happening second) i
+  happening-alike happening first second n h = record {
+    first_within = limits.happening happening first h.first_within;
+    second_within = limits.happening happening second h.second_within;
+    identity =
+        identity-left happening first ∙ (h.identity ∙ sym (identity-left happening second));
+    view = view-alike happening first second n h;
   }
 
   -- ---- a command
@@ -172,6 +262,11 @@ module _ (limits : LimitsAreKept) (refuses : OthersAreRefused) (one : OneKeyEach
       let next = cycle-alike first second a (persisted first (held 1)) (persist 0 refl) in
       let rest = events-alike events (after_power_cycle first) (after_power_cycle second) next
       (λ n. held (suc n)) (λ n at. persist (suc n) at) in
+      record { view = rest.view; answers = rest.answers }
+  events-alike (event.Happen happening ∷ events) first second a held persist =
+      let next = happening-alike happening first second refl a in
+      let rest = events-alike events (after_happening happening first)
+      (after_happening happening second) next (λ n. held (suc n)) (λ n at. persist (suc n) at) in
       record { view = rest.view; answers = rest.answers }
 
   -- ---- commands alone are events

@@ -157,6 +157,11 @@ impl Store for PlainMap {
         cut.replace(at, &status_header(count));
     }
 
+    fn grow(&mut self, capacity: u64) {
+        disks_stay_well_formed();
+        self.capacity = capacity;
+    }
+
     fn mapped(&self) -> u32 {
         self.table.data_count() as u32
     }

@@ -7,28 +7,33 @@ use Rattle.std.specs.List.{list_all}
 use Rattle.std.proofs.lemmas.Bool.Decides.{nat_tests}
 use Rattle.std.proofs.lemmas.List.{take_all}
 use Rattle.sg_run.specs.Limits.{word_limit}
-use Rattle.sg_run.specs.Request.{LineRequest, by_first_word, by_verb, by_words, initiator_of}
-use Rattle.sg_run.specs.Request.{is_allowed, text_request, tool_line}
+use Rattle.sg_wire.specs.declared.profile.Profile.{Profile}
+use Rattle.sg_wire.specs.declared.profile.Profile.TheVariants.{Base, Extended}
+use Rattle.sg_run.specs.InitiatorWord.{initiator_of}
+use Rattle.sg_run.specs.Request.{LineRequest, by_first_word, by_verb, by_words, is_allowed}
+use Rattle.sg_run.specs.Request.{text_request, tool_line}
 use Rattle.sg_run.specs.Words.{tool_words, words}
 
 -- no verb takes more than four operands
-first-operands : (verb : List ℕ) (operands : List (List ℕ))
-    → by_verb verb (take 5 operands) ≡ by_verb verb operands
-first-operands verb [] = refl
-first-operands verb (a ∷ []) = refl
-first-operands verb (a ∷ b ∷ []) = refl
-first-operands verb (a ∷ b ∷ c ∷ []) = refl
-first-operands verb (a ∷ b ∷ c ∷ d ∷ []) = refl
-first-operands verb (a ∷ b ∷ c ∷ d ∷ e ∷ rest) = refl
+first-operands : (profile : Profile) (verb : List ℕ) (operands : List (List ℕ))
+    → by_verb profile verb (take 5 operands) ≡ by_verb profile verb operands
+first-operands profile verb [] = refl
+first-operands profile verb (a ∷ []) = refl
+first-operands profile verb (a ∷ b ∷ []) = refl
+first-operands profile verb (a ∷ b ∷ c ∷ []) = refl
+first-operands profile verb (a ∷ b ∷ c ∷ d ∷ []) = refl
+first-operands Base verb (a ∷ b ∷ c ∷ d ∷ e ∷ rest) = refl
+first-operands Extended verb (a ∷ b ∷ c ∷ d ∷ e ∷ rest) = refl
 
 pub few-words : (count : ℕ) → count ≤ word_limit → nat_lt word_limit count ≡ false
 few-words count few = grind (arith, nat_tests)
 
-after-tests : (text verb : List ℕ) (operands : List (List ℕ))
+after-tests : (profile : Profile) (text verb : List ℕ) (operands : List (List ℕ))
     → (slice_index verb 0 == 0x23) ≡ false → list_all is_allowed text ≡ true
     → length (verb ∷ operands) ≤ word_limit
-    → by_words text (verb ∷ operands) ≡ by_first_word (initiator_of verb) verb operands
-after-tests text verb operands no_comment allowed few =
+    → by_words profile text (verb ∷ operands)
+    ≡ by_first_word profile (initiator_of verb) verb operands
+after-tests profile text verb operands no_comment allowed few =
     rw (no_comment, allowed, few-words (length (verb ∷ operands)) few) refl
 
 -- the first words of a text; this many of its words are kept
@@ -38,41 +43,41 @@ pub record HasFirstWords (text verb : List ℕ) (operands : List (List ℕ)) : T
   pub allowed : list_all is_allowed text ≡ true
   pub few : length (words text) ≤ word_limit
 
-by-first_words : (text verb : List ℕ) (operands all : List (List ℕ))
+by-first_words : (profile : Profile) (text verb : List ℕ) (operands all : List (List ℕ))
     → verb ∷ operands ≡ take 6 all
     → (slice_index verb 0 == 0x23) ≡ false → list_all is_allowed text ≡ true
     → length all ≤ word_limit
     → (operands ≡ take 5 (drop 1 all))
-    × (by_words text all ≡ by_first_word (initiator_of verb) verb (drop 1 all))
-by-first_words text verb operands [] first no_comment allowed few = cc
-by-first_words text verb operands (v ∷ os) first no_comment allowed few =
+    × (by_words profile text all ≡ by_first_word profile (initiator_of verb) verb (drop 1 all))
+by-first_words profile text verb operands [] first no_comment allowed few = cc
+by-first_words profile text verb operands (v ∷ os) first no_comment allowed few =
     let same_verb : verb ≡ v = cc in
     let same_operands : operands ≡ take 5 os = cc in
-    let tested = after-tests text v os (rw (← same_verb) no_comment) allowed few in
+    let tested = after-tests profile text v os (rw (← same_verb) no_comment) allowed few in
     rw (same_verb) (same_operands, tested)
 
 -- a verb, which is no initiator
-pub request-by_verb : (text verb : List ℕ) (operands : List (List ℕ))
+pub request-by_verb : (profile : Profile) (text verb : List ℕ) (operands : List (List ℕ))
     → HasFirstWords text verb operands → initiator_of verb ≡ None
-    → by_verb verb operands ≡ text_request text
+    → by_verb profile verb operands ≡ text_request profile text
 unfolding text_request
-request-by_verb text verb operands w none =
+request-by_verb profile text verb operands w none =
     let all : List (List ℕ) = words text in
-    let by = by-first_words text verb operands all w.words_are w.no_comment w.allowed w.few in
-    let by_word : Option ℕ → LineRequest = λ i. by_first_word i verb (drop 1 all) in
-    ap (by_verb verb) by.0
-    ∙ (first-operands verb (drop 1 all) ∙ sym (by.1 ∙ ap by_word none))
+    let by = by-first_words profile text verb operands all w.words_are w.no_comment w.allowed w.few in
+    let by_word : Option ℕ → LineRequest = λ i. by_first_word profile i verb (drop 1 all) in
+    ap (by_verb profile verb) by.0
+    ∙ (first-operands profile verb (drop 1 all) ∙ sym (by.1 ∙ ap by_word none))
 
 -- an initiator
-pub request-by_tool : (text verb : List ℕ) (operands : List (List ℕ)) (initiator : ℕ)
+pub request-by_tool : (profile : Profile) (text verb : List ℕ) (operands : List (List ℕ)) (initiator : ℕ)
     → HasFirstWords text verb operands → initiator_of verb ≡ Some initiator
     → (operands ≡ take 5 (tool_words text))
-    × (tool_line initiator (tool_words text) ≡ text_request text)
+    × (tool_line initiator (tool_words text) ≡ text_request profile text)
 unfolding text_request
-request-by_tool text verb operands initiator w some =
+request-by_tool profile text verb operands initiator w some =
     let all : List (List ℕ) = words text in
-    let by = by-first_words text verb operands all w.words_are w.no_comment w.allowed w.few in
-    let by_word : Option ℕ → LineRequest = λ i. by_first_word i verb (drop 1 all) in
+    let by = by-first_words profile text verb operands all w.words_are w.no_comment w.allowed w.few in
+    let by_word : Option ℕ → LineRequest = λ i. by_first_word profile i verb (drop 1 all) in
     (by.0, sym (by.1 ∙ ap by_word some))
 
 -- borrowed words, whose first is the verb

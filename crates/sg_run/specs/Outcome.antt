@@ -11,8 +11,10 @@ use Rattle.sg_tools.specs.ExitStatus.{exit_status}
 use Rattle.sg_pages.specs.BlockDescriptor.{logical_block_length}
 use Rattle.sg_target.specs.Happenings.{after_happening}
 use Rattle.sg_target.specs.declared.happening.Happening.{Happening}
-use Rattle.sg_target.specs.declared.happening.Happening.TheVariants.{Power}
-use Rattle.sg_target.specs.State.{State}
+use Rattle.sg_target.specs.declared.happening.Happening.TheVariants.{Power, LogicalUnitReset}
+use Rattle.sg_target.specs.declared.happening.Happening.TheVariants.{TargetReset, NexusLoss}
+use Rattle.sg_target.specs.declared.happening.Happening.TheVariants.{Establish, Grow}
+use Rattle.sg_target.specs.State.{State, profile_of}
 use Rattle.sg_target.specs.Status.{status_code}
 use Rattle.sg_target.specs.Step.{Step, step}
 use Rattle.sg_target.specs.declared.reply.Status.{Status}
@@ -89,6 +91,11 @@ shown_outcome number state kind bytes = record {
 -- The name of a happening in a transcript.
 abbrev pub happening_name : Happening → List ℕ
 happening_name Power = codes "POWER"
+happening_name LogicalUnitReset = codes "RESET"
+happening_name TargetReset = codes "TARGET RESET"
+happening_name (NexusLoss initiator) = codes "NEXUS LOSS"
+happening_name (Establish condition initiators) = codes "ATTENTION"
+happening_name (Grow capacity) = codes "GROW"
 
 -- Something happens to the disk.
 abbrev pub happening_outcome : (number : ℕ) → State → Happening → Outcome
@@ -135,4 +142,5 @@ by_request number out_of_memory state (run_tool initiator request) =
 -- memory. Nothing is kept of a line that is too long.
 unfoldable pub outcome : (number : ℕ) → (line : Option (List ℕ)) → (out_of_memory : Bool) → State
     → Outcome
-outcome number line out_of_memory state = by_request number out_of_memory state (request_of line)
+outcome number line out_of_memory state =
+    by_request number out_of_memory state (request_of (profile_of state) line)

@@ -48,7 +48,7 @@ pub(crate) fn execute_line<W: Write, S: Store>(
         ExecutesLine W.contents writer.old writer.new target.new.state result
         (λ out_of_memory. outcome number bytes out_of_memory target.old.state) }
 {
-    let request = read_request(line, &mut buffers.hex);
+    let request = read_request(target.profile(), line, &mut buffers.hex);
     let mut out = Printer::new(writer, &mut buffers.text);
     let context = LineContext { alloc, number };
     let data_out = &mut buffers.data_out;
@@ -142,6 +142,11 @@ fn happening_name(happening: Happening) -> &'static [u8]
 {
     match happening {
         Happening::Power => b"POWER",
+        Happening::LogicalUnitReset => b"RESET",
+        Happening::TargetReset => b"TARGET RESET",
+        Happening::NexusLoss(_) => b"NEXUS LOSS",
+        Happening::Establish(_, _) => b"ATTENTION",
+        Happening::Grow(_) => b"GROW",
     }
 }
 

@@ -51,6 +51,12 @@ well_formed-remapped capacity m a (suc k) f whole range len =
     (well_formed-remapped capacity m a k f whole (omega arith) (λ i lt. len i (omega arith)))
     (omega arith) (len k (omega arith)))
 
+pub well_formed-grown : (capacity more : ℕ) (m : Contents) → IsWellFormed capacity m
+    → capacity ≤ more → IsWellFormed more m
+well_formed-grown capacity more m whole h = record {
+  each = λ lba mapping e. let found = whole.each lba mapping e in (omega (arith, found.0), found.1);
+}
+
 -- an address that has a pair is one of the disk's
 pub below-some : (o : Option Mapping) (a capacity : ℕ) → ((x : Mapping) → o ≡ Some x → a < capacity)
     → is_some o ≡ true → a < capacity

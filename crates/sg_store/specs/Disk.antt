@@ -131,6 +131,10 @@ unmapped contents lba count = outside_range contents lba count
 abbrev pub disk_unmapped : Disk → (lba count : ℕ) → Disk
 disk_unmapped disk lba count = record disk { contents = unmapped disk.contents lba count }
 
+-- The disk with more addresses.
+abbrev pub disk_grown : Disk → (capacity : ℕ) → Disk
+disk_grown disk capacity = record disk { capacity = capacity }
+
 -- Each address of a range is anchored, and data there is lost.
 abbrev pub anchored : Contents → (lba count : ℕ) → Contents
 anchored contents lba count = remapped contents lba count (λ index. Anchored)

@@ -93,8 +93,8 @@ EndsAtAnotherStatus disk descriptor =
 abbrev pub CoversTheMost : Type 0
 CoversTheMost = (disk : Disk) (lba : ℕ) → All (EndsAtAnotherStatus disk) (lba_status disk lba)
 
--- A disk stays well-formed if its addresses are mapped to whole blocks or anchored, and if
--- addresses are deallocated.
+-- A disk stays well-formed if its addresses are mapped to whole blocks or anchored, if addresses are
+-- deallocated, and if it gets more addresses.
 pub record DisksStayWellFormed : Type 0 where
   pub mapping : (capacity : ℕ) (contents : Contents) (lba count : ℕ) (mappings : ℕ → Mapping)
       → IsWellFormed capacity contents → lba + count ≤ capacity
@@ -102,6 +102,8 @@ pub record DisksStayWellFormed : Type 0 where
       → IsWellFormed capacity (remapped contents lba count mappings)
   pub unmapping : (capacity : ℕ) (contents : Contents) (lba count : ℕ)
       → IsWellFormed capacity contents → IsWellFormed capacity (unmapped contents lba count)
+  pub growing : (capacity more : ℕ) (contents : Contents)
+      → IsWellFormed capacity contents → capacity ≤ more → IsWellFormed more contents
 
 -- An address that is remapped has what its index says, and others have what they had. Remapping
 -- takes as many more blocks of the pool as the addresses need, which are at most as many as the

@@ -68,8 +68,8 @@ pub fn each_descriptor_covers_as_many_addresses_as_it_can()
     ensures { CoversTheMost }
 {}
 
-/// A disk stays well-formed if its addresses are mapped to whole blocks or anchored, and if
-/// addresses are deallocated.
+/// A disk stays well-formed if its addresses are mapped to whole blocks or anchored, if addresses
+/// are deallocated, and if it gets more addresses.
 pub fn disks_stay_well_formed()
     ensures { DisksStayWellFormed }
 {}

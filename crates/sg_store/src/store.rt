@@ -5,7 +5,7 @@ ghost use Rattle.std.specs.Prelude.{IfOk, OnOk, OnErr, IsErr};
 ghost use Rattle.std.specs.FinMap.{len};
 ghost use Rattle.sg_store.specs.Disk.{Contents, Disk, IsWellFormed, IsOverfull, empty_disk};
 ghost use Rattle.sg_store.specs.Disk.{blocks, disk_written, disk_filled, disk_unmapped, disk_anchored};
-ghost use Rattle.sg_store.specs.Disk.{data_count, need, used_among};
+ghost use Rattle.sg_store.specs.Disk.{data_count, disk_grown, need, used_among};
 ghost use Rattle.sg_wire.specs.Cut.{Puts};
 ghost use Rattle.sg_wire.specs.LbaStatus.{status_data};
 ghost use Rattle.sg_store.specs.LbaStatus.{lba_status, covered};
@@ -189,6 +189,13 @@ pub trait Store: Drop {
         ensures costs { let count = covered (lba_status (disk self.old) lba) in
             Charged (disk self.old).pool (price (disk self.old).contents lba count)
             (least (disk self.old).contents lba count) (meter self.old) (meter self.new) };
+
+    /// Gives the disk more addresses, which are neither mapped nor anchored (SBC-3, 4.5).
+    fn grow(&mut self, capacity: u64)
+        requires more { (disk self.old).capacity ≤ capacity }
+        requires fits { capacity ≤ MAX_CAPACITY }
+        ensures disk { disk self.new ≡ disk_grown (disk self.old) capacity }
+        ensures meter { meter self.new ≡ meter self.old };
 
     /// The number of addresses that are mapped to data. Anchored addresses are not counted.
     fn mapped(&self) -> u32

@@ -3,6 +3,7 @@ pub mod StepLemmas
 pub mod LiftLemmas
 pub mod SenseLemmas
 pub mod RunLemmas
+pub mod GrowthLemmas
 -- Parameter data.
 pub mod LengthLemmas
 pub mod ModeLemmas

@@ -5,22 +5,28 @@ use Rattle.sg_wire.specs.declared.command.out_action.OutAction.{OutAction}
 use Rattle.sg_pages.specs.ModeSelect.{changed_by}
 use Rattle.sg_units.specs.Attentions.{ArePending, Pending, without_oldest}
 use Rattle.sg_units.specs.Laws.{QueuesKeepTheirLimits, ReservationsStayConsistent}
-use Rattle.sg_units.specs.Raised.{raised_for_others}
+use Rattle.sg_units.specs.Raised.{Conditions, raised_for_all, raised_for_members, raised_for_others}
 use Rattle.sg_units.specs.ReserveOut.{Outcome, outcome, raised_by}
 use Rattle.sg_units.specs.Reservations.{IsConsistent}
 use Rattle.sg_wire.specs.declared.out_list.OutList.{OutList}
 use Rattle.sg_units.specs.declared.reservation_change.ReservationChange.{ReservationChange}
+use Rattle.sg_units.specs.declared.unit_attention.UnitAttention.{UnitAttention}
+use Rattle.sg_units.specs.declared.unit_attention.UnitAttention.TheVariants as attention
+use Rattle.sg_units.specs.declared.unit_attention.UnitAttention.TheVariants.{BusDeviceReset}
+use Rattle.sg_units.specs.declared.unit_attention.UnitAttention.TheVariants.{CapacityDataChanged}
 use Rattle.sg_units.specs.declared.unit_attention.UnitAttention.TheVariants.{ModeParametersChanged}
+use Rattle.sg_units.specs.declared.unit_attention.UnitAttention.TheVariants.{ScsiBusReset}
 use Rattle.sg_store.specs.Laws.{DisksStayWellFormed, RemappingTakesWhatIsNeeded}
 use Rattle.sg_store.specs.Laws.{UnmapsEachAddress, UnmapsEachBlock}
 use Rattle.sg_target.proofs.BlocksLemmas.{KeepsBlocks, keeps-blocks}
+use Rattle.sg_target.proofs.GrowthLemmas.{by-growth}
 use Rattle.sg_target.proofs.LiftLemmas.{outcome-by}
 use Rattle.sg_target.proofs.Space.{KeepsSpace, keeps-space}
 use Rattle.sg_target.specs.Checks.{checked_cdb, checked_effect}
 use Rattle.sg_target.specs.Effect.{Effect, returning_up_to}
 use Rattle.sg_target.specs.ModeCommands.{attentions_after, changing_modes, mode_parameters}
 use Rattle.sg_target.specs.ModeCommands.{selected_modes}
-use Rattle.sg_target.specs.Happenings.{after_happening}
+use Rattle.sg_target.specs.Happenings.{after_growth, after_happening, after_reset, with_raised}
 use Rattle.sg_target.specs.Refusal.{checked_next, or_refused, when_sound}
 use Rattle.sg_target.specs.ReservationCommands.{changing_reservations, out_refusal}
 use Rattle.sg_target.specs.ReservationCommands.{reservation_change}
@@ -28,7 +34,9 @@ use Rattle.sg_target.specs.Semantics.{effect_of}
 use Rattle.sg_target.specs.State.{IsWithinLimits, State}
 use Rattle.sg_target.specs.Step.{Step, outcome as step_outcome, refused, step}
 use Rattle.sg_target.specs.declared.happening.Happening.{Happening}
-use Rattle.sg_target.specs.declared.happening.Happening.TheVariants.{Power}
+use Rattle.sg_target.specs.declared.happening.Happening.TheVariants.{Power, LogicalUnitReset}
+use Rattle.sg_target.specs.declared.happening.Happening.TheVariants.{TargetReset, NexusLoss}
+use Rattle.sg_target.specs.declared.happening.Happening.TheVariants.{Establish, Grow}
 use Rattle.sg_target.specs.declared.operation.Operation.{Operation}
 use Rattle.sg_target.specs.declared.operation.Operation.TheVariants.{ReturnSense, ReturnModes}
 use Rattle.sg_target.specs.declared.operation.Operation.TheVariants.{ChangeModes, ChangeReservations}
@@ -132,6 +140,40 @@ module _ (reservations : ReservationsStayConsistent) (queues : QueuesKeepTheirLi
       (keeps-blocks disks state i cdb data_out h.blocks)
       (keeps-space law addresses zeros state i cdb data_out h.used)
 
+  raised-within : (state : State) (conditions : Conditions) → IsWithinLimits state
+      → IsWithinLimits (with_raised state conditions)
+  raised-within state conditions h = record {
+    used = h.used;
+    pending = queues.raised state.attentions conditions h.pending;
+    registered = h.registered;
+    blocks = h.blocks;
+  }
+
+  reset-within : (state : State) (condition : UnitAttention) → IsWithinLimits state
+      → IsWithinLimits (after_reset condition state)
+  reset-within state condition h =
+      let within = raised-within state (raised_for_all condition) h in
+      record {
+        used = within.used;
+        pending = within.pending;
+        registered = within.registered;
+        blocks = within.blocks;
+      }
+
+  growth-within : (state : State) (capacity : ℕ) → IsWithinLimits state
+      → IsWithinLimits (after_growth capacity state)
+  growth-within state capacity h =
+      by-growth IsWithinLimits capacity state
+      (λ more fits.
+      let within = raised-within state (raised_for_all CapacityDataChanged) h in
+      record {
+        used = within.used;
+        pending = within.pending;
+        registered = within.registered;
+        blocks =
+            disks.growing state.disk.capacity capacity state.disk.contents h.blocks more;
+      }) h
+
   pub happening-within : (happening : Happening) (state : State) → IsWithinLimits state
       → IsWithinLimits (after_happening happening state)
   happening-within Power state h = record {
@@ -140,3 +182,14 @@ module _ (reservations : ReservationsStayConsistent) (queues : QueuesKeepTheirLi
     registered = reservations.power_cycle state.reservations h.registered;
     blocks = h.blocks;
   }
+  happening-within LogicalUnitReset state h = reset-within state BusDeviceReset h
+  happening-within TargetReset state h = reset-within state ScsiBusReset h
+  happening-within (NexusLoss initiator) state h = record {
+    used = h.used;
+    pending = queues.one_raised state.attentions initiator attention.NexusLoss h.pending;
+    registered = h.registered;
+    blocks = h.blocks;
+  }
+  happening-within (Establish condition initiators) state h =
+      raised-within state (raised_for_members initiators condition) h
+  happening-within (Grow capacity) state h = growth-within state capacity h

@@ -1,14 +1,54 @@
 -- What happens to a disk between two commands. No initiator sends it, and it has no reply.
-use Rattle.std.specs.Prelude.{◌≡◌}
+use Rattle.std.specs.Prelude.{◌≡◌, ℕ, ◌&&◌, nat_le, nat_lt, if◌then◌else◌}
+use Rattle.sg_pages.specs.ModePowerOn.{after_power_on as saved_pages_current}
+use Rattle.sg_store.specs.Disk.{disk_grown, max_capacity}
+use Rattle.sg_units.specs.Attentions.{raised}
+use Rattle.sg_units.specs.Raised.{Conditions, raised_for_all, raised_for_each, raised_for_members}
+use Rattle.sg_units.specs.declared.unit_attention.UnitAttention.{UnitAttention}
+use Rattle.sg_units.specs.declared.unit_attention.UnitAttention.TheVariants as attention
 use Rattle.sg_target.specs.PowerCycle.{after_power_cycle}
 use Rattle.sg_target.specs.State.{IsWithinLimits, State}
 use Rattle.sg_target.specs.Target.{TargetFields}
 use Rattle.sg_target.specs.declared.happening.Happening.{Happening}
-use Rattle.sg_target.specs.declared.happening.Happening.TheVariants.{Power}
+use Rattle.sg_target.specs.declared.happening.Happening.TheVariants.{Power, LogicalUnitReset}
+use Rattle.sg_target.specs.declared.happening.Happening.TheVariants.{TargetReset, NexusLoss}
+use Rattle.sg_target.specs.declared.happening.Happening.TheVariants.{Establish, Grow}
+
+-- Unit attention conditions are established (SAM-5, 5.14).
+abbrev pub with_raised : State → Conditions → State
+with_raised state conditions =
+    record state { attentions = raised_for_each state.attentions conditions }
+
+-- A reset establishes its condition for each initiator, also for the one that asked for it. The saved
+-- mode pages become the current ones (SPC-4, 7.5). Blocks, registrations and reservation stay
+-- (SAM-5, 6.3).
+abbrev pub after_reset : UnitAttention → State → State
+after_reset condition state =
+    record (with_raised state (raised_for_all condition)) { modes = saved_pages_current state.modes }
+
+-- The disk has more addresses from then on, and tells each initiator (SBC-3, 4.5).
+abbrev pub grown : (capacity : ℕ) → State → State
+grown capacity state =
+    record (with_raised state (raised_for_all attention.CapacityDataChanged)) {
+      disk = disk_grown state.disk capacity;
+    }
+
+-- No disk gets fewer addresses, or more than the greatest capacity.
+abbrev pub after_growth : (capacity : ℕ) → State → State
+after_growth capacity state =
+    if nat_lt state.disk.capacity capacity && nat_le capacity max_capacity
+    then grown capacity state else state
 
 -- The state after a happening, from the state before it.
 abbrev pub after_happening : Happening → State → State
 after_happening Power state = after_power_cycle state
+after_happening LogicalUnitReset state = after_reset attention.BusDeviceReset state
+after_happening TargetReset state = after_reset attention.ScsiBusReset state
+after_happening (NexusLoss initiator) state =
+    record state { attentions = raised state.attentions initiator attention.NexusLoss }
+after_happening (Establish condition initiators) state =
+    with_raised state (raised_for_members initiators condition)
+after_happening (Grow capacity) state = after_growth capacity state
 
 -- It happens to a target. The counts of the target's store stay.
 pub record Happens (happening : Happening) (old new : TargetFields) : Type 0 where

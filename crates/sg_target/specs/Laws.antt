@@ -1,18 +1,20 @@
 -- Laws of the definitions: of one step, and of commands on a list of extents.
 use Rattle.std.specs.List.{list_any}
-use Rattle.std.specs.Prelude.{◌≡◌, ℕ, List, Bool, Some, Ok, if◌then◌else◌}
+use Rattle.std.specs.Prelude.{◌≡◌, ◌≤◌, ℕ, List, Bool, true, false, Some, Ok, if◌then◌else◌}
 use Rattle.sg_wire.specs.declared.extent.Extent.{Extent}
 use Rattle.sg_store.specs.Disk.{block, lies_in, zero_block}
 use Rattle.sg_store.specs.LbaStatus.{status_at}
 use Rattle.sg_wire.specs.declared.lba_status.ProvisioningStatus.{ProvisioningStatus}
 use Rattle.sg_wire.specs.declared.lba_status.ProvisioningStatus.TheVariants.{Deallocated, Anchored}
 use Rattle.sg_target.specs.Checks.{checked_effect}
+use Rattle.sg_target.specs.Config.{ConfigFields}
 use Rattle.sg_target.specs.Effect.{Effect}
 use Rattle.sg_target.specs.Happenings.{after_happening}
 use Rattle.sg_target.specs.ProvisioningCommands.{anchoring, unmapping}
 use Rattle.sg_target.specs.State.{IsWithinLimits, State, config_of}
 use Rattle.sg_target.specs.Step.{refusal_answer, sense_format, step}
 use Rattle.sg_target.specs.declared.happening.Happening.{Happening}
+use Rattle.sg_target.specs.declared.happening.Happening.TheVariants.{Grow, Power}
 use Rattle.sg_target.specs.declared.refusal.Refusal.{Refusal}
 
 -- A state within its limits stays within them after a command, and after a happening.
@@ -22,13 +24,39 @@ pub record LimitsAreKept : Type 0 where
   pub happening : (happening : Happening) (state : State) → IsWithinLimits state
       → IsWithinLimits (after_happening happening state)
 
--- No command and no happening changes the configuration of a disk: its number of blocks, its pool,
--- and its identity with its profile.
+abbrev pub is_growth : Happening → Bool
+is_growth (Grow capacity) = true
+is_growth _ = false
+
+abbrev pub is_power_cycle : Happening → Bool
+is_power_cycle Power = true
+is_power_cycle _ = false
+
+-- The disk has at least as many blocks. Its pool, and its identity with its profile, are the same.
+pub record HasGrown (before after : ConfigFields) : Type 0 where
+  pub blocks : before.blocks ≤ after.blocks
+  pub pool : after.pool ≡ before.pool
+  pub identity : after.identity ≡ before.identity
+
+-- No command, and no happening except a growth, changes the configuration of a disk: its number of
+-- blocks, its pool, and its identity with its profile.
 pub record ConfigurationStays : Type 0 where
   pub command : (state : State) (initiator : ℕ) (cdb data_out : List ℕ)
       → config_of (step state initiator cdb data_out).state ≡ config_of state
-  pub happening : (happening : Happening) (state : State)
+  pub happening : (happening : Happening) (state : State) → is_growth happening ≡ false
       → config_of (after_happening happening state) ≡ config_of state
+  pub growth : (happening : Happening) (state : State)
+      → HasGrown (config_of state) (config_of (after_happening happening state))
+
+-- No happening changes a block or a saved mode page. Only a power cycle changes registrations and
+-- reservation.
+pub record HappeningsLeaveTheRest : Type 0 where
+  pub blocks : (happening : Happening) (state : State)
+      → (after_happening happening state).disk.contents ≡ state.disk.contents
+  pub saved_pages : (happening : Happening) (state : State)
+      → (after_happening happening state).modes.saved ≡ state.modes.saved
+  pub reservations : (happening : Happening) (state : State) → is_power_cycle happening ≡ false
+      → (after_happening happening state).reservations ≡ state.reservations
 
 -- An operation that finds a refusal on its way changes nothing: the reply reports the refusal, and
 -- the state stays, with each unit attention that is pending.

@@ -72,7 +72,7 @@ impl<S: Store> Target<S> {
     }
 
     /// The profile of the disk.
-    fn profile(&self) -> Profile
+    pub fn profile(&self) -> Profile
         ensures { result ≡ profile_of self.now.state }
     {
         self.config.identity().profile()

@@ -4,7 +4,8 @@ ghost use Rattle.sg_target.specs.CommandLaws.{ReadsReturnTheirBlocks, UnmapsFoll
 ghost use Rattle.sg_target.specs.CommandLaws.{WriteSamesLeaveTheirBlock, WritesLeaveTheirData};
 ghost use Rattle.sg_target.specs.CommandLaws.{WritesOverUsedAddressesHaveSpace};
 ghost use Rattle.sg_target.specs.Laws.{AnchorsEachExtent, ConfigurationStays};
-ghost use Rattle.sg_target.specs.Laws.{FoundRefusalsChangeNothing, LimitsAreKept, UnmapsEachExtent};
+ghost use Rattle.sg_target.specs.Laws.{FoundRefusalsChangeNothing, HappeningsLeaveTheRest};
+ghost use Rattle.sg_target.specs.Laws.{LimitsAreKept, UnmapsEachExtent};
 
 /// No command and no happening takes a table of the disk past its limit.
 pub fn limits_are_kept()
@@ -18,10 +19,16 @@ pub fn limits_are_kept()
     sg_store::laws::remapping_takes_what_is_needed();
 }
 
-/// No command and no happening changes the number of blocks of a disk, its pool, or its identity. So
-/// a disk keeps its profile.
+/// No command, and no happening except a growth, changes the number of blocks of a disk, its pool, or
+/// its identity. A growth takes no block away. So a disk keeps its profile.
 pub fn the_configuration_stays()
     ensures { ConfigurationStays }
+{}
+
+/// No happening changes a block or a saved mode page. Only a power cycle changes registrations and
+/// reservation.
+pub fn happenings_leave_the_rest()
+    ensures { HappeningsLeaveTheRest }
 {}
 
 /// If an operation finds a refusal on its way, as a want of space, the command reports that refusal and

@@ -6,8 +6,8 @@ use crate::refusal::{Reason, Refusal};
 use crate::reply::{Reply, format_of};
 use crate::room::data_in_bound;
 use sg_pages::ModePages;
-use sg_store::{BLOCK_LENGTH, Counts, Store};
-use sg_units::{Attentions, Reservations};
+use sg_store::{BLOCK_LENGTH, Counts, MAX_CAPACITY, Store};
+use sg_units::{Attentions, Raised, Reservations, UnitAttention};
 use sg_wire::{Format, Initiator, MAXIMUM_TRANSFER_LENGTH};
 use std::alloc::{AllocError, Global};
 use std::marker::Model;
@@ -64,9 +64,10 @@ ghost use Rattle.sg_store.specs.Meter.{new_meter};
 ghost use Rattle.sg_target.specs.DataInBound.{longest_data_in};
 ghost use Rattle.sg_target.specs.Charge.{ChargesCommand, cost_bounds};
 ghost use Rattle.sg_target.specs.Execution.{IsExecuted};
-ghost use Rattle.sg_target.specs.Happenings.{Happens};
+ghost use Rattle.sg_target.specs.Happenings.{Happens, after_reset, with_raised};
 ghost use Rattle.sg_target.specs.MadeReplies.{refused_reply};
 ghost use Rattle.sg_target.specs.NewState.{new_state};
+ghost use Rattle.sg_target.specs.State.{IsWithinLimits};
 ghost use Rattle.sg_target.specs.Step.{after_refusal, sense_format};
 
 impl<S: Store> Target<S> {
@@ -125,6 +126,13 @@ impl<S: Store> Target<S> {
     {
         match happening {
             Happening::Power => self.power_cycle(),
+            Happening::LogicalUnitReset => self.reset(UnitAttention::BusDeviceReset),
+            Happening::TargetReset => self.reset(UnitAttention::ScsiBusReset),
+            Happening::NexusLoss(initiator) => self.lose_nexus(initiator),
+            Happening::Establish(condition, initiators) => {
+                self.raise(&Raised::for_members(&initiators, condition));
+            }
+            Happening::Grow(blocks) => self.grow(blocks),
         }
     }
 
@@ -139,6 +147,46 @@ impl<S: Store> Target<S> {
         self.modes.power_on();
         self.attentions.clear_to_power_on();
         self.reservations.power_on();
+    }
+
+    /// A reset, by the condition that it establishes for each initiator. The saved mode pages are
+    /// the current ones after it.
+    fn reset(&mut self, condition: UnitAttention)
+        ensures state { self.new.state ≡ after_reset condition self.old.state }
+        ensures meter { self.new.meter ≡ self.old.meter }
+        ensures limits { IsWithinLimits self.new.state }
+    {
+        self.raise(&Raised::for_all(condition));
+        self.modes.power_on();
+    }
+
+    fn lose_nexus(&mut self, initiator: Initiator)
+        ensures { Happens (Happening.NexusLoss initiator) self.old self.new }
+    {
+        let _ = self.store.used();
+        self.attentions.raise(initiator, UnitAttention::NexusLoss);
+    }
+
+    /// Establishes unit attention conditions.
+    fn raise(&mut self, raised: &Raised)
+        ensures state { self.new.state ≡ with_raised self.old.state raised.now }
+        ensures meter { self.new.meter ≡ self.old.meter }
+        ensures limits { IsWithinLimits self.new.state }
+    {
+        let _ = self.store.used();
+        self.attentions.raise_for_each(raised);
+    }
+
+    /// Gives the disk more logical blocks, and tells each initiator.
+    fn grow(&mut self, blocks: u64)
+        ensures { Happens (Happening.Grow blocks) self.old self.new }
+    {
+        let _ = self.store.used();
+        if self.config.blocks() < blocks && blocks <= MAX_CAPACITY {
+            self.config = self.config.grown(blocks);
+            self.store.grow(blocks);
+            self.raise(&Raised::for_all(UnitAttention::CapacityDataChanged));
+        }
     }
 
     /// The reply to a command that is refused. A unit attention that it reports is cleared.

@@ -13,7 +13,7 @@ use Rattle.std.proofs.lemmas.Bool.Decides.{nat_tests}
 use Rattle.arrayvec.specs.ArrayVec.{ArrayVec}
 use Rattle.sg_units.specs.Attentions.{AreDistinct, ArePending, AreQueues, IsNotAmong, IsQueue}
 use Rattle.sg_units.specs.Attentions.{Pending, covers, is_condition, is_covered, is_higher, is_pending}
-use Rattle.sg_units.specs.Attentions.{pending_for}
+use Rattle.sg_units.specs.Attentions.{pending_for, raised}
 use Rattle.sg_units.specs.Laws.{ReportsFirst}
 use Rattle.sg_units.specs.PowerOn.{power_on_pending}
 use Rattle.sg_units.specs.Attentions.{with_condition, with_optional, without_oldest, without_resets}
@@ -464,6 +464,14 @@ pub ArePending-cleared : (pending : Pending) (i : ℕ) → ArePending pending
 ArePending-cleared pending i h =
     ArePending-set pending i (drop 1 (pending_for pending i)) h
     (IsQueue-drop (pending_for pending i) (IsQueue-pending_for pending i h.queues))
+
+-- a condition is put to one queue
+pub ArePending-raised_one : (pending : Pending) (i : ℕ) (condition : UnitAttention)
+    → ArePending pending → ArePending (raised pending i condition)
+ArePending-raised_one pending i condition h =
+    ArePending-set pending i (with_condition (pending_for pending i) condition) h
+    (IsQueue-with_optional (pending_for pending i) (Some condition)
+    (IsQueue-pending_for pending i h.queues))
 
 -- one condition is put to each queue, if there is one
 pub ArePending-raised : (pending : Pending) (conditions : Conditions) → ArePending pending

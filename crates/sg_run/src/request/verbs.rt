@@ -5,18 +5,26 @@ ghost use Rattle.sg_run.specs.Limits.{longest_line};
 ghost use Rattle.sg_run.specs.Request.{by_verb, power_of, raw, show_of};
 ghost use Rattle.sg_run.specs.RequestLines.{line_request};
 
+use super::happening::by_happening_verb;
 use super::hex_word::read_hex;
 use super::words::{read_initiator, word_text};
 use super::{FilledBlocks, LineFault, Request};
 use sg_target::{Call, Happening};
 use sg_tools::Show;
+use sg_wire::Profile;
 
 /// The request of a verb. The buffer takes the bytes of its hexadecimal words.
-pub(super) fn by_verb<'a>(verb: &[u8], operands: &[&[u8]], buffer: &'a mut [u8]) -> Request<'a>
+pub(super) fn by_verb<'a>(
+    profile: Profile,
+    verb: &[u8],
+    operands: &[&[u8]],
+    buffer: &'a mut [u8],
+) -> Request<'a>
     requires operands { All (λ word. length word.now ≤ longest_line) operands.now }
     requires ascii { All (λ word. IsAscii word.now) operands.now }
     requires buffer { longest_line ≤ length buffer.old }
-    ensures { line_request result ≡ by_verb verb.now (map (λ word. word.now) operands.now) }
+    ensures { line_request result
+        ≡ by_verb profile verb.now (map (λ word. word.now) operands.now) }
 {
     if verb == b"raw".as_slice() {
         read_raw(operands, buffer)
@@ -27,7 +35,7 @@ pub(super) fn by_verb<'a>(verb: &[u8], operands: &[&[u8]], buffer: &'a mut [u8])
     } else if verb == b"power".as_slice() {
         read_power(operands)
     } else {
-        Request::Faulty(LineFault::UnknownVerb)
+        by_happening_verb(profile, verb, operands)
     }
 }
 

@@ -30,4 +30,4 @@ returns-in-None c =
     let kept = first_words c.args.text.now c.as_slice.result.now _ first (grind (arith, nat_tests))
     (grind (arith, nat_tests, none-first)) allowed (omega arith) in
     c.by_verb.ensures
-    ∙ request-by_verb c.args.text.now _ _ kept (sym c.read_initiator.ensures ∙ c.in-None.is)
+    ∙ request-by_verb c.args.profile c.args.text.now _ _ kept (sym c.read_initiator.ensures ∙ c.in-None.is)
