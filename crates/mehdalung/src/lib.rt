@@ -8,22 +8,24 @@ ghost use Rattle.std.specs.Prelude.{◌≡◌, ◌≢◌, None, Some, IfOk, Matc
 ghost use Rattle.sg_pages.specs.NewIdentity.{standard_identity};
 ghost use Rattle.sg_tools.specs.ExitStatus.{exit_status};
 ghost use Rattle.sg_wire.specs.SenseReading.{read_sense};
-ghost use Rattle.sg_embed.specs.Executed.{IsAnswered, IsForgotten, IsPowerCycled, disk_config};
+ghost use Rattle.sg_embed.specs.Executed.{HasUndergone, IsAnswered, IsForgotten, disk_config};
 ghost use Rattle.sg_embed.specs.Executed.{new_disk, registrants};
-ghost use Rattle.sg_embed.specs.Outcome.{IsCodeUnlessOutOfMemory, execute_outcome};
+ghost use Rattle.sg_embed.specs.Happening.{asked_happening};
+ghost use Rattle.sg_embed.specs.Outcome.{IsCodeUnlessOutOfMemory, execute_outcome, happen_outcome};
 ghost use Rattle.sg_embed.specs.Outcome.{forget_outcome, make_as_outcome, make_outcome};
 ghost use Rattle.sg_embed.specs.Outcome.{make_with_outcome, outcome_code};
-ghost use Rattle.sg_embed.specs.Outcome.{plan_outcome, power_cycle_outcome};
+ghost use Rattle.sg_embed.specs.Outcome.{plan_outcome};
 ghost use Rattle.sg_embed.specs.Planned.{IsPlanned};
 ghost use Rattle.sg_embed.specs.Profiles.{identity_with_profile};
 ghost use Rattle.sg_embed.specs.Records.{asked_identity, sense_record};
 ghost use Rattle.sg_embed.specs.Text.{IsDecoded, text_in, version_text};
 
 use sg_embed::{
-    CommandRecord, IdentityRecord, Outcome, ReplyRecord, SenseRecord, Slot, copy_version, decode,
-    identity_with_profile, plan_tool,
+    CommandRecord, HappeningRecord, IdentityRecord, Outcome, ReplyRecord, SenseRecord, Slot,
+    copy_version, decode, identity_with_profile, plan_tool,
 };
 use sg_pages::Identity;
+use sg_target::Happening;
 use sg_tools::status_of;
 use std::alloc::Global;
 
@@ -162,11 +164,26 @@ pub extern "C" fn mehdalung_execute(
 /// Takes the power of a disk away, and gives it back.
 #[unsafe(no_mangle)]
 pub extern "C" fn mehdalung_power_cycle(disk: &mut Slot) -> u32
-    ensures outcome { result ≡ outcome_code (power_cycle_outcome disk.old.held) }
-    ensures cycled { result ≡ 0 → IsPowerCycled disk.old.held disk.new.held }
+    ensures outcome { result ≡ outcome_code (happen_outcome disk.old.held (Ok Happening.Power)) }
+    ensures cycled { result ≡ 0 → HasUndergone Happening.Power disk.old.held disk.new.held }
     ensures refused { result ≢ 0 → disk.new.held ≡ disk.old.held }
 {
-    disk.power_cycle().code()
+    disk.happen(Happening::Power).code()
+}
+
+/// Lets something happen to a disk.
+#[unsafe(no_mangle)]
+pub extern "C" fn mehdalung_happen(disk: &mut Slot, happening: &HappeningRecord) -> u32
+    ensures outcome { result
+        ≡ outcome_code (happen_outcome disk.old.held (asked_happening happening.now)) }
+    ensures happened { result ≡ 0 → IfOk (asked_happening happening.now)
+        (λ asked. HasUndergone asked disk.old.held disk.new.held) }
+    ensures refused { result ≢ 0 → disk.new.held ≡ disk.old.held }
+{
+    match happening.read() {
+        Ok(asked) => disk.happen(asked).code(),
+        Err(outcome) => outcome.code(),
+    }
 }
 
 /// A mask of the initiators that are registered. The mask stays as it was if there is no disk.

@@ -8,7 +8,8 @@ use Rattle.sg_target.specs.NewState.{new_state}
 use Rattle.sg_target.specs.declared.reply.Reply.{Reply}
 use Rattle.sg_embed.specs.declared.kept.Kept.{Kept}
 use Rattle.sg_embed.specs.Records.{Shows}
-use Rattle.sg_embed.specs.Served.{target_of, served_in, CyclesPower, Executes, ForgetsPort}
+use Rattle.sg_embed.specs.Served.{target_of, served_in, Executes, ForgetsPort, Undergoes}
+use Rattle.sg_target.specs.declared.happening.Happening.{Happening}
 use Rattle.sg_embed.specs.declared.served.Served.{Served}
 use Rattle.sg_embed.specs.declared.record.ReplyRecord.{ReplyRecord}
 
@@ -35,9 +36,9 @@ pub record HappensToDisk (event : (old new : Served) → Type 0) (old new : Opti
     pub is : new ≡ Some left
     pub happened : event disk.target left.target
 
--- The disk has lost power, and power is on again.
-abbrev pub IsPowerCycled : (old new : Option Kept) → Type 0
-IsPowerCycled = HappensToDisk CyclesPower
+-- The disk is as what happened leaves it.
+abbrev pub HasUndergone : Happening → (old new : Option Kept) → Type 0
+HasUndergone happening = HappensToDisk (Undergoes happening)
 
 -- The disk has forgotten an initiator's port.
 abbrev pub IsForgotten : (initiator : ℕ) → (old new : Option Kept) → Type 0

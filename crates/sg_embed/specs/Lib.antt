@@ -2,6 +2,7 @@
 pub mod Holds
 pub mod Outcome
 pub mod Profiles
+pub mod Happening
 pub mod Served
 pub mod Executed
 pub mod Records

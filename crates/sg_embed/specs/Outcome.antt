@@ -6,6 +6,7 @@ use Rattle.sg_pages.specs.declared.identity.IdentityFault.TheVariants.{Text, Loc
 use Rattle.sg_wire.specs.Initiator.{initiator_count}
 use Rattle.sg_target.specs.Config.{ConfigFields, checked_config}
 use Rattle.sg_target.specs.DataInBound.{needed_buffer}
+use Rattle.sg_target.specs.declared.happening.Happening.{Happening}
 use Rattle.sg_target.specs.declared.config.ConfigFault.{ConfigFault}
 use Rattle.sg_target.specs.declared.config.ConfigFault.TheVariants.{Blocks, Pool}
 use Rattle.sg_tools.specs.ParameterLists.{max_data_out}
@@ -26,7 +27,8 @@ use Rattle.sg_embed.specs.declared.outcome.Outcome.TheVariants.{IdentityText, Id
 use Rattle.sg_embed.specs.declared.outcome.Outcome.TheVariants.{UnknownInitiator, BufferTooShort, Unreadable}
 use Rattle.sg_embed.specs.declared.outcome.Outcome.TheVariants.{BadByte, TooManyWords, UnknownTool}
 use Rattle.sg_embed.specs.declared.outcome.Outcome.TheVariants.{Usage, Exclusive, Number}
-use Rattle.sg_embed.specs.declared.outcome.Outcome.TheVariants.{UnknownProfile}
+use Rattle.sg_embed.specs.declared.outcome.Outcome.TheVariants.{UnknownProfile, UnknownHappening}
+use Rattle.sg_embed.specs.declared.outcome.Outcome.TheVariants.{UnknownCondition}
 
 -- The numbers of the header. Number 10 is MDL_NULL_POINTER: the functions that test C's pointers
 -- return it before any call that is defined here.
@@ -49,6 +51,8 @@ outcome_code Usage = 15
 outcome_code Exclusive = 16
 outcome_code Number = 17
 outcome_code UnknownProfile = 18
+outcome_code UnknownHappening = 19
+outcome_code UnknownCondition = 20
 
 -- A call asks for memory before it ends with this outcome.
 abbrev pub has_asked : Outcome → Bool
@@ -110,8 +114,10 @@ abbrev pub forget_outcome : Option Kept → (initiator : ℕ) → Outcome
 forget_outcome held initiator =
     if not (nat_lt initiator initiator_count) then UnknownInitiator else disk_outcome held
 
-abbrev pub power_cycle_outcome : Option Kept → Outcome
-power_cycle_outcome = disk_outcome
+-- The outcome of what happens to a disk. What is asked for is checked first.
+abbrev pub happen_outcome : Option Kept → Result Happening Outcome → Outcome
+happen_outcome held (Ok happening) = disk_outcome held
+happen_outcome held (Err outcome) = outcome
 
 -- The outcome of making a disk with an identity, which is checked first.
 abbrev pub make_as_outcome : Option Kept → (blocks pool : ℕ) → Result IdentityFields IdentityFault → Outcome

@@ -10,7 +10,7 @@ use Rattle.sg_target.specs.Execution.{IsExecuted}
 use Rattle.sg_target.specs.Happenings.{Happens}
 use Rattle.sg_target.specs.Ports.{Forgets}
 use Rattle.sg_target.specs.Target.{TargetFields}
-use Rattle.sg_target.specs.declared.happening.Happening.TheVariants.{Power}
+use Rattle.sg_target.specs.declared.happening.Happening.{Happening}
 use Rattle.sg_target.specs.declared.reply.Reply.{Reply}
 use Rattle.sg_embed.specs.declared.served.Served.{Served}
 use Rattle.sg_embed.specs.declared.served.Served.TheVariants.{Runs, Extents}
@@ -35,8 +35,8 @@ pub record StaysServed (event : (old new : TargetFields) → Type 0) (old new : 
   pub store : bounds_of new ≡ bounds_of old
   pub happened : event (target_of old) (target_of new)
 
-abbrev pub CyclesPower : (old new : Served) → Type 0
-CyclesPower = StaysServed (Happens Power)
+abbrev pub Undergoes : Happening → (old new : Served) → Type 0
+Undergoes happening = StaysServed (Happens happening)
 
 abbrev pub ForgetsPort : (initiator : ℕ) → (old new : Served) → Type 0
 ForgetsPort initiator = StaysServed (Forgets initiator)

@@ -4,6 +4,7 @@ use Rattle.std.specs.Prelude.{List, ◌++◌}
 use mir.Mem.{Cell}
 use Rattle.sg_embed.specs.InMemory.{number, bytes, flag, padding}
 use Rattle.sg_embed.specs.declared.command.CommandRecord.{CommandRecord}
+use Rattle.sg_embed.specs.declared.happening.HappeningRecord.{HappeningRecord}
 use Rattle.sg_embed.specs.declared.record.IdentityRecord.{IdentityRecord}
 use Rattle.sg_embed.specs.declared.record.ReplyRecord.{ReplyRecord}
 use Rattle.sg_embed.specs.declared.record.SenseRecord.{SenseRecord}
@@ -46,3 +47,13 @@ mdl_command command =
     ++ padding 3
     ++ number 4 command.kind
     ++ number 8 command.data_out_length
+
+abbrev pub mdl_happening : HappeningRecord → List Cell
+mdl_happening happening =
+    number 4 happening.kind
+    ++ number 4 happening.initiator
+    ++ number 8 happening.initiators
+    ++ number 8 happening.blocks
+    ++ number 1 happening.asc
+    ++ number 1 happening.ascq
+    ++ padding 6

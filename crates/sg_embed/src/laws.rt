@@ -1,7 +1,9 @@
 //! The layout of C's records in memory. Each law is the contract of a function that does nothing.
 ghost use Rattle.sg_embed.specs.InMemory.{LiesAs};
-ghost use Rattle.sg_embed.specs.Structs.{mdl_command, mdl_identity, mdl_reply, mdl_sense};
+ghost use Rattle.sg_embed.specs.Structs.{mdl_command, mdl_happening, mdl_identity, mdl_reply};
+ghost use Rattle.sg_embed.specs.Structs.{mdl_sense};
 ghost use Rattle.sg_embed.specs.contracts.command.CommandRecord.{the_row as command_record};
+ghost use Rattle.sg_embed.specs.contracts.happening.HappeningRecord.{the_row as happening_record};
 ghost use Rattle.sg_embed.specs.contracts.record.IdentityRecord.{the_row as identity_record};
 ghost use Rattle.sg_embed.specs.contracts.record.ReplyRecord.{the_row as reply_record};
 ghost use Rattle.sg_embed.specs.contracts.record.SenseRecord.{the_row as sense_record};
@@ -25,4 +27,10 @@ pub fn sense_fields_lie_as_in_the_header()
 /// A [`CommandRecord`](crate::CommandRecord) lies in memory as the header declares `mdl_command`.
 pub fn a_command_lies_as_in_the_header()
     ensures bytes { LiesAs command_record 32 mdl_command }
+{}
+
+/// A [`HappeningRecord`](crate::HappeningRecord) lies in memory as the header declares
+/// `mdl_happening`.
+pub fn a_happening_lies_as_in_the_header()
+    ensures bytes { LiesAs happening_record 32 mdl_happening }
 {}

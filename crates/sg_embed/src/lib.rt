@@ -3,6 +3,7 @@
 
 mod answer;
 mod command;
+mod happening;
 mod kept;
 mod kinds;
 pub mod laws;
@@ -16,6 +17,7 @@ mod text;
 
 pub use answer::{NO_TEXT, decode};
 pub use command::{CommandRecord, plan_tool};
+pub use happening::HappeningRecord;
 pub use kept::Kept;
 pub use outcome::Outcome;
 pub use profiles::identity_with_profile;

@@ -44,6 +44,10 @@ pub enum Outcome {
     Number = 17,
     /// No profile has the number.
     UnknownProfile = 18,
+    /// Nothing that happens to a disk has the number.
+    UnknownHappening = 19,
+    /// No unit attention condition has the code.
+    UnknownCondition = 20,
 }
 
 ghost use Rattle.std.specs.Prelude.{◌≡◌};

@@ -3,11 +3,11 @@ ghost use Rattle.std.specs.Prelude.{◌≡◌, ◌≤◌, is_some, length, nat_l
 ghost use Rattle.sg_units.specs.Registrations.{registered_mask};
 ghost use Rattle.sg_target.specs.DataInBound.{longest_data_in, needed_buffer};
 ghost use Rattle.sg_embed.specs.Executed.{new_target};
-ghost use Rattle.sg_embed.specs.Served.{target_of, CyclesPower, Executes, ForgetsPort};
+ghost use Rattle.sg_embed.specs.Served.{target_of, Executes, ForgetsPort, Undergoes};
 
 use sg_block_map::BlockMap;
 use sg_extent_map::ExtentMap;
-use sg_target::{Config, Reply, Target};
+use sg_target::{Config, Happening, Reply, Target};
 use sg_wire::{Initiator, Profile};
 use std::alloc::{AllocError, Global};
 
@@ -62,13 +62,13 @@ impl Served {
         }
     }
 
-    /// A power cycle.
-    pub(crate) fn power_cycle(&mut self)
-        ensures { CyclesPower self.old self.new }
+    /// Lets something happen to the disk.
+    pub(crate) fn happen(&mut self, happening: Happening)
+        ensures { Undergoes happening self.old self.new }
     {
         match self {
-            Served::Runs(target) => target.power_cycle(),
-            Served::Extents(target) => target.power_cycle(),
+            Served::Runs(target) => target.happen(happening),
+            Served::Extents(target) => target.happen(happening),
         }
     }
 

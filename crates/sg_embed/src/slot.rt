@@ -10,7 +10,7 @@ use crate::outcome::Outcome;
 use crate::parts::Parts;
 use crate::record::ReplyRecord;
 use sg_pages::Identity;
-use sg_target::Config;
+use sg_target::{Config, Happening};
 use sg_wire::Initiator;
 use std::alloc::Global;
 use std::marker::Model;
@@ -109,11 +109,11 @@ impl Drop for Slot {
 }
 
 impl Slot {
-    ghost use Rattle.std.specs.Prelude.{◌≢◌, ◌≡◌, length};
-    ghost use Rattle.sg_embed.specs.Executed.{IsAnswered, IsForgotten, IsPowerCycled};
+    ghost use Rattle.std.specs.Prelude.{◌≢◌, ◌≡◌, length, Ok};
+    ghost use Rattle.sg_embed.specs.Executed.{HasUndergone, IsAnswered, IsForgotten};
     ghost use Rattle.sg_embed.specs.Executed.{disk_config, new_disk, registrants};
     ghost use Rattle.sg_embed.specs.Outcome.{IsUnlessOutOfMemory, execute_outcome, forget_outcome};
-    ghost use Rattle.sg_embed.specs.Outcome.{make_outcome, power_cycle_outcome};
+    ghost use Rattle.sg_embed.specs.Outcome.{happen_outcome, make_outcome};
 
     /// Makes a disk as it is after power on, with `blocks` logical blocks. At most `pool` of them
     /// can be mapped at once. All memory is taken here. The disk stays as it was if the call
@@ -180,16 +180,18 @@ impl Slot {
         Outcome::Done
     }
 
-    /// A power cycle. The disk stays as it was if the call returns another outcome than `Done`.
-    pub fn power_cycle(&mut self) -> Outcome
-        ensures outcome { result ≡ power_cycle_outcome self.old.held }
-        ensures cycled { result ≡ Outcome.Done → IsPowerCycled self.old.held self.new.held }
+    /// Lets something happen to the disk. The disk stays as it was if the call returns another
+    /// outcome than `Done`.
+    pub fn happen(&mut self, happening: Happening) -> Outcome
+        ensures outcome { result ≡ happen_outcome self.old.held (Ok happening) }
+        ensures happened { result ≡ Outcome.Done
+            → HasUndergone happening self.old.held self.new.held }
         ensures refused { result ≢ Outcome.Done → self.new.held ≡ self.old.held }
     {
         let Some(kept) = self.kept() else {
             return Outcome::NoDisk;
         };
-        kept.target.power_cycle();
+        kept.target.happen(happening);
         Outcome::Done
     }
 
@@ -237,7 +239,7 @@ ghost use Rattle.std.specs.Option.{SomeIff};
 ghost use Rattle.sg_wire.specs.Initiator.{initiator_count};
 
 /// The initiator with a number, if it has one.
-fn known_initiator(number: u32) -> Option<Initiator>
+pub(crate) fn known_initiator(number: u32) -> Option<Initiator>
     ensures { SomeIff result (number < initiator_count) number }
 {
     if (number as usize) < Initiator::COUNT {

@@ -87,7 +87,7 @@ fn execute_request<W: Write, S: Store>(
         Request::Send(call) => send(number, call, Show::Hex, buffer, target, out),
         Request::Fill(blocks) => fill_blocks(number, blocks, data_out, buffer, target, out),
         Request::Show(show, bytes) => put_shown(number, *show, bytes, buffer, out),
-        Request::Happen(happening) => happen(number, *happening, target, out),
+        Request::Happen(happening) => happen(number, happening, target, out),
         Request::Tool(line) => run_tool(context, line, data_out, buffer, target, out),
     }
 }
@@ -124,21 +124,21 @@ fn put_shown<W: Write>(
 /// Lets something happen to the disk, and returns the exit status.
 fn happen<W: Write, S: Store>(
     number: u64,
-    happening: Happening,
+    happening: &Happening,
     target: &mut Target<S>,
     out: &mut Printer<'_, W>,
 ) -> u8
     ensures { HasOutcome W.contents out.old out.new target.new.state result
-        (happening_outcome number target.old.state happening) }
+        (happening_outcome number target.old.state happening.now) }
 {
-    target.happen(happening);
+    target.happen(*happening);
     put_line_header(number, happening_name(happening), out);
     0
 }
 
 /// The name of a happening in a transcript.
-fn happening_name(happening: Happening) -> &'static [u8]
-    ensures { result.now ≡ happening_name happening }
+fn happening_name(happening: &Happening) -> &'static [u8]
+    ensures { result.now ≡ happening_name happening.now }
 {
     match happening {
         Happening::Power => b"POWER",

@@ -156,8 +156,8 @@ impl<S: Store> Target<S> {
         ensures meter { self.new.meter ≡ self.old.meter }
         ensures limits { IsWithinLimits self.new.state }
     {
-        self.raise(&Raised::for_all(condition));
         self.modes.power_on();
+        self.raise(&Raised::for_all(condition));
     }
 
     fn lose_nexus(&mut self, initiator: Initiator)

@@ -1,6 +1,6 @@
 -- Unit attention conditions (SAM-5, 5.14).
 use Rattle.std.specs.Prelude.{ℕ, ◌+◌, ◌*◌, List, [], ◌∷◌, length}
-use Rattle.std.specs.Prelude.{Bool, is_some, Option, Some, None}
+use Rattle.std.specs.Prelude.{Bool, ◌&&◌, ◌==◌, find, is_some, Option, Some, None}
 use Rattle.sg_units.specs.declared.unit_attention.UnitAttention.{UnitAttention}
 use Rattle.sg_units.specs.declared.unit_attention.UnitAttention.TheVariants.{MediumMayHaveChanged}
 use Rattle.sg_units.specs.declared.unit_attention.UnitAttention.TheVariants.{PowerOn, ScsiBusReset}
@@ -60,6 +60,13 @@ code_of SoftThresholdReached = (0x38, 0x07)
 code_of MicrocodeChanged = (0x3F, 0x01)
 code_of InquiryDataChanged = (0x3F, 0x03)
 code_of ReportedLunsDataChanged = (0x3F, 0x0E)
+
+-- The condition with an additional sense code and qualifier, if there is one.
+abbrev pub has_code : (asc ascq : ℕ) → UnitAttention → Bool
+has_code asc ascq condition = (code_of condition).0 == asc && (code_of condition).1 == ascq
+
+abbrev pub condition_with : (asc ascq : ℕ) → Option UnitAttention
+condition_with asc ascq = find (has_code asc ascq) each_condition
 
 -- Both as one number, big-endian. Conditions are compared by this number.
 abbrev pub number_of : UnitAttention → ℕ

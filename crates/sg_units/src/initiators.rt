@@ -20,7 +20,8 @@ impl Model for Initiators {
 
 ghost use Rattle.std.specs.Prelude.{◌≡◌, ◌<◌};
 ghost use Rattle.sg_wire.specs.Initiator.{initiator_count};
-ghost use Rattle.sg_units.specs.Initiators.{all_initiators, is_member, no_initiators, with_member};
+ghost use Rattle.sg_units.specs.Initiators.{all_initiators, is_in_mask, is_member, members_of_mask};
+ghost use Rattle.sg_units.specs.Initiators.{no_initiators, with_member};
 
 impl Initiators {
     /// No initiator.
@@ -39,6 +40,21 @@ impl Initiators {
         Initiators {
             members: [true; Initiator::COUNT],
         }
+    }
+
+    /// The initiators of a mask, in which bit i stands for initiator i. None if another bit is set.
+    #[tactic(auto, unfolding(crate::specs::Initiators::named_in_mask))]
+    pub fn of_mask(mask: u64) -> Option<Initiators>
+        ensures { result ≡ members_of_mask mask }
+    {
+        if mask >> Initiator::COUNT != 0 {
+            return None;
+        }
+        let mut members = [false; Initiator::COUNT];
+        for number in 0..Initiator::COUNT {
+            members[number] = is_in_mask(mask, number);
+        }
+        Some(Initiators { members })
     }
 
     /// These initiators, and another one.
@@ -63,4 +79,12 @@ impl Initiators {
     {
         self.members[number]
     }
+}
+
+/// Bit i of a mask is set.
+fn is_in_mask(mask: u64, i: usize) -> bool
+    requires { i < initiator_count }
+    ensures { result ≡ is_in_mask mask i }
+{
+    (mask >> i) % 2 == 1
 }

@@ -1,5 +1,5 @@
 ghost use Rattle.std.specs.Prelude.{◌≡◌};
-ghost use Rattle.sg_units.specs.UnitAttention.{code_of, is_reset, reset_precedence};
+ghost use Rattle.sg_units.specs.UnitAttention.{code_of, condition_with, is_reset, reset_precedence};
 
 /// A unit attention condition that the disk establishes (SAM-5, 5.14), by its additional sense
 /// code.
@@ -43,6 +43,34 @@ pub enum UnitAttention {
 impl UnitAttention {
     /// The number of conditions.
     pub const COUNT: usize = 16;
+
+    /// Each condition once.
+    const ALL: [UnitAttention; UnitAttention::COUNT] = [
+        UnitAttention::MediumMayHaveChanged,
+        UnitAttention::PowerOn,
+        UnitAttention::ScsiBusReset,
+        UnitAttention::BusDeviceReset,
+        UnitAttention::DeviceInternalReset,
+        UnitAttention::NexusLoss,
+        UnitAttention::ModeParametersChanged,
+        UnitAttention::ReservationsPreempted,
+        UnitAttention::ReservationsReleased,
+        UnitAttention::RegistrationsPreempted,
+        UnitAttention::AsymmetricAccessStateChanged,
+        UnitAttention::CapacityDataChanged,
+        UnitAttention::SoftThresholdReached,
+        UnitAttention::MicrocodeChanged,
+        UnitAttention::InquiryDataChanged,
+        UnitAttention::ReportedLunsDataChanged,
+    ];
+
+    /// The condition with an additional sense code and additional sense code qualifier, if there is
+    /// one.
+    pub fn with_code(asc: u8, ascq: u8) -> Option<UnitAttention>
+        ensures { result ≡ condition_with asc ascq }
+    {
+        UnitAttention::ALL.iter().copied().find(|condition| condition.code() == (asc, ascq))
+    }
 
     /// Its additional sense code and additional sense code qualifier.
     pub fn code(self) -> (u8, u8)

@@ -1,11 +1,12 @@
 // What happens to an extended disk, by a verb of a script (docs/SCRIPT.md).
-ghost use Rattle.std.specs.Prelude.{◌≡◌, map};
+ghost use Rattle.std.specs.Prelude.{◌≡◌, All, map};
+ghost use Rattle.std.specs.Str.{IsAscii};
 ghost use Rattle.sg_run.specs.HappeningVerbs.{attention_of, condition_named, condition_words};
 ghost use Rattle.sg_run.specs.HappeningVerbs.{grow_of, nexus_of, reset_of};
 ghost use Rattle.sg_run.specs.Request.{by_happening_verb};
 ghost use Rattle.sg_run.specs.RequestLines.{line_request};
 
-use super::words::read_initiator;
+use super::words::{read_initiator, word_text};
 use super::{LineFault, Request};
 use sg_store::MAX_CAPACITY;
 use sg_target::Happening;
@@ -19,6 +20,7 @@ pub(super) fn by_happening_verb<'a>(
     verb: &[u8],
     operands: &[&[u8]],
 ) -> Request<'a>
+    requires { All (λ word. IsAscii word.now) operands.now }
     ensures { line_request result
         ≡ by_happening_verb profile verb.now (map (λ word. word.now) operands.now) }
 {
@@ -75,6 +77,7 @@ fn read_grow(operands: &[&[u8]]) -> Option<Happening>
 
 /// `attention CODE [I]`: a unit attention condition is established for each initiator, or for one.
 fn read_attention(operands: &[&[u8]]) -> Option<Happening>
+    requires { All (λ word. IsAscii word.now) operands.now }
     ensures { result ≡ attention_of (map (λ word. word.now) operands.now) }
 {
     match operands {
@@ -94,25 +97,26 @@ fn read_attention(operands: &[&[u8]]) -> Option<Happening>
 
 /// The condition whose additional sense code is a word, as a transcript prints it.
 fn condition_named(code: &[u8]) -> Option<UnitAttention>
+    requires { IsAscii code.now }
     ensures { result ≡ condition_named condition_words code.now }
 {
-    Some(match code {
-        b"28h/00h" => UnitAttention::MediumMayHaveChanged,
-        b"29h/00h" => UnitAttention::PowerOn,
-        b"29h/02h" => UnitAttention::ScsiBusReset,
-        b"29h/03h" => UnitAttention::BusDeviceReset,
-        b"29h/04h" => UnitAttention::DeviceInternalReset,
-        b"29h/07h" => UnitAttention::NexusLoss,
-        b"2Ah/01h" => UnitAttention::ModeParametersChanged,
-        b"2Ah/03h" => UnitAttention::ReservationsPreempted,
-        b"2Ah/04h" => UnitAttention::ReservationsReleased,
-        b"2Ah/05h" => UnitAttention::RegistrationsPreempted,
-        b"2Ah/06h" => UnitAttention::AsymmetricAccessStateChanged,
-        b"2Ah/09h" => UnitAttention::CapacityDataChanged,
-        b"38h/07h" => UnitAttention::SoftThresholdReached,
-        b"3Fh/01h" => UnitAttention::MicrocodeChanged,
-        b"3Fh/03h" => UnitAttention::InquiryDataChanged,
-        b"3Fh/0Eh" => UnitAttention::ReportedLunsDataChanged,
+    Some(match word_text(code) {
+        "28h/00h" => UnitAttention::MediumMayHaveChanged,
+        "29h/00h" => UnitAttention::PowerOn,
+        "29h/02h" => UnitAttention::ScsiBusReset,
+        "29h/03h" => UnitAttention::BusDeviceReset,
+        "29h/04h" => UnitAttention::DeviceInternalReset,
+        "29h/07h" => UnitAttention::NexusLoss,
+        "2Ah/01h" => UnitAttention::ModeParametersChanged,
+        "2Ah/03h" => UnitAttention::ReservationsPreempted,
+        "2Ah/04h" => UnitAttention::ReservationsReleased,
+        "2Ah/05h" => UnitAttention::RegistrationsPreempted,
+        "2Ah/06h" => UnitAttention::AsymmetricAccessStateChanged,
+        "2Ah/09h" => UnitAttention::CapacityDataChanged,
+        "38h/07h" => UnitAttention::SoftThresholdReached,
+        "3Fh/01h" => UnitAttention::MicrocodeChanged,
+        "3Fh/03h" => UnitAttention::InquiryDataChanged,
+        "3Fh/0Eh" => UnitAttention::ReportedLunsDataChanged,
         _ => return None,
     })
 }
