@@ -1,8 +1,9 @@
 //! `blockbench STORE ORDER POOL BLOCKS COMMANDS`: block commands on a disk whose pool is full.
 //! `bench/blocks` makes its tables.
 //!
-//! The store is `runs`, a `BlockMap`, or `extents`, an `ExtentMap`. A disk of the extended profile
-//! with a pool of POOL blocks gets as many mapped blocks, in an order:
+//! The store is `runs`, a `BlockMap`, whose pool has at most 65,536 blocks, or `extents`, an
+//! `ExtentMap`. A disk of the extended profile with a pool of POOL blocks gets as many mapped blocks,
+//! in an order:
 //!
 //! - `sparse`: in runs of BLOCKS blocks, with an address that is not mapped after each run. There
 //!   is one WRITE for each run.

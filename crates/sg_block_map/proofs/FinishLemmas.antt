@@ -8,8 +8,8 @@ use Rattle.std.specs.Prelude.{unwrap_or, option_to_list, IfSome}
 use Rattle.sg_store.specs.Disk.{Contents, Mapping, used_among, remapped}
 use Rattle.sg_table.specs.Records.{run_at, same_kind}
 use Rattle.sg_pool.specs.MappedRecords.{mapping_in, contents_of}
-use Rattle.sg_store.specs.Disk.{used_at, max_capacity, max_pool}
-use Rattle.sg_pool.specs.Slots.{Slots}
+use Rattle.sg_store.specs.Disk.{used_at, max_capacity}
+use Rattle.sg_pool.specs.Slots.{max_slots, Slots}
 use Rattle.sg_table.specs.Records.{slots_of}
 use Rattle.sg_pool.specs.MappedRecords.{IsConsistent}
 use Rattle.sg_table.specs.declared.run.Kind.{Kind}
@@ -39,7 +39,7 @@ use Rattle.sg_block_map.proofs.ExpandedLemmas.{length-singles, chained-append, c
 use Rattle.sg_block_map.proofs.ExpandedLemmas.{chained-right, slots-both}
 use Rattle.sg_block_map.proofs.JoinLemmas.{join-expanded, join-writing, length-linked}
 use Rattle.sg_block_map.proofs.WalkLemmas.{walk_from-parts, walk_from-chained, walk_from-maximal}
-use Rattle.sg_block_map.proofs.WriteLemmas.{skip-maximal, parted, before-between}
+use Rattle.sg_block_map.proofs.WriteLemmas.{skip-maximal, parted, before-between, slot-there}
 
 -- a run without an address has none
 pub no_run-expanded : (next : List ℕ) (lba : ℕ) (kind : Kind) (runs : List Run)
@@ -487,9 +487,17 @@ one-fits before after runs done (Some found) at lba slots w free =
     let some : 0 < found.count = w.after.1 in
     omega arith
 
+pub ahead-below : (before after runs : List Run) (done : Run) (run : Option Run) (at lba : ℕ)
+    (slots : Slots) → IsWriting before done (ahead_of runs run at ++ after) slots lba
+    → IfSome run (λ (found : Run). found.first < length slots.next)
+ahead-below before after runs done None at lba slots w = tt
+ahead-below before after runs done (Some found) at lba slots w =
+    let low = slot-there before done found (drop at runs ++ after) slots lba w in
+    omega (arith, low, w.consistent.pool)
+
 pub ahead-fits : (before after runs : List Run) (done : Run) (run : Option Run) (at lba : ℕ)
     (slots : Slots) → IsWriting before done (ahead_of runs run at ++ after) slots lba
-    → length slots.next ≤ max_pool → IfSome run (λ (found : Run). done.count + found.count < 2 ^ 32)
+    → length slots.next ≤ max_slots → IfSome run (λ (found : Run). done.count + found.count < 2 ^ 32)
 ahead-fits before after runs done None at lba slots w le = tt
 ahead-fits before after runs done (Some found) at lba slots w le = let fits =
     next-fits before done found (drop at runs ++ after) slots lba w in omega arith

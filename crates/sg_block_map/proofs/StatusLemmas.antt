@@ -5,11 +5,11 @@ use Rattle.std.proofs.lemmas.Bool.{cases_lt, leb-true, leb-false}
 use Rattle.std.proofs.lemmas.List.Sums.{sum_by-cons}
 use Rattle.std.specs.FinMap.{get}
 use Rattle.std.specs.Prelude.{slice_index_or, min, nat_le}
-use Rattle.sg_store.specs.Disk.{IsWellFormed, max_capacity, max_pool}
+use Rattle.sg_store.specs.Disk.{IsWellFormed, max_capacity}
+use Rattle.sg_pool.specs.Slots.{max_slots, Slots}
 use Rattle.sg_store.specs.LbaStatus.{descriptor_at, status_at, status_in}
 use Rattle.sg_table.specs.Records.{start_of, IsSorted, IsLowerBound, IsNext, ahead, end_of_gap}
 use Rattle.sg_pool.specs.MappedRecords.{mapping_in, contents_of, status_of_kind}
-use Rattle.sg_pool.specs.Slots.{Slots}
 use Rattle.sg_table.specs.Table.{Table, visited, probed}
 use Rattle.sg_table.specs.declared.cursor.Cursor.{Cursor}
 use Rattle.sg_wire.specs.declared.lba_status.ProvisioningStatus.TheVariants.{Deallocated}
@@ -97,7 +97,7 @@ module _ (rs : List Run) (capacity lba : ℕ) (cursor : Cursor) (t : IsRunTable 
     ends-within rs 0 capacity cursor.index (apart t) there.0,
   )
 
-  pub over-short : end_of run ≤ run.start + max_pool
+  pub over-short : end_of run ≤ run.start + max_slots
   over-short = omega (arith, over-end, over-start, t.short cursor.index there.0)
 
   over_kind : kind_at rs cursor.index ≡ run.kind
@@ -378,7 +378,7 @@ maximal-within (x ∷ rs) low bound capacity h le ends = (
 )
 
 pub run_table-of : (capacity : ℕ) (rs : List Run) (slots : Slots) (room : ℕ) → AreRuns rs slots room
-    → IsWellFormed capacity (chained_contents rs slots) → room ≤ max_pool → capacity ≤ max_capacity
+    → IsWellFormed capacity (chained_contents rs slots) → room ≤ max_slots → capacity ≤ max_capacity
     → IsRunTable capacity rs
 run_table-of capacity rs slots room h whole small fits =
     let m = chained_contents rs slots in

@@ -8,13 +8,13 @@ use Rattle.std.proofs.lemmas.List.{length-map, nil_from_length}
 use Rattle.std.specs.FinMap as map
 use Rattle.std.specs.List.{count_by, range_with_len, sum_by}
 use Rattle.sg_store.specs.Disk.{Contents, Disk, Mapping, IsWellFormed, used_among, remapped}
-use Rattle.sg_store.specs.Disk.{max_capacity, max_pool}
+use Rattle.sg_store.specs.Disk.{max_capacity}
+use Rattle.sg_pool.specs.Slots.{max_slots, Slots}
 use Rattle.sg_table.specs.Draft.{Drafted, empty_draft}
 use Rattle.sg_store.specs.Meter.{Meter, Costs}
 use Rattle.sg_pool.specs.MappedRecords.{mapping_in, contents_of}
 use Rattle.sg_table.specs.Records.{IsSorted}
 use Rattle.sg_table.specs.Search.{CostsSearch}
-use Rattle.sg_pool.specs.Slots.{Slots}
 use Rattle.sg_table.specs.Table.{Table, visited, probed}
 use Rattle.sg_table.specs.declared.run.Run.{Run}
 use Rattle.sg_block_map.specs.Metering.{SearchesAndVisits}
@@ -42,7 +42,7 @@ runs-sorted rs slots room h = maximal-sorted rs 0 (max_capacity + 1) h.maximal
 
 -- the list of gathered runs has room for all records
 pub have-room : (table : Table) (slots : Slots) (gathered : Drafted)
-    → AreRuns table.records slots table.room → table.room ≤ max_pool
+    → AreRuns table.records slots table.room → table.room ≤ max_slots
     → gathered ≡ empty_draft table.room → HaveRoom table gathered
 have-room table slots gathered h fits empty = record {
   fits = runs-fit table.records slots table.room h;
@@ -146,7 +146,7 @@ module _ (rs : List Run) (slots after_slots : Slots) (room lba count : ℕ) (bef
     (after.total - before.total)) (rise : before.probes ≤ after.probes)
     (search : CostsSearch (length before.records) (after.probes - before.probes))
     (least : before.total ≤ after.total) where
-  pub gathered-costs : room ≤ max_pool → slots.links ≤ after_slots.links
+  pub gathered-costs : room ≤ max_slots → slots.links ≤ after_slots.links
       → after_slots.links ≤ slots.links + room
       → Costs room (meter_at before slots) (meter_at after after_slots)
   gathered-costs small links_rise links =
@@ -206,7 +206,7 @@ nothing-meets contents lba count e = none-meet (runs contents) lba count e
 pub gathered-range : (before after : Table) (slots after_slots : Slots) (capacity lba count : ℕ)
     (gathered : Drafted) → AreRuns before.records slots before.room
     → AreGathered before.records gathered lba (lba + count) (max_capacity + 1)
-    → before.room ≤ max_pool
+    → before.room ≤ max_slots
     → SearchesAndVisits (length gathered.records)
     (count_by (starts_in lba (lba + count)) before.records + 2) before after
     → slots.links ≤ after_slots.links

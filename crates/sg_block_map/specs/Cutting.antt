@@ -1,11 +1,10 @@
 -- Runs that lose the addresses of a range.
 use Rattle.std.specs.Prelude.{◌≡◌, ℕ, ◌+◌, ◌≤◌, List, ◌++◌, length, Option, IfSome, option_to_list}
 use Rattle.sg_pool.specs.Chains.{chain, AreBelow, IsChain}
-use Rattle.sg_pool.specs.Slots.{Slots}
+use Rattle.sg_pool.specs.Slots.{Slots, max_slots}
 use Rattle.sg_table.specs.Records.{slots_of}
 use Rattle.sg_table.specs.Occurrences.{occurrences}
 use Rattle.sg_table.specs.declared.run.Run.{Run}
-use Rattle.sg_store.specs.Disk.{max_pool}
 use Rattle.sg_block_map.specs.Runs.{end_of, singles_of, expanded, AreChained}
 use Rattle.sg_block_map.specs.Splitting.{IsFront}
 
@@ -18,7 +17,7 @@ pub record HasOwnSlots (slots : Slots) (run : Run) : Type 0 where
   pub is_chain : IsChain slots.next run.first run.last run.count
   pub below : AreBelow (length slots.next) (chain slots.next run.first run.count)
   pub distinct : AreDistinct (chain slots.next run.first run.count) slots.free
-  pub fits : run.count + length slots.free ≤ max_pool
+  pub fits : run.count + length slots.free ≤ max_slots
 
 -- The links of all slots except some stay: runs over other slots are as they were.
 abbrev pub StaysBut : (next next' : List ℕ) → (slots : List ℕ) → Type 0

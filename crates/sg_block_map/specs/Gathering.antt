@@ -6,7 +6,7 @@ use Rattle.sg_table.specs.Draft.{Drafted}
 use Rattle.sg_table.specs.Records.{start_of}
 use Rattle.sg_table.specs.Table.{Table}
 use Rattle.sg_table.specs.declared.run.Run.{Run}
-use Rattle.sg_store.specs.Disk.{max_pool}
+use Rattle.sg_pool.specs.Slots.{max_slots}
 use Rattle.sg_block_map.specs.Runs.{end_of, AreMaximal}
 
 -- The address past the run at an index.
@@ -31,7 +31,7 @@ end_index gathered = gathered.from + length gathered.records
 -- A table that is no larger than allowed, and a list of runs with room for all of its records.
 pub record HaveRoom (table : Table) (gathered : Drafted) : Type 0 where
   pub fits : length table.records ≤ table.room
-  pub table_size : table.room ≤ max_pool
+  pub table_size : table.room ≤ max_slots
   pub room : gathered.room ≡ table.room
 
 -- All runs near a range were gathered from the table, and no other.

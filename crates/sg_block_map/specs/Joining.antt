@@ -2,11 +2,11 @@
 use Rattle.std.specs.Prelude.{◌≡◌, ℕ, ◌+◌, ◌<◌, ◌≤◌, List, ◌∷◌, ◌++◌, length, slice_set}
 use Rattle.std.specs.Prelude.{if◌then◌else◌, ◌==◌, Bool, true, false, Option, Some, None}
 use Rattle.std.specs.FinMap.{insert}
-use Rattle.sg_store.specs.Disk.{Mapping, max_capacity, max_pool, remapped, used_among}
+use Rattle.sg_store.specs.Disk.{Mapping, max_capacity, remapped, used_among}
+use Rattle.sg_pool.specs.Slots.{max_slots, Slots}
 use Rattle.sg_store.specs.Meter.{max_count}
 use Rattle.sg_pool.specs.Chains.{IsChain}
 use Rattle.sg_pool.specs.MappedRecords.{slot_numbers}
-use Rattle.sg_pool.specs.Slots.{Slots}
 use Rattle.sg_pool.specs.Content.{HasMappings}
 use Rattle.sg_pool.specs.declared.content.Content.{Content}
 use Rattle.sg_pool.specs.MappedRecords.{IsConsistent}
@@ -87,7 +87,7 @@ pub record IsReadyFor (table : Table) (slots : Slots) (gathered : Drafted) (low 
   where
     pub runs : AreRuns table.records slots table.room
     pub gathered_runs : AreGathered table.records gathered low high (max_capacity + 1)
-    pub table_size : table.room ≤ max_pool
+    pub table_size : table.room ≤ max_slots
     pub headroom : slots.links ≤ max_count
 
 -- The table has other runs over the pool, and no more than `most_moves` records were moved.

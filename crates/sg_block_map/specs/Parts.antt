@@ -2,9 +2,9 @@
 -- listed type, and there is no other field.
 use Rattle.std.specs.Prelude.{◌≡◌, ℕ, ◌≤◌, [], ◌∷◌}
 use Rattle.std.proofs.Common.{refl}
-use Rattle.sg_store.specs.Disk.{IsWellFormed, max_capacity, max_pool}
+use Rattle.sg_store.specs.Disk.{IsWellFormed, max_capacity}
+use Rattle.sg_pool.specs.Slots.{max_slots, Slots}
 use Rattle.sg_table.specs.Draft.{empty_draft}
-use Rattle.sg_pool.specs.Slots.{Slots}
 use Rattle.sg_pool.specs.contracts.pool.Pool as pool
 use Rattle.sg_table.specs.Fields.{HasOnly}
 use Rattle.sg_table.specs.Table.{Table}
@@ -18,7 +18,7 @@ use denote.Struct.Field.{u64-field}
 -- A capacity, a table with its counts, and a pool with its links make up a disk.
 pub record FitTogether (capacity : ℕ) (table : Table) (pool : Slots) : Type 0 where
   pub capacity_fits : capacity ≤ max_capacity
-  pub pool_fits : table.room ≤ max_pool
+  pub pool_fits : table.room ≤ max_slots
   pub well_formed : IsWellFormed capacity (chained_contents table.records pool)
   pub runs : AreRuns table.records pool table.room
 

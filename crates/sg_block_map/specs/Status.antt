@@ -5,7 +5,8 @@ use Rattle.std.specs.List.{count_by}
 use Rattle.sg_table.specs.Records.{start_of, IsNext}
 use Rattle.sg_table.specs.declared.cursor.Cursor.{Cursor}
 use Rattle.sg_table.specs.declared.run.Run.{Run}
-use Rattle.sg_store.specs.Disk.{max_capacity, max_pool}
+use Rattle.sg_store.specs.Disk.{max_capacity}
+use Rattle.sg_pool.specs.Slots.{max_slots}
 use Rattle.sg_block_map.specs.Gathering.{end_at}
 use Rattle.sg_block_map.specs.MaximalRuns.{meets}
 use Rattle.sg_block_map.specs.Runs.{AreMaximal, address_run}
@@ -15,8 +16,8 @@ use Rattle.sg_block_map.specs.Runs.{AreMaximal, address_run}
 pub record IsRunTable (capacity : ℕ) (records : List Run) : Type 0 where
   pub maximal : AreMaximal 0 (capacity + 1) records
   pub filled : (i : ℕ) → i < length records → start_of records i < end_at records i
-  pub short : (i : ℕ) → i < length records → end_at records i ≤ start_of records i + max_pool
-  pub table_size : length records ≤ max_pool
+  pub short : (i : ℕ) → i < length records → end_at records i ≤ start_of records i + max_slots
+  pub table_size : length records ≤ max_slots
   pub capacity_fits : capacity ≤ max_capacity
 
 -- The cursor is at the first run that has the address or one past it. If there is such a run, it

@@ -17,17 +17,18 @@ ghost use Rattle.sg_block_map.specs.Runs.{AreOnDisk, AreRuns};
 ghost use Rattle.sg_block_map.specs.RunsProps.{AreRuns-IsProp};
 ghost use Rattle.sg_store.specs.DiskProps.{IsWellFormed-IsProp};
 ghost use Rattle.sg_table.specs.Draft.{empty_draft};
-ghost use Rattle.sg_store.specs.declared.store.TheConstants.{MAX_CAPACITY, MAX_POOL};
+ghost use Rattle.sg_store.specs.declared.store.TheConstants.{MAX_CAPACITY};
+ghost use Rattle.sg_pool.specs.declared.links.TheConstants.{MAX_SLOTS};
 
 use crate::gather::{Gathered, gather, gather_between, used_between};
 use crate::read::read_runs;
 use crate::status::{cursor_over, write_descriptors};
 use crate::unmap::{renew_slots, unmap_runs};
 use crate::write::write_runs;
-use sg_pool::{Content, Pool, Source};
+use sg_pool::{Content, MAX_SLOTS, Pool, Source};
 use sg_store::laws::disks_stay_well_formed;
 use sg_store::lba_status::status_header;
-use sg_store::{BLOCK_LENGTH, Counts, MAX_CAPACITY, MAX_POOL, Space, Store};
+use sg_store::{BLOCK_LENGTH, Counts, MAX_CAPACITY, Space, Store};
 use sg_table::RunTable;
 use sg_wire::Cut;
 use sg_wire::laws::{parts_are_put_in_turn, parts_are_replaced};
@@ -46,7 +47,7 @@ pub struct BlockMap {
     /// The runs near a range. It is empty between calls.
     gathered: Gathered,
     ghost capacity_fits: { capacity ≤ MAX_CAPACITY },
-    ghost pool_fits: { table.room ≤ MAX_POOL },
+    ghost pool_fits: { table.room ≤ MAX_SLOTS },
     ghost gathered_empty: { gathered ≡ empty_draft table.room },
     ghost well_formed: { AreOnDisk capacity table.records pool } by { IsWellFormed-IsProp _ _ },
     ghost runs: { AreRuns table.records pool table.room } by { AreRuns-IsProp _ _ _ },
@@ -125,7 +126,12 @@ impl Store for BlockMap {
 
     ghost least = { block_least };
 
+    /// # Errors
+    /// Memory was refused, or the pool has more than [`MAX_SLOTS`] blocks.
     fn make(alloc: Global, capacity: u64, pool: u32) -> Result<Self, AllocError> {
+        if pool > MAX_SLOTS {
+            return Err(AllocError);
+        }
         Ok(BlockMap {
             capacity,
             table: RunTable::new(alloc, pool)?,

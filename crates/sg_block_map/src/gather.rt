@@ -9,7 +9,8 @@ ghost use Rattle.sg_block_map.specs.Gathering.{HaveRoom, end_index, overlap, sta
 ghost use Rattle.sg_block_map.specs.Metering.{Visits, SearchesAndVisits};
 ghost use Rattle.sg_block_map.specs.Runs.{AreApart, AreMaximal, blocks_of};
 
-use sg_store::{MAX_CAPACITY, MAX_COUNT, MAX_POOL};
+use sg_pool::MAX_SLOTS;
+use sg_store::{MAX_CAPACITY, MAX_COUNT};
 use sg_table::{Draft, Run, RunTable};
 
 /// The runs near a range as the table has them, with the index of the first. A change of these runs
@@ -109,10 +110,10 @@ pub(crate) fn gather(table: &mut RunTable, gathered: &mut Gathered, lba: u64, co
 
 /// The number of addresses from one to another that the runs have.
 pub(crate) fn used_between(runs: &[Run], low: u64, high: u64) -> u64
-    requires fits { blocks_of runs.now ≤ MAX_POOL }
+    requires fits { blocks_of runs.now ≤ MAX_SLOTS }
     requires runs { AreApart 0 MAX_CAPACITY runs.now }
     ensures value { result ≡ sum_by (overlap low high) runs.now }
-    ensures fits { result ≤ MAX_POOL }
+    ensures fits { result ≤ MAX_SLOTS }
 {
     let mut used = 0;
     for run in runs {

@@ -7,13 +7,13 @@ ghost use Rattle.sg_table.specs.Table.{spliced};
 ghost use Rattle.sg_block_map.specs.Gathering.{end_index};
 
 use crate::gather::Gathered;
-use sg_store::MAX_POOL;
+use sg_pool::MAX_SLOTS;
 use sg_table::{Run, RunTable};
 
 /// Replaces the gathered runs in the table by others.
 // A table that has these runs already stays as it is: a splice costs far more than a comparison.
 pub(crate) fn put_runs(table: &mut RunTable, gathered: &Gathered, runs: &[Run])
-    requires table_size { length table.old.records ≤ MAX_POOL }
+    requires table_size { length table.old.records ≤ MAX_SLOTS }
     requires within { end_index gathered.now ≤ length table.old.records }
     requires same { splice table.old.records gathered.now.from (end_index gathered.now)
         gathered.now.records ≡ table.old.records }
@@ -43,7 +43,7 @@ pub(crate) fn put_parts(
     run: Run,
     back: Option<Run>,
 )
-    requires table_size { length table.old.records ≤ MAX_POOL }
+    requires table_size { length table.old.records ≤ MAX_SLOTS }
     requires within { end_index gathered.now ≤ length table.old.records }
     requires same { splice table.old.records gathered.now.from (end_index gathered.now)
         gathered.now.records ≡ table.old.records }

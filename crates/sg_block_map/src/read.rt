@@ -7,7 +7,7 @@ ghost use Rattle.sg_block_map.specs.Runs.{expanded, chained_contents};
 ghost use Rattle.sg_block_map.specs.Walking.{ahead_of, AreAhead, GoesPast};
 
 use crate::walk::{Walk, walk_from};
-use sg_pool::{Pool, read_first};
+use sg_pool::Pool;
 use sg_store::{BLOCK_LENGTH, MAX_CAPACITY};
 use sg_table::{Run, run_at};
 
@@ -36,7 +36,7 @@ fn read_address(pool: &mut Pool, runs: &[Run], walk: Walk, lba: u64, bytes: &mut
         bytes.fill(0);
         return walk;
     };
-    read_first(pool, run, bytes);
+    pool.read_first(run, bytes);
     walk.pass(pool, runs, run)
 }
 

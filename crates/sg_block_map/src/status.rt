@@ -10,9 +10,9 @@ ghost use Rattle.sg_block_map.specs.Metering.{VisitsBetween, SearchesAndVisits};
 ghost use Rattle.sg_block_map.specs.Runs.{chained_contents};
 ghost use Rattle.sg_block_map.specs.Status.{IsOver, IsRunTable, MeetsRange, records_met, run_over};
 
-use sg_pool::status_of;
+use sg_pool::{MAX_SLOTS, status_of};
+use sg_store::MAX_COUNT;
 use sg_store::lba_status::{MAX_ADDRESSES, MAX_DESCRIPTORS, ProvisioningStatus, StatusDescriptor};
-use sg_store::{MAX_COUNT, MAX_POOL};
 use sg_table::{Cursor, Run, RunTable};
 use sg_wire::Cut;
 use sg_wire::laws::parts_are_put_in_turn;
@@ -92,7 +92,7 @@ pub(crate) fn write_descriptors(
 ) -> usize
     requires cursor { IsOver table.old.records cursor lba }
     requires table { IsRunTable capacity table.old.records }
-    requires headroom { table.old.visits ≤ MAX_COUNT + MAX_POOL }
+    requires headroom { table.old.visits ≤ MAX_COUNT + MAX_SLOTS }
 
     // The status of addresses does not depend on their slots.
     ensures descriptors { (slots : Slots) → PutsDescriptors

@@ -15,8 +15,8 @@ use crate::gather::Gathered;
 use crate::put::put_runs;
 use crate::split::split_at;
 use arrayvec::ArrayVec;
-use sg_pool::Pool;
-use sg_store::{MAX_CAPACITY, MAX_POOL};
+use sg_pool::{MAX_SLOTS, Pool};
+use sg_store::MAX_CAPACITY;
 use sg_table::{Run, RunTable};
 
 /// Room for the parts that runs keep beside a range: one before the range and two after it. A run
@@ -41,7 +41,7 @@ fn give(pool: &mut Pool, part: Option<Run>)
     requires distinct { AreDistinct (slots_of (expanded pool.old.next (option_to_list part)))
         pool.old.free }
     requires room { length (expanded pool.old.next (option_to_list part)) + length pool.old.free
-        ≤ MAX_POOL }
+        ≤ MAX_SLOTS }
     ensures free { pool.new.free
         ≡ slots_of (expanded pool.old.next (option_to_list part)) ++ pool.old.free }
 

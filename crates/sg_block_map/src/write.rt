@@ -36,6 +36,7 @@ struct Progress {
 fn join(pool: &mut Pool, done: Run, other: Run) -> Run
     requires slot { 0 < done.count → done.last < length pool.old.next }
     requires used { 0 < done.count → occurrences done.last pool.old.free ≡ 0 }
+    requires other { other.first < length pool.old.next }
     requires fits { done.count + other.count < 2 ^ 32 }
     ensures run { result ≡ joined done other }
     ensures pool { pool.new ≡ record pool.old { next = linked pool.old.next done other.first } }
@@ -88,7 +89,7 @@ fn put_address(
 {
     let Some(run) = run_at(progress.walk.run, lba) else {
         let slot = pool.take();
-        content.fill(pool, slot, index);
+        pool.fill(slot, content, index);
         let done = join(
             pool,
             progress.done,
@@ -100,7 +101,7 @@ fn put_address(
         };
     };
     let walk = progress.walk.pass(pool, runs, run);
-    content.fill(pool, run.first, index);
+    pool.fill(run.first, content, index);
     let done = join(
         pool,
         progress.done,
@@ -145,6 +146,7 @@ fn begin(pool: &mut Pool, runs: &[Run], lba: u64, kind: Kind) -> (Option<Run>, P
 fn finish(pool: &mut Pool, progress: Progress) -> (Run, Option<Run>)
     requires slot { 0 < progress.done.count → progress.done.last < length pool.old.next }
     requires used { 0 < progress.done.count → occurrences progress.done.last pool.old.free ≡ 0 }
+    requires ahead { IfSome progress.walk.run (λ run. run.first < length pool.old.next) }
     requires fits { IfSome progress.walk.run (λ run. progress.done.count + run.count < 2 ^ 32) }
     ensures { IsFinished pool.old pool.new progress.done progress.walk.run result.0 result.1 }
 {

@@ -14,7 +14,7 @@ use Rattle.sg_table.specs.Draft.{Drafted}
 use Rattle.sg_pool.specs.MappedRecords.{Seen, mapping_in, contents_by, contents_of}
 use Rattle.sg_store.specs.Disk.{used_at}
 use Rattle.sg_table.specs.Records.{single}
-use Rattle.sg_pool.specs.Slots.{Slots}
+use Rattle.sg_pool.specs.Slots.{UnlinkedSlots}
 use Rattle.sg_table.specs.declared.run.Kind.{Kind}
 use Rattle.sg_table.specs.declared.run.Run.{Run}
 use Rattle.sg_extent_map.specs.Gathering.{overlap, overlaps, AreGathered, end_index}
@@ -149,7 +149,7 @@ mapped-overlap runs f low high a k h = among_count (singles runs) f low high a k
     (between-singles runs low high h) ∙ count_apart a k runs
 
 -- in the range the gathered runs have all the contents
-pub get-gathered : (rs : List Run) (gathered : Drafted) (slots : Slots) (lba count q : ℕ)
+pub get-gathered : (rs : List Run) (gathered : Drafted) (slots : UnlinkedSlots) (lba count q : ℕ)
     → AreGathered rs gathered lba (lba + count) → lba ≤ q → q < lba + count
     → map.get (contents_of (singles rs) slots.blocks) q
     ≡ map.get (contents_of (singles gathered.records) slots.blocks) q
@@ -167,14 +167,14 @@ get-gathered rs gathered slots lba count q g le lt =
     (between-singles ys (lba + count) max_capacity
     g.after) (omega arith)
 
-pub blocks-gathered : (rs : List Run) (gathered : Drafted) (slots : Slots) (lba count : ℕ)
+pub blocks-gathered : (rs : List Run) (gathered : Drafted) (slots : UnlinkedSlots) (lba count : ℕ)
     → AreGathered rs gathered lba (lba + count)
     → blocks (contents_of (singles rs) slots.blocks) lba count ≡
     blocks (contents_of (singles gathered.records) slots.blocks) lba count
 blocks-gathered rs gathered slots lba count g =
     blocks-same _ _ lba count (λ q le lt. get-gathered rs gathered slots lba count q g le lt)
 
-pub mapped-gathered : (rs : List Run) (gathered : Drafted) (slots : Slots) (lba count : ℕ)
+pub mapped-gathered : (rs : List Run) (gathered : Drafted) (slots : UnlinkedSlots) (lba count : ℕ)
     → AreGathered rs gathered lba (lba + count)
     → used_among (contents_of (singles rs) slots.blocks) lba count ≡
     used_among (contents_of (singles gathered.records) slots.blocks) lba count
@@ -183,7 +183,7 @@ mapped-gathered rs gathered slots lba count g =
     (λ q le lt. get-gathered rs gathered slots lba count q g le lt)
 
 -- the number of addresses of the gathered extents that a range has
-pub used-gathered : (rs : List Run) (gathered : Drafted) (slots : Slots) (lba count low high : ℕ)
+pub used-gathered : (rs : List Run) (gathered : Drafted) (slots : UnlinkedSlots) (lba count low high : ℕ)
     → AreGathered rs gathered lba (lba + count) → AreApart low high gathered.records
     → used_among (contents_of (singles rs) slots.blocks) lba count
     ≡ overlaps lba (lba + count) gathered.records

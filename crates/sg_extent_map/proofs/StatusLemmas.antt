@@ -9,7 +9,7 @@ use Rattle.sg_store.specs.Disk.{Mapping, IsWellFormed, max_capacity, max_pool, u
 use Rattle.sg_store.specs.LbaStatus.{descriptor_at, status_at, status_in}
 use Rattle.sg_table.specs.Records.{start_of, IsLowerBound, IsNext, ahead, end_of_gap, same_kind}
 use Rattle.sg_pool.specs.MappedRecords.{mapping_in, contents_of, status_of_kind}
-use Rattle.sg_pool.specs.Slots.{Slots}
+use Rattle.sg_pool.specs.Slots.{UnlinkedSlots}
 use Rattle.sg_table.specs.Table.{Table, visited, probed}
 use Rattle.sg_table.specs.declared.cursor.Cursor.{Cursor}
 use Rattle.sg_wire.specs.declared.lba_status.ProvisioningStatus.TheVariants.{Deallocated}
@@ -400,7 +400,7 @@ apart-within (x ∷ rs) a b capacity h le ends = (
       (λ i lt. ends (suc i) (omega arith)),
 )
 
-pub extent_table-of : (capacity : ℕ) (rs : List Run) (slots : Slots) (room : ℕ)
+pub extent_table-of : (capacity : ℕ) (rs : List Run) (slots : UnlinkedSlots) (room : ℕ)
     → AreExtents rs slots room → IsWellFormed capacity (contents_of (singles rs) slots.blocks)
     → room ≤ max_pool → capacity ≤ max_capacity → IsExtentTable capacity rs
 extent_table-of capacity rs slots room h whole small fits =

@@ -10,7 +10,7 @@ use Rattle.sg_table.specs.Draft.{Drafted}
 use Rattle.sg_table.specs.Table.{Table}
 use Rattle.sg_table.specs.declared.run.Run.{Run}
 use Rattle.sg_pool.specs.MappedRecords.{contents_of, mapping_in}
-use Rattle.sg_pool.specs.Slots.{Slots}
+use Rattle.sg_pool.specs.Slots.{UnlinkedSlots}
 use Rattle.sg_pool.proofs.MappedLemmas.{len-contents_by}
 use Rattle.sg_extent_map.specs.ExtentCost.{extent_least, extent_price}
 use Rattle.sg_extent_map.specs.Extents.{singles, AreExtents}
@@ -21,19 +21,19 @@ use Rattle.sg_extent_map.proofs.SinglesLemmas.{length-singles}
 use Rattle.sg_extent_map.proofs.WriteLemmas.{gathered-ahead}
 
 -- there are no more extents than there is room for
-pub extents-fit : (rs : List Run) (slots : Slots) (room : ℕ) → AreExtents rs slots room
+pub extents-fit : (rs : List Run) (slots : UnlinkedSlots) (room : ℕ) → AreExtents rs slots room
     → length rs ≤ room
 extents-fit rs slots room h =
     omega (arith, length-singles room rs h.extents, h.consistent.count)
 
 -- the number of used addresses, and with a range remapped
-pub size : (rs : List Run) (slots : Slots) (room : ℕ) → AreExtents rs slots room
+pub size : (rs : List Run) (slots : UnlinkedSlots) (room : ℕ) → AreExtents rs slots room
     → map.len (contents_of (singles rs) slots.blocks) + length slots.free ≡ room
 size rs slots room h =
     let all = len-contents_by (mapping_in slots.blocks) (singles rs) h.consistent.sorted in
     omega (arith, all, h.consistent.count)
 
-pub size-after : (rs : List Run) (slots : Slots) (room lba count : ℕ) (f : ℕ → Mapping)
+pub size-after : (rs : List Run) (slots : UnlinkedSlots) (room lba count : ℕ) (f : ℕ → Mapping)
     → AreExtents rs slots room
     → map.len (remapped (contents_of (singles rs) slots.blocks) lba count f) + length slots.free
     + used_among (contents_of (singles rs) slots.blocks) lba count ≡ room + count
@@ -47,7 +47,7 @@ no-overlaps : (low high : ℕ) (runs : List Run) → min 1 (overlaps low high ru
 no-overlaps low high [] = omega arith
 no-overlaps low high (run ∷ runs) = omega arith
 
-module _ (rs : List Run) (gathered : Drafted) (slots : Slots) (room lba count : ℕ)
+module _ (rs : List Run) (gathered : Drafted) (slots : UnlinkedSlots) (room lba count : ℕ)
     (h : AreExtents rs slots room) (g : AreGathered rs gathered lba (lba + count)) where
   pub used-there : used_among (contents_of (singles rs) slots.blocks) lba count
       ≡ overlaps lba (lba + count) gathered.records

@@ -11,14 +11,15 @@ use Rattle.std.proofs.lemmas.List.Elements.{All-take}
 use Rattle.sg_extent_map.proofs.MaximalLemmas.{FirstIs, LastIs, max-put}
 use Rattle.sg_extent_map.proofs.WriteLemmas.{begins-there, ends-there, gathered-ahead}
 use Rattle.sg_table.specs.Draft.{Drafted}
-use Rattle.sg_table.specs.Occurrences.{occurrences}
+use Rattle.std.proofs.lemmas.List.{map-id}
+use Rattle.std.proofs.lemmas.List.FromFn.{map-range_with_len_more}
+use Rattle.sg_table.specs.Occurrences.{occurrences, one_if_equal}
 use Rattle.sg_table.specs.Records.{slots_of}
 use Rattle.sg_table.specs.declared.run.Kind.{Kind}
 use Rattle.sg_table.specs.declared.run.Run.{Run}
-use Rattle.sg_table.proofs.OccurrenceLemmas.{occurrences-append, once-le}
+use Rattle.sg_table.proofs.OccurrenceLemmas.{occurrences-append, occurrences-one, once-le}
 use Rattle.sg_pool.specs.MappedRecords.{outside_records, IsConsistent}
-use Rattle.sg_pool.specs.Slots.{Slots}
-use Rattle.std.proofs.lemmas.List.FromFn.{length-range_with_len}
+use Rattle.sg_pool.specs.Slots.{UnlinkedSlots}
 use Rattle.std.specs.List.{All, range_with_len, splice}
 use Rattle.sg_table.proofs.SpliceLemmas.{all-splice}
 use Rattle.sg_extent_map.specs.Drafting.{drafted}
@@ -66,7 +67,7 @@ slots-two t xs ys free =
     omega arith
 
 -- slots that were given back
-occurrences-range : (t first n : ℕ)
+pub occurrences-range : (t first n : ℕ)
     → occurrences t (range_with_len first n) ≡ cond (lies_in first n t) 1 0
 unfolding occurrences
 occurrences-range t first zero = elim (cases_lt t first) [
@@ -76,13 +77,24 @@ occurrences-range t first zero = elim (cases_lt t first) [
 occurrences-range t first (suc n) =
     omega (arith, occurrences-range t (first + 1) n, lies-more t first n)
 
-pub consistent-less : (xs ys : List Run) (start first n : ℕ) (kind : Kind) (old new : Slots) (room : ℕ)
+-- one slot more in a row
+pub range-one-more : (t first n : ℕ) → occurrences t (range_with_len first (n + 1))
+    ≡ occurrences t (range_with_len first n) + one_if_equal t (first + n)
+range-one-more t first n =
+    let xs = range_with_len first n in
+    let more = sym (map-id (range_with_len first (n + 1)))
+    ∙ map-range_with_len_more (λ x. x) first n (first + n) refl
+    ∙ ap (λ xs. xs ++ (first + n) ∷ []) (map-id xs) in
+    ap (occurrences t) more ∙ occurrences-append t xs ((first + n) ∷ [])
+    ∙ ap (λ k. occurrences t xs + k) (occurrences-one t (first + n))
+
+pub consistent-less : (xs ys : List Run) (start first n : ℕ) (kind : Kind) (old new : UnlinkedSlots) (room : ℕ)
     → IsConsistent (xs ++ (singles_from start first n kind ++ ys)) old.blocks old.free room
     → AreBetween 0 max_capacity (xs ++ (singles_from start first n kind ++ ys))
     → GivesSlots first n old new → IsConsistent (xs ++ ys) new.blocks new.free room
 consistent-less xs ys start first n kind old new room h between gives =
     let ms : List Run = singles_from start first n kind in
-    let blocks = ap (λ (s : Slots). s.blocks) gives.pool in
+    let blocks = ap (λ (s : UnlinkedSlots). s.blocks) gives.pool in
     let all = length-append xs (ms ++ ys) in
     let some = length-append ms ys in
     let left = length-append xs ys in
@@ -93,21 +105,14 @@ consistent-less xs ys start first n kind old new room h between gives =
         each = λ t.
             let a = slots-three t xs ms ys old.free in
             let b = slots-two t xs ys new.free in
-            let d = ap (occurrences t) gives.free
-            ∙ occurrences-append t (range_with_len first n) old.free in
+            let d = gives.each t in
             let r = occurrences-range t first n in
             let e = occurrences-from t start first n kind in
             let same : occurrences t (slots_of (xs ++ ys) ++ new.free)
             ≡ occurrences t (slots_of (xs ++ (ms ++ ys)) ++ old.free) = omega arith in
             same ∙ h.once.each t;
       };
-      count = omega (
-        arith,
-        h.count,
-        ap length gives.free,
-        length-append (range_with_len first n) old.free,
-        length-range_with_len first n,
-      );
+      count = omega (arith, h.count, gives.count_is);
       pool = h.pool;
     })
 
@@ -186,7 +191,7 @@ part-three run n m le =
     ∙ ap (λ k. singles_of (part_of run 0 n) ++ singles_of (part_of run n k)) (sym e)
     ∙ ap (λ xs. singles_of (part_of run 0 n) ++ xs) (part-split run n m (run.count - (n + m)))
 
-module _ {low high : ℕ} {run : Run} {draft draft' : Drafted} {done done' : Run} {old new : Slots}
+module _ {low high : ℕ} {run : Run} {draft draft' : Drafted} {done done' : Run} {old new : UnlinkedSlots}
     (cut : IsCut low high run draft draft' done done' old new) (le : low ≤ high) where
   abbrev X : List Run
   X = singles_of (part_of run 0 cut.before)
@@ -283,7 +288,7 @@ outside-table rs gathered low high g le =
     (between-singles ys high max_capacity g.after)))
 
 -- the new table
-pub cut-table : (rs ds D : List Run) (slots : Slots) (from to room : ℕ) → singles ds ≡ D
+pub cut-table : (rs ds D : List Run) (slots : UnlinkedSlots) (from to room : ℕ) → singles ds ≡ D
     → IsConsistent (singles (take from rs) ++ (D ++ singles (drop to rs))) slots.blocks slots.free room
     → AreBetween 0 max_capacity (singles (take from rs) ++ (D ++ singles (drop to rs)))
     → All (IsExtent room) rs → All (IsExtent room) ds
@@ -316,7 +321,7 @@ outside-last xs r low k is le = (
       ∙ ap (λ zs. outside_records is.0 low k ++ zs) (rw (above low k r.start le) refl),
 )
 
-pub cut-maximal : (rs ds : List Run) (gathered : Drafted) (slots : Slots) (room low high : ℕ)
+pub cut-maximal : (rs ds : List Run) (gathered : Drafted) (slots : UnlinkedSlots) (room low high : ℕ)
     → AreExtents rs slots room → AreGathered rs gathered low high → low ≤ high
     → All (IsExtent room) ds → AreMaximal ds
     → singles ds ≡ outside_records (singles gathered.records) low (high - low)

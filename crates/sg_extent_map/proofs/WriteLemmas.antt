@@ -22,7 +22,7 @@ use Rattle.sg_table.proofs.OccurrenceLemmas.{occurrences-append, occurrences-mor
 use Rattle.sg_table.proofs.OccurrenceLemmas.{same_slot}
 use Rattle.sg_table.proofs.SpliceLemmas.{all-splice, front_of}
 use Rattle.sg_pool.specs.MappedRecords.{contents_of, filled_slot, kind_of, mapping_in, IsConsistent}
-use Rattle.sg_pool.specs.Slots.{Slots}
+use Rattle.sg_pool.specs.Slots.{UnlinkedSlots}
 use Rattle.sg_pool.proofs.MappedLemmas.{none_used, len-contents_by}
 use Rattle.sg_pool.proofs.ConsistencyLemmas.{consistent-inserted, contents-inserted, contents-added}
 use Rattle.sg_pool.proofs.ConsistencyLemmas.{consistent-kind, consistent-over, contents-changed}
@@ -94,7 +94,7 @@ insert-at (x ∷ xs) ys r = ap (λ zs. x ∷ zs) (insert-at xs ys r)
 -- ---- The next address is put
 
 -- What is written of a range, with one more address.
-pub record IsPut (before rest rest' : List Run) (slots slots' : Slots) (room lba slot : ℕ) (x : Mapping) :
+pub record IsPut (before rest rest' : List Run) (slots slots' : UnlinkedSlots) (room lba slot : ℕ) (x : Mapping) :
     Type 0 where
   pub writing : IsWriting (before ++ single lba slot (kind_of x) ∷ []) rest' slots' room (lba + 1)
   pub contents : contents_of ((before ++ single lba slot (kind_of x) ∷ []) ++ rest') slots'.blocks
@@ -103,7 +103,7 @@ pub record IsPut (before rest rest' : List Run) (slots slots' : Slots) (room lba
 longer : (before rest : List Run) (r : Run) → (before ++ r ∷ []) ++ rest ≡ before ++ r ∷ rest
 longer before rest r = append_assoc before (r ∷ []) rest
 
-module _ (before rest : List Run) (slots slots' : Slots) (room lba slot : ℕ) (x : Mapping)
+module _ (before rest : List Run) (slots slots' : UnlinkedSlots) (room lba slot : ℕ) (x : Mapping)
     (low : AreBetween 0 lba before) (high : AreBetween (lba + 1) max_capacity rest)
     (blocks : slots'.blocks ≡ filled_slot slots.blocks slot x) where
   abbrev new : Run
@@ -160,17 +160,17 @@ module _ (before rest : List Run) (slots slots' : Slots) (room lba slot : ℕ) (
             (filled-changed all slots.blocks slots.free room (length before) old x consistent lt read);
       }
 
-pub put-step : (before rest : List Run) (found : Option Run) (slots slots' : Slots)
+pub put-step : (before rest : List Run) (found : Option Run) (slots slots' : UnlinkedSlots)
     (room lba slot : ℕ) (x : Mapping)
     → IsWriting before (option_to_list found ++ rest) slots room lba
     → AreBetween (lba + 1) max_capacity rest → IsRecordOf lba room found
     → PutsBlock found slots slots' x slot
     → IsPut before (option_to_list found ++ rest) rest slots slots' room lba slot x
 put-step before rest None slots slots' room lba slot x w high is put =
-    let blocks = ap (λ (s : Slots). s.blocks) put.pool in
+    let blocks = ap (λ (s : UnlinkedSlots). s.blocks) put.pool in
     added before rest slots slots' room lba slot x w.low high blocks w.consistent put.takes
 put-step before rest (Some run) slots slots' room lba slot x w high is put =
-    let blocks = ap (λ (s : Slots). s.blocks) put.pool in
+    let blocks = ap (λ (s : UnlinkedSlots). s.blocks) put.pool in
     let record_is : run ≡ single lba slot run.kind =
     is.0 ∙ ap (λ s. single lba s run.kind) (sym put.takes.0) in
     rw record_is (changed before rest slots slots' room lba slot x w.low high blocks run.kind
@@ -183,7 +183,7 @@ all-middle P xs ys zs h =
     let some = rw (drop-append_seam xs (ys ++ zs)) at (All-drop P (length xs) (xs ++ (ys ++ zs)) h) in
     rw (take-append_seam ys zs) at (All-take P (length ys) (ys ++ zs) some)
 
-pub gathered-ahead : (rs : List Run) (gathered : Drafted) (slots : Slots) (room low high : ℕ)
+pub gathered-ahead : (rs : List Run) (gathered : Drafted) (slots : UnlinkedSlots) (room low high : ℕ)
     → AreExtents rs slots room → AreGathered rs gathered low high → AreAhead room 0 gathered.records
 gathered-ahead rs gathered slots room low high h g =
     let xs : List Run = take gathered.from rs in
@@ -197,7 +197,7 @@ gathered-ahead rs gathered slots room low high h g =
       extents = all-middle (IsExtent room) xs gathered.records ys (rw (← g.same) at h.extents);
     }
 
-pub gathered-rest : (rs : List Run) (gathered : Drafted) (slots : Slots) (room low high : ℕ)
+pub gathered-rest : (rs : List Run) (gathered : Drafted) (slots : UnlinkedSlots) (room low high : ℕ)
     → AreExtents rs slots room → AreGathered rs gathered low high
     → AreAhead room low (drop 1 gathered.records)
 gathered-rest rs gathered slots room low high h g = record {
@@ -280,7 +280,7 @@ four-parts : (F D A H : List Run) → F ++ ((D ++ A) ++ H) ≡ (F ++ D) ++ (A ++
 four-parts F D A H = ap (λ xs. F ++ xs) (append_assoc D A H) ∙ sym (append_assoc F D (A ++ H))
 
 -- at first no address is written
-module _ (rs : List Run) (gathered : Drafted) (slots : Slots) (room lba high : ℕ) (front : Run)
+module _ (rs : List Run) (gathered : Drafted) (slots : UnlinkedSlots) (room lba high : ℕ) (front : Run)
     (ahead : List Run) (h : AreExtents rs slots room) (g : AreGathered rs gathered lba high)
     (t : IsBegun room lba gathered.records front ahead) (le : lba ≤ high) where
   abbrev xs : List Run
@@ -321,7 +321,7 @@ module _ (rs : List Run) (gathered : Drafted) (slots : Slots) (room lba high : �
       }
 
 -- the slot of an address is one of the pool's
-pub slot-low : (found : Option Run) (old new : Slots) (rs : List Run) (room lba slot : ℕ)
+pub slot-low : (found : Option Run) (old new : UnlinkedSlots) (rs : List Run) (room lba slot : ℕ)
     → IsConsistent rs old.blocks old.free room → IsRecordOf lba room found
     → TakesSlot found old new slot → slot < room
 slot-low None old new rs room lba slot h is takes =
@@ -332,7 +332,7 @@ slot-low None old new rs room lba slot h is takes =
 slot-low (Some run) old new rs room lba slot h is takes = omega (arith, is.1, takes.0)
 
 -- at the end the whole range is written
-pub writing-extents : (rs before rest : List Run) (slots : Slots) (room lba : ℕ)
+pub writing-extents : (rs before rest : List Run) (slots : UnlinkedSlots) (room lba : ℕ)
     → IsWriting before rest slots room lba → singles rs ≡ before ++ rest → All (IsExtent room) rs
     → AreMaximal rs → AreExtents rs slots room
 writing-extents rs before rest slots room lba w e each maximal =
@@ -366,7 +366,7 @@ splice-room rs ds gathered bs free room within each h =
     omega (arith, h.count)
 
 -- the extents are put in the place of the gathered ones
-pub finished : (rs ds D A : List Run) (slots : Slots) (from to room lba : ℕ) → singles ds ≡ D ++ A
+pub finished : (rs ds D A : List Run) (slots : UnlinkedSlots) (from to room lba : ℕ) → singles ds ≡ D ++ A
     → IsWriting (singles (take from rs) ++ D) (A ++ singles (drop to rs)) slots room lba
     → All (IsExtent room) rs → All (IsExtent room) ds → AreMaximal (splice rs from to ds)
     → AreExtents (splice rs from to ds) slots room
@@ -412,7 +412,7 @@ ends-there rs gathered room low high g each = elim (cases_lt (end_index gathered
     All-last room more run h = rw (drop-append_seam more (run ∷ [])) at
         (All-drop (IsExtent room) (length more) (more ++ run ∷ []) h)
 
-pub put-maximal : (rs ds D A passed more ahead : List Run) (gathered : Drafted) (slots : Slots)
+pub put-maximal : (rs ds D A passed more ahead : List Run) (gathered : Drafted) (slots : UnlinkedSlots)
     (room lba high : ℕ) (front : Run) → AreExtents rs slots room → AreGathered rs gathered lba high
     → All (IsExtent room) ds → AreMaximal ds → singles ds ≡ D ++ A
     → IsBegun room lba gathered.records front ahead → D ≡ singles_of front ++ more

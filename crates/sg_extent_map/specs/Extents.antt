@@ -8,7 +8,7 @@ use Rattle.sg_table.specs.Table.{Table}
 use Rattle.sg_table.specs.declared.run.Kind.{Kind}
 use Rattle.sg_table.specs.declared.run.Run.{Run}
 use Rattle.sg_pool.specs.MappedRecords.{contents_of, IsConsistent}
-use Rattle.sg_pool.specs.Slots.{Slots}
+use Rattle.sg_pool.specs.Slots.{UnlinkedSlots}
 
 -- The address past a run.
 abbrev pub end_of : Run → ℕ
@@ -59,11 +59,11 @@ AreMaximal [] = Unit
 AreMaximal (run ∷ runs) = IsNotContinued run runs × AreMaximal runs
 
 -- The contents of a disk with this table and these slots: the contents of its single addresses.
-abbrev pub stored : Table → Slots → Contents
+abbrev pub stored : Table → UnlinkedSlots → Contents
 stored table slots = contents_of (singles table.records) slots.blocks
 
 -- A table of extents over the slots of a pool: each slot has one address or is free.
-pub record AreExtents (records : List Run) (slots : Slots) (room : ℕ) : Type 0 where
+pub record AreExtents (records : List Run) (slots : UnlinkedSlots) (room : ℕ) : Type 0 where
   pub apart : AreApart 0 max_capacity records
   pub maximal : AreMaximal records
   pub extents : All (IsExtent room) records

@@ -2,7 +2,7 @@
 use Rattle.std.specs.Prelude.{ℕ, List, [], ◌∷◌}
 use Rattle.std.proofs.Props.{props}
 use Rattle.sg_extent_map.specs.Extents.{end_of, AreApart, AreExtents, AreMaximal, IsNotContinued}
-use Rattle.sg_pool.specs.Slots.{Slots}
+use Rattle.sg_pool.specs.Slots.{UnlinkedSlots}
 use Rattle.sg_table.specs.declared.run.Run.{Run}
 
 pub AreApart-IsProp : (low high : ℕ) (runs : List Run) → IsProp (AreApart low high runs)
@@ -18,6 +18,6 @@ AreMaximal-IsProp [] = hlevel props
 AreMaximal-IsProp (run ∷ runs) =
     hlevel (props, IsNotContinued-IsProp run runs, AreMaximal-IsProp runs)
 
-pub AreExtents-IsProp : (records : List Run) (slots : Slots) (room : ℕ)
+pub AreExtents-IsProp : (records : List Run) (slots : UnlinkedSlots) (room : ℕ)
     → IsProp (AreExtents records slots room)
 AreExtents-IsProp records slots room = hlevel (props, AreApart-IsProp, AreMaximal-IsProp)

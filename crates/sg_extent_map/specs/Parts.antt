@@ -1,11 +1,11 @@
 -- The parts of an `ExtentMap`. It is the `ExtentMap` of the listed parts. Each part is a field of
 -- the listed type, and there is no other field.
-use Rattle.std.specs.Prelude.{◌≡◌, ℕ, ◌≤◌, [], ◌∷◌, length}
+use Rattle.std.specs.Prelude.{◌≡◌, ℕ, ◌≤◌, [], ◌∷◌}
 use Rattle.std.proofs.Common.{refl}
 use Rattle.sg_store.specs.Disk.{IsWellFormed, max_capacity, max_pool}
 use Rattle.sg_table.specs.Draft.{empty_draft}
-use Rattle.sg_pool.specs.Slots.{Slots}
-use Rattle.sg_pool.specs.contracts.pool.Pool as pool
+use Rattle.sg_pool.specs.Slots.{UnlinkedSlots}
+use Rattle.sg_pool.specs.contracts.unlinked_pool.UnlinkedPool as pool
 use Rattle.sg_table.specs.Fields.{HasOnly}
 use Rattle.sg_table.specs.Table.{Table}
 use Rattle.sg_table.specs.contracts.draft.Draft as draft
@@ -16,16 +16,15 @@ use Rattle.sg_extent_map.specs.declared.extent_map.ExtentMap.{ExtentMap}
 use denote.Struct.Field.{u64-field}
 
 -- A capacity, a table with its counts, and a pool make up a disk.
-pub record FitTogether (capacity : ℕ) (table : Table) (pool : Slots) : Type 0 where
+pub record FitTogether (capacity : ℕ) (table : Table) (pool : UnlinkedSlots) : Type 0 where
   pub capacity_fits : capacity ≤ max_capacity
   pub pool_fits : table.room ≤ max_pool
   pub well_formed : IsWellFormed capacity (stored table pool)
-  pub links : length pool.next ≡ table.room
   pub extents : AreExtents table.records pool table.room
 
 -- The `ExtentMap` of only these parts: its lists of gathered and drafted extents are empty, and it
 -- has no other part.
-abbrev pub parts : (capacity : ℕ) (table : Table) (pool : Slots) → FitTogether capacity table pool
+abbrev pub parts : (capacity : ℕ) (table : Table) (pool : UnlinkedSlots) → FitTogether capacity table pool
     → ExtentMap
 parts capacity table pool fit = record {
   capacity = capacity;
@@ -38,7 +37,6 @@ parts capacity table pool fit = record {
   gathered_empty = refl;
   draft_empty = refl;
   well_formed = fit.well_formed;
-  links = fit.links;
   extents = fit.extents;
 }
 
@@ -48,7 +46,6 @@ fit_of map = record {
   capacity_fits = map.capacity_fits;
   pool_fits = map.pool_fits;
   well_formed = map.well_formed;
-  links = map.links;
   extents = map.extents;
 }
 

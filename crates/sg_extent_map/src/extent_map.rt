@@ -14,9 +14,9 @@ ghost use Rattle.sg_store.specs.declared.store.TheConstants.{MAX_CAPACITY, MAX_P
 use crate::gather::{Gathered, gather, used_between};
 use crate::read::read_runs;
 use crate::status::{cursor_over, write_descriptors};
-use crate::unmap::{renew_slots, unmap_range};
+use crate::unmap::unmap_range;
 use crate::write::{Range, put_range};
-use sg_pool::{Content, Pool, Source};
+use sg_pool::{Content, Source, UnlinkedPool};
 use sg_store::laws::disks_stay_well_formed;
 use sg_store::lba_status::status_header;
 use sg_store::{BLOCK_LENGTH, Counts, Space, Store};
@@ -34,7 +34,7 @@ use std::alloc::{AllocError, Global};
 pub struct ExtentMap {
     capacity: u64,
     table: RunTable,
-    pool: Pool,
+    pool: UnlinkedPool,
     /// The extents near a range, and the extents that are to replace them. Both are empty between
     /// calls.
     gathered: Gathered,
@@ -44,7 +44,6 @@ pub struct ExtentMap {
     ghost gathered_empty: { gathered ≡ empty_draft table.room },
     ghost draft_empty: { draft ≡ empty_draft table.room },
     ghost well_formed: { IsWellFormed capacity (stored table pool) } by { IsWellFormed-IsProp _ _ },
-    ghost links: { length pool.next ≡ table.room },
     ghost extents: { AreExtents table.records pool table.room } by { AreExtents-IsProp _ _ _ },
 }
 
@@ -87,7 +86,7 @@ impl ExtentMap {
         let high = lba + u64::from(count);
         gather(&mut self.table, &mut self.gathered, lba, high);
         let used = used_between(self.gathered.records(), lba, high);
-        if u64::from(count) > self.pool.free_count() as u64 + used {
+        if u64::from(count) > u64::from(self.pool.free_count()) + used {
             self.gathered.clear();
             return Err(Space);
         }
@@ -120,7 +119,7 @@ impl Store for ExtentMap {
         Ok(ExtentMap {
             capacity,
             table: RunTable::new(alloc, pool)?,
-            pool: Pool::new(alloc, pool)?,
+            pool: UnlinkedPool::new(alloc, pool)?,
             gathered: Gathered::new(alloc, pool)?,
             draft: Draft::new(alloc, pool)?,
         })
@@ -157,7 +156,6 @@ impl Store for ExtentMap {
             lba,
             high,
         );
-        renew_slots(&self.table, &mut self.pool);
         self.gathered.clear();
         self.draft.clear();
     }
@@ -196,7 +194,7 @@ impl Store for ExtentMap {
     }
 
     fn used(&self) -> u32 {
-        (self.pool.count() - self.pool.free_count()) as u32
+        self.pool.count() - self.pool.free_count()
     }
 
     fn counts(&self) -> Counts {

@@ -7,26 +7,26 @@ ghost use Rattle.sg_extent_map.specs.Extents.{singles};
 ghost use Rattle.sg_extent_map.specs.Walking.{AreAhead};
 
 use crate::walk::Walk;
-use sg_pool::{Pool, read_first};
+use sg_pool::UnlinkedPool;
 use sg_store::{BLOCK_LENGTH, MAX_CAPACITY};
 use sg_table::Run;
 
 /// Reads the block of a record, or zeros if there is none.
-fn read_found(pool: &Pool, found: Option<Run>, bytes: &mut [u8])
+fn read_found(pool: &UnlinkedPool, found: Option<Run>, bytes: &mut [u8])
     requires slot { IfSome found (λ run. run.first < length pool.now.blocks) }
     requires byte_count { length bytes.old ≡ BLOCK_LENGTH }
     ensures { bytes.new ≡ data_in (option_map (λ (run : RunModel).
         mapping_in pool.now.blocks run.first run.kind) found) }
 {
     match found {
-        Some(run) => read_first(pool, run, bytes),
+        Some(run) => pool.read_first(run, bytes),
         None => bytes.fill(0),
     }
 }
 
 /// Reads the blocks from an address on. No other extents than the given ones have addresses of the
 /// range.
-pub(crate) fn read_runs(pool: &Pool, runs: &[Run], lba: u64, count: u32, bytes: &mut [u8])
+pub(crate) fn read_runs(pool: &UnlinkedPool, runs: &[Run], lba: u64, count: u32, bytes: &mut [u8])
     requires ahead { AreAhead (length pool.now.blocks) 0 runs.now }
     requires rest { AreAhead (length pool.now.blocks) lba (drop 1 runs.now) }
     requires pool { length pool.now.blocks ≤ u32.MAX }

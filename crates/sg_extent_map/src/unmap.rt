@@ -6,7 +6,7 @@ ghost use Rattle.sg_table.specs.Occurrences.{occurrences};
 ghost use Rattle.sg_table.specs.Draft.{empty_draft};
 ghost use Rattle.sg_table.specs.Leaves.{move_bound};
 ghost use Rattle.sg_extent_map.specs.Drafting.{drafted, AreDrafted};
-ghost use Rattle.sg_extent_map.specs.Extents.{singles, stored, AreExtents, IsExtent};
+ghost use Rattle.sg_extent_map.specs.Extents.{singles, stored, IsExtent};
 ghost use Rattle.sg_extent_map.specs.Writing.{ChangesExtents, GivesSlots, HasOwnSlots, IsCut};
 ghost use Rattle.sg_extent_map.specs.Writing.{IsReady};
 
@@ -14,26 +14,32 @@ use crate::draft::{append, close};
 use crate::gather::Gathered;
 use crate::put::put_runs;
 use crate::walk::{NO_RUN, part};
-use sg_pool::Pool;
+use sg_pool::UnlinkedPool;
 use sg_store::MAX_POOL;
 use sg_table::{Draft, Run, RunTable};
 
-/// Frees slots in a row. The pool returns them in ascending order, before the other free slots.
-fn give_slots(pool: &mut Pool, first: u32, count: u32)
+/// Frees slots in a row.
+fn give_slots(pool: &mut UnlinkedPool, first: u32, count: u32)
     requires below { first + count ≤ length pool.old.blocks }
     requires size { length pool.old.blocks ≤ MAX_POOL }
     requires used { (slot : ℕ) → first ≤ slot → slot < first + count
         → occurrences slot pool.old.free ≡ 0 }
-    requires room { count + length pool.old.free ≤ length pool.old.blocks }
     ensures { GivesSlots first count pool.old pool.new }
 {
     for given in 0..count {
-        pool.give(first + (count - given - 1));
+        pool.give(first + given);
     }
 }
 
 /// Frees the slots of an extent's addresses in a range, and drafts its other parts.
-fn unmap_run(pool: &mut Pool, draft: &mut Draft, done: Run, run: Run, low: u64, high: u64) -> Run
+fn unmap_run(
+    pool: &mut UnlinkedPool,
+    draft: &mut Draft,
+    done: Run,
+    run: Run,
+    low: u64,
+    high: u64,
+) -> Run
     requires extent { IsExtent (length pool.old.blocks) run }
     requires own { HasOwnSlots pool.old.free run }
     requires size { length pool.old.blocks ≤ MAX_POOL }
@@ -55,7 +61,7 @@ fn unmap_run(pool: &mut Pool, draft: &mut Draft, done: Run, run: Run, low: u64, 
 /// in the table by their remaining parts.
 pub(crate) fn unmap_range(
     table: &mut RunTable,
-    pool: &mut Pool,
+    pool: &mut UnlinkedPool,
     gathered: &Gathered,
     draft: &mut Draft,
     low: u64,
@@ -70,7 +76,6 @@ pub(crate) fn unmap_range(
         ≡ unmapped (stored table.old pool.old) low (high - low) }
     ensures changes { ChangesExtents (move_bound + (2 * length gathered.now.records + 1))
         table.old table.new pool.new }
-    ensures next { length pool.new.next ≡ length pool.old.next }
     ensures room { draft.new.room ≡ draft.old.room }
 {
     let runs = gathered.records();
@@ -80,17 +85,4 @@ pub(crate) fn unmap_range(
     }
     close(draft, done);
     put_runs(table, gathered, draft.records());
-}
-
-/// Makes the pool return its slots in ascending order again, if no address has one. Earlier writes
-/// and unmaps have scattered the free slots, and blocks that are written next would lie apart.
-pub(crate) fn renew_slots(table: &RunTable, pool: &mut Pool)
-    requires extents { AreExtents table.now.records pool.old table.now.room }
-    requires links { length pool.old.next ≡ table.now.room }
-    ensures extents { AreExtents table.now.records pool.new table.now.room }
-    ensures pool { pool.new ≡ record pool.old { free = pool.new.free } }
-{
-    if table.count() == 0 {
-        pool.renew();
-    }
 }

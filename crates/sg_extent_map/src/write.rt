@@ -14,13 +14,13 @@ use crate::draft::{append, finish};
 use crate::gather::Gathered;
 use crate::put::put_runs;
 use crate::walk::Walk;
-use sg_pool::{Content, Pool};
+use sg_pool::{Content, UnlinkedPool};
 use sg_store::MAX_CAPACITY;
 use sg_table::{Draft, Run, RunTable};
 
 /// Puts the block for an index of the range into the slot of a record, or into a free slot if there
 /// is no record. Returns the slot.
-fn put_block(pool: &mut Pool, found: Option<Run>, content: &Content, index: usize) -> u32
+fn put_block(pool: &mut UnlinkedPool, found: Option<Run>, content: &Content, index: usize) -> u32
     requires slot { IfSome found (λ run. run.first < length pool.old.blocks) }
     requires free { found ≡ None → 0 < length pool.old.free }
     requires below { (slot : ℕ) → 0 < occurrences slot pool.old.free
@@ -30,10 +30,10 @@ fn put_block(pool: &mut Pool, found: Option<Run>, content: &Content, index: usiz
 {
     let Some(run) = found else {
         let slot = pool.take();
-        content.fill(pool, slot, index);
+        pool.fill(slot, content, index);
         return slot;
     };
-    content.fill(pool, run.first, index);
+    pool.fill(run.first, content, index);
     run.first
 }
 
@@ -47,7 +47,7 @@ pub(crate) struct Range {
 /// Gives the addresses of a range their new content. The addresses without a slot need free slots.
 pub(crate) fn put_range(
     table: &mut RunTable,
-    pool: &mut Pool,
+    pool: &mut UnlinkedPool,
     gathered: &Gathered,
     draft: &mut Draft,
     range: Range,
@@ -65,7 +65,6 @@ pub(crate) fn put_range(
         ≡ remapped (stored table.old pool.old) range.lba range.count (mapping_for content.now) }
     ensures changes { ChangesExtents (move_bound + (range.count + length gathered.now.records + 1))
         table.old table.new pool.new }
-    ensures next { pool.new.next ≡ pool.old.next }
     ensures room { draft.new.room ≡ draft.old.room }
 {
     let Range { lba, count } = range;

@@ -5,7 +5,8 @@ use Rattle.std.proofs.Common.{inl, inr, Option, Some, None}
 use Rattle.std.proofs.lemmas.Bool.{cases_lt}
 use Rattle.std.specs.Prelude.{min}
 use Rattle.std.specs.FinMap.{get}
-use Rattle.sg_store.specs.Disk.{IsWellFormed, max_capacity, max_pool}
+use Rattle.sg_store.specs.Disk.{IsWellFormed, max_capacity}
+use Rattle.sg_pool.specs.Slots.{max_slots}
 use Rattle.sg_store.specs.LbaStatus.{descriptor_at, status_at}
 use Rattle.sg_table.specs.Records.{start_of, IsSorted, IsLowerBound, IsNext, ahead}
 use Rattle.sg_pool.specs.MappedRecords.{contents_of, status_of_kind, IsConsistent}
@@ -29,7 +30,7 @@ use Rattle.sg_store.proofs.DescriptorLemmas.{described}
 use Rattle.sg_store.proofs.WellFormedLemmas.{below-some}
 
 pub table-of : (capacity : ℕ) (rs : List Run) (bs : List (List ℕ)) (free : List ℕ) (room : ℕ)
-    → IsWellFormed capacity (contents_of rs bs) → IsConsistent rs bs free room → room ≤ max_pool
+    → IsWellFormed capacity (contents_of rs bs) → IsConsistent rs bs free room → room ≤ max_slots
     → capacity ≤ max_capacity
     → IsTableOf capacity rs
 table-of capacity rs bs free room whole consistent small fits = record {

@@ -2,12 +2,12 @@
 use Rattle.std.specs.Prelude.{◌≡◌, ℕ, ◌+◌, ◌-◌, ◌<◌, ◌≤◌, List, length}
 use Rattle.std.specs.Prelude.{Some}
 use Rattle.std.specs.List.{All, splice}
-use Rattle.sg_store.specs.Disk.{Contents, max_capacity, max_pool, used_at}
+use Rattle.sg_store.specs.Disk.{Contents, max_capacity, used_at}
+use Rattle.sg_pool.specs.Slots.{max_slots, Slots}
 use Rattle.sg_store.specs.Meter.{max_count}
 use Rattle.sg_plain_map.specs.PlainCost.{plain_least, plain_price}
 use Rattle.sg_table.specs.Records.{HaveSlots, IsLowerBound, IsNext, IsSorted, run_at}
 use Rattle.sg_pool.specs.MappedRecords.{contents_of}
-use Rattle.sg_pool.specs.Slots.{Slots}
 use Rattle.sg_pool.specs.MappedRecords.{IsConsistent}
 use Rattle.sg_table.specs.Table.{Table, visited}
 use Rattle.sg_table.specs.Draft.{Drafted}
@@ -42,7 +42,7 @@ pub record IsReady (table : Table) (slots : Slots) (from lba count : ℕ) : Type
   pub range : lba + count ≤ max_capacity
   pub single : AreSingle table.records
   pub consistent : IsConsistent table.records slots.blocks slots.free table.room
-  pub table_size : table.room ≤ max_pool
+  pub table_size : table.room ≤ max_slots
   pub headroom : table.visits ≤ max_count
 
 -- The blocks of a table can be read: it is sorted, each record has a slot, and there are no more
@@ -50,7 +50,7 @@ pub record IsReady (table : Table) (slots : Slots) (from lba count : ℕ) : Type
 pub record IsReadable (records : List Run) (slots : Slots) : Type 0 where
   pub sorted : IsSorted records
   pub have_slots : HaveSlots records (length slots.blocks)
-  pub table_size : length records ≤ max_pool
+  pub table_size : length records ≤ max_slots
 
 -- The table has other records over the pool, each of one address. The call moved no more than
 -- `most_moves` records, and it counted visits.
@@ -92,7 +92,7 @@ pub record HasRoom (table : Table) (slots : Slots) (draft : Drafted) (cursor : C
     Type 0 where
   pub draft_room : length draft.records < draft.room
   pub free : 0 < length slots.free + used_at (edited_contents table slots draft cursor) lba
-  pub table_size : length table.records ≤ max_pool
+  pub table_size : length table.records ≤ max_slots
 
 -- One step passes an address and drafts its record with a kind. If the address has a record, the
 -- cursor goes past it; otherwise the step takes a slot. A record that has the kind already stays as

@@ -4,14 +4,15 @@ use Rattle.std.specs.Prelude.{Option, Some, None, if◌then◌else◌}
 use Rattle.sg_table.specs.Records.{start_of, IsSorted, same_kind}
 use Rattle.sg_table.specs.declared.run.Kind.{Kind}
 use Rattle.sg_table.specs.declared.run.Run.{Run}
-use Rattle.sg_store.specs.Disk.{max_capacity, max_pool}
+use Rattle.sg_store.specs.Disk.{max_capacity}
+use Rattle.sg_pool.specs.Slots.{max_slots}
 
 -- A sorted table of a disk. No record lies past the end of the disk. Both are no larger than
 -- allowed.
 pub record IsTableOf (capacity : ℕ) (records : List Run) : Type 0 where
   pub sorted : IsSorted records
   pub within : (i : ℕ) → i < length records → start_of records i < capacity
-  pub table_size : length records ≤ max_pool
+  pub table_size : length records ≤ max_slots
   pub capacity_fits : capacity ≤ max_capacity
 
 -- The record, if it has a kind.

@@ -11,4 +11,3 @@ mod unmap;
 mod write;
 
 pub use plain_map::PlainMap;
-pub use search::MAX_RECORDS;

@@ -9,15 +9,15 @@ ghost use Rattle.sg_plain_map.specs.PlainCost.{plain_least-positive, plain_price
 ghost use Rattle.sg_plain_map.specs.Editing.{AreSingle, stored};
 ghost use Rattle.sg_pool.specs.MappedRecords.{IsConsistent};
 ghost use Rattle.sg_store.specs.declared.store.TheConstants.{MAX_CAPACITY};
-ghost use Rattle.sg_plain_map.specs.declared.search.TheConstants.{MAX_RECORDS};
+ghost use Rattle.sg_pool.specs.declared.links.TheConstants.{MAX_SLOTS};
 
 use crate::need::visit_records;
 use crate::read::read_blocks;
-use crate::search::{MAX_RECORDS, lower_bound};
+use crate::search::lower_bound;
 use crate::status::write_descriptors;
 use crate::unmap::unmap_records;
 use crate::write::{Range, put_range};
-use sg_pool::{Content, Pool, Source};
+use sg_pool::{Content, MAX_SLOTS, Pool, Source};
 use sg_store::laws::disks_stay_well_formed;
 use sg_store::lba_status::status_header;
 use sg_store::{BLOCK_LENGTH, Counts, Space, Store};
@@ -36,7 +36,7 @@ pub struct PlainMap {
     pool: Pool,
     draft: Draft,
     ghost capacity_fits: { capacity ≤ MAX_CAPACITY },
-    ghost pool_fits: { table.room ≤ MAX_RECORDS },
+    ghost pool_fits: { table.room ≤ MAX_SLOTS },
     ghost draft_fits: { draft.room ≡ table.room },
     ghost well_formed: { IsWellFormed capacity (stored table pool) } by { IsWellFormed-IsProp _ _ },
     ghost single: { AreSingle table.records },
@@ -101,9 +101,9 @@ impl Store for PlainMap {
     ghost least = { plain_least };
 
     /// # Errors
-    /// Memory was refused, or the pool has more than [`MAX_RECORDS`] blocks.
+    /// Memory was refused, or the pool has more than [`MAX_SLOTS`] blocks.
     fn make(alloc: Global, capacity: u64, pool: u32) -> Result<Self, AllocError> {
-        if pool > MAX_RECORDS {
+        if pool > MAX_SLOTS {
             return Err(AllocError);
         }
         Ok(PlainMap {

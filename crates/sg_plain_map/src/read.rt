@@ -6,7 +6,7 @@ ghost use Rattle.sg_table.specs.Table.{visited};
 ghost use Rattle.sg_plain_map.specs.Editing.{IsAt, IsReadable, IsReady, VisitsRange, stored};
 ghost use Rattle.sg_table.specs.Records.{passed};
 
-use sg_pool::{Pool, read_first};
+use sg_pool::Pool;
 use sg_store::BLOCK_LENGTH;
 use sg_table::{Cursor, RunTable, run_at};
 
@@ -40,7 +40,7 @@ fn read_block(
         bytes.fill(0);
         return cursor;
     };
-    read_first(pool, run, bytes);
+    pool.read_first(run, bytes);
     Cursor::new(table, cursor.index + 1)
 }
 

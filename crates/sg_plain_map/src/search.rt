@@ -1,18 +1,16 @@
-// The search for an address. A call of the store makes two searches at most, so the number of
-// records is bounded: together they compare no more addresses than a call may.
+// The search for an address. A call of the store makes two searches at most. The pool is so small
+// that together they compare no more addresses than a call may.
 ghost use Rattle.std.specs.Prelude.{◌≡◌, ◌+◌, ◌-◌, ◌≤◌, length};
 ghost use Rattle.sg_table.specs.Records.{IsLowerBound, IsSorted};
 ghost use Rattle.sg_table.specs.Table.{probed, search_bound};
 
+use sg_pool::MAX_SLOTS;
 use sg_table::RunTable;
-
-/// The most addresses that a `PlainMap` can map or anchor at once.
-pub const MAX_RECORDS: u32 = u32::MAX / 2;
 
 /// The index of the first record that is not before an address.
 pub(crate) fn lower_bound(table: &mut RunTable, address: u64) -> usize
     requires sorted { IsSorted table.old.records }
-    requires table_size { length table.old.records ≤ MAX_RECORDS }
+    requires table_size { length table.old.records ≤ MAX_SLOTS }
     requires headroom { table.old.probes + search_bound ≤ u64.MAX }
     ensures index { IsLowerBound table.old.records result address }
 

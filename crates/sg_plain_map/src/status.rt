@@ -10,9 +10,9 @@ ghost use Rattle.sg_plain_map.specs.Editing.{IsAt, VisitsRange};
 ghost use Rattle.sg_plain_map.specs.Status.{AreInRow, IsTableOf, of_kind};
 
 use crate::kind::run_of_kind;
-use sg_pool::status_of;
+use sg_pool::{MAX_SLOTS, status_of};
 use sg_store::lba_status::{MAX_ADDRESSES, MAX_DESCRIPTORS, ProvisioningStatus, StatusDescriptor};
-use sg_store::{MAX_CAPACITY, MAX_COUNT, MAX_POOL};
+use sg_store::{MAX_CAPACITY, MAX_COUNT};
 use sg_table::{Cursor, Kind, RunTable, run_at};
 use sg_wire::Cut;
 use sg_wire::laws::parts_are_put_in_turn;
@@ -21,7 +21,7 @@ use sg_wire::laws::parts_are_put_in_turn;
 fn pass_alike(table: &mut RunTable, cursor: Cursor, lba: u64, kind: Kind) -> Cursor
     requires cursor { IsAt table.old.records cursor lba }
     requires table { IsTableOf MAX_CAPACITY table.old.records }
-    requires headroom { table.old.visits + MAX_POOL < u64.MAX }
+    requires headroom { table.old.visits + MAX_SLOTS < u64.MAX }
 
     // Their addresses have no gap, and the address after them has no record of that kind.
     ensures order { cursor.index ≤ result.index }
@@ -51,7 +51,7 @@ fn describe(
     requires cursor { IsAt table.old.records cursor lba }
     requires table { IsTableOf capacity table.old.records }
     requires address { lba < capacity }
-    requires headroom { table.old.visits + MAX_POOL < u64.MAX }
+    requires headroom { table.old.visits + MAX_SLOTS < u64.MAX }
 
     // The status of an address does not depend on its block.
     ensures descriptor { (blocks : List (List ℕ)) →

@@ -70,11 +70,11 @@ fn put_address(
 {
     let Some(run) = run_at(cursor.next, place.lba) else {
         let slot = pool.take();
-        content.fill(pool, slot, place.index);
+        pool.fill(slot, content, place.index);
         draft.push(Run::single(place.lba, slot, content.kind()));
         return cursor;
     };
-    content.fill(pool, run.first, place.index);
+    pool.fill(run.first, content, place.index);
     draft.push(Run {
         kind: content.kind(),
         ..run

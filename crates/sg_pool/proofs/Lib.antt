@@ -12,3 +12,4 @@ pub mod FreeLemmas
 pub mod JumpLemmas
 pub mod LeapLemmas
 pub mod WayLemmas
+pub mod SlotSetLemmas

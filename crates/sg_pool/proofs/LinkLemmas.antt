@@ -165,7 +165,7 @@ one_test : (b : Bool) → 0 < cond b 1 0 → b ≡ true
 one_test true h = refl
 one_test false h = absurd (omega arith)
 
-equal_one : (t x : ℕ) → 0 < one_if_equal t x → x ≡ t
+pub equal_one : (t x : ℕ) → 0 < one_if_equal t x → x ≡ t
 equal_one t x h = eqb-true x t (one_test (x == t) h)
 
 -- a slot that is in a list

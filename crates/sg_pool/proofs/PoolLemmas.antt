@@ -8,7 +8,9 @@ use Rattle.std.proofs.Math.ListN.{get_or-eq_default}
 use Rattle.std.proofs.lemmas.Bool.{cases_lt}
 use Rattle.std.specs.Option.{option_map}
 use Rattle.std.specs.Prelude.{unwrap_or, Option, Some, None}
-use Rattle.sg_store.specs.Disk.{zero_block}
+use Rattle.sg_store.specs.Disk.{zero_block, Mapping}
+use Rattle.sg_store.specs.Disk.Mapping.{Data, Anchored}
+use Rattle.sg_pool.specs.MappedRecords.{filled_slot}
 use Rattle.sg_pool.specs.Slots.{zero_padded}
 
 pub length-padded : (blocks : List (List ℕ)) (n : ℕ) → length blocks ≤ n
@@ -51,6 +53,12 @@ pub padded-zero : (blocks : List (List ℕ)) (slot n : ℕ) → length blocks �
 padded-zero blocks slot n le =
     get_or-append_right blocks _ (length blocks) slot zero_block refl le
     ∙ zeros-read (n - length blocks) (slot - length blocks)
+
+-- a block of a slot is put
+pub length-filled : (blocks : List (List ℕ)) (slot : ℕ) (x : Mapping)
+    → length (filled_slot blocks slot x) ≡ length blocks
+length-filled blocks slot (Data block) = length-set blocks slot block
+length-filled blocks slot Anchored = refl
 
 pub padded-set : (blocks : List (List ℕ)) (slot n : ℕ) (block : List ℕ) → slot < length blocks
     → zero_padded (set blocks slot block) n ≡ set (zero_padded blocks n) slot block

@@ -178,12 +178,13 @@ pub way-start : (next jump target count reach : List ℕ) (first left : ℕ) (ah
 way-start next jump target count reach first left ahead leaps enough =
     inl (record { ahead = ahead; leaps = leaps; enough = enough; few = omega arith })
 
-pub way-end : (next jump target count reach : List ℕ) (slot steps total : ℕ)
-    → IsOnWay next jump target count reach slot 0 steps total → steps ≤ total + 128
-way-end next jump target count reach slot steps total way = elim way [
-  | inl a ↦ omega (arith, a.few)
+-- the last links are few
+pub way-end : (next jump target count reach : List ℕ) (slot left steps total : ℕ) → left < 64
+    → IsOnWay next jump target count reach slot left steps total → steps + left ≤ total + 128
+way-end next jump target count reach slot left steps total low way = elim way [
+  | inl a ↦ omega (arith, a.few, low)
   | inr rest ↦ elim rest [
-    | inl u ↦ omega (arith, u.few, u.inside)
+    | inl u ↦ omega (arith, u.few, u.inside, low)
     | inr near ↦ omega (arith, near)
   ]
 ]

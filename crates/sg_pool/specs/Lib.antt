@@ -8,3 +8,4 @@ pub mod MappedRecords
 pub mod Parts
 -- The definitions that only private contracts cite.
 pub mod Jumps
+pub mod SlotSets

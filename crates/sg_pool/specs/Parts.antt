@@ -1,19 +1,27 @@
--- The parts of a `Pool` and of its links, in two ways. Two pools that agree in the listed parts are
--- the same pool. Each part is a field of the listed type, and there is no other field. So a pool
--- keeps nothing beside these parts. The last definition says where in its memory each block is.
-use Rattle.std.specs.Prelude.{◌≡◌, [], ◌∷◌, length}
+-- The parts of a `Pool`, of an `UnlinkedPool`, and of what they are made of, in two ways. Two pools
+-- that agree in the listed parts are the same pool. Each part is a field of the listed type, and
+-- there is no other field. So a pool keeps nothing beside these parts. The last definition says
+-- where in its memory each block is.
+use Rattle.std.specs.Prelude.{◌≡◌, [], ◌∷◌}
 use Rattle.sg_store.specs.declared.store.TheConstants.{BLOCK_LENGTH}
 use Rattle.sg_table.specs.Fields.{HasOnly, vec_field}
 use Rattle.sg_pool.specs.Slots.{zero_padded}
+use Rattle.sg_pool.specs.contracts.bits.Bits as bits
 use Rattle.sg_pool.specs.contracts.jumps.Jumps as jumps
 use Rattle.sg_pool.specs.contracts.leaps.Leaps as leaps
 use Rattle.sg_pool.specs.contracts.links.Links as links
 use Rattle.sg_pool.specs.contracts.links.Links.TheInside as links_inside
 use Rattle.sg_pool.specs.contracts.pool.Pool.TheInside.{struct}
+use Rattle.sg_pool.specs.contracts.slot_blocks.SlotBlocks as blocks
+use Rattle.sg_pool.specs.contracts.slot_blocks.SlotBlocks.TheInside as blocks_inside
+use Rattle.sg_pool.specs.contracts.slot_set.SlotSet as slot_set
+use Rattle.sg_pool.specs.contracts.unlinked_pool.UnlinkedPool.TheInside as unlinked_inside
 use Rattle.sg_pool.specs.declared.links.Links.TheInside.{Inside as LinksInside}
 use Rattle.sg_pool.specs.declared.pool.Pool.TheInside.{Inside}
-use Rattle.sg_pool.specs.declared.pool.Pool.TheView.{view}
-use denote.Builtin.{Array, u8, u16, u32}
+use Rattle.sg_pool.specs.declared.slot_blocks.SlotBlocks.TheInside.{Inside as BlocksInside}
+use Rattle.sg_pool.specs.declared.slot_blocks.SlotBlocks.TheView.{view}
+use Rattle.sg_pool.specs.declared.unlinked_pool.UnlinkedPool.TheInside.{Inside as UnlinkedInside}
+use denote.Builtin.{Array, u8, u16, u32, u64}
 use denote.Struct.Field.{u32-field, u64-field}
 
 -- The same blocks and links, the same free slots, and the same count.
@@ -30,7 +38,7 @@ PoolIsItsParts = (pool other : Inside) → IsSamePool pool other → pool ≡ ot
 
 abbrev pub PoolHasOnlyItsParts : Type 0
 PoolHasOnlyItsParts = HasOnly struct.parts (
-    vec_field (Array u8 tt BLOCK_LENGTH)  -- blocks
+    blocks.the_field  -- blocks
     ∷ links.the_field  -- next
     ∷ u32-field  -- first_given
     ∷ u32-field  -- given_count
@@ -54,24 +62,69 @@ LinksAreTheirParts = (one other : LinksInside) → IsSameLinks one other → one
 
 pub record LinksHaveOnlyTheirParts : Type 0 where
   pub links : HasOnly links_inside.struct.parts (
-      vec_field u32  -- next
+      vec_field u16  -- next
       ∷ jumps.the_field  -- jumps
       ∷ leaps.the_field  -- leaps
       ∷ [])
   pub jumps : HasOnly jumps.struct.parts (
-      vec_field u32  -- owner
+      vec_field u16  -- owner
       ∷ vec_field u8  -- count
-      ∷ vec_field u32  -- target
+      ∷ vec_field u16  -- target
       ∷ [])
   pub leaps : HasOnly leaps.struct.parts (
-      vec_field u32  -- owner
+      vec_field u16  -- owner
       ∷ vec_field u8  -- count
-      ∷ vec_field u32  -- landing
+      ∷ vec_field u16  -- landing
       ∷ vec_field u16  -- reach
       ∷ [])
 
--- The block of a slot is the item of `blocks` at the number of the slot. Past the end of `blocks`
--- each block is zeros.
+-- ---- Pools without links
+
+-- The same blocks, and the same set of used slots with its two summaries.
+pub record IsSameUnlinkedPool (one other : UnlinkedInside) : Type 0 where
+  pub blocks : one.blocks ≡ other.blocks
+  pub slot_count : one.used.count ≡ other.used.count
+  pub slots : one.used.slots.words ≡ other.used.slots.words
+  pub full : one.used.full.words ≡ other.used.full.words
+  pub full_groups : one.used.full_groups.words ≡ other.used.full_groups.words
+  pub free_count : one.free_count ≡ other.free_count
+
+abbrev pub UnlinkedPoolIsItsParts : Type 0
+UnlinkedPoolIsItsParts = (one other : UnlinkedInside) → IsSameUnlinkedPool one other → one ≡ other
+
+pub record UnlinkedPoolHasOnlyItsParts : Type 0 where
+  pub pool : HasOnly unlinked_inside.struct.parts (
+      blocks.the_field  -- blocks
+      ∷ slot_set.the_field  -- used
+      ∷ u32-field  -- free_count
+      ∷ [])
+  pub set : HasOnly slot_set.struct.parts (
+      u32-field  -- count
+      ∷ bits.the_field  -- slots
+      ∷ bits.the_field  -- full
+      ∷ bits.the_field  -- full_groups
+      ∷ [])
+  pub bits : HasOnly bits.struct.parts (
+      vec_field u64  -- words
+      ∷ [])
+
+-- ---- Blocks
+
+-- The first blocks, as far as one was set, and the number of all blocks.
+pub record IsSameBlocks (one other : BlocksInside) : Type 0 where
+  pub first : one.first ≡ other.first
+  pub count : one.count ≡ other.count
+
+abbrev pub BlocksAreTheirParts : Type 0
+BlocksAreTheirParts = (one other : BlocksInside) → IsSameBlocks one other → one ≡ other
+
+abbrev pub BlocksHaveOnlyTheirParts : Type 0
+BlocksHaveOnlyTheirParts = HasOnly blocks_inside.struct.parts (
+    vec_field (Array u8 tt BLOCK_LENGTH)  -- first
+    ∷ u32-field  -- count
+    ∷ [])
+
+-- The block of a slot is the item of `first` at the number of the slot. Past the end of `first` each
+-- block is zeros.
 abbrev pub BlocksLieInOrder : Type 0
-BlocksLieInOrder = (pool : Inside)
-    → (view pool).blocks ≡ zero_padded pool.blocks.items (length pool.next)
+BlocksLieInOrder = (blocks : BlocksInside) → view blocks ≡ zero_padded blocks.first.items blocks.count

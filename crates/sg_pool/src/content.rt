@@ -4,7 +4,7 @@ ghost use Rattle.sg_store.specs.Disk.{HasBlockLength};
 ghost use Rattle.sg_pool.specs.MappedRecords.{filled_slot};
 ghost use Rattle.sg_pool.specs.Content.{kind_for, mapping_for};
 
-use crate::pool::Pool;
+use crate::slot_blocks::SlotBlocks;
 use crate::source::Source;
 use sg_table::Kind;
 
@@ -30,15 +30,13 @@ impl Content<'_> {
 
     /// Puts the block for an index of the range into a slot. The slot of an anchored address keeps
     /// its bytes, and no reader sees them.
-    pub fn fill(&self, pool: &mut Pool, slot: u32, index: usize)
-        requires slot { slot < length pool.old.blocks }
+    pub(crate) fn fill(&self, blocks: &mut SlotBlocks, slot: u32, index: usize)
+        requires slot { slot < length blocks.old }
         requires whole { HasBlockLength (mapping_for self.now index) }
-        ensures { pool.new ≡ record pool.old {
-          blocks = filled_slot pool.old.blocks slot (mapping_for self.now index);
-        } }
+        ensures { blocks.new ≡ filled_slot blocks.old slot (mapping_for self.now index) }
     {
         match self {
-            Content::Blocks(source) => pool.set(slot, source.block(index)),
+            Content::Blocks(source) => blocks.set(slot, source.block(index)),
             Content::Anchor => {}
         }
     }

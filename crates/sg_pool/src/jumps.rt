@@ -12,26 +12,26 @@ pub(crate) const SEGMENT: u32 = 64;
 #[derive(Drop)]
 pub(crate) struct Jumps {
     /// The slot whose jump goes over the link of this slot, if there is such a jump.
-    pub(crate) owner: Vec<u32>,
+    pub(crate) owner: Vec<u16>,
     /// The number of links that the jump of this slot goes over, or 0 if it has no jump.
     pub(crate) count: Vec<u8>,
     /// The slot that the jump of this slot comes to.
-    pub(crate) target: Vec<u32>,
+    pub(crate) target: Vec<u16>,
 }
 
 /// What a walk along a chain did.
 #[derive(Drop)]
 pub(crate) struct Walk {
     /// The slot that it came to.
-    pub(crate) slot: u32,
+    pub(crate) slot: u16,
     /// The number of links that it passed.
     pub(crate) passed: u32,
     /// The number of steps: each is a leap, a jump or a link.
     pub(crate) steps: u32,
 }
 
-/// `count` numbers of slots, each 0.
-pub(crate) fn zero_slots(alloc: Global, count: u32) -> Result<Vec<u32>, AllocError>
+/// `count` numbers of slots or of links, each 0.
+pub(crate) fn zero_numbers(alloc: Global, count: u32) -> Result<Vec<u16>, AllocError>
     ensures { IfOk result (λ zeros. zeros.items ≡ replicate count 0) }
 {
     vec![in alloc; 0; count as usize]
@@ -47,11 +47,11 @@ pub(crate) fn zero_lengths(alloc: Global, count: u32) -> Result<Vec<u8>, AllocEr
 /// Lays a jump from a slot over its next `limit` links. It ends before a link that another jump
 /// goes over. The result is the number of links that it goes over.
 fn lay(
-    next: &[u32],
-    owner: &mut [u32],
+    next: &[u16],
+    owner: &mut [u16],
     jump: &mut [u8],
-    target: &mut [u32],
-    first: u32,
+    target: &mut [u16],
+    first: u16,
     limit: u32,
 ) -> u32
     requires jumps { AreJumpsOver next.now owner.old jump.old target.old }
@@ -94,7 +94,7 @@ fn whole(left: u32) -> u32
 
 /// The number of links that the jump of a slot goes over, or 0 if it has no jump or goes over more
 /// than `left` links.
-fn jump_within(jumps: &Jumps, slot: u32, left: u32) -> u32
+fn jump_within(jumps: &Jumps, slot: u16, left: u32) -> u32
     requires slot { slot < length jumps.now.count.items }
     ensures jump { 0 < result → (result ≡ slice_index jumps.now.count.items slot) × (result ≤ left) }
     ensures all { slice_index jumps.now.count.items slot ≤ left
@@ -106,7 +106,7 @@ fn jump_within(jumps: &Jumps, slot: u32, left: u32) -> u32
 
 /// Takes a step along a chain of which `left` links are left. It goes over the jump of the slot, or
 /// over one that it lays, or over one link. It counts each link that it read to lay a jump.
-pub(crate) fn step(next: &[u32], jumps: &mut Jumps, slot: u32, left: u32) -> Walk
+pub(crate) fn step(next: &[u16], jumps: &mut Jumps, slot: u16, left: u32) -> Walk
     requires jumps { AreJumps next.now jumps.old }
     requires below { AreBelow (length next.now) (chain next.now slot left) }
     requires not_empty { 0 < left }

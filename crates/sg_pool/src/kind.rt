@@ -4,7 +4,7 @@ ghost use Rattle.std.specs.Prelude.{◌≡◌, ◌<◌, length, Some};
 ghost use Rattle.sg_store.specs.Disk.{data_in};
 ghost use Rattle.sg_pool.specs.MappedRecords.{mapping_in, status_of_kind};
 
-use crate::pool::Pool;
+use crate::slot_blocks::SlotBlocks;
 use sg_store::BLOCK_LENGTH;
 use sg_store::lba_status::ProvisioningStatus;
 use sg_table::{Kind, Run};
@@ -20,13 +20,13 @@ pub fn status_of(kind: Kind) -> ProvisioningStatus
 }
 
 /// Reads the block of a record's first address: the block of its slot, or zeros if it is anchored.
-pub fn read_first(pool: &Pool, run: Run, bytes: &mut [u8])
-    requires slot { run.first < length pool.now.blocks }
+pub(crate) fn read_first(blocks: &SlotBlocks, run: Run, bytes: &mut [u8])
+    requires slot { run.first < length blocks.now }
     requires byte_count { length bytes.old ≡ BLOCK_LENGTH }
-    ensures { bytes.new ≡ data_in (Some (mapping_in pool.now.blocks run.first run.kind)) }
+    ensures { bytes.new ≡ data_in (Some (mapping_in blocks.now run.first run.kind)) }
 {
     match run.kind {
-        Kind::Data => bytes.copy_from_slice(pool.bytes(run.first)),
+        Kind::Data => bytes.copy_from_slice(blocks.get(run.first)),
         Kind::Anchored => bytes.fill(0),
     }
 }

@@ -1,12 +1,10 @@
 // Leaps: from a slot over jumps to a later slot of its chain. A walk takes leaps, then jumps, then
 // links.
-ghost use Rattle.std.specs.Prelude.{◌≡◌, ℕ, ◌+◌, ◌*◌, ◌<◌, ◌≤◌, List, length, replicate, slice_index, sum};
-ghost use Rattle.std.specs.Prelude.{IfOk};
+ghost use Rattle.std.specs.Prelude.{◌≡◌, ℕ, ◌+◌, ◌*◌, ◌<◌, ◌≤◌, List, length, slice_index, sum};
 ghost use Rattle.sg_pool.specs.Chains.{chain, slot_after, AreBelow};
 ghost use Rattle.sg_pool.specs.Jumps.{segment, span, AreJumps, AreLeaps, AreLeapsAhead, AreLeapsOver};
 
 use crate::jumps::{Jumps, SEGMENT, Walk, step};
-use std::alloc::{AllocError, Global};
 
 /// The most links that a leap goes over.
 const LEAP: u32 = SEGMENT * SEGMENT;
@@ -15,24 +13,17 @@ const LEAP: u32 = SEGMENT * SEGMENT;
 #[derive(Drop)]
 pub(crate) struct Leaps {
     /// The slot whose leap goes over the jump of this slot, if there is such a leap.
-    pub(crate) owner: Vec<u32>,
+    pub(crate) owner: Vec<u16>,
     /// The number of jumps that the leap of this slot goes over, or 0 if it has no leap.
     pub(crate) count: Vec<u8>,
     /// The slot that the leap of this slot comes to.
-    pub(crate) landing: Vec<u32>,
+    pub(crate) landing: Vec<u16>,
     /// The number of links that the leap of this slot goes over.
     pub(crate) reach: Vec<u16>,
 }
 
-/// `count` numbers of links, each 0.
-pub(crate) fn zero_reaches(alloc: Global, count: u32) -> Result<Vec<u16>, AllocError>
-    ensures { IfOk result (λ zeros. zeros.items ≡ replicate count 0) }
-{
-    vec![in alloc; 0; count as usize]
-}
-
 /// The number of links that the jump of a slot goes over, or 0 if there is no such slot.
-fn jump_at(jumps: &Jumps, slot: u32) -> u8
+fn jump_at(jumps: &Jumps, slot: u16) -> u8
     ensures { result ≡ slice_index jumps.now.count.items slot }
 {
     if (slot as usize) < jumps.count.len() {
@@ -45,11 +36,11 @@ fn jump_at(jumps: &Jumps, slot: u32) -> u8
 /// before a jump that another leap goes over. It counts each jump that it read.
 fn lay_leap(
     jumps: &Jumps,
-    owner: &mut [u32],
+    owner: &mut [u16],
     count: &mut [u8],
-    landing: &mut [u32],
+    landing: &mut [u16],
     reach: &mut [u16],
-    first: u32,
+    first: u16,
 ) -> Walk
     requires leaps { AreLeapsOver jumps.now.count.items jumps.now.target.items
         owner.old count.old landing.old reach.old }
@@ -108,7 +99,7 @@ fn lay_leap(
 
 /// The number of links that the leap of a slot goes over, or 0 if it has no leap or goes over more
 /// than `left` links.
-fn leap_within(leaps: &Leaps, slot: u32, left: u32) -> u32
+fn leap_within(leaps: &Leaps, slot: u16, left: u32) -> u32
     requires slot { slot < length leaps.now.count.items }
     requires reach { length leaps.now.reach.items ≡ length leaps.now.count.items }
     ensures leap { 0 < result → (0 < slice_index leaps.now.count.items slot)
@@ -117,16 +108,16 @@ fn leap_within(leaps: &Leaps, slot: u32, left: u32) -> u32
         → slice_index leaps.now.reach.items slot ≤ left
         → result ≡ slice_index leaps.now.reach.items slot }
 {
-    let reach = u32::from(leaps.reach[slot as usize]);
-    if leaps.count[slot as usize] == 0 || reach > left {
+    if leaps.count[slot as usize] == 0 {
         return 0;
     }
-    reach
+    let reach = u32::from(leaps.reach[slot as usize]);
+    if reach > left { 0 } else { reach }
 }
 
 /// Takes a step along a chain of which `left` links are left. It goes over the leap of the slot, or
 /// over the jumps ahead as it lays a leap over them, or it is the step that `step` takes.
-fn stride(next: &[u32], jumps: &mut Jumps, leaps: &mut Leaps, slot: u32, left: u32) -> Walk
+fn stride(next: &[u16], jumps: &mut Jumps, leaps: &mut Leaps, slot: u16, left: u32) -> Walk
     requires jumps { AreJumps next.now jumps.old }
     requires leaps { AreLeaps jumps.old leaps.old }
     requires below { AreBelow (length next.now) (chain next.now slot left) }
@@ -175,12 +166,25 @@ fn stride(next: &[u32], jumps: &mut Jumps, leaps: &mut Leaps, slot: u32, left: u
     step(next, jumps, slot, left)
 }
 
+/// The slot that is `count` links after another.
+fn follow_links(next: &[u16], first: u16, count: u32) -> u16
+    requires { AreBelow (length next.now) (chain next.now first count) }
+    ensures { result ≡ slot_after next.now first count }
+{
+    let mut slot = first;
+    for _i in 0..count {
+        slot = next[slot as usize];
+    }
+    slot
+}
+
 /// Walks along `count` links of a chain.
+// It looks for no jump over the last links: there are too few to lay one.
 pub(crate) fn walk(
-    next: &[u32],
+    next: &[u16],
     jumps: &mut Jumps,
     leaps: &mut Leaps,
-    first: u32,
+    first: u16,
     count: u32,
 ) -> Walk
     requires jumps { AreJumps next.now jumps.old }
@@ -201,15 +205,15 @@ pub(crate) fn walk(
     let mut slot = first;
     let mut left = count;
     let mut steps = 0;
-    while left > 0 {
+    while left >= SEGMENT {
         let taken = stride(next, jumps, leaps, slot, left);
         slot = taken.slot;
         left -= taken.passed;
         steps += taken.steps;
     }
     Walk {
-        slot,
+        slot: follow_links(next, slot, left),
         passed: count,
-        steps,
+        steps: steps + left,
     }
 }

@@ -3,16 +3,18 @@
 ghost use Rattle.std.specs.Prelude.{◌≡◌, ◌<◌, ◌≤◌, length, replicate, slice_index, slice_set, IfOk};
 ghost use Rattle.sg_pool.specs.Chains.{chain, slot_after, AreBelow};
 
-use crate::jumps::{Jumps, zero_lengths, zero_slots};
-use crate::leaps::{Leaps, walk, zero_reaches};
-use sg_store::MAX_POOL;
+use crate::jumps::{Jumps, zero_lengths, zero_numbers};
+use crate::leaps::{Leaps, walk};
 use std::alloc::{AllocError, Global};
 use std::marker::Model;
+
+/// The most slots that links connect. The number of each fits two bytes.
+pub const MAX_SLOTS: u32 = 65_536;
 
 /// A link from each slot to the next one of its chain.
 #[derive(Drop)]
 pub(crate) struct Links {
-    next: Vec<u32>,
+    next: Vec<u16>,
     jumps: Jumps,
     leaps: Leaps,
 }
@@ -20,22 +22,15 @@ pub(crate) struct Links {
 impl Model for Links {
     ghost use Rattle.std.specs.Prelude.{◌≤◌, ℕ, List, length};
     ghost use Rattle.sg_pool.specs.Jumps.{AreJumps, AreLeaps};
-    ghost use Rattle.sg_store.specs.declared.store.TheConstants.{MAX_POOL};
+    ghost use Rattle.sg_pool.specs.declared.links.TheConstants.{MAX_SLOTS};
 
     ghost Value = { List ℕ };
 
     ghost view = { λ l. l.next.items };
 
-    ghost invariant = { λ l. (length l.next.items ≤ MAX_POOL)
+    ghost invariant = { λ l. (length l.next.items ≤ MAX_SLOTS)
         × AreJumps l.next.items l.jumps
         × AreLeaps l.jumps l.leaps };
-}
-
-/// `count` links to slot 0.
-fn zero_links(alloc: Global, count: u32) -> Result<Vec<u32>, AllocError>
-    ensures { IfOk result (λ zeros. zeros.items ≡ replicate count 0) }
-{
-    vec![in alloc; 0; count as usize]
 }
 
 impl Links {
@@ -44,21 +39,21 @@ impl Links {
     /// # Errors
     /// The allocator refused memory.
     pub(crate) fn new(alloc: Global, count: u32) -> Result<Links, AllocError>
-        requires { count ≤ MAX_POOL }
+        requires { count ≤ MAX_SLOTS }
         ensures { IfOk result (λ links. links ≡ replicate count 0) }
     {
         Ok(Links {
-            next: zero_links(alloc, count)?,
+            next: zero_numbers(alloc, count)?,
             jumps: Jumps {
-                owner: zero_slots(alloc, count)?,
+                owner: zero_numbers(alloc, count)?,
                 count: zero_lengths(alloc, count)?,
-                target: zero_slots(alloc, count)?,
+                target: zero_numbers(alloc, count)?,
             },
             leaps: Leaps {
-                owner: zero_slots(alloc, count)?,
+                owner: zero_numbers(alloc, count)?,
                 count: zero_lengths(alloc, count)?,
-                landing: zero_slots(alloc, count)?,
-                reach: zero_reaches(alloc, count)?,
+                landing: zero_numbers(alloc, count)?,
+                reach: zero_numbers(alloc, count)?,
             },
         })
     }
@@ -73,22 +68,24 @@ impl Links {
     /// The slot after another.
     pub(crate) fn get(&self, slot: u32) -> u32
         requires { slot < length self.now }
-        ensures { result ≡ slice_index self.now slot }
+        ensures slot { result ≡ slice_index self.now slot }
+        ensures fits { result < MAX_SLOTS }
     {
-        self.next[slot as usize]
+        u32::from(self.next[slot as usize])
     }
 
     /// Changes the link of a slot. This drops the jump over the link, and the leap over that jump,
     /// if there are any.
     pub(crate) fn set(&mut self, slot: u32, to: u32)
-        requires { slot < length self.old }
+        requires slot { slot < length self.old }
+        requires to { to < MAX_SLOTS }
         ensures { self.new ≡ slice_set self.old slot to }
     {
         let jumper = self.jumps.owner[slot as usize] as usize;
         let leaper = self.leaps.owner[jumper] as usize;
         self.leaps.count[leaper] = 0;
         self.jumps.count[jumper] = 0;
-        self.next[slot as usize] = to;
+        self.next[slot as usize] = to as u16;
     }
 
     /// The slot that is `count` links after another, and the number of steps to it. A later call
@@ -99,7 +96,16 @@ impl Links {
         ensures steps { result.1 ≤ count }
         ensures links { self.new ≡ self.old }
     {
-        let walk = walk(&self.next, &mut self.jumps, &mut self.leaps, first, count);
-        (walk.slot, walk.steps)
+        if count == 0 {
+            return (first, 0);
+        }
+        let walk = walk(
+            &self.next,
+            &mut self.jumps,
+            &mut self.leaps,
+            first as u16,
+            count,
+        );
+        (u32::from(walk.slot), walk.steps)
     }
 }

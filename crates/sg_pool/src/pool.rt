@@ -1,27 +1,30 @@
 // The slots of 512 bytes and the links between them. This file knows no address: the table says
 // which slot belongs to which address.
-ghost use Rattle.std.specs.Prelude.{◌≡◌, ◌<◌, ◌+◌, ◌-◌, ◌∷◌, ◌++◌, ◌≤◌, length, replicate, IfOk};
-ghost use Rattle.std.specs.Prelude.{slice_index, slice_index_or, slice_set, vec_capacity};
+ghost use Rattle.std.specs.Prelude.{◌≡◌, ◌<◌, ◌+◌, ◌-◌, ◌∷◌, ◌++◌, ◌≤◌, length, replicate, IfOk, Some};
+ghost use Rattle.std.specs.Prelude.{slice_index, slice_index_or, slice_set};
 ghost use Rattle.std.specs.List.{range_with_len};
 ghost use Rattle.sg_pool.specs.Chains.{chain, slot_after, AreBelow, IsChain};
-ghost use Rattle.sg_store.specs.Disk.{zero_block};
+ghost use Rattle.sg_store.specs.Disk.{data_in, zero_block, HasBlockLength};
 ghost use Rattle.sg_table.specs.Occurrences.{IsEachOnce, occurrences};
+ghost use Rattle.sg_pool.specs.Content.{mapping_for};
+ghost use Rattle.sg_pool.specs.MappedRecords.{filled_slot, mapping_in};
 ghost use Rattle.sg_pool.specs.Slots.{followed};
 
-use crate::links::Links;
-use sg_store::{BLOCK_LENGTH, MAX_POOL};
+use crate::content::Content;
+use crate::kind::read_first;
+use crate::links::{Links, MAX_SLOTS};
+use crate::slot_blocks::SlotBlocks;
+use sg_store::BLOCK_LENGTH;
+use sg_table::Run;
 use std::alloc::{AllocError, Global};
 use std::marker::Model;
-
-const ZERO_BLOCK: [u8; BLOCK_LENGTH] = [0; BLOCK_LENGTH];
 
 /// Slots of one block each, with a link from each slot to the next one of its chain. The free slots
 /// are the chain of the slots that were given back, and all slots from one number on. No call has
 /// taken one of the latter since every slot was free.
 #[derive(Drop)]
 pub struct Pool {
-    /// The blocks of the first slots, as far as one was set. The others are zeros.
-    blocks: Vec<[u8; BLOCK_LENGTH]>,
+    blocks: SlotBlocks,
     next: Links,
     /// The first slot that was given back.
     first_given: u32,
@@ -32,41 +35,25 @@ pub struct Pool {
 }
 
 impl Model for Pool {
-    ghost use Rattle.std.specs.Prelude.{◌≤◌, length, vec_capacity};
+    ghost use Rattle.std.specs.Prelude.{◌≡◌, ◌<◌, ◌≤◌, length};
     ghost use Rattle.sg_pool.specs.Chains.{chain, AreBelow};
-    ghost use Rattle.sg_pool.specs.Slots.{Slots, free_slots, zero_padded};
-    ghost use Rattle.sg_store.specs.declared.store.TheConstants.{MAX_POOL};
+    ghost use Rattle.sg_pool.specs.Slots.{Slots, free_slots};
+    ghost use Rattle.sg_pool.specs.declared.links.TheConstants.{MAX_SLOTS};
 
     ghost Value = { Slots };
 
     ghost view = { λ p. record {
-      blocks = zero_padded p.blocks.items (length p.next);
+      blocks = p.blocks;
       next = p.next;
       free = free_slots p.next p.first_given p.given_count p.fresh;
       links = p.links;
     } };
 
-    ghost invariant = { λ p. (length p.blocks.items ≤ length p.next)
+    ghost invariant = { λ p. (length p.blocks ≡ length p.next)
         × AreBelow (length p.next) (chain p.next p.first_given p.given_count)
-        × (length p.next ≤ vec_capacity p.blocks)
         × (p.fresh ≤ length p.next)
-        × (length p.next ≤ MAX_POOL) };
-}
-
-/// Appends blocks of zeros up to the block of a slot, unless the slot has a block already.
-fn extend_to(blocks: &mut Vec<[u8; BLOCK_LENGTH]>, slot: u32)
-    requires { slot < vec_capacity blocks.old }
-    ensures blocks { blocks.new.items
-        ≡ blocks.old.items ++ replicate (slot + 1 - length blocks.old.items) zero_block }
-    ensures capacity { vec_capacity blocks.old ≤ vec_capacity blocks.new }
-{
-    let index = slot as usize;
-    if index < blocks.len() {
-        return;
-    }
-    let extended = blocks.resize(index + 1, ZERO_BLOCK);
-    prove!(extended.is_ok());
-    let _ = extended;
+        × (length p.next ≤ MAX_SLOTS)
+        × (p.first_given < MAX_SLOTS) };
 }
 
 impl Pool {
@@ -75,7 +62,7 @@ impl Pool {
     /// # Errors
     /// The allocator refused memory.
     pub fn new(alloc: Global, count: u32) -> Result<Pool, AllocError>
-        requires { count ≤ MAX_POOL }
+        requires { count ≤ MAX_SLOTS }
         ensures blocks { IfOk result (λ pool. length pool.blocks ≡ count) }
         ensures zeros { IfOk result (λ pool. pool.blocks ≡ replicate count zero_block) }
         ensures free { IfOk result (λ pool. pool.free ≡ range_with_len 0 count) }
@@ -83,7 +70,7 @@ impl Pool {
         ensures links { IfOk result (λ pool. pool.links ≡ 0) }
     {
         Ok(Pool {
-            blocks: Vec::with_capacity(alloc, count as usize)?,
+            blocks: SlotBlocks::new(alloc, count)?,
             next: Links::new(alloc, count)?,
             first_given: 0,
             given_count: 0,
@@ -97,7 +84,7 @@ impl Pool {
         requires { slot < length self.now.blocks }
         ensures { result.now ≡ slice_index_or self.now.blocks slot zero_block }
     {
-        self.blocks.get(slot as usize).unwrap_or(&ZERO_BLOCK)
+        self.blocks.get(slot)
     }
 
     /// The number of free slots.
@@ -113,8 +100,29 @@ impl Pool {
         requires byte_count { length bytes.now ≡ BLOCK_LENGTH }
         ensures { self.new ≡ record self.old { blocks = slice_set self.old.blocks slot bytes.now } }
     {
-        extend_to(&mut self.blocks, slot);
-        self.blocks[slot as usize].copy_from_slice(bytes);
+        self.blocks.set(slot, bytes);
+    }
+
+    /// Puts the block for an index of a range into a slot. The slot of an anchored address keeps its
+    /// bytes.
+    pub fn fill(&mut self, slot: u32, content: &Content, index: usize)
+        requires slot { slot < length self.old.blocks }
+        requires whole { HasBlockLength (mapping_for content.now index) }
+        ensures { self.new ≡ record self.old {
+          blocks = filled_slot self.old.blocks slot (mapping_for content.now index);
+        } }
+    {
+        content.fill(&mut self.blocks, slot, index);
+    }
+
+    /// Reads the block of a record's first address: the block of its slot, or zeros if it is
+    /// anchored.
+    pub fn read_first(&self, run: Run, bytes: &mut [u8])
+        requires slot { run.first < length self.now.blocks }
+        requires byte_count { length bytes.old ≡ BLOCK_LENGTH }
+        ensures { bytes.new ≡ data_in (Some (mapping_in self.now.blocks run.first run.kind)) }
+    {
+        read_first(&self.blocks, run, bytes);
     }
 
     /// Takes a free slot. The pool does not count the link that it follows to the next free slot.
@@ -147,7 +155,7 @@ impl Pool {
     pub fn give(&mut self, slot: u32)
         requires slot { slot < length self.old.blocks }
         requires used { occurrences slot self.old.free ≡ 0 }
-        requires room { length self.old.free < MAX_POOL }
+        requires room { length self.old.free < MAX_SLOTS }
 
         // Only the link of the slot changes.
         ensures free { self.new.free ≡ slot ∷ self.old.free }
@@ -165,7 +173,7 @@ impl Pool {
         requires slots { AreBelow (length self.old.next) (chain self.old.next first count) }
         requires last { last < length self.old.next }
         requires once { occurrences last (chain self.old.next first count ++ self.old.free) ≡ 1 }
-        requires room { count + length self.old.free ≤ MAX_POOL }
+        requires room { count + length self.old.free ≤ MAX_SLOTS }
 
         // Only the link of the last slot changes.
         ensures free { self.new.free ≡ chain self.old.next first count ++ self.old.free }
@@ -180,6 +188,7 @@ impl Pool {
     /// Links a slot that is not free to the next one of its chain.
     pub fn link(&mut self, slot: u32, next: u32)
         requires slot { slot < length self.old.next }
+        requires next { next < length self.old.next }
         requires used { occurrences slot self.old.free ≡ 0 }
         ensures { self.new ≡ record self.old { next = slice_set self.old.next slot next } }
     {

@@ -26,9 +26,9 @@ abbrev pub profile_of : State → Profile
 profile_of state = state.identity.profile
 
 -- No table of the disk is past its limit. No more addresses are used than the pool has blocks. Each
--- of the eight initiators has a queue of at most sixteen pending conditions, all distinct. At most six
--- initiators are registered, none twice and none under the key 0. A reservation has the holders of
--- its type. Each used address is below the capacity, and data is blocks of 512 bytes.
+-- of the eight initiators has a queue of at most sixteen pending conditions, all distinct. At most
+-- six initiators are registered, none twice and none under the key 0. A reservation has the holders
+-- of its type. Each used address is below the capacity, and data is blocks of 512 bytes.
 pub record IsWithinLimits (state : State) : Type 0 where
   pub used : len state.disk.contents ≤ state.disk.pool
   pub pending : ArePending state.attentions

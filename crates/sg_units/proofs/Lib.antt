@@ -1,4 +1,5 @@
 -- Unit attentions.
+pub mod ConditionLemmas
 pub mod AttentionLemmas
 -- PERSISTENT RESERVE IN.
 pub mod PartLemmas

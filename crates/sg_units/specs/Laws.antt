@@ -166,7 +166,8 @@ pub record ReservationsStayConsistent : Type 0 where
   pub power_cycle : (state : ReservationState) → IsConsistent state → IsConsistent (after_power_on state)
 
 -- The queues of unit attentions stay within their limits if the oldest condition of a queue is
--- cleared, and if a condition is raised for one initiator or for each. They are within their limits after a power cycle.
+-- cleared, and if a condition is raised for one initiator or for each. They are within their limits
+-- after a power cycle.
 pub record QueuesKeepTheirLimits : Type 0 where
   pub cleared : (pending : Pending) (initiator : ℕ) → ArePending pending
       → ArePending (without_oldest pending initiator)

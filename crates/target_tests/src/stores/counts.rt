@@ -160,6 +160,14 @@ const APART: [Step; 5] = [
     (Status, 0, 0, DONE, [3, 3, 3], [3, 0, 0], [3, 2, 0]),
 ];
 
+/// Two slots that were given back one after the other are taken as one row again.
+const ROW: [Step; 4] = [
+    (Fill(0xA1), 0, 4, DONE, [4, 4, 1], NONE, ANY),
+    (Unmap, 0, 1, DONE, [3, 3, 1], NONE, ANY),
+    (Unmap, 1, 1, DONE, [2, 2, 1], NONE, ANY),
+    (Write(0xB2), 10, 2, DONE, [4, 4, 2], NONE, ANY),
+];
+
 /// A full pool refuses an address without a slot, and takes a write of the others.
 const FULL: [Step; 7] = [
     (Fill(0xA1), 0, 4, DONE, [4, 4, 1], NONE, ANY),
@@ -185,9 +193,10 @@ const LONG: [Step; 2] = [
     ),
 ];
 
-const OF_EXTENT_MAP: [(&str, u32, &[Step]); 4] = [
+const OF_EXTENT_MAP: [(&str, u32, &[Step]); 5] = [
     ("in order", 4, &IN_ORDER),
     ("apart", 4, &APART),
+    ("row", 4, &ROW),
     ("full", 4, &FULL),
     ("long", 65_536, &LONG),
 ];

@@ -30,7 +30,7 @@ pub join-done-requires-clause-slot : goal.join-done-requires-clause-slot
 join-done-requires-clause-slot c =
     let w = c.requires.writing in
     let p = c.args.pool.now in
-    let next : c.fill.new.pool.next ≡ p.next = ap (λ (s : Slots). s.next) c.fill.ensures
+    let next : c.fill.new.self.next ≡ p.next = ap (λ (s : Slots). s.next) c.fill.ensures
     ∙ ap (λ (s : Slots). s.next) c.take-slot.ensures.pool in
     λ pos. rw next ((done-last w.0 c.args.progress.done
     (ahead_of c.args.runs.now c.args.progress.walk.run c.args.progress.walk.at ++ w.1) p
@@ -41,7 +41,7 @@ join-done-requires-clause-used c =
     let w = c.requires.writing in
     let p = c.args.pool.now in
     let done = c.args.progress.done in
-    let free : c.fill.new.pool.free ≡ c.take-slot.new.self.free =
+    let free : c.fill.new.self.free ≡ c.take-slot.new.self.free =
     ap (λ (s : Slots). s.free) c.fill.ensures in
     λ pos.
     let none = (done-last w.0 done
@@ -50,6 +50,17 @@ join-done-requires-clause-used c =
     let e = ap (occurrences done.last) c.take-slot.ensures.free
     ∙ occurrences-more done.last c.take-slot.result c.take-slot.new.self.free in
     rw free (omega arith)
+
+pub join-done-requires-clause-other : goal.join-done-requires-clause-other
+join-done-requires-clause-other c =
+    let w = c.requires.writing in
+    let p = c.args.pool.now in
+    let next : c.fill.new.self.next ≡ p.next = ap (λ (s : Slots). s.next) c.fill.ensures
+    ∙ ap (λ (s : Slots). s.next) c.take-slot.ensures.pool in
+    let low = slot-taken w.0 c.args.progress.done
+    (ahead_of c.args.runs.now c.args.progress.walk.run c.args.progress.walk.at ++ w.1) p
+    c.args.lba c.take-slot.result c.take-slot.new.self.free w.2 c.take-slot.ensures.free in
+    rw (next, ap (λ (r : Run). r.first) c.single.ensures) (omega (arith, low, w.2.consistent.pool))
 
 pub returns-in_default-clause-puts : goal.returns-in_default-clause-puts
 returns-in_default-clause-puts c =
@@ -60,7 +71,7 @@ returns-in_default-clause-puts c =
     let slot = c.take-slot.result in
     let run_is : c.join-done.result ≡ joined done (single lba slot done.kind) = c.join-done.ensures.run
     ∙ ap (joined done) c.single.ensures in
-    let set_is : c.fill.new.pool ≡ record p {
+    let set_is : c.fill.new.self ≡ record p {
       blocks = filled_slot p.blocks slot (mapping_for c.args.content.now c.args.index);
       free =
           c.take-slot.new.self.free;
@@ -138,17 +149,30 @@ join-done-requires-2-clause-slot c =
     let x = c.requires.writing in
     let p = c.args.pool.now in
     let w = c.args.progress.walk in
-    let next : c.fill-2.new.pool.next ≡ p.next = ap (λ (s : Slots). s.next) c.fill-2.ensures
+    let next : c.fill-2.new.self.next ≡ p.next = ap (λ (s : Slots). s.next) c.fill-2.ensures
     ∙ ap (λ (s : Slots). s.next) c.pass-walk.ensures.links.pool in
     λ pos. rw next ((done-last x.0 c.args.progress.done
     (ahead_of c.args.runs.now w.run w.at ++ x.1) p c.args.lba x.2 pos).0)
+
+pub join-done-requires-2-clause-other : goal.join-done-requires-2-clause-other
+join-done-requires-2-clause-other c =
+    let x = c.requires.writing in
+    let p = c.args.pool.now in
+    let w = c.args.progress.walk in
+    let found = c.in-Some.run' in
+    let t = there w.run c.args.lba found (sym c.run_at.ensures ∙ c.in-Some.is) in
+    let next : c.fill-2.new.self.next ≡ p.next = ap (λ (s : Slots). s.next) c.fill-2.ensures
+    ∙ ap (λ (s : Slots). s.next) c.pass-walk.ensures.links.pool in
+    let low = slot-there x.0 c.args.progress.done found (drop w.at c.args.runs.now ++ x.1) p
+    c.args.lba (rw (here c.args.runs.now x.1 w.run found w.at t.0) at x.2) in
+    rw (next, ap (λ (r : Run). r.first) c.single-2.ensures) (omega (arith, low, x.2.consistent.pool))
 
 pub join-done-requires-2-clause-used : goal.join-done-requires-2-clause-used
 join-done-requires-2-clause-used c =
     let x = c.requires.writing in
     let p = c.args.pool.now in
     let w = c.args.progress.walk in
-    let free : c.fill-2.new.pool.free ≡ p.free = ap (λ (s : Slots). s.free) c.fill-2.ensures
+    let free : c.fill-2.new.self.free ≡ p.free = ap (λ (s : Slots). s.free) c.fill-2.ensures
     ∙ ap (λ (s : Slots). s.free) c.pass-walk.ensures.links.pool in
     λ pos. rw free ((done-last x.0 c.args.progress.done
     (ahead_of c.args.runs.now w.run w.at ++ x.1) p c.args.lba x.2 pos).1)

@@ -20,7 +20,7 @@ use Rattle.sg_block_map.proofs.RunSlotLemmas.{runs-fit, gathered-blocks, length-
 use Rattle.sg_block_map.proofs.FinishLemmas.{begin-range, finished, parts-shape, gathered-ahead}
 use Rattle.sg_block_map.proofs.FinishLemmas.{walk_from-near, walk_from-kind, walk_from-start}
 use Rattle.sg_block_map.proofs.FinishLemmas.{walk_from-blocks}
-use Rattle.sg_block_map.proofs.FinishLemmas.{free-there, one-fits, ahead-fits}
+use Rattle.sg_block_map.proofs.FinishLemmas.{free-there, one-fits, ahead-below, ahead-fits}
 use Rattle.sg_block_map.proofs.WriteLemmas.{writing-followed, done-last}
 use Rattle.sg_block_map.proofs.write.put_range.Goals as goal
 
@@ -182,6 +182,14 @@ finish-back-requires-clause-slot c = λ pos. (done-last _ _ _ _ _ c.loop-i.invar
 
 pub finish-back-requires-clause-used : goal.finish-back-requires-clause-used
 finish-back-requires-clause-used c = λ pos. (done-last _ _ _ _ _ c.loop-i.invariant.writing pos).1
+
+pub finish-back-requires-clause-ahead : goal.finish-back-requires-clause-ahead
+finish-back-requires-clause-ahead c =
+    let gathered = c.args.gathered.now in
+    let w = c.loop-i.progress.walk in
+    ahead-below (take gathered.from c.args.table.now.records ++ option_to_list c.begin-front.result.0)
+    (drop (end_index gathered) c.args.table.now.records) gathered.records c.loop-i.progress.done
+    w.run w.at (c.args.lba + c.loop-i.i) c.loop-i.pool c.loop-i.invariant.writing
 
 pub finish-back-requires-clause-fits : goal.finish-back-requires-clause-fits
 finish-back-requires-clause-fits c =

@@ -24,7 +24,6 @@ made-of map =
       gathered_empty = (lists i).1.0;
       draft_empty = (lists i).1.1;
       well_formed = map.well_formed;
-      links = map.links;
       extents = map.extents;
     }
 

@@ -1,33 +1,43 @@
-use Rattle.std.proofs.Common.{◌≡◌, ℕ, ◌+◌, ◌-◌, suc, length, length-set, ap, ◌∙◌, arith}
-use Rattle.std.proofs.Common.{◌∷◌, refl}
-use Rattle.sg_pool.specs.Slots.{Slots}
+use Rattle.std.proofs.Common.{ℕ, ◌+◌, ap, ◌∙◌, arith, refl, cond}
+use Rattle.sg_pool.specs.Slots.{UnlinkedSlots}
+use Rattle.sg_store.proofs.DiskLemmas.{above}
 use Rattle.sg_table.specs.Occurrences.{occurrences}
-use Rattle.sg_table.proofs.OccurrenceLemmas.{occurrences-more}
-use Rattle.sg_extent_map.proofs.SinglesLemmas.{lies-more}
+use Rattle.sg_extent_map.proofs.UnmapLemmas.{occurrences-range, range-one-more}
 use Rattle.sg_extent_map.proofs.unmap.give_slots.Goals as goal
+
+pub give-requires-clause-used : goal.give-requires-clause-used
+give-requires-clause-used c =
+    let inv = c.loop-given.invariant in
+    let first = c.args.first in
+    let g = c.loop-given.given in
+    let slot : ℕ = first + g in
+    let none = occurrences-range slot first g
+    ∙ ap (λ b. cond b 1 0) (above first g slot (omega arith)) in
+    omega (
+      arith,
+      inv.each slot,
+      none,
+      c.requires.used slot (omega arith) (omega (arith, c.loop-given-test.true)),
+    )
+
+pub loop-given-init : goal.loop-given-init
+unfolding occurrences
+loop-given-init c = record {
+  each = λ t. omega arith;
+  count_is = omega arith;
+  pool = refl;
+}
 
 pub loop-given-preserved : goal.loop-given-preserved
 loop-given-preserved c =
     let inv = c.loop-given.invariant in
-    let g = c.loop-given.given in
     let first = c.args.first in
-    let slot : ℕ = first + (c.args.count - g - 1) in
+    let g = c.loop-given.given in
     let free = c.give.ensures.free in
-    let lt = c.loop-given-test.true in
-    let now : first + (c.args.count - (g + 1)) ≡ slot = omega arith in
-    let was : first + (c.args.count - g) ≡ slot + 1 = omega arith in
-    let more : g + 1 ≡ suc g = omega arith in
     record {
-      in_order = free ∙ ap (λ xs. slot ∷ xs) (rw was at inv.in_order) ∙ rw (now, more) refl;
-      free = λ t.
-          let one = ap (occurrences t) free ∙ occurrences-more t slot c.loop-given.pool.free in
-          let lies = lies-more t slot g in
-          let old = rw was at (inv.free t) in
-          rw (now, more) (omega arith);
-      links = ap length c.give.ensures.next ∙ length-set c.loop-given.pool.next slot _ ∙ inv.links;
-      free_count = omega (arith, ap length free, inv.free_count);
-      pool = c.give.ensures.pool ∙ ap (λ (s : Slots). record s {
-        next = c.give.new.self.next;
+      each = λ t. omega (arith, free.each t, inv.each t, range-one-more t first g);
+      count_is = omega (arith, free.count, inv.count_is);
+      pool = c.give.ensures.pool ∙ ap (λ (s : UnlinkedSlots). record s {
         free = c.give.new.self.free;
       }) inv.pool;
     }

@@ -7,7 +7,7 @@ use Rattle.std.proofs.lemmas.List.Elements.{All-nil}
 use Rattle.std.specs.List.{splice}
 use Rattle.sg_store.specs.Disk.{max_capacity}
 use Rattle.sg_pool.specs.MappedRecords.{contents_of, outside_records}
-use Rattle.sg_pool.specs.Slots.{Slots}
+use Rattle.sg_pool.specs.Slots.{UnlinkedSlots}
 use Rattle.sg_pool.proofs.MappedLemmas.{contents-unmapped}
 use Rattle.sg_table.specs.Draft.{Drafted}
 use Rattle.sg_table.specs.Table.{Table}
@@ -47,7 +47,6 @@ loop-i-init c =
       };
       maximal = record { maximal = λ some. absurd (omega arith); none = λ _. drafts };
       longer = omega (arith, ap length drafts);
-      links = refl;
       consistent = rw parts r.extents.consistent;
       between = rw parts (between-singles rs 0 max_capacity r.extents.apart);
       outside = none ∙ sym (ap (λ xs. outside_records xs c.args.low (c.args.high - c.args.low))
@@ -176,12 +175,11 @@ loop-i-preserved c =
       drafted = cut.extents room inv.drafted (each i no_run lt);
       maximal = cut.maximal inv.maximal;
       longer = omega (arith, inv.longer, cut.longer);
-      links = cut.gives.links ∙ inv.links;
       consistent = cut-consistent cut le F T room consistent between;
       between = cut-between cut le F T room consistent between;
       outside = outside-more g.records D _ i c.args.low (c.args.high - c.args.low) no_run _ lt inv.outside
           (cut-outside cut le) cut.addresses;
-      blocks = ap (λ (s : Slots). s.blocks) cut.gives.pool ∙ inv.blocks;
+      blocks = ap (λ (s : UnlinkedSlots). s.blocks) cut.gives.pool ∙ inv.blocks;
       room = ap (λ (d : Drafted). d.room) cut.only ∙ inv.room;
     }
 

@@ -24,6 +24,5 @@ invariant-loop-i l =
       outside : left ≡ outside_records (singles (take l.i l.gathered.records)) l.low (l.high - l.low);
       blocks : l.pool.blocks ≡ l.fn.pool.blocks;
       longer : length l.draft.records ≤ 2 * l.i;
-      links : length l.pool.next ≡ length l.fn.pool.next;
       room : l.draft.room ≡ l.fn.draft.room;
     }

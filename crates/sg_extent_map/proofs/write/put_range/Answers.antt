@@ -1,7 +1,6 @@
 use Rattle.std.proofs.Common.{◌≡◌, ◌+◌, List, [], ◌∷◌, ◌++◌, length, take, drop, ap, ap₂}
 use Rattle.std.proofs.Common.{sym, ◌∙◌, arith, add-zero, append_assoc}
 use Rattle.std.proofs.Common.{refl}
-use Rattle.sg_pool.specs.Slots.{Slots}
 use Rattle.std.specs.FinMap as map
 use Rattle.std.proofs.lemmas.List.Elements.{All-nil}
 use Rattle.std.specs.List.{splice}
@@ -71,7 +70,6 @@ loop-i-init c =
       maximal = record { maximal = λ _. (tt, tt); none = λ _. refl };
       longer = omega arith;
       fewer = t.fewer;
-      next = refl;
       begun = ([], front-only front);
       parts = (singles_of front, t.parts, rw add-zero (between-front front lba t.before));
       ahead = rw add-zero t.still_ahead;
@@ -234,7 +232,6 @@ loop-i-preserved c =
       maximal = a.maximal inv.maximal;
       longer = omega (arith, a.longer, inv.longer);
       fewer = omega (arith, e.fewer, inv.fewer);
-      next = ap (λ (s : Slots). s.next) placed.pool ∙ inv.next;
       begun = (
         inv.begun.0 ++ single (lba + i) slot (kind_of x) ∷ [],
         drafts ∙ ap (λ zs. zs ++ single (lba + i) slot (kind_of x) ∷ []) inv.begun.1

@@ -31,6 +31,5 @@ invariant-loop-i l =
           ≡ remapped (contents_of (singles rs) l.fn.pool.blocks) l.lba l.i (mapping_for l.content);
       longer : length l.draft.records ≤ l.i;
       fewer : length more ≤ length l.gathered.records;
-      next : l.pool.next ≡ l.fn.pool.next;
       room : l.draft.room ≡ l.fn.draft.room;
     }

@@ -31,7 +31,7 @@ fill-requires-clause-slot c =
     (taken_below _ _ c.take-slot.new.self.free c.take-slot.result consistent.once)
 
 added-here : (c : goal.After-push) → IsPut c.args.table.now.records c.args.table.now.room
-    c.args.pool.now c.fill.new.pool c.args.draft.now c.push.new.self c.args.cursor c.args.cursor
+    c.args.pool.now c.fill.new.self c.args.draft.now c.push.new.self c.args.cursor c.args.cursor
     c.args.place.lba (mapping_for c.args.content.now c.args.place.index) (kind_for c.args.content.now)
 added-here c =
     let run : Run = single c.args.place.lba c.take-slot.result (kind_for c.args.content.now) in
@@ -40,7 +40,7 @@ added-here c =
     let taken = rw (sym (ap (λ (s : Slots). s.free) c.fill.ensures)) at c.take-slot.ensures.free in
     let put = rw (ap (λ (s : Slots). s.blocks) c.take-slot.ensures.pool) at
     (ap (λ (s : Slots). s.blocks) c.fill.ensures) in
-    added c.requires.editing (sym c.run_at.ensures ∙ c.in_default.is) c.fill.new.pool
+    added c.requires.editing (sym c.run_at.ensures ∙ c.in_default.is) c.fill.new.self
     c.push.new.self run (mapping_for c.args.content.now c.args.place.index) taken put refl
     (kind-of c.args.content.now c.args.place.index) refl pushed
 
@@ -71,10 +71,10 @@ fill-requires-2-clause-slot c =
     slot-there c.requires.editing c.in-Some.run' (sym c.run_at.ensures ∙ c.in-Some.is)
 
 over-here : (c : goal.After-new) → IsPut c.args.table.now.records c.args.table.now.room
-    c.args.pool.now c.fill-2.new.pool c.args.draft.now c.push-2.new.self c.args.cursor c.new.result
+    c.args.pool.now c.fill-2.new.self c.args.draft.now c.push-2.new.self c.args.cursor c.new.result
     c.args.place.lba (mapping_for c.args.content.now c.args.place.index) (kind_for c.args.content.now)
 over-here c = rw c.kind-2.ensures at (over c.requires.editing c.in-Some.run'
-    (sym c.run_at.ensures ∙ c.in-Some.is) c.fill-2.new.pool c.push-2.new.self
+    (sym c.run_at.ensures ∙ c.in-Some.is) c.fill-2.new.self c.push-2.new.self
     (mapping_for c.args.content.now c.args.place.index) c.kind-2.result c.new.result
     (ap (λ (s : Slots). s.free) c.fill-2.ensures) (ap (λ (s : Slots). s.blocks) c.fill-2.ensures)
     (c.kind-2.ensures ∙ kind-of c.args.content.now c.args.place.index) c.push-2.ensures

@@ -1,4 +1,4 @@
-use Rattle.std.proofs.Common.{◌≡◌, ℕ, ◌+◌, ◌-◌, length, sym, ap, ◌∙◌, arith, subst}
+use Rattle.std.proofs.Common.{◌≡◌, ℕ, List, ◌+◌, ◌-◌, ◌≤◌, length, sym, ap, ◌∙◌, arith, subst}
 use Rattle.sg_pool.specs.Chains.{chain, slot_after, AreBelow}
 use Rattle.sg_pool.proofs.LinkLemmas.{slot_after-none, slot_after-add}
 use Rattle.sg_pool.proofs.LinkLemmas.{below-from}
@@ -31,17 +31,22 @@ loop-left-init c =
           c.args.leaps.now.count.items c.args.leaps.now.reach.items c.args.first c.args.count;
     }
 
+-- the links that are left are a part of the chain
+rest-below : (next : List ℕ) (first slot count left : ℕ) → left ≤ count
+    → slot ≡ slot_after next first (count - left) → AreBelow (length next) (chain next first count)
+    → AreBelow (length next) (chain next slot left)
+rest-below next first slot count left le at all =
+    let rest : count - (count - left) ≡ left = omega (arith, le) in
+    let below = below-from (length next) next first (count - left) count (omega arith) all in
+    subst (λ (s : ℕ). AreBelow (length next) (chain next s left)) (sym at)
+    (subst (λ (n : ℕ). AreBelow (length next) (chain next (slot_after next first (count - left)) n))
+    rest below)
+
 pub stride-taken-requires-clause-below : goal.stride-taken-requires-clause-below
 stride-taken-requires-clause-below c =
     let inv = c.loop-left.invariant in
-    let next = c.args.next.now in
-    let rest : c.args.count - (c.args.count - c.loop-left.left) ≡ c.loop-left.left =
-    omega (arith, inv.left) in
-    let below = below-from (length next) next c.args.first (c.args.count - c.loop-left.left) c.args.count
-    (omega arith) c.requires.below in
-    subst (λ (s : ℕ). AreBelow (length next) (chain next s c.loop-left.left)) (sym inv.slot)
-    (subst (λ (n : ℕ). AreBelow (length next)
-    (chain next (slot_after next c.args.first (c.args.count - c.loop-left.left)) n)) rest below)
+    rest-below c.args.next.now c.args.first c.loop-left.slot c.args.count c.loop-left.left inv.left
+    inv.slot c.requires.below
 
 pub loop-left-preserved : goal.loop-left-preserved
 loop-left-preserved c =
@@ -72,7 +77,7 @@ loop-left-preserved c =
           (way-step next jumps.owner.items jumps.count.items jumps.target.items tags.owner.items
           tags.count.items tags.landing.items tags.reach.items jumps'.count.items jumps'.target.items
           tags'.count.items tags'.reach.items c.loop-left.slot left c.loop-left.steps (length ahead) passed
-          c.stride-taken.result.steps inv.jumps inv.leaps c.loop-left-test.true e.passed.1 e.steps
+          c.stride-taken.result.steps inv.jumps inv.leaps (omega (arith, c.loop-left-test.true)) e.passed.1 e.steps
           (λ some far le. let t = e.leap some far le in (
             t.0,
             t.1,
@@ -88,12 +93,26 @@ loop-left-preserved c =
           (inv.way ahead leaps enough));
     }
 
+pub follow_links-requires : goal.follow_links-requires
+follow_links-requires c =
+    let inv = c.loop-left.invariant in
+    rest-below c.args.next.now c.args.first c.loop-left.slot c.args.count c.loop-left.left inv.left
+    inv.slot c.requires.below
+
+pub returns-clause-slot : goal.returns-clause-slot
+returns-clause-slot c =
+    let inv = c.loop-left.invariant in
+    let next = c.args.next.now in
+    let left = c.loop-left.left in
+    let count = c.args.count in
+    let all : count - left + left ≡ count = omega (arith, inv.left) in
+    c.follow_links.ensures ∙ ap (λ s. slot_after next s left) inv.slot
+    ∙ sym (slot_after-add next c.args.first (count - left) left)
+    ∙ ap (slot_after next c.args.first) all
+
 pub returns-clause-few : goal.returns-clause-few
 returns-clause-few c = λ ahead leaps enough.
-    let none : c.loop-left.left ≡ 0 = omega (arith, c.loop-left-test.false) in
     way-end c.args.next.now c.loop-left.jumps.count.items c.loop-left.jumps.target.items
-    c.loop-left.leaps.count.items c.loop-left.leaps.reach.items c.loop-left.slot c.loop-left.steps
-    (length ahead)
-    (subst (λ (n : ℕ). IsOnWay c.args.next.now c.loop-left.jumps.count.items c.loop-left.jumps.target.items
-    c.loop-left.leaps.count.items c.loop-left.leaps.reach.items c.loop-left.slot n c.loop-left.steps
-    (length ahead)) none (c.loop-left.invariant.way ahead leaps enough))
+    c.loop-left.leaps.count.items c.loop-left.leaps.reach.items c.loop-left.slot c.loop-left.left
+    c.loop-left.steps (length ahead) (omega (arith, c.loop-left-test.false))
+    (c.loop-left.invariant.way ahead leaps enough)

@@ -3,7 +3,7 @@ use Rattle.std.proofs.Common.{rules, ◌≡◌, ◌∙◌, ◌∷◌, ◌<◌, a
 use Rattle.arrayvec.proofs.ArrayVecLemmas.{filter-from_retain}
 use Rattle.sg_units.specs.Attentions.{is_covered, without_resets}
 use Rattle.sg_units.specs.UnitAttention.{condition_count}
-use Rattle.sg_units.proofs.AttentionLemmas.{room, with_reset}
+use Rattle.sg_units.proofs.ConditionLemmas.{room, with_reset}
 use Rattle.sg_units.proofs.attentions.establish.Goals as goal
 
 pub push-requires : goal.push-requires

@@ -22,8 +22,8 @@ used_between-used-requires c =
     rw c.records.ensures (gathered-ahead s.table.records c.gather.new.gathered s.pool s.table.room
     c.args.lba (c.args.lba + c.args.count) s.extents (rw c.from.ensures at c.gather.ensures.gathered)).apart
 
-pub returns-then-from-free_count-clause-space : goal.returns-then-from-free_count-clause-space
-returns-then-from-free_count-clause-space c =
+pub returns-then-from-used-clause-space : goal.returns-then-from-used-clause-space
+returns-then-from-used-clause-space c =
     let s = c.args.self.now in
     let lba = c.args.lba in
     let count = c.args.count in
@@ -38,15 +38,16 @@ returns-then-from-free_count-clause-space c =
         used,
         value,
         all,
-        c.if-from-free_count.true,
+        c.if-from-used.true,
         c.free_count.ensures,
         c.from-2.ensures,
+        c.from-3.ensures,
       ),
       λ _. refl,
     )
 
-pub returns-then-from-free_count-clause-costs : goal.returns-then-from-free_count-clause-costs
-returns-then-from-free_count-clause-costs c =
+pub returns-then-from-used-clause-costs : goal.returns-then-from-used-clause-costs
+returns-then-from-used-clause-costs c =
     let s = c.args.self.now in
     let lba = c.args.lba in
     let count = c.args.count in
@@ -78,9 +79,10 @@ put_range-requires-clause-free c =
       arith,
       used,
       value,
-      c.if-from-free_count.false,
+      c.if-from-used.false,
       c.free_count.ensures,
       c.from-2.ensures,
+      c.from-3.ensures,
     ))
 
 pub returns-clause-space : goal.returns-clause-space
@@ -101,9 +103,10 @@ returns-clause-space c =
         value,
         all,
         more,
-        c.if-from-free_count.false,
+        c.if-from-used.false,
         c.free_count.ensures,
         c.from-2.ensures,
+        c.from-3.ensures,
       )),
     )
 

@@ -1,6 +1,7 @@
-use Rattle.std.proofs.Common.{ap, sym, subst, ◌∙◌, arith}
+use Rattle.std.proofs.Common.{ℕ, List, length, ap, sym, subst, ◌∙◌, arith}
+use Rattle.std.proofs.lemmas.List.{length-replicate}
 use Rattle.std.proofs.lemmas.List.Elements.{All-nil}
-use Rattle.sg_store.specs.Disk.{IsWellFormed}
+use Rattle.sg_store.specs.Disk.{IsWellFormed, zero_block}
 use Rattle.sg_store.proofs.WellFormedLemmas.{well_formed-empty}
 use Rattle.sg_pool.specs.MappedRecords.{contents_of}
 use Rattle.sg_pool.proofs.ConsistencyLemmas.{consistent-empty}
@@ -22,11 +23,12 @@ pub invariant_of-result-clause-extents : goal.invariant_of-result-clause-extents
 invariant_of-result-clause-extents c =
     let pool = c.in_ok-new-2.field-0 in
     let e = c.in_ok-new-2.ensures in
+    let size = ap length e.zeros ∙ length-replicate {A = List ℕ} c.args.pool zero_block in
     subst (λ (t : Table). AreExtents t.records pool t.room) (sym c.in_ok-new.ensures) (record {
       apart = omega arith;
       maximal = tt;
       extents = All-nil (IsExtent c.args.pool);
-      consistent = rw singles-none (consistent-empty pool.blocks pool.free c.args.pool e.blocks e.free);
+      consistent = rw singles-none (consistent-empty pool.blocks pool.free c.args.pool size e.free);
     })
 
 pub returns-clause-disk : goal.returns-clause-disk

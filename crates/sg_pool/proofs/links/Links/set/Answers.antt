@@ -10,9 +10,9 @@ invariant_of-self c =
     let jumps = l.jumps in
     let leaps = l.leaps in
     let here = ap length c.self.view_is in
-    let within = c.self.invariant.1.within c.args.slot (omega (arith, c.requires, here)) in
+    let within = c.self.invariant.1.within c.args.slot (omega (arith, c.requires.slot, here)) in
     let low : c.args.slot < jumps.owner.len =
-    omega (arith, c.requires, here, c.self.invariant.1.owners, jumps.owner.ok.0) in
+    omega (arith, c.requires.slot, here, c.self.invariant.1.owners, jumps.owner.ok.0) in
     let jumper = get_or_read_under jumps.owner.items c.args.slot jumps.owner.len c.index.result.now 0
     c.index.ensures low (omega (arith, jumps.owner.ok.0)) in
     let leaper = get_or_read_under leaps.owner.items c.index.result.now leaps.owner.len c.index-2.result.now 0

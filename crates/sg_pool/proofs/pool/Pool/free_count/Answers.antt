@@ -11,5 +11,5 @@ returns c =
       arith,
       free,
       c.count.ensures,
-      length-free p.next p.first_given p.given_count p.fresh c.self.invariant.3,
+      length-free p.next p.first_given p.given_count p.fresh c.self.invariant.2,
     )

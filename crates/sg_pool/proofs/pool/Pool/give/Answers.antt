@@ -4,7 +4,6 @@ use Rattle.sg_pool.specs.Slots.{Slots, free_slots}
 use Rattle.sg_table.specs.Occurrences.{occurrences}
 use Rattle.sg_pool.proofs.ChainLemmas.{chain-given, given-below}
 use Rattle.sg_pool.proofs.FreeLemmas.{length-free, free-more, given-none}
-use Rattle.sg_pool.proofs.PoolLemmas.{length-padded}
 use Rattle.sg_pool.proofs.pool.Pool.give.Goals as goal
 
 pub overflow_add-self : goal.overflow_add-self
@@ -16,7 +15,7 @@ overflow_add-self c =
         arith,
         c.requires.room,
         free,
-        length-free p.next p.first_given p.given_count p.fresh c.self.invariant.3,
+        length-free p.next p.first_given p.given_count p.fresh c.self.invariant.2,
       );
     }
 
@@ -25,7 +24,6 @@ invariant_of-self c =
     let p = c.self.inside in
     let slot = c.args.slot in
     let low = ap (λ (s : Slots). length s.blocks) c.self.view_is in
-    let len = length-padded p.blocks.items (length p.next) c.self.invariant.0 in
     let none = given-none p.next p.first_given p.given_count p.fresh slot
     (ap (λ (s : Slots). occurrences slot s.free) c.self.view_is ∙ c.requires.used) in
     let linked = ap length c.set.ensures ∙ length-set p.next slot p.first_given in
@@ -35,13 +33,13 @@ invariant_of-self c =
           (rw (
             linked',
             chain-given p.next slot p.first_given p.given_count
-                (omega (arith, low, len, c.requires.slot)) none,
+                (omega (arith, low, c.self.invariant.0, c.requires.slot)) none,
           )
           (given-below (length p.next) slot _
-          (omega (arith, low, len, c.requires.slot)) c.self.invariant.1)),
+          (omega (arith, low, c.self.invariant.0, c.requires.slot)) c.self.invariant.1)),
       omega (arith, linked, c.self.invariant.2),
       omega (arith, linked, c.self.invariant.3),
-      omega (arith, linked, c.self.invariant.4),
+      omega (arith, low, c.requires.slot, c.self.invariant.0, c.self.invariant.3),
     )
 
 pub returns-clause-free : goal.returns-clause-free
@@ -49,9 +47,8 @@ returns-clause-free c =
     let p = c.self.inside in
     let slot = c.args.slot in
     let low = ap (λ (s : Slots). length s.blocks) c.self.view_is in
-    let len = length-padded p.blocks.items (length p.next) c.self.invariant.0 in
     ap (λ (xs : List ℕ). free_slots xs slot (p.given_count + 1) p.fresh) c.set.ensures
     ∙ free-more p.next slot p.first_given p.given_count p.fresh
-    (omega (arith, low, len, c.requires.slot))
+    (omega (arith, low, c.self.invariant.0, c.requires.slot))
     (ap (λ (s : Slots). occurrences slot s.free) c.self.view_is ∙ c.requires.used)
     ∙ ap (λ (s : Slots). slot ∷ s.free) c.self.view_is

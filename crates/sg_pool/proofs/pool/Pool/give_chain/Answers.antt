@@ -1,6 +1,7 @@
 use Rattle.std.proofs.Common.{◌+◌, List, ℕ, length, length-set, ap, sym, subst, ◌∙◌, arith}
 use Rattle.sg_pool.specs.Chains.{chain, AreBelow}
 use Rattle.sg_pool.specs.Slots.{Slots, free_slots}
+use Rattle.sg_pool.proofs.LinkLemmas.{slot-low}
 use Rattle.sg_pool.proofs.FreeLemmas.{length-free, joined, joined-below}
 use Rattle.sg_pool.proofs.pool.Pool.give_chain.Goals as goal
 
@@ -13,7 +14,7 @@ overflow_add-self c =
         arith,
         c.requires.room,
         free,
-        length-free p.next p.first_given p.given_count p.fresh c.self.invariant.3,
+        length-free p.next p.first_given p.given_count p.fresh c.self.invariant.2,
       );
     }
 
@@ -30,7 +31,13 @@ invariant_of-self c =
           (sym c.set.ensures) below,
       omega (arith, linked, c.self.invariant.2),
       omega (arith, linked, c.self.invariant.3),
-      omega (arith, linked, c.self.invariant.4),
+      omega (
+        arith,
+        ap (λ (s : Slots). length s.next) c.self.view_is,
+        slot-low (length c.args.self.now.next) c.args.self.now.next c.args.first c.args.count
+            c.requires.chain.not_empty c.requires.slots,
+        c.self.invariant.3,
+      ),
     )
 
 pub returns-clause-free : goal.returns-clause-free

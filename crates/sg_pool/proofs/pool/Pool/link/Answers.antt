@@ -1,6 +1,6 @@
-use Rattle.std.proofs.Common.{List, ℕ, length, length-set, set, ap, ap₂, sym, subst, ◌∙◌, arith}
+use Rattle.std.proofs.Common.{List, ℕ, length, length-set, set, ap, sym, subst, ◌∙◌, arith}
 use Rattle.sg_pool.specs.Chains.{chain, AreBelow}
-use Rattle.sg_pool.specs.Slots.{Slots, zero_padded, free_slots}
+use Rattle.sg_pool.specs.Slots.{Slots, free_slots}
 use Rattle.sg_table.specs.Occurrences.{occurrences}
 use Rattle.sg_pool.proofs.ChainLemmas.{chain-set}
 use Rattle.sg_pool.proofs.FreeLemmas.{free-set, given-none}
@@ -20,7 +20,7 @@ invariant_of-self c =
           (sym c.set.ensures) (rw (same, linked') c.self.invariant.1),
       omega (arith, linked, c.self.invariant.2),
       omega (arith, linked, c.self.invariant.3),
-      omega (arith, linked, c.self.invariant.4),
+      c.self.invariant.4,
     )
 
 pub returns : goal.returns
@@ -29,17 +29,16 @@ returns c =
     let free = ap (λ (s : Slots). s.free) c.self.view_is in
     let same = free-set p.next c.args.slot c.args.next p.first_given p.given_count p.fresh
     (ap (occurrences c.args.slot) free ∙ c.requires.used) in
-    let len = length-set p.next c.args.slot c.args.next in
     ap (λ (next : List ℕ). record {
-      blocks = zero_padded p.blocks.items (length next);
+      blocks = p.blocks;
       next = next;
       free = free_slots next p.first_given p.given_count p.fresh;
       links = p.links;
     }) c.set.ensures
-    ∙ ap₂ (λ n xs. record {
-      blocks = zero_padded p.blocks.items n;
+    ∙ ap (λ xs. record {
+      blocks = p.blocks;
       next = set p.next c.args.slot c.args.next;
       free = xs;
       links = p.links;
-    }) len same
+    }) same
     ∙ ap (λ (s : Slots). record s { next = set s.next c.args.slot c.args.next }) c.self.view_is

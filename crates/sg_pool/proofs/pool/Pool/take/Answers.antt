@@ -8,20 +8,20 @@ pub overflow_add-self : goal.overflow_add-self
 overflow_add-self c =
     let p = c.self.inside in
     let some = ap (λ (s : Slots). length s.free) c.self.view_is in
-    let left = fresh-left p.next p.first_given p.given_count p.fresh c.self.invariant.3
+    let left = fresh-left p.next p.first_given p.given_count p.fresh c.self.invariant.2
     c.if-self-eq0.true (omega (arith, some, c.requires)) in
-    record { fits = omega (arith, left, c.self.invariant.4) }
+    record { fits = omega (arith, left, c.self.invariant.3) }
 
 pub invariant_of-self : goal.invariant_of-self
 invariant_of-self c =
     let p = c.self.inside in
     let some = ap (λ (s : Slots). length s.free) c.self.view_is in
-    let left = fresh-left p.next p.first_given p.given_count p.fresh c.self.invariant.3
+    let left = fresh-left p.next p.first_given p.given_count p.fresh c.self.invariant.2
     c.if-self-eq0.true (omega (arith, some, c.requires)) in (
       c.self.invariant.0,
       c.self.invariant.1,
-      c.self.invariant.2,
       omega (arith, left),
+      c.self.invariant.3,
       c.self.invariant.4,
     )
 
@@ -31,7 +31,7 @@ returns-then-self-eq0-clause-free c =
     let some = ap (λ (s : Slots). length s.free) c.self.view_is in
     ap (λ (s : Slots). s.free) (sym c.self.view_is)
     ∙ free-fresh p.next p.first_given p.given_count p.fresh c.if-self-eq0.true
-    (fresh-left p.next p.first_given p.given_count p.fresh c.self.invariant.3
+    (fresh-left p.next p.first_given p.given_count p.fresh c.self.invariant.2
     c.if-self-eq0.true (omega (arith, some, c.requires)))
 
 pub get-self-inside-requires : goal.get-self-inside-requires
@@ -47,14 +47,14 @@ invariant_of-self-2 c =
     let some : 0 < p.given_count = omega (arith, c.if-self-eq0.false) in
     let below = first-below p.next p.first_given p.given_count
     (length p.next) some c.self.invariant.1 in
-    let after = c.get-self-inside.ensures in (
+    let after = c.get-self-inside.ensures.slot in (
       c.self.invariant.0,
       rw (sym after) at
           (rest-below p.next p.first_given p.given_count
           (length p.next) some c.self.invariant.1),
       c.self.invariant.2,
       c.self.invariant.3,
-      c.self.invariant.4,
+      c.get-self-inside.ensures.fits,
     )
 
 pub returns-clause-free : goal.returns-clause-free
@@ -63,7 +63,7 @@ returns-clause-free c =
     let some : 0 < p.given_count = omega (arith, c.if-self-eq0.false) in
     let below = first-below p.next p.first_given p.given_count
     (length p.next) some c.self.invariant.1 in
-    let after = c.get-self-inside.ensures in
+    let after = c.get-self-inside.ensures.slot in
     ap (λ (s : Slots). s.free) (sym c.self.view_is)
     ∙ free-given p.next p.first_given p.given_count p.fresh some
     ∙ ap (λ k. p.first_given ∷ free_slots p.next k (p.given_count - 1) p.fresh) (sym after)

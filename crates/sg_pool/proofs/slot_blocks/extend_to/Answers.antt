@@ -1,7 +1,7 @@
 use Rattle.std.proofs.Common.{◌+◌, ◌-◌, ◌++◌, replicate, ap, sym, ◌∙◌, arith}
 use Rattle.std.proofs.lemmas.List.{take_all}
 use Rattle.sg_store.specs.Disk.{zero_block}
-use Rattle.sg_pool.proofs.pool.extend_to.Goals as goal
+use Rattle.sg_pool.proofs.slot_blocks.extend_to.Goals as goal
 
 pub returns-clause-blocks : goal.returns-clause-blocks
 unfolding zero_block
