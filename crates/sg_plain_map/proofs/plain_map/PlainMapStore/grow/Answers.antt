@@ -1,0 +1,15 @@
+use Rattle.sg_plain_map.proofs.plain_map.PlainMapStore.grow.Goals as goal
+
+pub invariant_of-self : goal.invariant_of-self
+invariant_of-self c =
+    let s = c.args.self.now in
+    record {
+      capacity_fits = c.requires.fits;
+      pool_fits = s.pool_fits;
+      draft_fits = s.draft_fits;
+      well_formed =
+          c.disks_stay_well_formed.ensures.growing s.capacity c.args.capacity _ s.well_formed
+          c.requires.more;
+      single = s.single;
+      consistent = s.consistent;
+    }
