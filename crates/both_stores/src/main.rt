@@ -1,5 +1,5 @@
-//! `both_stores`: 10,000 commands from a fixed seed over the three stores. The replies have to be
-//! equal, except for the stores' counts.
+//! `both_stores`: 10,000 commands from a fixed seed over the three stores, with happenings among
+//! them. The replies have to be equal, except for the stores' counts.
 #![tactic(auto)]
 
 mod random;
@@ -10,7 +10,8 @@ use sg_extent_map::ExtentMap;
 use sg_pages::Identity;
 use sg_plain_map::PlainMap;
 use sg_store::BLOCK_LENGTH;
-use sg_target::{BUFFER_LENGTH, Config, Reply, Status, Target};
+use sg_target::{BUFFER_LENGTH, Config, Happening, Reply, Status, Target};
+use sg_units::{Initiators, UnitAttention};
 use sg_wire::{
     Command, Extent10, GetLbaStatus, GroupNumber, Initiator, OutAction, PersistentReserveOut,
     Unmap, WriteSame16,
@@ -92,11 +93,11 @@ impl Disks {
         if are_equal { Some(plain.status) } else { None }
     }
 
-    /// Takes each through a power cycle.
-    fn power_cycle(&mut self) {
-        self.plain.power_cycle();
-        self.runs.power_cycle();
-        self.extents.power_cycle();
+    /// Lets the same happen to each.
+    fn happen(&mut self, happening: &Happening) {
+        self.plain.happen(*happening);
+        self.runs.happen(*happening);
+        self.extents.happen(*happening);
     }
 }
 
@@ -119,6 +120,21 @@ impl Tally {
     fn has_each_status(&self) -> bool {
         self.good > 0 && self.check_condition > 0 && self.conflict > 0
     }
+}
+
+/// What happens next.
+fn next_happening(random: &mut Random) -> Option<Happening> {
+    Some(match random.byte() % 8 {
+        0 => Happening::LogicalUnitReset,
+        1 => Happening::TargetReset,
+        2 => Happening::NexusLoss(Initiator::new(random.byte() % 3)?),
+        3 => Happening::Grow(BLOCKS + u64::from(random.byte())),
+        4 => {
+            let condition = UnitAttention::with_code(0x3F, 0x0E)?;
+            Happening::Establish(condition, Initiators::of_mask(u64::from(random.byte()))?)
+        }
+        _ => Happening::Power,
+    })
 }
 
 /// Makes a command of the next kind, and writes its data-out. Returns the data-out's length too.
@@ -209,14 +225,14 @@ fn list_keys(random: &mut Random, list: &mut [u8; LONGEST_LIST]) {
     list[20] = random.byte() % 2;
 }
 
-/// Executes the commands, with power cycles among them.
+/// Executes the commands, with happenings among them.
 fn run(disks: &mut Disks) -> Option<Tally> {
     let mut tally = Tally::default();
     let mut random = Random::new();
     let mut data_out = [0; LONGEST_LIST];
     for _ in 0..COMMANDS {
         if random.byte() < 4 {
-            disks.power_cycle();
+            disks.happen(&next_happening(&mut random)?);
         }
         let initiator = Initiator::new(random.byte() % 3)?;
         let (command, length) = next_command(&mut random, &mut data_out)?;
