@@ -114,15 +114,36 @@ static int initiator_of(struct scsi_cmd *cmd)
     return number;
 }
 
-/* Hands a reply over to tgtd: the status is returned. */
-static int deliver(struct scsi_cmd *cmd, const mdl_reply *reply)
+/* Executes a command. The disk writes data-in to a buffer. */
+static mdl_error execute_into(struct scsi_cmd *cmd, uint32_t initiator, uint8_t *buffer,
+                              size_t length, mdl_reply *reply)
+{
+    return mdl_execute(&unit_of(cmd->dev)->disk, initiator, cmd->scb, (size_t)cmd->scb_len,
+                       scsi_get_out_buffer(cmd), scsi_get_out_length(cmd), buffer, length, reply);
+}
+
+/* Executes a command. tgtd's buffer may be too short for its data-in: the initiator then gets what
+ * fits in there. */
+static mdl_error execute_command(struct scsi_cmd *cmd, uint32_t initiator, mdl_reply *reply)
 {
     size_t length = scsi_get_in_length(cmd);
+    mdl_error error = execute_into(cmd, initiator, scsi_get_in_buffer(cmd), length, reply);
 
+    if (error != MDL_BUFFER_TOO_SHORT)
+        return error;
+    error = execute_into(cmd, initiator, data_in, sizeof data_in, reply);
+    if (error)
+        return error;
     if (length > reply->data_in_length)
         length = reply->data_in_length;
     if (length > 0)
         memcpy(scsi_get_in_buffer(cmd), data_in, length);
+    return MDL_OK;
+}
+
+/* Hands a reply over to tgtd: the status is returned. */
+static int deliver(struct scsi_cmd *cmd, const mdl_reply *reply)
+{
     scsi_set_in_resid_by_actual(cmd, (uint32_t)reply->data_in_length);
     memcpy(cmd->sense_buffer, reply->sense, reply->sense_length);
     cmd->sense_len = reply->sense_length;
@@ -150,7 +171,6 @@ static void trace(struct scsi_cmd *cmd, int initiator, const mdl_reply *reply)
  * BUSY: tgtd asks nobody before it lets a port log in. */
 static int execute(int tid, struct scsi_cmd *cmd)
 {
-    struct unit *unit = unit_of(cmd->dev);
     int initiator = initiator_of(cmd);
     mdl_reply reply;
 
@@ -159,9 +179,7 @@ static int execute(int tid, struct scsi_cmd *cmd)
         scsi_set_in_resid_by_actual(cmd, 0);
         return SAM_STAT_BUSY;
     }
-    if (mdl_execute(&unit->disk, (uint32_t)initiator, cmd->scb, (size_t)cmd->scb_len,
-                    scsi_get_out_buffer(cmd), scsi_get_out_length(cmd), data_in, sizeof data_in,
-                    &reply)) {
+    if (execute_command(cmd, (uint32_t)initiator, &reply)) {
         scsi_set_in_resid_by_actual(cmd, 0);
         sense_data_build(cmd, HARDWARE_ERROR, ASC_INTERNAL_TGT_FAILURE);
         return SAM_STAT_CHECK_CONDITION;

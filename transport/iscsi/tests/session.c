@@ -87,19 +87,24 @@ static void read_answer(const struct scsi_task *task, struct answer *answer)
     }
 }
 
-void session_execute(struct session *session, const struct request *request, struct answer *answer)
+static struct scsi_task *task_of(const struct request *request)
 {
     static const int directions[] = { SCSI_XFER_NONE, SCSI_XFER_READ, SCSI_XFER_WRITE };
-    struct iscsi_data data = { request->length, (unsigned char *)(uintptr_t)request->data_out };
     uint8_t cdb[MOST_CDB];
-    struct scsi_task *task;
+
+    memcpy(cdb, request->cdb, sizeof cdb);
+    return scsi_create_task((int)request->cdb_length, cdb, directions[request->direction],
+                            (int)request->length);
+}
+
+void session_execute(struct session *session, const struct request *request, struct answer *answer)
+{
+    struct iscsi_data data = { request->length, (unsigned char *)(uintptr_t)request->data_out };
+    struct scsi_task *task = task_of(request);
 
     answer->status = NO_REPLY;
     answer->sense_length = answer->data_in_length = 0;
     answer->residual = 0;
-    memcpy(cdb, request->cdb, sizeof cdb);
-    task = scsi_create_task((int)request->cdb_length, cdb, directions[request->direction],
-                            (int)request->length);
     if (!task)
         return;
     if (iscsi_scsi_command_sync(session->context, session->lun, task,
@@ -107,6 +112,52 @@ void session_execute(struct session *session, const struct request *request, str
         && task->status >= 0 && task->status <= 0xFF)
         read_answer(task, answer);
     scsi_free_scsi_task(task);
+}
+
+/* A command that was sent and has no reply yet. */
+struct sent {
+    void (*done)(int status, void *context);
+    void *context;
+};
+
+static void receive(struct iscsi_context *context, int status, void *data, void *private_data)
+{
+    struct sent *sent = private_data;
+
+    (void)context;
+    scsi_free_scsi_task(data);
+    sent->done(status >= 0 && status <= 0xFF ? status : NO_REPLY, sent->context);
+    free(sent);
+}
+
+int session_send(struct session *session, const struct request *request, uint8_t *data_in,
+                 void (*done)(int status, void *context), void *context)
+{
+    struct iscsi_data data = { request->length, (unsigned char *)(uintptr_t)request->data_out };
+    struct scsi_task *task = task_of(request);
+    struct sent *sent = malloc(sizeof *sent);
+
+    if (task && sent) {
+        *sent = (struct sent){ done, context };
+        if ((request->direction != DATA_IN
+             || !scsi_task_add_data_in_buffer(task, (int)request->length, data_in))
+            && !iscsi_scsi_command_async(session->context, session->lun, task, receive,
+                                         request->direction == DATA_OUT ? &data : NULL, sent))
+            return 0;
+    }
+    if (task)
+        scsi_free_scsi_task(task);
+    free(sent);
+    return 1;
+}
+
+int session_serve(struct session *session)
+{
+    struct pollfd descriptor = { .fd = iscsi_get_fd(session->context),
+                                 .events = (short)iscsi_which_events(session->context) };
+
+    return poll(&descriptor, 1, TIMEOUT_SECONDS * 1000) != 1
+           || iscsi_service(session->context, descriptor.revents);
 }
 
 int session_reset(struct session *session)

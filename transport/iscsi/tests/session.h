@@ -45,6 +45,15 @@ struct session *session_open(const char *url, unsigned name, unsigned isid);
 /* Sends a command and waits for its reply. */
 void session_execute(struct session *session, const struct request *request, struct answer *answer);
 
+/* Sends a command without waiting. session_serve calls `done` with the status and `context` when
+ * the reply is there. Until then the `request->length` bytes at `request->data_out` or at `data_in`
+ * are in use. Returns 1 if the command can't be sent. */
+int session_send(struct session *session, const struct request *request, uint8_t *data_in,
+                 void (*done)(int status, void *context), void *context);
+
+/* Waits until something can be sent or received, and does it. Returns 1 if the session is lost. */
+int session_serve(struct session *session);
+
 /* Sends a LOGICAL UNIT RESET. The response of RFC 7143, 11.6.1, where 0 is "function complete", or
  * NO_REPLY. */
 int session_reset(struct session *session);

@@ -1,9 +1,9 @@
 /* Measures commands a second over iSCSI:
  *     speed NAME URL [NAME URL ..]
  *
- * Each logical unit has a line: TEST UNIT READY, READ(10) and WRITE(10) of 8 blocks. One session
- * sends them and waits for each reply, and then eight such sessions at once. Each figure is the
- * best of three measurements of half a second. */
+ * Each logical unit has a line: TEST UNIT READY, WRITE(10) of 8 blocks, and READ(10) of the same
+ * blocks. One session sends them and waits for each reply, and then eight such sessions at once,
+ * with 8 blocks each. Each figure is the best of three measurements of half a second. */
 #include <inttypes.h>
 #include <stdio.h>
 #include <stdlib.h>
@@ -20,9 +20,9 @@ enum { MOST_SESSIONS = 8, BLOCKS = 8, ROUNDS = 3 };
 
 static const struct request commands[] = {
     { .cdb = { 0x00 }, .cdb_length = 6 },
-    { .cdb = { 0x28, [8] = BLOCKS }, .cdb_length = 10, .direction = DATA_IN,
-      .length = BLOCKS * MDL_BLOCK_LENGTH },
     { .cdb = { 0x2A, [8] = BLOCKS }, .cdb_length = 10, .direction = DATA_OUT,
+      .length = BLOCKS * MDL_BLOCK_LENGTH },
+    { .cdb = { 0x28, [8] = BLOCKS }, .cdb_length = 10, .direction = DATA_IN,
       .length = BLOCKS * MDL_BLOCK_LENGTH }
 };
 
@@ -103,8 +103,8 @@ int main(int count, char **words)
     unsigned at, command;
     int word;
 
-    printf("%-20s%30s%30s\n", "commands a second", "one session: TUR, READ, WRITE",
-           "eight: TUR, READ, WRITE");
+    printf("%-20s%30s%30s\n", "commands a second", "one session: TUR, WRITE, READ",
+           "eight: TUR, WRITE, READ");
     fflush(stdout);
     for (word = 1; word + 1 < count; word += 2) {
         printf("%-20s", words[word]);
