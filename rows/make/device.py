@@ -1,4 +1,4 @@
-"""The device server: the order of checks, unit attentions, and the way to each command.
+"""The device server: the order of checks, happenings, and the way to each command.
 
 docs/PROFILE.md, "The order of checks", numbers the checks; the numbers below are the same. Checks 1
 to 6 are here and in `layouts.Command`. Checks 7 to 12 are in `blocks`, `pages`, `modes` and
@@ -12,6 +12,7 @@ import modes
 import pages
 import reservations
 import sense
+from attentions import with_condition
 from layouts import OPERATION_CODES, Command, layout_of
 from provisioning import Provisioning
 from sense import CheckCondition, Sense, invalid_field_in_cdb
@@ -31,7 +32,8 @@ class Reply:
 class Device:
     """A logical unit that was just powered on."""
 
-    def __init__(self, capacity, pool):
+    def __init__(self, capacity, pool, profile="base"):
+        self.profile = profile
         self.provisioning = Provisioning(capacity, pool)
         self.modes = modes.Modes()
         self.reservations = reservations.Reservations()
@@ -44,11 +46,34 @@ class Device:
             for initiator in INITIATORS
         }
 
+    # What happens between two commands (docs/PROFILE.md, "Happenings"). Logical blocks stay.
+
     def power_cycle(self):
-        """Power is lost, and is on again. Logical blocks stay as they are."""
-        self.modes.power_cycle()
+        """Power is lost, and is on again."""
+        self.modes.become_saved()
         self.reservations.power_cycle()
         self.power_on()
+
+    def logical_unit_reset(self):
+        self.reset(sense.BUS_DEVICE_RESET_FUNCTION_OCCURRED)
+
+    def target_reset(self):
+        self.reset(sense.SCSI_BUS_RESET_OCCURRED)
+
+    def reset(self, code):
+        """SAM-5, 6.3: registrations and the reservation stay, and each initiator is told."""
+        self.modes.become_saved()
+        self.raise_attention(INITIATORS, code)
+
+    def nexus_loss(self, initiator):
+        """SAM-5, 6.3: it concerns one initiator."""
+        self.raise_attention([initiator], sense.I_T_NEXUS_LOSS_OCCURRED)
+
+    def grow(self, capacity):
+        """SBC-3, 4.5: the disk gets more addresses, and never fewer."""
+        if capacity > self.provisioning.capacity:
+            self.provisioning.capacity = capacity
+            self.raise_attention(INITIATORS, sense.CAPACITY_DATA_HAS_CHANGED)
 
     def execute(self, initiator, cdb, data_out):
         try:
@@ -73,10 +98,8 @@ class Device:
         return OPERATIONS[command.name](self, initiator, command, data_out)
 
     def raise_attention(self, initiators, code):
-        """Each condition is in the queue of an initiator once at most (SAM-5, 5.14)."""
         for initiator in initiators:
-            if code not in self.attentions[initiator]:
-                self.attentions[initiator].append(code)
+            self.attentions[initiator] = with_condition(self.attentions[initiator], code)
 
 
 def test_unit_ready(_device, _initiator, _command, _data_out):

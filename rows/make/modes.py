@@ -30,7 +30,7 @@ class Modes:
         self.current = dict(DEFAULT)
         self.saved = dict(DEFAULT)
 
-    def power_cycle(self):
+    def become_saved(self):
         """The saved values become the current ones (SPC-4, 7.5)."""
         self.current = dict(self.saved)
 

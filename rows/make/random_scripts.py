@@ -8,7 +8,7 @@ import random
 
 from layouts import LAYOUTS
 from modes import CHANGEABLE, DEFAULT
-from random_words import show_line, tool_line
+from random_words import attention_words, show_line, tool_line
 from reservations import TYPES
 
 INITIATORS = (0, 0, 0, 0, 1, 1, 1, 2, 2, 3, 4, 5, 6, 7)
@@ -24,12 +24,15 @@ OFTEN = 6
 TOOL_LINES = ("sg_inq", "sg_inq -l 5", "sg_vpd -p di", "sg_vpd -p bl", "sg_modes", "sg_modes -c 3",
               "sg_modes -L -p 10", "sg_get_lba_status -m 100", "sg_persist -k", "sg_persist -r",
               "sg_persist -s", "sg_persist -c")
+# Verbs of an extended disk
+HAPPENINGS = ("reset", "reset", "reset target", "nexus", "nexus", "grow", *4 * ("attention",))
 
 
 class Script:
-    def __init__(self, seed):
-        self.random = random.Random(seed)
+    def __init__(self, seed, profile="base"):
+        self.random, self.profile = random.Random(seed), profile
         self.blocks = self.random.choice((1, 8, 20, 4096, 2**33))
+        self.capacity = self.blocks  # as it is at the next line, if the disk grows
         self.pool = self.random.choice((1, 4, 9))
         self.type = self.random.choice(TYPES)  # most RESERVE, RELEASE and PREEMPT name it
         theme = self.random.choice(THEMES)
@@ -40,6 +43,8 @@ class Script:
         return "".join(self.line() + "\n" for _ in range(lines))
 
     def line(self):
+        if self.profile == "extended" and self.is_rare(0.08):
+            return self.happening()
         initiator, place = self.random.choice(INITIATORS), self.random.random()
         if place < 0.005:
             return "power"
@@ -53,6 +58,26 @@ class Script:
             return f"fill {initiator} {self.address()} {self.small()} {self.small()}"
         cdb, data_out = self.command()
         return f"raw {initiator} {cdb.hex() or '-'} {data_out.hex() or '-'}"
+
+    def happening(self):
+        """A verb of an extended disk, now and then with words that it does not take."""
+        initiator = self.random.choice(INITIATORS)
+        verb = self.random.choice(HAPPENINGS)
+        if verb == "nexus":
+            verb += f" {initiator}"
+        elif verb == "grow":
+            verb += f" {self.growth()}"
+        elif verb == "attention":
+            verb += f" {attention_words(self.random, initiator)}"
+        return verb + (self.random.choice((" 8", " x", " 0 0")) if self.is_rare(0.05) else "")
+
+    def growth(self):
+        """A number of blocks near the present one, or far above it, or too large."""
+        more = self.random.choice((-1, 0, 1, 1, 2, 7, 100, 2**32, 2**40 + 1 - self.capacity))
+        asked = max(0, self.capacity + more)
+        if self.capacity < asked <= 2**40:
+            self.capacity = asked
+        return asked
 
     def command(self):
         """A CDB with data-out, of any layout, rarely with a wrong bit or too short."""
@@ -80,7 +105,8 @@ class Script:
         return self.random.choice((0, 1, 1, 1, 2, 2, 3, 5))
 
     def address(self):
-        near = (self.small(), self.small(), self.blocks - self.small(), self.blocks + self.small())
+        end = self.capacity
+        near = (self.small(), self.small(), end - self.small(), end + self.small())
         return max(0, self.random.choice((*near, *near, 2**32 - self.small(), 2**64 - 1)))
 
     def value(self, field, command):
@@ -127,7 +153,7 @@ class Script:
     def mode_list(self, header):
         data = bytearray(header)
         if self.is_rare(0.2):
-            blocks = self.random.choice((0, min(self.blocks, 2**32 - 1), self.small()))
+            blocks = self.random.choice((0, min(self.capacity, 2**32 - 1), self.small()))
             data[header - 1] = 8
             data += blocks.to_bytes(4, "big") + (512).to_bytes(4, "big")
         for code in self.random.sample(tuple(DEFAULT), self.random.choice((0, 1, 1, 2))):

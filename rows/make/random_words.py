@@ -1,5 +1,7 @@
 """Random lines of `show`, near to real answers, and random words of tools, near to valid ones."""
 
+from attentions import CONDITIONS, RESETS
+from sense import code_text
 from texts import KINDS
 from tools.commands import TOOLS
 
@@ -47,6 +49,14 @@ def show_line(random):
     if random.random() < 0.1:
         kind = random.choice(sorted(KINDS))
     return f"show {kind} {data.hex() or '-'}"
+
+
+def attention_words(random, initiator):
+    """A condition, of a reset half the time, for one initiator or for each, rarely misspelled."""
+    code = code_text(random.choice(random.choice((RESETS, CONDITIONS))))
+    if random.random() < 0.05:
+        code = random.choice((code.lower(), code[:-1], code.replace("/", ""), "29h/01h", "00h/00h"))
+    return random.choice((code, f"{code} {initiator}", f"{code} {initiator}"))
 
 
 def tool_line(random, initiator):

@@ -20,11 +20,14 @@ from dataclasses import dataclass, field
 import sense
 import texts
 import tools
+from attentions import CONDITIONS
 from device import CHECK_CONDITION, GOOD, RESERVATION_CONFLICT, Device
 from words import hex_bytes, hex_lines, number
 
 LONGEST_LINE = 4096
 MOST_WORDS = 64
+MOST_BLOCKS = 2**40
+CODES = {sense.code_text(code): code for code in CONDITIONS}  # as transcripts print them
 BAD_BYTE = re.compile(rb"[^\t -~]")  # no tab and no printable ASCII
 STATUS_OF_A_FAULT = 1
 STATUS_NAMES = {
@@ -71,16 +74,16 @@ class Run:
         if len(found) > MOST_WORDS:
             raise Fault("too many words")
         verb, *operands = found
-        if verb in VERBS:
-            return VERBS[verb](self.device, operands)
-        if len(verb) == 1 and verb in INITIATORS:
+        if verb in VERBS[self.device.profile]:
+            return VERBS[self.device.profile][verb](self.device, operands)
+        if is_initiator(verb):
             return tool(self.device, int(verb), operands)
         raise Fault("unknown verb")
 
 
-def run(script, capacity, pool):
+def run(script, capacity, pool, profile="base"):
     """All that a new disk prints of the script, with a last line of the exit status."""
-    running = Run(Device(capacity, pool))
+    running = Run(Device(capacity, pool, profile))
     lines = script.split(b"\n")
     if not lines[-1]:
         lines.pop()  # the last line ended with LF
@@ -139,6 +142,46 @@ def power(device, operands):
     return ["POWER"], 0
 
 
+# These four are of an extended disk. Each other form of them is a fault of usage.
+
+
+def reset(device, operands):
+    """reset, or reset target"""
+    if operands not in ([], ["target"]):
+        raise Fault("usage")
+    if operands:
+        device.target_reset()
+        return ["TARGET RESET"], 0
+    device.logical_unit_reset()
+    return ["RESET"], 0
+
+
+def nexus(device, operands):
+    """nexus I: initiator I loses its I_T nexus"""
+    if len(operands) != 1 or not is_initiator(operands[0]):
+        raise Fault("usage")
+    device.nexus_loss(int(operands[0]))
+    return ["NEXUS LOSS"], 0
+
+
+def grow(device, operands):
+    """grow N: the disk has N blocks"""
+    blocks = [number(word, 0, MOST_BLOCKS) for word in operands]
+    if len(blocks) != 1 or None in blocks:
+        raise Fault("usage")
+    device.grow(*blocks)
+    return ["GROW"], 0
+
+
+def attention(device, operands):
+    """attention CODE [I]: a condition is established for each initiator, or for one"""
+    code, *initiators = operands or [""]
+    if code not in CODES or len(initiators) > 1 or not all(map(is_initiator, initiators)):
+        raise Fault("usage")
+    device.raise_attention([int(digit) for digit in initiators or INITIATORS], CODES[code])
+    return ["ATTENTION"], 0
+
+
 def tool(device, initiator, operands):
     """I TOOL OPTIONS"""
     plan = tools.plan(operands)
@@ -147,11 +190,17 @@ def tool(device, initiator, operands):
     return replied(device.execute(initiator, plan.cdb, plan.data_out), plan.show)
 
 
-VERBS = {"raw": raw, "fill": fill, "show": show, "power": power}
+OF_BOTH = {"raw": raw, "fill": fill, "show": show, "power": power}
+OF_EXTENDED = {"reset": reset, "nexus": nexus, "grow": grow, "attention": attention}
+VERBS = {"base": OF_BOTH, "extended": OF_BOTH | OF_EXTENDED}
+
+
+def is_initiator(word):
+    return len(word) == 1 and word in INITIATORS
 
 
 def initiator_of(word):
-    if len(word) != 1 or word not in INITIATORS:
+    if not is_initiator(word):
         raise Fault("initiator")
     return int(word)
 

@@ -26,11 +26,22 @@ INVALID_FIELD_IN_PARAMETER_LIST = 0x2600
 INVALID_RELEASE_OF_PERSISTENT_RESERVATION = 0x2604
 LOGICAL_UNIT_SOFTWARE_WRITE_PROTECTED = 0x2702
 SPACE_ALLOCATION_FAILED_WRITE_PROTECT = 0x2707
+MEDIUM_MAY_HAVE_CHANGED = 0x2800
 POWER_ON_RESET_OR_BUS_DEVICE_RESET_OCCURRED = 0x2900
+SCSI_BUS_RESET_OCCURRED = 0x2902
+BUS_DEVICE_RESET_FUNCTION_OCCURRED = 0x2903
+DEVICE_INTERNAL_RESET = 0x2904
+I_T_NEXUS_LOSS_OCCURRED = 0x2907
 MODE_PARAMETERS_CHANGED = 0x2A01
 RESERVATIONS_PREEMPTED = 0x2A03
 RESERVATIONS_RELEASED = 0x2A04
 REGISTRATIONS_PREEMPTED = 0x2A05
+ASYMMETRIC_ACCESS_STATE_CHANGED = 0x2A06
+CAPACITY_DATA_HAS_CHANGED = 0x2A09
+THIN_PROVISIONING_SOFT_THRESHOLD_REACHED = 0x3807
+MICROCODE_HAS_BEEN_CHANGED = 0x3F01
+INQUIRY_DATA_HAS_CHANGED = 0x3F03
+REPORTED_LUNS_DATA_HAS_CHANGED = 0x3F0E
 DATA_PHASE_ERROR = 0x4B00
 INSUFFICIENT_REGISTRATION_RESOURCES = 0x5504
 
@@ -131,13 +142,17 @@ def _read_pointer(key, pointer):
     return "command" if pointer[0] & 0x40 else "list", int.from_bytes(pointer[1:3], "big")
 
 
+def code_text(code):
+    return f"{code >> 8:02X}h/{code & 0xFF:02X}h"
+
+
 def line(data):
     """The line that a script prints of sense data (docs/SCRIPT.md, "Replies")."""
     sense = read(data)
     if sense is None:
         return "  sense: unreadable"
     name = KEY_NAMES.get(sense.key, f"KEY {sense.key:02X}h")
-    text = f"  sense: {name}, {sense.code >> 8:02X}h/{sense.code & 0xFF:02X}h"
+    text = f"  sense: {name}, {code_text(sense.code)}"
     if sense.information is not None:
         text += f", information 0x{sense.information:016x}"
     if sense.pointer:

@@ -19,6 +19,7 @@ class Row:
     lines: Callable
     blocks: int
     pool: int
+    profile: str  # of the disk that the row needs
 
     def script(self):
         return "".join(line + "\n" for line in self.lines()).encode("ascii")
@@ -29,11 +30,11 @@ class Row:
         return self.name + ("" if is_default else f" {self.blocks} {self.pool}")
 
 
-def row(name, *parameters, blocks=DEFAULT_BLOCKS, pool=DEFAULT_POOL):
+def row(name, *parameters, blocks=DEFAULT_BLOCKS, pool=DEFAULT_POOL, profile="base"):
     """Makes the function below it the lines of a row; `parameters` are passed to it."""
     def keep(lines):
         assert name not in ROWS, f"{name} is made twice"
-        ROWS[name] = Row(name, lambda: lines(*parameters), blocks, pool)
+        ROWS[name] = Row(name, lambda: lines(*parameters), blocks, pool, profile)
         return lines
     return keep
 
