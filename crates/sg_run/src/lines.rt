@@ -77,6 +77,7 @@ fn take_whole(read_ahead: &mut ReadAhead, left: &mut u32) -> bool
 /// # Errors
 /// The script has more bytes than `left`, or the reader failed.
 #[tactic(auto, using(crate::proofs::Lemmas::parts))]
+#[inline(always)]
 pub(crate) fn next_line<R: Read>(
     reader: &mut Watched<R>,
     read_ahead: &mut ReadAhead,

@@ -20,6 +20,7 @@ use std::io::Write;
 
 /// Prints a message about the line with this number, as in `line 12: GOOD`.
 #[tactic(auto, using(crate::proofs::TextLemmas::prints))]
+#[inline(always)]
 pub(crate) fn put_line_header<W: Write>(number: u64, message: &[u8], out: &mut Printer<'_, W>)
     ensures { PrintsText W.contents out.old out.new (line_header number message.now) }
 {
@@ -33,6 +34,7 @@ pub(crate) fn put_line_header<W: Write>(number: u64, message: &[u8], out: &mut P
 /// Prints a reply: its status, its sense data and, under GOOD, its data-in. Returns the exit status
 /// of the reply. The lines of data-in are gathered in `lines`.
 #[tactic(auto, using(crate::proofs::TextLemmas::prints))]
+#[inline(always)]
 pub(crate) fn put_reply<W: Write>(
     number: u64,
     reply: &Reply,

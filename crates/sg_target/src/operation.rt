@@ -123,6 +123,7 @@ pub(crate) struct MediumUse {
 impl<'a> Operation<'a> {
     /// Its use of the medium of a disk of `capacity` blocks.
     #[tactic(auto, using(crate::proofs::StepLemmas::alone), unfolding(crate::specs::Checks::out_of_range))]
+    #[inline(always)]
     pub(crate) fn medium_use(&self, capacity: u64) -> MediumUse
         requires { capacity ≤ MAX_CAPACITY }
         ensures range { result.out_of_range ≡ out_of_range capacity (medium_use self.now).extents }
@@ -166,6 +167,7 @@ impl<'a> Operation<'a> {
 
 /// The operation that a command asks for on a disk of a configuration. This checks the command's
 /// values, its data-out, and the page or the parameter list that it names.
+#[inline(always)]
 pub(crate) fn operation_of<'a>(
     config: &Config,
     command: &Command,

@@ -99,6 +99,7 @@ impl InquiryPage {
     }
 }
 
+#[inline(always)]
 pub(crate) fn check_inquiry(fields: Inquiry) -> Result<Operation<'static>, Refusal>
     ensures { result ≡ requested (inquiry fields) [] }
 {

@@ -69,7 +69,10 @@ impl UnitAttention {
     pub fn with_code(asc: u8, ascq: u8) -> Option<UnitAttention>
         ensures { result ≡ condition_with asc ascq }
     {
-        UnitAttention::ALL.iter().copied().find(|condition| condition.code() == (asc, ascq))
+        UnitAttention::ALL
+            .iter()
+            .copied()
+            .find(|condition| condition.code() == (asc, ascq))
     }
 
     /// Its additional sense code and additional sense code qualifier.

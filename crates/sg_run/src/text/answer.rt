@@ -15,6 +15,7 @@ use std::io;
 use std::io::Write;
 
 /// Prints the bytes of an answer as they are asked for. Hexadecimal lines are gathered in `lines`.
+#[inline(always)]
 pub(crate) fn put_answer<W: Write>(
     show: Show,
     data_in: &[u8],

@@ -2,5 +2,5 @@ use Rattle.sg_target.proofs.ConfigurationLemmas.{growth-grows, happening-keeps, 
 use Rattle.sg_target.proofs.laws.the_configuration_stays.Goals as goal
 
 pub returns : goal.returns
-returns c = 
+returns c =
     record { command = step-keeps; happening = happening-keeps; growth = growth-grows }
