@@ -44,6 +44,7 @@ is_higher _ _ = false
 
 -- A pending condition says all that a new one would say. It is the same condition, or both are of
 -- resets and the pending one has a higher precedence.
+-- Choice (SAM-5, 5.14): a reset of lower precedence may be reported, too.
 abbrev pub covers : (pending condition : UnitAttention) → Bool
 covers pending condition =
     is_condition condition pending
