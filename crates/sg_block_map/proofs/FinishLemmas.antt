@@ -39,7 +39,7 @@ use Rattle.sg_block_map.proofs.ExpandedLemmas.{length-singles, chained-append, c
 use Rattle.sg_block_map.proofs.ExpandedLemmas.{chained-right, slots-both}
 use Rattle.sg_block_map.proofs.JoinLemmas.{join-expanded, join-writing, length-linked}
 use Rattle.sg_block_map.proofs.WalkLemmas.{walk_from-parts, walk_from-chained, walk_from-maximal}
-use Rattle.sg_block_map.proofs.WriteLemmas.{skip-maximal, parted, before-between, slot-there}
+use Rattle.sg_block_map.proofs.WriteLemmas.{skip-maximal, parted, before-between}
 
 -- a run without an address has none
 pub no_run-expanded : (next : List ℕ) (lba : ℕ) (kind : Kind) (runs : List Run)
@@ -486,14 +486,6 @@ one-fits before after runs done (Some found) at lba slots w free =
     let fits = next-fits before done found (drop at runs ++ after) slots lba w in
     let some : 0 < found.count = w.after.1 in
     omega arith
-
-pub ahead-below : (before after runs : List Run) (done : Run) (run : Option Run) (at lba : ℕ)
-    (slots : Slots) → IsWriting before done (ahead_of runs run at ++ after) slots lba
-    → IfSome run (λ (found : Run). found.first < length slots.next)
-ahead-below before after runs done None at lba slots w = tt
-ahead-below before after runs done (Some found) at lba slots w =
-    let low = slot-there before done found (drop at runs ++ after) slots lba w in
-    omega (arith, low, w.consistent.pool)
 
 pub ahead-fits : (before after runs : List Run) (done : Run) (run : Option Run) (at lba : ℕ)
     (slots : Slots) → IsWriting before done (ahead_of runs run at ++ after) slots lba

@@ -7,7 +7,7 @@ use Rattle.std.specs.Cmp.{nat_cmp_total}
 use Rattle.std.specs.FinMap as map
 use Rattle.std.specs.FinMap.{find, get-from_entries}
 use Rattle.std.specs.Ordering.{nat_cmp}
-use Rattle.std.specs.Prelude.{insert, ◌==◌}
+use Rattle.std.specs.Prelude.{insert, ◌==◌, IfSome}
 use Rattle.sg_pool.specs.Chains.{IsChain}
 use Rattle.sg_store.specs.Disk.{Mapping, max_capacity}
 use Rattle.sg_table.specs.Records.{start_of, single, run_at}
@@ -404,6 +404,14 @@ slot-there before done run tail slots lba h =
     let d = slots-more slots.next run.first run tail in
     below_count (length slots.blocks) (slots_of all ++ slots.free) run.first h.consistent.once
     (omega arith)
+
+pub ahead-below : (before after runs : List Run) (done : Run) (run : Option Run) (at lba : ℕ)
+    (slots : Slots) → IsWriting before done (ahead_of runs run at ++ after) slots lba
+    → IfSome run (λ (found : Run). found.first < length slots.next)
+ahead-below before after runs done None at lba slots w = tt
+ahead-below before after runs done (Some found) at lba slots w =
+    let low = slot-there before done found (drop at runs ++ after) slots lba w in
+    omega (arith, low, w.consistent.pool)
 
 -- no run begins at the address
 pub skip-maximal : (runs after : List Run) (run : Option Run) (at lba : ℕ)

@@ -88,7 +88,8 @@ range-one-more t first n =
     ap (occurrences t) more ∙ occurrences-append t xs ((first + n) ∷ [])
     ∙ ap (λ k. occurrences t xs + k) (occurrences-one t (first + n))
 
-pub consistent-less : (xs ys : List Run) (start first n : ℕ) (kind : Kind) (old new : UnlinkedSlots) (room : ℕ)
+pub consistent-less : (xs ys : List Run) (start first n : ℕ) (kind : Kind) (old new : UnlinkedSlots)
+    (room : ℕ)
     → IsConsistent (xs ++ (singles_from start first n kind ++ ys)) old.blocks old.free room
     → AreBetween 0 max_capacity (xs ++ (singles_from start first n kind ++ ys))
     → GivesSlots first n old new → IsConsistent (xs ++ ys) new.blocks new.free room

@@ -94,7 +94,8 @@ insert-at (x ∷ xs) ys r = ap (λ zs. x ∷ zs) (insert-at xs ys r)
 -- ---- The next address is put
 
 -- What is written of a range, with one more address.
-pub record IsPut (before rest rest' : List Run) (slots slots' : UnlinkedSlots) (room lba slot : ℕ) (x : Mapping) :
+pub record IsPut (before rest rest' : List Run) (slots slots' : UnlinkedSlots) (room lba slot : ℕ)
+    (x : Mapping) :
     Type 0 where
   pub writing : IsWriting (before ++ single lba slot (kind_of x) ∷ []) rest' slots' room (lba + 1)
   pub contents : contents_of ((before ++ single lba slot (kind_of x) ∷ []) ++ rest') slots'.blocks

@@ -99,6 +99,25 @@ derived-kept next owner jump target t to d apart =
     }
 
 -- a jump is dropped, and the leap over it
+-- the leap over the jump of a slot is dropped
+pub leaps-cleared : (jump target over leap landing reach : List ℕ) (o : ℕ)
+    → AreLeapsOver jump target over leap landing reach
+    → AreLeapsOver jump target over (set leap (get_or over o 0) 0) landing reach
+leaps-cleared jump target over leap landing reach o d =
+    let who = get_or over o 0 in
+    let kept = λ (s : ℕ) (some : 0 < get_or (set leap who 0) s 0). dropped-jump leap who s some in
+    record {
+      derived = subst (λ (ts : List ℕ). AreJumpsOver ts over (set leap who 0) landing)
+          (set-get_or target o 0) (derived-linked target over leap landing o (get_or target o 0) d.derived);
+      reaches = d.reaches;
+      alive = λ s j h.
+          let p = kept s (omega (arith, h)) in
+          d.alive s j (omega (arith, h, p.1));
+      spans = λ s some.
+          let p = kept s some in
+          d.spans s (omega (arith, some, p.1)) ∙ ap (span jump target s) (sym p.1);
+    }
+
 pub leaps-dropped : (jump target over leap landing reach : List ℕ) (o : ℕ)
     → AreLeapsOver jump target over leap landing reach
     → AreLeapsOver (set jump o 0) target over (set leap (get_or over o 0) 0) landing reach

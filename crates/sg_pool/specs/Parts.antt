@@ -21,7 +21,7 @@ use Rattle.sg_pool.specs.declared.pool.Pool.TheInside.{Inside}
 use Rattle.sg_pool.specs.declared.slot_blocks.SlotBlocks.TheInside.{Inside as BlocksInside}
 use Rattle.sg_pool.specs.declared.slot_blocks.SlotBlocks.TheView.{view}
 use Rattle.sg_pool.specs.declared.unlinked_pool.UnlinkedPool.TheInside.{Inside as UnlinkedInside}
-use denote.Builtin.{Array, u8, u16, u32, u64}
+use denote.Builtin.{Array, u8, u16, u64}
 use denote.Struct.Field.{u32-field, u64-field}
 
 -- The same blocks and links, the same free slots, and the same count.

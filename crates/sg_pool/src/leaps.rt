@@ -32,8 +32,22 @@ fn jump_at(jumps: &Jumps, slot: u16) -> u8
     0
 }
 
+/// Whether a leap over `laid` jumps ends before the jump of a slot, because another leap goes over
+/// that jump. The new leap takes the place of a leap that begins at the slot, if it can go over all
+/// of its jumps. So small leaps, which changes of links leave behind, are joined again.
+fn is_blocked(owner: &[u16], count: &[u8], slot: u16, laid: u8) -> bool
+    requires slot { slot < length owner.now }
+    requires counts { length count.now ≡ length owner.now }
+    requires within { slice_index owner.now slot < length owner.now }
+{
+    let leaper = owner[slot as usize];
+    let jumps = u32::from(count[leaper as usize]);
+    jumps != 0 && (leaper != slot || u32::from(laid) + jumps > SEGMENT)
+}
+
 /// Goes over the jumps from a slot on, and lays a leap over them, unless a jump is missing. It ends
-/// before a jump that another leap goes over. It counts each jump that it read.
+/// before a jump that another leap goes over, unless it can take that leap's place. It counts each
+/// jump that it read.
 fn lay_leap(
     jumps: &Jumps,
     owner: &mut [u16],
@@ -77,9 +91,10 @@ fn lay_leap(
                 steps: u32::from(laid),
             };
         }
-        if count[owner[slot as usize] as usize] != 0 {
+        if is_blocked(owner, count, slot, laid) {
             break;
         }
+        count[owner[slot as usize] as usize] = 0;
         owner[slot as usize] = first;
         slot = jumps.target[slot as usize];
         laid += 1;

@@ -1,4 +1,4 @@
 use Rattle.mehdalung.proofs.mehdalung_power_cycle.Goals as goal
 
 pub returns-clause-cycled : goal.returns-clause-cycled
-returns-clause-cycled c e = c.power_cycle.ensures.cycled (c.code.ensures.zero e)
+returns-clause-cycled c e = c.happen.ensures.happened (c.code.ensures.zero e)

@@ -20,8 +20,8 @@ use Rattle.sg_block_map.proofs.RunSlotLemmas.{runs-fit, gathered-blocks, length-
 use Rattle.sg_block_map.proofs.FinishLemmas.{begin-range, finished, parts-shape, gathered-ahead}
 use Rattle.sg_block_map.proofs.FinishLemmas.{walk_from-near, walk_from-kind, walk_from-start}
 use Rattle.sg_block_map.proofs.FinishLemmas.{walk_from-blocks}
-use Rattle.sg_block_map.proofs.FinishLemmas.{free-there, one-fits, ahead-below, ahead-fits}
-use Rattle.sg_block_map.proofs.WriteLemmas.{writing-followed, done-last}
+use Rattle.sg_block_map.proofs.FinishLemmas.{free-there, one-fits, ahead-fits}
+use Rattle.sg_block_map.proofs.WriteLemmas.{writing-followed, done-last, ahead-below}
 use Rattle.sg_block_map.proofs.write.put_range.Goals as goal
 
 pub begin-front-requires-clause-ahead : goal.begin-front-requires-clause-ahead

@@ -1,5 +1,4 @@
-use Rattle.std.proofs.Common.{◌<◌, length, get_or, sym, ap, ◌∙◌, arith}
-use Rattle.sg_pool.specs.Chains.{slot_after}
+use Rattle.std.proofs.Common.{length, get_or, sym, ap, ◌∙◌, arith}
 use Rattle.sg_pool.proofs.LinkLemmas.{slot_after-none, slot_after-more, slot-below}
 use Rattle.sg_pool.proofs.leaps.follow_links.Goals as goal
 

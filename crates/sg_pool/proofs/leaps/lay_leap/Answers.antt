@@ -5,7 +5,7 @@ use Rattle.std.proofs.lemmas.List.{get_or_read_under}
 use Rattle.sg_pool.specs.Chains.{slot_after}
 use Rattle.sg_pool.proofs.LinkLemmas.{slot_after-none, slot_after-more}
 use Rattle.sg_pool.proofs.JumpLemmas.{owned-kept, index-below}
-use Rattle.sg_pool.proofs.LeapLemmas.{leaps-owned, span-none, span-more}
+use Rattle.sg_pool.proofs.LeapLemmas.{leaps-cleared, leaps-owned, span-none, span-more}
 use Rattle.sg_pool.proofs.leaps.lay_leap.Goals as goal
 
 pub loop-i-init : goal.loop-i-init
@@ -41,8 +41,14 @@ loop-i-preserved c =
     let to = get_or_read_under target slot c.args.jumps.now.target.len c.index-slot.result.now 0
     c.index-slot.ensures low' (omega (arith, c.args.jumps.now.target.ok.0)) in
     record {
-      leaps = leaps-owned jump target over c.args.count.now c.args.landing.now c.args.reach.now slot first
-          inv.leaps c.if-count-owner-ne0.false c.requires.first;
+      leaps = leaps-owned jump target over (set c.loop-i.count (get_or over slot 0) 0)
+          c.args.landing.now c.args.reach.now slot first
+          (leaps-cleared jump target over c.loop-i.count c.args.landing.now c.args.reach.now slot inv.leaps)
+          (get_or-set_same c.loop-i.count (get_or over slot 0) 0 0 (omega (
+            arith,
+            inv.leaps.derived.within slot (omega (arith, here, inv.leaps.derived.owners)),
+            inv.leaps.derived.jumps,
+          ))) c.requires.first;
       laid = omega (arith, inv.laid);
       slot = to ∙ ap (λ s. get_or target s 0) inv.slot ∙ sym (slot_after-more target first laid);
       passed = ap₂ (λ a b. a + b) inv.passed (c.from-passed.ensures ∙ long ∙ sym at)

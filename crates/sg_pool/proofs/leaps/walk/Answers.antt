@@ -77,7 +77,8 @@ loop-left-preserved c =
           (way-step next jumps.owner.items jumps.count.items jumps.target.items tags.owner.items
           tags.count.items tags.landing.items tags.reach.items jumps'.count.items jumps'.target.items
           tags'.count.items tags'.reach.items c.loop-left.slot left c.loop-left.steps (length ahead) passed
-          c.stride-taken.result.steps inv.jumps inv.leaps (omega (arith, c.loop-left-test.true)) e.passed.1 e.steps
+          c.stride-taken.result.steps inv.jumps inv.leaps (omega (arith, c.loop-left-test.true))
+          e.passed.1 e.steps
           (λ some far le. let t = e.leap some far le in (
             t.0,
             t.1,

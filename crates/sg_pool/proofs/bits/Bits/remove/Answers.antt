@@ -15,5 +15,6 @@ returns-clause-others c = λ m other.
     let is = get_or_read ws.items (c.args.number / 64) c.index_mut.result.now c.requires
     c.index_mut.ensures.value 0 in
     bits-apart ws.items c.args.number _ c.index_mut.result.now m c.requires is
-    (λ i lt apart. bit_at_clear_other w64 c.index_mut.result.now (c.args.number % 64) (omega arith) i lt apart)
+    (λ i lt apart. bit_at_clear_other w64 c.index_mut.result.now (c.args.number % 64) (omega arith)
+    i lt apart)
     other

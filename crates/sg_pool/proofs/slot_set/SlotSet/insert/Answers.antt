@@ -13,7 +13,8 @@ returns-then-not-insert-clause-set c =
       full_words = omega (arith, a.count, r.full_words);
       full_groups = r.full_groups;
       full = summary-open old.slots.words.items old.full.words.items c.insert.new.self.words.items
-          c.args.slot r.full a.words (λ e. let wrong = c.if-not-insert.ensures.full.1 e in cc) c.requires.absent;
+          c.args.slot r.full a.words (λ e. let wrong = c.if-not-insert.ensures.full.1 e in cc)
+          c.requires.absent;
       groups = r.groups;
     }
 
