@@ -1,7 +1,7 @@
 -- Leaves that are taken together with their neighbours.
 use Rattle.std.proofs.Common.{◌≡◌, ℕ, zero, suc, ◌+◌, ◌-◌, ◌*◌, ◌<◌, ◌≤◌, List, [], ◌∷◌, ◌++◌}
 use Rattle.std.proofs.Common.{length, get_or, set}
-use Rattle.std.proofs.Common.{take, drop, sym, ap, ◌∙◌, arith, refl, add-one, append_assoc}
+use Rattle.std.proofs.Common.{take, drop, sym, ap, ap₂, ◌∙◌, arith, refl, add-one, append_assoc}
 use Rattle.std.proofs.Common.{length-append, length-drop}
 use Rattle.std.proofs.Common.{⊎_elim}
 use Rattle.std.proofs.lemmas.List.{append-nil, drop_all, drop-drop, drop_more, get_or-drop, get_or-take}
@@ -12,7 +12,7 @@ use Rattle.std.proofs.lemmas.List.Elements.{All-take}
 use Rattle.std.specs.Prelude.{remove}
 use Rattle.std.specs.List.{All}
 use Rattle.sg_table.specs.Leaves.{AreBalanced, AreFilledBut, IsFilled, joined, leaf_at, pair_at}
-use Rattle.sg_table.specs.Leaves.{min_leaf}
+use Rattle.sg_table.specs.Leaves.{min_leaf, triple_at}
 use Rattle.sg_table.specs.declared.run.Run.{Run}
 
 -- two neighbours become one leaf
@@ -32,11 +32,27 @@ levelled (leaf ∷ other ∷ ls) zero a b lt = refl
 levelled (leaf ∷ other ∷ ls) (suc k) a b lt =
     ap (λ x. leaf ∷ x) (levelled (other ∷ ls) k a b (omega arith))
 
+-- the third of three neighbours is removed, and the others get other records
+pub united : (ls : List (List Run)) (k : ℕ) (a b : List Run) → suc (suc k) < length ls
+    → take k (remove ls (suc (suc k))) ++ a ∷ b ∷ drop (suc (suc k)) (remove ls (suc (suc k)))
+    ≡ take k ls ++ a ∷ b ∷ drop (suc (suc (suc k))) ls
+united [] k a b lt = absurd (omega arith)
+united (leaf ∷ []) k a b lt = absurd (omega arith)
+united (leaf ∷ other ∷ []) k a b lt = absurd (omega arith)
+united (leaf ∷ other ∷ next ∷ ls) zero a b lt = refl
+united (leaf ∷ other ∷ next ∷ ls) (suc k) a b lt =
+    ap (λ x. leaf ∷ x) (united (other ∷ next ∷ ls) k a b (omega arith))
+
 -- the leaf before a removed one
 pub leaf-before : (ls : List (List Run)) (k : ℕ) → leaf_at (remove ls (suc k)) k ≡ leaf_at ls k
 leaf-before [] k = refl
 leaf-before (leaf ∷ ls) zero = refl
 leaf-before (leaf ∷ ls) (suc k) = leaf-before ls k
+
+leaf-further-before : (ls : List (List Run)) (k : ℕ) → leaf_at (remove ls (suc (suc k))) k ≡ leaf_at ls k
+leaf-further-before [] k = refl
+leaf-further-before (leaf ∷ ls) zero = refl
+leaf-further-before (leaf ∷ ls) (suc k) = leaf-further-before ls k
 
 -- the number of records without a leaf
 count-removed : (ls : List (List Run)) (k : ℕ) → k < length ls
@@ -66,6 +82,17 @@ count-merged ls k lt =
       ),
     )
 
+-- two of three neighbours without the third, and the number of records without it
+pub count-united : (ls : List (List Run)) (k : ℕ) → k + 2 < length ls
+    → (pair_at (remove ls (k + 2)) k ≡ pair_at ls k)
+    × (length (joined (remove ls (k + 2))) + length (leaf_at ls (k + 2)) ≡ length (joined ls))
+count-united ls k lt =
+    let one : k + 1 ≡ suc k = add-one k in
+    let two : k + 2 ≡ suc (suc k) = omega arith in (
+      rw (one, two) (ap₂ (λ x y. x ++ y) (leaf-further-before ls k) (leaf-before ls (suc k))),
+      count-removed ls (k + 2) lt,
+    )
+
 pub joined-merged : (ls : List (List Run)) (k : ℕ) → suc k < length ls
     → joined (take k ls ++ (leaf_at ls k ++ leaf_at ls (suc k)) ∷ drop (suc (suc k)) ls) ≡ joined ls
 joined-merged [] k lt = absurd (omega arith)
@@ -83,6 +110,18 @@ joined-levelled (leaf ∷ other ∷ ls) zero a b lt e =
     sym (append_assoc a b (joined ls)) ∙ ap (λ x. x ++ joined ls) e ∙ append_assoc leaf other (joined ls)
 joined-levelled (leaf ∷ other ∷ ls) (suc k) a b lt e =
     ap (λ x. leaf ++ x) (joined-levelled (other ∷ ls) k a b (omega arith) e)
+
+pub joined-united : (ls : List (List Run)) (k : ℕ) (a b : List Run) → suc (suc k) < length ls
+    → a ++ b ≡ (leaf_at ls k ++ leaf_at ls (suc k)) ++ leaf_at ls (suc (suc k))
+    → joined (take k ls ++ a ∷ b ∷ drop (suc (suc (suc k))) ls) ≡ joined ls
+joined-united [] k a b lt e = absurd (omega arith)
+joined-united (leaf ∷ []) k a b lt e = absurd (omega arith)
+joined-united (leaf ∷ other ∷ []) k a b lt e = absurd (omega arith)
+joined-united (leaf ∷ other ∷ next ∷ ls) zero a b lt e =
+    sym (append_assoc a b (joined ls)) ∙ ap (λ x. x ++ joined ls) e
+    ∙ append_assoc (leaf ++ other) next (joined ls) ∙ append_assoc leaf other (next ++ joined ls)
+joined-united (leaf ∷ other ∷ next ∷ ls) (suc k) a b lt e =
+    ap (λ x. leaf ++ x) (joined-united (other ∷ next ∷ ls) k a b (omega arith) e)
 
 -- all records of a leaf are replaced
 pub whole-spliced : (old all : List Run) (count : ℕ) → count ≡ length old → all ++ drop count old ≡ all
@@ -118,6 +157,24 @@ joined-halved-at ls k n all lt e =
     let whole : take n all ++ drop n all ≡ leaf_at ls k ++ leaf_at ls (suc k) =
     take-append-drop n all ∙ e ∙ ap (λ i. leaf_at ls k ++ leaf_at ls i) one in
     rw two (joined-levelled ls k (take n all) (drop n all) (omega arith) whole)
+
+pub united-at : (ls : List (List Run)) (k : ℕ) (a b : List Run) → k + 2 < length ls
+    → take k (remove ls (k + 2)) ++ a ∷ b ∷ drop (k + 2) (remove ls (k + 2))
+    ≡ take k ls ++ a ∷ b ∷ drop (k + 3) ls
+united-at ls k a b lt =
+    let two : k + 2 ≡ suc (suc k) = omega arith in
+    let three : k + 3 ≡ suc (suc (suc k)) = omega arith in
+    rw (two, three) (united ls k a b (omega arith))
+
+pub joined-united-at : (ls : List (List Run)) (k n : ℕ) (all : List Run) → k + 2 < length ls
+    → all ≡ triple_at ls k → joined (take k ls ++ take n all ∷ drop n all ∷ drop (k + 3) ls) ≡ joined ls
+joined-united-at ls k n all lt e =
+    let one : k + 1 ≡ suc k = add-one k in
+    let two : k + 2 ≡ suc (suc k) = omega arith in
+    let three : k + 3 ≡ suc (suc (suc k)) = omega arith in
+    let whole : take n all ++ drop n all ≡ (leaf_at ls k ++ leaf_at ls (suc k)) ++ leaf_at ls (suc (suc k)) =
+    take-append-drop n all ∙ e ∙ rw (one, two) refl in
+    rw three (joined-united ls k (take n all) (drop n all) (omega arith) whole)
 
 -- the leaves around the replaced leaves have enough records
 pub filled-around : (before after middle : List (List Run)) → All IsFilled before → All IsFilled middle

@@ -80,6 +80,10 @@ move_bound = 9 * max_leaf
 abbrev pub pair_at : List (List Run) → ℕ → List Run
 pair_at leaves index = leaf_at leaves index ++ leaf_at leaves (index + 1)
 
+-- The records of three neighbours.
+abbrev pub triple_at : List (List Run) → ℕ → List Run
+triple_at leaves index = pair_at leaves index ++ leaf_at leaves (index + 2)
+
 -- Each leaf except one has enough records.
 pub record AreFilledBut (leaves : List (List Run)) (leaf : ℕ) : Type 0 where
   pub before : All IsFilled (take leaf leaves)

@@ -184,6 +184,7 @@ impl Leaves {
         ensures value { result ≡ length self.now.leaves }
         ensures not_empty { 0 < result }
         ensures capacity { result ≤ self.now.capacity }
+        ensures fits { result ≤ MAX_LEAVES }
     {
         self.starts.len() - 1
     }

@@ -5,10 +5,11 @@ ghost use Rattle.std.specs.List.{All};
 ghost use Rattle.std.specs.List.{splice as splice_list};
 ghost use Rattle.sg_table.specs.Leaves.{AreBalanced, AreFilledBut, ArePlaces, IsAppended, IsCut};
 ghost use Rattle.sg_table.specs.Leaves.{IsFilled, IsSpliced, MovesAtMost};
-ghost use Rattle.sg_table.specs.Leaves.{joined, leaf_at, level_bound, pair_at, replaced};
+ghost use Rattle.sg_table.specs.Leaves.{joined, leaf_at, level_bound, max_leaf, pair_at, replaced};
+ghost use Rattle.sg_table.specs.Leaves.{triple_at};
 
 use crate::leaf::MAX_LEAF;
-use crate::leaves::{Leaves, MIN_LEAF, Place, TWO_LEAVES};
+use crate::leaves::{Leaves, MAX_LEAVES, MIN_LEAF, Place, TWO_LEAVES};
 use crate::run::Run;
 use crate::table::MAX_RECORDS;
 use arrayvec::ArrayVec;
@@ -143,7 +144,9 @@ fn balance(leaves: &mut Leaves, leaf: usize)
     level(leaves, leaf.saturating_sub(1));
 }
 
-/// Gives all records of two neighbours to the first one, or half of them if they are too many.
+/// Gives each of two neighbours half of their records if these are too many for one leaf. Otherwise
+/// the two and the next leaf become two leaves, because the next new record would divide a full leaf
+/// again. If there is no next leaf, the two become one.
 fn level(leaves: &mut Leaves, leaf: usize)
     requires leaf { leaf + 1 < length leaves.old.leaves }
     requires pair { MIN_LEAF
@@ -159,10 +162,13 @@ fn level(leaves: &mut Leaves, leaf: usize)
 {
     let mut records = ArrayVec::new();
     gather(leaves, leaf, &mut records);
-    if records.len() <= MAX_LEAF {
-        merge(leaves, leaf, records.as_slice());
-    } else {
+    let used = leaves.used();
+    if records.len() > MAX_LEAF {
         halve(leaves, leaf, records.as_slice());
+    } else if leaf + 2 < used {
+        unite(leaves, leaf, &mut records);
+    } else {
+        merge(leaves, leaf, records.as_slice());
     }
 }
 
@@ -194,12 +200,31 @@ fn merge(leaves: &mut Leaves, leaf: usize, records: &[Run])
     leaves.edit(leaf, 0, left, records);
 }
 
-/// Gives half of the records of two neighbours to each of them. The caller passes the records.
+/// Makes two leaves of three neighbours. The caller passes the records of the first two, which fit one
+/// leaf.
+fn unite(leaves: &mut Leaves, leaf: usize, records: &mut ArrayVec<Run, TWO_LEAVES>)
+    requires leaf { leaf + 2 < length leaves.old.leaves }
+    requires used { length leaves.old.leaves ≤ MAX_LEAVES }
+    requires records { records.old.items ≡ pair_at leaves.old.leaves leaf }
+    requires fits { length records.old.items ≤ MAX_LEAF }
+    requires count { length (joined leaves.old.leaves) ≤ MAX_RECORDS }
+    ensures leaves { let all = triple_at leaves.old.leaves leaf in let half = length all / 2 in
+        leaves.new.leaves ≡ take leaf leaves.old.leaves
+        ++ take half all ∷ drop half all ∷ drop (leaf + 3) leaves.old.leaves }
+    ensures moves { MovesAtMost leaves.old leaves.new (5 * max_leaf) }
+{
+    leaves.copy(leaf + 2, 0, records);
+    leaves.close(leaf + 2);
+    halve(leaves, leaf, records.as_slice());
+}
+
+/// Gives two neighbours half of some records each, in place of their own.
 fn halve(leaves: &mut Leaves, leaf: usize, records: &[Run])
     requires leaf { leaf + 1 < length leaves.old.leaves }
-    requires records { records.now ≡ pair_at leaves.old.leaves leaf }
+    requires records { length (pair_at leaves.old.leaves leaf) ≤ length records.now }
     requires fits { length records.now ≤ TWO_LEAVES }
-    requires count { length (joined leaves.old.leaves) ≤ MAX_RECORDS }
+    requires count { length (joined leaves.old.leaves) + length records.now
+        ≤ MAX_RECORDS + length (pair_at leaves.old.leaves leaf) }
     ensures leaves { let half = length records.now / 2 in leaves.new.leaves
         ≡ take leaf leaves.old.leaves
         ++ take half records.now ∷ drop half records.now ∷ drop (leaf + 2) leaves.old.leaves }

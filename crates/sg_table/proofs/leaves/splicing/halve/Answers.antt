@@ -21,7 +21,7 @@ edit-requires-2-clause-count c =
       ap (λ (l : List (List Run)). length (joined l)) emptied,
       count-set ls (k + 1) [] c.requires.leaf,
       length-take-le half all (omega arith),
-      ap length c.requires.records,
+      c.requires.records,
       length-append (leaf_at ls k) (leaf_at ls (k + 1)),
       c.requires.count,
       c.len-left.ensures.value,
@@ -54,7 +54,7 @@ edit-requires-3-clause-count c =
       ap length (take_rest all half),
       length-take-le half all (omega arith),
       length-drop half all,
-      ap length c.requires.records,
+      c.requires.records,
       length-append (leaf_at ls k) (leaf_at ls (k + 1)),
       c.requires.count,
     )
