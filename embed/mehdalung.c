@@ -18,6 +18,7 @@ uint32_t mehdalung_execute(mdl_disk *disk, uint32_t initiator, const uint8_t *cd
                            size_t cdb_length, const uint8_t *data_out, size_t data_out_length,
                            uint8_t *data_in, size_t data_in_length, mdl_reply *reply);
 uint32_t mehdalung_power_cycle(mdl_disk *disk);
+uint32_t mehdalung_happen(mdl_disk *disk, const mdl_happening *happening);
 uint32_t mehdalung_registered(mdl_disk *disk, uint32_t *mask);
 uint32_t mehdalung_forget(mdl_disk *disk, uint32_t initiator);
 /* The proved function takes what `fields` has as a record already, whose flags are 0 or 1. */
@@ -51,6 +52,13 @@ IS_AT(mdl_reply, data_in_length, 24);
 IS_AT(mdl_reply, visits, 32);
 IS_AT(mdl_reply, probes, 40);
 IS_AT(mdl_reply, links, 48);
+HAS_SIZE(mdl_happening, 32);
+IS_AT(mdl_happening, kind, 0);
+IS_AT(mdl_happening, initiator, 4);
+IS_AT(mdl_happening, initiators, 8);
+IS_AT(mdl_happening, blocks, 16);
+IS_AT(mdl_happening, asc, 24);
+IS_AT(mdl_happening, ascq, 25);
 HAS_SIZE(mdl_sense, 16);
 IS_AT(mdl_sense, key, 0);
 IS_AT(mdl_sense, asc, 1);
@@ -117,6 +125,11 @@ mdl_error mdl_execute(mdl_disk *disk, uint32_t initiator, const uint8_t *cdb, si
 mdl_error mdl_power_cycle(mdl_disk *disk)
 {
     return disk ? (mdl_error)mehdalung_power_cycle(disk) : MDL_NULL_POINTER;
+}
+
+mdl_error mdl_happen(mdl_disk *disk, const mdl_happening *happening)
+{
+    return disk && happening ? (mdl_error)mehdalung_happen(disk, happening) : MDL_NULL_POINTER;
 }
 
 mdl_error mdl_registered(mdl_disk *disk, uint32_t *mask)

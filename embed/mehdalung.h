@@ -58,25 +58,27 @@ extern "C" {
 /* The result of a call. If it is not MDL_OK, the call has changed nothing. */
 typedef enum mdl_error {
     MDL_OK = 0,
-    MDL_NO_DISK = 1,          /* there is no disk: you made none, or you freed it */
-    MDL_DISK_EXISTS = 2,      /* there is a disk already */
-    MDL_BLOCKS = 3,           /* the number of blocks is not 1 to 2^40 */
-    MDL_POOL = 4,             /* the size of the pool is not 1 to 65,536 blocks */
-    MDL_IDENTITY_TEXT = 5,    /* a text of the identity has a byte outside 20h to 7Eh */
-    MDL_IDENTITY_LOCAL = 6,   /* the local identifier has more than 60 bits */
-    MDL_OUT_OF_MEMORY = 7,    /* memory ran out */
-    MDL_NO_INITIATOR = 8,     /* the initiator is not 0 to 7 */
-    MDL_BUFFER_TOO_SHORT = 9, /* the buffer is too short for the data-in that the command asks for,
-                                 or shorter than MDL_DATA_OUT_LENGTH for a tool's data-out */
-    MDL_NULL_POINTER = 10,    /* a pointer is null that must not be */
-    MDL_UNREADABLE = 11,      /* sense data can't be read */
-    MDL_BAD_BYTE = 12,        /* a byte of the words is not printable ASCII and no tab */
-    MDL_TOO_MANY_WORDS = 13,  /* there are more than 64 words */
-    MDL_UNKNOWN_TOOL = 14,    /* there is no word, or the first is not the name of a tool */
-    MDL_USAGE = 15,           /* the tool does not accept these words */
-    MDL_EXCLUSIVE = 16,       /* two options exclude one another */
-    MDL_NUMBER = 17,          /* an option's text is no value, or its value is out of range */
-    MDL_UNKNOWN_PROFILE = 18  /* the number is none of mdl_profile */
+    MDL_NO_DISK = 1,            /* there is no disk: you made none, or you freed it */
+    MDL_DISK_EXISTS = 2,        /* there is a disk already */
+    MDL_BLOCKS = 3,             /* the number of blocks is not 1 to 2^40 */
+    MDL_POOL = 4,               /* the size of the pool is not 1 to 65,536 blocks */
+    MDL_IDENTITY_TEXT = 5,      /* a text of the identity has a byte outside 20h to 7Eh */
+    MDL_IDENTITY_LOCAL = 6,     /* the local identifier has more than 60 bits */
+    MDL_OUT_OF_MEMORY = 7,      /* memory ran out */
+    MDL_NO_INITIATOR = 8,       /* the initiator is not 0 to 7 */
+    MDL_BUFFER_TOO_SHORT = 9,   /* the buffer is too short for the data-in that the command asks
+                                   for, or shorter than MDL_DATA_OUT_LENGTH for a tool's data-out */
+    MDL_NULL_POINTER = 10,      /* a pointer is null that must not be */
+    MDL_UNREADABLE = 11,        /* sense data can't be read */
+    MDL_BAD_BYTE = 12,          /* a byte of the words is not printable ASCII and no tab */
+    MDL_TOO_MANY_WORDS = 13,    /* there are more than 64 words */
+    MDL_UNKNOWN_TOOL = 14,      /* there is no word, or the first is not the name of a tool */
+    MDL_USAGE = 15,             /* the tool does not accept these words */
+    MDL_EXCLUSIVE = 16,         /* two options exclude one another */
+    MDL_NUMBER = 17,            /* an option's text is no value, or its value is out of range */
+    MDL_UNKNOWN_PROFILE = 18,   /* the number is none of mdl_profile */
+    MDL_UNKNOWN_HAPPENING = 19, /* the number is none of mdl_happening_kind */
+    MDL_UNKNOWN_CONDITION = 20  /* no unit attention condition has the code */
 } mdl_error;
 
 /* A disk, or none. It begins as MDL_NONE. You own this variable. You do not read or write the field
@@ -178,6 +180,58 @@ mdl_error mdl_execute(mdl_disk *disk, uint32_t initiator, const uint8_t *cdb, si
  * mode pages become the current ones, and PRGENERATION becomes 0. Only POWER ON is pending for each
  * initiator. Errors: MDL_NULL_POINTER or MDL_NO_DISK. */
 mdl_error mdl_power_cycle(mdl_disk *disk);
+
+/* What can happen to a disk between two commands. */
+typedef enum mdl_happening_kind {
+    MDL_POWER_CYCLE = 0,        /* the disk loses power and gets it back */
+    MDL_LOGICAL_UNIT_RESET = 1, /* the disk is reset as a logical unit */
+    MDL_TARGET_RESET = 2,       /* the target that the disk belongs to is reset */
+    MDL_NEXUS_LOSS = 3,         /* an initiator loses its I_T nexus */
+    MDL_ATTENTION = 4,          /* a unit attention condition is established */
+    MDL_GROW = 5                /* the disk gets more blocks */
+} mdl_happening_kind;
+
+/* What happens to a disk, for mdl_happen. A kind reads only the fields that name it. */
+typedef struct mdl_happening {
+    uint32_t kind;       /* one of mdl_happening_kind */
+    uint32_t initiator;  /* MDL_NEXUS_LOSS: the initiator, 0 to 7 */
+    uint64_t initiators; /* MDL_ATTENTION: a mask of initiators. Initiator i has bit i. */
+    uint64_t blocks;     /* MDL_GROW: the number of blocks afterwards, 1 to 2^40 */
+    uint8_t asc;         /* MDL_ATTENTION: the additional sense code of the condition */
+    uint8_t ascq;        /* MDL_ATTENTION: its additional sense code qualifier */
+} mdl_happening;
+
+/* Lets something happen to a disk of any profile. No initiator sends it, and it has no reply.
+ *     happening  The call reads it.
+ * What the record's kind does is below. All that it does not name stays as it was.
+ *     - MDL_POWER_CYCLE does what mdl_power_cycle does.
+ *     - MDL_LOGICAL_UNIT_RESET makes the saved mode pages the current ones. It establishes 29h/03h,
+ *       BUS DEVICE RESET FUNCTION OCCURRED, for each initiator.
+ *     - MDL_TARGET_RESET does the same with 29h/02h, SCSI BUS RESET OCCURRED.
+ *     - MDL_NEXUS_LOSS reads `initiator`. It establishes 29h/07h, I_T NEXUS LOSS OCCURRED, for that
+ *       initiator.
+ *     - MDL_ATTENTION reads `asc`, `ascq` and `initiators`. It establishes the condition with this
+ *       code for the initiators in the mask. If the mask is 0, nothing changes. The codes are:
+ *           28h/00h  29h/00h  29h/02h  29h/03h  29h/04h  29h/07h  2Ah/01h  2Ah/03h
+ *           2Ah/04h  2Ah/05h  2Ah/06h  2Ah/09h  38h/07h  3Fh/01h  3Fh/03h  3Fh/0Eh
+ *     - MDL_GROW reads `blocks`. The disk has this number of blocks from then on, and the new ones
+ *       are not mapped. 2Ah/09h, CAPACITY DATA HAS CHANGED, is established for each initiator. If
+ *       the disk has as many blocks already, or more, nothing changes.
+ *
+ * An initiator that has the same condition pending already gets it only once. A 29h condition is
+ * reported before all others, and takes the place of a 29h condition of lower precedence. If one of
+ * higher precedence is pending, it is not established. The precedence is 29h/00h, 29h/04h, 29h/02h,
+ * 29h/03h, 29h/07h, from the highest to the lowest.
+ *
+ * Errors: the first of these that applies is returned, and the disk stays as it was.
+ *     MDL_NULL_POINTER        a pointer is null
+ *     MDL_UNKNOWN_HAPPENING   no kind has the number
+ *     MDL_UNKNOWN_CONDITION   no condition has the code, for MDL_ATTENTION
+ *     MDL_NO_INITIATOR        the initiator is not 0 to 7, for MDL_NEXUS_LOSS, or the mask has a
+ *                             bit above 7, for MDL_ATTENTION
+ *     MDL_BLOCKS              the number of blocks is not 1 to 2^40, for MDL_GROW
+ *     MDL_NO_DISK             there is no disk */
+mdl_error mdl_happen(mdl_disk *disk, const mdl_happening *happening);
 
 /* Says which initiators are registered by PERSISTENT RESERVE OUT. Bit i of `mask` is set if
  * initiator i is registered. No other bit is set. A transport keeps the number of such an

@@ -1,4 +1,4 @@
-/* Random commands of all kinds, from a seed. */
+/* Random commands of all kinds, and what happens between them, from a seed. */
 #ifndef COMMANDS_H
 #define COMMANDS_H
 
@@ -11,7 +11,8 @@ enum { MOST_DATA_OUT = 3 * MDL_BLOCK_LENGTH };
 
 struct command {
     uint32_t initiator;
-    int is_power_cycle;
+    int is_happening; /* `happening` is in the place of the command */
+    mdl_happening happening;
     size_t cdb_length, data_out_length;
     uint8_t cdb[16], data_out[MOST_DATA_OUT];
 };
@@ -166,10 +167,11 @@ static void test_ready_or_synchronize(struct command *c, uint64_t *seed)
 
 static void read_capacity_or_power_cycle(struct command *c, uint64_t *seed)
 {
-    c->is_power_cycle = below(seed, 8) == 0;
+    c->is_happening = below(seed, 8) == 0;
     cdb_of(c, 0x25, 10);
 }
 
+/* A command, or now and then a power cycle. */
 static void next_command(struct command *c, uint64_t *seed)
 {
     static void (*const kinds[])(struct command *, uint64_t *) = {
@@ -180,9 +182,37 @@ static void next_command(struct command *c, uint64_t *seed)
     };
 
     c->initiator = below(seed, MDL_INITIATORS);
-    c->is_power_cycle = 0;
+    c->is_happening = 0;
+    memset(&c->happening, 0, sizeof c->happening); /* a power cycle */
     c->data_out_length = 0;
     kinds[below(seed, sizeof kinds / sizeof *kinds)](c, seed);
+}
+
+/* Whatever can happen to a disk. A condition is for one initiator or for each. */
+static void random_happening(struct command *c, uint64_t *seed)
+{
+    static const uint8_t codes[][2] = {
+        { 0x28, 0x00 }, { 0x29, 0x00 }, { 0x29, 0x02 }, { 0x29, 0x03 }, { 0x29, 0x04 }, { 0x29, 0x07 },
+        { 0x2A, 0x01 }, { 0x2A, 0x03 }, { 0x2A, 0x04 }, { 0x2A, 0x05 }, { 0x2A, 0x06 }, { 0x2A, 0x09 },
+        { 0x38, 0x07 }, { 0x3F, 0x01 }, { 0x3F, 0x03 }, { 0x3F, 0x0E },
+    };
+    const uint8_t *code = codes[below(seed, sizeof codes / sizeof *codes)];
+
+    c->is_happening = 1;
+    c->happening.kind = below(seed, MDL_GROW + 1);
+    c->happening.initiator = c->initiator;
+    c->happening.initiators = below(seed, 2) ? 0xFF : 1u << c->initiator;
+    c->happening.blocks = 4064 + below(seed, 48);
+    c->happening.asc = code[0];
+    c->happening.ascq = code[1];
+}
+
+/* A command, or now and then whatever can happen between two commands. */
+static inline void next_event(struct command *c, uint64_t *seed)
+{
+    next_command(c, seed);
+    if (below(seed, 16) == 0)
+        random_happening(c, seed);
 }
 
 #endif

@@ -1,10 +1,11 @@
 #!/usr/bin/env python3
 """Tries the parts of examples/python/mehdalung.py that the first minute does not use."""
-from mehdalung import (CHECK_CONDITION, GOOD, Disk, Error, Kind, Profile, Refused, decode, identity,
-                       version)
+from mehdalung import (CHECK_CONDITION, GOOD, Disk, Error, HappeningRecord, Kind, Profile, Refused,
+                       decode, identity, version)
 
 TEST_UNIT_READY = bytes(6)
 INQUIRY = bytes.fromhex("120000002400")
+READ_CAPACITY = bytes.fromhex("25000000000000000000")
 
 
 def refusal(call, *arguments):
@@ -43,7 +44,48 @@ with Disk(64, 4, identity("ACME", "DISK", "0200", "00000042", 42)) as disk:
     assert refusal(disk.forget, 8) == Error.NO_INITIATOR
     disk.close()
     assert refusal(disk.registered) == Error.NO_DISK
+    assert refusal(disk.reset) == Error.NO_DISK
     assert refusal(disk.power_cycle) == Error.NO_DISK
+
+
+def codes(disk):
+    """The codes that TEST UNIT READY of each initiator reports, or None if the disk is ready."""
+    replies = [disk.execute(initiator, TEST_UNIT_READY) for initiator in range(8)]
+    fields = [reply.fields() if reply.sense else None for reply in replies]
+    return [it and (it.key, it.asc, it.ascq) for it in fields]
+
+
+def only(initiators, asc, ascq):
+    """The codes if only these initiators have a condition pending."""
+    return [(6, asc, ascq) if it in initiators else None for it in range(8)]
+
+
+NONE = only((), 0, 0)
+with Disk(64, 4) as disk:
+    assert codes(disk) == only(range(8), 0x29, 0x00) and codes(disk) == NONE
+    for happen, asc, ascq, initiators in (
+            (disk.reset, 0x29, 0x03, range(8)), (disk.reset_target, 0x29, 0x02, range(8)),
+            (lambda: disk.lose_nexus(5), 0x29, 0x07, [5]),
+            (lambda: disk.attention(0x3F, 0x0E), 0x3F, 0x0E, range(8)),
+            (lambda: disk.attention(0x28, 0x00, [2, 7, 2]), 0x28, 0x00, [2, 7]),
+            (lambda: disk.attention(0x28, 0x00, []), 0x28, 0x00, []),
+            (lambda: disk.grow(128), 0x2A, 0x09, range(8)),
+            (lambda: disk.happen(HappeningRecord()), 0x29, 0x00, range(8))):
+        happen()
+        assert codes(disk) == only(initiators, asc, ascq) and codes(disk) == NONE
+    assert disk.execute(0, READ_CAPACITY).data_in == bytes([0, 0, 0, 127, 0, 0, 2, 0])
+    for call, why in (((disk.lose_nexus, 8), Error.NO_INITIATOR),
+                      ((disk.lose_nexus, -1), ValueError),
+                      ((disk.grow, 0), Error.BLOCKS), ((disk.grow, (1 << 40) + 1), Error.BLOCKS),
+                      ((disk.grow, 1 << 64), ValueError),
+                      ((disk.attention, 0x29, 0x01), Error.UNKNOWN_CONDITION),
+                      ((disk.attention, 0x29, 0x101), ValueError),
+                      ((disk.attention, 0x129, 0x01), ValueError),
+                      ((disk.attention, 0x29, 0x00, [0, 8]), Error.NO_INITIATOR),
+                      ((disk.attention, 0x29, 0x00, [64]), ValueError),
+                      ((disk.happen, HappeningRecord(kind=6)), Error.UNKNOWN_HAPPENING)):
+        assert refusal(*call) == why
+    assert codes(disk) == NONE
 slot = Disk(64, 4).slot
 assert slot.target is None
 for blocks, pool, why in ((0, 4, Error.BLOCKS), (64, 65_537, Error.POOL), (-1, 4, ValueError),

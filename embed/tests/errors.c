@@ -413,10 +413,11 @@ static void take_no_memory(void)
     WANT(mdl_exit_status(&reply) == 6 && requests == taken && held == held_before);
 }
 
-/* None of 10,000 random commands takes memory, whatever status it ends with. */
+/* None of 10,000 random commands takes memory, whatever status it ends with, and nothing that happens
+ * between them does. */
 static void take_no_memory_at_random(void)
 {
-    unsigned long taken, good = 0, checks = 0, conflicts = 0, cycles = 0;
+    unsigned long taken, good = 0, checks = 0, conflicts = 0, happened = 0;
     mdl_disk other = MDL_NONE;
     struct command c;
     mdl_sense fields;
@@ -426,10 +427,10 @@ static void take_no_memory_at_random(void)
     WANT(mdl_make(&other, 4096, 16, NULL) == MDL_OK);
     taken = requests;
     for (number = 0; number < 10000; number++) {
-        next_command(&c, &seed);
-        if (c.is_power_cycle) {
-            WANT(mdl_power_cycle(&other) == MDL_OK);
-            cycles++;
+        next_event(&c, &seed);
+        if (c.is_happening) {
+            WANT(mdl_happen(&other, &c.happening) == MDL_OK && requests == taken);
+            happened++;
             continue;
         }
         WANT(mdl_execute(&other, c.initiator, c.cdb, c.cdb_length, c.data_out, c.data_out_length,
@@ -442,8 +443,8 @@ static void take_no_memory_at_random(void)
         conflicts += reply.status == MDL_RESERVATION_CONFLICT;
         WANT(requests == taken);
     }
-    WANT(good > 1000 && checks > 1000 && conflicts > 500 && cycles > 50);
-    WANT(good + checks + conflicts + cycles == 10000);
+    WANT(good > 1000 && checks > 1000 && conflicts > 500 && happened > 500);
+    WANT(good + checks + conflicts + happened == 10000);
     mdl_free(&other);
 }
 

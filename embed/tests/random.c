@@ -1,10 +1,12 @@
 /* Random commands, from a seed.
  *     random script SEED COUNT       prints them as a script of sgrun.
  *     random run SEED COUNT          executes them by the library, and prints what sgrun prints.
- *     random extended SEED COUNT     does so on a disk of the extended profile.
  *     random shared SEED COUNT       does so by four threads, which take turns at one disk.
  *     random threads SEED COUNT DIR  does so for SEED to SEED + 3, by a thread with a disk for each,
- *                                    and prints into DIR/SEED. */
+ *                                    and prints into DIR/SEED.
+ *     random events SEED COUNT       prints them as a script for a disk of the extended profile, with
+ *                                    all that can happen between two commands.
+ *     random extended SEED COUNT     executes them on such a disk, and prints what sgrun prints. */
 #include <inttypes.h>
 #include <pthread.h>
 #include <stdio.h>
@@ -92,14 +94,51 @@ static void put_sense(FILE *out, const uint8_t *sense, size_t length)
     putc('\n', out);
 }
 
-static void print_script(uint64_t seed, unsigned long count)
+/* The line of a script, and what sgrun prints of it. */
+static const struct {
+    const char *verb, *printed;
+} happenings[] = {
+    [MDL_POWER_CYCLE] = { "power", "POWER" },
+    [MDL_LOGICAL_UNIT_RESET] = { "reset", "RESET" },
+    [MDL_TARGET_RESET] = { "reset target", "TARGET RESET" },
+    [MDL_NEXUS_LOSS] = { "nexus", "NEXUS LOSS" },
+    [MDL_ATTENTION] = { "attention", "ATTENTION" },
+    [MDL_GROW] = { "grow", "GROW" },
+};
+
+static void print_happening(const struct command *c)
+{
+    const mdl_happening *it = &c->happening;
+
+    fputs(happenings[it->kind].verb, stdout);
+    if (it->kind == MDL_NEXUS_LOSS)
+        printf(" %u", (unsigned)it->initiator);
+    if (it->kind == MDL_GROW)
+        printf(" %" PRIu64, it->blocks);
+    if (it->kind == MDL_ATTENTION)
+        printf(" %02Xh/%02Xh", (unsigned)it->asc, (unsigned)it->ascq);
+    if (it->kind == MDL_ATTENTION && it->initiators == 1u << c->initiator)
+        printf(" %u", (unsigned)c->initiator);
+    putchar('\n');
+}
+
+/* A base disk has only the power cycle among its verbs. */
+static void next_of(mdl_profile profile, struct command *c, uint64_t *seed)
+{
+    if (profile == MDL_PROFILE_BASE)
+        next_command(c, seed);
+    else
+        next_event(c, seed);
+}
+
+static void print_script(mdl_profile profile, uint64_t seed, unsigned long count)
 {
     struct command c;
 
     while (count--) {
-        next_command(&c, &seed);
-        if (c.is_power_cycle) {
-            puts("power");
+        next_of(profile, &c, &seed);
+        if (c.is_happening) {
+            print_happening(&c);
             continue;
         }
         printf("raw %u ", (unsigned)c.initiator);
@@ -115,6 +154,7 @@ static void print_script(uint64_t seed, unsigned long count)
 /* A disk with the commands that it is still to execute, and where their replies are printed. */
 struct run {
     mdl_disk disk;
+    mdl_profile profile;
     uint8_t *data_in;
     uint64_t seed;
     unsigned long line, count;
@@ -126,8 +166,8 @@ struct run {
 static int begin_run(struct run *it, mdl_profile profile, uint64_t seed, unsigned long count,
                      FILE *out)
 {
-    *it = (struct run){ .disk = MDL_NONE, .seed = seed, .count = count, .out = out,
-                        .lock = PTHREAD_MUTEX_INITIALIZER };
+    *it = (struct run){ .disk = MDL_NONE, .profile = profile, .seed = seed, .count = count,
+                        .out = out, .lock = PTHREAD_MUTEX_INITIALIZER };
     it->data_in = malloc(MDL_BUFFER_LENGTH);
     return it->data_in && !mdl_make_with_profile(&it->disk, profile, BLOCKS, POOL, NULL) ? 0 : 99;
 }
@@ -136,6 +176,13 @@ static void end_run(struct run *it)
 {
     mdl_free(&it->disk);
     free(it->data_in);
+}
+
+/* A power cycle has a function of its own, too. */
+static mdl_error happen(struct run *it, const mdl_happening *happening)
+{
+    return it->profile == MDL_PROFILE_BASE ? mdl_power_cycle(&it->disk)
+                                           : mdl_happen(&it->disk, happening);
 }
 
 /* Executes the next command. Not 0 if there is none, or if an error refuses it. */
@@ -148,10 +195,10 @@ static int next_line(struct run *it)
     if (it->status || it->line == it->count)
         return 1;
     it->line++;
-    next_command(&c, &it->seed);
-    if (c.is_power_cycle) {
-        it->status = mdl_power_cycle(&it->disk) ? 99 : 0;
-        fprintf(it->out, "line %lu: POWER\n", it->line);
+    next_of(it->profile, &c, &it->seed);
+    if (c.is_happening) {
+        it->status = happen(it, &c.happening) ? 99 : 0;
+        fprintf(it->out, "line %lu: %s\n", it->line, happenings[c.happening.kind].printed);
         return it->status;
     }
     if (mdl_execute(&it->disk, c.initiator, c.cdb, c.cdb_length, c.data_out, c.data_out_length,
@@ -253,8 +300,9 @@ int main(int count, char **words)
 {
     if (count < 4)
         return 2;
-    if (strcmp(words[1], "script") == 0) {
-        print_script(strtoull(words[2], NULL, 10), strtoul(words[3], NULL, 10));
+    if (strcmp(words[1], "script") == 0 || strcmp(words[1], "events") == 0) {
+        print_script(words[1][0] == 's' ? MDL_PROFILE_BASE : MDL_PROFILE_EXTENDED,
+                     strtoull(words[2], NULL, 10), strtoul(words[3], NULL, 10));
         return 0;
     }
     if (strcmp(words[1], "run") == 0 || strcmp(words[1], "extended") == 0)

@@ -116,9 +116,10 @@ static void serve_at_random(void)
     mdl_error error;
     int number;
 
+    memset(&reply_of_other, 0, sizeof reply_of_other); /* the bytes between its fields, too */
     for (number = 0; number < 10000; number++) {
         next_command(&c, &seed);
-        if (c.is_power_cycle) {
+        if (c.is_happening) {
             WANT(mdl_power_cycle(&disk) == MDL_OK && mdl_power_cycle(&other) == MDL_OK);
             continue;
         }

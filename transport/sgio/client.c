@@ -61,6 +61,14 @@ static enum progress receive_request(struct client *client)
     return WHOLE;
 }
 
+static mdl_error let_happen(mdl_disk *disk, const uint8_t *bytes)
+{
+    mdl_happening happening;
+
+    get_happening(bytes, &happening);
+    return mdl_happen(disk, &happening);
+}
+
 /* Executes a whole request, and leaves its reply to be sent. */
 static void execute(struct client *client, mdl_disk *disk)
 {
@@ -75,6 +83,8 @@ static void execute(struct client *client, mdl_disk *disk)
         header.result = RESULT_MALFORMED;
     else if (request->kind == POWER_CYCLE)
         header.result = (uint8_t)mdl_power_cycle(disk);
+    else if (request->kind == HAPPENING)
+        header.result = (uint8_t)let_happen(disk, client->request + REQUEST_HEADER_LENGTH);
     else
         header.result = (uint8_t)mdl_execute(disk, request->initiator, cdb, request->cdb_length,
                                              cdb + request->cdb_length, request->data_out_length,

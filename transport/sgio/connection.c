@@ -164,3 +164,14 @@ int exchange_power_cycle(int connection, struct reply_header *reply)
     put_request_header(request, &header);
     return exchange_bytes(connection, request, sizeof request, -1, reply, NULL);
 }
+
+int exchange_happening(int connection, const mdl_happening *happening, int timeout,
+                       struct reply_header *reply)
+{
+    const struct request_header header = { HAPPENING, 0, 0, HAPPENING_LENGTH };
+    uint8_t request[REQUEST_HEADER_LENGTH + HAPPENING_LENGTH];
+
+    put_request_header(request, &header);
+    put_happening(request + REQUEST_HEADER_LENGTH, happening);
+    return exchange_bytes(connection, request, sizeof request, timeout, reply, NULL);
+}

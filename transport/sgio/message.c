@@ -1,4 +1,4 @@
-/* Not proved. The headers of message.h, as bytes. */
+/* Not proved. The headers and the happenings of message.h, as bytes. */
 #include "message.h"
 
 #include <string.h>
@@ -28,6 +28,7 @@ void put_request_header(uint8_t *bytes, const struct request_header *header)
 size_t get_request_header(const uint8_t *bytes, struct request_header *header)
 {
     static const uint8_t power_cycle[REQUEST_HEADER_LENGTH] = { POWER_CYCLE };
+    static const uint8_t happening[REQUEST_HEADER_LENGTH] = { HAPPENING, [7] = HAPPENING_LENGTH };
 
     header->kind = bytes[0];
     header->initiator = bytes[1];
@@ -35,9 +36,43 @@ size_t get_request_header(const uint8_t *bytes, struct request_header *header)
     header->data_out_length = get_number(bytes + 4);
     if (header->kind == POWER_CYCLE)
         return memcmp(bytes, power_cycle, sizeof power_cycle) ? 0 : REQUEST_HEADER_LENGTH;
+    if (header->kind == HAPPENING)
+        return memcmp(bytes, happening, sizeof happening)
+                   ? 0 : REQUEST_HEADER_LENGTH + HAPPENING_LENGTH;
     if (header->kind != COMMAND || bytes[2] != 0 || header->data_out_length > MOST_DATA_OUT)
         return 0;
     return (size_t)REQUEST_HEADER_LENGTH + header->cdb_length + header->data_out_length;
+}
+
+static void put_long_number(uint8_t *bytes, uint64_t number)
+{
+    put_number(bytes, (uint32_t)(number >> 32));
+    put_number(bytes + 4, (uint32_t)number);
+}
+
+static uint64_t get_long_number(const uint8_t *bytes)
+{
+    return (uint64_t)get_number(bytes) << 32 | get_number(bytes + 4);
+}
+
+void put_happening(uint8_t *bytes, const mdl_happening *happening)
+{
+    put_number(bytes, happening->kind);
+    put_number(bytes + 4, happening->initiator);
+    put_long_number(bytes + 8, happening->initiators);
+    put_long_number(bytes + 16, happening->blocks);
+    bytes[24] = happening->asc;
+    bytes[25] = happening->ascq;
+}
+
+void get_happening(const uint8_t *bytes, mdl_happening *happening)
+{
+    happening->kind = get_number(bytes);
+    happening->initiator = get_number(bytes + 4);
+    happening->initiators = get_long_number(bytes + 8);
+    happening->blocks = get_long_number(bytes + 16);
+    happening->asc = bytes[24];
+    happening->ascq = bytes[25];
 }
 
 void put_reply_header(uint8_t *bytes, const struct reply_header *header)

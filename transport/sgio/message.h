@@ -5,13 +5,22 @@
  * one. Numbers are big-endian.
  *
  * A request has these bytes:
- *     - 0: KIND, 1 for a command and 2 for a power cycle. If it is 2, all other bytes are 0.
+ *     - 0: KIND, 1 for a command, 2 for a power cycle and 3 for a happening. If it is 2, all other
+ *       bytes are 0. If it is 3, the bytes 1 to 3 are 0, and DATA-OUT LENGTH is 26.
  *     - 1: INITIATOR, 0 to 7.
  *     - 2: reserved, 0.
  *     - 3: CDB LENGTH, 0 to 255.
  *     - 4 to 7: DATA-OUT LENGTH, 0 to 262,144.
  *     - 8 on: the CDB, CDB LENGTH bytes.
  *     - After it: data-out, DATA-OUT LENGTH bytes.
+ *
+ * The data-out of a happening has the fields of an mdl_happening:
+ *     - 0 to 3: kind.
+ *     - 4 to 7: initiator.
+ *     - 8 to 15: initiators.
+ *     - 16 to 23: blocks.
+ *     - 24: asc.
+ *     - 25: ascq.
  *
  * A reply has these bytes:
  *     - 0: RESULT, an mdl_error, or 255. It is 0 if the request was executed.
@@ -38,6 +47,7 @@
 enum {
     REQUEST_HEADER_LENGTH = 8,
     REPLY_HEADER_LENGTH = 28,
+    HAPPENING_LENGTH = 26,
     MOST_CDB = 255,
     /* Twice what a WRITE may carry, so that the disk itself refuses one that is too long. */
     MOST_DATA_OUT = 2 * MDL_BUFFER_LENGTH,
@@ -45,7 +55,7 @@ enum {
     MOST_REPLY = REPLY_HEADER_LENGTH + MDL_BUFFER_LENGTH
 };
 
-enum request_kind { COMMAND = 1, POWER_CYCLE = 2 };
+enum request_kind { COMMAND = 1, POWER_CYCLE = 2, HAPPENING = 3 };
 
 enum { RESULT_MALFORMED = 255 };
 
@@ -65,6 +75,12 @@ void put_request_header(uint8_t *bytes, const struct request_header *header);
 /* Reads REQUEST_HEADER_LENGTH bytes. Returns the length of the whole request, or 0 where the header
  * is no request's. */
 size_t get_request_header(const uint8_t *bytes, struct request_header *header);
+
+/* Writes HAPPENING_LENGTH bytes. */
+void put_happening(uint8_t *bytes, const mdl_happening *happening);
+
+/* Reads HAPPENING_LENGTH bytes. Any bytes are a record, which mdl_happen may refuse. */
+void get_happening(const uint8_t *bytes, mdl_happening *happening);
 
 /* Writes REPLY_HEADER_LENGTH bytes. */
 void put_reply_header(uint8_t *bytes, const struct reply_header *header);

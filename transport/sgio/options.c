@@ -5,8 +5,7 @@
 #include <stdlib.h>
 #include <string.h>
 
-/* A number: decimal, or 0x and hexadecimal. Signs and leading zeros of octal are not for us. */
-static int read_number(const char *text, uint64_t most, uint64_t *number)
+int read_number(const char *text, uint64_t most, uint64_t *number)
 {
     int is_hexadecimal = text[0] == '0' && (text[1] == 'x' || text[1] == 'X');
     const char *digits = is_hexadecimal ? text + 2 : text;

@@ -1,4 +1,4 @@
-/* Not proved. The options of the server. */
+/* Not proved. The options of the server, and numbers. */
 #ifndef OPTIONS_H
 #define OPTIONS_H
 
@@ -10,6 +10,10 @@ struct options {
     uint32_t profile;
     mdl_identity identity;
 };
+
+/* Reads a number: decimal, or 0x and hexadecimal, and at most `most`. Returns 0 if it is none. Signs
+ * and leading zeros of octal are not for us. */
+int read_number(const char *text, uint64_t most, uint64_t *number);
 
 /* Reads the words of a command line. Returns null, or what is wrong with them, with the word that it
  * is about in `word`. mdl_make decides which numbers of blocks a disk may have. */

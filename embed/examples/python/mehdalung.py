@@ -37,12 +37,24 @@ class Error(IntEnum):
     EXCLUSIVE = 16
     NUMBER = 17
     UNKNOWN_PROFILE = 18
+    UNKNOWN_HAPPENING = 19
+    UNKNOWN_CONDITION = 20
 
 
 class Profile(IntEnum):
     """mdl_profile: the commands that a disk has."""
     BASE = 0
     EXTENDED = 1
+
+
+class Happening(IntEnum):
+    """mdl_happening_kind: what can happen to a disk between two commands."""
+    POWER_CYCLE = 0
+    LOGICAL_UNIT_RESET = 1
+    TARGET_RESET = 2
+    NEXUS_LOSS = 3
+    ATTENTION = 4
+    GROW = 5
 
 
 class Kind(IntEnum):
@@ -88,6 +100,12 @@ class ReplyRecord(ctypes.Structure):
                 ("links", c_uint64)]
 
 
+class HappeningRecord(ctypes.Structure):
+    """mdl_happening."""
+    _fields_ = [("kind", c_uint32), ("initiator", c_uint32), ("initiators", c_uint64),
+                ("blocks", c_uint64), ("asc", c_uint8), ("ascq", c_uint8)]
+
+
 class Command(ctypes.Structure):
     """mdl_command."""
     _fields_ = [("cdb", c_uint8 * 16), ("cdb_length", c_uint8), ("kind", c_uint32),
@@ -113,6 +131,7 @@ def load():
     library.mdl_execute.argtypes = [slot, c_uint32, bytes_of, c_size_t, bytes_of, c_size_t,
                                     c_void_p, c_size_t, ctypes.POINTER(ReplyRecord)]
     library.mdl_power_cycle.argtypes = [slot]
+    library.mdl_happen.argtypes = [slot, ctypes.POINTER(HappeningRecord)]
     library.mdl_registered.argtypes = [slot, ctypes.POINTER(c_uint32)]
     library.mdl_forget.argtypes = [slot, c_uint32]
     library.mdl_read_sense.argtypes = [bytes_of, c_size_t, ctypes.POINTER(Sense)]
@@ -228,6 +247,42 @@ class Disk:
 
     def power_cycle(self):
         check(LIBRARY.mdl_power_cycle(self.slot))
+
+    def reset(self):
+        """Resets the logical unit. The saved mode pages become the current ones, and each initiator
+        gets the unit attention 29h/03h, unless one of a reset with a higher precedence is
+        pending (mehdalung.h)."""
+        self.happen(HappeningRecord(kind=Happening.LOGICAL_UNIT_RESET))
+
+    def reset_target(self):
+        """Resets the target that the disk belongs to. It does what `reset` does, with the unit
+        attention 29h/02h."""
+        self.happen(HappeningRecord(kind=Happening.TARGET_RESET))
+
+    def lose_nexus(self, initiator):
+        """An initiator loses its I_T nexus, and gets the unit attention 29h/07h, unless one of a
+        reset is pending."""
+        initiator = within("initiator", initiator, 32)
+        self.happen(HappeningRecord(kind=Happening.NEXUS_LOSS, initiator=initiator))
+
+    def grow(self, blocks):
+        """The disk has `blocks` blocks from then on, and each initiator gets the unit attention
+        2Ah/09h. If it has as many already, nothing changes."""
+        blocks = within("blocks", blocks, 64)
+        self.happen(HappeningRecord(kind=Happening.GROW, blocks=blocks))
+
+    def attention(self, asc, ascq, initiators=None):
+        """Some initiators get the unit attention with an additional sense code and qualifier, by
+        default all of them. mehdalung.h lists the codes."""
+        mask = 0
+        for initiator in range(INITIATORS) if initiators is None else initiators:
+            mask |= 1 << within("initiator", initiator, 6)
+        self.happen(HappeningRecord(kind=Happening.ATTENTION, initiators=mask,
+                                    asc=within("asc", asc, 8), ascq=within("ascq", ascq, 8)))
+
+    def happen(self, record):
+        """Lets happen what a HappeningRecord says. The methods above do so by name."""
+        check(LIBRARY.mdl_happen(self.slot, record))
 
     def registered(self):
         """The set of the initiators that are registered."""

@@ -1,6 +1,6 @@
-/* Not proved. Answers the ioctls of an sg node that the tools use, except SG_IO. Linux's sg driver
- * gives the same answers for host 0, channel 0, target 0, logical unit 0. It does not know other
- * ioctls. */
+/* Not proved. Answers the ioctls of an sg node that the tools use, except SG_IO and SG_SCSI_RESET.
+ * Linux's sg driver gives the same answers for host 0, channel 0, target 0, logical unit 0. It does not
+ * know other ioctls. */
 #include "node.h"
 
 #include <errno.h>

@@ -179,7 +179,9 @@ int ioctl(int descriptor, unsigned long request, ...)
         NEXT(next, "ioctl");
         return next(descriptor, request, argument);
     }
-    result = request == SG_IO ? execute_sg_io(descriptor, argument) : answer_ioctl(request, argument);
+    result = request == SG_IO ? execute_sg_io(descriptor, argument)
+             : request == SG_SCSI_RESET ? reset_node(descriptor, argument)
+                                        : answer_ioctl(request, argument);
     if (result >= 0)
         return result;
     errno = -result;

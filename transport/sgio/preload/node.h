@@ -16,6 +16,8 @@
 /* From Linux's sg.h. The C library's header does not have these. */
 #define SG_DXFER_UNKNOWN (-5)
 #define SG_FLAG_MMAP_IO 4
+#define SG_SCSI_RESET_TARGET 4
+#define SG_SCSI_RESET_NO_ESCALATE 0x100
 
 /* Returns 1 if a path is the node's, and MDL_SOCKET names a server. */
 int is_node_path(const char *path);
@@ -38,6 +40,9 @@ void put_node_statx(struct statx *status);
 
 /* SG_IO with the header of sg's version 3. Returns 0 or a negative errno, as sg's driver does. */
 int execute_sg_io(int descriptor, sg_io_hdr_t *header);
+
+/* SG_SCSI_RESET, which resets the disk. Returns 0 or a negative errno, as Linux does. */
+int reset_node(int descriptor, const void *argument);
 
 /* The other ioctls of an sg node that the tools use. Returns their result or a negative errno. */
 int answer_ioctl(unsigned long request, void *argument);

@@ -1,6 +1,6 @@
 /* Not proved. SG_IO with the header of sg's version 3, like drivers/scsi/sg.c of Linux. It says
  * which headers are refused, and how. It says what is written into a header when its command has
- * ended. */
+ * ended. SG_SCSI_RESET is here, too, because it reaches the disk in the same way. */
 #include "node.h"
 
 #include <errno.h>
@@ -189,4 +189,41 @@ int execute_sg_io(int descriptor, sg_io_hdr_t *header)
     error = execute(descriptor, header, (uint8_t)initiator);
     pthread_mutex_unlock(&exchanges);
     return -error;
+}
+
+/* The happening that a reset asks for, or -1. The disk is the only logical unit of its target, bus and
+ * host. */
+static int kind_of_reset(int number)
+{
+    switch (number & ~SG_SCSI_RESET_NO_ESCALATE) {
+    case SG_SCSI_RESET_DEVICE: return MDL_LOGICAL_UNIT_RESET;
+    case SG_SCSI_RESET_TARGET:
+    case SG_SCSI_RESET_BUS:
+    case SG_SCSI_RESET_HOST: return MDL_TARGET_RESET;
+    default: return -1;
+    }
+}
+
+/* As scsi_ioctl_reset of Linux. No reset fails, so none has to escalate. */
+int reset_node(int descriptor, const void *argument)
+{
+    mdl_happening reset = { 0 };
+    struct reply_header reply;
+    int number, kind, error;
+
+    if (!argument)
+        return -EFAULT;
+    memcpy(&number, argument, sizeof number);
+    if ((number & ~SG_SCSI_RESET_NO_ESCALATE) == SG_SCSI_RESET_NOTHING)
+        return 0;
+    kind = kind_of_reset(number);
+    if (kind < 0)
+        return -EIO;
+    reset.kind = (uint32_t)kind;
+    pthread_mutex_lock(&exchanges);
+    error = exchange_happening(descriptor, &reset, DEFAULT_TIMEOUT, &reply);
+    pthread_mutex_unlock(&exchanges);
+    if (error)
+        return error == ETIMEDOUT ? -EIO : -ENODEV;
+    return reply.result == MDL_OK ? 0 : -EIO;
 }

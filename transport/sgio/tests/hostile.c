@@ -182,6 +182,44 @@ static void execute(int connection, uint8_t initiator, const uint8_t *cdb, uint8
     look_at(reply);
 }
 
+/* Something happens, or is refused for the right reason. */
+static void send_happening(uint64_t *seed, int connection)
+{
+    mdl_happening happening;
+    const mdl_error result = put_random_happening(seed, &happening);
+    struct reply_header reply;
+
+    WANT(exchange_happening(connection, &happening, TIMEOUT, &reply) == 0 && reply.result == result);
+    look_at(&reply);
+}
+
+/* A request cut after each of its bytes lets nothing happen; sent byte by byte it does. */
+static void cut_a_happening(void)
+{
+    static const uint8_t reset[] = { HAPPENING, 0, 0, 0, 0, 0, 0, HAPPENING_LENGTH,
+                                     0, 0, 0, MDL_LOGICAL_UNIT_RESET, [33] = 0 };
+    struct reply_header reply;
+    int connection = open_connection(), other;
+    size_t cut, at;
+
+    execute(connection, 0, test_unit_ready, 6, &reply);
+    for (cut = 1; cut < sizeof reset; cut++) {
+        other = open_connection();
+        send_bytes(other, reset, cut);
+        WANT(shutdown(other, SHUT_WR) == 0 && receive_byte(other) < 0);
+        close(other);
+    }
+    execute(connection, 0, test_unit_ready, 6, &reply);
+    WANT(reply.status == MDL_GOOD);
+    for (at = 0; at < sizeof reset; at++)
+        send_bytes(connection, reset + at, 1);
+    receive_reply(connection, &reply);
+    WANT(reply.result == MDL_OK && reply.status == 0 && reply.data_in_length == 0);
+    execute(connection, 0, test_unit_ready, 6, &reply);
+    WANT(reply.sense[12] == 0x29 && reply.sense[13] == 3);
+    close(connection);
+}
+
 /* A WRITE of block 7 that is cut after each of its bytes writes nothing; sent byte by byte it does. */
 static void cut_a_write(void)
 {
@@ -281,7 +319,7 @@ static void send_longest(void)
     close(connection);
 }
 
-/* At the end, after unit attentions, each initiator's second TEST UNIT READY is GOOD. */
+/* At the end, after unit attentions, of which there are 16, each initiator is ready. */
 static void ask_all(void)
 {
     struct reply_header reply;
@@ -289,7 +327,7 @@ static void ask_all(void)
     uint8_t initiator;
 
     for (initiator = 0; initiator < MDL_INITIATORS; initiator++) {
-        for (at = 0; at < 8; at++)
+        for (at = 0; at < 17; at++)
             execute(connection, initiator, test_unit_ready, 6, &reply);
         WANT(reply.status == MDL_GOOD);
     }
@@ -301,6 +339,7 @@ static void run_messages(uint64_t seed, unsigned long count)
     int connection, asked;
 
     cut_a_write();
+    cut_a_happening();
     open_many();
     send_longest();
     for (asked = 1; asked < 20; asked++)
@@ -316,6 +355,8 @@ static void run_messages(uint64_t seed, unsigned long count)
                 struct reply_header reply;
 
                 WANT(exchange_power_cycle(connection, &reply) == 0 && reply.result == MDL_OK);
+            } else if (below(&seed, 4) == 0) {
+                send_happening(&seed, connection);
             }
             break;
         default: send_one(&seed, connection);

@@ -1,6 +1,6 @@
 /* Not proved. Tries all that a program sees of the path, apart from commands: how it opens and looks,
- * and what its descriptors do. Then it tries each field of SG_IO's header, and a server that does not
- * answer or is gone.
+ * and what its descriptors do. Then it tries each field of SG_IO's header, each reset, and a server
+ * that does not answer or is gone.
  *     node      runs in the environment of `join`, with a server of its own at MDL_SOCKET.
  * If something is not as it should be, it prints a line and has status 1. */
 #include <errno.h>
@@ -252,6 +252,45 @@ static void cuts_sense(void)
     WANT(ioctl(node, SG_IO, &header) == 0 && header.status == 2 && header.sb_len_wr == 0);
 }
 
+static void expect_attention(unsigned char ascq)
+{
+    sg_io_hdr_t header = header_of(test_unit_ready, 6, SG_DXFER_NONE, 0);
+
+    WANT(ioctl(node, SG_IO, &header) == 0 && header.status == 2);
+    WANT(sense[2] == 6 && sense[12] == 0x29 && sense[13] == ascq);
+    expect_ready(node);
+}
+
+/* SG_SCSI_RESET by its numbers in Linux: a reset of the device is 29h/03h, and one of the target, bus
+ * or host 29h/02h, with and without SG_SCSI_RESET_NO_ESCALATE. Each initiator gets it. */
+static void resets(void)
+{
+    static const struct { int number; unsigned char ascq; } rows[] = {
+        { 1, 0x03 }, { 0x101, 0x03 }, { 4, 0x02 }, { 0x104, 0x02 }, { 2, 0x02 }, { 0x102, 0x02 },
+        { 3, 0x02 }, { 0x103, 0x02 },
+    };
+    static const int none[] = { 0, 0x100 }, unknown[] = { 5, 0x105, 0x201, -1 };
+    size_t at;
+
+    WANT(setenv("MDL_INITIATOR", "6", 1) == 0);
+    expect_attention(0x00);
+    for (at = 0; at < sizeof rows / sizeof rows[0]; at++) {
+        WANT(ioctl(node, SG_SCSI_RESET, &rows[at].number) == 0);
+        expect_attention(rows[at].ascq);
+        WANT(setenv("MDL_INITIATOR", "7", 1) == 0);
+        expect_attention(rows[at].ascq);
+        WANT(setenv("MDL_INITIATOR", "6", 1) == 0);
+    }
+    for (at = 0; at < sizeof none / sizeof none[0]; at++)
+        WANT(ioctl(node, SG_SCSI_RESET, &none[at]) == 0);
+    for (at = 0; at < sizeof unknown / sizeof unknown[0]; at++)
+        WANT(ioctl(node, SG_SCSI_RESET, &unknown[at]) < 0 && errno == EIO);
+    WANT(ioctl(node, SG_SCSI_RESET, NULL) < 0 && errno == EFAULT);
+    expect_ready(node);
+    WANT(setenv("MDL_INITIATOR", "7", 1) == 0);
+    expect_ready(node);
+}
+
 /* Executes a command again and again; each time its data-in has to be the same. */
 static void *repeat(void *argument)
 {
@@ -291,6 +330,7 @@ static void serves_threads(void)
 static void misses_the_server(pid_t server)
 {
     sg_io_hdr_t header = header_of(test_unit_ready, 6, SG_DXFER_NONE, 0);
+    const int device = SG_SCSI_RESET_DEVICE;
 
     header.timeout = SHORT_TIMEOUT;
     WANT(kill(server, SIGSTOP) == 0);
@@ -305,6 +345,7 @@ static void misses_the_server(pid_t server)
     WANT(kill(server, SIGTERM) == 0 && waitpid(server, NULL, 0) == server);
     header.timeout = 10000;
     WANT(ioctl(node, SG_IO, &header) < 0 && errno == ENODEV);
+    WANT(ioctl(node, SG_SCSI_RESET, &device) < 0 && errno == ENODEV);
     WANT(open(path, O_RDWR) < 0 && errno == ENXIO);
 }
 
@@ -332,6 +373,7 @@ int main(void)
     counts_what_is_left();
     moves_parts();
     cuts_sense();
+    resets();
     serves_threads();
     misses_the_server(server);
     return 0;

@@ -1,4 +1,4 @@
-/* Not proved. Random numbers and commands for the tests. */
+/* Not proved. Random numbers, commands and happenings for the tests. */
 #include "random.h"
 
 #include <string.h>
@@ -103,4 +103,42 @@ void put_random_command(uint64_t *seed, uint32_t most_data_out, struct random_co
         random_bytes(seed, command->data_out, sizeof command->data_out);
         spoil(seed, most_data_out, command);
     }
+}
+
+/* The result of mdl_happen for a record. */
+static mdl_error result_of(const mdl_happening *it, int has_known_code)
+{
+    switch (it->kind) {
+    case MDL_POWER_CYCLE:
+    case MDL_LOGICAL_UNIT_RESET:
+    case MDL_TARGET_RESET: return MDL_OK;
+    case MDL_NEXUS_LOSS: return it->initiator < MDL_INITIATORS ? MDL_OK : MDL_NO_INITIATOR;
+    case MDL_ATTENTION:
+        if (!has_known_code)
+            return MDL_UNKNOWN_CONDITION;
+        return it->initiators >> MDL_INITIATORS ? MDL_NO_INITIATOR : MDL_OK;
+    case MDL_GROW: return it->blocks > 0 && it->blocks <= (uint64_t)1 << 40 ? MDL_OK : MDL_BLOCKS;
+    default: return MDL_UNKNOWN_HAPPENING;
+    }
+}
+
+/* Now and then a number has only its higher bytes. 29h/01h is the code of no condition. */
+mdl_error put_random_happening(uint64_t *seed, mdl_happening *it)
+{
+    const int has_known_code = below(seed, 4) > 0;
+
+    it->kind = below(seed, MDL_GROW + 2);
+    it->initiator = below(seed, MDL_INITIATORS + 1);
+    it->initiators = below(seed, (1 << MDL_INITIATORS) + 1);
+    it->blocks = below(seed, 8) ? 4096 + below(seed, 512) : 0;
+    it->asc = 0x29;
+    it->ascq = has_known_code ? 0x03 : 0x01;
+    switch (below(seed, 16)) {
+    case 0: it->kind <<= 8 * below(seed, 4); break;
+    case 1: it->initiator <<= 8 * below(seed, 4); break;
+    case 2: it->initiators <<= 8 * below(seed, 7); break;
+    case 3: it->blocks <<= 8 * below(seed, 7); break;
+    default: break;
+    }
+    return result_of(it, has_known_code);
 }

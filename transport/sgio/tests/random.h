@@ -1,10 +1,11 @@
-/* Not proved. Random numbers and commands for the tests. */
+/* Not proved. Random numbers, commands and happenings for the tests. */
 #ifndef RANDOM_H
 #define RANDOM_H
 
 #include <stddef.h>
 #include <stdint.h>
 
+#include "mehdalung.h"
 #include "tests/below.h"
 
 /* Random bytes. Many of them are 0. */
@@ -20,5 +21,8 @@ struct random_command {
 
 /* A command that fits in all its parts, or in most of them, or in none. */
 void put_random_command(uint64_t *seed, uint32_t most_data_out, struct random_command *command);
+
+/* A record that mdl_happen accepts or refuses. Returns its result. */
+mdl_error put_random_happening(uint64_t *seed, mdl_happening *it);
 
 #endif

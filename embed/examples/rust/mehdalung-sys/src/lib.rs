@@ -32,12 +32,24 @@ pub mod error {
     pub const EXCLUSIVE: u32 = 16;
     pub const NUMBER: u32 = 17;
     pub const UNKNOWN_PROFILE: u32 = 18;
+    pub const UNKNOWN_HAPPENING: u32 = 19;
+    pub const UNKNOWN_CONDITION: u32 = 20;
 }
 
 /// `mdl_profile`.
 pub mod profile {
     pub const BASE: u32 = 0;
     pub const EXTENDED: u32 = 1;
+}
+
+/// `mdl_happening_kind`.
+pub mod happening {
+    pub const POWER_CYCLE: u32 = 0;
+    pub const LOGICAL_UNIT_RESET: u32 = 1;
+    pub const TARGET_RESET: u32 = 2;
+    pub const NEXUS_LOSS: u32 = 3;
+    pub const ATTENTION: u32 = 4;
+    pub const GROW: u32 = 5;
 }
 
 /// `mdl_kind`.
@@ -85,6 +97,17 @@ pub struct mdl_reply {
 
 #[repr(C)]
 #[derive(Clone, Copy, Default)]
+pub struct mdl_happening {
+    pub kind: u32,
+    pub initiator: u32,
+    pub initiators: u64,
+    pub blocks: u64,
+    pub asc: u8,
+    pub ascq: u8,
+}
+
+#[repr(C)]
+#[derive(Clone, Copy, Default)]
 pub struct mdl_command {
     pub cdb: [u8; 16],
     pub cdb_length: u8,
@@ -107,6 +130,7 @@ pub struct mdl_sense {
 
 const _: () = assert!(size_of::<mdl_identity>() == 48 && size_of::<mdl_reply>() == 56);
 const _: () = assert!(size_of::<mdl_command>() == 32 && size_of::<mdl_sense>() == 16);
+const _: () = assert!(size_of::<mdl_happening>() == 32);
 
 extern "C" {
     pub fn mdl_make(
@@ -141,6 +165,7 @@ extern "C" {
         command: *mut mdl_command,
     ) -> c_uint;
     pub fn mdl_power_cycle(disk: *mut mdl_disk) -> c_uint;
+    pub fn mdl_happen(disk: *mut mdl_disk, happening: *const mdl_happening) -> c_uint;
     pub fn mdl_registered(disk: *mut mdl_disk, mask: *mut u32) -> c_uint;
     pub fn mdl_forget(disk: *mut mdl_disk, initiator: u32) -> c_uint;
     pub fn mdl_read_sense(sense: *const u8, length: usize, fields: *mut mdl_sense) -> c_uint;

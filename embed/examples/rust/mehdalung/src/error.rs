@@ -18,6 +18,7 @@ pub enum Error {
     Exclusive,
     Number,
     UnknownProfile,
+    UnknownCondition,
     /// An error that these calls can't have.
     Other(u32),
 }
@@ -46,6 +47,7 @@ pub(crate) fn check(error: u32) -> Result<(), Error> {
         error::EXCLUSIVE => Error::Exclusive,
         error::NUMBER => Error::Number,
         error::UNKNOWN_PROFILE => Error::UnknownProfile,
+        error::UNKNOWN_CONDITION => Error::UnknownCondition,
         other => Error::Other(other),
     })
 }

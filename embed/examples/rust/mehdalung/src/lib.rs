@@ -3,11 +3,15 @@ mod error;
 
 use error::check;
 use mehdalung_sys as sys;
+use mehdalung_sys::happening;
 use std::{ffi::CString, ptr};
 
 pub use error::Error;
 pub use sys::{kind, mdl_identity as Identity, mdl_sense as Sense, profile};
 pub use sys::{CHECK_CONDITION, GOOD, RESERVATION_CONFLICT};
+
+/// The mask of all initiators.
+pub const ALL_INITIATORS: u64 = 0xFF;
 
 /// Returns the text that a function writes as snprintf(3) does, or None.
 fn text_of(write: impl Fn(&mut [u8]) -> usize) -> Option<String> {
@@ -141,13 +145,66 @@ impl Disk {
         let reply = self.execute(initiator, cdb, &data_out[..command.data_out_length])?;
         Ok(Reply { kind: command.kind, ..reply })
     }
+}
 
+/// What happens between two commands.
+impl Disk {
     pub fn power_cycle(&mut self) -> Result<(), Error> {
         // SAFETY: the slot has a disk.
         check(unsafe { sys::mdl_power_cycle(&mut self.slot) })
     }
+
+    /// Resets the logical unit. The saved mode pages become the current ones, and each initiator gets
+    /// the unit attention 29h/03h, unless one of a reset with a higher precedence is pending
+    /// (mehdalung.h).
+    pub fn reset(&mut self) -> Result<(), Error> {
+        self.happen(sys::mdl_happening {
+            kind: happening::LOGICAL_UNIT_RESET,
+            ..Default::default()
+        })
+    }
+
+    /// Resets the target that the disk belongs to. It does what `reset` does, with the unit attention
+    /// 29h/02h.
+    pub fn reset_target(&mut self) -> Result<(), Error> {
+        self.happen(sys::mdl_happening { kind: happening::TARGET_RESET, ..Default::default() })
+    }
+
+    /// An initiator loses its I_T nexus, and gets the unit attention 29h/07h, unless one of a reset is
+    /// pending.
+    pub fn lose_nexus(&mut self, initiator: u32) -> Result<(), Error> {
+        self.happen(sys::mdl_happening {
+            kind: happening::NEXUS_LOSS,
+            initiator,
+            ..Default::default()
+        })
+    }
+
+    /// The disk has `blocks` blocks from then on, and each initiator gets the unit attention 2Ah/09h.
+    /// If it has as many already, nothing changes.
+    pub fn grow(&mut self, blocks: u64) -> Result<(), Error> {
+        self.happen(sys::mdl_happening { kind: happening::GROW, blocks, ..Default::default() })
+    }
+
+    /// The initiators of a mask get the unit attention with an additional sense code and qualifier:
+    /// initiator i if bit i is set. mehdalung.h lists the codes.
+    pub fn attention(&mut self, asc: u8, ascq: u8, initiators: u64) -> Result<(), Error> {
+        self.happen(sys::mdl_happening {
+            kind: happening::ATTENTION,
+            initiators,
+            asc,
+            ascq,
+            ..Default::default()
+        })
+    }
+
+    fn happen(&mut self, record: sys::mdl_happening) -> Result<(), Error> {
+        // SAFETY: the slot has a disk, and the record is whole.
+        check(unsafe { sys::mdl_happen(&mut self.slot, &record) })
+    }
 }
 
+/// What a transport asks about the ports of initiators.
 impl Disk {
     /// A mask of the initiators that are registered: bit i is set if initiator i is.
     pub fn registered(&mut self) -> Result<u32, Error> {

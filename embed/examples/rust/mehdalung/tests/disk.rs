@@ -1,8 +1,10 @@
 //! Tries the parts of the crate that the first minute does not use.
-use mehdalung::{decode, kind, profile, version, Disk, Error, Identity, Reply, CHECK_CONDITION, GOOD};
+use mehdalung::{decode, kind, profile, version, Disk, Error, Identity, Reply, ALL_INITIATORS};
+use mehdalung::{CHECK_CONDITION, GOOD};
 
 const TEST_UNIT_READY: [u8; 6] = [0; 6];
 const INQUIRY: [u8; 6] = [0x12, 0, 0, 0, 36, 0];
+const READ_CAPACITY: [u8; 10] = [0x25, 0, 0, 0, 0, 0, 0, 0, 0, 0];
 
 #[test]
 fn replies_have_texts_and_fields() -> Result<(), Error> {
@@ -33,6 +35,41 @@ fn replies_have_texts_and_fields() -> Result<(), Error> {
     disk.forget(2)?;
     assert_eq!(disk.execute(2, &TEST_UNIT_READY, &[])?.status(), GOOD);
     Ok(())
+}
+
+/// TEST UNIT READY of the initiators in a mask reports a unit attention, and no other is pending.
+fn only_report(disk: &mut Disk, initiators: u64, asc: u8, ascq: u8) -> Result<(), Error> {
+    for initiator in 0..8 {
+        if initiators >> initiator & 1 == 1 {
+            let fields = disk.execute(initiator, &TEST_UNIT_READY, &[])?.fields().unwrap();
+            assert_eq!((fields.key, fields.asc, fields.ascq), (6, asc, ascq));
+        }
+        assert_eq!(disk.execute(initiator, &TEST_UNIT_READY, &[])?.status(), GOOD);
+    }
+    Ok(())
+}
+
+#[test]
+fn happenings_establish_unit_attentions() -> Result<(), Error> {
+    let mut disk = Disk::new(64, 4, None)?;
+    only_report(&mut disk, ALL_INITIATORS, 0x29, 0x00)?;
+    disk.reset()?;
+    only_report(&mut disk, ALL_INITIATORS, 0x29, 0x03)?;
+    disk.reset_target()?;
+    only_report(&mut disk, ALL_INITIATORS, 0x29, 0x02)?;
+    disk.lose_nexus(5)?;
+    only_report(&mut disk, 1 << 5, 0x29, 0x07)?;
+    disk.attention(0x28, 0x00, 1 << 2 | 1 << 7)?;
+    only_report(&mut disk, 1 << 2 | 1 << 7, 0x28, 0x00)?;
+    disk.grow(128)?;
+    only_report(&mut disk, ALL_INITIATORS, 0x2A, 0x09)?;
+    let reply = disk.execute(0, &READ_CAPACITY, &[])?;
+    assert_eq!(reply.data_in, [0, 0, 0, 127, 0, 0, 2, 0]);
+    assert_eq!(disk.lose_nexus(8), Err(Error::NoInitiator));
+    assert_eq!(disk.attention(0x29, 0x01, 1), Err(Error::UnknownCondition));
+    assert_eq!(disk.attention(0x29, 0x00, ALL_INITIATORS + 1), Err(Error::NoInitiator));
+    assert_eq!(disk.grow(0), Err(Error::Blocks));
+    only_report(&mut disk, 0, 0, 0)
 }
 
 #[test]
