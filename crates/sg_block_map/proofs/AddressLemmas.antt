@@ -14,11 +14,13 @@ use Rattle.sg_table.specs.declared.run.Kind.{Kind}
 use Rattle.sg_table.specs.declared.run.Kind.TheVariants.{Data, Anchored}
 use Rattle.sg_table.specs.declared.run.Run.{Run}
 use Rattle.sg_block_map.specs.Gathering.{end_at}
-use Rattle.sg_block_map.specs.Runs.{end_of, singles, singles_of, expanded, behind, AreApart}
+use Rattle.sg_block_map.specs.Runs.{singles, singles_of, expanded, behind}
+use Rattle.sg_pool.specs.Rising.{end_of, AreApart}
 use Rattle.sg_block_map.specs.Runs.{Bound, AreMaximalIn}
 use Rattle.sg_store.proofs.DiskLemmas.{eq_same, eq_other}
-use Rattle.sg_block_map.proofs.BetweenLemmas.{between-singles, apart-le}
-use Rattle.sg_block_map.proofs.ContentsLemmas.{find-below, find-above, find-right}
+use Rattle.sg_block_map.proofs.BetweenLemmas.{between-singles}
+use Rattle.sg_pool.proofs.RisingLemmas.{apart-le}
+use Rattle.sg_pool.proofs.ContentsLemmas.{find-below, find-above, find-right}
 use Rattle.sg_block_map.proofs.ExpandedLemmas.{expanded-more, expanded-none}
 
 -- the kind of the run at an index

@@ -9,7 +9,8 @@ use Rattle.sg_table.specs.Records.{slots_of}
 use Rattle.sg_table.specs.Occurrences.{occurrences}
 use Rattle.sg_table.specs.declared.run.Run.{Run}
 use Rattle.sg_block_map.specs.Cutting.{AreDistinct, StaysBut, IsCut}
-use Rattle.sg_block_map.specs.Runs.{end_of, singles_of, expanded, AreChained}
+use Rattle.sg_block_map.specs.Runs.{singles_of, expanded, AreChained}
+use Rattle.sg_pool.specs.Rising.{end_of}
 use Rattle.sg_block_map.specs.Splitting.{IsFront, IsRest, IsSplit}
 use Rattle.sg_table.proofs.OccurrenceLemmas.{occurrences-append}
 use Rattle.sg_block_map.proofs.ExpandedLemmas.{expanded-append, expanded-none, expanded-set}

@@ -10,19 +10,20 @@ use Rattle.sg_table.specs.Records.{slots_of}
 use Rattle.sg_table.specs.Occurrences.{occurrences}
 use Rattle.sg_table.specs.declared.run.Run.{Run}
 use Rattle.sg_block_map.specs.Cutting.{AreDistinct, IsCut}
-use Rattle.sg_block_map.specs.Runs.{end_of, singles_of, expanded, AreChained, AreMaximal, any_from}
-use Rattle.sg_block_map.specs.Runs.{AreBetween, AreRuns}
+use Rattle.sg_block_map.specs.Runs.{singles_of, expanded, AreChained, AreMaximal, any_from}
+use Rattle.sg_pool.specs.Rising.{end_of, AreBetween}
+use Rattle.sg_block_map.specs.Runs.{AreRuns}
 use Rattle.sg_block_map.specs.Splitting.{IsFront}
 use Rattle.sg_table.proofs.OccurrenceLemmas.{occurrences-append, once-le}
 use Rattle.sg_block_map.proofs.BetweenLemmas.{between-expanded, between-singles}
 use Rattle.sg_block_map.proofs.OrderLemmas.{IsPart, cut-maximal, narrow-any, apart-maximal}
-use Rattle.sg_block_map.proofs.BetweenLemmas.{between-weaker, sorted-between}
+use Rattle.sg_pool.proofs.RisingLemmas.{between-weaker, sorted-between}
 use Rattle.sg_block_map.proofs.ExpandedLemmas.{expanded-append, expanded-more, expanded-none}
 use Rattle.sg_block_map.proofs.ExpandedLemmas.{chained-append, chained-left, chained-right}
 use Rattle.sg_block_map.proofs.ExpandedLemmas.{slots-append, slots-both}
 use Rattle.sg_block_map.proofs.SplitLemmas.{expanded-one}
-use Rattle.sg_block_map.proofs.RemainingLemmas.{outside-before, outside-behind, outside-both}
-use Rattle.sg_block_map.proofs.RemainingLemmas.{outside-less}
+use Rattle.sg_pool.proofs.RemainingLemmas.{outside-before, outside-behind, outside-both}
+use Rattle.sg_pool.proofs.RemainingLemmas.{outside-less}
 
 pub slots-two : (s : ℕ) (xs ys : List Run) → occurrences s (slots_of (xs ++ ys)) ≡
     occurrences s (slots_of xs) + occurrences s (slots_of ys)

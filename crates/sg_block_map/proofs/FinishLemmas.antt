@@ -17,7 +17,8 @@ use Rattle.sg_table.specs.declared.run.Run.{Run}
 use Rattle.sg_block_map.specs.Gathering.{AreNear}
 use Rattle.sg_block_map.specs.Joining.{begun, begun_by, joined, linked, no_run, IsWriting}
 use Rattle.sg_block_map.specs.Joining.{IsFinished, IsFinishedBy}
-use Rattle.sg_block_map.specs.Runs.{end_of, singles_of, expanded, AreChained, AreMaximal, AreRuns}
+use Rattle.sg_block_map.specs.Runs.{singles_of, expanded, AreChained, AreMaximal, AreRuns}
+use Rattle.sg_pool.specs.Rising.{end_of}
 use Rattle.sg_block_map.specs.Runs.{Bound, any_from, behind, begins, AreMaximalIn}
 use Rattle.sg_block_map.specs.Runs.{chained_contents, blocks_of}
 use Rattle.sg_block_map.specs.Splitting.{IsRest}
@@ -26,8 +27,9 @@ use Rattle.sg_store.proofs.DiskLemmas.{len-remapped, used_among-more, used_among
 use Rattle.sg_store.proofs.DiskLemmas.{used_at-past}
 use Rattle.sg_table.proofs.OccurrenceLemmas.{occurrences-append}
 use Rattle.sg_pool.proofs.MappedLemmas.{len-contents_by, none_used}
-use Rattle.sg_block_map.proofs.BetweenLemmas.{between-expanded, none-between, end_of_all}
-use Rattle.sg_block_map.proofs.BetweenLemmas.{apart-left, apart-right, apart-le, apart-weaker}
+use Rattle.sg_block_map.proofs.BetweenLemmas.{between-expanded}
+use Rattle.sg_pool.proofs.RisingLemmas.{none-between, end_of_all}
+use Rattle.sg_pool.proofs.RisingLemmas.{apart-left, apart-right, apart-le, apart-weaker}
 use Rattle.sg_block_map.proofs.OrderLemmas.{apart-loose, apart-maximal, behind-low, behind-high}
 use Rattle.sg_block_map.proofs.OrderLemmas.{behind-at-most, behind_all, begins-low, front-kept}
 use Rattle.sg_block_map.proofs.OrderLemmas.{maximal-before, maximal-from, maximal-right, maximal-to}

@@ -18,9 +18,10 @@ use Rattle.sg_table.proofs.TableLemmas.{visited-more}
 use Rattle.sg_block_map.specs.Gathering.{end_at, AreNear, starts_in, end_index, AreGathered}
 use Rattle.sg_block_map.specs.Gathering.{AreBegun, AreGatheredOn}
 use Rattle.sg_block_map.specs.Metering.{Visits, SearchesAndVisits}
-use Rattle.sg_block_map.specs.Runs.{end_of, any_from, behind, Bound, AreApart, AreMaximal, AreMaximalIn}
+use Rattle.sg_block_map.specs.Runs.{any_from, behind, Bound, AreMaximal, AreMaximalIn}
+use Rattle.sg_pool.specs.Rising.{end_of, AreApart}
 use Rattle.sg_table.proofs.SpliceLemmas.{same-splice, front_of}
-use Rattle.sg_block_map.proofs.BetweenLemmas.{start_of-left, apart-le}
+use Rattle.sg_pool.proofs.RisingLemmas.{start_of-left, apart-le}
 use Rattle.sg_block_map.proofs.OrderLemmas.{behind-low, behind-high}
 
 pub count-append : {X : Type 0} (p : X → Bool) (xs ys : List X)

@@ -12,7 +12,8 @@ use Rattle.sg_pool.specs.MappedRecords.{IsConsistent}
 use Rattle.sg_table.specs.declared.run.Run.{Run}
 use Rattle.sg_store.specs.Disk.{max_capacity}
 use Rattle.sg_block_map.specs.Joining.{joined, linked, IsWriting}
-use Rattle.sg_block_map.specs.Runs.{end_of, singles, singles_of, expanded, AreChained, AreMaximal}
+use Rattle.sg_block_map.specs.Runs.{singles, singles_of, expanded, AreChained, AreMaximal}
+use Rattle.sg_pool.specs.Rising.{end_of}
 use Rattle.sg_block_map.specs.Runs.{any_from, begins, AreMaximalIn}
 use Rattle.sg_pool.proofs.LinkLemmas.{chain-last, slot_after-add, linked-front, linked-on}
 use Rattle.sg_table.proofs.OccurrenceLemmas.{same_slot, occurrences-append, occurrences-one}

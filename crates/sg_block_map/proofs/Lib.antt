@@ -3,7 +3,6 @@ pub mod BetweenLemmas
 pub mod OrderLemmas
 pub mod ExpandedLemmas
 pub mod AddressLemmas
-pub mod ContentsLemmas
 -- The runs of a table.
 pub mod RunSlotLemmas
 pub mod GatheringLemmas

@@ -17,11 +17,13 @@ use Rattle.sg_block_map.specs.Gathering.{starts_in, AreNear, AreGathered, end_in
 use Rattle.sg_pool.specs.MappedRecords.{kind_of}
 use Rattle.sg_block_map.specs.MaximalRuns.{AddressRun, run_from, with_address}
 use Rattle.sg_block_map.specs.MaximalRuns.{runs_of, runs, meets, meet, blocks_if_near, blocks_near}
-use Rattle.sg_block_map.specs.Runs.{end_of, singles, singles_of, expanded, AreApart, AreMaximal}
+use Rattle.sg_block_map.specs.Runs.{singles, singles_of, expanded, AreMaximal}
+use Rattle.sg_pool.specs.Rising.{end_of, AreApart}
 use Rattle.sg_block_map.specs.Runs.{Bound, any_from, behind, AreMaximalIn, address_run, blocks_of}
 use Rattle.sg_pool.proofs.EntryLemmas.{entries-append, entries-sorted}
 use Rattle.sg_table.specs.Records.{IsSorted, same_kind}
-use Rattle.sg_block_map.proofs.BetweenLemmas.{between-expanded, apart-le, sorted-between}
+use Rattle.sg_block_map.proofs.BetweenLemmas.{between-expanded}
+use Rattle.sg_pool.proofs.RisingLemmas.{apart-le, sorted-between}
 use Rattle.sg_block_map.proofs.OrderLemmas.{apart-loose}
 use Rattle.sg_block_map.proofs.ExpandedLemmas.{expanded-more, expanded-none}
 use Rattle.sg_store.proofs.DiskLemmas.{count-more}

@@ -6,9 +6,9 @@ use Rattle.sg_table.specs.Records.{IsSorted, same_kind}
 use Rattle.sg_table.specs.declared.run.Kind.{Kind}
 use Rattle.sg_table.specs.declared.run.Kind.TheVariants.{Data, Anchored}
 use Rattle.sg_table.specs.declared.run.Run.{Run}
-use Rattle.sg_block_map.specs.Runs.{end_of, Bound, any_from, behind, begins, AreMaximalIn, AreMaximal}
-use Rattle.sg_block_map.specs.Runs.{AreApart}
-use Rattle.sg_block_map.proofs.BetweenLemmas.{apart-sorted}
+use Rattle.sg_block_map.specs.Runs.{Bound, any_from, behind, begins, AreMaximalIn, AreMaximal}
+use Rattle.sg_pool.specs.Rising.{end_of, AreApart}
+use Rattle.sg_pool.proofs.RisingLemmas.{apart-sorted}
 
 -- ---- Bounds
 

@@ -18,15 +18,17 @@ use Rattle.sg_pool.specs.Slots.{Slots}
 use Rattle.sg_table.specs.declared.run.Kind.{Kind}
 use Rattle.sg_table.specs.declared.run.Run.{Run}
 use Rattle.sg_block_map.specs.Gathering.{overlap, AreGathered, end_index}
-use Rattle.sg_block_map.specs.Runs.{singles, singles_of, expanded, AreApart, AreBetween}
+use Rattle.sg_block_map.specs.Runs.{singles, singles_of, expanded}
+use Rattle.sg_pool.specs.Rising.{AreApart, AreBetween}
 use Rattle.sg_block_map.specs.Runs.{chained_contents}
 use Rattle.sg_store.proofs.DiskLemmas.{used_among-none, used_among-more, eq_other}
 use Rattle.sg_store.proofs.DiskLemmas.{eq_same, inside, below, above, lies_in-none, count-more}
 use Rattle.sg_pool.proofs.MappedLemmas.{none_used}
-use Rattle.sg_block_map.proofs.BetweenLemmas.{between-expanded, between-low}
+use Rattle.sg_block_map.proofs.BetweenLemmas.{between-expanded}
+use Rattle.sg_pool.proofs.RisingLemmas.{between-low}
 use Rattle.sg_block_map.proofs.OrderLemmas.{apart-loose}
-use Rattle.sg_block_map.proofs.ContentsLemmas.{blocks-same, used_among-same}
-use Rattle.sg_block_map.proofs.ContentsLemmas.{get-middle}
+use Rattle.sg_pool.proofs.ContentsLemmas.{blocks-same, used_among-same}
+use Rattle.sg_pool.proofs.ContentsLemmas.{get-middle}
 use Rattle.sg_block_map.proofs.ExpandedLemmas.{expanded-more, expanded-none, expanded-append}
 use Rattle.sg_block_map.proofs.GatheringLemmas.{count-append}
 

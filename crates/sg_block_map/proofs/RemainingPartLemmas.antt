@@ -9,7 +9,8 @@ use Rattle.sg_table.specs.declared.run.Run.{Run}
 use Rattle.sg_table.proofs.RecordLemmas.{start_of-read}
 use Rattle.sg_block_map.specs.Cutting.{IsCut}
 use Rattle.sg_block_map.specs.Gathering.{end_at, AreNear}
-use Rattle.sg_block_map.specs.Runs.{end_of, AreApart, AreChained}
+use Rattle.sg_block_map.specs.Runs.{AreChained}
+use Rattle.sg_pool.specs.Rising.{end_of, AreApart}
 use Rattle.sg_block_map.specs.Splitting.{IsFront}
 use Rattle.sg_block_map.proofs.AddressLemmas.{apart-order}
 use Rattle.sg_block_map.proofs.ExpandedLemmas.{chained-right}

@@ -13,11 +13,12 @@ use Rattle.sg_table.specs.declared.run.Run.{Run}
 use Rattle.sg_store.specs.Disk.{max_capacity}
 use Rattle.sg_block_map.specs.Cutting.{AreDistinct}
 use Rattle.sg_block_map.specs.Gathering.{AreGathered, end_index}
-use Rattle.sg_block_map.specs.Runs.{end_of, singles_of, expanded, AreRuns, blocks_of}
+use Rattle.sg_block_map.specs.Runs.{singles_of, expanded, AreRuns, blocks_of}
+use Rattle.sg_pool.specs.Rising.{end_of}
 use Rattle.sg_table.proofs.OccurrenceLemmas.{same_slot, occurrences-append, occurrences-more}
 use Rattle.sg_table.proofs.OccurrenceLemmas.{once-le, below_count}
 use Rattle.sg_table.proofs.SpliceLemmas.{front_of}
-use Rattle.sg_block_map.proofs.BetweenLemmas.{end_of_all, apart-right, apart-le}
+use Rattle.sg_pool.proofs.RisingLemmas.{end_of_all, apart-right, apart-le}
 use Rattle.sg_block_map.proofs.OrderLemmas.{apart-maximal}
 use Rattle.sg_block_map.proofs.ExpandedLemmas.{expanded-append, expanded-more, expanded-none}
 use Rattle.sg_block_map.proofs.ExpandedLemmas.{chained-left, chained-right}

@@ -6,7 +6,8 @@ use Rattle.sg_pool.specs.Chains.{slot_after, IsChain}
 use Rattle.sg_pool.specs.Slots.{Slots, followed}
 use Rattle.sg_table.specs.declared.run.Run.{Run}
 use Rattle.sg_block_map.specs.Metering.{OnlyFollows}
-use Rattle.sg_block_map.specs.Runs.{end_of, singles, singles_of, expanded}
+use Rattle.sg_block_map.specs.Runs.{singles, singles_of, expanded}
+use Rattle.sg_pool.specs.Rising.{end_of}
 use Rattle.sg_block_map.specs.Splitting.{front_of, rest_of, IsSplit}
 use Rattle.sg_pool.proofs.LinkLemmas.{slot_after-add}
 use Rattle.sg_block_map.proofs.ExpandedLemmas.{expanded-more, expanded-none, singles-append}

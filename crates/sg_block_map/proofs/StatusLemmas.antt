@@ -19,7 +19,8 @@ use Rattle.sg_table.specs.declared.run.Kind.{Kind}
 use Rattle.sg_table.specs.declared.run.Kind.TheVariants.{Data as DataRun, Anchored as AnchoredRun}
 use Rattle.sg_table.specs.declared.run.Run.{Run}
 use Rattle.sg_block_map.specs.Gathering.{end_at}
-use Rattle.sg_block_map.specs.Runs.{end_of, expanded, any_from, behind, Bound, AreApart, AreChained}
+use Rattle.sg_block_map.specs.Runs.{expanded, any_from, behind, Bound, AreChained}
+use Rattle.sg_pool.specs.Rising.{end_of, AreApart}
 use Rattle.sg_block_map.specs.Runs.{AreMaximalIn, AreRuns, chained_contents, blocks_of}
 use Rattle.sg_block_map.specs.Status.{IsRunTable, IsOver, run_over, AreMet, AreFrom}
 use Rattle.sg_store.proofs.DescriptorLemmas.{described}

@@ -15,18 +15,19 @@ use Rattle.sg_table.specs.Records.{run_at, single}
 use Rattle.sg_table.specs.Records.{slots_of}
 use Rattle.sg_table.specs.declared.run.Run.{Run}
 use Rattle.sg_block_map.specs.Gathering.{AreNear}
-use Rattle.sg_block_map.specs.Runs.{end_of, singles, singles_of, expanded, AreApart, AreChained}
+use Rattle.sg_block_map.specs.Runs.{singles, singles_of, expanded, AreChained}
+use Rattle.sg_pool.specs.Rising.{end_of, AreApart, AreBetween}
 use Rattle.sg_block_map.specs.Runs.{Bound, any_from, behind, AreMaximalIn}
-use Rattle.sg_block_map.specs.Runs.{AreBetween}
 use Rattle.sg_block_map.specs.Splitting.{rest_of, IsFront, IsRest}
 use Rattle.sg_block_map.specs.Walking.{ahead_of, passed, AreAhead, IsWalkFrom}
 use Rattle.sg_store.proofs.DiskLemmas.{eq_other}
 use Rattle.sg_pool.proofs.LinkLemmas.{slot_after-none, slot_after-one}
 use Rattle.sg_store.proofs.DiskLemmas.{eq_same}
-use Rattle.sg_block_map.proofs.BetweenLemmas.{between-expanded, between-singles, between-weaker}
-use Rattle.sg_block_map.proofs.BetweenLemmas.{apart-weaker, apart-le}
+use Rattle.sg_block_map.proofs.BetweenLemmas.{between-expanded, between-singles}
+use Rattle.sg_pool.proofs.RisingLemmas.{between-weaker}
+use Rattle.sg_pool.proofs.RisingLemmas.{apart-weaker, apart-le}
 use Rattle.sg_block_map.proofs.OrderLemmas.{maximal-from, behind-low, behind-at-most}
-use Rattle.sg_block_map.proofs.ContentsLemmas.{find-below, find-above, find-right}
+use Rattle.sg_pool.proofs.ContentsLemmas.{find-below, find-above, find-right}
 use Rattle.sg_block_map.proofs.ExpandedLemmas.{expanded-more, expanded-none, expanded-append}
 use Rattle.sg_block_map.proofs.ExpandedLemmas.{singles-one, slots-append, chained-append}
 use Rattle.sg_block_map.proofs.ExpandedLemmas.{chained-right, slots-singles, length-singles}

@@ -24,10 +24,11 @@ use Rattle.sg_pool.specs.MappedRecords.{IsConsistent}
 use Rattle.sg_table.specs.declared.run.Kind.{Kind}
 use Rattle.sg_table.specs.declared.run.Run.{Run}
 use Rattle.sg_block_map.specs.Joining.{joined, linked, IsWriting, KeepSlots}
-use Rattle.sg_block_map.specs.Runs.{end_of, singles_of, expanded, any_from, behind, begins}
+use Rattle.sg_block_map.specs.Runs.{singles_of, expanded, any_from, behind, begins}
+use Rattle.sg_pool.specs.Rising.{end_of, AreBetween}
 use Rattle.sg_block_map.specs.Runs.{AreChained, AreMaximal}
 use Rattle.sg_block_map.specs.Runs.{AreMaximalIn}
-use Rattle.sg_block_map.specs.Runs.{AreBetween, chained_contents}
+use Rattle.sg_block_map.specs.Runs.{chained_contents}
 use Rattle.sg_block_map.specs.Splitting.{rest_of}
 use Rattle.sg_block_map.specs.Walking.{passed, ahead_of}
 use Rattle.sg_pool.proofs.BlockLemmas.{AreSameBut, added, changed, data-set, find-added, seen-set}
@@ -37,8 +38,9 @@ use Rattle.sg_store.proofs.DiskLemmas.{eq_other}
 use Rattle.sg_pool.proofs.LinkLemmas.{slot_after-none, slot_after-in}
 use Rattle.sg_table.proofs.OccurrenceLemmas.{occurrences-append, once-le, below_count, same_slot}
 use Rattle.sg_pool.proofs.MappedLemmas.{find-unmapped}
-use Rattle.sg_block_map.proofs.BetweenLemmas.{between-expanded, between-append, between-singles}
-use Rattle.sg_block_map.proofs.BetweenLemmas.{index-between, none-between}
+use Rattle.sg_block_map.proofs.BetweenLemmas.{between-expanded, between-singles}
+use Rattle.sg_pool.proofs.RisingLemmas.{between-append}
+use Rattle.sg_pool.proofs.RisingLemmas.{index-between, none-between}
 use Rattle.sg_block_map.proofs.OrderLemmas.{apart-in, apart-loose, begins-high, behind-low}
 use Rattle.sg_block_map.proofs.OrderLemmas.{behind-at-most, maximal-from}
 use Rattle.sg_block_map.proofs.ExpandedLemmas.{expanded-append, expanded-more, singles-one}

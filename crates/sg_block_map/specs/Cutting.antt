@@ -5,7 +5,8 @@ use Rattle.sg_pool.specs.Slots.{Slots, max_slots}
 use Rattle.sg_table.specs.Records.{slots_of}
 use Rattle.sg_table.specs.Occurrences.{occurrences}
 use Rattle.sg_table.specs.declared.run.Run.{Run}
-use Rattle.sg_block_map.specs.Runs.{end_of, singles_of, expanded, AreChained}
+use Rattle.sg_block_map.specs.Runs.{singles_of, expanded, AreChained}
+use Rattle.sg_pool.specs.Rising.{end_of}
 use Rattle.sg_block_map.specs.Splitting.{IsFront}
 
 -- No slot is in both lists, and none is twice in one list.

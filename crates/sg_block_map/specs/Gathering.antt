@@ -7,7 +7,8 @@ use Rattle.sg_table.specs.Records.{start_of}
 use Rattle.sg_table.specs.Table.{Table}
 use Rattle.sg_table.specs.declared.run.Run.{Run}
 use Rattle.sg_pool.specs.Slots.{max_slots}
-use Rattle.sg_block_map.specs.Runs.{end_of, AreMaximal}
+use Rattle.sg_block_map.specs.Runs.{AreMaximal}
+use Rattle.sg_pool.specs.Rising.{end_of}
 
 -- The address past the run at an index.
 abbrev pub end_at : List Run → ℕ → ℕ

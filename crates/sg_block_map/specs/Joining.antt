@@ -19,7 +19,8 @@ use Rattle.sg_table.specs.declared.run.Run.{Run}
 use Rattle.sg_block_map.specs.Gathering.{AreGathered, AreNear}
 use Rattle.sg_block_map.specs.Metering.{FollowsLinks}
 use Rattle.sg_block_map.specs.State.{Keeps}
-use Rattle.sg_block_map.specs.Runs.{end_of, expanded, AreChained, AreMaximal, AreRuns}
+use Rattle.sg_block_map.specs.Runs.{expanded, AreChained, AreMaximal, AreRuns}
+use Rattle.sg_pool.specs.Rising.{end_of}
 use Rattle.sg_block_map.specs.Runs.{chained_contents, any_from, begins, blocks_of, AreMaximalIn}
 
 -- Two runs as one. The first may have no address yet.

@@ -3,7 +3,7 @@ use Rattle.std.specs.Prelude.{◌≡◌, ℕ, ◌+◌, ◌<◌, ◌≤◌, lengt
 use Rattle.sg_pool.specs.Slots.{Slots}
 use Rattle.sg_table.specs.declared.run.Kind.TheVariants.{Data}
 use Rattle.sg_table.specs.declared.run.Run.{Run}
-use Rattle.sg_block_map.specs.Runs.{end_of}
+use Rattle.sg_pool.specs.Rising.{end_of}
 
 -- A range that is not empty, with all its addresses in one run of data.
 pub record LiesInRun (run : Run) (lba count : ℕ) : Type 0 where

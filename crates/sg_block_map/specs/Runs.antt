@@ -5,16 +5,13 @@ use Rattle.std.specs.List.{sum_by}
 use Rattle.sg_pool.specs.Chains.{IsChain}
 use Rattle.sg_store.specs.Disk.{Contents, IsWellFormed, max_capacity}
 use Rattle.sg_table.specs.Records.{single, same_kind}
+use Rattle.sg_pool.specs.Rising.{end_of}
 use Rattle.sg_pool.specs.MappedRecords.{contents_of}
 use Rattle.sg_pool.specs.Slots.{Slots}
 use Rattle.sg_pool.specs.MappedRecords.{IsConsistent}
 use Rattle.sg_table.specs.declared.run.Kind.{Kind}
 use Rattle.sg_table.specs.declared.run.Run.{Run}
 use Rattle.sg_block_map.specs.MaximalRuns.{AddressRun, run_from}
-
--- The address past a run.
-abbrev pub end_of : Run → ℕ
-end_of run = run.start + run.count
 
 -- The addresses of a run, without its slots.
 abbrev pub address_run : Run → AddressRun
@@ -80,21 +77,10 @@ pub record AreRuns (records : List Run) (slots : Slots) (room : ℕ) : Type 0 wh
 
 -- ---- Cited only by private contracts
 
--- The runs rise, from one address to another. None is empty, and no two have an address in common.
-abbrev pub AreApart : (low high : ℕ) → List Run → Type 0
-AreApart low high [] = low ≤ high
-AreApart low high (run ∷ runs) =
-    (low ≤ run.start) × (0 < run.count) × AreApart (end_of run) high runs
-
 -- The bound of the runs before a run of a kind that begins at an address. Runs of the same kind do
 -- not reach the address.
 abbrev pub begins : Kind → ℕ → Bound
 begins kind lba other = if same_kind other kind then lba else lba + 1
-
--- Single addresses rise, from one address and below another.
-abbrev pub AreBetween : (low high : ℕ) → List Run → Type 0
-AreBetween low high [] = low ≤ high
-AreBetween low high (run ∷ runs) = (low ≤ run.start) × AreBetween (run.start + 1) high runs
 
 -- The number of addresses of the runs.
 abbrev pub blocks_of : List Run → ℕ

@@ -3,7 +3,8 @@ use Rattle.std.specs.Prelude.{◌≡◌, ℕ, ◌+◌, ◌-◌, ◌<◌, ◌≤�
 use Rattle.std.specs.Prelude.{Option, IfSome, option_to_list}
 use Rattle.sg_pool.specs.Chains.{slot_after}
 use Rattle.sg_table.specs.declared.run.Run.{Run}
-use Rattle.sg_block_map.specs.Runs.{end_of, singles_of, expanded, AreChained}
+use Rattle.sg_block_map.specs.Runs.{singles_of, expanded, AreChained}
+use Rattle.sg_pool.specs.Rising.{end_of}
 
 -- The first `count` addresses of a run,
 abbrev pub front_of : (next : List ℕ) → Run → (count : ℕ) → Run

@@ -7,7 +7,8 @@ use Rattle.sg_pool.specs.Slots.{Slots}
 use Rattle.sg_table.specs.Records.{slots_of}
 use Rattle.sg_table.specs.declared.run.Run.{Run}
 use Rattle.sg_store.specs.Disk.{max_capacity}
-use Rattle.sg_block_map.specs.Runs.{expanded, chained_contents, AreApart, AreChained}
+use Rattle.sg_block_map.specs.Runs.{expanded, chained_contents, AreChained}
+use Rattle.sg_pool.specs.Rising.{AreApart}
 use Rattle.sg_block_map.specs.Splitting.{rest_of, IsSplit}
 
 -- A run, if there is one, and the runs of a list from an index on.

@@ -7,7 +7,8 @@ ghost use Rattle.sg_table.specs.Records.{IsLowerBound};
 ghost use Rattle.sg_block_map.specs.Gathering.{AreBegun, AreGathered, AreGatheredOn, AreGatheredTo};
 ghost use Rattle.sg_block_map.specs.Gathering.{HaveRoom, end_index, overlap, starts_in};
 ghost use Rattle.sg_block_map.specs.Metering.{Visits, SearchesAndVisits};
-ghost use Rattle.sg_block_map.specs.Runs.{AreApart, AreMaximal, blocks_of};
+ghost use Rattle.sg_block_map.specs.Runs.{AreMaximal, blocks_of};
+ghost use Rattle.sg_pool.specs.Rising.{AreApart};
 
 use sg_pool::MAX_SLOTS;
 use sg_store::{MAX_CAPACITY, MAX_COUNT};

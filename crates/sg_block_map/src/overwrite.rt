@@ -8,7 +8,8 @@ ghost use Rattle.sg_pool.specs.MappedRecords.{IsConsistent};
 ghost use Rattle.sg_pool.specs.Source.{HasBlocks, block_of};
 ghost use Rattle.sg_block_map.specs.Metering.{FollowsLinks};
 ghost use Rattle.sg_block_map.specs.Overwriting.{ChangesBlocks, LiesInRun};
-ghost use Rattle.sg_block_map.specs.Runs.{end_of, expanded, chained_contents};
+ghost use Rattle.sg_block_map.specs.Runs.{expanded, chained_contents};
+ghost use Rattle.sg_pool.specs.Rising.{end_of};
 
 use crate::split::follow;
 use sg_pool::{Pool, Source};

@@ -14,10 +14,12 @@ use Rattle.sg_table.specs.declared.run.Kind.{Kind}
 use Rattle.sg_table.specs.declared.run.Kind.TheVariants.{Data}
 use Rattle.sg_table.specs.declared.run.Run.{Run}
 use Rattle.sg_extent_map.specs.Gathering.{end_at}
-use Rattle.sg_extent_map.specs.Extents.{end_of, singles_from, singles_of, singles, AreApart}
+use Rattle.sg_extent_map.specs.Extents.{singles_from, singles_of, singles}
+use Rattle.sg_pool.specs.Rising.{end_of, AreApart}
 use Rattle.sg_store.proofs.DiskLemmas.{eq_same, eq_other}
-use Rattle.sg_extent_map.proofs.BetweenLemmas.{between-from, apart-le}
-use Rattle.sg_extent_map.proofs.ContentsLemmas.{find-below, find-above, find-right}
+use Rattle.sg_extent_map.proofs.BetweenLemmas.{between-from}
+use Rattle.sg_pool.proofs.RisingLemmas.{apart-le}
+use Rattle.sg_pool.proofs.ContentsLemmas.{find-below, find-above, find-right}
 use Rattle.sg_extent_map.proofs.SinglesLemmas.{singles-more, singles-none}
 
 -- the kind of the run at an index

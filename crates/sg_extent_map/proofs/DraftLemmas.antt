@@ -14,7 +14,8 @@ use Rattle.sg_table.proofs.RecordLemmas.{alike}
 use Rattle.sg_extent_map.specs.Drafting.{drafted, AreDrafted, Appends}
 use Rattle.sg_extent_map.proofs.MaximalLemmas.{max-replaced, max-pushed}
 use Rattle.sg_extent_map.specs.Extents.{continues}
-use Rattle.sg_extent_map.specs.Extents.{singles_from, singles_of, singles, end_of, IsExtent}
+use Rattle.sg_extent_map.specs.Extents.{singles_from, singles_of, singles, IsExtent}
+use Rattle.sg_pool.specs.Rising.{end_of}
 use Rattle.sg_extent_map.proofs.SinglesLemmas.{from-none, from-append, singles-last, append-none}
 use Rattle.sg_extent_map.proofs.SinglesLemmas.{length-from, length-singles, singles-more}
 use Rattle.sg_extent_map.proofs.SinglesLemmas.{singles-none}

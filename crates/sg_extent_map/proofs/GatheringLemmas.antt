@@ -10,12 +10,12 @@ use Rattle.sg_table.specs.Draft.{Drafted}
 use Rattle.sg_table.specs.Records.{start_of, IsLowerBound}
 use Rattle.sg_table.specs.declared.run.Run.{Run}
 use Rattle.sg_table.proofs.SpliceLemmas.{front_of}
-use Rattle.sg_extent_map.specs.Extents.{end_of, AreApart}
+use Rattle.sg_pool.specs.Rising.{end_of, AreApart}
 use Rattle.sg_extent_map.specs.Gathering.{overlap, overlaps, end_index, AreGathered, BeginsBelow}
 use Rattle.sg_extent_map.specs.Gathering.{EndsFrom}
-use Rattle.sg_extent_map.proofs.BetweenLemmas.{start_of-right, apart-le, apart-left, apart-right}
-use Rattle.sg_extent_map.proofs.BetweenLemmas.{apart-weaker}
-use Rattle.sg_extent_map.proofs.BetweenLemmas.{end_of_all}
+use Rattle.sg_pool.proofs.RisingLemmas.{start_of-right, apart-le, apart-left, apart-right}
+use Rattle.sg_pool.proofs.RisingLemmas.{apart-weaker}
+use Rattle.sg_pool.proofs.RisingLemmas.{end_of_all}
 
 -- the extents before an index, and from one on
 pub apart-take : (rs : List Run) (a b low n : ℕ) → AreApart a b rs → n < length rs

@@ -2,7 +2,6 @@
 pub mod BetweenLemmas
 pub mod SinglesLemmas
 pub mod AddressLemmas
-pub mod ContentsLemmas
 pub mod MaximalLemmas
 -- The extents near a range.
 pub mod GatheringLemmas
@@ -12,7 +11,6 @@ pub mod WalkLemmas
 pub mod DraftLemmas
 pub mod WriteLemmas
 -- Unmapping a range.
-pub mod RemainingLemmas
 pub mod UnmapLemmas
 -- GET LBA STATUS, the number of mapped addresses, and the store.
 pub mod StatusLemmas

@@ -7,9 +7,10 @@ use Rattle.std.specs.Prelude.{◌&&◌, ◌==◌}
 use Rattle.sg_table.specs.Records.{same_kind, single}
 use Rattle.sg_table.specs.declared.run.Kind.{Kind}
 use Rattle.sg_table.specs.declared.run.Run.{Run}
-use Rattle.sg_extent_map.specs.Extents.{singles_from, singles_of, singles, end_of, continues}
+use Rattle.sg_extent_map.specs.Extents.{singles_from, singles_of, singles, continues}
+use Rattle.sg_pool.specs.Rising.{end_of, AreBetween}
 use Rattle.sg_extent_map.specs.Extents.{AreMaximal}
-use Rattle.sg_extent_map.specs.Extents.{IsNotContinued, IsExtent, AreBetween}
+use Rattle.sg_extent_map.specs.Extents.{IsNotContinued, IsExtent}
 use Rattle.sg_extent_map.proofs.SinglesLemmas.{from-one, from-more, singles-more, singles-none}
 use Rattle.sg_extent_map.proofs.SinglesLemmas.{singles-last}
 use Rattle.sg_extent_map.proofs.SinglesLemmas.{from-append}

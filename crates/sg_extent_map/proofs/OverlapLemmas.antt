@@ -18,14 +18,15 @@ use Rattle.sg_pool.specs.Slots.{UnlinkedSlots}
 use Rattle.sg_table.specs.declared.run.Kind.{Kind}
 use Rattle.sg_table.specs.declared.run.Run.{Run}
 use Rattle.sg_extent_map.specs.Gathering.{overlap, overlaps, AreGathered, end_index}
-use Rattle.sg_extent_map.specs.Extents.{singles_from, singles_of, singles, end_of, AreApart}
-use Rattle.sg_extent_map.specs.Extents.{AreBetween}
+use Rattle.sg_extent_map.specs.Extents.{singles_from, singles_of, singles}
+use Rattle.sg_pool.specs.Rising.{end_of, AreApart, AreBetween}
 use Rattle.sg_store.proofs.DiskLemmas.{used_among-none, used_among-more, eq_other}
 use Rattle.sg_store.proofs.DiskLemmas.{eq_same, inside, below, above, lies_in-none, count-more}
 use Rattle.sg_pool.proofs.MappedLemmas.{none_used}
-use Rattle.sg_extent_map.proofs.BetweenLemmas.{between-singles, between-low}
-use Rattle.sg_extent_map.proofs.ContentsLemmas.{blocks-same, used_among-same}
-use Rattle.sg_extent_map.proofs.ContentsLemmas.{get-middle}
+use Rattle.sg_extent_map.proofs.BetweenLemmas.{between-singles}
+use Rattle.sg_pool.proofs.RisingLemmas.{between-low}
+use Rattle.sg_pool.proofs.ContentsLemmas.{blocks-same, used_among-same}
+use Rattle.sg_pool.proofs.ContentsLemmas.{get-middle}
 use Rattle.sg_extent_map.proofs.SinglesLemmas.{singles-more, singles-none, singles-append}
 use Rattle.sg_extent_map.proofs.SinglesLemmas.{count-append}
 

@@ -19,7 +19,8 @@ use Rattle.sg_table.specs.declared.run.Kind.{Kind}
 use Rattle.sg_table.specs.declared.run.Kind.TheVariants.{Data as DataRun, Anchored as AnchoredRun}
 use Rattle.sg_table.specs.declared.run.Run.{Run}
 use Rattle.sg_extent_map.specs.Gathering.{end_at}
-use Rattle.sg_extent_map.specs.Extents.{end_of, singles, singles_of, AreApart, AreExtents}
+use Rattle.sg_extent_map.specs.Extents.{singles, singles_of, AreExtents}
+use Rattle.sg_pool.specs.Rising.{end_of, AreApart}
 use Rattle.sg_extent_map.specs.Status.{IsExtentTable, IsOver, run_over, of_kind, AreOfKind}
 use Rattle.sg_store.proofs.DescriptorLemmas.{described}
 use Rattle.sg_store.proofs.DiskLemmas.{used_among-none, used_among-more}

@@ -24,13 +24,15 @@ use Rattle.std.specs.List.{All, range_with_len, splice}
 use Rattle.sg_table.proofs.SpliceLemmas.{all-splice}
 use Rattle.sg_extent_map.specs.Drafting.{drafted}
 use Rattle.sg_extent_map.specs.Gathering.{end_index, AreGathered}
-use Rattle.sg_extent_map.specs.Extents.{singles, singles_from, singles_of, part_of, AreBetween}
+use Rattle.sg_extent_map.specs.Extents.{singles, singles_from, singles_of, part_of}
+use Rattle.sg_pool.specs.Rising.{AreBetween}
 use Rattle.sg_extent_map.specs.Extents.{AreExtents, AreMaximal, IsExtent}
 use Rattle.sg_extent_map.specs.Writing.{GivesSlots, HasOwnSlots, IsCut}
-use Rattle.sg_extent_map.proofs.BetweenLemmas.{between-from, between-right, between-singles}
-use Rattle.sg_extent_map.proofs.BetweenLemmas.{sorted-between}
-use Rattle.sg_extent_map.proofs.RemainingLemmas.{outside-append, outside-before, outside-behind}
-use Rattle.sg_extent_map.proofs.RemainingLemmas.{outside-inside}
+use Rattle.sg_extent_map.proofs.BetweenLemmas.{between-from, between-singles}
+use Rattle.sg_pool.proofs.RisingLemmas.{between-right}
+use Rattle.sg_pool.proofs.RisingLemmas.{sorted-between}
+use Rattle.sg_pool.proofs.RemainingLemmas.{outside-append, outside-before, outside-behind}
+use Rattle.sg_pool.proofs.RemainingLemmas.{outside-inside}
 use Rattle.sg_extent_map.proofs.DraftLemmas.{drop-run, none-of}
 use Rattle.sg_extent_map.proofs.SinglesLemmas.{singles-last, singles-more, singles-none}
 use Rattle.sg_extent_map.proofs.WriteLemmas.{apart-by, singles-parts}

@@ -14,12 +14,14 @@ use Rattle.sg_table.specs.Records.{run_at, single}
 use Rattle.sg_table.specs.declared.run.Kind.TheVariants.{Data}
 use Rattle.sg_table.specs.declared.run.Run.{Run}
 use Rattle.sg_table.proofs.RecordLemmas.{picked, dropped}
-use Rattle.sg_extent_map.specs.Extents.{end_of, singles_from, singles_of, singles, AreApart}
+use Rattle.sg_extent_map.specs.Extents.{singles_from, singles_of, singles}
+use Rattle.sg_pool.specs.Rising.{end_of, AreApart, AreBetween}
 use Rattle.sg_extent_map.specs.Extents.{IsExtent}
-use Rattle.sg_extent_map.specs.Extents.{IsPart, part_of, AreBetween}
+use Rattle.sg_extent_map.specs.Extents.{IsPart, part_of}
 use Rattle.sg_extent_map.specs.Walking.{ahead_of, AreAhead, IsBegun, Passes}
-use Rattle.sg_extent_map.proofs.BetweenLemmas.{between-weaker, between-from, sorted-between}
-use Rattle.sg_extent_map.proofs.ContentsLemmas.{get-middle}
+use Rattle.sg_extent_map.proofs.BetweenLemmas.{between-from}
+use Rattle.sg_pool.proofs.RisingLemmas.{between-weaker, sorted-between}
+use Rattle.sg_pool.proofs.ContentsLemmas.{get-middle}
 use Rattle.sg_extent_map.proofs.SinglesLemmas.{from-none, from-append, from-more, singles-more}
 
 -- ---- Parts of an extent

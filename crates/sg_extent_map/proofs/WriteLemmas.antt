@@ -27,8 +27,9 @@ use Rattle.sg_pool.proofs.MappedLemmas.{none_used, len-contents_by}
 use Rattle.sg_pool.proofs.ConsistencyLemmas.{consistent-inserted, contents-inserted, contents-added}
 use Rattle.sg_pool.proofs.ConsistencyLemmas.{consistent-kind, consistent-over, contents-changed}
 use Rattle.sg_pool.proofs.ConsistencyLemmas.{contents-anchored}
-use Rattle.sg_extent_map.specs.Extents.{singles, singles_from, singles_of, end_of, AreApart}
-use Rattle.sg_extent_map.specs.Extents.{AreBetween, AreExtents}
+use Rattle.sg_extent_map.specs.Extents.{singles, singles_from, singles_of}
+use Rattle.sg_pool.specs.Rising.{end_of, AreApart, AreBetween}
+use Rattle.sg_extent_map.specs.Extents.{AreExtents}
 use Rattle.sg_extent_map.specs.Extents.{AreMaximal, IsExtent}
 use Rattle.sg_extent_map.specs.Gathering.{end_index, AreGathered}
 use Rattle.sg_extent_map.specs.Walking.{AreAhead, IsBegun}
@@ -36,10 +37,11 @@ use Rattle.sg_extent_map.specs.Writing.{IsWriting, PutsBlock, TakesSlot}
 use Rattle.sg_pool.specs.Content.{kind_for, mapping_for}
 use Rattle.sg_pool.specs.declared.content.Content.{Content}
 use Rattle.sg_pool.specs.declared.content.Content.TheVariants.{Blocks, Anchor}
-use Rattle.sg_extent_map.proofs.BetweenLemmas.{apart-right, apart-weaker, between-append}
-use Rattle.sg_extent_map.proofs.BetweenLemmas.{index-between, none-between, end_of_all}
-use Rattle.sg_extent_map.proofs.BetweenLemmas.{between-singles, between-right, between-both}
-use Rattle.sg_extent_map.proofs.BetweenLemmas.{between-raised}
+use Rattle.sg_pool.proofs.RisingLemmas.{apart-right, apart-weaker, between-append}
+use Rattle.sg_pool.proofs.RisingLemmas.{index-between, none-between, end_of_all}
+use Rattle.sg_extent_map.proofs.BetweenLemmas.{between-singles}
+use Rattle.sg_pool.proofs.RisingLemmas.{between-right, between-both}
+use Rattle.sg_pool.proofs.RisingLemmas.{between-raised}
 use Rattle.sg_extent_map.proofs.SinglesLemmas.{singles-none, singles-more, singles-append}
 use Rattle.sg_extent_map.proofs.SinglesLemmas.{singles-last}
 use Rattle.sg_extent_map.proofs.SinglesLemmas.{length-singles}

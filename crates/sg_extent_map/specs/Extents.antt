@@ -7,12 +7,9 @@ use Rattle.sg_table.specs.Records.{single, same_kind}
 use Rattle.sg_table.specs.Table.{Table}
 use Rattle.sg_table.specs.declared.run.Kind.{Kind}
 use Rattle.sg_table.specs.declared.run.Run.{Run}
+use Rattle.sg_pool.specs.Rising.{end_of, AreApart}
 use Rattle.sg_pool.specs.MappedRecords.{contents_of, IsConsistent}
 use Rattle.sg_pool.specs.Slots.{UnlinkedSlots}
-
--- The address past a run.
-abbrev pub end_of : Run → ℕ
-end_of run = run.start + run.count
 
 -- `count` addresses of a kind from one on, each with its slot. The slots are in a row, too.
 unfoldable pub singles_from : (start first count : ℕ) → Kind → List Run
@@ -36,13 +33,6 @@ pub record IsExtent (pool : ℕ) (run : Run) : Type 0 where
   pub range : run.start + run.count ≤ max_capacity
   pub slots : run.first + run.count ≤ pool
   pub last : run.last + 1 ≡ run.first + run.count
-
--- The extents rise, from one address to another. None is empty, and no two have an address in
--- common.
-abbrev pub AreApart : (low high : ℕ) → List Run → Type 0
-AreApart low high [] = low ≤ high
-AreApart low high (run ∷ runs) =
-    (low ≤ run.start) × (0 < run.count) × AreApart (end_of run) high runs
 
 -- Whether a run goes on where another ends: in its addresses, its slots and its kind.
 abbrev pub continues : (done run : Run) → Bool
@@ -70,11 +60,6 @@ pub record AreExtents (records : List Run) (slots : UnlinkedSlots) (room : ℕ) 
   pub consistent : IsConsistent (singles records) slots.blocks slots.free room
 
 -- ---- Cited only by private contracts
-
--- Single addresses rise, from one address and below another.
-abbrev pub AreBetween : (low high : ℕ) → List Run → Type 0
-AreBetween low high [] = low ≤ high
-AreBetween low high (run ∷ runs) = (low ≤ run.start) × AreBetween (run.start + 1) high runs
 
 -- A part of an extent: an extent, or no address.
 abbrev pub IsPart : (pool : ℕ) → Run → Type 0

@@ -1,7 +1,8 @@
 -- Extents are apart and maximal in at most one way.
 use Rattle.std.specs.Prelude.{ℕ, List, [], ◌∷◌}
 use Rattle.std.proofs.Props.{props}
-use Rattle.sg_extent_map.specs.Extents.{end_of, AreApart, AreExtents, AreMaximal, IsNotContinued}
+use Rattle.sg_extent_map.specs.Extents.{AreExtents, AreMaximal, IsNotContinued}
+use Rattle.sg_pool.specs.Rising.{end_of, AreApart}
 use Rattle.sg_pool.specs.Slots.{UnlinkedSlots}
 use Rattle.sg_table.specs.declared.run.Run.{Run}
 

@@ -6,7 +6,7 @@ use Rattle.sg_store.specs.Disk.{max_capacity}
 use Rattle.sg_table.specs.Draft.{Drafted}
 use Rattle.sg_table.specs.Table.{Table, visited, probed, search_bound}
 use Rattle.sg_table.specs.declared.run.Run.{Run}
-use Rattle.sg_extent_map.specs.Extents.{end_of, AreApart}
+use Rattle.sg_pool.specs.Rising.{end_of, AreApart}
 
 -- The address past the extent at an index.
 abbrev pub end_at : List Run → ℕ → ℕ

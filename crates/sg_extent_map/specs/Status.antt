@@ -9,7 +9,8 @@ use Rattle.sg_table.specs.Table.{Table, visited, probed, search_bound}
 use Rattle.sg_table.specs.declared.cursor.Cursor.{Cursor}
 use Rattle.sg_table.specs.declared.run.Kind.{Kind}
 use Rattle.sg_table.specs.declared.run.Run.{Run}
-use Rattle.sg_extent_map.specs.Extents.{singles, AreApart}
+use Rattle.sg_extent_map.specs.Extents.{singles}
+use Rattle.sg_pool.specs.Rising.{AreApart}
 use Rattle.sg_extent_map.specs.Gathering.{end_at}
 
 -- The table of a disk: its extents have no address in common, and none lies past the end of the

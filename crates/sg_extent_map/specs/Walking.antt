@@ -6,7 +6,8 @@ use Rattle.std.specs.List.{All}
 use Rattle.sg_store.specs.Disk.{max_capacity}
 use Rattle.sg_table.specs.Records.{single}
 use Rattle.sg_table.specs.declared.run.Run.{Run}
-use Rattle.sg_extent_map.specs.Extents.{end_of, singles, singles_of, AreApart, IsExtent, IsPart}
+use Rattle.sg_extent_map.specs.Extents.{singles, singles_of, IsExtent, IsPart}
+use Rattle.sg_pool.specs.Rising.{end_of, AreApart}
 
 -- An extent, if there is one, and the extents of a list from an index on.
 abbrev pub ahead_of : List Run → Option Run → (at : ℕ) → List Run

@@ -9,7 +9,8 @@ use Rattle.sg_table.specs.Draft.{Drafted}
 use Rattle.sg_table.specs.Occurrences.{occurrences}
 use Rattle.sg_table.specs.Table.{Table}
 use Rattle.sg_table.specs.declared.run.Run.{Run}
-use Rattle.sg_extent_map.specs.Extents.{singles, singles_of, part_of, AreBetween, AreExtents}
+use Rattle.sg_extent_map.specs.Extents.{singles, singles_of, part_of, AreExtents}
+use Rattle.sg_pool.specs.Rising.{AreBetween}
 use Rattle.sg_extent_map.specs.Extents.{IsExtent}
 use Rattle.sg_extent_map.specs.Drafting.{drafted, AreDrafted, IsMaximalDraft}
 use Rattle.sg_extent_map.specs.Gathering.{AreGathered}

@@ -2,7 +2,7 @@
 // over a range. For GET LBA STATUS the file `status` visits records. This file knows no slot and no
 // block.
 ghost use Rattle.std.specs.Prelude.{◌≡◌, ◌+◌, ◌≤◌, length};
-ghost use Rattle.sg_extent_map.specs.Extents.{AreApart};
+ghost use Rattle.sg_pool.specs.Rising.{AreApart};
 ghost use Rattle.sg_extent_map.specs.Gathering.{AreGathered, SearchesAndVisits, overlaps};
 
 use sg_store::{MAX_CAPACITY, MAX_COUNT};

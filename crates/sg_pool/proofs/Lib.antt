@@ -5,6 +5,9 @@ pub mod MappedLemmas
 pub mod EntryLemmas
 pub mod BlockLemmas
 pub mod ConsistencyLemmas
+pub mod RisingLemmas
+pub mod ContentsLemmas
+pub mod RemainingLemmas
 -- For the pool only.
 pub mod PoolLemmas
 pub mod ChainLemmas

@@ -5,6 +5,7 @@ pub mod Chains
 pub mod Source
 pub mod Content
 pub mod MappedRecords
+pub mod Rising
 pub mod Parts
 -- The definitions that only private contracts cite.
 pub mod Jumps

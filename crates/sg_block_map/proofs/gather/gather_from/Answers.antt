@@ -7,7 +7,7 @@ use Rattle.sg_table.specs.Table.{Table, visited}
 use Rattle.sg_table.specs.declared.run.Run.{Run}
 use Rattle.sg_store.specs.Disk.{max_capacity}
 use Rattle.sg_block_map.specs.Gathering.{end_at, end_index}
-use Rattle.sg_block_map.specs.Runs.{end_of}
+use Rattle.sg_pool.specs.Rising.{end_of}
 use Rattle.sg_table.proofs.RecordLemmas.{start_of-read}
 use Rattle.sg_table.proofs.SpliceLemmas.{same-splice}
 use Rattle.sg_table.proofs.TableLemmas.{visited-more}

@@ -1,5 +1,5 @@
 use Rattle.std.proofs.Common.{◌≡◌, ◌+◌, ◌-◌, ap, sym, ◌∙◌, arith}
-use Rattle.sg_block_map.specs.Runs.{end_of}
+use Rattle.sg_pool.specs.Rising.{end_of}
 use Rattle.sg_block_map.proofs.StatusLemmas.{gap-low, gap-described, gap-rest, gap-on, over-high}
 use Rattle.sg_block_map.proofs.StatusLemmas.{over-described, over-met, over-rest, over-on}
 use Rattle.sg_block_map.proofs.status.describe.Goals as goal

@@ -10,7 +10,7 @@ use Rattle.sg_table.proofs.SpliceLemmas.{same-splice}
 use Rattle.sg_table.proofs.TableLemmas.{visited-more}
 use Rattle.sg_extent_map.specs.Gathering.{overlaps}
 use Rattle.sg_extent_map.proofs.AddressLemmas.{not_empty}
-use Rattle.sg_extent_map.proofs.BetweenLemmas.{apart-sorted}
+use Rattle.sg_pool.proofs.RisingLemmas.{apart-sorted}
 use Rattle.sg_extent_map.proofs.GatheringLemmas.{all-gathered, overlaps-last}
 use Rattle.sg_extent_map.proofs.gather.gather.Goals as goal
 

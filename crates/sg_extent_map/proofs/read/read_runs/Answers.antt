@@ -8,7 +8,8 @@ use Rattle.sg_store.proofs.DiskLemmas.{blocks-none, blocks-more}
 use Rattle.sg_table.specs.declared.run.Run.{Run}
 use Rattle.sg_extent_map.specs.Extents.{singles, singles_of}
 use Rattle.sg_extent_map.specs.Walking.{ahead_of}
-use Rattle.sg_extent_map.proofs.BetweenLemmas.{between-singles, between-append}
+use Rattle.sg_extent_map.proofs.BetweenLemmas.{between-singles}
+use Rattle.sg_pool.proofs.RisingLemmas.{between-append}
 use Rattle.sg_extent_map.proofs.WalkLemmas.{ahead-weaker, between-found, between-front, block-found}
 use Rattle.sg_extent_map.proofs.WalkLemmas.{slot-found}
 use Rattle.sg_extent_map.proofs.read.read_runs.Goals as goal

@@ -2,7 +2,8 @@ use Rattle.std.proofs.Common.{◌≡◌, ◌+◌, ◌*◌, ◌++◌, List, take,
 use Rattle.sg_store.specs.Disk.{blocks}
 use Rattle.sg_pool.specs.MappedRecords.{contents_of}
 use Rattle.sg_table.specs.declared.run.Run.{Run}
-use Rattle.sg_extent_map.specs.Extents.{singles, AreBetween}
+use Rattle.sg_extent_map.specs.Extents.{singles}
+use Rattle.sg_pool.specs.Rising.{AreBetween}
 use Rattle.sg_extent_map.specs.Walking.{ahead_of, AreAhead}
 use Rattle.sg_extent_map.proofs.read.read_runs.Given as goal
 

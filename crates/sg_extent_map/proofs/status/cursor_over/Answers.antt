@@ -4,7 +4,7 @@ use Rattle.sg_table.specs.Table.{Table}
 use Rattle.sg_table.proofs.RecordLemmas.{start_of-read}
 use Rattle.sg_extent_map.proofs.AddressLemmas.{end_at-read}
 use Rattle.sg_extent_map.proofs.StatusLemmas.{cursor-before, cursor-at}
-use Rattle.sg_extent_map.proofs.BetweenLemmas.{apart-sorted}
+use Rattle.sg_pool.proofs.RisingLemmas.{apart-sorted}
 use Rattle.sg_extent_map.proofs.status.cursor_over.Goals as goal
 
 pub lower_bound-index-requires-clause-sorted : goal.lower_bound-index-requires-clause-sorted

@@ -7,7 +7,7 @@ use Rattle.sg_table.specs.declared.run.Kind.{Kind}
 use Rattle.sg_table.specs.declared.run.Run.{Run}
 use Rattle.sg_table.proofs.RecordLemmas.{picked, alike}
 use Rattle.sg_table.proofs.TableLemmas.{visited-on, ahead-le}
-use Rattle.sg_extent_map.specs.Extents.{end_of}
+use Rattle.sg_pool.specs.Rising.{end_of}
 use Rattle.sg_extent_map.specs.Status.{of_kind}
 use Rattle.sg_extent_map.proofs.StatusLemmas.{over-low, over-index, over-high}
 use Rattle.sg_extent_map.proofs.StatusLemmas.{over-within, over-row, over-on, over-count}

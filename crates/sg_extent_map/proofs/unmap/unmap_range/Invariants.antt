@@ -3,7 +3,8 @@ use Rattle.std.proofs.Common.{length, ◌*◌, ◌≤◌}
 use Rattle.sg_store.specs.Disk.{max_capacity}
 use Rattle.sg_pool.specs.MappedRecords.{outside_records, IsConsistent}
 use Rattle.sg_extent_map.specs.Drafting.{drafted, AreDrafted, IsMaximalDraft}
-use Rattle.sg_extent_map.specs.Extents.{singles, AreBetween}
+use Rattle.sg_extent_map.specs.Extents.{singles}
+use Rattle.sg_pool.specs.Rising.{AreBetween}
 use Rattle.sg_extent_map.specs.Gathering.{end_index}
 use Rattle.sg_extent_map.proofs.unmap.unmap_range.Given as goal
 

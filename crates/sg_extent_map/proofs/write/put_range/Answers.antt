@@ -18,8 +18,9 @@ use Rattle.sg_extent_map.specs.Extents.{singles, singles_of, IsExtent, IsPart}
 use Rattle.sg_extent_map.specs.Writing.{PutsBlock}
 use Rattle.sg_extent_map.specs.Gathering.{end_index}
 use Rattle.sg_extent_map.specs.Walking.{ahead_of}
-use Rattle.sg_extent_map.proofs.BetweenLemmas.{between-singles, between-raised, between-right}
-use Rattle.sg_extent_map.proofs.BetweenLemmas.{between-append}
+use Rattle.sg_extent_map.proofs.BetweenLemmas.{between-singles}
+use Rattle.sg_pool.proofs.RisingLemmas.{between-raised, between-right}
+use Rattle.sg_pool.proofs.RisingLemmas.{between-append}
 use Rattle.sg_extent_map.proofs.SinglesLemmas.{from-one, length-singles, singles-last, singles-none}
 use Rattle.sg_extent_map.proofs.SinglesLemmas.{append-none}
 use Rattle.sg_extent_map.proofs.WalkLemmas.{ahead-weaker, slot-found, between-front, between-found}

@@ -3,7 +3,8 @@ use Rattle.sg_store.specs.Disk.{remapped}
 use Rattle.sg_pool.specs.MappedRecords.{contents_of}
 use Rattle.sg_pool.specs.Content.{mapping_for}
 use Rattle.sg_extent_map.specs.Drafting.{drafted, AreDrafted, IsMaximalDraft}
-use Rattle.sg_extent_map.specs.Extents.{singles, singles_of, AreBetween}
+use Rattle.sg_extent_map.specs.Extents.{singles, singles_of}
+use Rattle.sg_pool.specs.Rising.{AreBetween}
 use Rattle.sg_table.specs.declared.run.Run.{Run}
 use Rattle.sg_extent_map.specs.Gathering.{end_index}
 use Rattle.sg_extent_map.specs.Walking.{ahead_of, AreAhead}

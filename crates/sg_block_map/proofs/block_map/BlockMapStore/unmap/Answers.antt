@@ -7,7 +7,7 @@ use Rattle.sg_table.specs.Table.{Table}
 use Rattle.sg_block_map.specs.RunCost.{CostsRange}
 use Rattle.sg_block_map.specs.Runs.{expanded, chained_contents}
 use Rattle.sg_block_map.specs.State.{disk_of, meter_at, slot_map}
-use Rattle.sg_block_map.proofs.ContentsLemmas.{outside-none, unmapped-none}
+use Rattle.sg_pool.proofs.ContentsLemmas.{outside-none, unmapped-none}
 use Rattle.sg_pool.proofs.MappedLemmas.{contents-outside, contents-unmapped}
 use Rattle.sg_block_map.proofs.StoreLemmas.{have-room, gathered-range, nothing-costs}
 use Rattle.sg_block_map.proofs.block_map.BlockMapStore.unmap.Goals as goal

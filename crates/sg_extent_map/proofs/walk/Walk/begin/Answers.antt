@@ -1,7 +1,7 @@
 use Rattle.std.proofs.Common.{◌≡◌, drop, arith}
 use Rattle.sg_store.specs.Disk.{max_capacity}
 use Rattle.std.proofs.Common.{◌∷◌, []}
-use Rattle.sg_extent_map.proofs.BetweenLemmas.{apart-le}
+use Rattle.sg_pool.proofs.RisingLemmas.{apart-le}
 use Rattle.sg_extent_map.proofs.WalkLemmas.{begun-none, begun-past, begun-after, begun-within}
 use Rattle.sg_extent_map.proofs.WalkLemmas.{cons-drop}
 use Rattle.sg_extent_map.proofs.walk.Walk.begin.Goals as goal

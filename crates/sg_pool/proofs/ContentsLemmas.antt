@@ -11,12 +11,12 @@ use Rattle.sg_store.specs.Disk.{Contents, Mapping, data_in, blocks, used_among}
 use Rattle.sg_store.specs.Disk.{outside_range, unmapped}
 use Rattle.sg_pool.specs.MappedRecords.{Seen, entries_by, contents_by}
 use Rattle.sg_table.specs.declared.run.Run.{Run}
-use Rattle.sg_extent_map.specs.Extents.{AreBetween}
+use Rattle.sg_pool.specs.Rising.{AreBetween}
 use Rattle.sg_store.proofs.DiskLemmas.{blocks-none, blocks-more, used_among-none}
 use Rattle.sg_store.proofs.DiskLemmas.{used_among-more, lies_in-none}
 use Rattle.sg_store.proofs.UnmapLemmas.{get-outside}
 use Rattle.sg_pool.proofs.MappedLemmas.{find-unmapped}
-use Rattle.sg_extent_map.proofs.BetweenLemmas.{between-low, between-high}
+use Rattle.sg_pool.proofs.RisingLemmas.{between-low, between-high}
 
 -- outside the addresses between which records lie
 pub find-below : {X : Type 0} (xs : List Run) (f : Seen X) (a b q : ℕ) → AreBetween a b xs → q < a

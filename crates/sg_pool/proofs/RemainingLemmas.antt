@@ -6,10 +6,9 @@ use Rattle.std.specs.Prelude.{not}
 use Rattle.sg_store.specs.Disk.{lies_in}
 use Rattle.sg_pool.specs.MappedRecords.{outside_records}
 use Rattle.sg_table.specs.declared.run.Run.{Run}
-use Rattle.sg_extent_map.specs.Extents.{singles, AreApart, AreBetween}
+use Rattle.sg_pool.specs.Rising.{AreBetween}
 use Rattle.sg_store.proofs.DiskLemmas.{inside, below, above}
-use Rattle.sg_extent_map.proofs.BetweenLemmas.{between-singles, between-le}
-use Rattle.sg_extent_map.proofs.SinglesLemmas.{singles-append}
+use Rattle.sg_pool.proofs.RisingLemmas.{between-le}
 
 pub outside-append : (xs ys : List Run) (a k : ℕ)
     → outside_records (xs ++ ys) a k ≡ outside_records xs a k ++ outside_records ys a k
@@ -52,20 +51,3 @@ outside-less xs ys zs low high le h =
     ∙ ap (λ ws. outside_records xs low (high - low) ++ ws) (outside-append ys zs low (high - low)
     ∙ ap (λ ws. ws ++ outside_records zs low (high - low))
     (outside-inside ys low high low (high - low) (omega arith) (omega arith) h)))
-
--- nothing is left in the range
-pub nothing-left : (xs kept ys : List Run) (low high bound : ℕ) → low ≤ high
-    → AreApart 0 low xs → AreApart high bound ys
-    → outside_records (singles kept) low (high - low) ≡ singles kept
-    → singles (xs ++ (kept ++ ys))
-    ≡ outside_records (singles (xs ++ (kept ++ ys))) low (high - low)
-nothing-left xs kept ys low high bound le h k none =
-    let parts = singles-append xs (kept ++ ys)
-    ∙ ap (λ zs. singles xs ++ zs) (singles-append kept ys) in
-    parts ∙ sym (ap (λ zs. outside_records zs low (high - low)) parts
-    ∙ outside-both (singles xs) (singles kept ++ singles ys) low (high - low)
-    (outside-before (singles xs) 0 low low (high - low) (omega arith)
-    (between-singles xs 0 low h))
-    (outside-both (singles kept) (singles ys) low (high - low) none
-    (outside-behind (singles ys) high bound low (high - low) (omega arith)
-    (between-singles ys high bound k))))
