@@ -11,14 +11,9 @@
 #include <stdlib.h>
 #include <string.h>
 
-#include "list.h"
-#include "scsi.h"
-#include "tgtd.h"
-#include "target.h"
+#include "unit.h"
 #include "driver.h"
-
-#include "mehdalung.h"
-#include "ports.h"
+#include "happenings.h"
 
 /* tgtd's TransportIDs: 4 bytes, the name, a zero, the text ",i,0x" and the ISID as it is. In SPC-4,
  * 7.6.4, the ISID is in hexadecimal. */
@@ -27,20 +22,9 @@ enum { TRANSPORT_ID_HEADER = 4, ISID_SEPARATOR = 5 };
 /* The length of the longest CDB of a command of the disk. */
 enum { TRACED_CDB = 16 };
 
-/* The record of a logical unit, which tgtd keeps after its own. */
-struct unit {
-    mdl_disk disk;
-    struct port_table table;
-};
-
-_Static_assert(PORT_NUMBERS == MDL_INITIATORS, "a number for each initiator");
-
 static uint8_t data_in[MDL_BUFFER_LENGTH];
 
-static struct unit *unit_of(struct scsi_lu *lu)
-{
-    return (struct unit *)(void *)(lu + 1);
-}
+static struct backingstore_template store;
 
 /* The initiator port of a session, or 0 where there is none with a TransportID that fits. */
 static int get_port(const struct target *target, uint64_t session, struct port *port)
@@ -171,14 +155,17 @@ static void trace(struct scsi_cmd *cmd, int initiator, const mdl_reply *reply)
  * BUSY: tgtd asks nobody before it lets a port log in. */
 static int execute(int tid, struct scsi_cmd *cmd)
 {
-    int initiator = initiator_of(cmd);
+    int initiator;
     mdl_reply reply;
 
     (void)tid;
+    notice(cmd->dev);
+    initiator = initiator_of(cmd);
     if (initiator == NO_NUMBER) {
         scsi_set_in_resid_by_actual(cmd, 0);
         return SAM_STAT_BUSY;
     }
+    note_session(cmd->dev, initiator, cmd->it_nexus->itn_id);
     if (execute_command(cmd, (uint32_t)initiator, &reply)) {
         scsi_set_in_resid_by_actual(cmd, 0);
         sense_data_build(cmd, HARDWARE_ERROR, ASC_INTERNAL_TGT_FAILURE);
@@ -187,14 +174,6 @@ static int execute(int tid, struct scsi_cmd *cmd)
     if (is_debug)
         trace(cmd, initiator, &reply);
     return deliver(cmd, &reply);
-}
-
-/* `--op update --params power=cycle`, as tgtadm sends it, and no other parameter. */
-static tgtadm_err update(struct scsi_lu *lu, char *params)
-{
-    if (strcmp(params, "targetOps power=cycle,") != 0)
-        return TGTADM_UNKNOWN_PARAM;
-    return mdl_power_cycle(&unit_of(lu)->disk) ? TGTADM_INVALID_REQUEST : TGTADM_SUCCESS;
 }
 
 /* Reads a number after a name, and moves `text` past it. */
@@ -254,6 +233,7 @@ static int open_disk(struct scsi_lu *lu, char *path, int *fd, uint64_t *size)
         return -EINVAL;
     }
     memset(&unit->table, 0, sizeof unit->table);
+    watch(lu, &store);
     *fd = -1;
     *size = blocks * MDL_BLOCK_LENGTH;
     return 0;

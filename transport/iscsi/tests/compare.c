@@ -4,9 +4,10 @@
  * The disk at URL is new and has these sizes. Eight initiators send COUNT commands. They have
  * operation codes of all kinds with random fields, or wholly random CDBs. Parameter lists are
  * random, cut or too long. Some data has the wrong direction, and some Expected Data Transfer
- * Lengths are too short or too long. A disk of the library executes the same list. Status, sense
- * data, data-in and the residual count have to agree at each command. Each command has to get a
- * reply. */
+ * Lengths are too short or too long. Between commands initiators reset the logical unit or the
+ * target, log out, or lose their connection, and log in again. A disk of the library executes the
+ * same list, and mdl_happen tells it of the resets and lost sessions. Status, sense data, data-in
+ * and the residual count have to agree at each command. Each command has to get a reply. */
 #include <stdio.h>
 #include <stdlib.h>
 #include <string.h>
@@ -18,11 +19,13 @@ enum {
     MOST_DATA_OUT = 4 * MDL_BLOCK_LENGTH,
     ADDRESSES = 48, /* blocks at the beginning, so that commands meet */
     KEYS = 6,
+    COMMANDS_OF_AN_EVENT = 50,
     MODE_HEADER_6 = 4,
     MODE_HEADER_10 = 8,
     MODE_PAGE = 12
 };
 
+static const char *url;
 static struct session *sessions[MDL_INITIATORS];
 static mdl_disk disk = MDL_NONE;
 static uint64_t state;
@@ -184,9 +187,16 @@ static void print_difference(unsigned long number, const struct request *request
            answer->data_in_length, answer->residual);
 }
 
-/* An INQUIRY each, so that the initiators have their numbers in this order. Any two differ in name
- * or ISID, and some differ in only one of them. */
-static void log_in(const char *url)
+/* Any two initiator ports differ in name or ISID, and some differ in only one of them. */
+static void log_in(unsigned port)
+{
+    sessions[port] = session_open(url, port / 2, port % 2);
+    if (!sessions[port])
+        exit(1);
+}
+
+/* An INQUIRY each, so that the initiators have their numbers in this order. */
+static void log_in_all(void)
 {
     static const uint8_t inquiry[6] = { 0x12 };
     static struct answer answer;
@@ -194,18 +204,39 @@ static void log_in(const char *url)
     unsigned port;
 
     for (port = 0; port < MDL_INITIATORS; port++) {
-        sessions[port] = session_open(url, port / 2, port % 2);
-        if (!sessions[port])
-            exit(1);
+        log_in(port);
         session_execute(sessions[port], &request, &answer);
     }
+}
+
+/* An initiator sends a reset, or its session is lost and another one begins. Returns 1 if the
+ * target or the library refuses it. */
+static int let_happen(unsigned port)
+{
+    static const mdl_happening_kind kinds[] = {
+        [LOGICAL_UNIT_RESET] = MDL_LOGICAL_UNIT_RESET, [TARGET_WARM_RESET] = MDL_TARGET_RESET,
+        [TARGET_COLD_RESET] = MDL_TARGET_RESET
+    };
+    mdl_happening happening = { .kind = MDL_NEXUS_LOSS, .initiator = port };
+    uint32_t event = below(&state, 6);
+
+    if (event <= TARGET_COLD_RESET) {
+        happening.kind = kinds[event];
+        return session_reset(sessions[port], (enum reset)event) || mdl_happen(&disk, &happening);
+    }
+    if (event == 3)
+        session_log_out(sessions[port]);
+    else
+        session_drop(sessions[port]);
+    log_in(port);
+    return mdl_happen(&disk, &happening) != MDL_OK;
 }
 
 static int compare(unsigned long count)
 {
     static uint8_t data_in[MDL_BUFFER_LENGTH];
     static struct answer answer;
-    unsigned long number, faulty = 0, statuses[256] = { 0 };
+    unsigned long number, faulty = 0, events = 0, statuses[256] = { 0 };
     struct request request;
     mdl_reply reply;
 
@@ -213,6 +244,11 @@ static int compare(unsigned long count)
         uint32_t initiator = below(&state, MDL_INITIATORS);
         size_t data_out;
 
+        if (once_in(COMMANDS_OF_AN_EVENT)) {
+            events++;
+            if (let_happen(below(&state, MDL_INITIATORS)))
+                return 1;
+        }
         faulty += (unsigned long)next_request(&request);
         data_out = request.direction == DATA_OUT ? request.length : 0;
         if (mdl_execute(&disk, initiator, request.cdb, MOST_CDB, request.data_out, data_out,
@@ -225,7 +261,9 @@ static int compare(unsigned long count)
         }
         statuses[reply.status]++;
     }
-    printf("%lu commands, %lu of them with faults, and no difference: ", count, faulty);
+    printf("%lu commands, %lu of them with faults, %lu resets and lost sessions, ", count, faulty,
+           events);
+    printf("and no difference: ");
     printf("%lu GOOD, %lu CHECK CONDITION, %lu RESERVATION CONFLICT\n", statuses[MDL_GOOD],
            statuses[MDL_CHECK_CONDITION], statuses[MDL_RESERVATION_CONFLICT]);
     return 0;
@@ -241,7 +279,8 @@ int main(int count, char **words)
     state = strtoull(words[5], NULL, 10) + 1;
     if (mdl_make(&disk, strtoull(words[2], NULL, 10), (uint32_t)strtoul(words[3], NULL, 10), NULL))
         return 1;
-    log_in(words[1]);
+    url = words[1];
+    log_in_all();
     status = compare(strtoul(words[4], NULL, 10));
     for (port = 0; port < MDL_INITIATORS; port++)
         session_log_out(sessions[port]);

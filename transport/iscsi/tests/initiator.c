@@ -1,12 +1,17 @@
 /* Sends commands to a target, from lines, and prints each reply as sgrun does.
- *     initiator [--eight] [--power COMMAND] URL [SCRIPT]
+ *     initiator [--eight] [--target COMMAND] URL [SCRIPT]
  *
  *     raw I CDB [DATA]            sends a CDB of at most 16 bytes, and data-out, in hexadecimal.
  *     fill I LBA COUNT BYTE       sends WRITE(16) of equal blocks. Numbers are 17, 0x11 or 11h.
  *     drop I                      closes the connection without a logout.
  *     logout I                    logs out.
+ *     again I                     logs in again, and keeps the connection of the old session open.
+ *     end I                       closes that connection.
  *     reset I                     sends a LOGICAL UNIT RESET.
- *     power                       runs COMMAND, which takes the target's power away.
+ *     warm I, cold I              sends a TARGET WARM RESET, or a TARGET COLD RESET.
+ *     power                       runs `COMMAND power`. So do the other words by which something
+ *                                 happens to an extended disk: `reset`, `reset target`, `nexus I`,
+ *                                 `grow N`, `attention CODE` and `attention CODE I`.
  *     # ..                        is a comment.
  *
  * I is an initiator port, 0 to 9. It logs in with its first line, and again with the first line
@@ -22,14 +27,23 @@
 
 #include "session.h"
 
-enum { PORTS = 10, EIGHT = 8, MOST_LINE = 4 * 1024 * 1024, MOST_FILL = 256, BYTES_OF_A_ROW = 16 };
+enum {
+    PORTS = 10,
+    EIGHT = 8,
+    MOST_LINE = 4 * 1024 * 1024,
+    MOST_WORDS = 5,
+    MOST_COMMAND = 1024,
+    MOST_FILL = 256,
+    BYTES_OF_A_ROW = 16
+};
 
 /* The status of a line that can't be executed. */
 enum { FAULT = 2 };
 
 static const char *url;
-static const char *power_command;
+static const char *target_command;
 static struct session *sessions[PORTS];
+static struct session *old_sessions[PORTS]; /* after `again` */
 static struct answer answer;
 static unsigned long line;
 static int exit_status;
@@ -207,25 +221,76 @@ static void fill(char *port, char *address, char *count, char *byte)
     execute(port_of(port), &request);
 }
 
-static void reset(unsigned port)
+static void reset(unsigned port, enum reset reset)
 {
+    static const char *const names[] = {
+        [LOGICAL_UNIT_RESET] = "RESET", [TARGET_WARM_RESET] = "WARM RESET",
+        [TARGET_COLD_RESET] = "COLD RESET"
+    };
+
     log_in(port);
-    printf("line %lu: RESET, response %d\n", line, session_reset(sessions[port]));
+    printf("line %lu: %s, response %d\n", line, names[reset],
+           session_reset(sessions[port], reset));
 }
 
-static void power(void)
+/* What sgrun prints for words by which something happens, or null if the first is no such word. */
+static const char *name_of_happening(char **words)
 {
-    if (!power_command || system(power_command))
-        fail("power");
-    printf("line %lu: POWER\n", line);
+    static const char *const names[][2] = {
+        { "power", "POWER" }, { "nexus", "NEXUS LOSS" }, { "grow", "GROW" },
+        { "attention", "ATTENTION" }
+    };
+    size_t at;
+
+    if (strcmp(words[0], "reset") == 0)
+        return words[1] ? "TARGET RESET" : "RESET";
+    for (at = 0; at < sizeof names / sizeof *names; at++)
+        if (strcmp(words[0], names[at][0]) == 0)
+            return names[at][1];
+    return NULL;
+}
+
+/* A shell runs COMMAND with the words. A number of blocks becomes decimal. */
+static void happen(char **words)
+{
+    static const char plain[] = "0123456789/ABCDEFabcdefghijklmnopqrstuvwxyz";
+    char command[MOST_COMMAND], blocks[21];
+    int at, length = snprintf(command, sizeof command, "%s", target_command ? target_command : "");
+
+    if (strcmp(words[0], "grow") == 0) {
+        snprintf(blocks, sizeof blocks, "%" PRIu64, number(words[1]));
+        words[1] = blocks;
+    }
+    for (at = 0; at < MOST_WORDS && words[at] && length < MOST_COMMAND; at++) {
+        if (words[at][strspn(words[at], plain)])
+            fail("usage");
+        length += snprintf(command + length, sizeof command - (size_t)length, " %s", words[at]);
+    }
+    if (!target_command || length >= MOST_COMMAND || system(command))
+        fail(words[0]);
+    printf("line %lu: %s\n", line, name_of_happening(words));
+}
+
+static void log_in_again(unsigned port)
+{
+    session_drop(old_sessions[port]);
+    old_sessions[port] = sessions[port];
+    sessions[port] = NULL;
+    log_in(port);
+}
+
+static void drop(struct session **session)
+{
+    session_drop(*session);
+    *session = NULL;
 }
 
 static void run_line(char *text)
 {
-    char *words[5] = { NULL }, *word = strtok(text, " \t\r\n");
+    char *words[MOST_WORDS + 1] = { NULL }, *word = strtok(text, " \t\r\n");
     size_t count;
 
-    for (count = 0; word && count < 5; word = strtok(NULL, " \t\r\n"))
+    for (count = 0; word && count < MOST_WORDS; word = strtok(NULL, " \t\r\n"))
         words[count++] = word;
     if (count == 0 || words[0][0] == '#')
         return;
@@ -233,13 +298,20 @@ static void run_line(char *text)
         raw(words[1], words[2], words[3]);
     } else if (strcmp(words[0], "fill") == 0) {
         fill(words[1], words[2], words[3], words[4]);
-    } else if (strcmp(words[0], "power") == 0) {
-        power();
-    } else if (strcmp(words[0], "reset") == 0) {
-        reset(port_of(words[1]));
+    } else if (strcmp(words[0], "warm") == 0) {
+        reset(port_of(words[1]), TARGET_WARM_RESET);
+    } else if (strcmp(words[0], "cold") == 0) {
+        reset(port_of(words[1]), TARGET_COLD_RESET);
+    } else if (strcmp(words[0], "reset") == 0 && words[1] && strcmp(words[1], "target") != 0) {
+        reset(port_of(words[1]), LOGICAL_UNIT_RESET);
+    } else if (name_of_happening(words)) {
+        happen(words);
     } else if (strcmp(words[0], "drop") == 0) {
-        session_drop(sessions[port_of(words[1])]);
-        sessions[port_of(words[1])] = NULL;
+        drop(&sessions[port_of(words[1])]);
+    } else if (strcmp(words[0], "end") == 0) {
+        drop(&old_sessions[port_of(words[1])]);
+    } else if (strcmp(words[0], "again") == 0) {
+        log_in_again(port_of(words[1]));
     } else if (strcmp(words[0], "logout") == 0) {
         session_log_out(sessions[port_of(words[1])]);
         sessions[port_of(words[1])] = NULL;
@@ -273,8 +345,8 @@ int main(int count, char **words)
     for (; at < count && strncmp(words[at], "--", 2) == 0; at++)
         if (strcmp(words[at], "--eight") == 0)
             eight = 1;
-        else if (strcmp(words[at], "--power") == 0 && at + 1 < count)
-            power_command = words[++at];
+        else if (strcmp(words[at], "--target") == 0 && at + 1 < count)
+            target_command = words[++at];
         else
             fail("usage");
     url = words[at];

@@ -2,10 +2,11 @@
  *     load URL SECONDS HISTORY
  *
  * Each session is a process. It sends commands of many kinds, one after the other. It writes,
- * unmaps and reads blocks of its own, and sends service actions of persistent reservations. When
- * all have ended, each block has to contain the last answered write of its session. In a block of
- * the killed session it may be the write that got no answer. Each reservation command is a line of
- * HISTORY, for tests/order, with the times before it was sent and after its answer:
+ * unmaps and reads blocks of its own, and sends service actions of persistent reservations. Now and
+ * then it resets the logical unit or the target. When all have ended, each block has to contain the
+ * last answered write of its session. In a block of the killed session it may be the write that got
+ * no answer. Each reservation command is a line of HISTORY, for tests/order, with the times before
+ * it was sent and after its answer:
  *     BEGIN END INITIATOR ACTION KEY ACTION-KEY TYPE STATUS GENERATION KEYS
  * END is 0 if no answer came. ACTION is a service action of PERSISTENT RESERVE OUT, or 16 for READ
  * KEYS. */
@@ -29,6 +30,7 @@ enum {
     MOST_BLOCKS = 8,
     EVENTS = 1 << 15,
     READ_KEYS = 16,
+    COMMANDS_OF_A_RESET = 16,
     SECONDS_TO_END = 20
 };
 
@@ -46,7 +48,7 @@ struct event {
 struct record {
     uint64_t written[BLOCKS]; /* number of the last answered write; 0 for zeros */
     uint64_t pending[BLOCKS]; /* number of the write that has no answer yet */
-    unsigned long commands, event_count;
+    unsigned long commands, resets, event_count;
     struct event events[EVENTS];
 };
 
@@ -99,6 +101,14 @@ static void fill_block(uint8_t *block, uint32_t address, uint64_t write)
     for (at = 0; at < MDL_BLOCK_LENGTH / 8; at++)
         words[at] = write ? write << 16 | address : 0;
     memcpy(block, words, MDL_BLOCK_LENGTH);
+}
+
+/* Resets the logical unit or the target. The other sessions' commands go on. */
+static void reset(void)
+{
+    if (session_reset(session, (enum reset)below(&state, 3)) != 0)
+        fail("a reset is not done");
+    records[self].resets++;
 }
 
 static struct request blocks_request(uint8_t opcode, uint32_t address, uint32_t count)
@@ -295,6 +305,8 @@ static void run_session(const char *url, uint64_t end)
             unmap_own(first, count);
         else if (kind < 44)
             read_own(first, count);
+        else if (kind == 44 && below(&state, COMMANDS_OF_A_RESET) == 0)
+            reset();
         else
             ask();
     }
@@ -417,7 +429,7 @@ static void look(const char *url)
 int main(int count, char **words)
 {
     pid_t children[SESSIONS];
-    unsigned long commands = 0, events = 0;
+    unsigned long commands = 0, resets = 0, events = 0;
     uint64_t begin = now(), length;
     unsigned number;
     int failed;
@@ -443,9 +455,11 @@ int main(int count, char **words)
     look(words[1]);
     for (number = 0; number < SESSIONS; number++) {
         commands += records[number].commands;
+        resets += records[number].resets;
         events += records[number].event_count;
     }
-    printf("%lu commands of %d sessions, %lu of them reservation commands; %d sessions failed\n",
-           commands, SESSIONS, events, failed);
+    printf("%lu commands of %d sessions, %lu of them reservation commands; %lu resets; ", commands,
+           SESSIONS, events, resets);
+    printf("%d sessions failed\n", failed);
     return write_history(words[3]) || failed;
 }

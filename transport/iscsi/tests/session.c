@@ -160,9 +160,14 @@ int session_serve(struct session *session)
            || iscsi_service(session->context, descriptor.revents);
 }
 
-int session_reset(struct session *session)
+int session_reset(struct session *session, enum reset reset)
 {
-    return iscsi_task_mgmt_lun_reset_sync(session->context, (uint32_t)session->lun);
+    switch (reset) {
+    case TARGET_WARM_RESET: return iscsi_task_mgmt_target_warm_reset_sync(session->context);
+    case TARGET_COLD_RESET: return iscsi_task_mgmt_target_cold_reset_sync(session->context);
+    default:
+        return iscsi_task_mgmt_lun_reset_sync(session->context, (uint32_t)session->lun);
+    }
 }
 
 void session_log_out(struct session *session)

@@ -54,9 +54,11 @@ int session_send(struct session *session, const struct request *request, uint8_t
 /* Waits until something can be sent or received, and does it. Returns 1 if the session is lost. */
 int session_serve(struct session *session);
 
-/* Sends a LOGICAL UNIT RESET. The response of RFC 7143, 11.6.1, where 0 is "function complete", or
- * NO_REPLY. */
-int session_reset(struct session *session);
+enum reset { LOGICAL_UNIT_RESET, TARGET_WARM_RESET, TARGET_COLD_RESET };
+
+/* Sends a task management function that is a reset. The response of RFC 7143, 11.6.1, where 0 is
+ * "function complete", or NO_REPLY. */
+int session_reset(struct session *session, enum reset reset);
 
 /* Logs out, or closes the connection without a word. Null serves. */
 void session_log_out(struct session *session);

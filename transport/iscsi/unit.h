@@ -1,0 +1,28 @@
+/* The record of a logical unit, which tgtd keeps after its own. */
+#ifndef UNIT_H
+#define UNIT_H
+
+#include <stdint.h>
+
+#include "list.h"
+#include "scsi.h"
+#include "tgtd.h"
+#include "target.h"
+
+#include "mehdalung.h"
+#include "ports.h"
+
+struct unit {
+    mdl_disk disk;
+    struct port_table table;
+    uint64_t sessions[PORT_NUMBERS]; /* of the port that has the number; 0: none, or it was lost */
+};
+
+_Static_assert(PORT_NUMBERS == MDL_INITIATORS, "a number for each initiator");
+
+static inline struct unit *unit_of(struct scsi_lu *lu)
+{
+    return (struct unit *)(void *)(lu + 1);
+}
+
+#endif
