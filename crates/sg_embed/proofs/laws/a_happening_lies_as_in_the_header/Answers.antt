@@ -1,4 +1,4 @@
-use Rattle.std.proofs.Common.{refl, ◌∙◌}
+use Rattle.std.proofs.Common.{refl}
 use denote.Memory.{lone}
 use Rattle.sg_embed.specs.contracts.happening.HappeningRecord.{the_row}
 use Rattle.sg_embed.proofs.happening.HappeningRecord.TheLaws.{lowered, lowers}
