@@ -36,6 +36,7 @@ impl Served {
 
     /// Executes a command. None if the buffer is shorter than the data-in that the command asks
     /// for. Nothing has changed then.
+    #[inline(always)]
     pub(crate) fn execute_within(
         &mut self,
         initiator: Initiator,
