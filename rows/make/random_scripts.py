@@ -72,7 +72,7 @@ class Script:
         return verb + (self.random.choice((" 8", " x", " 0 0")) if self.is_rare(0.05) else "")
 
     def growth(self):
-        """A number of blocks near the present one, or far above it, or too large."""
+        """A number of blocks near the present one, or far above it, or out of range."""
         more = self.random.choice((-1, 0, 1, 1, 2, 7, 100, 2**32, 2**40 + 1 - self.capacity))
         asked = max(0, self.capacity + more)
         if self.capacity < asked <= 2**40:

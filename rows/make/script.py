@@ -166,7 +166,7 @@ def nexus(device, operands):
 
 def grow(device, operands):
     """grow N: the disk has N blocks"""
-    blocks = [number(word, 0, MOST_BLOCKS) for word in operands]
+    blocks = [number(word, 1, MOST_BLOCKS) for word in operands]
     if len(blocks) != 1 or None in blocks:
         raise Fault("usage")
     device.grow(*blocks)

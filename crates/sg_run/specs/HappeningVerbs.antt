@@ -1,9 +1,10 @@
 -- The verbs of an extended disk: something happens to it (docs/SCRIPT.md).
 use Rattle.std.specs.Prelude.{ℕ, List, [], ◌∷◌, codes, Option, Some, None, if◌then◌else◌}
+use Rattle.std.specs.Prelude.{option_and_then}
 use Rattle.std.specs.Option.{option_map}
 use Rattle.std.specs.Str.{bytes_eq}
 use Rattle.sg_store.specs.Disk.{max_capacity}
-use Rattle.sg_tools.specs.Number.{number_up_to}
+use Rattle.sg_tools.specs.Number.{number_of}
 use Rattle.sg_units.specs.Initiators.{all_initiators, no_initiators, with_member}
 use Rattle.sg_units.specs.declared.unit_attention.UnitAttention.{UnitAttention}
 use Rattle.sg_units.specs.declared.unit_attention.UnitAttention.TheVariants.{MediumMayHaveChanged}
@@ -21,6 +22,7 @@ use Rattle.sg_units.specs.declared.unit_attention.UnitAttention.TheVariants.{Sof
 use Rattle.sg_units.specs.declared.unit_attention.UnitAttention.TheVariants.{MicrocodeChanged}
 use Rattle.sg_units.specs.declared.unit_attention.UnitAttention.TheVariants.{InquiryDataChanged}
 use Rattle.sg_units.specs.declared.unit_attention.UnitAttention.TheVariants.{ReportedLunsDataChanged}
+use Rattle.sg_target.specs.Config.{is_between}
 use Rattle.sg_target.specs.declared.happening.Happening.{Happening}
 use Rattle.sg_target.specs.declared.happening.Happening.TheVariants.{LogicalUnitReset, TargetReset}
 use Rattle.sg_target.specs.declared.happening.Happening.TheVariants.{Establish, Grow, NexusLoss}
@@ -37,9 +39,13 @@ abbrev pub nexus_of : List (List ℕ) → Option Happening
 nexus_of (initiator ∷ []) = option_map (λ i. NexusLoss i) (initiator_of initiator)
 nexus_of operands = None
 
+-- The disk grows to a number of blocks, if a disk can have this number.
+abbrev pub growing : (blocks : ℕ) → Option Happening
+growing blocks = if is_between 1 blocks max_capacity then Some (Grow blocks) else None
+
 -- The verb `grow`: the number of blocks that the disk has from then on.
 abbrev pub grow_of : List (List ℕ) → Option Happening
-grow_of (blocks ∷ []) = option_map (λ n. Grow n) (number_up_to max_capacity blocks)
+grow_of (blocks ∷ []) = option_and_then growing (number_of blocks)
 grow_of operands = None
 
 -- The condition whose additional sense code is a word, as a transcript prints it.

@@ -2,7 +2,7 @@
 ghost use Rattle.std.specs.Prelude.{◌≡◌, All, map};
 ghost use Rattle.std.specs.Str.{IsAscii};
 ghost use Rattle.sg_run.specs.HappeningVerbs.{attention_of, condition_named, condition_words};
-ghost use Rattle.sg_run.specs.HappeningVerbs.{grow_of, nexus_of, reset_of};
+ghost use Rattle.sg_run.specs.HappeningVerbs.{grow_of, growing, nexus_of, reset_of};
 ghost use Rattle.sg_run.specs.Request.{by_happening_verb};
 ghost use Rattle.sg_run.specs.RequestLines.{line_request};
 
@@ -10,7 +10,7 @@ use super::words::{read_initiator, word_text};
 use super::{LineFault, Request};
 use sg_store::MAX_CAPACITY;
 use sg_target::Happening;
-use sg_tools::read_number_up_to;
+use sg_tools::read_number;
 use sg_units::{Initiators, UnitAttention};
 use sg_wire::Profile;
 
@@ -72,7 +72,18 @@ fn read_grow(operands: &[&[u8]]) -> Option<Happening>
     let [blocks] = operands else {
         return None;
     };
-    Some(Happening::Grow(read_number_up_to(MAX_CAPACITY, blocks)?))
+    growing(read_number(blocks)?)
+}
+
+/// A growth of the disk to 1 to 2^40 blocks.
+fn growing(blocks: u64) -> Option<Happening>
+    ensures { result ≡ growing blocks }
+{
+    if (1..=MAX_CAPACITY).contains(&blocks) {
+        Some(Happening::Grow(blocks))
+    } else {
+        None
+    }
 }
 
 /// `attention CODE [I]`: a unit attention condition is established for each initiator, or for one.
