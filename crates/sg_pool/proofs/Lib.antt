@@ -10,6 +10,7 @@ pub mod ContentsLemmas
 pub mod RemainingLemmas
 -- For the pool only.
 pub mod PoolLemmas
+pub mod SlotBytesLemmas
 pub mod ChainLemmas
 pub mod FreeLemmas
 pub mod JumpLemmas

@@ -3,9 +3,8 @@
 -- there is no other field. So a pool keeps nothing beside these parts. The last definition says
 -- where in its memory each block is.
 use Rattle.std.specs.Prelude.{◌≡◌, [], ◌∷◌}
-use Rattle.sg_store.specs.declared.store.TheConstants.{BLOCK_LENGTH}
 use Rattle.sg_table.specs.Fields.{HasOnly, vec_field}
-use Rattle.sg_pool.specs.Slots.{zero_padded}
+use Rattle.sg_pool.specs.Slots.{blocks_from, place_of, zero_padded, HasZeroHead}
 use Rattle.sg_pool.specs.contracts.bits.Bits as bits
 use Rattle.sg_pool.specs.contracts.jumps.Jumps as jumps
 use Rattle.sg_pool.specs.contracts.leaps.Leaps as leaps
@@ -19,9 +18,9 @@ use Rattle.sg_pool.specs.contracts.unlinked_pool.UnlinkedPool.TheInside as unlin
 use Rattle.sg_pool.specs.declared.links.Links.TheInside.{Inside as LinksInside}
 use Rattle.sg_pool.specs.declared.pool.Pool.TheInside.{Inside}
 use Rattle.sg_pool.specs.declared.slot_blocks.SlotBlocks.TheInside.{Inside as BlocksInside}
-use Rattle.sg_pool.specs.declared.slot_blocks.SlotBlocks.TheView.{view}
+use Rattle.sg_pool.specs.declared.slot_blocks.SlotBlocks.TheView.{invariant, view}
 use Rattle.sg_pool.specs.declared.unlinked_pool.UnlinkedPool.TheInside.{Inside as UnlinkedInside}
-use denote.Builtin.{Array, u8, u16, u64}
+use denote.Builtin.{u8, u16, u64}
 use denote.Struct.Field.{u32-field, u64-field}
 
 -- The same blocks and links, the same free slots, and the same count.
@@ -110,9 +109,11 @@ pub record UnlinkedPoolHasOnlyItsParts : Type 0 where
 
 -- ---- Blocks
 
--- The first blocks, as far as one was set, and the number of all blocks.
+-- The bytes, which have the first blocks, as far as one was set, the number of these blocks, and the
+-- number of all blocks.
 pub record IsSameBlocks (one other : BlocksInside) : Type 0 where
-  pub first : one.first ≡ other.first
+  pub bytes : one.bytes ≡ other.bytes
+  pub stored : one.stored ≡ other.stored
   pub count : one.count ≡ other.count
 
 abbrev pub BlocksAreTheirParts : Type 0
@@ -120,11 +121,14 @@ BlocksAreTheirParts = (one other : BlocksInside) → IsSameBlocks one other → 
 
 abbrev pub BlocksHaveOnlyTheirParts : Type 0
 BlocksHaveOnlyTheirParts = HasOnly blocks_inside.struct.parts (
-    vec_field (Array u8 tt BLOCK_LENGTH)  -- first
+    vec_field u8  -- bytes
+    ∷ u32-field  -- stored
     ∷ u32-field  -- count
     ∷ [])
 
--- The block of a slot is the item of `first` at the number of the slot. Past the end of `first` each
--- block is zeros.
-abbrev pub BlocksLieInOrder : Type 0
-BlocksLieInOrder = (blocks : BlocksInside) → view blocks ≡ zero_padded blocks.first.items blocks.count
+-- The blocks lie one after the other in the bytes, each at the place of its slot. Past the last stored
+-- block each block is zeros. The bytes before the first block are zeros, so they keep nothing.
+pub record BlocksLieInOrder : Type 0 where
+  pub blocks : (blocks : BlocksInside) → view blocks
+      ≡ zero_padded (blocks_from blocks.bytes.items (place_of 0) blocks.stored) blocks.count
+  pub head : (blocks : BlocksInside) → invariant blocks → HasZeroHead blocks.bytes.items

@@ -1,10 +1,11 @@
 -- The slots of the pool: each is free or has one record.
-use Rattle.std.specs.Prelude.{◌≡◌, ℕ, ◌+◌, ◌-◌, ◌<◌, ◌≤◌, List, ◌++◌}
-use Rattle.std.specs.Prelude.{length, replicate}
+use Rattle.std.specs.Prelude.{◌≡◌, ℕ, ◌+◌, ◌-◌, ◌*◌, ◌<◌, ◌≤◌, zero, suc, List, [], ◌∷◌, ◌++◌}
+use Rattle.std.specs.Prelude.{length, replicate, take, drop}
 use Rattle.std.specs.List.{range_with_len}
 use Rattle.sg_pool.specs.Chains.{chain}
 use Rattle.sg_pool.specs.declared.links.TheConstants.{MAX_SLOTS}
-use Rattle.sg_store.specs.Disk.{zero_block}
+use Rattle.sg_pool.specs.declared.slot_blocks.TheConstants.{HEAD}
+use Rattle.sg_store.specs.Disk.{block_length, zero_block}
 use Rattle.sg_table.specs.Occurrences.{occurrences, one_if_equal}
 
 -- The blocks of the slots, the link of each slot to the next one of its chain, and the free slots.
@@ -14,6 +15,20 @@ pub record Slots : Type 0 where
   pub next : List ℕ
   pub free : List ℕ
   pub links : ℕ
+
+-- The place of the block of a slot, in bytes that have all blocks one after the other.
+abbrev pub place_of : (slot : ℕ) → ℕ
+place_of slot = HEAD + block_length * slot
+
+-- The bytes before the first block are zeros.
+abbrev pub HasZeroHead : (bytes : List ℕ) → Type 0
+HasZeroHead bytes = take (place_of 0) bytes ≡ replicate (place_of 0) 0
+
+-- `count` blocks, which lie one after the other from a place of some bytes on.
+abbrev pub blocks_from : (bytes : List ℕ) → (place count : ℕ) → List (List ℕ)
+blocks_from bytes place zero = []
+blocks_from bytes place (suc count) =
+    take block_length (drop place bytes) ∷ blocks_from bytes (place + block_length) count
 
 -- The blocks of `count` slots: the first ones are given, and the others are zeros.
 abbrev pub zero_padded : List (List ℕ) → (count : ℕ) → List (List ℕ)

@@ -38,7 +38,8 @@ pub fn an_unlinked_pool_has_only_its_parts()
     ensures { UnlinkedPoolHasOnlyItsParts }
 {}
 
-/// The blocks of a pool are made of one vector, and the number of all blocks.
+/// The blocks of a pool are made of one vector, the number of blocks in it, and the number of all
+/// blocks.
 pub fn blocks_are_made_of_one_vector()
     ensures { BlocksAreTheirParts }
 {}
@@ -48,8 +49,9 @@ pub fn blocks_have_only_their_vector()
     ensures { BlocksHaveOnlyTheirParts }
 {}
 
-/// The blocks lie in one vector, each at the number of its slot. So a block stays at its place in
-/// the vector for as long as its address keeps its slot.
+/// The blocks lie in one vector, each at the place of its slot. So a block stays at its place in the
+/// vector for as long as its address keeps its slot. The vector has only zeros before the first
+/// block.
 pub fn the_blocks_lie_in_the_order_of_their_slots()
     ensures { BlocksLieInOrder }
 {}

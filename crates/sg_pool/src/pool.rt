@@ -80,9 +80,10 @@ impl Pool {
     }
 
     /// The block of a slot.
-    pub fn bytes(&self, slot: u32) -> &[u8; BLOCK_LENGTH]
+    pub fn bytes(&self, slot: u32) -> &[u8]
         requires { slot < length self.now.blocks }
-        ensures { result.now ≡ slice_index_or self.now.blocks slot zero_block }
+        ensures block { result.now ≡ slice_index_or self.now.blocks slot zero_block }
+        ensures byte_count { length result.now ≡ BLOCK_LENGTH }
     {
         self.blocks.get(slot)
     }

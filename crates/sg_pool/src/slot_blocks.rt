@@ -1,7 +1,8 @@
 // The blocks of the slots. This file does not know which slots are free.
-ghost use Rattle.std.specs.Prelude.{◌≡◌, ◌<◌, ◌+◌, ◌-◌, ◌++◌, ◌≤◌, length, replicate, IfOk};
+ghost use Rattle.std.specs.Prelude.{◌≡◌, ◌<◌, ◌+◌, ◌-◌, ◌++◌, ◌≤◌, length, max, replicate, take, IfOk};
 ghost use Rattle.std.specs.Prelude.{slice_index_or, slice_set, vec_capacity};
 ghost use Rattle.sg_store.specs.Disk.{zero_block};
+ghost use Rattle.sg_pool.specs.Slots.{blocks_from, place_of};
 
 use sg_store::BLOCK_LENGTH;
 use std::alloc::{AllocError, Global};
@@ -9,40 +10,83 @@ use std::marker::Model;
 
 const ZERO_BLOCK: [u8; BLOCK_LENGTH] = [0; BLOCK_LENGTH];
 
+/// The number of bytes before the first block. The C library puts a large vector 16 bytes after the
+/// beginning of a page, so with these bytes each block begins at a multiple of 512. A block that lies
+/// across one more cache line, or across two pages, takes longer to read and write.
+const HEAD: usize = BLOCK_LENGTH - 16;
+
 /// A block of 512 bytes for each slot.
 #[derive(Drop)]
 pub(crate) struct SlotBlocks {
-    /// The blocks of the first slots, as far as one was set. The others are zeros.
-    first: Vec<[u8; BLOCK_LENGTH]>,
+    /// First `HEAD` zeros, and then the blocks of the first slots.
+    bytes: Vec<u8>,
+    /// The number of blocks in `bytes`: as far as one was set. The others are zeros.
+    stored: u32,
     count: u32,
 }
 
 impl Model for SlotBlocks {
-    ghost use Rattle.std.specs.Prelude.{◌≤◌, ℕ, List, length, vec_capacity};
-    ghost use Rattle.sg_pool.specs.Slots.{zero_padded};
+    ghost use Rattle.std.specs.Prelude.{◌≡◌, ◌≤◌, ℕ, List, length, vec_capacity};
+    ghost use Rattle.sg_pool.specs.Slots.{place_of, blocks_from, zero_padded, HasZeroHead};
 
     ghost Value = { List (List ℕ) };
 
-    ghost view = { λ b. zero_padded b.first.items b.count };
+    ghost view = { λ b. zero_padded (blocks_from b.bytes.items (place_of 0) b.stored) b.count };
 
-    ghost invariant = { λ b. (length b.first.items ≤ b.count)
-        × (b.count ≤ vec_capacity b.first) };
+    ghost invariant = { λ b. (length b.bytes.items ≡ place_of b.stored)
+        × (b.stored ≤ b.count)
+        × (place_of b.count ≤ vec_capacity b.bytes)
+        × HasZeroHead b.bytes.items };
 }
 
-/// Appends blocks of zeros up to the block of a slot, unless the slot has a block already.
-fn extend_to(blocks: &mut Vec<[u8; BLOCK_LENGTH]>, slot: u32)
-    requires { slot < vec_capacity blocks.old }
-    ensures blocks { blocks.new.items
-        ≡ blocks.old.items ++ replicate (slot + 1 - length blocks.old.items) zero_block }
-    ensures capacity { vec_capacity blocks.old ≤ vec_capacity blocks.new }
+/// The place of the block of a slot.
+fn place(slot: u32) -> usize
+    ensures { result ≡ place_of slot }
 {
-    let index = slot as usize;
-    if index < blocks.len() {
-        return;
-    }
-    let extended = blocks.resize(index + 1, ZERO_BLOCK);
+    HEAD + BLOCK_LENGTH * (slot as usize)
+}
+
+/// Appends zeros up to a length.
+fn extend_to(bytes: &mut Vec<u8>, count: usize)
+    requires room { count ≤ vec_capacity bytes.old }
+    requires more { length bytes.old.items ≤ count }
+    ensures bytes { bytes.new.items
+        ≡ bytes.old.items ++ replicate (count - length bytes.old.items) 0 }
+    ensures capacity { vec_capacity bytes.old ≤ vec_capacity bytes.new }
+{
+    let extended = bytes.resize(count, 0);
     prove!(extended.is_ok());
     let _ = extended;
+}
+
+/// Appends blocks of zeros up to the block of a slot, unless the slot has a block already. Returns
+/// the number of blocks then.
+fn store_up_to(bytes: &mut Vec<u8>, stored: u32, slot: u32) -> u32
+    requires slot { slot < u32.MAX }
+    requires length { length bytes.old.items ≡ place_of stored }
+    requires room { place_of (slot + 1) ≤ vec_capacity bytes.old }
+    ensures blocks { blocks_from bytes.new.items (place_of 0) result
+        ≡ blocks_from bytes.old.items (place_of 0) stored ++ replicate (result - stored) zero_block }
+    ensures head { take (place_of 0) bytes.new.items ≡ take (place_of 0) bytes.old.items }
+    ensures length { length bytes.new.items ≡ place_of result }
+    ensures value { result ≡ max stored (slot + 1) }
+    ensures capacity { vec_capacity bytes.old ≤ vec_capacity bytes.new }
+{
+    if slot < stored {
+        return stored;
+    }
+    extend_to(bytes, place(slot + 1));
+    slot + 1
+}
+
+/// A vector that has room for `count` blocks, and no block yet.
+fn head(alloc: Global, count: u32) -> Result<Vec<u8>, AllocError>
+    ensures zeros { IfOk result (λ bytes. bytes.items ≡ replicate (place_of 0) 0) }
+    ensures capacity { IfOk result (λ bytes. place_of count ≤ vec_capacity bytes) }
+{
+    let mut bytes = Vec::with_capacity(alloc, place(count))?;
+    extend_to(&mut bytes, HEAD);
+    Ok(bytes)
 }
 
 impl SlotBlocks {
@@ -54,7 +98,8 @@ impl SlotBlocks {
         ensures { IfOk result (λ blocks. blocks ≡ replicate count zero_block) }
     {
         Ok(SlotBlocks {
-            first: Vec::with_capacity(alloc, count as usize)?,
+            bytes: head(alloc, count)?,
+            stored: 0,
             count,
         })
     }
@@ -67,11 +112,16 @@ impl SlotBlocks {
     }
 
     /// The block of a slot.
-    pub(crate) fn get(&self, slot: u32) -> &[u8; BLOCK_LENGTH]
+    pub(crate) fn get(&self, slot: u32) -> &[u8]
         requires { slot < length self.now }
-        ensures { result.now ≡ slice_index_or self.now slot zero_block }
+        ensures block { result.now ≡ slice_index_or self.now slot zero_block }
+        ensures byte_count { length result.now ≡ BLOCK_LENGTH }
     {
-        self.first.get(slot as usize).unwrap_or(&ZERO_BLOCK)
+        if slot >= self.stored {
+            return &ZERO_BLOCK;
+        }
+        let at = place(slot);
+        &self.bytes[at..at + BLOCK_LENGTH]
     }
 
     /// Replaces the block of a slot.
@@ -80,7 +130,8 @@ impl SlotBlocks {
         requires byte_count { length bytes.now ≡ BLOCK_LENGTH }
         ensures { self.new ≡ slice_set self.old slot bytes.now }
     {
-        extend_to(&mut self.first, slot);
-        self.first[slot as usize].copy_from_slice(bytes);
+        self.stored = store_up_to(&mut self.bytes, self.stored, slot);
+        let at = place(slot);
+        self.bytes[at..at + BLOCK_LENGTH].copy_from_slice(bytes);
     }
 }
