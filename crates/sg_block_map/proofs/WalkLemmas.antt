@@ -342,3 +342,10 @@ pub skip-block : (next : List ℕ) (count lba at : ℕ) (runs : List Run) (run :
 skip-block next count lba at runs run f h low none =
     get-none next count (lba + 1) lba (ahead_of runs run at) f
     (ahead-skip next count lba at runs run h low none) (omega arith)
+
+-- the slot of the run ahead, if there is one
+pub ahead-slot : (next : List ℕ) (count lba at : ℕ) (runs : List Run) (run : Option Run)
+    → AreAhead next count lba (ahead_of runs run at) → IfSome run (λ r. r.first < count)
+ahead-slot next count lba at runs None h = tt
+ahead-slot next count lba at runs (Some run) h =
+    (ahead-first next count lba run (drop at runs) h).3

@@ -1,5 +1,5 @@
 // Reading a range from the runs near it. This file follows links of the pool and knows no table.
-ghost use Rattle.std.specs.Prelude.{◌≡◌, ◌+◌, ◌*◌, ◌<◌, ◌≤◌, length};
+ghost use Rattle.std.specs.Prelude.{◌≡◌, ◌+◌, ◌*◌, ◌<◌, ◌≤◌, length, take, IfSome};
 ghost use Rattle.sg_store.specs.Disk.{block, blocks};
 ghost use Rattle.sg_block_map.specs.Gathering.{AreNear};
 ghost use Rattle.sg_block_map.specs.Metering.{OnlyFollows, OnlyFollowsPassed};
@@ -11,17 +11,36 @@ use sg_pool::Pool;
 use sg_store::{BLOCK_LENGTH, MAX_CAPACITY};
 use sg_table::{Run, run_at};
 
-/// Reads the block at an address, and goes on to the next one.
+/// Copies the first byte of the next block, if a run is ahead and the bytes have room for it. So the
+/// processor fetches that block from memory while it still copies the block before it. The blocks of
+/// a range may lie far apart, and then a read spends most of its time on waiting for them.
+fn begin_next(pool: &Pool, slot: u32, ahead: Option<Run>, bytes: &mut [u8])
+    requires slot { IfSome ahead (λ run. run.first < length pool.now.blocks) }
+{
+    let Some(run) = ahead else {
+        return;
+    };
+    // The processor goes on to a block right after this one by itself.
+    if run.first == slot.wrapping_add(1) {
+        return;
+    }
+    if let Some(byte) = bytes.get_mut(BLOCK_LENGTH) {
+        *byte = pool.bytes(run.first)[0];
+    }
+}
+
+/// Reads the block at an address into the first bytes, and goes on to the next address. The other
+/// bytes are for later addresses.
 fn read_address(pool: &mut Pool, runs: &[Run], walk: Walk, lba: u64, bytes: &mut [u8]) -> Walk
     requires ahead { AreAhead pool.old.next (length pool.old.next) lba
         (ahead_of runs.now walk.run walk.at) }
     requires pool { length pool.old.blocks ≡ length pool.old.next }
     requires range { lba < MAX_CAPACITY }
-    requires byte_count { length bytes.old ≡ BLOCK_LENGTH }
+    requires byte_count { BLOCK_LENGTH ≤ length bytes.old }
     requires headroom { pool.old.links < u64.MAX }
 
     // The block is read, and the runs from the next address on are ahead.
-    ensures bytes { bytes.new
+    ensures bytes { take BLOCK_LENGTH bytes.new
         ≡ block (chained_contents (ahead_of runs.now walk.run walk.at) pool.old) lba }
     ensures goes_past { GoesPast pool.old (ahead_of runs.now walk.run walk.at)
         (ahead_of runs.now result.run result.at) lba }
@@ -33,11 +52,13 @@ fn read_address(pool: &mut Pool, runs: &[Run], walk: Walk, lba: u64, bytes: &mut
         pool.old pool.new }
 {
     let Some(run) = run_at(walk.run, lba) else {
-        bytes.fill(0);
+        bytes[..BLOCK_LENGTH].fill(0);
         return walk;
     };
-    pool.read_first(run, bytes);
-    walk.pass(pool, runs, run)
+    let ahead = walk.pass(pool, runs, run);
+    begin_next(pool, run.first, ahead.run, bytes);
+    pool.read_first(run, &mut bytes[..BLOCK_LENGTH]);
+    ahead
 }
 
 /// Reads the blocks from an address on. The runs meet or touch the range, and no other run does.
@@ -56,7 +77,6 @@ pub(crate) fn read_runs(pool: &mut Pool, runs: &[Run], lba: u64, count: u32, byt
     let (_before, mut walk) = walk_from(pool, runs, lba);
     for i in 0..count {
         let at = BLOCK_LENGTH * (i as usize);
-        let block = &mut bytes[at..at + BLOCK_LENGTH];
-        walk = read_address(pool, runs, walk, lba + u64::from(i), block);
+        walk = read_address(pool, runs, walk, lba + u64::from(i), &mut bytes[at..]);
     }
 }
