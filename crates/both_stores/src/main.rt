@@ -1,9 +1,11 @@
 //! `both_stores`: 10,000 commands from a fixed seed over the three stores, with happenings among
-//! them. The replies have to be equal, except for the stores' counts.
+//! them, and armed faults. The replies have to be equal, except for the stores' counts.
 #![tactic(auto)]
 
+mod faults;
 mod random;
 
+use faults::next_fault;
 use random::Random;
 use sg_block_map::BlockMap;
 use sg_extent_map::ExtentMap;
@@ -55,6 +57,9 @@ struct Tally {
     good: u64,
     check_condition: u64,
     conflict: u64,
+    busy: u64,
+    full: u64,
+    unanswered: u64,
 }
 
 /// Whether two replies have the same status and the same sense data.
@@ -113,18 +118,26 @@ impl Tally {
                 self.check_condition = self.check_condition.saturating_add(1);
             }
             Status::ReservationConflict => self.conflict = self.conflict.saturating_add(1),
+            Status::Busy => self.busy = self.busy.saturating_add(1),
+            Status::TaskSetFull => self.full = self.full.saturating_add(1),
+            Status::NoReply => self.unanswered = self.unanswered.saturating_add(1),
         }
     }
 
     /// Whether each status occurs.
     fn has_each_status(&self) -> bool {
-        self.good > 0 && self.check_condition > 0 && self.conflict > 0
+        self.good > 0
+            && self.check_condition > 0
+            && self.conflict > 0
+            && self.busy > 0
+            && self.full > 0
+            && self.unanswered > 0
     }
 }
 
 /// What happens next.
 fn next_happening(random: &mut Random) -> Option<Happening> {
-    Some(match random.byte() % 8 {
+    Some(match random.byte() % 16 {
         0 => Happening::LogicalUnitReset,
         1 => Happening::TargetReset,
         2 => Happening::NexusLoss(Initiator::new(random.byte() % 3)?),
@@ -133,7 +146,10 @@ fn next_happening(random: &mut Random) -> Option<Happening> {
             let condition = UnitAttention::with_code(0x3F, 0x0E)?;
             Happening::Establish(condition, Initiators::of_mask(u64::from(random.byte()))?)
         }
-        _ => Happening::Power,
+        5 => Happening::DisarmAll,
+        6 => Happening::Disarm(usize::from(random.byte() % 8)),
+        7 | 8 => Happening::Power,
+        _ => Happening::Arm(next_fault(random)?),
     })
 }
 

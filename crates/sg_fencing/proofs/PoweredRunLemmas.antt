@@ -34,6 +34,7 @@ use Rattle.sg_target.specs.declared.happening.Happening.{Happening}
 use Rattle.sg_target.specs.declared.happening.Happening.TheVariants.{Power, LogicalUnitReset}
 use Rattle.sg_target.specs.declared.happening.Happening.TheVariants.{TargetReset, NexusLoss}
 use Rattle.sg_target.specs.declared.happening.Happening.TheVariants.{Establish, Grow}
+use Rattle.sg_target.specs.declared.happening.Happening.TheVariants.{Arm, Disarm, DisarmAll}
 use Rattle.sg_target.specs.Runs.{all_calls, answers_to_events, state_after_all}
 use Rattle.sg_target.specs.Runs.{state_after_events, step_of}
 use Rattle.sg_target.specs.State.{IsWithinLimits, State}
@@ -166,6 +167,9 @@ module _ (limits : LimitsAreKept) (refuses : OthersAreRefused) (one : OneKeyEach
   view-alike (Establish condition initiators) first second n h =
       view-raised first second (raised_for_members initiators condition) h
   view-alike (Grow capacity) first second n h = view-grown first second capacity h
+  view-alike (Arm fault) first second n h = h.view
+  view-alike (Disarm number) first second n h = h.view
+  view-alike DisarmAll first second n h = h.view
 
   identity-left : (happening : Happening) (state : State)
       → (after_happening happening state).identity ≡ state.identity

@@ -36,21 +36,26 @@ use Rattle.sg_target.specs.declared.operation.Operation.TheVariants as operation
 use Rattle.sg_target.specs.declared.refusal.Reason.{Reason}
 use Rattle.sg_target.specs.declared.refusal.Reason.TheVariants.{LbaOutOfRange}
 use Rattle.sg_target.specs.declared.refusal.Reason.TheVariants.{SoftwareWriteProtected}
-use Rattle.sg_target.specs.declared.refusal.Reason.TheVariants.{SpaceAllocationFailed}
+use Rattle.sg_target.specs.declared.refusal.Reason.TheVariants.{SpaceAllocationFailed, Fault}
 use Rattle.sg_target.specs.declared.refusal.Refusal.{Refusal}
 use Rattle.sg_target.specs.declared.refusal.Refusal.TheVariants.{Conflict, CheckCondition}
+use Rattle.sg_target.specs.declared.refusal.Refusal.TheVariants.{Busy, TaskSetFull, NoReply}
+use Rattle.sg_target.specs.declared.refusal.Refusal.TheVariants.{DeferredError}
 use Rattle.sg_target.specs.declared.reply.Status.TheVariants.{Good}
 use Rattle.sg_fencing.specs.Laws.{WritesOverUsedAddressesAreNeverRefusedForSpace}
 
 -- ---- The refusal for space, and its answer
 
+-- (an armed fault may look like it)
 abbrev is_for_space : Reason → Bool
 is_for_space SpaceAllocationFailed = true
+is_for_space (Fault code first_bad) = true
 is_for_space _ = false
 
 abbrev IsOther : Refusal → Type 0
-IsOther Conflict = Unit {0}
 IsOther (CheckCondition reason) = is_for_space reason ≡ false
+IsOther (DeferredError code) = ⊥
+IsOther _ = Unit {0}
 
 abbrev IsOtherIfAny : Option Refusal → Type 0
 IsOtherIfAny None = Unit {0}
@@ -83,6 +88,7 @@ fixed-apart : (reason : Reason) → is_for_space reason ≡ false
     → sense_data Fixed (sense_of reason) ≡ sense_data Fixed (sense_of SpaceAllocationFailed) → ⊥
 unfolding sense_data
 fixed-apart SpaceAllocationFailed h = absurd (false≢true (sym h))
+fixed-apart (Fault code first_bad) h = absurd (false≢true (sym h))
 fixed-apart (LbaOutOfRange lba) h =
     differ-fixed (nat_lt lba (2 ^ 32)) lba (sense_of (LbaOutOfRange lba)) _ 2 7 refl refl refl
 fixed-apart SoftwareWriteProtected h = differ _ _ 13 7 refl refl
@@ -93,6 +99,7 @@ descriptor-apart : (reason : Reason) → is_for_space reason ≡ false
     → ⊥
 unfolding sense_data
 descriptor-apart SpaceAllocationFailed h = absurd (false≢true (sym h))
+descriptor-apart (Fault code first_bad) h = absurd (false≢true (sym h))
 descriptor-apart SoftwareWriteProtected h = differ _ _ 3 7 refl refl
 descriptor-apart _ h = differ _ _ 1 7 refl refl
 
@@ -101,6 +108,9 @@ fixed-descriptor-apart : (reason : Reason)
 unfolding sense_data
 fixed-descriptor-apart (LbaOutOfRange lba) =
     differ-fixed (nat_lt lba (2 ^ 32)) lba (sense_of (LbaOutOfRange lba)) _ 0 0x72 refl refl refl
+fixed-descriptor-apart (Fault code (Some lba)) =
+    differ-fixed (nat_lt lba (2 ^ 32)) lba (sense_of (Fault code (Some lba))) _ 0 0x72 refl refl refl
+fixed-descriptor-apart (Fault code None) = differ _ _ 0 0x72 refl refl
 fixed-descriptor-apart _ = differ _ _ 0 0x72 refl refl
 
 descriptor-fixed-apart : (reason : Reason)
@@ -118,6 +128,10 @@ sense-apart Descriptor Fixed reason h = descriptor-fixed-apart reason
 answer-apart : (used format : Format) (refusal : Refusal) → IsOther refusal
     → refusal_answer used refusal ≡ refusal_answer format (CheckCondition SpaceAllocationFailed) → ⊥
 answer-apart used format Conflict h same = let k = ap (λ (a : Answer). a.status) same in cc
+answer-apart used format Busy h same = let k = ap (λ (a : Answer). a.status) same in cc
+answer-apart used format TaskSetFull h same = let k = ap (λ (a : Answer). a.status) same in cc
+answer-apart used format NoReply h same = let k = ap (λ (a : Answer). a.status) same in cc
+answer-apart used format (DeferredError code) h same = absurd h
 answer-apart used format (CheckCondition reason) h same =
     sense-apart used format reason h (ap (λ (a : Answer). a.sense) same)
 

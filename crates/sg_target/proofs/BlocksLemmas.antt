@@ -39,7 +39,7 @@ use Rattle.sg_target.specs.declared.refusal.Refusal.{Refusal}
 -- ---- what an operation brings
 
 -- the bytes of its blocks, or one block
-abbrev IsSound : Operation → Type 0
+abbrev pub IsSound : Operation → Type 0
 IsSound (operation.Write out) = length out.bytes ≡ bytes_of out.extent
 IsSound (operation.Fill extent block) = length block ≡ logical_block_length
 IsSound _ = Unit {0}
@@ -161,7 +161,7 @@ pub record IsReady (state : State) (o : Operation) : Type 0 where
   pub sound : IsSound o
   pub on_disk : AreOnDisk state.disk.capacity (medium_use o).extents
 
-abbrev Ready : State → Result Operation Refusal → Type 0
+abbrev pub Ready : State → Result Operation Refusal → Type 0
 Ready state (Ok o) = IsReady state o
 Ready state (Err refusal) = Unit {0}
 
@@ -196,7 +196,7 @@ unless-ready : (state : State) (refused : Option Refusal) (checked : Result Oper
 unless-ready state None checked h = h
 unless-ready state (Some refusal) checked h = tt
 
-cdb-ready : (state : State) (i : ℕ) (cdb data_out : List ℕ)
+pub cdb-ready : (state : State) (i : ℕ) (cdb data_out : List ℕ)
     → Ready state (checked_cdb state i cdb data_out)
 unfolding checked_cdb
 cdb-ready state i cdb data_out =
@@ -264,7 +264,7 @@ operation-keeps disks state i (operation.ChangeReservations action scope_type li
     sound-keeps _ _ (λ change. h)
 operation-keeps disks state i _ h ready = h
 
-by-checks : DisksStayWellFormed → (state : State) (i : ℕ) (checked : Result Operation Refusal)
+pub by-checks : DisksStayWellFormed → (state : State) (i : ℕ) (checked : Result Operation Refusal)
     → HasBlocks state → Ready state checked → KeepsBlocks (checked_next checked (effect_of state i))
 by-checks disks state i (Ok o) h ready = operation-keeps disks state i o h ready
 by-checks disks state i (Err refusal) h ready = tt

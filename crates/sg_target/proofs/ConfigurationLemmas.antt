@@ -1,5 +1,5 @@
 -- What commands and happenings leave as it was: the configuration, and more.
-use Rattle.std.proofs.Common.{◌≡◌, ℕ, true, false, List, Result, Ok, Err, refl, sym, arith}
+use Rattle.std.proofs.Common.{◌≡◌, ℕ, false, List, Result, Ok, Err, refl, sym, arith}
 use Rattle.std.proofs.lemmas.Bool.{false≢true}
 use Rattle.sg_target.specs.Laws.{HasGrown, is_growth, is_power_cycle}
 use Rattle.sg_target.specs.Effect.{Effect, returning_up_to}

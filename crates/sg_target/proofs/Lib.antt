@@ -24,5 +24,9 @@ mod AddressRangeLemmas
 mod ChargingLemmas
 -- The limits of a state.
 pub mod BlocksLemmas
+pub mod ArmedLemmas
+pub mod ConcludingLemmas
 mod LimitLemmas
 mod ConfigurationLemmas
+-- Armed faults.
+pub mod FaultLawLemmas

@@ -18,6 +18,8 @@ use Rattle.sg_target.specs.Charge.{step_by}
 use Rattle.sg_target.specs.declared.operation.Operation.{Operation}
 use Rattle.sg_target.specs.declared.refusal.Refusal.{Refusal}
 use Rattle.sg_target.specs.declared.refusal.Refusal.TheVariants.{Conflict, CheckCondition}
+use Rattle.sg_target.specs.declared.refusal.Refusal.TheVariants.{Busy, TaskSetFull, NoReply}
+use Rattle.sg_target.specs.declared.refusal.Refusal.TheVariants.{DeferredError}
 use Rattle.sg_target.specs.declared.reply.Status.TheVariants.{Good}
 
 -- no refusal is GOOD
@@ -25,6 +27,10 @@ pub not_good : (state : State) (i : ℕ) (refusal : Refusal)
     → (refused state i refusal).answer.status ≡ Good → ⊥
 not_good state i Conflict e = cc
 not_good state i (CheckCondition reason) e = cc
+not_good state i Busy e = cc
+not_good state i TaskSetFull e = cc
+not_good state i NoReply e = cc
+not_good state i (DeferredError code) e = cc
 
 -- what is true of each refusal, and of the step that is executed if nothing is found on the way, is
 -- true of the outcome

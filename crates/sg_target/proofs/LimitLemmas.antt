@@ -1,6 +1,6 @@
 -- No command takes a table of the disk past its limit.
 use Rattle.std.proofs.Common.{◌≡◌, ℕ, List}
-use Rattle.std.proofs.Common.{Bool, true, false, Result, Ok, Err, refl}
+use Rattle.std.proofs.Common.{Bool, true, false, Result, Ok, Err, refl, subst, sym}
 use Rattle.sg_wire.specs.declared.command.out_action.OutAction.{OutAction}
 use Rattle.sg_pages.specs.ModeSelect.{changed_by}
 use Rattle.sg_units.specs.Attentions.{ArePending, Pending, without_oldest}
@@ -18,10 +18,12 @@ use Rattle.sg_units.specs.declared.unit_attention.UnitAttention.TheVariants.{Mod
 use Rattle.sg_units.specs.declared.unit_attention.UnitAttention.TheVariants.{ScsiBusReset}
 use Rattle.sg_store.specs.Laws.{DisksStayWellFormed, RemappingTakesWhatIsNeeded}
 use Rattle.sg_store.specs.Laws.{UnmapsEachAddress, UnmapsEachBlock}
-use Rattle.sg_target.proofs.BlocksLemmas.{KeepsBlocks, keeps-blocks}
+use Rattle.sg_target.proofs.ArmedLemmas.{attempt-ready, finished-state}
+use Rattle.sg_target.proofs.BlocksLemmas.{KeepsBlocks, Ready, by-checks, cdb-ready, keeps-blocks}
 use Rattle.sg_target.proofs.GrowthLemmas.{by-growth}
 use Rattle.sg_target.proofs.LiftLemmas.{outcome-by}
-use Rattle.sg_target.proofs.Space.{KeepsSpace, keeps-space}
+use Rattle.sg_target.proofs.Space.{KeepsSpace, keeps-space, by-checks as space-by-checks}
+use Rattle.sg_target.specs.Armed.{Armed, armed_step, attempt, seen, step_of_checked}
 use Rattle.sg_target.specs.Checks.{checked_cdb, checked_effect}
 use Rattle.sg_target.specs.Effect.{Effect, returning_up_to}
 use Rattle.sg_target.specs.ModeCommands.{attentions_after, changing_modes, mode_parameters}
@@ -37,6 +39,7 @@ use Rattle.sg_target.specs.declared.happening.Happening.{Happening}
 use Rattle.sg_target.specs.declared.happening.Happening.TheVariants.{Power, LogicalUnitReset}
 use Rattle.sg_target.specs.declared.happening.Happening.TheVariants.{TargetReset, NexusLoss}
 use Rattle.sg_target.specs.declared.happening.Happening.TheVariants.{Establish, Grow}
+use Rattle.sg_target.specs.declared.happening.Happening.TheVariants.{Arm, Disarm, DisarmAll}
 use Rattle.sg_target.specs.declared.operation.Operation.{Operation}
 use Rattle.sg_target.specs.declared.operation.Operation.TheVariants.{ReturnSense, ReturnModes}
 use Rattle.sg_target.specs.declared.operation.Operation.TheVariants.{ChangeModes, ChangeReservations}
@@ -73,7 +76,7 @@ module _ (reservations : ReservationsStayConsistent) (queues : QueuesKeepTheirLi
   abbrev KeepsOthers : State → Type 0
   KeepsOthers state = ArePending state.attentions × IsConsistent state.reservations
 
-  others : (state : State) → IsWithinLimits state → KeepsOthers state
+  pub others : (state : State) → IsWithinLimits state → KeepsOthers state
   others state h = (h.pending, h.registered)
 
   -- an effect, if there is one, keeps them
@@ -118,12 +121,12 @@ module _ (reservations : ReservationsStayConsistent) (queues : QueuesKeepTheirLi
       (λ change e. changing-keeps state i action scope_type list change h e)
   operation-keeps state i _ h = h
 
-  checked-keeps : (state : State) (i : ℕ) (checked : Result Operation Refusal) → KeepsOthers state
+  pub checked-keeps : (state : State) (i : ℕ) (checked : Result Operation Refusal) → KeepsOthers state
       → EffectKeeps (checked_next checked (effect_of state i))
   checked-keeps state i (Ok operation) h = operation-keeps state i operation h
   checked-keeps state i (Err refusal) h = tt
 
-  outcome-within : (state : State) (i : ℕ) (effect : Result Effect Refusal) → IsWithinLimits state
+  pub outcome-within : (state : State) (i : ℕ) (effect : Result Effect Refusal) → IsWithinLimits state
       → EffectKeeps effect → KeepsBlocks effect → KeepsSpace law addresses zeros effect
       → IsWithinLimits (step_outcome state i effect).state
   outcome-within state i (Err refusal) h k blocks space = refused-within state i refusal h
@@ -139,6 +142,26 @@ module _ (reservations : ReservationsStayConsistent) (queues : QueuesKeepTheirLi
       (checked-keeps state i (checked_cdb state i cdb data_out) (others state h))
       (keeps-blocks disks state i cdb data_out h.blocks)
       (keeps-space law addresses zeros state i cdb data_out h.used)
+
+  -- the same on a disk with armed faults
+  attempt-within : (state : State) (i : ℕ) (checked : Result Operation Refusal) → IsWithinLimits state
+      → Ready state checked → IsWithinLimits (step_of_checked state i checked).state
+  attempt-within state i checked h ready =
+      outcome-within state i (checked_next checked (effect_of state i)) h
+      (checked-keeps state i checked (others state h)) (by-checks disks state i checked h.blocks ready)
+      (space-by-checks law addresses zeros state i checked h.used)
+
+  pub armed-within : (disk : Armed) (i : ℕ) (cdb data_out : List ℕ) → IsWithinLimits disk.state
+      → IsWithinLimits (armed_step disk i cdb data_out).after.state
+  armed-within disk i cdb data_out h =
+      let checked = checked_cdb disk.state i cdb data_out in
+      let command = seen i cdb checked in
+      let tried = attempt disk.faults command checked in
+      let done = step_of_checked disk.state i tried.result in
+      subst IsWithinLimits
+      (sym (finished-state done.answer.status (seen i cdb tried.result) tried.faults done))
+      (attempt-within disk.state i tried.result h
+      (attempt-ready disk.state disk.faults command checked (cdb-ready disk.state i cdb data_out)))
 
   raised-within : (state : State) (conditions : Conditions) → IsWithinLimits state
       → IsWithinLimits (with_raised state conditions)
@@ -193,3 +216,6 @@ module _ (reservations : ReservationsStayConsistent) (queues : QueuesKeepTheirLi
   happening-within (Establish condition initiators) state h =
       raised-within state (raised_for_members initiators condition) h
   happening-within (Grow capacity) state h = growth-within state capacity h
+  happening-within (Arm fault) state h = h
+  happening-within (Disarm number) state h = h
+  happening-within DisarmAll state h = h

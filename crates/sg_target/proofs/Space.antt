@@ -127,7 +127,7 @@ module _ (law : RemappingTakesWhatIsNeeded) (addresses : UnmapsEachAddress)
       sound-keeps _ _ (λ change. h)
   operation-keeps state i _ h = λ none. h
 
-  by-checks : (state : State) (i : ℕ) (checked : Result Operation Refusal)
+  pub by-checks : (state : State) (i : ℕ) (checked : Result Operation Refusal)
       → len state.disk.contents ≤ state.disk.pool
       → KeepsSpace (checked_next checked (effect_of state i))
   by-checks state i (Ok o) h = operation-keeps state i o h

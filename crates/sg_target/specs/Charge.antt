@@ -1,16 +1,19 @@
 -- What a command costs: a target's store is charged for the ranges that the command goes over.
 use Rattle.std.specs.Prelude.{◌≡◌, ℕ, ◌+◌, ◌*◌, ◌<◌, ◌≤◌, List, [], ◌∷◌, length, if◌then◌else◌}
+use Rattle.std.specs.Prelude.{Result}
 use Rattle.sg_store.specs.Disk.{Contents}
 use Rattle.sg_store.specs.Meter.{Meter, probe_bound}
-use Rattle.sg_target.specs.Ranges.{Range, ranges}
+use Rattle.sg_target.specs.Armed.{Armed, ArmedStep, attempt_by}
+use Rattle.sg_target.specs.Ranges.{Range, ranges, ranges_if_passed}
 use Rattle.sg_target.specs.Reply.{Carries}
 use Rattle.sg_target.specs.Step.{Step, outcome}
-use Rattle.sg_target.specs.Target.{TargetFields}
+use Rattle.sg_target.specs.Target.{TargetFields, disk_of}
 use Rattle.sg_target.specs.declared.reply.Reply.{Reply}
 use Rattle.sg_target.specs.declared.reply.Status.TheVariants.{Good}
 use Rattle.sg_target.specs.Semantics.{effect_of}
 use Rattle.sg_target.specs.State.{State}
 use Rattle.sg_target.specs.declared.operation.Operation.{Operation}
+use Rattle.sg_target.specs.declared.refusal.Refusal.{Refusal}
 
 -- The visits that a call of a store over a range may or must make, by the used addresses, the
 -- address and the count.
@@ -67,10 +70,10 @@ pub record IsCharged (bounds : CostBounds) (pool : ℕ) (over : List Range)
 pub record ChargesCommand (bounds : CostBounds) (initiator : ℕ) (cdb data_out : List ℕ)
     (old new : TargetFields) (reply : Reply) : Type 0 where
   -- what the store did is charged for the ranges of the command
-  pub charge : IsCharged bounds old.state.disk.pool (ranges old.state initiator cdb data_out)
+  pub charge : IsCharged bounds old.state.disk.pool (ranges (disk_of old) initiator cdb data_out)
       old.meter new.meter reply
   -- at most two visits more than blocks are made for each range
-  pub visits : reply.counts.visits ≤ visit_bound (ranges old.state initiator cdb data_out)
+  pub visits : reply.counts.visits ≤ visit_bound (ranges (disk_of old) initiator cdb data_out)
 
 -- ---- Cited only by private contracts
 
@@ -83,7 +86,20 @@ pub record TakesStep (bounds : CostBounds) (done : Step) (over : List Range)
     (old new : TargetFields) (reply : Reply) (buffer buffer' : List ℕ) : Type 0 where
   pub answer : Carries done.answer reply buffer buffer'
   pub state : new.state ≡ done.state
+  pub faults : new.faults ≡ old.faults
   pub charge : IsCharged bounds old.state.disk.pool over old.meter new.meter reply
+
+-- The same on a disk with armed faults.
+pub record TakesArmedStep (bounds : CostBounds) (done : ArmedStep) (over : List Range)
+    (old new : TargetFields) (reply : Reply) (buffer buffer' : List ℕ) : Type 0 where
+  pub answer : Carries done.answer reply buffer buffer'
+  pub after : disk_of new ≡ done.after
+  pub charge : IsCharged bounds old.state.disk.pool over old.meter new.meter reply
+
+abbrev pub armed_ranges : Armed → (initiator : ℕ) → (cdb : List ℕ) → Result Operation Refusal
+    → List Range
+armed_ranges disk initiator cdb checked =
+    ranges_if_passed disk.state (attempt_by disk initiator cdb checked).result
 
 -- A store has counted no more than ranges may cost, since a restart.
 pub record IsWithinPrice (bounds : CostBounds) (pool : ℕ) (over : List Range)

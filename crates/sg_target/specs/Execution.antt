@@ -1,16 +1,16 @@
--- A target executes a command: it answers as the definition's step does, and is then in its state.
+-- A target executes a command: it answers as the definition's step does, and becomes what it says.
 use Rattle.std.specs.Prelude.{◌≡◌, ℕ, List}
+use Rattle.sg_target.specs.Armed.{Armed, armed_step}
 use Rattle.sg_target.specs.Reply.{Carries}
-use Rattle.sg_target.specs.State.{IsWithinLimits, State}
-use Rattle.sg_target.specs.Step.{step}
+use Rattle.sg_target.specs.State.{IsWithinLimits}
 use Rattle.sg_target.specs.declared.reply.Reply.{Reply}
 
 -- A target executes a CDB of an initiator, with its data-out.
-pub record IsExecuted (initiator : ℕ) (cdb data_out : List ℕ) (old new : State)
+pub record IsExecuted (initiator : ℕ) (cdb data_out : List ℕ) (old new : Armed)
     (reply : Reply) (buffer buffer' : List ℕ) : Type 0 where
   -- the reply and the buffer have the step's status, sense data and data-in
-  pub answer : Carries (step old initiator cdb data_out).answer reply buffer buffer'
-  -- the state afterwards is the step's
-  pub state : new ≡ (step old initiator cdb data_out).state
+  pub answer : Carries (armed_step old initiator cdb data_out).answer reply buffer buffer'
+  -- the state and the armed faults afterwards are the step's
+  pub after : new ≡ (armed_step old initiator cdb data_out).after
   -- no table passes its limit
-  pub limits : IsWithinLimits new
+  pub limits : IsWithinLimits new.state

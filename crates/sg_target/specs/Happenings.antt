@@ -1,5 +1,6 @@
 -- What happens to a disk between two commands. No initiator sends it, and it has no reply.
 use Rattle.std.specs.Prelude.{◌≡◌, ℕ, ◌&&◌, nat_le, nat_lt, if◌then◌else◌}
+use Rattle.sg_faults.specs.Faults.{Faults, disarmed, no_faults, with_fault}
 use Rattle.sg_pages.specs.ModePowerOn.{after_power_on as saved_pages_current}
 use Rattle.sg_store.specs.Disk.{disk_grown, max_capacity}
 use Rattle.sg_units.specs.Attentions.{raised}
@@ -13,6 +14,7 @@ use Rattle.sg_target.specs.declared.happening.Happening.{Happening}
 use Rattle.sg_target.specs.declared.happening.Happening.TheVariants.{Power, LogicalUnitReset}
 use Rattle.sg_target.specs.declared.happening.Happening.TheVariants.{TargetReset, NexusLoss}
 use Rattle.sg_target.specs.declared.happening.Happening.TheVariants.{Establish, Grow}
+use Rattle.sg_target.specs.declared.happening.Happening.TheVariants.{Arm, Disarm, DisarmAll}
 
 -- Unit attention conditions are established (SAM-5, 5.14).
 abbrev pub with_raised : State → Conditions → State
@@ -49,10 +51,21 @@ after_happening (NexusLoss initiator) state =
 after_happening (Establish condition initiators) state =
     with_raised state (raised_for_members initiators condition)
 after_happening (Grow capacity) state = after_growth capacity state
+after_happening (Arm fault) state = state
+after_happening (Disarm number) state = state
+after_happening DisarmAll state = state
+
+-- The faults that are armed after it. They outlive a reset and a power cycle.
+abbrev pub faults_after : Happening → Faults → Faults
+faults_after (Arm fault) faults = with_fault faults fault
+faults_after (Disarm number) faults = disarmed faults number
+faults_after DisarmAll faults = no_faults
+faults_after _ faults = faults
 
 -- It happens to a target. The counts of the target's store stay.
 pub record Happens (happening : Happening) (old new : TargetFields) : Type 0 where
   pub state : new.state ≡ after_happening happening old.state
+  pub faults : new.faults ≡ faults_after happening old.faults
   pub meter : new.meter ≡ old.meter
   -- no table passes its limit
   pub limits : IsWithinLimits new.state

@@ -6,6 +6,7 @@ use Rattle.sg_store.specs.Disk.{block, lies_in, zero_block}
 use Rattle.sg_store.specs.LbaStatus.{status_at}
 use Rattle.sg_wire.specs.declared.lba_status.ProvisioningStatus.{ProvisioningStatus}
 use Rattle.sg_wire.specs.declared.lba_status.ProvisioningStatus.TheVariants.{Deallocated, Anchored}
+use Rattle.sg_target.specs.Armed.{Armed, armed_step}
 use Rattle.sg_target.specs.Checks.{checked_effect}
 use Rattle.sg_target.specs.Config.{ConfigFields}
 use Rattle.sg_target.specs.Effect.{Effect}
@@ -21,6 +22,8 @@ use Rattle.sg_target.specs.declared.refusal.Refusal.{Refusal}
 pub record LimitsAreKept : Type 0 where
   pub command : (state : State) (initiator : ℕ) (cdb data_out : List ℕ) → IsWithinLimits state
       → IsWithinLimits (step state initiator cdb data_out).state
+  pub armed : (disk : Armed) (initiator : ℕ) (cdb data_out : List ℕ) → IsWithinLimits disk.state
+      → IsWithinLimits (armed_step disk initiator cdb data_out).after.state
   pub happening : (happening : Happening) (state : State) → IsWithinLimits state
       → IsWithinLimits (after_happening happening state)
 

@@ -14,9 +14,10 @@ pub mod Semantics
 pub mod Checks
 pub mod Status
 pub mod Step
+pub mod Armed
 pub mod Reply
-pub mod Ranges
 pub mod Target
+pub mod Ranges
 pub mod DataInBound
 pub mod Execution
 pub mod Charge
@@ -26,6 +27,7 @@ pub mod Ports
 pub mod Runs
 pub mod Laws
 pub mod CommandLaws
+pub mod FaultLaws
 -- Modules that only private contracts cite.
 pub mod DataIn
 pub mod Extents

@@ -14,6 +14,7 @@ after_port_gone state initiator =
 -- A target forgets an initiator's port. The counts of the target's store stay.
 pub record Forgets (initiator : ℕ) (old new : TargetFields) : Type 0 where
   pub state : new.state ≡ after_port_gone old.state initiator
+  pub faults : new.faults ≡ old.faults
   pub meter : new.meter ≡ old.meter
   -- no table passes its limit
   pub limits : IsWithinLimits new.state

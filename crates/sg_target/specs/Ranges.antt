@@ -4,7 +4,7 @@ use Rattle.std.specs.Prelude.{if◌then◌else◌, is_none}
 use Rattle.sg_wire.specs.declared.extent.Extent.{Extent}
 use Rattle.sg_store.specs.Disk.{Contents, Disk, anchored, unmapped}
 use Rattle.sg_store.specs.LbaStatus.{covered, lba_status}
-use Rattle.sg_target.specs.Checks.{checked_cdb}
+use Rattle.sg_target.specs.Armed.{Armed, attempt_of}
 use Rattle.sg_target.specs.Effect.{no_space}
 use Rattle.sg_target.specs.ProvisioningCommands.{Change, changed_in_turn}
 use Rattle.sg_target.specs.State.{State}
@@ -74,7 +74,7 @@ abbrev pub ranges_if_passed : State → Result Operation Refusal → List Range
 ranges_if_passed state (Ok operation) = ranges_of state operation
 ranges_if_passed state (Err refusal) = []
 
--- The ranges that a CDB goes over with its data-out.
-abbrev pub ranges : State → (initiator : ℕ) → (cdb data_out : List ℕ) → List Range
-ranges state initiator cdb data_out =
-    ranges_if_passed state (checked_cdb state initiator cdb data_out)
+-- The ranges that a CDB goes over with its data-out. An armed fault can refuse it or shorten it.
+abbrev pub ranges : Armed → (initiator : ℕ) → (cdb data_out : List ℕ) → List Range
+ranges disk initiator cdb data_out =
+    ranges_if_passed disk.state (attempt_of disk initiator cdb data_out).result

@@ -6,6 +6,8 @@ use Rattle.sg_wire.specs.SenseKey.{no_sense, illegal_request, unit_attention, da
 use Rattle.sg_wire.specs.SenseKey.{aborted_command}
 use Rattle.sg_wire.specs.declared.command.CdbFault.{CdbFault}
 use Rattle.sg_wire.specs.declared.command.CdbFault.TheVariants.{Empty, Opcode, Short, Field}
+use Rattle.sg_faults.specs.SenseCode.{key_code}
+use Rattle.sg_faults.specs.declared.sense_code.SenseCode.{SenseCode}
 use Rattle.sg_units.specs.UnitAttention.{code_of}
 use Rattle.sg_units.specs.declared.unit_attention.UnitAttention.{UnitAttention}
 use Rattle.sg_target.specs.declared.refusal.Reason.{Reason}
@@ -17,7 +19,7 @@ use Rattle.sg_target.specs.declared.refusal.Reason.TheVariants.{ParameterListLen
 use Rattle.sg_target.specs.declared.refusal.Reason.TheVariants.{InvalidFieldInParameterList}
 use Rattle.sg_target.specs.declared.refusal.Reason.TheVariants.{InsufficientRegistrationResources}
 use Rattle.sg_target.specs.declared.refusal.Reason.TheVariants.{InvalidRelease, LbaOutOfRange}
-use Rattle.sg_target.specs.declared.refusal.Reason.TheVariants.{SpaceAllocationFailed}
+use Rattle.sg_target.specs.declared.refusal.Reason.TheVariants.{SpaceAllocationFailed, Fault}
 use Rattle.sg_target.specs.declared.refusal.Reason.TheVariants.{SoftwareWriteProtected}
 use Rattle.sg_target.specs.declared.refusal.Refusal.{Refusal}
 use Rattle.sg_target.specs.declared.refusal.Refusal.TheVariants.{CheckCondition}
@@ -27,6 +29,9 @@ use Rattle.sg_target.specs.declared.refusal.Refusal.TheVariants.{CheckCondition}
 abbrev pub plain_sense : (key asc ascq : ℕ) → SenseFields
 plain_sense key asc ascq =
     record { key = key; asc = asc; ascq = ascq; information = None; pointer = None }
+
+abbrev pub fault_sense : SenseCode → SenseFields
+fault_sense code = plain_sense (key_code code.key) code.asc code.ascq
 
 -- An invalid field has a pointer to its byte in the CDB or in the parameter list (SPC-4,
 -- 4.5.2.4.2). A logical block address out of range is INFORMATION (SPC-4, 4.5.2.2).
@@ -48,6 +53,7 @@ sense_of InsufficientRegistrationResources = plain_sense illegal_request 0x55 0x
 sense_of (LbaOutOfRange lba) = record (plain_sense illegal_request 0x21 0x00) { information = Some lba }
 sense_of SoftwareWriteProtected = plain_sense data_protect 0x27 0x02
 sense_of SpaceAllocationFailed = plain_sense data_protect 0x27 0x07
+sense_of (Fault code first_bad) = record (fault_sense code) { information = first_bad }
 
 -- The sense data of REQUEST SENSE: the oldest unit attention, or NO SENSE.
 abbrev pub pending_sense : Option UnitAttention → SenseFields

@@ -1,20 +1,25 @@
 -- The step of a command: the answer to it, and the state after it.
 use Rattle.std.specs.Option.{option_map_or}
-use Rattle.std.specs.Prelude.{ℕ, List, [], Option, Some, None, Result, Ok, Err}
+use Rattle.std.specs.Prelude.{ℕ, List, [], Option, Some, None, Result, Ok, Err, slice_set}
 use Rattle.sg_wire.specs.FirstBytes.{first_bytes}
 use Rattle.sg_wire.specs.SenseData.{sense_data}
 use Rattle.sg_wire.specs.declared.sense.Format.{Format}
+use Rattle.sg_wire.specs.declared.sense.Format.TheVariants.{Fixed, Descriptor}
+use Rattle.sg_faults.specs.declared.sense_code.SenseCode.{SenseCode}
 use Rattle.sg_pages.specs.ModePage.{descriptor_sense}
 use Rattle.sg_target.specs.Checks.{checked_effect}
 use Rattle.sg_target.specs.Effect.{Effect, without_attention}
 use Rattle.sg_target.specs.PrimaryCommands.{format_of}
-use Rattle.sg_target.specs.Refusal.{sense_of}
+use Rattle.sg_target.specs.Refusal.{fault_sense, sense_of}
 use Rattle.sg_target.specs.State.{State}
 use Rattle.sg_target.specs.declared.refusal.Refusal.{Refusal}
 use Rattle.sg_target.specs.declared.refusal.Reason.TheVariants.{UnitAttention as Attention}
+use Rattle.sg_target.specs.declared.refusal.Refusal.TheVariants as refusal
 use Rattle.sg_target.specs.declared.refusal.Refusal.TheVariants.{Conflict, CheckCondition}
+use Rattle.sg_target.specs.declared.refusal.Refusal.TheVariants.{DeferredError}
 use Rattle.sg_target.specs.declared.reply.Status.{Status}
 use Rattle.sg_target.specs.declared.reply.Status.TheVariants.{Good, CheckCondition, ReservationConflict}
+use Rattle.sg_target.specs.declared.reply.Status.TheVariants.{Busy, TaskSetFull, NoReply}
 
 -- The status, the sense data and the data-in of a command.
 pub record Answer : Type 0 where
@@ -33,11 +38,34 @@ pub record Step : Type 0 where
 abbrev pub sense_format : State → Format
 sense_format state = format_of (descriptor_sense state.modes)
 
--- A conflict has a status of its own. All other refusals have CHECK CONDITION with sense data.
+-- A status without sense data and data-in.
+abbrev pub status_alone : Status → Answer
+status_alone status = record { status = status; sense = []; data_in = [] }
+
+-- CHECK CONDITION with sense data, after some data-in.
+abbrev pub check_condition : (sense data_in : List ℕ) → Answer
+check_condition sense data_in =
+    record { status = CheckCondition; sense = sense; data_in = data_in }
+
+-- The response code of sense data that reports a deferred error (SPC-4, 4.5.5).
+abbrev pub deferred_response_code : Format → ℕ
+deferred_response_code Fixed = 0x71
+deferred_response_code Descriptor = 0x73
+
+abbrev pub deferred_sense : Format → SenseCode → List ℕ
+deferred_sense format code =
+    slice_set (sense_data format (fault_sense code)) 0 (deferred_response_code format)
+
+-- A conflict has a status of its own, and so have some armed faults. All other refusals have CHECK
+-- CONDITION with sense data.
 abbrev pub refusal_answer : Format → Refusal → Answer
-refusal_answer format Conflict = record { status = ReservationConflict; sense = []; data_in = [] }
+refusal_answer format Conflict = status_alone ReservationConflict
 refusal_answer format (CheckCondition reason) =
-    record { status = CheckCondition; sense = sense_data format (sense_of reason); data_in = [] }
+    check_condition (sense_data format (sense_of reason)) []
+refusal_answer format refusal.Busy = status_alone Busy
+refusal_answer format refusal.TaskSetFull = status_alone TaskSetFull
+refusal_answer format refusal.NoReply = status_alone NoReply
+refusal_answer format (DeferredError code) = check_condition (deferred_sense format code) []
 
 -- A refused command changes nothing, except that it clears the unit attention that it reports.
 abbrev pub after_refusal : State → (initiator : ℕ) → Refusal → State

@@ -5,7 +5,8 @@ ghost use Rattle.std.specs.Prelude.{IfOk, IfErr, min};
 ghost use Rattle.sg_pages.specs.CapacityData.{capacity_10, capacity_16};
 ghost use Rattle.sg_wire.specs.Profile.{maximum_transfer_length};
 ghost use Rattle.sg_wire.specs.FirstBytes.{first_bytes};
-ghost use Rattle.sg_target.specs.BlockCommands.{bytes_of, reading, writing};
+ghost use Rattle.sg_target.specs.Armed.{first_of};
+ghost use Rattle.sg_target.specs.BlockCommands.{blocks_out, bytes_of, reading, writing};
 ghost use Rattle.sg_target.specs.Checks.{requested, unsupported_value};
 ghost use Rattle.sg_target.specs.Demands.{read, too_long, write};
 ghost use Rattle.sg_target.specs.Charge.{TakesStep, cost_bounds};
@@ -13,6 +14,7 @@ ghost use Rattle.sg_target.specs.Ranges.{range};
 ghost use Rattle.sg_target.specs.MadeReplies.{ReturnsData, executed_reply, refused_reply};
 ghost use Rattle.sg_target.specs.Step.{executed, outcome, sense_format};
 
+use crate::armed::first_of;
 use crate::config::Config;
 use crate::data_in::DataIn;
 use crate::data_out::needed_data_out;
@@ -84,6 +86,17 @@ pub(crate) fn check_read(
     Ok(Operation::Read(BlocksIn { extent }))
 }
 
+impl BlocksIn {
+    /// Its first blocks, at most this many.
+    pub(crate) fn first(self, blocks: u32) -> BlocksIn
+        ensures { result ≡ first_of blocks self }
+    {
+        BlocksIn {
+            extent: first_of(blocks, self.extent),
+        }
+    }
+}
+
 impl<S: Store> Target<S> {
     /// Returns the bytes of blocks.
     pub(crate) fn read(&mut self, blocks: &BlocksIn, buf: &mut [u8]) -> Reply
@@ -122,6 +135,19 @@ impl<'a> Model for BlocksOut<'a> {
 
     ghost invariant = { λ b. (b.extent.count ≤ maximum_transfer_length)
         × (length b.bytes.now ≡ bytes_of b.extent) };
+}
+
+impl<'a> BlocksOut<'a> {
+    /// Its first blocks, at most this many.
+    pub(crate) fn first(self, blocks: u32) -> BlocksOut<'a>
+        ensures { result ≡ blocks_out (first_of blocks self.entry.extent) self.entry.bytes }
+    {
+        let extent = first_of(blocks, self.extent);
+        BlocksOut {
+            extent,
+            bytes: &self.bytes[..byte_length(extent) as usize],
+        }
+    }
 }
 
 /// Takes the bytes of blocks from data-out.

@@ -20,6 +20,9 @@ use sg_wire::{CdbFault, Command, Initiator, Profile};
 impl<S: Store> Target<S> {
     /// Makes the checks of a CDB, its command and its operation. Returns the operation. Its
     /// execution checks what it asks of the disk's pages and reservations, and of its space.
+    // Inlined, with what it calls: a command would pay for each call. The compiler does so by itself
+    // only where one function calls them, and a command on a disk with armed faults calls them too.
+    #[inline(always)]
     #[tactic(auto, unfolding(crate::specs::Checks::checked_cdb))]
     pub(crate) fn check_command<'a>(
         &self,
@@ -40,6 +43,7 @@ impl<S: Store> Target<S> {
     }
 
     /// Makes the checks of a CDB. Returns its command.
+    #[inline(always)]
     fn check_cdb(&self, initiator: Initiator, cdb: &[u8]) -> Result<Command, Refusal>
         ensures refused { IfErr result (λ refusal.
             first_some (cdb_checks self.now.state initiator cdb.now) ≡ Some refusal) }
@@ -79,6 +83,7 @@ impl<S: Store> Target<S> {
     }
 
     /// The unit attention condition that is reported in place of a command.
+    #[inline(always)]
     fn blocking_attention(&self, initiator: Initiator, cdb: &[u8]) -> Option<UnitAttention>
         ensures { result ≡ (if is_blocked_in (profile_of self.now.state) cdb.now
             then oldest self.now.state.attentions initiator else None) }
@@ -91,6 +96,7 @@ impl<S: Store> Target<S> {
     }
 
     /// The refusal of a command that the reservation does not allow to an initiator.
+    #[inline(always)]
     fn reservation_conflict(&self, initiator: Initiator, cdb: &[u8]) -> Option<Refusal>
         ensures { result ≡ reservation_conflict self.now.state initiator cdb.now }
     {
@@ -102,6 +108,7 @@ impl<S: Store> Target<S> {
 
     /// Checks how an operation uses the medium: whether the disk has its blocks, and whether it
     /// writes while SWP is set.
+    #[inline(always)]
     #[tactic(auto, unfolding(crate::specs::Checks::write_protection))]
     fn check_operation<'a>(&self, operation: Operation<'a>) -> Result<Operation<'a>, Refusal>
         ensures checked { result ≡ checked_operation self.now.state operation.entry }

@@ -1,4 +1,5 @@
 // What happens to a disk between two commands.
+use sg_faults::Fault;
 use sg_units::{Initiators, UnitAttention};
 use sg_wire::Initiator;
 
@@ -21,4 +22,11 @@ pub enum Happening {
     /// The disk gets more logical blocks, up to 2^40: their number is given. 2Ah/09h, CAPACITY DATA
     /// HAS CHANGED, is established for each initiator. Nothing happens if the disk has as many.
     Grow(u64),
+    /// A fault is armed, under the lowest free number. Nothing happens if there are as many as there is
+    /// room for.
+    Arm(Fault),
+    /// The fault with a number is taken away, if there is one.
+    Disarm(usize),
+    /// All faults are taken away.
+    DisarmAll,
 }

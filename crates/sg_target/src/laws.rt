@@ -5,6 +5,8 @@ ghost use Rattle.sg_target.specs.CommandLaws.{WriteSamesLeaveTheirBlock, WritesL
 ghost use Rattle.sg_target.specs.CommandLaws.{WritesOverUsedAddressesHaveSpace};
 ghost use Rattle.sg_target.specs.Laws.{AnchorsEachExtent, ConfigurationStays};
 ghost use Rattle.sg_target.specs.Laws.{FoundRefusalsChangeNothing, HappeningsLeaveTheRest};
+ghost use Rattle.sg_target.specs.FaultLaws.{FaultsOnlyDropOrShorten, OthersMeetNoFault};
+ghost use Rattle.sg_target.specs.FaultLaws.{WithoutFaultsARunIsSound, WithoutFaultsNothingChanges};
 ghost use Rattle.sg_target.specs.Laws.{LimitsAreKept, UnmapsEachExtent};
 
 /// No command and no happening takes a table of the disk past its limit.
@@ -18,6 +20,35 @@ pub fn limits_are_kept()
     sg_store::laws::an_unmap_zeroes_the_blocks_of_its_range();
     sg_store::laws::remapping_takes_what_is_needed();
 }
+
+/// A disk on which no fault is armed answers as the definition of a disk without faults says, and
+/// becomes what it says.
+pub fn without_faults_nothing_changes()
+    ensures { WithoutFaultsNothingChanges }
+{
+    sg_faults::laws::unarmed_faults_do_nothing();
+}
+
+/// So it is over every list of commands and happenings that arms no fault.
+pub fn without_faults_a_run_is_sound()
+    ensures { WithoutFaultsARunIsSound }
+{
+    sg_faults::laws::unarmed_faults_do_nothing();
+}
+
+/// A fault changes only commands of initiators that it names.
+pub fn others_meet_no_fault()
+    ensures { OthersMeetNoFault }
+{
+    sg_faults::laws::spared_initiators_meet_no_fault();
+}
+
+/// Whatever faults are armed, a command leaves the state before it, the state in which a disk without
+/// faults leaves it, or the state after the first blocks of its operation. So no fault lets an
+/// initiator do what a check refuses.
+pub fn faults_only_drop_or_shorten()
+    ensures { FaultsOnlyDropOrShorten }
+{}
 
 /// No command, and no happening except a growth, changes the number of blocks of a disk, its pool, or
 /// its identity. A growth takes no block away. So a disk keeps its profile.

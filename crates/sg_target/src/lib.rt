@@ -3,6 +3,7 @@
 #![tactic(auto)]
 
 mod anchoring;
+mod armed;
 mod block;
 mod call;
 mod checks;

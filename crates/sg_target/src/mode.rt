@@ -227,6 +227,7 @@ impl<S: Store> Target<S> {
         ensures state { self.new.state ≡ record self.old.state {
           attentions = attentions_after self.old.state.attentions initiator changed;
         } }
+        ensures faults { self.new.faults ≡ self.old.faults }
         ensures meter { self.new.meter ≡ self.old.meter }
     {
         if changed {

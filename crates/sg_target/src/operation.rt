@@ -212,6 +212,8 @@ pub(crate) fn operation_of<'a>(
 
 impl<S: Store> Target<S> {
     /// Executes an operation, unless the disk's state refuses it.
+    // Inlined: a command would pay for one more call.
+    #[inline(always)]
     pub(crate) fn execute_checked(
         &mut self,
         initiator: Initiator,

@@ -46,6 +46,7 @@ impl<S: Store> Target<S> {
         ensures reply { let done = returning_sense self.old.state initiator format allocation_length in
             ReturnsData (first_bytes allocation_length done.data_in) result buf.old buf.new }
         ensures state { self.new.state ≡ without_attention self.old.state initiator }
+        ensures faults { self.new.faults ≡ self.old.faults }
         ensures meter { self.new.meter ≡ self.old.meter }
     {
         let condition = self.attentions.oldest(initiator);

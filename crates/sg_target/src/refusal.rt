@@ -1,4 +1,5 @@
 // The refusals of commands, and the one place that makes their sense data.
+use sg_faults::SenseCode;
 use sg_units::UnitAttention;
 use sg_wire::{CdbFault, Pointer, Sense};
 
@@ -9,13 +10,23 @@ pub enum Refusal {
     Conflict,
     /// CHECK CONDITION.
     CheckCondition(Reason),
+    /// An armed fault: BUSY, a status without sense data.
+    Busy,
+    /// An armed fault: TASK SET FULL, a status without sense data.
+    TaskSetFull,
+    /// An armed fault: no reply at all.
+    NoReply,
+    /// An armed fault: CHECK CONDITION that reports the error of an earlier command (SPC-4, 4.5.5).
+    DeferredError(SenseCode),
 }
 
 /// Why a command ends with CHECK CONDITION (SPC-4, sense keys and additional sense codes).
 #[derive(Clone, Copy)]
 pub enum Reason {
     /// INVALID FIELD IN CDB, at this byte.
-    InvalidFieldInCdb { byte: u16 },
+    InvalidFieldInCdb {
+        byte: u16,
+    },
     /// INVALID COMMAND OPERATION CODE.
     InvalidCommandOperationCode,
     /// A unit attention condition is reported.
@@ -25,17 +36,26 @@ pub enum Reason {
     /// PARAMETER LIST LENGTH ERROR: the list ends early.
     ParameterListLengthError,
     /// INVALID FIELD IN PARAMETER LIST, at this byte.
-    InvalidFieldInParameterList { byte: u16 },
+    InvalidFieldInParameterList {
+        byte: u16,
+    },
     /// INVALID RELEASE OF PERSISTENT RESERVATION: the held reservation has another type.
     InvalidRelease,
     /// INSUFFICIENT REGISTRATION RESOURCES: there is no room for another registration.
     InsufficientRegistrationResources,
     /// LOGICAL BLOCK ADDRESS OUT OF RANGE, with the first such address.
-    LbaOutOfRange { lba: u64 },
+    LbaOutOfRange {
+        lba: u64,
+    },
     /// LOGICAL UNIT SOFTWARE WRITE PROTECTED: SWP is set.
     SoftwareWriteProtected,
     /// SPACE ALLOCATION FAILED WRITE PROTECT: no block is left to map.
     SpaceAllocationFailed,
+    /// An armed fault, with the first bad block that the command names, if it lies on blocks.
+    Fault {
+        code: SenseCode,
+        first_bad: Option<u64>,
+    },
 }
 
 ghost use Rattle.std.specs.Prelude.{◌≡◌, ◌≤◌, Some};
@@ -71,6 +91,13 @@ impl Reason {
             },
             Reason::SoftwareWriteProtected => plain(Sense::DATA_PROTECT, 0x27, 0x02),
             Reason::SpaceAllocationFailed => plain(Sense::DATA_PROTECT, 0x27, 0x07),
+            Reason::Fault { code, first_bad } => Sense {
+                key: code.key.code(),
+                asc: code.asc,
+                ascq: code.ascq,
+                information: first_bad,
+                pointer: None,
+            },
         }
     }
 }

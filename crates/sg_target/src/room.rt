@@ -1,6 +1,7 @@
 // The length that the buffer for data-in needs, and commands with a buffer of any length.
-ghost use Rattle.std.specs.Prelude.{◌≡◌, ◌≤◌, length, IfNone, IfOk, IfSome, is_some, nat_le};
+ghost use Rattle.std.specs.Prelude.{◌≡◌, ◌≤◌, false, length, IfNone, IfOk, IfSome, is_some, nat_le};
 ghost use Rattle.sg_target.specs.DataInBound.{longest_data_in};
+ghost use Rattle.sg_faults.specs.Faults.{is_armed};
 ghost use Rattle.sg_target.specs.Charge.{ChargesCommand, cost_bounds};
 ghost use Rattle.sg_target.specs.Checks.{checked_cdb};
 ghost use Rattle.sg_target.specs.DataInBound.{checked_bound, data_in_bound, needed_buffer};
@@ -8,6 +9,7 @@ ghost use Rattle.sg_target.specs.Execution.{IsExecuted};
 ghost use Rattle.sg_target.specs.Extents.{AreOnDisk};
 ghost use Rattle.sg_target.specs.Semantics.{medium_use};
 ghost use Rattle.sg_target.specs.State.{IsWithinLimits};
+ghost use Rattle.sg_target.specs.Target.{disk_of};
 
 use crate::call::Call;
 use crate::extent::byte_length;
@@ -101,7 +103,7 @@ impl<S: Store> Target<S> {
 
         // If it is, the answer, the state after it and the costs are as in the definition's step.
         ensures executed { IfSome result (λ reply. IsExecuted initiator cdb.now data_out.now
-            self.old.state self.new.state reply buf.old buf.new) }
+            (disk_of self.old) (disk_of self.new) reply buf.old buf.new) }
         ensures charged { IfSome result (λ reply. ChargesCommand (cost_bounds S.price S.least)
             initiator cdb.now data_out.now self.old self.new reply) }
 
@@ -113,6 +115,9 @@ impl<S: Store> Target<S> {
         if buf.len() < data_in_bound(&checked) {
             return None;
         }
+        if self.faults.is_armed() {
+            return Some(self.execute_armed(initiator, cdb, data_out, buf));
+        }
         let call = Call {
             initiator,
             cdb,
@@ -121,15 +126,15 @@ impl<S: Store> Target<S> {
         Some(self.conclude(call, checked, buf))
     }
 
-    /// Executes a command that the checks have passed, or refuses it.
+    /// Executes a command that the checks have passed, or refuses it, while no fault is armed.
     #[inline(always)]
-    #[tactic(auto, using(crate::proofs::StepLemmas::decided))]
     pub(crate) fn conclude(
         &mut self,
         call: Call<'_>,
         checked: Result<Operation<'_>, Refusal>,
         buf: &mut [u8],
     ) -> Reply
+        requires unarmed { is_armed self.old.faults ≡ false }
         requires checked { checked
             ≡ checked_cdb self.old.state call.initiator call.cdb.now call.data_out.now }
         requires on_disk { IfOk checked (λ operation.
@@ -138,12 +143,13 @@ impl<S: Store> Target<S> {
         requires room { checked_bound checked ≤ length buf.old }
         ensures executed { let sent = call.entry in
             IsExecuted sent.initiator sent.cdb.now sent.data_out.now
-            self.old.state self.new.state result buf.old buf.new }
+            (disk_of self.old) (disk_of self.new) result buf.old buf.new }
         ensures charged { let sent = call.entry in
             ChargesCommand (cost_bounds S.price S.least)
             sent.initiator sent.cdb.now sent.data_out.now self.old self.new result }
     {
         limits_are_kept();
+        sg_faults::laws::unarmed_faults_do_nothing();
         match checked {
             Ok(operation) => self.execute_checked(call.initiator, operation, buf),
             Err(refusal) => self.refuse(call.initiator, refusal, Counts::default()),

@@ -5,6 +5,7 @@ use crate::happening::Happening;
 use crate::refusal::{Reason, Refusal};
 use crate::reply::{Reply, format_of};
 use crate::room::data_in_bound;
+use sg_faults::{Fault, Faults};
 use sg_pages::ModePages;
 use sg_store::{BLOCK_LENGTH, Counts, MAX_CAPACITY, Store};
 use sg_units::{Attentions, Raised, Reservations, UnitAttention};
@@ -24,6 +25,7 @@ pub struct Target<S: Store> {
     pub(crate) modes: ModePages,
     pub(crate) attentions: Attentions,
     pub(crate) reservations: Reservations,
+    pub(crate) faults: Faults,
 }
 
 impl<S: Store> Model for Target<S> {
@@ -48,6 +50,7 @@ impl<S: Store> Model for Target<S> {
         attentions = t.attentions;
         reservations = t.reservations;
       };
+      faults = t.faults;
       meter = S.meter t.store;
     } };
 
@@ -60,6 +63,7 @@ impl<S: Store> Model for Target<S> {
 }
 
 ghost use Rattle.std.specs.Prelude.{◌≡◌, ◌≤◌, length, IfOk};
+ghost use Rattle.sg_faults.specs.Faults.{no_faults};
 ghost use Rattle.sg_store.specs.Meter.{new_meter};
 ghost use Rattle.sg_target.specs.DataInBound.{longest_data_in};
 ghost use Rattle.sg_target.specs.Charge.{ChargesCommand, cost_bounds};
@@ -69,16 +73,21 @@ ghost use Rattle.sg_target.specs.MadeReplies.{refused_reply};
 ghost use Rattle.sg_target.specs.NewState.{new_state};
 ghost use Rattle.sg_target.specs.State.{IsWithinLimits};
 ghost use Rattle.sg_target.specs.Step.{after_refusal, sense_format};
+ghost use Rattle.sg_target.specs.Target.{disk_of};
 
 impl<S: Store> Target<S> {
     /// A target as it is after power on. No block is mapped, and the mode pages have their default
-    /// values. A unit attention, POWER ON, is pending for each initiator, and none is registered.
-    /// All memory is taken here.
+    /// values. A unit attention, POWER ON, is pending for each initiator, and none is registered. No
+    /// fault is armed. All memory is taken here.
     ///
     /// # Errors
     /// Memory was refused.
     pub fn new(alloc: Global, config: Config) -> Result<Target<S>, AllocError>
-        ensures { IfOk result (λ target. target ≡ record { state = new_state config; meter = new_meter }) }
+        ensures { IfOk result (λ target. target ≡ record {
+          state = new_state config;
+          faults = no_faults;
+          meter = new_meter;
+        }) }
     {
         let store = S::make(alloc, config.blocks(), config.pool())?;
         Ok(Target {
@@ -87,6 +96,7 @@ impl<S: Store> Target<S> {
             modes: ModePages::new(),
             attentions: Attentions::new(),
             reservations: Reservations::new(),
+            faults: Faults::new(),
         })
     }
 
@@ -101,14 +111,17 @@ impl<S: Store> Target<S> {
     ) -> Reply
         requires { longest_data_in ≤ length buf.old }
 
-        // The answer and the state after it are as in the definition's step. No table passes its
-        // limit.
+        // The answer, the state and the armed faults after it are as in the definition's step. No
+        // table passes its limit.
         ensures executed { IsExecuted initiator cdb.now data_out.now
-            self.old.state self.new.state result buf.old buf.new }
+            (disk_of self.old) (disk_of self.new) result buf.old buf.new }
         // What the store did is charged for the command's ranges.
         ensures charged { ChargesCommand (cost_bounds S.price S.least) initiator cdb.now data_out.now
             self.old self.new result }
     {
+        if self.faults.is_armed() {
+            return self.execute_armed(initiator, cdb, data_out, buf);
+        }
         let checked = self.check_command(initiator, cdb, data_out);
         // Its contract says that the buffer is long enough.
         let _ = data_in_bound(&checked);
@@ -133,6 +146,9 @@ impl<S: Store> Target<S> {
                 self.raise(&Raised::for_members(&initiators, condition));
             }
             Happening::Grow(blocks) => self.grow(blocks),
+            Happening::Arm(fault) => self.arm(&fault),
+            Happening::Disarm(number) => self.disarm(number),
+            Happening::DisarmAll => self.disarm_all(),
         }
     }
 
@@ -153,6 +169,7 @@ impl<S: Store> Target<S> {
     /// the current ones after it.
     fn reset(&mut self, condition: UnitAttention)
         ensures state { self.new.state ≡ after_reset condition self.old.state }
+        ensures faults { self.new.faults ≡ self.old.faults }
         ensures meter { self.new.meter ≡ self.old.meter }
         ensures limits { IsWithinLimits self.new.state }
     {
@@ -170,6 +187,7 @@ impl<S: Store> Target<S> {
     /// Establishes unit attention conditions.
     fn raise(&mut self, raised: &Raised)
         ensures state { self.new.state ≡ with_raised self.old.state raised.now }
+        ensures faults { self.new.faults ≡ self.old.faults }
         ensures meter { self.new.meter ≡ self.old.meter }
         ensures limits { IsWithinLimits self.new.state }
     {
@@ -189,21 +207,42 @@ impl<S: Store> Target<S> {
         }
     }
 
+    fn arm(&mut self, fault: &Fault)
+        ensures { Happens (Happening.Arm fault.now) self.old self.new }
+    {
+        let _ = self.store.used();
+        self.faults.arm(fault);
+    }
+
+    fn disarm(&mut self, number: usize)
+        ensures { Happens (Happening.Disarm number) self.old self.new }
+    {
+        let _ = self.store.used();
+        self.faults.disarm(number);
+    }
+
+    fn disarm_all(&mut self)
+        ensures { Happens Happening.DisarmAll self.old self.new }
+    {
+        let _ = self.store.used();
+        self.faults.disarm_all();
+    }
+
     /// The reply to a command that is refused. A unit attention that it reports is cleared.
     pub(crate) fn refuse(&mut self, initiator: Initiator, refusal: Refusal, counts: Counts) -> Reply
         ensures reply { result ≡ refused_reply (sense_format self.old.state) refusal counts }
         ensures state { self.new.state ≡ after_refusal self.old.state initiator refusal }
+        ensures faults { self.new.faults ≡ self.old.faults }
         ensures meter { self.new.meter ≡ self.old.meter }
     {
-        let reply = Reply::refused(refusal, self.sense_format(), counts);
         if let Refusal::CheckCondition(Reason::UnitAttention(_)) = refusal {
             self.attentions.clear_oldest(initiator);
         }
-        reply
+        Reply::refused(refusal, self.sense_format(), counts)
     }
 
     /// The format of the disk's sense data.
-    fn sense_format(&self) -> Format
+    pub(crate) fn sense_format(&self) -> Format
         ensures { result ≡ sense_format self.now.state }
     {
         format_of(self.modes.descriptor_sense())

@@ -1,4 +1,4 @@
-use Rattle.sg_target.proofs.LimitLemmas.{happening-within, step-within}
+use Rattle.sg_target.proofs.LimitLemmas.{armed-within, happening-within, step-within}
 use Rattle.sg_target.proofs.laws.limits_are_kept.Goals as goal
 
 pub returns : goal.returns
@@ -11,5 +11,6 @@ returns c =
     let zeros = c.an_unmap_zeroes_the_blocks_of_its_range.ensures in
     record {
       command = step-within reservations queues disks law addresses zeros;
+      armed = armed-within reservations queues disks law addresses zeros;
       happening = happening-within reservations queues disks law addresses zeros;
     }

@@ -7,5 +7,6 @@ unfolding reservation_change
 returns-in-Ok g c = record {
   answer = search rules;
   state = search rules;
+  faults = search rules;
   charge = search rules;
 }

@@ -15,5 +15,6 @@ returns g c =
           (c.answers_are_in_their_buffers.ensures.left _ _ _ _ _ _ _ begun done (λ e. search rules))
           c.good.ensures;
       state = search rules;
+      faults = search rules;
       charge = search rules;
     }

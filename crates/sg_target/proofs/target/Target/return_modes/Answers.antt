@@ -25,6 +25,7 @@ returns-in-Ok g c =
           (c.written.ensures ∙ laws.written _ _ _ _ _ _ cut s.has)
           (laws.left _ _ _ _ _ _ _ cut s.has (λ e. search rules)) c.without_blocks.ensures;
       state = search rules;
+      faults = search rules;
       charge = search rules;
     }
 
@@ -43,5 +44,6 @@ returns-in-Err g c =
           ∙ ap (λ (r : Refusal). refused_reply (sense_format c.args.self.now.state) r c.default.result)
           c.from-in-Err.ensures);
       state = search rules;
+      faults = search rules;
       charge = search rules;
     }

@@ -2,18 +2,21 @@ use Rattle.std.proofs.Common.{◌≡◌, ◌+◌, ◌<◌, ◌≤◌, length, Li
 use Rattle.std.proofs.Common.{sym, subst, rules, ◌∙◌}
 use Rattle.std.proofs.lemmas.List.{length-map, take_all, take-map}
 use Rattle.sg_target.specs.Charge.{IsCharged, cost_bounds}
-use Rattle.sg_target.specs.Runs.{step_of, ranges_of_call, exchange, state_after_event, Stopped}
-use Rattle.sg_target.specs.State.{State}
+use Rattle.sg_target.specs.Armed.{Armed}
+use Rattle.sg_target.specs.Runs.{after_event, armed_disk, armed_step_of, exchange, ranges_of_call}
+use Rattle.sg_target.specs.Runs.{Stopped}
+use Rattle.sg_target.specs.Target.{disk_of}
 use Rattle.sg_target.specs.declared.event.Event.{Event}
 use Rattle.sg_target.specs.declared.event.Event.TheVariants as event
-use Rattle.sg_target.proofs.RunLemmas.{events-more, exchanged-happening, exchanged-more, state-more}
-use Rattle.sg_target.proofs.RunLemmas.{all-within, answer-carried, on-err, size-carried, within-seen}
+use Rattle.sg_target.proofs.RunLemmas.{after-more, events-more, exchanged-happening, exchanged-more}
+use Rattle.sg_target.proofs.RunLemmas.{all-within, answer-carried, happened, on-err, size-carried}
+use Rattle.sg_target.proofs.RunLemmas.{within-seen}
 use Rattle.sg_target.proofs.target.Target.run_list.Goals as goal
 use Rattle.sg_target.proofs.target.Target.run_list.Goals.{in-Call+in_ok-take-in-Call, in-Happen}
 
 pub returns-in_err-take-in-Call : goal.returns-in_err-take-in-Call
 returns-in_err-take-in-Call g c =
-    let state = c.args.self.now.state in
+    let disk = disk_of c.args.self.now in
     let list = c.args.list.now in
     let i = c.loop-item.item-index in
     let call = c.in-Call.call in
@@ -24,34 +27,34 @@ returns-in_err-take-in-Call g c =
     take-map g.E.ToEvent.event (i + 1) list
     ∙ events-more g.E.ToEvent.event list i c.item-item.result (event.Call call) here c.item-item.is
     (sym c.to_event.ensures ∙ c.in-Call.is) in
-    let so_far = c.loop-item.invariant.state in
+    let so_far = c.loop-item.invariant.after in
     let answered = answer-carried _ c.execute-reply.result _ _ c.execute-reply.ensures.executed.answer
-    ∙ ap (λ s. (step_of s call).answer) so_far in
+    ∙ ap (λ d. (armed_step_of d call).answer) so_far in
     let size = size-carried _ c.execute-reply.result _ _ c.execute-reply.ensures.executed.answer in
     let charged =
-    subst (λ (s : State). IsCharged (cost_bounds g.S.Store.price g.S.Store.least) s.disk.pool
-    (ranges_of_call s call) c.loop-item.self.meter c.execute-reply.new.self.meter
+    subst (λ (d : Armed). IsCharged (cost_bounds g.S.Store.price g.S.Store.least) d.state.disk.pool
+    (ranges_of_call d call) c.loop-item.self.meter c.execute-reply.new.self.meter
     c.execute-reply.result) so_far c.execute-reply.ensures.charged.charge in
-    let stopped : Stopped (cost_bounds g.S.Store.price g.S.Store.least) state
+    let stopped : Stopped (cost_bounds g.S.Store.price g.S.Store.least) disk
     (map g.E.ToEvent.event list)
     (g.K.Sink.fields c.args.sink.now).taken (g.K.Sink.fields c.take.new.self).taken c.args.self.now.meter
-    c.execute-reply.new.self.meter c.execute-reply.new.self.state = record {
+    c.execute-reply.new.self.meter (disk_of c.execute-reply.new.self) = record {
       index = i;
       in_range = omega (arith, here, length-map list g.E.ToEvent.event);
       between = c.loop-item.self.meter;
       took = rw (first, c.in_err-take-in-Call.ensures.refused) c.loop-item.invariant.took;
       refused = exchange c.execute-reply.result (take c.execute-reply.result.data_in c.execute-reply.new.buf);
       with_refused = rw (next, c.in_err-take-in-Call.ensures.refused)
-          (exchanged-more (cost_bounds g.S.Store.price g.S.Store.least) state
+          (exchanged-more (cost_bounds g.S.Store.price g.S.Store.least) disk
           before _ _ _ _ _ call _ c.loop-item.invariant.took answered size charged);
-      state_is =
-          rw next (c.execute-reply.ensures.executed.state
-          ∙ ap (λ s. (step_of s call).state) so_far
-          ∙ sym (state-more state before (event.Call call)));
+      disk_is =
+          rw next (c.execute-reply.ensures.executed.after
+          ∙ ap (λ d. (armed_step_of d call).after) so_far
+          ∙ sym (after-more armed_disk disk before (event.Call call)));
     } in
     record {
       took = search rules;
-      state = search rules;
+      after = search rules;
       sound = search rules;
       stopped = on-err c.from_residual.result _ stopped;
       fault = search rules;
@@ -63,33 +66,33 @@ returns-in_err-take-in-Call g c =
 
 pub loop-item-preserved : goal.loop-item-preserved
 loop-item-preserved g c =
-    let state = c.args.self.now.state in
+    let disk = disk_of c.args.self.now in
     let list = c.args.list.now in
     let i = c.loop-item.item-index in
     let here : i < length list = omega arith in
     let before : List Event = map g.E.ToEvent.event (take i list) in
     let more = λ (last : Event) (e : g.E.ToEvent.event c.item-item.result ≡ last).
     events-more g.E.ToEvent.event list i c.item-item.result last here c.item-item.is e in
-    let so_far = c.loop-item.invariant.state in
+    let so_far = c.loop-item.invariant.after in
     elim c.match-to_event.branch [
       | in-Call+in_ok-take-in-Call w ↦
           let call = w.in-Call.call in
           let next = more (event.Call call) (sym c.to_event.ensures ∙ w.in-Call.is) in
           let answered = answer-carried _ w.execute-reply.result _ _ w.execute-reply.ensures.executed.answer
-          ∙ ap (λ s. (step_of s call).answer) so_far in
+          ∙ ap (λ d. (armed_step_of d call).answer) so_far in
           let size = size-carried _ w.execute-reply.result _ _ w.execute-reply.ensures.executed.answer in
           let charged =
-          subst (λ (s : State). IsCharged (cost_bounds g.S.Store.price g.S.Store.least) s.disk.pool
-          (ranges_of_call s call) c.loop-item.self.meter w.execute-reply.new.self.meter
+          subst (λ (d : Armed). IsCharged (cost_bounds g.S.Store.price g.S.Store.least) d.state.disk.pool
+          (ranges_of_call d call) c.loop-item.self.meter w.execute-reply.new.self.meter
           w.execute-reply.result) so_far w.execute-reply.ensures.charged.charge in
           record {
             took = rw (next, w.self-is, w.sink-is, w.in_ok-take-in-Call.ensures.taken)
-                (exchanged-more (cost_bounds g.S.Store.price g.S.Store.least) state
+                (exchanged-more (cost_bounds g.S.Store.price g.S.Store.least) disk
                 before _ _ _ _ _ call _ c.loop-item.invariant.took answered size charged);
-            state =
-                rw (next, w.self-is) (w.execute-reply.ensures.executed.state
-                ∙ ap (λ s. (step_of s call).state) so_far
-                ∙ sym (state-more state before (event.Call call)));
+            after =
+                rw (next, w.self-is) (w.execute-reply.ensures.executed.after
+                ∙ ap (λ d. (armed_step_of d call).after) so_far
+                ∙ sym (after-more armed_disk disk before (event.Call call)));
             sound = rw w.sink-is (w.in_ok-take-in-Call.ensures.sound ∙ c.loop-item.invariant.sound);
           }
       | in-Happen w ↦
@@ -97,12 +100,12 @@ loop-item-preserved g c =
           let next = more last (sym c.to_event.ensures ∙ w.in-Happen.is) in
           record {
             took = rw (next, w.self-is, w.sink-is, w.happen.ensures.meter)
-                (exchanged-happening (cost_bounds g.S.Store.price g.S.Store.least) state
+                (exchanged-happening (cost_bounds g.S.Store.price g.S.Store.least) disk
                 before _ _ _ _ w.in-Happen.happening c.loop-item.invariant.took);
-            state =
-                rw (next, w.self-is) (w.happen.ensures.state
-                ∙ ap (λ s. state_after_event s last) so_far
-                ∙ sym (state-more state before last));
+            after =
+                rw (next, w.self-is) (happened w.in-Happen.happening _ _ w.happen.ensures
+                ∙ ap (λ d. after_event armed_disk d last) so_far
+                ∙ sym (after-more armed_disk disk before last));
             sound = rw w.sink-is c.loop-item.invariant.sound;
           }
     ]
@@ -114,7 +117,7 @@ returns g c =
     let whole = take_all c.loop-item.item-index list ended in
     record {
       took = rw whole at c.loop-item.invariant.took;
-      state = rw whole at c.loop-item.invariant.state;
+      after = rw whole at c.loop-item.invariant.after;
       sound = search rules;
       stopped = search rules;
       fault = search rules;

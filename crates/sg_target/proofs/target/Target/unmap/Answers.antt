@@ -13,6 +13,7 @@ returns g c =
     record {
       answer = search rules;
       state = search rules;
+      faults = search rules;
       charge =
           unmapping-charged _ _ _ _ _ _ _ _ _
           (anew.disk ∙ ap (λ (t : TargetFields). t.state.disk) seen)

@@ -1,0 +1,3 @@
+pub mod AskingLemmas
+pub mod UnarmedLemmas
+pub mod SparedLemmas

@@ -1,0 +1,11 @@
+use Rattle.sg_faults.specs.Places.{afterwards, at_medium, on_arrival}
+use Rattle.sg_faults.proofs.SparedLemmas.{healed-spared, spared}
+use Rattle.sg_faults.proofs.laws.spared_initiators_meet_no_fault.Goals as goal
+
+pub returns : goal.returns
+returns c = record {
+  on_arrival = spared on_arrival;
+  at_medium = spared at_medium;
+  afterwards = spared afterwards;
+  healing = healed-spared;
+}

@@ -1,0 +1,256 @@
+-- A command is concluded: what it answers, leaves and costs on a disk with armed faults.
+use Rattle.std.proofs.Common.{◌≡◌, ◌≤◌, ℕ, List, Option, Some, None, Result, refl, sym, ap, subst, ◌∙◌}
+use Rattle.sg_wire.specs.declared.sense.Format.{Format}
+use Rattle.sg_faults.specs.Faults.{Faults, asked, decided, healed}
+use Rattle.sg_faults.specs.Meeting.{Seen}
+use Rattle.sg_faults.specs.Places.{afterwards}
+use Rattle.sg_faults.specs.declared.outcome.Afterwards.{Afterwards}
+use Rattle.sg_faults.specs.declared.outcome.Afterwards.TheVariants as after
+use Rattle.sg_faults.specs.declared.outcome.Struck.{Struck}
+use Rattle.sg_store.specs.Meter.{Meter}
+use Rattle.sg_target.specs.Armed.{Armed, ArmedStep, Attempt, afterwards_step, answer_afterwards}
+use Rattle.sg_target.specs.Armed.{armed_step, armed_step_by, attempt_by, finished}
+use Rattle.sg_target.specs.Armed.{finished_if_good, seen, step_of_checked}
+use Rattle.sg_target.specs.Charge.{ChargesCommand, CostBounds, IsCharged, TakesArmedStep, TakesStep}
+use Rattle.sg_target.specs.Charge.{armed_ranges, visit_bound}
+use Rattle.sg_target.specs.Checks.{checked_cdb}
+use Rattle.sg_target.specs.Execution.{IsExecuted}
+use Rattle.sg_target.specs.MadeReplies.{finished_reply, reply_afterwards}
+use Rattle.sg_target.specs.Laws.{LimitsAreKept}
+use Rattle.sg_target.specs.Ranges.{Range, ranges_if_passed}
+use Rattle.sg_target.specs.Reply.{Carries}
+use Rattle.sg_target.specs.State.{IsWithinLimits}
+use Rattle.sg_target.specs.Step.{Answer, Step, sense_format}
+use Rattle.sg_target.specs.Target.{TargetFields, disk_of}
+use Rattle.sg_target.specs.declared.operation.Operation.{Operation}
+use Rattle.sg_target.specs.declared.refusal.Refusal.{Refusal}
+use Rattle.sg_target.specs.declared.reply.Reply.{Reply}
+use Rattle.sg_target.specs.declared.reply.Status.{Status}
+use Rattle.sg_target.specs.declared.reply.Status.TheVariants.{Good, CheckCondition, ReservationConflict}
+use Rattle.sg_target.specs.declared.reply.Status.TheVariants.{Busy, TaskSetFull, NoReply}
+
+-- ---- What the checks have passed or refused
+
+module _ (limits : LimitsAreKept) (bounds : CostBounds) (i : ℕ) (cdb data_out : List ℕ)
+    (checked : Result Operation Refusal) (old new : TargetFields) (reply : Reply)
+    (buffer buffer' : List ℕ) (is : checked ≡ checked_cdb old.state i cdb data_out) where
+  abbrev before : Armed
+  before = disk_of old
+
+  step-is : armed_step_by before i cdb checked ≡ armed_step before i cdb data_out
+  step-is = ap (armed_step_by before i cdb) is
+
+  -- the step is the definition's
+  pub executed : (over : List Range) → IsWithinLimits old.state
+      → TakesArmedStep bounds (armed_step_by before i cdb checked) over old new reply buffer buffer'
+      → IsExecuted i cdb data_out before (disk_of new) reply buffer buffer'
+  executed over within h =
+      let after = h.after ∙ ap (λ (s : ArmedStep). s.after) step-is in
+      record {
+        answer =
+            subst (λ (a : Answer). Carries a reply buffer buffer')
+            (ap (λ (s : ArmedStep). s.answer) step-is) h.answer;
+        after = after;
+        limits =
+            subst (λ (disk : Armed). IsWithinLimits disk.state) (sym after)
+            (limits.armed before i cdb data_out within);
+      }
+
+  -- and its ranges are
+  pub charged : IsCharged bounds old.state.disk.pool (armed_ranges before i cdb checked) old.meter
+      new.meter reply
+      → reply.counts.visits ≤ visit_bound (armed_ranges before i cdb checked)
+      → ChargesCommand bounds i cdb data_out old new reply
+  charged charge visits =
+      let over = ap (armed_ranges before i cdb) is in
+      record {
+        charge =
+            subst
+            (λ (xs : List Range). IsCharged bounds old.state.disk.pool xs old.meter new.meter reply)
+            over charge;
+        visits = subst (λ (xs : List Range). reply.counts.visits ≤ visit_bound xs) over visits;
+      }
+
+-- ---- No fault is armed
+
+pub takes-unarmed : (bounds : CostBounds) (i : ℕ) (cdb : List ℕ) (checked : Result Operation Refusal)
+    (old new : TargetFields) (reply : Reply) (buffer buffer' : List ℕ)
+    → armed_step_by (disk_of old) i cdb checked
+    ≡ (let done = step_of_checked old.state i checked in
+    record { answer = done.answer; after = record (disk_of old) { state = done.state } })
+    → attempt_by (disk_of old) i cdb checked ≡ record { result = checked; faults = old.faults }
+    → TakesStep bounds (step_of_checked old.state i checked) (ranges_if_passed old.state checked) old
+    new reply buffer buffer'
+    → TakesArmedStep bounds (armed_step_by (disk_of old) i cdb checked)
+    (armed_ranges (disk_of old) i cdb checked) old new reply buffer buffer'
+takes-unarmed bounds i cdb checked old new reply buffer buffer' step tried h = record {
+  answer =
+      subst (λ (a : Answer). Carries a reply buffer buffer')
+      (sym (ap (λ (s : ArmedStep). s.answer) step)) h.answer;
+  after =
+      (λ d. record { state = h.state d; faults = h.faults d })
+      ∙ sym (ap (λ (s : ArmedStep). s.after) step);
+  charge =
+      subst
+      (λ (xs : List Range). IsCharged bounds old.state.disk.pool xs old.meter new.meter reply)
+      (sym (ap (λ (t : Attempt). ranges_if_passed old.state t.result) tried)) h.charge;
+}
+
+-- ---- Faults are armed
+
+-- the reply after the faults afterwards carries the answer after them
+by-outcome : (outcome : Afterwards) (done : Step) (reply : Reply) (buffer buffer' : List ℕ)
+    → Carries done.answer reply buffer buffer'
+    → Carries (answer_afterwards outcome done)
+    (reply_afterwards (sense_format done.state) reply outcome) buffer buffer'
+by-outcome after.NoReply done reply buffer buffer' h =
+    record { status = refl; sense = h.sense; size = h.size; data_in = h.data_in }
+by-outcome (after.CheckCondition code) done reply buffer buffer' h =
+    record { status = refl; sense = refl; size = h.size; data_in = h.data_in }
+
+afterwards-carried : (struck : Option (Struck Afterwards)) (done : Step) (reply : Reply)
+    (buffer buffer' : List ℕ) (faults : Faults)
+    → Carries done.answer reply buffer buffer'
+    → Carries (afterwards_step struck done faults).answer
+    (finished_reply (sense_format done.state) reply struck) buffer buffer'
+afterwards-carried None done reply buffer buffer' faults h = h
+afterwards-carried (Some struck) done reply buffer buffer' faults h =
+    by-outcome struck.outcome done reply buffer buffer' h
+
+afterwards-after : (struck : Option (Struck Afterwards)) (done : Step) (faults : Faults)
+    → (afterwards_step struck done faults).after ≡ record { state = done.state; faults = faults }
+afterwards-after None done faults = refl
+afterwards-after (Some struck) done faults = refl
+
+-- and costs the same
+module _ (bounds : CostBounds) (pool : ℕ) (over : List Range) (from to : Meter) (format : Format)
+    (reply : Reply) (h : IsCharged bounds pool over from to reply) where
+  charged-by : (outcome : Afterwards)
+      → IsCharged bounds pool over from to (reply_afterwards format reply outcome)
+  charged-by after.NoReply = record {
+    visits = h.visits;
+    probes = h.probes;
+    links = h.links;
+    least = λ good. cc;
+    visited = h.visited;
+    counted = h.counted;
+    restarts = h.restarts;
+    idle = h.idle;
+  }
+  charged-by (after.CheckCondition code) = record {
+    visits = h.visits;
+    probes = h.probes;
+    links = h.links;
+    least = λ good. cc;
+    visited = h.visited;
+    counted = h.counted;
+    restarts = h.restarts;
+    idle = h.idle;
+  }
+
+  finished-charged : (struck : Option (Struck Afterwards))
+      → IsCharged bounds pool over from to (finished_reply format reply struck)
+  finished-charged None = h
+  finished-charged (Some struck) = charged-by struck.outcome
+
+-- the target after the attempt, and after what is executed
+module _ (bounds : CostBounds) (i : ℕ) (cdb : List ℕ) (checked : Result Operation Refusal)
+    (old between done : TargetFields) (reply : Reply) (buffer buffer' : List ℕ)
+    (state : between.state ≡ old.state) (meter : between.meter ≡ old.meter)
+    (faults : between.faults ≡ (attempt_by (disk_of old) i cdb checked).faults)
+    (takes : TakesStep bounds
+    (step_of_checked old.state i (attempt_by (disk_of old) i cdb checked).result)
+    (ranges_if_passed old.state (attempt_by (disk_of old) i cdb checked).result) between done reply
+    buffer buffer') where
+  abbrev tried : Attempt
+  tried = attempt_by (disk_of old) i cdb checked
+
+  abbrev step : Step
+  step = step_of_checked old.state i tried.result
+
+  abbrev command : Seen
+  command = seen i cdb tried.result
+
+  kept : done.faults ≡ tried.faults
+  kept = takes.faults ∙ faults
+
+  charge : IsCharged bounds old.state.disk.pool (ranges_if_passed old.state tried.result) old.meter
+      done.meter reply
+  charge =
+      subst
+      (λ (m : Meter). IsCharged bounds old.state.disk.pool (ranges_if_passed old.state tried.result) m
+      done.meter reply)
+      meter
+      (subst
+      (λ (pool : ℕ). IsCharged bounds pool (ranges_if_passed old.state tried.result) between.meter
+      done.meter reply)
+      (ap (λ s. s.disk.pool) state) takes.charge)
+
+  -- it does not end with GOOD
+  not-good : (status : Status) → step.answer.status ≡ status → (status ≡ Good → ⊥)
+      → finished_if_good step.answer.status command tried.faults step
+      ≡ afterwards_step None step tried.faults
+  not-good Good e h = absurd (h refl)
+  not-good CheckCondition e h = ap (λ s. finished_if_good s command tried.faults step) e
+  not-good ReservationConflict e h = ap (λ s. finished_if_good s command tried.faults step) e
+  not-good Busy e h = ap (λ s. finished_if_good s command tried.faults step) e
+  not-good TaskSetFull e h = ap (λ s. finished_if_good s command tried.faults step) e
+  not-good NoReply e h = ap (λ s. finished_if_good s command tried.faults step) e
+
+  pub takes-refused : (reply.status ≡ Good → ⊥)
+      → TakesArmedStep bounds (armed_step_by (disk_of old) i cdb checked)
+      (armed_ranges (disk_of old) i cdb checked) old done reply buffer buffer'
+  takes-refused h =
+      let is = not-good step.answer.status refl (λ good. h (takes.answer.status ∙ good)) in
+      record {
+        answer =
+            subst (λ (a : Answer). Carries a reply buffer buffer')
+            (sym (ap (λ (s : ArmedStep). s.answer) is)) takes.answer;
+        after =
+            (λ d. record { state = takes.state d; faults = kept d })
+            ∙ sym (ap (λ (s : ArmedStep). s.after) is);
+        charge = charge;
+      }
+
+  -- it does
+  pub takes-finished : (new : TargetFields) → reply.status ≡ Good
+      → new.state ≡ done.state → new.meter ≡ done.meter
+      → new.faults ≡ asked afterwards command (healed command done.faults)
+      → TakesArmedStep bounds (armed_step_by (disk_of old) i cdb checked)
+      (armed_ranges (disk_of old) i cdb checked) old new
+      (finished_reply (sense_format done.state) reply
+      (decided afterwards command (healed command done.faults))) buffer buffer'
+  takes-finished new good state' meter' faults' =
+      let is : finished_if_good step.answer.status command tried.faults step
+      ≡ finished command tried.faults step =
+      ap (λ s. finished_if_good s command tried.faults step) (sym takes.answer.status ∙ good) in
+      let left = ap (healed command) kept in
+      let struck = ap (decided afterwards command) left in
+      let final = asked afterwards command (healed command tried.faults) in
+      let given = decided afterwards command (healed command tried.faults) in
+      let format = ap sense_format takes.state in
+      let last = finished_reply (sense_format done.state) reply
+      (decided afterwards command (healed command done.faults)) in
+      record {
+        answer =
+            subst (λ (a : Answer). Carries a last buffer buffer')
+            (sym (ap (λ (s : ArmedStep). s.answer) is))
+            (subst
+            (λ (r : Reply). Carries (afterwards_step given step final).answer r buffer buffer')
+            (sym (λ d. finished_reply (format d) reply (struck d)))
+            (afterwards-carried given step reply buffer buffer' final takes.answer));
+        after =
+            (λ d. record {
+              state = (state' ∙ takes.state) d;
+              faults = (faults' ∙ ap (asked afterwards command) left) d;
+            })
+            ∙ (sym (afterwards-after given step final) ∙ sym (ap (λ (s : ArmedStep). s.after) is));
+        charge =
+            subst
+            (λ (m : Meter). IsCharged bounds old.state.disk.pool
+            (ranges_if_passed old.state tried.result) old.meter m last)
+            (sym meter')
+            (finished-charged bounds old.state.disk.pool (ranges_if_passed old.state tried.result)
+            old.meter done.meter (sense_format done.state) reply charge
+            (decided afterwards command (healed command done.faults)));
+      }

@@ -1,0 +1,309 @@
+// Commands on a disk on which faults are armed.
+ghost use Rattle.std.specs.Prelude.{◌≡◌, ◌≤◌, [], ◌∷◌, IfOk, length, min, slice_get};
+ghost use Rattle.sg_faults.specs.Faults.{asked, decided, healed};
+ghost use Rattle.sg_faults.specs.Places.{afterwards};
+ghost use Rattle.sg_target.specs.Armed.{armed_step_by, attempt, first_blocks, first_of};
+ghost use Rattle.sg_target.specs.Armed.{medium_of, refusal_on_arrival, result_at_medium};
+ghost use Rattle.sg_target.specs.Armed.{step_of_checked};
+ghost use Rattle.sg_target.specs.Charge.{ChargesCommand, TakesArmedStep, TakesStep, armed_ranges};
+ghost use Rattle.sg_target.specs.Charge.{cost_bounds};
+ghost use Rattle.sg_target.specs.DataInBound.{checked_bound, longest_data_in, needed_buffer};
+ghost use Rattle.sg_target.specs.Execution.{IsExecuted};
+ghost use Rattle.sg_target.specs.Extents.{AreOnDisk};
+ghost use Rattle.sg_target.specs.MadeReplies.{finished_reply};
+ghost use Rattle.sg_target.specs.Ranges.{ranges_if_passed};
+ghost use Rattle.sg_target.specs.Semantics.{medium_use};
+ghost use Rattle.sg_target.specs.State.{IsWithinLimits};
+ghost use Rattle.sg_target.specs.Step.{sense_format};
+ghost use Rattle.sg_target.specs.Target.{disk_of};
+
+use crate::laws::limits_are_kept;
+use crate::operation::Operation;
+use crate::refusal::{Reason, Refusal};
+use crate::reply::{Reply, Status};
+use crate::room::data_in_bound;
+use crate::target::Target;
+use sg_faults::{Afterwards, ArmedFault, AtMedium, OnArrival, SeenCommand};
+use sg_store::{Counts, Store};
+use sg_wire::{Extent, Initiator, UnmapList};
+
+/// The first blocks of an extent, at most this many.
+pub(crate) fn first_of(blocks: u32, extent: Extent) -> Extent
+    ensures { result ≡ first_of blocks extent }
+{
+    Extent {
+        lba: extent.lba,
+        count: blocks.min(extent.count),
+    }
+}
+
+impl<'a> Operation<'a> {
+    /// The blocks that it names.
+    fn extents(&self) -> UnmapList
+        ensures { result ≡ (medium_use self.now).extents }
+    {
+        match self {
+            Operation::Unmap(extents) | Operation::Anchor(extents) => extents.to_list(),
+            Operation::Read(blocks) => one_extent(blocks.extent),
+            Operation::Write(blocks) => one_extent(blocks.extent),
+            Operation::Fill { extent, .. }
+            | Operation::Synchronize(extent)
+            | Operation::UnmapExtent(extent)
+            | Operation::AnchorExtent(extent) => one_extent(*extent),
+            Operation::ReturnLbaStatus { start, .. } => one_extent(Extent {
+                lba: *start,
+                count: 1,
+            }),
+            Operation::Nothing
+            | Operation::ReturnSense { .. }
+            | Operation::ReturnInquiry { .. }
+            | Operation::ReturnModes { .. }
+            | Operation::ChangeModes { .. }
+            | Operation::ReturnCapacity10
+            | Operation::ReturnCapacity16(_)
+            | Operation::ReturnReservations { .. }
+            | Operation::ChangeReservations { .. } => UnmapList::new(),
+        }
+    }
+
+    /// Returns `true` if it writes to the medium.
+    fn writes(&self) -> bool
+        ensures { result ≡ (medium_use self.now).writes }
+    {
+        match self {
+            Operation::Write(_)
+            | Operation::Fill { .. }
+            | Operation::Unmap(_)
+            | Operation::UnmapExtent(_)
+            | Operation::Anchor(_)
+            | Operation::AnchorExtent(_) => true,
+            Operation::Nothing
+            | Operation::ReturnSense { .. }
+            | Operation::ReturnInquiry { .. }
+            | Operation::ReturnModes { .. }
+            | Operation::ChangeModes { .. }
+            | Operation::ReturnCapacity10
+            | Operation::ReturnCapacity16(_)
+            | Operation::Read(_)
+            | Operation::Synchronize(_)
+            | Operation::ReturnLbaStatus { .. }
+            | Operation::ReturnReservations { .. }
+            | Operation::ChangeReservations { .. } => false,
+        }
+    }
+
+    /// The same operation, but a READ, a WRITE or a WRITE SAME only of its first blocks.
+    fn first_blocks(self, blocks: u32) -> Operation<'a>
+        ensures { result ≡ first_blocks blocks self.entry }
+    {
+        match self {
+            Operation::Read(read) => Operation::Read(read.first(blocks)),
+            Operation::Write(out) => Operation::Write(out.first(blocks)),
+            Operation::Fill { extent, block } => Operation::Fill {
+                extent: first_of(blocks, extent),
+                block,
+            },
+            operation => operation,
+        }
+    }
+}
+
+fn one_extent(extent: Extent) -> UnmapList
+    ensures { result ≡ extent ∷ [] }
+{
+    let mut list = UnmapList::new();
+    list.push(extent);
+    list
+}
+
+/// The blocks that a command uses, unless it is refused.
+fn extents_of(checked: &Result<Operation<'_>, Refusal>) -> UnmapList
+    ensures { result ≡ (medium_of checked.now).extents }
+{
+    match checked {
+        Ok(operation) => operation.extents(),
+        Err(_) => UnmapList::new(),
+    }
+}
+
+/// A command writes to the medium, unless it is refused.
+fn writes(checked: &Result<Operation<'_>, Refusal>) -> bool
+    ensures { result ≡ (medium_of checked.now).writes }
+{
+    match checked {
+        Ok(operation) => operation.writes(),
+        Err(_) => false,
+    }
+}
+
+/// The operation code of a CDB.
+fn code_of(cdb: &[u8]) -> Option<u8>
+    ensures { result ≡ slice_get cdb.now 0 }
+{
+    cdb.first().copied()
+}
+
+/// What a fault on arrival answers.
+fn refusal_on_arrival(outcome: OnArrival) -> Refusal
+    ensures { result ≡ refusal_on_arrival outcome }
+{
+    match outcome {
+        OnArrival::Busy => Refusal::Busy,
+        OnArrival::TaskSetFull => Refusal::TaskSetFull,
+        OnArrival::ReservationConflict => Refusal::Conflict,
+        OnArrival::NoReply => Refusal::NoReply,
+        OnArrival::CheckCondition(code) => Refusal::CheckCondition(Reason::Fault {
+            code,
+            first_bad: None,
+        }),
+        OnArrival::DeferredError(code) => Refusal::DeferredError(code),
+    }
+}
+
+/// What a fault at the medium leaves of an operation.
+fn result_at_medium<'a>(
+    operation: Operation<'a>,
+    first_bad: Option<u64>,
+    outcome: AtMedium,
+) -> Result<Operation<'a>, Refusal>
+    ensures { result ≡ result_at_medium operation.entry first_bad outcome }
+{
+    match outcome {
+        AtMedium::CheckCondition(code) => {
+            Err(Refusal::CheckCondition(Reason::Fault { code, first_bad }))
+        }
+        AtMedium::MovesOnly(blocks) => Ok(operation.first_blocks(blocks)),
+    }
+}
+
+impl<S: Store> Target<S> {
+    /// The armed faults, by their numbers.
+    pub fn faults(&self) -> &[Option<ArmedFault>]
+        ensures { result.now ≡ self.now.faults }
+    {
+        self.faults.as_slice()
+    }
+
+    /// Executes a command while faults are armed.
+    #[cold]
+    pub(crate) fn execute_armed(
+        &mut self,
+        initiator: Initiator,
+        cdb: &[u8],
+        data_out: &[u8],
+        buf: &mut [u8],
+    ) -> Reply
+        requires { min (needed_buffer self.old.state initiator cdb.now data_out.now) longest_data_in
+            ≤ length buf.old }
+        ensures executed { IsExecuted initiator cdb.now data_out.now
+            (disk_of self.old) (disk_of self.new) result buf.old buf.new }
+        ensures charged { ChargesCommand (cost_bounds S.price S.least) initiator cdb.now data_out.now
+            self.old self.new result }
+    {
+        limits_are_kept();
+        let checked = self.check_command(initiator, cdb, data_out);
+        // Its contract says that no data-in is longer than the longest.
+        let _ = data_in_bound(&checked);
+        self.conclude_armed(initiator, cdb, checked, buf)
+    }
+
+    /// Executes a command that the checks have passed, or refuses it, while faults are armed.
+    fn conclude_armed(
+        &mut self,
+        initiator: Initiator,
+        cdb: &[u8],
+        checked: Result<Operation<'_>, Refusal>,
+        buf: &mut [u8],
+    ) -> Reply
+        requires on_disk { IfOk checked (λ operation.
+            AreOnDisk self.old.state.disk.capacity (medium_use operation).extents) }
+        requires limits { IsWithinLimits self.old.state }
+        requires room { checked_bound checked ≤ length buf.old }
+        ensures { TakesArmedStep (cost_bounds S.price S.least)
+            (armed_step_by (disk_of self.old) initiator cdb.now checked.entry)
+            (armed_ranges (disk_of self.old) initiator cdb.now checked.entry)
+            self.old self.new result buf.old buf.new }
+    {
+        let extents = extents_of(&checked);
+        let command = SeenCommand {
+            initiator,
+            code: code_of(cdb),
+            extents: extents.as_slice(),
+            writes: writes(&checked),
+        };
+        let tried = self.attempt(&command, checked);
+        let extents = extents_of(&tried);
+        let command = SeenCommand {
+            initiator,
+            code: code_of(cdb),
+            extents: extents.as_slice(),
+            writes: writes(&tried),
+        };
+        let reply = self.perform(initiator, tried, buf);
+        if reply.status == Status::Good {
+            self.finish(&command, reply)
+        } else {
+            reply
+        }
+    }
+
+    /// Executes an operation, or refuses the command.
+    fn perform(
+        &mut self,
+        initiator: Initiator,
+        checked: Result<Operation<'_>, Refusal>,
+        buf: &mut [u8],
+    ) -> Reply
+        requires on_disk { IfOk checked (λ operation.
+            AreOnDisk self.old.state.disk.capacity (medium_use operation).extents) }
+        requires limits { IsWithinLimits self.old.state }
+        requires room { checked_bound checked ≤ length buf.old }
+        ensures { TakesStep (cost_bounds S.price S.least)
+            (step_of_checked self.old.state initiator checked.entry)
+            (ranges_if_passed self.old.state checked.entry)
+            self.old self.new result buf.old buf.new }
+    {
+        match checked {
+            Ok(operation) => self.execute_checked(initiator, operation, buf),
+            Err(refusal) => self.refuse(initiator, refusal, Counts::default()),
+        }
+    }
+
+    /// What the faults on arrival and at the medium leave of a command.
+    fn attempt<'a>(
+        &mut self,
+        command: &SeenCommand<'_>,
+        checked: Result<Operation<'a>, Refusal>,
+    ) -> Result<Operation<'a>, Refusal>
+        ensures result { result ≡ (attempt self.old.faults command.now checked.entry).result }
+        ensures faults { self.new.faults ≡ (attempt self.old.faults command.now checked.entry).faults }
+        ensures state { self.new.state ≡ self.old.state }
+        ensures meter { self.new.meter ≡ self.old.meter }
+    {
+        if let Some(struck) = self.faults.ask::<OnArrival>(command) {
+            return Err(refusal_on_arrival(struck.outcome));
+        }
+        let operation = checked?;
+        match self.faults.ask::<AtMedium>(command) {
+            Some(struck) => result_at_medium(operation, struck.first_bad, struck.outcome),
+            None => Ok(operation),
+        }
+    }
+
+    /// The reply to a command that has ended with GOOD, after the faults afterwards. The blocks that it
+    /// heals are healed.
+    fn finish(&mut self, command: &SeenCommand<'_>, reply: Reply) -> Reply
+        ensures reply { result ≡ finished_reply (sense_format self.old.state) reply
+            (decided afterwards command.now (healed command.now self.old.faults)) }
+        ensures faults { self.new.faults
+            ≡ asked afterwards command.now (healed command.now self.old.faults) }
+        ensures state { self.new.state ≡ self.old.state }
+        ensures meter { self.new.meter ≡ self.old.meter }
+    {
+        self.faults.heal(command);
+        match self.faults.ask::<Afterwards>(command) {
+            Some(struck) => reply.afterwards(struck.outcome, self.sense_format()),
+            None => reply,
+        }
+    }
+}
