@@ -101,7 +101,9 @@ def write_same(device, _initiator, command, data_out):
 
 def synchronize_cache(device, _initiator, command, _data_out):
     """SYNCHRONIZE CACHE(10) (SBC-3, 5.26): nothing is cached, and 0 blocks are no block"""
-    check_addresses(device, [(command["address"], command["count"])])
+    extents = [(command["address"], command["count"])]
+    check_addresses(device, extents)
+    device.provisioning.synchronize(extents)
     return b""
 
 

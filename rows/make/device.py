@@ -8,6 +8,7 @@ to 6 are here and in `layouts.Command`. Checks 7 to 12 are in `blocks`, `pages`,
 from dataclasses import dataclass
 
 import blocks
+import faults
 import modes
 import pages
 import reservations
@@ -37,6 +38,7 @@ class Device:
         self.provisioning = Provisioning(capacity, pool)
         self.modes = modes.Modes()
         self.reservations = reservations.Reservations()
+        self.faults = faults.Faults()  # they outlive resets and power cycles
         self.power_on()
 
     def power_on(self):
@@ -76,12 +78,18 @@ class Device:
             self.raise_attention(INITIATORS, sense.CAPACITY_DATA_HAS_CHANGED)
 
     def execute(self, initiator, cdb, data_out):
+        if any(self.faults.slots):
+            return Reply(*faults.execute(self, initiator, cdb, data_out))
+        return Reply(*self.executed(initiator, cdb, data_out))
+
+    def executed(self, initiator, cdb, data_out):
+        """The status, the data-in and the sense data of a command that meets no fault."""
         try:
-            return Reply(GOOD, self.data_in(initiator, cdb, data_out))
+            return GOOD, self.data_in(initiator, cdb, data_out), b""
         except reservations.Conflict:
-            return Reply(RESERVATION_CONFLICT)
+            return RESERVATION_CONFLICT, b"", b""
         except CheckCondition as refused:
-            return Reply(CHECK_CONDITION, sense=refused.sense.data(self.modes.d_sense))
+            return CHECK_CONDITION, b"", refused.sense.data(self.modes.d_sense)
 
     def data_in(self, initiator, cdb, data_out):
         """What a command that ends with GOOD returns; raises whatever refuses it."""

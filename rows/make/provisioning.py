@@ -11,6 +11,7 @@ ZEROS = bytes(BLOCK_LENGTH)
 MAPPED, DEALLOCATED, ANCHORED = 0, 1, 2  # SBC-3, 5.4.2, PROVISIONING STATUS
 MOST_BLOCKS_OF_A_DESCRIPTOR = 2**32 - 1
 MOST_DESCRIPTORS = 512
+ALL_BLOCKS = 2**64
 
 
 class Provisioning:
@@ -18,6 +19,7 @@ class Provisioning:
         self.capacity = capacity
         self.pool = pool
         self.contents = {}  # the bytes of each mapped address, None for each anchored one
+        self.most_moved = ALL_BLOCKS  # a fault moves fewer of a command's blocks
 
     def status(self, address):
         if address not in self.contents:
@@ -25,13 +27,18 @@ class Provisioning:
         return ANCHORED if self.contents[address] is None else MAPPED
 
     def read(self, address, count):
+        count = min(count, self.most_moved)
         return b"".join(self.contents.get(address + offset) or ZEROS for offset in range(count))
 
     def write(self, address, count, block):
         """Maps each address to `block(offset)`, or none if the pool lacks room (SBC-3, 4.7)."""
+        count = min(count, self.most_moved)
         self._need_room([(address, count)])
         for offset in range(count):
             self.contents[address + offset] = block(offset)
+
+    def synchronize(self, _extents):
+        """Nothing is cached."""
 
     def unmap(self, extents):
         """Deallocates the addresses, and gives their blocks back to the pool."""

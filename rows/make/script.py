@@ -22,6 +22,7 @@ import texts
 import tools
 from attentions import CONDITIONS
 from device import CHECK_CONDITION, GOOD, RESERVATION_CONFLICT, Device
+from faults import BUSY, MOST_FAULTS, NO_REPLY, STATUSES, TASK_SET_FULL, Fault as ArmedFault
 from words import hex_bytes, hex_lines, number
 
 LONGEST_LINE = 4096
@@ -34,7 +35,11 @@ STATUS_NAMES = {
     GOOD: "GOOD",
     CHECK_CONDITION: "CHECK CONDITION",
     RESERVATION_CONFLICT: "RESERVATION CONFLICT",
+    BUSY: "BUSY",
+    TASK_SET_FULL: "TASK SET FULL",
+    NO_REPLY: "NO REPLY",
 }
+EXIT_STATUSES = {RESERVATION_CONFLICT: 24, BUSY: 26, TASK_SET_FULL: 27, NO_REPLY: 33}
 INITIATORS = "01234567"
 
 
@@ -142,7 +147,7 @@ def power(device, operands):
     return ["POWER"], 0
 
 
-# These four are of an extended disk. Each other form of them is a fault of usage.
+# These are of an extended disk. Each other form of them is a fault of usage.
 
 
 def reset(device, operands):
@@ -182,6 +187,121 @@ def attention(device, operands):
     return ["ATTENTION"], 0
 
 
+def heal(device, operands):
+    """heal [N]: all armed faults are taken away, or the one with a number"""
+    numbers = [number(word, 0, MOST_FAULTS - 1) for word in operands]
+    if len(numbers) > 1 or None in numbers:
+        raise Fault("usage")
+    for slot in numbers or range(MOST_FAULTS):
+        device.faults.slots[slot] = None
+    return ["HEAL"], 0
+
+
+def fault(device, operands):
+    """fault PLACE WHAT [OPTION]..: a fault is armed"""
+    place, what, *words = (operands + ["", ""])[:max(2, len(operands))]
+    armed = ArmedFault(place, what)
+    if what in ("deferred", "first") and words:
+        value = words.pop(0)
+        armed.value = number(value, 0, 2**32 - 1) if what == "first" else sense_code(value)
+    elif sense_code(what):
+        armed.what, armed.value = "code", sense_code(what)
+    if armed.what not in WHAT_AT.get(place, ()):
+        raise Fault("usage")
+    if armed.what not in STATUSES and armed.value is None:
+        raise Fault("usage")
+    fault_options(armed, words)
+    device.faults.arm(armed)
+    return ["FAULT"], 0
+
+
+def faults(device, operands):
+    """faults: the armed faults in the words that arm them, and what is left of them"""
+    if operands:
+        raise Fault("usage")
+    lines = ["FAULTS"]
+    for slot, armed in enumerate(device.faults.slots):
+        if armed:
+            lines.append(f"  {slot}: {fault_text(armed)}")
+            for initiator, (skip, times) in sorted(armed.left.items()):
+                if skip or times is not None:
+                    lines.append(f"    to {initiator}:{counts_text(skip, times)}")
+    return lines, 0
+
+
+def fault_text(armed):
+    text = f"{armed.place} " + ("" if armed.what == "code" else armed.what)
+    if armed.what == "first":
+        text += f" {armed.value}"
+    elif armed.what not in STATUSES:
+        key, code = armed.value
+        text = f"{text.rstrip()} {key:X}/{code >> 8:02X}/{code & 0xFF:02X}"
+    if armed.code is not None:
+        text += f" code {armed.code:02X}h"
+    if armed.blocks:
+        text += " blocks {} {}".format(*armed.blocks)
+    if armed.healed:
+        text += " healed"
+    text += counts_text(armed.skip, armed.times)
+    if len(armed.initiators) < len(INITIATORS):
+        text += "".join(f" to {initiator}" for initiator in sorted(armed.initiators))
+    return text
+
+
+def counts_text(skip, times):
+    return (f" skip {skip}" if skip else "") + ("" if times is None else f" times {times}")
+
+
+def fault_options(armed, words):
+    given = []
+    while words:
+        option = words.pop(0)
+        operands = [words.pop(0) for _ in range(OPERANDS.get(option, 0)) if words]
+        if option not in OPERANDS or len(operands) != OPERANDS[option]:
+            raise Fault("usage")
+        if option in given and option != "to":
+            raise Fault("usage")
+        value = OPTION_VALUES[option](*operands)
+        if value is None:
+            raise Fault("usage")
+        if option == "to":
+            armed.initiators = value | (armed.initiators if option in given else set())
+        else:
+            setattr(armed, option, value)
+        given.append(option)
+    if armed.healed and not armed.blocks:
+        raise Fault("usage")
+
+
+def sense_code(word):
+    """KEY/ASC/ASCQ as a key, and a code with its qualifier; None if it is none"""
+    found = SENSE_CODE.fullmatch(word)
+    return found and (int(found[1], 16), int(found[2] + found[3], 16))
+
+
+def extent(address, count):
+    numbers = number(address, 0, 2**64 - 1), number(count, 1, 2**32 - 1)
+    return None if None in numbers else numbers
+
+
+SENSE_CODE = re.compile("([0-9abdefABDEF])/([0-9a-fA-F]{2})/([0-9a-fA-F]{2})")  # Ch is no sense key
+OPERATION_CODE = re.compile("([0-9a-fA-F]{2})h")
+WHAT_AT = {
+    "arrival": ("busy", "full", "conflict", "silent", "code", "deferred"),
+    "medium": ("code", "first"),
+    "after": ("silent", "code"),
+}
+OPERANDS = {"to": 1, "code": 1, "blocks": 2, "healed": 0, "skip": 1, "times": 1}
+OPTION_VALUES = {
+    "to": lambda word: {int(word)} if is_initiator(word) else None,
+    "code": lambda word: int(word[:2], 16) if OPERATION_CODE.fullmatch(word) else None,
+    "blocks": extent,
+    "healed": lambda: True,
+    "skip": lambda word: number(word, 0, 2**16 - 1),
+    "times": lambda word: number(word, 1, 2**16 - 1),
+}
+
+
 def tool(device, initiator, operands):
     """I TOOL OPTIONS"""
     plan = tools.plan(operands)
@@ -191,7 +311,8 @@ def tool(device, initiator, operands):
 
 
 OF_BOTH = {"raw": raw, "fill": fill, "show": show, "power": power}
-OF_EXTENDED = {"reset": reset, "nexus": nexus, "grow": grow, "attention": attention}
+OF_EXTENDED = {"reset": reset, "nexus": nexus, "grow": grow, "attention": attention,
+               "fault": fault, "faults": faults, "heal": heal}
 VERBS = {"base": OF_BOTH, "extended": OF_BOTH | OF_EXTENDED}
 
 
@@ -213,18 +334,28 @@ def replied(reply, shown):
     lines = [STATUS_NAMES[reply.status]]
     if reply.status == GOOD:
         return lines + shown(reply.data_in), 0
-    if reply.status == RESERVATION_CONFLICT:
-        return lines, 24
+    if reply.status in EXIT_STATUSES:
+        return lines, EXIT_STATUSES[reply.status]
     return [*lines, sense.line(reply.sense)], status_of(sense.read(reply.sense))
 
 
 def status_of(found):
-    """The exit statuses of sg3_utils(8), for the sense keys that the disk returns."""
+    """The exit statuses of sg3_utils(8). None of them is for sense data that can't be read."""
+    if found is None:
+        return 99
     of_codes = {
         sense.INVALID_COMMAND_OPERATION_CODE: 9,
         sense.LOGICAL_BLOCK_ADDRESS_OUT_OF_RANGE: 22,
     }
-    of_keys = {sense.UNIT_ATTENTION: 6, sense.DATA_PROTECT: 7, sense.ABORTED_COMMAND: 11}
+    of_keys = {
+        sense.RECOVERED_ERROR: 21,
+        sense.NOT_READY: 2,
+        sense.MEDIUM_ERROR: 3,
+        sense.HARDWARE_ERROR: 3,
+        sense.UNIT_ATTENTION: 6,
+        sense.DATA_PROTECT: 7,
+        sense.ABORTED_COMMAND: 11,
+    }
     if found.key == sense.ILLEGAL_REQUEST:
         return of_codes.get(found.code, 5)
     return of_keys.get(found.key, 99)

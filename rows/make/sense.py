@@ -8,7 +8,8 @@ from dataclasses import dataclass
 
 # Sense keys (SPC-4, the table of sense keys), with their names.
 NO_SENSE, ILLEGAL_REQUEST, UNIT_ATTENTION, DATA_PROTECT, ABORTED_COMMAND = 0x0, 0x5, 0x6, 0x7, 0xB
-KEY_NAMES = {
+RECOVERED_ERROR, NOT_READY, MEDIUM_ERROR, HARDWARE_ERROR = 0x1, 0x2, 0x3, 0x4  # only of faults
+KEY_NAMES = {  # SCRIPT prints the others by their numbers
     NO_SENSE: "NO SENSE",
     ILLEGAL_REQUEST: "ILLEGAL REQUEST",
     UNIT_ATTENTION: "UNIT ATTENTION",

@@ -16,6 +16,8 @@ use Rattle.sg_target.specs.declared.operation.Operation.{Operation}
 use Rattle.sg_target.specs.declared.operation.Operation.TheVariants as operation
 use Rattle.sg_target.specs.declared.refusal.Refusal.{Refusal}
 use Rattle.sg_target.specs.declared.refusal.Refusal.TheVariants.{Conflict, CheckCondition}
+use Rattle.sg_target.specs.declared.refusal.Refusal.TheVariants.{Busy, TaskSetFull, NoReply}
+use Rattle.sg_target.specs.declared.refusal.Refusal.TheVariants.{DeferredError}
 use Rattle.sg_target.specs.declared.reply.Status.TheVariants.{Good}
 use Rattle.sg_run.specs.Walk.{AnswersAreOfAWalk, IsAnswerOfAWalk}
 
@@ -30,6 +32,10 @@ module _ (state : State) (i : ℕ) (c : GetLbaStatus) where
   not-refused : (refusal : Refusal) → Answers (refused state i refusal)
   not-refused Conflict e = cc
   not-refused (CheckCondition reason) e = cc
+  not-refused Busy e = cc
+  not-refused TaskSetFull e = cc
+  not-refused NoReply e = cc
+  not-refused (DeferredError code) e = cc
 
   by-medium : (refusal : Option Refusal)
       → Answers (outcome state i (checked_next (unless_refused refusal (Ok asked)) (effect_of state i)))

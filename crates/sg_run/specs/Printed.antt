@@ -1,31 +1,31 @@
--- An outcome, compared with the printed text, the status and the state.
+-- An outcome, compared with the printed text, the status and the disk.
 use Rattle.std.specs.Prelude.{◌≡◌, ℕ, List, Option, Result, Bool, IfOk}
 use Rattle.sg_wire.specs.Printer.{PrintsText}
 use Rattle.sg_wire.specs.Watched.{SendsText}
 use Rattle.sg_wire.specs.declared.printer.Printer.{Printer}
 use Rattle.sg_wire.specs.declared.watched.Watched.{Watched}
-use Rattle.sg_target.specs.State.{State}
+use Rattle.sg_target.specs.Armed.{Armed}
 use Rattle.sg_run.specs.Outcome.{Outcome}
 
--- The text, the status and the state are an outcome's. `contents` is what a writer holds.
+-- The text, the status and the disk are an outcome's. `contents` is what a writer holds.
 pub record HasOutcome {W : Type 0} (contents : W → Option (List ℕ)) (old new : Printer W)
-    (state : State) (status : ℕ) (outcome : Outcome) : Type 0 where
+    (disk : Armed) (status : ℕ) (outcome : Outcome) : Type 0 where
   pub text : PrintsText contents old new outcome.text
-  pub state_is : state ≡ outcome.state
+  pub disk_is : disk ≡ outcome.disk
   pub status_is : status ≡ outcome.status
 
 -- The same for one of two outcomes: memory was refused, or it was not.
 pub record HasOutcomeUnlessOutOfMemory {W : Type 0} (contents : W → Option (List ℕ))
-    (old new : Printer W) (state : State) (status : ℕ) (outcome : (out_of_memory : Bool) → Outcome)
+    (old new : Printer W) (disk : Armed) (status : ℕ) (outcome : (out_of_memory : Bool) → Outcome)
     : Type 0 where
   pub out_of_memory : Bool
-  pub has : HasOutcome contents old new state status (outcome out_of_memory)
+  pub has : HasOutcome contents old new disk status (outcome out_of_memory)
 
 -- A line was executed, and its text was written to a writer, or the writer failed within it.
 pub record ExecutesLine {W E : Type 0} (contents : W → Option (List ℕ)) (old new : Watched W)
-    (state : State) (result : Result ℕ E) (outcome : (out_of_memory : Bool) → Outcome)
+    (disk : Armed) (result : Result ℕ E) (outcome : (out_of_memory : Bool) → Outcome)
     : Type 0 where
   pub out_of_memory : Bool
   pub sent : SendsText contents old new result (outcome out_of_memory).text
-  pub state_is : state ≡ (outcome out_of_memory).state
+  pub disk_is : disk ≡ (outcome out_of_memory).disk
   pub status_is : IfOk result (λ status. status ≡ (outcome out_of_memory).status)

@@ -5,13 +5,14 @@ ghost use Rattle.std.specs.Prelude.{option_map, IfSome};
 ghost use Rattle.sg_wire.specs.Watched.{has_failed};
 ghost use Rattle.sg_wire.specs.Sense.{fields_of};
 ghost use Rattle.sg_wire.specs.SenseReading.{read_sense};
-ghost use Rattle.sg_target.specs.Step.{step};
+ghost use Rattle.sg_target.specs.Armed.{armed_step};
+ghost use Rattle.sg_target.specs.Target.{disk_of};
 ghost use Rattle.sg_wire.specs.Printer.{PrintsText};
 ghost use Rattle.sg_run.specs.AnswerText.{answer_text};
 ghost use Rattle.sg_run.specs.Limits.{longest_line};
 ghost use Rattle.sg_run.specs.LineFault.{fault_message, fault_status};
-ghost use Rattle.sg_run.specs.Outcome.{by_request, fill_step, happening_name, happening_outcome};
-ghost use Rattle.sg_run.specs.Outcome.{line_header, outcome, reply_outcome};
+ghost use Rattle.sg_run.specs.Outcome.{by_request, faults_outcome, fill_step, happening_name};
+ghost use Rattle.sg_run.specs.Outcome.{happening_outcome, line_header, outcome, reply_outcome};
 ghost use Rattle.sg_tools.specs.declared.show.Show.TheVariants.{Nothing};
 ghost use Rattle.sg_run.specs.Printed.{ExecutesLine, HasOutcome, HasOutcomeUnlessOutOfMemory};
 ghost use Rattle.sg_run.specs.RequestLines.{line_request, tool_request};
@@ -19,6 +20,7 @@ ghost use Rattle.sg_run.specs.RequestLines.{line_request, tool_request};
 use crate::buffers::{Buffers, REPLY_LENGTH};
 use crate::request::{FilledBlocks, LineFault, Request, ToolLine, read_request};
 use crate::text::answer::put_answer;
+use crate::text::faults::put_faults;
 use crate::text::{put_line_header, put_reply};
 use sg_store::{BLOCK_LENGTH, Store};
 use sg_target::{BUFFER_LENGTH, Call, Happening, Target};
@@ -45,8 +47,8 @@ pub(crate) fn execute_line<W: Write, S: Store>(
     requires line { IfSome (option_map (λ b. b.now) line) (λ bytes. length bytes ≤ longest_line) }
     requires sound { has_failed writer.old ≡ false }
     ensures { let bytes = option_map (λ b. b.now) line.entry in
-        ExecutesLine W.contents writer.old writer.new target.new.state result
-        (λ out_of_memory. outcome number bytes out_of_memory target.old.state) }
+        ExecutesLine W.contents writer.old writer.new (disk_of target.new) result
+        (λ out_of_memory. outcome number bytes out_of_memory (disk_of target.old)) }
 {
     let request = read_request(target.profile(), line, &mut buffers.hex);
     let mut out = Printer::new(writer, &mut buffers.text);
@@ -76,9 +78,9 @@ fn execute_request<W: Write, S: Store>(
 ) -> u8
     requires data_out { length data_out.old ≡ BUFFER_LENGTH }
     requires buffer { length buffer.old ≡ REPLY_LENGTH }
-    ensures { HasOutcomeUnlessOutOfMemory W.contents out.old out.new target.new.state result
+    ensures { HasOutcomeUnlessOutOfMemory W.contents out.old out.new (disk_of target.new) result
         (λ out_of_memory.
-        by_request context.number out_of_memory target.old.state (line_request request.now)) }
+        by_request context.number out_of_memory (disk_of target.old) (line_request request.now)) }
 {
     let number = context.number;
     match request {
@@ -88,6 +90,7 @@ fn execute_request<W: Write, S: Store>(
         Request::Fill(blocks) => fill_blocks(number, blocks, data_out, buffer, target, out),
         Request::Show(show, bytes) => put_shown(number, *show, bytes, buffer, out),
         Request::Happen(happening) => happen(number, happening, target, out),
+        Request::ListFaults => list_faults(number, target, out),
         Request::Tool(line) => run_tool(context, line, data_out, buffer, target, out),
     }
 }
@@ -128,8 +131,8 @@ fn happen<W: Write, S: Store>(
     target: &mut Target<S>,
     out: &mut Printer<'_, W>,
 ) -> u8
-    ensures { HasOutcome W.contents out.old out.new target.new.state result
-        (happening_outcome number target.old.state happening.now) }
+    ensures { HasOutcome W.contents out.old out.new (disk_of target.new) result
+        (happening_outcome number (disk_of target.old) happening.now) }
 {
     target.happen(*happening);
     put_line_header(number, happening_name(happening), out);
@@ -147,7 +150,19 @@ fn happening_name(happening: &Happening) -> &'static [u8]
         Happening::NexusLoss(_) => b"NEXUS LOSS",
         Happening::Establish(_, _) => b"ATTENTION",
         Happening::Grow(_) => b"GROW",
+        Happening::Arm(_) => b"FAULT",
+        Happening::Disarm(_) | Happening::DisarmAll => b"HEAL",
     }
+}
+
+/// Lists the armed faults, and returns the exit status.
+fn list_faults<W: Write, S: Store>(number: u64, target: &Target<S>, out: &mut Printer<'_, W>) -> u8
+    ensures { HasOutcome W.contents out.old out.new (disk_of target.now) result
+        (faults_outcome number (disk_of target.now)) }
+{
+    put_line_header(number, b"FAULTS", out);
+    put_faults(target.faults(), out);
+    0
 }
 
 /// Fills blocks with a byte, by WRITE(16), prints the reply and returns its exit status.
@@ -161,9 +176,9 @@ fn fill_blocks<W: Write, S: Store>(
 ) -> u8
     requires data_out { length data_out.old ≡ BUFFER_LENGTH }
     requires buffer { length buffer.old ≡ REPLY_LENGTH }
-    ensures { let b = blocks.now in HasOutcome W.contents out.old out.new target.new.state result
+    ensures { let b = blocks.now in HasOutcome W.contents out.old out.new (disk_of target.new) result
         (reply_outcome number Nothing
-        (fill_step target.old.state b.initiator b.lba b.count b.byte)) }
+        (fill_step (disk_of target.old) b.initiator b.lba b.count b.byte)) }
 {
     let len = BLOCK_LENGTH * blocks.count as usize;
     fill_prefix(data_out, len, blocks.byte);
@@ -195,9 +210,9 @@ fn run_tool<W: Write, S: Store>(
 ) -> u8
     requires data_out { length data_out.old ≡ BUFFER_LENGTH }
     requires buffer { length buffer.old ≡ REPLY_LENGTH }
-    ensures { HasOutcomeUnlessOutOfMemory W.contents out.old out.new target.new.state result
+    ensures { HasOutcomeUnlessOutOfMemory W.contents out.old out.new (disk_of target.new) result
         (λ out_of_memory.
-        by_request context.number out_of_memory target.old.state (tool_request line.now)) }
+        by_request context.number out_of_memory (disk_of target.old) (tool_request line.now)) }
 {
     let number = context.number;
     match line.parse(context.alloc) {
@@ -224,8 +239,8 @@ fn send<W: Write, S: Store>(
     out: &mut Printer<'_, W>,
 ) -> u8
     requires { length buffer.old ≡ REPLY_LENGTH }
-    ensures { let c = call.now in HasOutcome W.contents out.old out.new target.new.state result
-        (reply_outcome number show (step target.old.state c.initiator c.cdb.now c.data_out.now)) }
+    ensures { let c = call.now in HasOutcome W.contents out.old out.new (disk_of target.new) result
+        (reply_outcome number show (armed_step (disk_of target.old) c.initiator c.cdb.now c.data_out.now)) }
 {
     let (data_in, lines) = buffer.split_at_mut(BUFFER_LENGTH);
     let reply = target.execute(call.initiator, call.cdb, call.data_out, data_in);

@@ -10,6 +10,7 @@ ghost use Rattle.sg_tools.specs.ExitStatus.{exit_status};
 ghost use Rattle.sg_run.specs.Outcome.{line_header, reply_text, sense_lines, status_name};
 
 pub(crate) mod answer;
+pub(crate) mod faults;
 
 use answer::put_answer;
 use sg_decode::{put_number, put_read_sense};
@@ -66,6 +67,9 @@ fn status_name(status: Status) -> &'static [u8]
         Status::Good => b"GOOD",
         Status::CheckCondition => b"CHECK CONDITION",
         Status::ReservationConflict => b"RESERVATION CONFLICT",
+        Status::Busy => b"BUSY",
+        Status::TaskSetFull => b"TASK SET FULL",
+        Status::NoReply => b"NO REPLY",
     }
 }
 

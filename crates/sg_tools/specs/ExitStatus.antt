@@ -4,6 +4,19 @@ use Rattle.std.specs.Prelude.{if◌then◌else◌}
 use Rattle.sg_wire.specs.SenseData.{SenseFields}
 use Rattle.sg_wire.specs.SenseKey.{illegal_request, unit_attention, data_protect, aborted_command}
 
+-- Sense keys that only an armed fault returns (SPC-4, sense key descriptions).
+abbrev recovered_error : ℕ
+recovered_error = 1
+
+abbrev not_ready : ℕ
+not_ready = 2
+
+abbrev medium_error : ℕ
+medium_error = 3
+
+abbrev hardware_error : ℕ
+hardware_error = 4
+
 -- Sense data, and its exit status. It has a sense key and, if they matter, an additional sense code
 -- and its qualifier.
 pub record SenseStatus : Type 0 where
@@ -21,7 +34,11 @@ with_key key exit_status = record { key = key; codes = None; exit_status = exit_
 -- The first row that applies decides.
 abbrev pub sense_statuses : List SenseStatus
 sense_statuses =
-    with_codes illegal_request 0x20 0x00 9  -- INVALID COMMAND OPERATION CODE
+    with_key recovered_error 21
+    ∷ with_key not_ready 2
+    ∷ with_key medium_error 3
+    ∷ with_key hardware_error 3
+    ∷ with_codes illegal_request 0x20 0x00 9  -- INVALID COMMAND OPERATION CODE
     ∷ with_codes illegal_request 0x21 0x00 22  -- LOGICAL BLOCK ADDRESS OUT OF RANGE
     ∷ with_key illegal_request 5
     ∷ with_key unit_attention 6
@@ -48,10 +65,14 @@ abbrev pub sense_status : Option SenseFields → ℕ
 sense_status None = other_failure
 sense_status (Some sense) = status_by sense_statuses sense
 
--- GOOD is 00h, CHECK CONDITION 02h and RESERVATION CONFLICT 18h (SAM-5, status codes).
+-- GOOD is 00h, CHECK CONDITION 02h, BUSY 08h, RESERVATION CONFLICT 18h and TASK SET FULL 28h
+-- (SAM-5, status codes). FFh is no status there: no reply has come.
 abbrev pub exit_status : (status : ℕ) → Option SenseFields → ℕ
 exit_status status sense =
     if status == 0x00 then 0
     else (if status == 0x02 then sense_status sense
+    else (if status == 0x08 then 26
     else (if status == 0x18 then 24
-    else other_failure))
+    else (if status == 0x28 then 27
+    else (if status == 0xFF then 33
+    else other_failure)))))

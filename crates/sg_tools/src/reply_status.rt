@@ -21,10 +21,22 @@ pub fn exit_status(status: u8, sense: Option<Sense>) -> u8
     match status {
         0x00 => 0,
         0x02 => sense_status(sense),
+        0x08 => 26,
         0x18 => 24,
+        0x28 => 27,
+        0xFF => 33,
         _ => 99,
     }
 }
+
+/// Sense keys that only an armed fault returns (SPC-4, sense key descriptions).
+const RECOVERED_ERROR: u8 = 1;
+
+const NOT_READY: u8 = 2;
+
+const MEDIUM_ERROR: u8 = 3;
+
+const HARDWARE_ERROR: u8 = 4;
 
 fn sense_status(sense: Option<Sense>) -> u8
     ensures { result ≡ sense_status (option_map fields_of sense) }
@@ -33,6 +45,9 @@ fn sense_status(sense: Option<Sense>) -> u8
         return 99;
     };
     match (sense.key, sense.asc, sense.ascq) {
+        (RECOVERED_ERROR, _, _) => 21,
+        (NOT_READY, _, _) => 2,
+        (MEDIUM_ERROR | HARDWARE_ERROR, _, _) => 3,
         // INVALID COMMAND OPERATION CODE
         (Sense::ILLEGAL_REQUEST, 0x20, 0x00) => 9,
         // LOGICAL BLOCK ADDRESS OUT OF RANGE

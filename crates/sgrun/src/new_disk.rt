@@ -2,6 +2,7 @@
 ghost use Rattle.std.specs.Prelude.{◌≡◌, false};
 ghost use Rattle.sg_wire.specs.Watched.{has_failed};
 ghost use Rattle.sg_run.specs.ScriptRun.{snapshot};
+ghost use Rattle.sg_target.specs.Target.{disk_of};
 ghost use Rattle.sgrun.specs.NewDisk.{RunsOnNewDisk, RunsUnlessRefused, by_run};
 
 use crate::stop::Stop;
@@ -67,7 +68,7 @@ fn run_in_new_session<'a, R: Read, W: Write, S: Store>(
 ) -> Result<u8, Stop<'a>>
     requires reads { has_failed reader.old ≡ false }
     requires writes { has_failed writer.old ≡ false }
-    ensures { RunsUnlessRefused target.old.state target.new.state
+    ensures { RunsUnlessRefused (disk_of target.old) (disk_of target.new)
         (snapshot R.remaining W.contents reader.old writer.old)
         (snapshot R.remaining W.contents reader.new writer.new)
         result }

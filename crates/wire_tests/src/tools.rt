@@ -178,10 +178,13 @@ fn tools_send_what_their_words_ask_for(rt: HostRuntime) -> Result<(), Fail> {
 }
 
 /// The status code of a reply, its sense data, and the exit status.
-const STATUSES: [(u8, &[u8], u8); 16] = [
+const STATUSES: [(u8, &[u8], u8); 22] = [
     (0x00, b"", 0),
     (0x18, b"", 24),
-    (0x08, b"", 99),
+    (0x08, b"", 26),
+    (0x28, b"", 27),
+    (0xFF, b"", 33),
+    (0x30, b"", 99),
     (0x02, b"", 99),
     (0x02, b"\x71\0\x06\0\0\0\0\x0A\0\0\0\0\x29\x00\0\0\0\0", 99),
     (
@@ -202,7 +205,10 @@ const STATUSES: [(u8, &[u8], u8); 16] = [
     (0x02, b"\x72\x05\x20\x02\0\0\0\0", 5),
     (0x02, b"\x72\x05\x21\x01\0\0\0\0", 5),
     (0x02, b"\x72\x00\x00\x00\0\0\0\0", 99),
-    (0x02, b"\x72\x03\x21\x00\0\0\0\0", 99),
+    (0x02, b"\x72\x01\x18\x00\0\0\0\0", 21),
+    (0x02, b"\x72\x02\x04\x01\0\0\0\0", 2),
+    (0x02, b"\x72\x03\x21\x00\0\0\0\0", 3),
+    (0x02, b"\x72\x04\x44\x00\0\0\0\0", 3),
 ];
 
 #[test]

@@ -3,11 +3,12 @@ ghost use Rattle.std.specs.Prelude.{◌≡◌, All, map};
 ghost use Rattle.std.specs.Str.{IsAscii};
 ghost use Rattle.sg_run.specs.HappeningVerbs.{attention_of, condition_named, condition_words};
 ghost use Rattle.sg_run.specs.HappeningVerbs.{grow_of, growing, nexus_of, reset_of};
-ghost use Rattle.sg_run.specs.Request.{by_happening_verb};
+ghost use Rattle.sg_run.specs.Request.{by_extended_verb, faults_of};
 ghost use Rattle.sg_run.specs.RequestLines.{line_request};
 
+use super::fault::read_heal;
 use super::words::{read_initiator, word_text};
-use super::{LineFault, Request};
+use super::{LineFault, Request, happening_request};
 use sg_store::MAX_CAPACITY;
 use sg_target::Happening;
 use sg_tools::read_number;
@@ -15,14 +16,10 @@ use sg_units::{Initiators, UnitAttention};
 use sg_wire::Profile;
 
 /// The request of a verb that only an extended disk has.
-pub(super) fn by_happening_verb<'a>(
-    profile: Profile,
-    verb: &[u8],
-    operands: &[&[u8]],
-) -> Request<'a>
+pub(super) fn by_extended_verb<'a>(profile: Profile, verb: &[u8], operands: &[&[u8]]) -> Request<'a>
     requires { All (λ word. IsAscii word.now) operands.now }
     ensures { line_request result
-        ≡ by_happening_verb profile verb.now (map (λ word. word.now) operands.now) }
+        ≡ by_extended_verb profile verb.now (map (λ word. word.now) operands.now) }
 {
     if let Profile::Base = profile {
         return Request::Faulty(LineFault::UnknownVerb);
@@ -35,12 +32,24 @@ pub(super) fn by_happening_verb<'a>(
         read_grow(operands)
     } else if verb == b"attention".as_slice() {
         read_attention(operands)
+    } else if verb == b"heal".as_slice() {
+        read_heal(operands)
+    } else if verb == b"faults".as_slice() {
+        return read_faults(operands);
     } else {
         return Request::Faulty(LineFault::UnknownVerb);
     };
-    match happening {
-        Some(happening) => Request::Happen(happening),
-        None => Request::Faulty(LineFault::Usage),
+    happening_request(happening)
+}
+
+/// `faults`: the armed faults are listed. No word may come after the verb.
+fn read_faults<'a>(operands: &[&[u8]]) -> Request<'a>
+    ensures { line_request result ≡ faults_of (map (λ word. word.now) operands.now) }
+{
+    if operands.is_empty() {
+        Request::ListFaults
+    } else {
+        Request::Faulty(LineFault::Usage)
     }
 }
 

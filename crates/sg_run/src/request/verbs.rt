@@ -1,11 +1,12 @@
-// What a verb asks for, by the words after it (docs/SCRIPT.md). `fill` has a file of its own.
+// What a verb asks for, by the words after it (docs/SCRIPT.md). `fill` and `fault` have files of
+// their own.
 ghost use Rattle.std.specs.Prelude.{◌≡◌, ◌≤◌, All, length, map};
 ghost use Rattle.std.specs.Str.{IsAscii};
 ghost use Rattle.sg_run.specs.Limits.{longest_line};
-ghost use Rattle.sg_run.specs.Request.{by_verb, power_of, raw, show_of};
+ghost use Rattle.sg_run.specs.Request.{by_short_verb, power_of, raw, show_of};
 ghost use Rattle.sg_run.specs.RequestLines.{line_request};
 
-use super::happening::by_happening_verb;
+use super::happening::by_extended_verb;
 use super::hex_word::read_hex;
 use super::words::{read_initiator, word_text};
 use super::{FilledBlocks, LineFault, Request};
@@ -13,8 +14,9 @@ use sg_target::{Call, Happening};
 use sg_tools::Show;
 use sg_wire::Profile;
 
-/// The request of a verb. The buffer takes the bytes of its hexadecimal words.
-pub(super) fn by_verb<'a>(
+/// The request of a verb that takes at most four operands. The buffer takes the bytes of its
+/// hexadecimal words.
+pub(super) fn by_short_verb<'a>(
     profile: Profile,
     verb: &[u8],
     operands: &[&[u8]],
@@ -24,7 +26,7 @@ pub(super) fn by_verb<'a>(
     requires ascii { All (λ word. IsAscii word.now) operands.now }
     requires buffer { longest_line ≤ length buffer.old }
     ensures { line_request result
-        ≡ by_verb profile verb.now (map (λ word. word.now) operands.now) }
+        ≡ by_short_verb profile verb.now (map (λ word. word.now) operands.now) }
 {
     if verb == b"raw".as_slice() {
         read_raw(operands, buffer)
@@ -35,7 +37,7 @@ pub(super) fn by_verb<'a>(
     } else if verb == b"power".as_slice() {
         read_power(operands)
     } else {
-        by_happening_verb(profile, verb, operands)
+        by_extended_verb(profile, verb, operands)
     }
 }
 

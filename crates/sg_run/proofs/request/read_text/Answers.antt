@@ -2,17 +2,18 @@ use Rattle.std.proofs.Common.{map, ap, arith, sym, ◌∙◌}
 use Rattle.std.proofs.lemmas.Bool.Decides.{nat_tests}
 use Rattle.std.specs.Str.{IsAscii}
 use Rattle.sg_run.specs.declared.request.TheConstants.{MOST_WORDS}
-use Rattle.sg_run.proofs.RequestLemmas.{first_words, none-first, request-by_verb}
+use Rattle.sg_run.proofs.RequestLemmas.{first_words, none-first, request-by_fault}
+use Rattle.sg_run.proofs.RequestLemmas.{request-by_short_verb}
 use Rattle.sg_run.proofs.WordLemmas.{kept-has, operands-within, words-ascii}
 use Rattle.sg_run.proofs.request.read_text.Goals as goal
 
-pub by_verb-requires-clause-operands : goal.by_verb-requires-clause-operands
-by_verb-requires-clause-operands c =
+pub by_short_verb-requires-clause-operands : goal.by_short_verb-requires-clause-operands
+by_short_verb-requires-clause-operands c =
     let first = ap (map (λ word. word.now)) c.as_slice.ensures ∙ c.of-words.ensures.first in
     operands-within c.args.text.now MOST_WORDS _ _ _ first c.requires.text
 
-pub by_verb-requires-clause-ascii : goal.by_verb-requires-clause-ascii
-by_verb-requires-clause-ascii c =
+pub by_short_verb-requires-clause-ascii : goal.by_short_verb-requires-clause-ascii
+by_short_verb-requires-clause-ascii c =
     let first = ap (map (λ word. word.now)) c.as_slice.ensures ∙ c.of-words.ensures.first in
     let allowed = sym c.of-words.ensures.are_allowed ∙ c.if-not-words.false in
     kept-has IsAscii c.args.text.now MOST_WORDS _ _ first (words-ascii c.args.text.now allowed)
@@ -23,11 +24,24 @@ of_operands-requires-clause-ascii c =
     let allowed = sym c.of-words.ensures.are_allowed ∙ c.if-not-words.false in
     kept-has IsAscii c.args.text.now MOST_WORDS _ _ first (words-ascii c.args.text.now allowed)
 
+-- the verb `fault`
 pub returns-in-None : goal.returns-in-None
 returns-in-None c =
     let first = ap (map (λ word. word.now)) c.as_slice.ensures ∙ c.of-words.ensures.first in
     let allowed = sym c.of-words.ensures.are_allowed ∙ c.if-not-words.false in
     let kept = first_words c.args.text.now c.as_slice.result.now _ first (grind (arith, nat_tests))
     (grind (arith, nat_tests, none-first)) allowed (omega arith) in
-    c.by_verb.ensures
-    ∙ request-by_verb c.args.profile c.args.text.now _ _ kept (sym c.read_initiator.ensures ∙ c.in-None.is)
+    c.by_fault.ensures
+    ∙ request-by_fault c.args.profile c.args.text.now _ _ kept
+    (sym c.read_initiator.ensures ∙ c.in-None.is) (sym c.arms_fault.ensures ∙ c.if-arms_fault.true)
+
+-- any other verb
+pub returns-in-None-2 : goal.returns-in-None-2
+returns-in-None-2 c =
+    let first = ap (map (λ word. word.now)) c.as_slice.ensures ∙ c.of-words.ensures.first in
+    let allowed = sym c.of-words.ensures.are_allowed ∙ c.if-not-words.false in
+    let kept = first_words c.args.text.now c.as_slice.result.now _ first (grind (arith, nat_tests))
+    (grind (arith, nat_tests, none-first)) allowed (omega arith) in
+    c.by_short_verb.ensures
+    ∙ request-by_short_verb c.args.profile c.args.text.now _ _ kept
+    (sym c.read_initiator.ensures ∙ c.in-None.is) (sym c.arms_fault.ensures ∙ c.if-arms_fault.false)

@@ -1,0 +1,191 @@
+"""Faults that are armed on an extended disk (docs/SCRIPT.md, "Faults of an extended disk").
+
+A fault meets chosen commands of chosen initiators, and the disk answers or acts otherwise then. What
+a command is, and whether the checks pass it, is found on a copy of the disk that changes nothing.
+"""
+
+from copy import copy, deepcopy
+from dataclasses import dataclass, field
+
+from provisioning import ALL_BLOCKS
+from reservations import Conflict
+from sense import CheckCondition, Sense
+
+MOST_FAULTS = 8
+BUSY, TASK_SET_FULL, NO_REPLY = 0x08, 0x28, 0xFF  # SAM-5, the table of statuses; FFh is none of it
+GOOD, CHECK_CONDITION, RESERVATION_CONFLICT = 0x00, 0x02, 0x18
+STATUSES = {"busy": BUSY, "full": TASK_SET_FULL, "conflict": RESERVATION_CONFLICT,
+            "silent": NO_REPLY}
+
+
+@dataclass
+class Fault:
+    """A fault as it is armed. `what` is a word of `STATUSES`, "code", "deferred" or "first"."""
+
+    place: str
+    what: str
+    value: object = None  # (sense key, code) or a number of blocks
+    initiators: set = field(default_factory=lambda: set(range(8)))
+    code: int | None = None
+    blocks: tuple | None = None  # address and count
+    healed: bool = False
+    skip: int = 0
+    times: int | None = None
+
+    def armed(self):
+        """Each of its initiators has counts of its own."""
+        self.left = {initiator: [self.skip, self.times] for initiator in self.initiators}
+        return self
+
+    def heals(self, seen):
+        return self.healed and seen.writes and any(
+            address <= self.blocks[0] and sum(self.blocks) <= address + count
+            for address, count in seen.extents)
+
+    def first_bad(self, seen):
+        """The first bad block that the command names, in the first extent that has one."""
+        for address, count in seen.extents:
+            first = max(address, self.blocks[0])
+            if first < min(address + count, sum(self.blocks)):
+                return first
+        return None
+
+    def meets(self, seen):
+        if self.code is not None and self.code != seen.code:
+            return False
+        return not self.blocks or (self.first_bad(seen) is not None and not self.heals(seen))
+
+    def strikes(self, initiator):
+        """Counts a command that meets it. Whether it does something to the command."""
+        left = self.left.get(initiator)
+        if not left or left[1] == 0:
+            return False
+        if left[0]:
+            left[0] -= 1
+            return False
+        if left[1]:
+            left[1] -= 1
+        return True
+
+    def lasts(self):
+        return any(times != 0 for _, times in self.left.values())
+
+
+@dataclass
+class Seen:
+    """A command as faults see it. One that a check refuses names no block."""
+
+    code: int | None
+    passes: bool
+    extents: list
+    writes: bool
+    moves: bool = False  # it is a READ, a WRITE or a WRITE SAME that writes
+
+
+class Reached(Exception):
+    """The checks have passed a command that names blocks."""
+
+    def __init__(self, extents, writes, moves=False):
+        self.found = list(extents), writes, moves
+
+
+class Probe:
+    """Provisioning of which only the capacity is known. Whatever uses its blocks is told."""
+
+    def __init__(self, capacity):
+        self.capacity = capacity
+
+    def read(self, address, count):
+        raise Reached([(address, count)], False, True)
+
+    def write(self, address, count, _block):
+        raise Reached([(address, count)], True, True)
+
+    def unmap(self, extents):
+        raise Reached(extents, True)
+
+    def anchor(self, extents):
+        raise Reached(extents, True)
+
+    def synchronize(self, extents):
+        raise Reached(extents, False)
+
+    def status_extents(self, start):
+        raise Reached([(start, 1)], False)
+
+
+def seen_by_faults(device, initiator, cdb, data_out):
+    code = cdb[0] if cdb else None
+    probe = copy(device)
+    probe.provisioning = Probe(device.provisioning.capacity)
+    probe.attentions = deepcopy(device.attentions)
+    probe.modes, probe.reservations = deepcopy(device.modes), deepcopy(device.reservations)
+    try:
+        probe.data_in(initiator, cdb, data_out)
+    except Reached as reached:
+        return Seen(code, True, *reached.found)
+    except (CheckCondition, Conflict):
+        return Seen(code, False, [], False)
+    return Seen(code, True, [], False)
+
+
+class Faults:
+    """The armed faults, by their numbers."""
+
+    def __init__(self):
+        self.slots = [None] * MOST_FAULTS
+
+    def arm(self, fault):
+        """Under the lowest free number. If there is none, nothing changes."""
+        if None in self.slots:
+            self.slots[self.slots.index(None)] = fault.armed()
+
+    def ask(self, place, initiator, seen):
+        """The first fault of the place that is due. It and those before it count the command."""
+        for number, fault in enumerate(self.slots):
+            if fault and fault.place == place and fault.meets(seen):
+                strikes = fault.strikes(initiator)
+                if not fault.lasts():
+                    self.slots[number] = None
+                if strikes:
+                    return fault
+        return None
+
+    def heal(self, seen):
+        self.slots = [None if fault and fault.blocks and fault.heals(seen) else fault
+                      for fault in self.slots]
+
+
+def execute(device, initiator, cdb, data_out):
+    """The status, the data-in and the sense data of a command on a disk with armed faults."""
+    faults = device.faults
+    seen = seen_by_faults(device, initiator, cdb, data_out)
+    fault = faults.ask("arrival", initiator, seen)
+    if fault:
+        return refused(device, fault)
+    fault = faults.ask("medium", initiator, seen) if seen.passes else None
+    if fault and fault.what == "code":
+        return refused(device, fault, fault.first_bad(seen) if fault.blocks else None)
+    moved = fault.value if fault else ALL_BLOCKS
+    if seen.moves:
+        seen.extents = [(address, min(count, moved)) for address, count in seen.extents]
+    device.provisioning.most_moved = moved
+    status, data_in, sense = device.executed(initiator, cdb, data_out)
+    device.provisioning.most_moved = ALL_BLOCKS
+    if status != GOOD:
+        return status, data_in, sense
+    faults.heal(seen)
+    fault = faults.ask("after", initiator, seen)
+    if not fault:
+        return status, data_in, sense
+    status, _, sense = refused(device, fault)
+    return status, data_in, sense
+
+
+def refused(device, fault, information=None):
+    if fault.what in STATUSES:
+        return STATUSES[fault.what], b"", b""
+    data = bytearray(Sense(*fault.value, information).data(device.modes.d_sense))
+    if fault.what == "deferred":
+        data[0] |= 1  # 71h or 73h: a deferred error (SPC-4, 4.5.5)
+    return CHECK_CONDITION, b"", bytes(data)
