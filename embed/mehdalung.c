@@ -52,13 +52,29 @@ IS_AT(mdl_reply, data_in_length, 24);
 IS_AT(mdl_reply, visits, 32);
 IS_AT(mdl_reply, probes, 40);
 IS_AT(mdl_reply, links, 48);
-HAS_SIZE(mdl_happening, 32);
+HAS_SIZE(mdl_fault, 40);
+IS_AT(mdl_fault, initiators, 0);
+IS_AT(mdl_fault, lba, 8);
+IS_AT(mdl_fault, count, 16);
+IS_AT(mdl_fault, outcome, 20);
+IS_AT(mdl_fault, blocks, 24);
+IS_AT(mdl_fault, skip, 28);
+IS_AT(mdl_fault, times, 30);
+IS_AT(mdl_fault, has_code, 32);
+IS_AT(mdl_fault, code, 33);
+IS_AT(mdl_fault, healed_by_writes, 34);
+IS_AT(mdl_fault, key, 35);
+IS_AT(mdl_fault, asc, 36);
+IS_AT(mdl_fault, ascq, 37);
+HAS_SIZE(mdl_happening, 72);
 IS_AT(mdl_happening, kind, 0);
 IS_AT(mdl_happening, initiator, 4);
 IS_AT(mdl_happening, initiators, 8);
 IS_AT(mdl_happening, blocks, 16);
 IS_AT(mdl_happening, asc, 24);
 IS_AT(mdl_happening, ascq, 25);
+IS_AT(mdl_happening, number, 26);
+IS_AT(mdl_happening, fault, 32);
 HAS_SIZE(mdl_sense, 16);
 IS_AT(mdl_sense, key, 0);
 IS_AT(mdl_sense, asc, 1);
@@ -129,7 +145,14 @@ mdl_error mdl_power_cycle(mdl_disk *disk)
 
 mdl_error mdl_happen(mdl_disk *disk, const mdl_happening *happening)
 {
-    return disk && happening ? (mdl_error)mehdalung_happen(disk, happening) : MDL_NULL_POINTER;
+    mdl_happening whole = { 0 };
+
+    if (!disk || !happening)
+        return MDL_NULL_POINTER;
+    /* The record of another kind may end before its fault. */
+    memcpy(&whole, happening,
+           happening->kind == MDL_ARM ? sizeof whole : offsetof(mdl_happening, fault));
+    return (mdl_error)mehdalung_happen(disk, &whole);
 }
 
 mdl_error mdl_registered(mdl_disk *disk, uint32_t *mask)

@@ -65,7 +65,7 @@ typedef enum mdl_error {
     MDL_IDENTITY_TEXT = 5,      /* a text of the identity has a byte outside 20h to 7Eh */
     MDL_IDENTITY_LOCAL = 6,     /* the local identifier has more than 60 bits */
     MDL_OUT_OF_MEMORY = 7,      /* memory ran out */
-    MDL_NO_INITIATOR = 8,       /* the initiator is not 0 to 7 */
+    MDL_NO_INITIATOR = 8,       /* the initiator is not 0 to 7, or a fault names no initiator */
     MDL_BUFFER_TOO_SHORT = 9,   /* the buffer is too short for the data-in that the command asks
                                    for, or shorter than MDL_DATA_OUT_LENGTH for a tool's data-out */
     MDL_NULL_POINTER = 10,      /* a pointer is null that must not be */
@@ -78,7 +78,13 @@ typedef enum mdl_error {
     MDL_NUMBER = 17,            /* an option's text is no value, or its value is out of range */
     MDL_UNKNOWN_PROFILE = 18,   /* the number is none of mdl_profile */
     MDL_UNKNOWN_HAPPENING = 19, /* the number is none of mdl_happening_kind */
-    MDL_UNKNOWN_CONDITION = 20  /* no unit attention condition has the code */
+    MDL_UNKNOWN_CONDITION = 20, /* no unit attention condition has the code */
+    MDL_UNKNOWN_FAULT = 21,     /* the number is none of mdl_fault_outcome */
+    MDL_SENSE_KEY = 22,         /* the sense key of a fault is none of SPC-4 */
+    MDL_FAULT_FLAG = 23,        /* a flag of a fault is not 0 or 1, or a fault without blocks is
+                                   healed by writes */
+    MDL_FAULT_NUMBER = 24,      /* the number of a fault is not 0 to 7 */
+    MDL_FAULTS = 25             /* a fault is armed under each number */
 } mdl_error;
 
 /* A disk, or none. It begins as MDL_NONE. You own this variable. You do not read or write the field
@@ -115,10 +121,16 @@ typedef enum mdl_profile {
 #define MDL_GOOD 0x00
 #define MDL_CHECK_CONDITION 0x02
 #define MDL_RESERVATION_CONFLICT 0x18
+/* Only a disk with armed faults returns these. MDL_NO_REPLY is no status of SAM-5: the disk never
+ * replies to the command, and a transport sends nothing for it. */
+#define MDL_BUSY 0x08
+#define MDL_TASK_SET_FULL 0x28
+#define MDL_NO_REPLY 0xFF
 
 /* The reply to a command. */
 typedef struct mdl_reply {
-    uint8_t status;                  /* MDL_GOOD, MDL_CHECK_CONDITION, MDL_RESERVATION_CONFLICT */
+    uint8_t status;                  /* MDL_GOOD, MDL_CHECK_CONDITION, MDL_RESERVATION_CONFLICT; or,
+                                        with armed faults, another of the statuses above */
     uint8_t sense_length;            /* 0, unless the status is MDL_CHECK_CONDITION */
     uint8_t sense[MDL_SENSE_LENGTH]; /* sense data, and zeros after it */
     size_t data_in_length;           /* data-in is at the start of the buffer */
@@ -181,6 +193,57 @@ mdl_error mdl_execute(mdl_disk *disk, uint32_t initiator, const uint8_t *cdb, si
  * initiator. Errors: MDL_NULL_POINTER or MDL_NO_DISK. */
 mdl_error mdl_power_cycle(mdl_disk *disk);
 
+/* What an armed fault does to a command, and where it meets the command:
+ *     - On arrival: before every check of the command. The disk does not execute the command.
+ *     - At the medium: after the checks of the CDB, its data-out and its blocks. The fault meets
+ *       only commands that pass these checks.
+ *     - Afterwards: after the command has ended with MDL_GOOD. The disk has executed it, and its
+ *       data-in is in the buffer. */
+typedef enum mdl_fault_outcome {
+    MDL_ARRIVAL_BUSY = 0,                 /* MDL_BUSY */
+    MDL_ARRIVAL_TASK_SET_FULL = 1,        /* MDL_TASK_SET_FULL */
+    MDL_ARRIVAL_RESERVATION_CONFLICT = 2, /* MDL_RESERVATION_CONFLICT, even without a reservation */
+    MDL_ARRIVAL_NO_REPLY = 3,             /* MDL_NO_REPLY */
+    MDL_ARRIVAL_CHECK_CONDITION = 4,      /* MDL_CHECK_CONDITION with a sense key and code */
+    MDL_ARRIVAL_DEFERRED_ERROR = 5,       /* the same, as a deferred error: an earlier command has
+                                             failed (SPC-4, 4.5.5) */
+    MDL_MEDIUM_CHECK_CONDITION = 6,       /* MDL_CHECK_CONDITION with a sense key and code. The disk
+                                             does not execute the command. INFORMATION is the first
+                                             of the fault's blocks that the command names. */
+    MDL_MEDIUM_MOVES_ONLY = 7,            /* MDL_GOOD, but a READ, WRITE or WRITE SAME moves only
+                                             its first blocks. With 0 blocks a WRITE is lost. */
+    MDL_AFTER_NO_REPLY = 8,               /* MDL_NO_REPLY, after data-in */
+    MDL_AFTER_CHECK_CONDITION = 9         /* MDL_CHECK_CONDITION with a sense key and code, after
+                                             data-in, as for a RECOVERED ERROR */
+} mdl_fault_outcome;
+
+/* A fault, for MDL_ARM: the commands that it meets, and what it does to them. If all fields after
+ * `initiators` are 0, each command of these initiators ends with MDL_BUSY. */
+typedef struct mdl_fault {
+    uint64_t initiators;      /* a mask of the initiators whose commands it meets, not 0. Initiator
+                                 i has bit i. */
+    uint64_t lba;             /* the address of the first block that it lies on */
+    uint32_t count;           /* the number of these blocks. It meets only commands that name one of
+                                 them. With 0 it lies on none, and meets commands of any kind. */
+    uint32_t outcome;         /* one of mdl_fault_outcome */
+    uint32_t blocks;          /* MDL_MEDIUM_MOVES_ONLY: the number of blocks that are moved */
+    uint16_t skip;            /* the number of commands of each initiator that meet it and pass
+                                 first */
+    uint16_t times;           /* the number of commands of each initiator after these that do not
+                                 pass. With 0 none passes until the fault is taken away. */
+    uint8_t has_code;         /* 1 if it meets only commands with an operation code, 0 if all */
+    uint8_t code;             /* this operation code, if `has_code` is 1 */
+    uint8_t healed_by_writes; /* 1 if a command that writes all of its blocks heals them, 0 if none
+                                 does; 0 without blocks. The fault does not meet such a command, and
+                                 is gone when the command has ended with MDL_GOOD. */
+    uint8_t key;              /* the sense key that it reports, 0 to 15 but 12 */
+    uint8_t asc;              /* the additional sense code that it reports */
+    uint8_t ascq;             /* the additional sense code qualifier that it reports */
+} mdl_fault;
+
+/* The number of faults that a disk has room for. They have the numbers from 0 on. */
+#define MDL_MOST_FAULTS 8u
+
 /* What can happen to a disk between two commands. */
 typedef enum mdl_happening_kind {
     MDL_POWER_CYCLE = 0,        /* the disk loses power and gets it back */
@@ -188,10 +251,14 @@ typedef enum mdl_happening_kind {
     MDL_TARGET_RESET = 2,       /* the target that the disk belongs to is reset */
     MDL_NEXUS_LOSS = 3,         /* an initiator loses its I_T nexus */
     MDL_ATTENTION = 4,          /* a unit attention condition is established */
-    MDL_GROW = 5                /* the disk gets more blocks */
+    MDL_GROW = 5,               /* the disk gets more blocks */
+    MDL_ARM = 6,                /* a fault is armed */
+    MDL_DISARM = 7,             /* an armed fault is taken away */
+    MDL_DISARM_ALL = 8          /* all armed faults are taken away */
 } mdl_happening_kind;
 
-/* What happens to a disk, for mdl_happen. A kind reads only the fields that name it. */
+/* What happens to a disk, for mdl_happen. A kind reads only the fields that name it. The record of
+ * any kind except MDL_ARM may end before `fault`, as it did before there were faults. */
 typedef struct mdl_happening {
     uint32_t kind;       /* one of mdl_happening_kind */
     uint32_t initiator;  /* MDL_NEXUS_LOSS: the initiator, 0 to 7 */
@@ -199,6 +266,8 @@ typedef struct mdl_happening {
     uint64_t blocks;     /* MDL_GROW: the number of blocks afterwards, 1 to 2^40 */
     uint8_t asc;         /* MDL_ATTENTION: the additional sense code of the condition */
     uint8_t ascq;        /* MDL_ATTENTION: its additional sense code qualifier */
+    uint8_t number;      /* MDL_DISARM: the number of the fault, 0 to 7 */
+    mdl_fault fault;     /* MDL_ARM: the fault */
 } mdl_happening;
 
 /* Lets something happen to a disk of any profile. No initiator sends it, and it has no reply.
@@ -217,6 +286,16 @@ typedef struct mdl_happening {
  *     - MDL_GROW reads `blocks`. The disk has this number of blocks from then on, and the new ones
  *       are not mapped. 2Ah/09h, CAPACITY DATA HAS CHANGED, is established for each initiator. If
  *       the disk has as many blocks already, or more, nothing changes.
+ *     - MDL_ARM reads `fault`, and arms it under the lowest number that is free.
+ *     - MDL_DISARM reads `number`. The fault with this number is taken away. If there is none,
+ *       nothing changes.
+ *     - MDL_DISARM_ALL takes all faults away.
+ *
+ * Faults stay armed through a power cycle and each reset. A fault is gone when it has stopped
+ * `times` commands of each initiator in its mask, when a command heals its blocks, or when it is
+ * taken away. At each place the disk asks the faults in the order of their numbers. Each fault that
+ * meets the command counts it. The first fault that does not let it pass decides, and the disk asks
+ * no more.
  *
  * An initiator that has the same condition pending already gets it only once. A 29h condition is
  * reported before all others, and takes the place of a 29h condition of lower precedence. If one of
@@ -227,10 +306,17 @@ typedef struct mdl_happening {
  *     MDL_NULL_POINTER        a pointer is null
  *     MDL_UNKNOWN_HAPPENING   no kind has the number
  *     MDL_UNKNOWN_CONDITION   no condition has the code, for MDL_ATTENTION
+ *     MDL_UNKNOWN_FAULT       no outcome has the number, for MDL_ARM
+ *     MDL_SENSE_KEY           the outcome reports a sense key, and no key has the number, for
+ *                             MDL_ARM
  *     MDL_NO_INITIATOR        the initiator is not 0 to 7, for MDL_NEXUS_LOSS, or the mask has a
- *                             bit above 7, for MDL_ATTENTION
+ *                             bit above 7, for MDL_ATTENTION and MDL_ARM, or is 0, for MDL_ARM
+ *     MDL_FAULT_FLAG          `has_code` or `healed_by_writes` is not 0 or 1, or `count` is 0 and
+ *                             `healed_by_writes` is 1, for MDL_ARM
+ *     MDL_FAULT_NUMBER        the number of the fault is not 0 to 7, for MDL_DISARM
  *     MDL_BLOCKS              the number of blocks is not 1 to 2^40, for MDL_GROW
- *     MDL_NO_DISK             there is no disk */
+ *     MDL_NO_DISK             there is no disk
+ *     MDL_FAULTS              a fault is armed under each number, for MDL_ARM */
 mdl_error mdl_happen(mdl_disk *disk, const mdl_happening *happening);
 
 /* Says which initiators are registered by PERSISTENT RESERVE OUT. Bit i of `mask` is set if

@@ -1,7 +1,7 @@
 #!/usr/bin/env python3
 """Tries the parts of examples/python/mehdalung.py that the first minute does not use."""
-from mehdalung import (CHECK_CONDITION, GOOD, Disk, Error, HappeningRecord, Kind, Profile, Refused,
-                       decode, identity, version)
+from mehdalung import (BUSY, CHECK_CONDITION, GOOD, NO_REPLY, Disk, Error, FaultOutcome,
+                       HappeningRecord, Kind, Profile, Refused, decode, identity, version)
 
 TEST_UNIT_READY = bytes(6)
 INQUIRY = bytes.fromhex("120000002400")
@@ -83,7 +83,42 @@ with Disk(64, 4) as disk:
                       ((disk.attention, 0x129, 0x01), ValueError),
                       ((disk.attention, 0x29, 0x00, [0, 8]), Error.NO_INITIATOR),
                       ((disk.attention, 0x29, 0x00, [64]), ValueError),
-                      ((disk.happen, HappeningRecord(kind=6)), Error.UNKNOWN_HAPPENING)):
+                      ((disk.happen, HappeningRecord(kind=9)), Error.UNKNOWN_HAPPENING)):
+        assert refusal(*call) == why
+    assert codes(disk) == NONE
+READ_FIVE = bytes.fromhex("28000000000000000500")
+with Disk(64, 4) as disk:
+    assert codes(disk) == only(range(8), 0x29, 0x00) and codes(disk) == NONE
+    disk.arm(FaultOutcome.ARRIVAL_BUSY, initiators=[1, 2], code=0, skip=1, times=1)
+    assert [disk.execute(2, TEST_UNIT_READY).status for _ in range(3)] == [GOOD, BUSY, GOOD]
+    assert disk.execute(0, TEST_UNIT_READY).status == GOOD
+    assert disk.execute(1, INQUIRY).status == GOOD
+    disk.disarm(0)
+    assert [disk.execute(1, TEST_UNIT_READY).status for _ in range(3)] == [GOOD] * 3
+    disk.arm(FaultOutcome.MEDIUM_CHECK_CONDITION, lba=3, count=4, key=3, asc=0x11, ascq=0x01)
+    fields = disk.execute(7, READ_FIVE).fields()
+    assert (fields.key, fields.asc, fields.ascq, fields.information) == (3, 0x11, 0x01, 3)
+    assert disk.execute(7, TEST_UNIT_READY).status == GOOD
+    disk.arm(FaultOutcome.MEDIUM_MOVES_ONLY, [3], code=0x28, blocks=2)
+    disk.disarm(0)
+    assert len(disk.execute(3, READ_FIVE).data_in) == 2 * 512
+    disk.arm(FaultOutcome.AFTER_NO_REPLY, [4])
+    reply = disk.execute(4, READ_FIVE)
+    assert (reply.status, reply.data_in) == (NO_REPLY, bytes(5 * 512))
+    for _ in range(6):
+        disk.arm(FaultOutcome.ARRIVAL_BUSY, [5])
+    assert refusal(disk.arm, FaultOutcome.ARRIVAL_BUSY, [5]) == Error.FAULTS
+    assert disk.execute(5, TEST_UNIT_READY).status == BUSY
+    disk.disarm_all()
+    assert codes(disk) == NONE
+    for call, why in (((disk.arm, 10), Error.UNKNOWN_FAULT), ((disk.arm, -1), ValueError),
+                      ((disk.arm, 4, None, None, 0, 0, False, 0, 0, 16), Error.SENSE_KEY),
+                      ((disk.arm, 0, []), Error.NO_INITIATOR),
+                      ((disk.arm, 0, [8]), Error.NO_INITIATOR),
+                      ((disk.arm, 0, [0], 256), ValueError),
+                      ((disk.arm, 0, [0], None, 0, 0, True), Error.FAULT_FLAG),
+                      ((disk.arm, 0, [0], None, 0, 0, False, 1 << 16), ValueError),
+                      ((disk.disarm, 8), Error.FAULT_NUMBER), ((disk.disarm, 256), ValueError)):
         assert refusal(*call) == why
     assert codes(disk) == NONE
 slot = Disk(64, 4).slot

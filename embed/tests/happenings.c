@@ -110,14 +110,15 @@ static void make_quiet(uint32_t profile)
 /* The fields that a kind does not need have numbers that no kind would accept. */
 static mdl_error happens(uint32_t kind)
 {
-    const mdl_happening it = { kind, 8, (uint64_t)1 << 63, 0, 0, 0 };
+    const mdl_happening it = { .kind = kind, .initiator = 8, .initiators = (uint64_t)1 << 63 };
 
     return mdl_happen(&disk, &it);
 }
 
 static mdl_error loses_nexus(uint32_t initiator)
 {
-    const mdl_happening it = { MDL_NEXUS_LOSS, initiator, (uint64_t)1 << 63, 0, 0, 0 };
+    const mdl_happening it = { .kind = MDL_NEXUS_LOSS, .initiator = initiator,
+                               .initiators = (uint64_t)1 << 63 };
 
     return mdl_happen(&disk, &it);
 }
@@ -125,14 +126,16 @@ static mdl_error loses_nexus(uint32_t initiator)
 static mdl_error establishes(unsigned code, uint64_t initiators)
 {
     const uint8_t asc = (uint8_t)(code >> 8), ascq = (uint8_t)code;
-    const mdl_happening it = { MDL_ATTENTION, 8, initiators, 0, asc, ascq };
+    const mdl_happening it = { .kind = MDL_ATTENTION, .initiator = 8, .initiators = initiators,
+                               .asc = asc, .ascq = ascq };
 
     return mdl_happen(&disk, &it);
 }
 
 static mdl_error grows(uint64_t blocks)
 {
-    const mdl_happening it = { MDL_GROW, 8, (uint64_t)1 << 63, blocks, 0, 0 };
+    const mdl_happening it = { .kind = MDL_GROW, .initiator = 8, .initiators = (uint64_t)1 << 63,
+                               .blocks = blocks };
 
     return mdl_happen(&disk, &it);
 }
@@ -412,33 +415,37 @@ static void grow(uint32_t profile)
     WANT(only_report(ALL, POWER_ON) && last_block() == most - 1);
 }
 
+/* A record without a fault. */
+#define RECORD(kind, initiator, initiators, blocks, asc, ascq) \
+    { kind, initiator, initiators, blocks, asc, ascq, 0, { 0 } }
+
 static const struct {
     mdl_happening it;
     mdl_error error;
 } refused[] = {
-    { { 6, 0, 0, 1, 0x29, 0 }, MDL_UNKNOWN_HAPPENING },
-    { { 256, 0, 0, 1, 0x29, 0 }, MDL_UNKNOWN_HAPPENING },
-    { { 65536, 8, 256, 0, 0, 0 }, MDL_UNKNOWN_HAPPENING },
-    { { UINT32_MAX, 0, 0, 1, 0x29, 0 }, MDL_UNKNOWN_HAPPENING },
-    { { MDL_NEXUS_LOSS, 8, 0, 1, 0x29, 0 }, MDL_NO_INITIATOR },
-    { { MDL_NEXUS_LOSS, 256, 0, 1, 0x29, 0 }, MDL_NO_INITIATOR },
-    { { MDL_NEXUS_LOSS, UINT32_MAX, 0, 1, 0x29, 0 }, MDL_NO_INITIATOR },
-    { { MDL_ATTENTION, 0, ALL, 1, 0x29, 1 }, MDL_UNKNOWN_CONDITION },
-    { { MDL_ATTENTION, 0, UINT64_MAX, 1, 0x00, 0x29 }, MDL_UNKNOWN_CONDITION },
-    { { MDL_ATTENTION, 0, 0x100, 1, 0x2A, 1 }, MDL_NO_INITIATOR },
-    { { MDL_ATTENTION, 0, 0x100000001, 1, 0x2A, 1 }, MDL_NO_INITIATOR },
-    { { MDL_ATTENTION, 0, (uint64_t)1 << 63, 1, 0x2A, 1 }, MDL_NO_INITIATOR },
-    { { MDL_ATTENTION, 0, UINT64_MAX, 1, 0x2A, 1 }, MDL_NO_INITIATOR },
-    { { MDL_GROW, 0, 0, 0, 0x29, 0 }, MDL_BLOCKS },
-    { { MDL_GROW, 0, 0, ((uint64_t)1 << 40) + 1, 0x29, 0 }, MDL_BLOCKS },
-    { { MDL_GROW, 0, 0, UINT64_MAX, 0x29, 0 }, MDL_BLOCKS },
+    { RECORD(9, 0, 0, 1, 0x29, 0), MDL_UNKNOWN_HAPPENING },
+    { RECORD(256, 0, 0, 1, 0x29, 0), MDL_UNKNOWN_HAPPENING },
+    { RECORD(65536, 8, 256, 0, 0, 0), MDL_UNKNOWN_HAPPENING },
+    { RECORD(UINT32_MAX, 0, 0, 1, 0x29, 0), MDL_UNKNOWN_HAPPENING },
+    { RECORD(MDL_NEXUS_LOSS, 8, 0, 1, 0x29, 0), MDL_NO_INITIATOR },
+    { RECORD(MDL_NEXUS_LOSS, 256, 0, 1, 0x29, 0), MDL_NO_INITIATOR },
+    { RECORD(MDL_NEXUS_LOSS, UINT32_MAX, 0, 1, 0x29, 0), MDL_NO_INITIATOR },
+    { RECORD(MDL_ATTENTION, 0, ALL, 1, 0x29, 1), MDL_UNKNOWN_CONDITION },
+    { RECORD(MDL_ATTENTION, 0, UINT64_MAX, 1, 0x00, 0x29), MDL_UNKNOWN_CONDITION },
+    { RECORD(MDL_ATTENTION, 0, 0x100, 1, 0x2A, 1), MDL_NO_INITIATOR },
+    { RECORD(MDL_ATTENTION, 0, 0x100000001, 1, 0x2A, 1), MDL_NO_INITIATOR },
+    { RECORD(MDL_ATTENTION, 0, (uint64_t)1 << 63, 1, 0x2A, 1), MDL_NO_INITIATOR },
+    { RECORD(MDL_ATTENTION, 0, UINT64_MAX, 1, 0x2A, 1), MDL_NO_INITIATOR },
+    { RECORD(MDL_GROW, 0, 0, 0, 0x29, 0), MDL_BLOCKS },
+    { RECORD(MDL_GROW, 0, 0, ((uint64_t)1 << 40) + 1, 0x29, 0), MDL_BLOCKS },
+    { RECORD(MDL_GROW, 0, 0, UINT64_MAX, 0x29, 0), MDL_BLOCKS },
 };
 
 /* What the record asks for is looked at before the disk. */
 static void refuse(uint32_t profile)
 {
     static struct seen before;
-    mdl_happening it = { MDL_POWER_CYCLE, 0, ALL, 128, 0x2A, 1 };
+    mdl_happening it = RECORD(MDL_POWER_CYCLE, 0, ALL, 128, 0x2A, 1);
     size_t at;
     void *target;
 

@@ -67,6 +67,7 @@ void put_happening(uint8_t *bytes, const mdl_happening *happening)
 
 void get_happening(const uint8_t *bytes, mdl_happening *happening)
 {
+    memset(happening, 0, sizeof *happening);
     happening->kind = get_number(bytes);
     happening->initiator = get_number(bytes + 4);
     happening->initiators = get_long_number(bytes + 8);

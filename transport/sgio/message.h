@@ -22,6 +22,8 @@
  *     - 24: asc.
  *     - 25: ascq.
  *
+ * It has no fault, so its other fields are 0, and mdl_happen refuses MDL_ARM.
+ *
  * A reply has these bytes:
  *     - 0: RESULT, an mdl_error, or 255. It is 0 if the request was executed.
  *     - 1: STATUS, the SCSI status.

@@ -1,5 +1,6 @@
 -- The effects of the calls on a disk.
 use Rattle.std.specs.Prelude.{◌≡◌, ℕ, List, Option, None, Some}
+use Rattle.sg_faults.specs.Faults.{no_faults}
 use Rattle.sg_pages.specs.Identity.{IdentityFields}
 use Rattle.sg_store.specs.Meter.{new_meter}
 use Rattle.sg_units.specs.Registrations.{registered_mask}
@@ -17,10 +18,11 @@ use Rattle.sg_embed.specs.declared.record.ReplyRecord.{ReplyRecord}
 abbrev pub disk_config : (blocks pool : ℕ) → IdentityFields → ConfigFields
 disk_config blocks pool identity = record { blocks = blocks; pool = pool; identity = identity }
 
--- A disk as it is after power on.
+-- A disk as it is after power on. No fault is armed.
 abbrev pub new_target : ConfigFields → Served
 new_target config = served_in config.identity.profile (record {
   state = new_state config;
+  faults = no_faults;
   meter = new_meter;
 })
 

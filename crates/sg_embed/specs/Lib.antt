@@ -2,7 +2,9 @@
 pub mod Holds
 pub mod Outcome
 pub mod Profiles
+pub mod Fault
 pub mod Happening
+pub mod Room
 pub mod Served
 pub mod Executed
 pub mod Records

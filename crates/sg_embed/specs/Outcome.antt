@@ -18,6 +18,7 @@ use Rattle.sg_run.specs.declared.request.text_fault.TextFault.{TextFault}
 use Rattle.sg_run.specs.declared.request.text_fault.TextFault.TheVariants as text_fault
 use Rattle.sg_pages.specs.Identity.{IdentityFields}
 use Rattle.sg_embed.specs.Executed.{disk_config}
+use Rattle.sg_embed.specs.Room.{has_room_for}
 use Rattle.sg_embed.specs.Served.{target_of}
 use Rattle.sg_embed.specs.declared.kept.Kept.{Kept}
 use Rattle.sg_embed.specs.declared.outcome.Outcome.{Outcome}
@@ -29,6 +30,8 @@ use Rattle.sg_embed.specs.declared.outcome.Outcome.TheVariants.{BadByte, TooMany
 use Rattle.sg_embed.specs.declared.outcome.Outcome.TheVariants.{Usage, Exclusive, Number}
 use Rattle.sg_embed.specs.declared.outcome.Outcome.TheVariants.{UnknownProfile, UnknownHappening}
 use Rattle.sg_embed.specs.declared.outcome.Outcome.TheVariants.{UnknownCondition}
+use Rattle.sg_embed.specs.declared.outcome.Outcome.TheVariants.{UnknownFault, SenseKey, FaultFlag}
+use Rattle.sg_embed.specs.declared.outcome.Outcome.TheVariants.{FaultNumber, TooManyFaults}
 
 -- The numbers of the header. Number 10 is MDL_NULL_POINTER: the functions that test C's pointers
 -- return it before any call that is defined here.
@@ -53,6 +56,11 @@ outcome_code Number = 17
 outcome_code UnknownProfile = 18
 outcome_code UnknownHappening = 19
 outcome_code UnknownCondition = 20
+outcome_code UnknownFault = 21
+outcome_code SenseKey = 22
+outcome_code FaultFlag = 23
+outcome_code FaultNumber = 24
+outcome_code TooManyFaults = 25
 
 -- A call asks for memory before it ends with this outcome.
 abbrev pub has_asked : Outcome → Bool
@@ -114,10 +122,13 @@ abbrev pub forget_outcome : Option Kept → (initiator : ℕ) → Outcome
 forget_outcome held initiator =
     if not (nat_lt initiator initiator_count) then UnknownInitiator else disk_outcome held
 
--- The outcome of what happens to a disk. What is asked for is checked first.
+-- The outcome of what happens to a disk. What is asked for is checked first, and a free number for
+-- an armed fault last.
 abbrev pub happen_outcome : Option Kept → Result Happening Outcome → Outcome
-happen_outcome held (Ok happening) = disk_outcome held
 happen_outcome held (Err outcome) = outcome
+happen_outcome None (Ok happening) = NoDisk
+happen_outcome (Some disk) (Ok happening) =
+    if has_room_for happening (target_of disk.target).faults then Done else TooManyFaults
 
 -- The outcome of making a disk with an identity, which is checked first.
 abbrev pub make_as_outcome : Option Kept → (blocks pool : ℕ) → Result IdentityFields IdentityFault → Outcome

@@ -9,7 +9,7 @@ use Rattle.sg_target.specs.Charge.{ChargesCommand, CostBounds, cost_bounds}
 use Rattle.sg_target.specs.Execution.{IsExecuted}
 use Rattle.sg_target.specs.Happenings.{Happens}
 use Rattle.sg_target.specs.Ports.{Forgets}
-use Rattle.sg_target.specs.Target.{TargetFields}
+use Rattle.sg_target.specs.Target.{TargetFields, disk_of}
 use Rattle.sg_target.specs.declared.happening.Happening.{Happening}
 use Rattle.sg_target.specs.declared.reply.Reply.{Reply}
 use Rattle.sg_embed.specs.declared.served.Served.{Served}
@@ -44,7 +44,7 @@ ForgetsPort initiator = StaysServed (Forgets initiator)
 -- A target executes a command, and its store is charged for it.
 pub record ExecutesCommand (bounds : CostBounds) (initiator : ℕ) (cdb data_out : List ℕ) (reply : Reply)
     (before after : List ℕ) (old new : TargetFields) : Type 0 where
-  pub executed : IsExecuted initiator cdb data_out old.state new.state reply before after
+  pub executed : IsExecuted initiator cdb data_out (disk_of old) (disk_of new) reply before after
   pub charged : ChargesCommand bounds initiator cdb data_out old new reply
 
 abbrev pub Executes : (initiator : ℕ) → (cdb data_out : List ℕ) → Reply → (before after : List ℕ)

@@ -4,6 +4,7 @@ use Rattle.std.specs.Prelude.{List, ◌++◌}
 use mir.Mem.{Cell}
 use Rattle.sg_embed.specs.InMemory.{number, bytes, flag, padding}
 use Rattle.sg_embed.specs.declared.command.CommandRecord.{CommandRecord}
+use Rattle.sg_embed.specs.declared.fault.FaultRecord.{FaultRecord}
 use Rattle.sg_embed.specs.declared.happening.HappeningRecord.{HappeningRecord}
 use Rattle.sg_embed.specs.declared.record.IdentityRecord.{IdentityRecord}
 use Rattle.sg_embed.specs.declared.record.ReplyRecord.{ReplyRecord}
@@ -48,6 +49,23 @@ mdl_command command =
     ++ number 4 command.kind
     ++ number 8 command.data_out_length
 
+abbrev pub mdl_fault : FaultRecord → List Cell
+mdl_fault fault =
+    number 8 fault.initiators
+    ++ number 8 fault.lba
+    ++ number 4 fault.count
+    ++ number 4 fault.outcome
+    ++ number 4 fault.blocks
+    ++ number 2 fault.skip
+    ++ number 2 fault.times
+    ++ number 1 fault.has_code
+    ++ number 1 fault.code
+    ++ number 1 fault.healed_by_writes
+    ++ number 1 fault.key
+    ++ number 1 fault.asc
+    ++ number 1 fault.ascq
+    ++ padding 2
+
 abbrev pub mdl_happening : HappeningRecord → List Cell
 mdl_happening happening =
     number 4 happening.kind
@@ -56,4 +74,6 @@ mdl_happening happening =
     ++ number 8 happening.blocks
     ++ number 1 happening.asc
     ++ number 1 happening.ascq
-    ++ padding 6
+    ++ number 1 happening.number
+    ++ padding 5
+    ++ mdl_fault happening.fault

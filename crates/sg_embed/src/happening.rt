@@ -1,9 +1,13 @@
 // What happens to a disk, as C asks for it.
 ghost use Rattle.std.specs.Prelude.{◌≡◌, ◌≢◌, IfErr};
-ghost use Rattle.sg_embed.specs.Happening.{asked_happening, establishing, growing, nexus_loss};
+ghost use Rattle.sg_embed.specs.Fault.{asked_fault};
+ghost use Rattle.sg_embed.specs.Happening.{arming, asked_happening, disarming, establishing, growing};
+ghost use Rattle.sg_embed.specs.Happening.{nexus_loss};
 
+use crate::fault::FaultRecord;
 use crate::outcome::Outcome;
 use crate::slot::known_initiator;
+use sg_faults::MAX_FAULTS;
 use sg_store::MAX_CAPACITY;
 use sg_target::Happening;
 use sg_units::{Initiators, UnitAttention};
@@ -25,9 +29,13 @@ pub struct HappeningRecord {
     pub asc: u8,
     /// Its additional sense code qualifier.
     pub ascq: u8,
+    /// The number of the fault that is taken away.
+    pub number: u8,
+    /// The fault that is armed.
+    pub fault: FaultRecord,
 }
 
-const _: () = prove!(size_of::<HappeningRecord>() == 32);
+const _: () = prove!(size_of::<HappeningRecord>() == 72);
 
 impl HappeningRecord {
     /// The happening that it describes.
@@ -35,7 +43,9 @@ impl HappeningRecord {
     /// # Errors
     /// [`Outcome::UnknownHappening`] if no kind has the number. For a kind that needs it:
     /// [`Outcome::UnknownCondition`] if no condition has the code, [`Outcome::UnknownInitiator`] if
-    /// an initiator is not 0 to 7, [`Outcome::BlockCount`] if the number of blocks is not 1 to 2^40.
+    /// an initiator is not 0 to 7, [`Outcome::BlockCount`] if the number of blocks is not 1 to 2^40,
+    /// [`Outcome::FaultNumber`] if the number of a fault is not 0 to 7, or the outcome of a refused
+    /// fault.
     pub fn read(&self) -> Result<Happening, Outcome>
         ensures value { result ≡ asked_happening self.now }
         ensures refused { IfErr result (λ outcome. outcome ≢ Outcome.Done) }
@@ -47,6 +57,9 @@ impl HappeningRecord {
             3 => nexus_loss(self.initiator),
             4 => establishing(self.asc, self.ascq, self.initiators),
             5 => growing(self.blocks),
+            6 => arming(&self.fault),
+            7 => disarming(self.number),
+            8 => Ok(Happening::DisarmAll),
             _ => Err(Outcome::UnknownHappening),
         }
     }
@@ -86,5 +99,29 @@ fn growing(blocks: u64) -> Result<Happening, Outcome>
         Ok(Happening::Grow(blocks))
     } else {
         Err(Outcome::BlockCount)
+    }
+}
+
+/// A fault that is armed.
+fn arming(fault: &FaultRecord) -> Result<Happening, Outcome>
+    ensures value { result ≡ arming (asked_fault fault.now) }
+    ensures refused { IfErr result (λ outcome. outcome ≢ Outcome.Done) }
+{
+    match fault.read() {
+        Ok(fault) => Ok(Happening::Arm(fault)),
+        Err(outcome) => Err(outcome),
+    }
+}
+
+/// A fault that is taken away.
+fn disarming(number: u8) -> Result<Happening, Outcome>
+    ensures value { result ≡ disarming number }
+    ensures refused { IfErr result (λ outcome. outcome ≢ Outcome.Done) }
+{
+    let number = usize::from(number);
+    if number < MAX_FAULTS {
+        Ok(Happening::Disarm(number))
+    } else {
+        Err(Outcome::FaultNumber)
     }
 }

@@ -1,8 +1,9 @@
 //! The layout of C's records in memory. Each law is the contract of a function that does nothing.
 ghost use Rattle.sg_embed.specs.InMemory.{LiesAs};
-ghost use Rattle.sg_embed.specs.Structs.{mdl_command, mdl_happening, mdl_identity, mdl_reply};
-ghost use Rattle.sg_embed.specs.Structs.{mdl_sense};
+ghost use Rattle.sg_embed.specs.Structs.{mdl_command, mdl_fault, mdl_happening, mdl_identity};
+ghost use Rattle.sg_embed.specs.Structs.{mdl_reply, mdl_sense};
 ghost use Rattle.sg_embed.specs.contracts.command.CommandRecord.{the_row as command_record};
+ghost use Rattle.sg_embed.specs.contracts.fault.FaultRecord.{the_row as fault_record};
 ghost use Rattle.sg_embed.specs.contracts.happening.HappeningRecord.{the_row as happening_record};
 ghost use Rattle.sg_embed.specs.contracts.record.IdentityRecord.{the_row as identity_record};
 ghost use Rattle.sg_embed.specs.contracts.record.ReplyRecord.{the_row as reply_record};
@@ -29,8 +30,13 @@ pub fn a_command_lies_as_in_the_header()
     ensures bytes { LiesAs command_record 32 mdl_command }
 {}
 
+/// A [`FaultRecord`](crate::FaultRecord) lies in memory as the header declares `mdl_fault`.
+pub fn a_fault_lies_as_in_the_header()
+    ensures bytes { LiesAs fault_record 40 mdl_fault }
+{}
+
 /// A [`HappeningRecord`](crate::HappeningRecord) lies in memory as the header declares
 /// `mdl_happening`.
 pub fn a_happening_lies_as_in_the_header()
-    ensures bytes { LiesAs happening_record 32 mdl_happening }
+    ensures bytes { LiesAs happening_record 72 mdl_happening }
 {}

@@ -3,6 +3,7 @@
 
 mod answer;
 mod command;
+mod fault;
 mod happening;
 mod kept;
 mod kinds;
@@ -17,6 +18,7 @@ mod text;
 
 pub use answer::{NO_TEXT, decode};
 pub use command::{CommandRecord, plan_tool};
+pub use fault::FaultRecord;
 pub use happening::HappeningRecord;
 pub use kept::Kept;
 pub use outcome::Outcome;

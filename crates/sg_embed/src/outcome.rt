@@ -24,7 +24,7 @@ pub enum Outcome {
     IdentityLocal = 6,
     /// Memory was refused.
     OutOfMemory = 7,
-    /// The initiator is not 0 to 7.
+    /// The initiator is not 0 to 7, or a fault names no initiator.
     UnknownInitiator = 8,
     /// The buffer for data-in or for data-out is too short.
     BufferTooShort = 9,
@@ -48,6 +48,16 @@ pub enum Outcome {
     UnknownHappening = 19,
     /// No unit attention condition has the code.
     UnknownCondition = 20,
+    /// Nothing that a fault does has the number.
+    UnknownFault = 21,
+    /// The sense key of a fault is not 0 to 15.
+    SenseKey = 22,
+    /// A flag of a fault is not 0 or 1, or a fault that lies on no blocks is healed by writes.
+    FaultFlag = 23,
+    /// The number of a fault is not 0 to 7.
+    FaultNumber = 24,
+    /// A fault is armed under each number.
+    TooManyFaults = 25,
 }
 
 ghost use Rattle.std.specs.Prelude.{◌≡◌};

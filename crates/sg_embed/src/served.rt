@@ -3,10 +3,12 @@ ghost use Rattle.std.specs.Prelude.{◌≡◌, ◌≤◌, is_some, length, nat_l
 ghost use Rattle.sg_units.specs.Registrations.{registered_mask};
 ghost use Rattle.sg_target.specs.DataInBound.{longest_data_in, needed_buffer};
 ghost use Rattle.sg_embed.specs.Executed.{new_target};
+ghost use Rattle.sg_embed.specs.Room.{has_free_number, has_room_for};
 ghost use Rattle.sg_embed.specs.Served.{target_of, Executes, ForgetsPort, Undergoes};
 
 use sg_block_map::BlockMap;
 use sg_extent_map::ExtentMap;
+use sg_faults::ArmedFault;
 use sg_target::{Config, Happening, Reply, Target};
 use sg_wire::{Initiator, Profile};
 use std::alloc::{AllocError, Global};
@@ -63,6 +65,25 @@ impl Served {
         }
     }
 
+    /// A number is free for the fault that a happening arms, if it arms one.
+    pub(crate) fn has_room_for(&self, happening: &Happening) -> bool
+        ensures { result ≡ has_room_for happening.now (target_of self.now).faults }
+    {
+        match happening {
+            Happening::Arm(_) => self.has_free_number(),
+            _ => true,
+        }
+    }
+
+    fn has_free_number(&self) -> bool
+        ensures { result ≡ has_free_number (target_of self.now).faults }
+    {
+        match self {
+            Served::Runs(target) => has_free_number(target.faults()),
+            Served::Extents(target) => has_free_number(target.faults()),
+        }
+    }
+
     /// Lets something happen to the disk.
     pub(crate) fn happen(&mut self, happening: Happening)
         ensures { Undergoes happening self.old self.new }
@@ -92,4 +113,11 @@ impl Served {
             Served::Extents(target) => target.forget(initiator),
         }
     }
+}
+
+/// No fault is armed under some number.
+fn has_free_number(faults: &[Option<ArmedFault>]) -> bool
+    ensures { result ≡ has_free_number faults.now }
+{
+    faults.iter().any(|slot| slot.is_none())
 }

@@ -191,6 +191,9 @@ impl Slot {
         let Some(kept) = self.kept() else {
             return Outcome::NoDisk;
         };
+        if !kept.target.has_room_for(&happening) {
+            return Outcome::TooManyFaults;
+        }
         kept.target.happen(happening);
         Outcome::Done
     }

@@ -4,7 +4,7 @@ It needs only Python 3.8 and libmehdalung.so. MEHDALUNG_LIBRARY names that file;
 ../../build. Only one thread at a time may use a disk."""
 import ctypes
 import os
-from ctypes import c_size_t, c_uint8, c_uint32, c_uint64, c_void_p
+from ctypes import c_size_t, c_uint8, c_uint16, c_uint32, c_uint64, c_void_p
 from enum import IntEnum
 from pathlib import Path
 from typing import NamedTuple
@@ -14,6 +14,8 @@ BUFFER_LENGTH = 131_072
 DATA_OUT_LENGTH = 1_032
 NO_TEXT = c_size_t(-1).value
 GOOD, CHECK_CONDITION, RESERVATION_CONFLICT = 0x00, 0x02, 0x18
+# Only a disk with armed faults returns these. NO_REPLY is no status: the disk never replies.
+BUSY, TASK_SET_FULL, NO_REPLY = 0x08, 0x28, 0xFF
 
 
 class Error(IntEnum):
@@ -39,12 +41,31 @@ class Error(IntEnum):
     UNKNOWN_PROFILE = 18
     UNKNOWN_HAPPENING = 19
     UNKNOWN_CONDITION = 20
+    UNKNOWN_FAULT = 21
+    SENSE_KEY = 22
+    FAULT_FLAG = 23
+    FAULT_NUMBER = 24
+    FAULTS = 25
 
 
 class Profile(IntEnum):
     """mdl_profile: the commands that a disk has."""
     BASE = 0
     EXTENDED = 1
+
+
+class FaultOutcome(IntEnum):
+    """mdl_fault_outcome: what an armed fault does to a command, and where it meets the command."""
+    ARRIVAL_BUSY = 0
+    ARRIVAL_TASK_SET_FULL = 1
+    ARRIVAL_RESERVATION_CONFLICT = 2
+    ARRIVAL_NO_REPLY = 3
+    ARRIVAL_CHECK_CONDITION = 4
+    ARRIVAL_DEFERRED_ERROR = 5
+    MEDIUM_CHECK_CONDITION = 6
+    MEDIUM_MOVES_ONLY = 7
+    AFTER_NO_REPLY = 8
+    AFTER_CHECK_CONDITION = 9
 
 
 class Happening(IntEnum):
@@ -55,6 +76,9 @@ class Happening(IntEnum):
     NEXUS_LOSS = 3
     ATTENTION = 4
     GROW = 5
+    ARM = 6
+    DISARM = 7
+    DISARM_ALL = 8
 
 
 class Kind(IntEnum):
@@ -100,10 +124,20 @@ class ReplyRecord(ctypes.Structure):
                 ("links", c_uint64)]
 
 
+class Fault(ctypes.Structure):
+    """mdl_fault."""
+    _fields_ = [("initiators", c_uint64), ("lba", c_uint64), ("count", c_uint32),
+                ("outcome", c_uint32), ("blocks", c_uint32), ("skip", c_uint16),
+                ("times", c_uint16), ("has_code", c_uint8), ("code", c_uint8),
+                ("healed_by_writes", c_uint8), ("key", c_uint8), ("asc", c_uint8),
+                ("ascq", c_uint8)]
+
+
 class HappeningRecord(ctypes.Structure):
     """mdl_happening."""
     _fields_ = [("kind", c_uint32), ("initiator", c_uint32), ("initiators", c_uint64),
-                ("blocks", c_uint64), ("asc", c_uint8), ("ascq", c_uint8)]
+                ("blocks", c_uint64), ("asc", c_uint8), ("ascq", c_uint8), ("number", c_uint8),
+                ("fault", Fault)]
 
 
 class Command(ctypes.Structure):
@@ -115,7 +149,7 @@ class Command(ctypes.Structure):
 class Sense(ctypes.Structure):
     """mdl_sense: the fields of sense data. A missing field is 0."""
     _fields_ = [("key", c_uint8), ("asc", c_uint8), ("ascq", c_uint8), ("has_information", c_uint8),
-                ("has_pointer", c_uint8), ("in_command", c_uint8), ("byte", ctypes.c_uint16),
+                ("has_pointer", c_uint8), ("in_command", c_uint8), ("byte", c_uint16),
                 ("information", c_uint64)]
 
 
@@ -157,6 +191,14 @@ def within(name, number, bits):
     if not 0 <= number < 1 << bits:
         raise ValueError(f"{name} is not 0 to 2^{bits} - 1: {number}")
     return number
+
+
+def mask_of(initiators):
+    """Returns the mask of some initiators, or of all of them if there is None."""
+    mask = 0
+    for initiator in range(INITIATORS) if initiators is None else initiators:
+        mask |= 1 << within("initiator", initiator, 6)
+    return mask
 
 
 def text_of(write, *arguments):
@@ -274,11 +316,31 @@ class Disk:
     def attention(self, asc, ascq, initiators=None):
         """Some initiators get the unit attention with an additional sense code and qualifier, by
         default all of them. mehdalung.h lists the codes."""
-        mask = 0
-        for initiator in range(INITIATORS) if initiators is None else initiators:
-            mask |= 1 << within("initiator", initiator, 6)
-        self.happen(HappeningRecord(kind=Happening.ATTENTION, initiators=mask,
+        self.happen(HappeningRecord(kind=Happening.ATTENTION, initiators=mask_of(initiators),
                                     asc=within("asc", asc, 8), ascq=within("ascq", ascq, 8)))
+
+    def arm(self, outcome, initiators=None, code=None, lba=0, count=0, healed_by_writes=False,
+            skip=0, times=0, key=0, asc=0, ascq=0, blocks=0):
+        """Arms a fault under the lowest free number. It has a FaultOutcome, and meets the commands
+        of some initiators, by default of all. `code` is their operation code, by default any. They
+        name one of `count` blocks from `lba` on, or with 0 any blocks or none. mehdalung.h says
+        what the other arguments are."""
+        fault = Fault(
+            initiators=mask_of(initiators), lba=within("lba", lba, 64),
+            count=within("count", count, 32), outcome=within("outcome", outcome, 32),
+            blocks=within("blocks", blocks, 32), skip=within("skip", skip, 16),
+            times=within("times", times, 16), has_code=code is not None,
+            code=within("code", code or 0, 8), healed_by_writes=bool(healed_by_writes),
+            key=within("key", key, 8), asc=within("asc", asc, 8), ascq=within("ascq", ascq, 8))
+        self.happen(HappeningRecord(kind=Happening.ARM, fault=fault))
+
+    def disarm(self, number):
+        """Takes away the fault with a number, 0 to 7, if there is one."""
+        self.happen(HappeningRecord(kind=Happening.DISARM, number=within("number", number, 8)))
+
+    def disarm_all(self):
+        """Takes away all faults."""
+        self.happen(HappeningRecord(kind=Happening.DISARM_ALL))
 
     def happen(self, record):
         """Lets happen what a HappeningRecord says. The methods above do so by name."""

@@ -118,6 +118,8 @@ static mdl_error result_of(const mdl_happening *it, int has_known_code)
             return MDL_UNKNOWN_CONDITION;
         return it->initiators >> MDL_INITIATORS ? MDL_NO_INITIATOR : MDL_OK;
     case MDL_GROW: return it->blocks > 0 && it->blocks <= (uint64_t)1 << 40 ? MDL_OK : MDL_BLOCKS;
+    /* the message has no fault, so the fault's mask is 0 */
+    case MDL_ARM: return MDL_NO_INITIATOR;
     default: return MDL_UNKNOWN_HAPPENING;
     }
 }

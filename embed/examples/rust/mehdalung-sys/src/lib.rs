@@ -10,6 +10,9 @@ pub const NO_TEXT: usize = usize::MAX;
 pub const GOOD: u8 = 0x00;
 pub const CHECK_CONDITION: u8 = 0x02;
 pub const RESERVATION_CONFLICT: u8 = 0x18;
+pub const BUSY: u8 = 0x08;
+pub const TASK_SET_FULL: u8 = 0x28;
+pub const NO_REPLY: u8 = 0xFF;
 
 /// `mdl_error`.
 pub mod error {
@@ -34,12 +37,31 @@ pub mod error {
     pub const UNKNOWN_PROFILE: u32 = 18;
     pub const UNKNOWN_HAPPENING: u32 = 19;
     pub const UNKNOWN_CONDITION: u32 = 20;
+    pub const UNKNOWN_FAULT: u32 = 21;
+    pub const SENSE_KEY: u32 = 22;
+    pub const FAULT_FLAG: u32 = 23;
+    pub const FAULT_NUMBER: u32 = 24;
+    pub const FAULTS: u32 = 25;
 }
 
 /// `mdl_profile`.
 pub mod profile {
     pub const BASE: u32 = 0;
     pub const EXTENDED: u32 = 1;
+}
+
+/// `mdl_fault_outcome`.
+pub mod fault_outcome {
+    pub const ARRIVAL_BUSY: u32 = 0;
+    pub const ARRIVAL_TASK_SET_FULL: u32 = 1;
+    pub const ARRIVAL_RESERVATION_CONFLICT: u32 = 2;
+    pub const ARRIVAL_NO_REPLY: u32 = 3;
+    pub const ARRIVAL_CHECK_CONDITION: u32 = 4;
+    pub const ARRIVAL_DEFERRED_ERROR: u32 = 5;
+    pub const MEDIUM_CHECK_CONDITION: u32 = 6;
+    pub const MEDIUM_MOVES_ONLY: u32 = 7;
+    pub const AFTER_NO_REPLY: u32 = 8;
+    pub const AFTER_CHECK_CONDITION: u32 = 9;
 }
 
 /// `mdl_happening_kind`.
@@ -50,6 +72,9 @@ pub mod happening {
     pub const NEXUS_LOSS: u32 = 3;
     pub const ATTENTION: u32 = 4;
     pub const GROW: u32 = 5;
+    pub const ARM: u32 = 6;
+    pub const DISARM: u32 = 7;
+    pub const DISARM_ALL: u32 = 8;
 }
 
 /// `mdl_kind`.
@@ -96,6 +121,24 @@ pub struct mdl_reply {
 }
 
 #[repr(C)]
+#[derive(Clone, Copy, Debug, Default, PartialEq, Eq)]
+pub struct mdl_fault {
+    pub initiators: u64,
+    pub lba: u64,
+    pub count: u32,
+    pub outcome: u32,
+    pub blocks: u32,
+    pub skip: u16,
+    pub times: u16,
+    pub has_code: u8,
+    pub code: u8,
+    pub healed_by_writes: u8,
+    pub key: u8,
+    pub asc: u8,
+    pub ascq: u8,
+}
+
+#[repr(C)]
 #[derive(Clone, Copy, Default)]
 pub struct mdl_happening {
     pub kind: u32,
@@ -104,6 +147,8 @@ pub struct mdl_happening {
     pub blocks: u64,
     pub asc: u8,
     pub ascq: u8,
+    pub number: u8,
+    pub fault: mdl_fault,
 }
 
 #[repr(C)]
@@ -130,7 +175,7 @@ pub struct mdl_sense {
 
 const _: () = assert!(size_of::<mdl_identity>() == 48 && size_of::<mdl_reply>() == 56);
 const _: () = assert!(size_of::<mdl_command>() == 32 && size_of::<mdl_sense>() == 16);
-const _: () = assert!(size_of::<mdl_happening>() == 32);
+const _: () = assert!(size_of::<mdl_happening>() == 72 && size_of::<mdl_fault>() == 40);
 
 extern "C" {
     pub fn mdl_make(

@@ -19,6 +19,12 @@ pub enum Error {
     Number,
     UnknownProfile,
     UnknownCondition,
+    UnknownFault,
+    SenseKey,
+    FaultFlag,
+    FaultNumber,
+    /// A fault is armed under each number.
+    Faults,
     /// An error that these calls can't have.
     Other(u32),
 }
@@ -48,6 +54,11 @@ pub(crate) fn check(error: u32) -> Result<(), Error> {
         error::NUMBER => Error::Number,
         error::UNKNOWN_PROFILE => Error::UnknownProfile,
         error::UNKNOWN_CONDITION => Error::UnknownCondition,
+        error::UNKNOWN_FAULT => Error::UnknownFault,
+        error::SENSE_KEY => Error::SenseKey,
+        error::FAULT_FLAG => Error::FaultFlag,
+        error::FAULT_NUMBER => Error::FaultNumber,
+        error::FAULTS => Error::Faults,
         other => Error::Other(other),
     })
 }

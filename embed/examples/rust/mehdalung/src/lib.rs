@@ -7,8 +7,11 @@ use mehdalung_sys::happening;
 use std::{ffi::CString, ptr};
 
 pub use error::Error;
-pub use sys::{kind, mdl_identity as Identity, mdl_sense as Sense, profile};
+pub use sys::{fault_outcome, kind, profile};
+pub use sys::{mdl_fault as Fault, mdl_identity as Identity, mdl_sense as Sense};
 pub use sys::{CHECK_CONDITION, GOOD, RESERVATION_CONFLICT};
+// Only a disk with armed faults returns these. NO_REPLY is no status: the disk never replies.
+pub use sys::{BUSY, NO_REPLY, TASK_SET_FULL};
 
 /// The mask of all initiators.
 pub const ALL_INITIATORS: u64 = 0xFF;
@@ -196,6 +199,26 @@ impl Disk {
             ascq,
             ..Default::default()
         })
+    }
+
+    /// Arms a fault under the lowest free number. Its outcome is a number of the module
+    /// `fault_outcome`, and mehdalung.h says what its other fields are.
+    pub fn arm(&mut self, fault: &Fault) -> Result<(), Error> {
+        self.happen(sys::mdl_happening {
+            kind: happening::ARM,
+            fault: *fault,
+            ..Default::default()
+        })
+    }
+
+    /// Takes away the fault with a number, 0 to 7, if there is one.
+    pub fn disarm(&mut self, number: u8) -> Result<(), Error> {
+        self.happen(sys::mdl_happening { kind: happening::DISARM, number, ..Default::default() })
+    }
+
+    /// Takes away all faults.
+    pub fn disarm_all(&mut self) -> Result<(), Error> {
+        self.happen(sys::mdl_happening { kind: happening::DISARM_ALL, ..Default::default() })
     }
 
     fn happen(&mut self, record: sys::mdl_happening) -> Result<(), Error> {

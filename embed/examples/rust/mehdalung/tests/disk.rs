@@ -1,6 +1,6 @@
 //! Tries the parts of the crate that the first minute does not use.
-use mehdalung::{decode, kind, profile, version, Disk, Error, Identity, Reply, ALL_INITIATORS};
-use mehdalung::{CHECK_CONDITION, GOOD};
+use mehdalung::{decode, fault_outcome, kind, profile, version, Disk, Error, Fault, Identity};
+use mehdalung::{Reply, ALL_INITIATORS, BUSY, CHECK_CONDITION, GOOD};
 
 const TEST_UNIT_READY: [u8; 6] = [0; 6];
 const INQUIRY: [u8; 6] = [0x12, 0, 0, 0, 36, 0];
@@ -69,6 +69,36 @@ fn happenings_establish_unit_attentions() -> Result<(), Error> {
     assert_eq!(disk.attention(0x29, 0x01, 1), Err(Error::UnknownCondition));
     assert_eq!(disk.attention(0x29, 0x00, ALL_INITIATORS + 1), Err(Error::NoInitiator));
     assert_eq!(disk.grow(0), Err(Error::Blocks));
+    only_report(&mut disk, 0, 0, 0)
+}
+
+#[test]
+fn armed_faults_meet_commands() -> Result<(), Error> {
+    let read_five = [0x28, 0, 0, 0, 0, 0, 0, 0, 5, 0];
+    let mut disk = Disk::new(64, 4, None)?;
+    only_report(&mut disk, ALL_INITIATORS, 0x29, 0x00)?;
+    let busy = Fault { initiators: 1 << 2, has_code: 1, skip: 1, times: 1, ..Fault::default() };
+    disk.arm(&busy)?;
+    for status in [GOOD, BUSY, GOOD] {
+        assert_eq!(disk.execute(2, &TEST_UNIT_READY, &[])?.status(), status);
+    }
+    let outcome = fault_outcome::MEDIUM_CHECK_CONDITION;
+    let fault = Fault { initiators: ALL_INITIATORS, outcome, lba: 3, count: 4, ..Fault::default() };
+    disk.arm(&Fault { key: 3, asc: 0x11, ascq: 0x01, ..fault })?;
+    let fields = disk.execute(7, &read_five, &[])?.fields().unwrap();
+    assert_eq!((fields.key, fields.asc, fields.ascq, fields.information), (3, 0x11, 0x01, 3));
+    disk.disarm(0)?;
+    assert_eq!(disk.execute(7, &read_five, &[])?.status(), GOOD);
+    for _ in 0..8 {
+        disk.arm(&busy)?;
+    }
+    assert_eq!(disk.arm(&busy), Err(Error::Faults));
+    disk.disarm_all()?;
+    assert_eq!(disk.arm(&Fault { outcome: 10, ..busy }), Err(Error::UnknownFault));
+    assert_eq!(disk.arm(&Fault { key: 16, ..fault }), Err(Error::SenseKey));
+    assert_eq!(disk.arm(&Fault { initiators: 0, ..busy }), Err(Error::NoInitiator));
+    assert_eq!(disk.arm(&Fault { has_code: 2, ..busy }), Err(Error::FaultFlag));
+    assert_eq!(disk.disarm(8), Err(Error::FaultNumber));
     only_report(&mut disk, 0, 0, 0)
 }
 

@@ -1,0 +1,169 @@
+// A fault that C arms.
+ghost use Rattle.std.specs.Prelude.{◌≡◌, ◌≢◌, IfErr};
+ghost use Rattle.sg_embed.specs.Fault.{asked_blocks, asked_code, asked_fault, asked_outcome};
+ghost use Rattle.sg_embed.specs.Fault.{asked_sense_code, asked_times, flag_of, named_initiators};
+
+use crate::outcome::Outcome;
+use sg_faults::{
+    Afterwards, AtMedium, BadBlocks, Fault, OnArrival, Outcome as FaultOutcome, SenseCode,
+};
+use sg_units::Initiators;
+use sg_wire::Extent;
+
+/// The record that C declares as `mdl_fault`. The fields that an outcome does not need do not matter.
+#[repr(C)]
+#[derive(Drop)]
+pub struct FaultRecord {
+    /// A mask of the initiators whose commands it meets. Initiator i has bit i.
+    pub initiators: u64,
+    /// The first of the blocks that it lies on.
+    pub lba: u64,
+    /// The number of these blocks. With 0 it lies on none, and meets commands of any kind.
+    pub count: u32,
+    /// What it does, and where: a number of the header.
+    pub outcome: u32,
+    /// The number of blocks that a command still moves, if it moves only its first ones.
+    pub blocks: u32,
+    /// The number of an initiator's commands that meet it and pass first.
+    pub skip: u16,
+    /// The number of an initiator's commands after these to which it does something. 0 for all.
+    pub times: u16,
+    /// 1 if it meets only commands with an operation code, 0 if it meets all.
+    pub has_code: u8,
+    /// That operation code.
+    pub code: u8,
+    /// 1 if a command that writes all of its blocks heals them, 0 if not.
+    pub healed_by_writes: u8,
+    /// The sense key that it reports, at most 15.
+    pub key: u8,
+    /// The additional sense code.
+    pub asc: u8,
+    /// The additional sense code qualifier.
+    pub ascq: u8,
+}
+
+const _: () = prove!(size_of::<FaultRecord>() == 40);
+
+impl FaultRecord {
+    /// The fault that it describes.
+    ///
+    /// # Errors
+    /// The first of these that applies: [`Outcome::UnknownFault`] if nothing that a fault does has
+    /// the number, [`Outcome::SenseKey`] if it reports a sense key above 15,
+    /// [`Outcome::UnknownInitiator`] if the mask is 0 or has a bit above 7, and
+    /// [`Outcome::FaultFlag`] if a flag is not 0 or 1, or if no blocks are healed.
+    pub(crate) fn read(&self) -> Result<Fault, Outcome>
+        ensures value { result ≡ asked_fault self.now }
+        ensures refused { IfErr result (λ outcome. outcome ≢ Outcome.Done) }
+    {
+        let outcome = self.read_outcome()?;
+        let Some(initiators) = named_initiators(self.initiators) else {
+            return Err(Outcome::UnknownInitiator);
+        };
+        let code = self.read_code()?;
+        let blocks = self.read_blocks()?;
+        Ok(Fault {
+            initiators,
+            code,
+            blocks,
+            skip: self.skip,
+            times: read_times(self.times),
+            outcome,
+        })
+    }
+
+    /// What the fault does.
+    fn read_outcome(&self) -> Result<FaultOutcome, Outcome>
+        ensures value { result ≡ asked_outcome self.now }
+        ensures refused { IfErr result (λ outcome. outcome ≢ Outcome.Done) }
+    {
+        match self.outcome {
+            0 => Ok(FaultOutcome::OnArrival(OnArrival::Busy)),
+            1 => Ok(FaultOutcome::OnArrival(OnArrival::TaskSetFull)),
+            2 => Ok(FaultOutcome::OnArrival(OnArrival::ReservationConflict)),
+            3 => Ok(FaultOutcome::OnArrival(OnArrival::NoReply)),
+            4 => Ok(FaultOutcome::OnArrival(OnArrival::CheckCondition(self.read_sense_code()?))),
+            5 => Ok(FaultOutcome::OnArrival(OnArrival::DeferredError(self.read_sense_code()?))),
+            6 => Ok(FaultOutcome::AtMedium(AtMedium::CheckCondition(self.read_sense_code()?))),
+            7 => Ok(FaultOutcome::AtMedium(AtMedium::MovesOnly(self.blocks))),
+            8 => Ok(FaultOutcome::Afterwards(Afterwards::NoReply)),
+            9 => Ok(FaultOutcome::Afterwards(Afterwards::CheckCondition(self.read_sense_code()?))),
+            _ => Err(Outcome::UnknownFault),
+        }
+    }
+
+    /// The sense code that it reports.
+    fn read_sense_code(&self) -> Result<SenseCode, Outcome>
+        ensures value { result ≡ asked_sense_code self.now }
+        ensures refused { IfErr result (λ outcome. outcome ≢ Outcome.Done) }
+    {
+        match SenseCode::new(self.key, self.asc, self.ascq) {
+            Some(code) => Ok(code),
+            None => Err(Outcome::SenseKey),
+        }
+    }
+
+    /// The operation code of the commands that it meets, if it names one.
+    fn read_code(&self) -> Result<Option<u8>, Outcome>
+        ensures value { result ≡ asked_code self.now }
+        ensures refused { IfErr result (λ outcome. outcome ≢ Outcome.Done) }
+    {
+        if read_flag(self.has_code)? {
+            Ok(Some(self.code))
+        } else {
+            Ok(None)
+        }
+    }
+
+    /// The blocks that it lies on, if there are any.
+    fn read_blocks(&self) -> Result<Option<BadBlocks>, Outcome>
+        ensures value { result ≡ asked_blocks self.now }
+        ensures refused { IfErr result (λ outcome. outcome ≢ Outcome.Done) }
+    {
+        let healed_by_writes = read_flag(self.healed_by_writes)?;
+        if self.count > 0 {
+            return Ok(Some(BadBlocks {
+                extent: Extent {
+                    lba: self.lba,
+                    count: self.count,
+                },
+                healed_by_writes,
+            }));
+        }
+        if healed_by_writes {
+            Err(Outcome::FaultFlag)
+        } else {
+            Ok(None)
+        }
+    }
+}
+
+/// The initiators of a mask that names one.
+fn named_initiators(mask: u64) -> Option<Initiators>
+    ensures { result ≡ named_initiators mask }
+{
+    if mask == 0 {
+        None
+    } else {
+        Initiators::of_mask(mask)
+    }
+}
+
+/// A flag, which is 0 or 1.
+fn read_flag(byte: u8) -> Result<bool, Outcome>
+    ensures value { result ≡ flag_of byte }
+    ensures refused { IfErr result (λ outcome. outcome ≢ Outcome.Done) }
+{
+    match byte {
+        0 => Ok(false),
+        1 => Ok(true),
+        _ => Err(Outcome::FaultFlag),
+    }
+}
+
+/// How often the fault does something. None if it stays until it is taken away.
+fn read_times(times: u16) -> Option<u16>
+    ensures { result ≡ asked_times times }
+{
+    if times == 0 { None } else { Some(times) }
+}

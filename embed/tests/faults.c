@@ -1,0 +1,305 @@
+/* Faults that are armed on a disk of each profile: what each outcome does, which commands meet a
+ * fault, how long it lasts, and each named error, after which nothing has changed. */
+#include <stdio.h>
+#include <stdlib.h>
+#include <string.h>
+
+#include "mehdalung.h"
+
+static int failures;
+#define WANT(condition) \
+    do { \
+        if (!(condition)) { \
+            failures++; \
+            fprintf(stderr, "line %d: not so: %s\n", __LINE__, #condition); \
+        } \
+    } while (0)
+
+enum { BLOCKS = 64, POOL = 16, ALL = 0xFF, READ = 0x28, WRITE = 0x2A };
+
+static mdl_disk disk = MDL_NONE, no_disk = MDL_NONE;
+static uint8_t data_in[MDL_BUFFER_LENGTH];
+static mdl_reply reply;
+
+static int status_of(uint32_t initiator, const uint8_t *cdb, size_t length, const uint8_t *bytes,
+                     size_t byte_count)
+{
+    WANT(mdl_execute(&disk, initiator, cdb, length, bytes, byte_count, data_in, sizeof data_in,
+                     &reply) == MDL_OK);
+    return reply.status;
+}
+
+static int test_ready(uint32_t initiator)
+{
+    static const uint8_t ready[6];
+
+    return status_of(initiator, ready, sizeof ready, NULL, 0);
+}
+
+/* READ(10) or WRITE(10) of initiator 0. A WRITE fills its blocks with a byte. */
+static int move_blocks(uint8_t opcode, uint8_t lba, uint8_t count, int byte)
+{
+    static uint8_t bytes[BLOCKS * MDL_BLOCK_LENGTH];
+    const uint8_t cdb[10] = { opcode, [5] = lba, [8] = count };
+
+    memset(bytes, byte, sizeof bytes);
+    return status_of(0, cdb, sizeof cdb, bytes, opcode == WRITE ? count * MDL_BLOCK_LENGTH : 0);
+}
+
+/* A block that only has one byte. */
+static int is_filled(uint8_t lba, int byte)
+{
+    size_t at;
+
+    if (move_blocks(READ, lba, 1, 0) != MDL_GOOD || reply.data_in_length != MDL_BLOCK_LENGTH)
+        return 0;
+    for (at = 0; at < MDL_BLOCK_LENGTH; at++)
+        if (data_in[at] != byte)
+            return 0;
+    return 1;
+}
+
+/* Sense data in fixed format: its response code, 70h or 71h, and its key and codes. */
+static int senses(uint8_t response, uint8_t key, uint8_t asc, uint8_t ascq)
+{
+    return reply.status == MDL_CHECK_CONDITION && (reply.sense[0] & 0x7F) == response
+        && (reply.sense[2] & 0x0F) == key && reply.sense[12] == asc && reply.sense[13] == ascq;
+}
+
+static mdl_error arm(mdl_fault fault)
+{
+    mdl_happening it = { .kind = MDL_ARM };
+
+    it.fault = fault;
+    return mdl_happen(&disk, &it);
+}
+
+/* A fault that meets all commands of some initiators. */
+static mdl_error arm_outcome(uint32_t outcome, uint16_t times)
+{
+    const mdl_fault fault = { .initiators = ALL, .outcome = outcome, .times = times, .key = 4,
+                              .asc = 0x44, .ascq = 0x01 };
+
+    return arm(fault);
+}
+
+static mdl_error disarm(uint8_t number)
+{
+    const mdl_happening it = { .kind = MDL_DISARM, .number = number };
+
+    return mdl_happen(&disk, &it);
+}
+
+/* Programs from before there were faults have records that end before the fault. */
+static mdl_error happens(uint32_t kind)
+{
+    mdl_happening *it = malloc(offsetof(mdl_happening, fault));
+    mdl_error error;
+
+    if (!it)
+        return MDL_OUT_OF_MEMORY;
+    memset(it, 0, offsetof(mdl_happening, fault));
+    memcpy(it, &kind, sizeof kind);
+    error = mdl_happen(&disk, it);
+    free(it);
+    return error;
+}
+
+static void make_quiet(uint32_t profile)
+{
+    uint32_t initiator;
+
+    mdl_free(&disk);
+    WANT(mdl_make_with_profile(&disk, profile, BLOCKS, POOL, NULL) == MDL_OK);
+    for (initiator = 0; initiator < MDL_INITIATORS; initiator++)
+        WANT(test_ready(initiator) == MDL_CHECK_CONDITION && test_ready(initiator) == MDL_GOOD);
+}
+
+/* The disk does not execute the command. Each initiator has a count of its own. */
+static void stop_on_arrival(void)
+{
+    static const uint8_t inquiry[6] = { 0x12, [4] = 36 };
+
+    WANT(arm_outcome(MDL_ARRIVAL_BUSY, 2) == MDL_OK);
+    WANT(test_ready(0) == MDL_BUSY && reply.sense_length == 0 && reply.data_in_length == 0);
+    WANT(test_ready(0) == MDL_BUSY && test_ready(0) == MDL_GOOD);
+    WANT(test_ready(7) == MDL_BUSY && test_ready(7) == MDL_BUSY && test_ready(7) == MDL_GOOD);
+    WANT(happens(MDL_DISARM_ALL) == MDL_OK && test_ready(1) == MDL_GOOD);
+
+    WANT(arm_outcome(MDL_ARRIVAL_TASK_SET_FULL, 1) == MDL_OK);
+    WANT(status_of(0, inquiry, sizeof inquiry, NULL, 0) == MDL_TASK_SET_FULL);
+    WANT(reply.data_in_length == 0 && status_of(0, inquiry, sizeof inquiry, NULL, 0) == MDL_GOOD);
+    WANT(reply.data_in_length == 36 && happens(MDL_DISARM_ALL) == MDL_OK);
+
+    WANT(arm_outcome(MDL_ARRIVAL_RESERVATION_CONFLICT, 1) == MDL_OK);
+    WANT(test_ready(3) == MDL_RESERVATION_CONFLICT && test_ready(3) == MDL_GOOD);
+    WANT(happens(MDL_DISARM_ALL) == MDL_OK);
+
+    WANT(arm_outcome(MDL_ARRIVAL_NO_REPLY, 1) == MDL_OK);
+    WANT(move_blocks(WRITE, 5, 1, 0xEE) == MDL_NO_REPLY && reply.sense_length == 0);
+    WANT(is_filled(5, 0) && happens(MDL_DISARM_ALL) == MDL_OK);
+
+    WANT(arm_outcome(MDL_ARRIVAL_CHECK_CONDITION, 1) == MDL_OK);
+    WANT(test_ready(2) == MDL_CHECK_CONDITION && senses(0x70, 4, 0x44, 0x01));
+    WANT(test_ready(2) == MDL_GOOD && happens(MDL_DISARM_ALL) == MDL_OK);
+
+    WANT(arm_outcome(MDL_ARRIVAL_DEFERRED_ERROR, 1) == MDL_OK);
+    WANT(test_ready(2) == MDL_CHECK_CONDITION && senses(0x71, 4, 0x44, 0x01));
+    WANT(test_ready(2) == MDL_GOOD && happens(MDL_DISARM_ALL) == MDL_OK);
+}
+
+/* A bad medium: unreadable blocks that a WRITE heals, and lost writes. */
+static void stop_at_medium(void)
+{
+    const mdl_fault unreadable = { .initiators = 1, .outcome = MDL_MEDIUM_CHECK_CONDITION,
+                                   .lba = 20, .count = 2, .healed_by_writes = 1, .key = 3,
+                                   .asc = 0x11 };
+    const mdl_fault lost = { .initiators = 1, .outcome = MDL_MEDIUM_MOVES_ONLY, .has_code = 1,
+                             .code = WRITE, .times = 1 };
+    mdl_fault torn = lost;
+    mdl_sense fields;
+
+    WANT(move_blocks(WRITE, 18, 8, 0x11) == MDL_GOOD && arm(unreadable) == MDL_OK);
+    WANT(move_blocks(READ, 18, 2, 0) == MDL_GOOD && move_blocks(READ, 22, 4, 0) == MDL_GOOD);
+    WANT(move_blocks(READ, 18, 8, 0) == MDL_CHECK_CONDITION && senses(0x70, 3, 0x11, 0x00));
+    WANT(mdl_read_sense(reply.sense, reply.sense_length, &fields) == MDL_OK);
+    WANT(fields.has_information && fields.information == 20);
+    WANT(move_blocks(READ, 21, 1, 0) == MDL_CHECK_CONDITION && senses(0x70, 3, 0x11, 0x00));
+    WANT(move_blocks(WRITE, 20, 1, 0x22) == MDL_CHECK_CONDITION);
+    WANT(move_blocks(WRITE, 20, 2, 0x22) == MDL_GOOD && is_filled(20, 0x22) && is_filled(21, 0x22));
+
+    WANT(arm(lost) == MDL_OK && move_blocks(READ, 18, 1, 0) == MDL_GOOD);
+    WANT(move_blocks(WRITE, 18, 4, 0x33) == MDL_GOOD);
+    WANT(is_filled(18, 0x11) && is_filled(20, 0x22));
+    torn.blocks = 3;
+    WANT(arm(torn) == MDL_OK && move_blocks(WRITE, 18, 4, 0x44) == MDL_GOOD);
+    WANT(is_filled(18, 0x44) && is_filled(20, 0x44) && is_filled(21, 0x22));
+    WANT(move_blocks(WRITE, 18, 4, 0x55) == MDL_GOOD && is_filled(21, 0x55));
+}
+
+/* The command was executed, and its data-in is there. */
+static void stop_afterwards(void)
+{
+    WANT(move_blocks(WRITE, 5, 1, 0x66) == MDL_GOOD);
+    WANT(arm_outcome(MDL_AFTER_NO_REPLY, 1) == MDL_OK);
+    WANT(move_blocks(READ, 5, 1, 0) == MDL_NO_REPLY && reply.sense_length == 0);
+    WANT(reply.data_in_length == MDL_BLOCK_LENGTH && data_in[0] == 0x66);
+    WANT(happens(MDL_DISARM_ALL) == MDL_OK && arm_outcome(MDL_AFTER_CHECK_CONDITION, 1) == MDL_OK);
+    WANT(move_blocks(WRITE, 5, 1, 0x77) == MDL_CHECK_CONDITION && senses(0x70, 4, 0x44, 0x01));
+    WANT(is_filled(5, 0x77) && happens(MDL_DISARM_ALL) == MDL_OK);
+}
+
+/* Only the commands of some initiators with a code, after others. Faults outlive a power cycle. */
+static void meet_some(void)
+{
+    const mdl_fault fault = { .initiators = 0x42, .outcome = MDL_ARRIVAL_BUSY, .has_code = 1,
+                              .code = 0x00, .skip = 2, .times = 1 };
+    int time;
+
+    WANT(arm(fault) == MDL_OK && move_blocks(READ, 0, 1, 0) == MDL_GOOD);
+    for (time = 0; time < 4; time++)
+        WANT(test_ready(0) == MDL_GOOD);
+    WANT(test_ready(1) == MDL_GOOD && test_ready(1) == MDL_GOOD);
+    WANT(happens(MDL_POWER_CYCLE) == MDL_OK && happens(MDL_TARGET_RESET) == MDL_OK);
+    WANT(test_ready(1) == MDL_BUSY && test_ready(1) == MDL_CHECK_CONDITION);
+    WANT(test_ready(1) == MDL_GOOD);
+    WANT(test_ready(6) == MDL_CHECK_CONDITION && test_ready(6) == MDL_GOOD);
+    WANT(test_ready(6) == MDL_BUSY && test_ready(6) == MDL_GOOD);
+    WANT(test_ready(0) == MDL_CHECK_CONDITION && test_ready(0) == MDL_GOOD);
+}
+
+/* Eight faults have the numbers 0 to 7. The lowest decides, and the lowest free one is taken. */
+static void fill_the_numbers(void)
+{
+    mdl_fault fault = { .initiators = 1, .outcome = MDL_ARRIVAL_CHECK_CONDITION };
+    uint8_t number;
+
+    for (number = 0; number < MDL_MOST_FAULTS; number++) {
+        fault.asc = number;
+        WANT(arm(fault) == MDL_OK);
+    }
+    WANT(arm(fault) == MDL_FAULTS && arm_outcome(MDL_ARRIVAL_BUSY, 0) == MDL_FAULTS);
+    WANT(arm_outcome(10, 0) == MDL_UNKNOWN_FAULT && disarm(8) == MDL_FAULT_NUMBER);
+    for (number = 0; number < MDL_MOST_FAULTS; number++) {
+        WANT(test_ready(0) == MDL_CHECK_CONDITION && senses(0x70, 0, number, 0));
+        WANT(test_ready(1) == MDL_GOOD && disarm(number) == MDL_OK && disarm(number) == MDL_OK);
+    }
+    WANT(test_ready(0) == MDL_GOOD);
+    for (number = 0; number < MDL_MOST_FAULTS; number++) {
+        fault.asc = number;
+        WANT(arm(fault) == MDL_OK);
+    }
+    fault.asc = 0x99;
+    WANT(disarm(5) == MDL_OK && arm(fault) == MDL_OK && arm(fault) == MDL_FAULTS);
+    for (number = 0; number < 5; number++)
+        WANT(disarm(number) == MDL_OK);
+    WANT(test_ready(0) == MDL_CHECK_CONDITION && senses(0x70, 0, 0x99, 0));
+    WANT(happens(MDL_DISARM_ALL) == MDL_OK && test_ready(0) == MDL_GOOD);
+}
+
+static const struct {
+    mdl_fault fault;
+    mdl_error error;
+} refused[] = {
+    { { .initiators = ALL, .outcome = 10 }, MDL_UNKNOWN_FAULT },
+    { { .outcome = 256, .has_code = 2 }, MDL_UNKNOWN_FAULT },
+    { { .initiators = ALL, .outcome = UINT32_MAX, .key = 16 }, MDL_UNKNOWN_FAULT },
+    { { .outcome = MDL_ARRIVAL_CHECK_CONDITION, .key = 16, .has_code = 2 }, MDL_SENSE_KEY },
+    { { .initiators = 1, .outcome = MDL_ARRIVAL_DEFERRED_ERROR, .key = 16 }, MDL_SENSE_KEY },
+    { { .initiators = 1, .outcome = MDL_MEDIUM_CHECK_CONDITION, .key = 0x83 }, MDL_SENSE_KEY },
+    { { .initiators = 1, .outcome = MDL_MEDIUM_CHECK_CONDITION, .key = 0x0c }, MDL_SENSE_KEY },
+    { { .initiators = 1, .outcome = MDL_AFTER_CHECK_CONDITION, .key = 255 }, MDL_SENSE_KEY },
+    { { .key = 16, .has_code = 2 }, MDL_NO_INITIATOR },
+    { { .initiators = 0x100, .healed_by_writes = 2 }, MDL_NO_INITIATOR },
+    { { .initiators = 0x100000001, .count = 1 }, MDL_NO_INITIATOR },
+    { { .initiators = UINT64_MAX }, MDL_NO_INITIATOR },
+    { { .initiators = 1, .has_code = 2 }, MDL_FAULT_FLAG },
+    { { .initiators = 1, .has_code = 255, .code = 0x12 }, MDL_FAULT_FLAG },
+    { { .initiators = 1, .count = 1, .healed_by_writes = 2 }, MDL_FAULT_FLAG },
+    { { .initiators = 1, .healed_by_writes = 255 }, MDL_FAULT_FLAG },
+    { { .initiators = 1, .lba = 1, .healed_by_writes = 1 }, MDL_FAULT_FLAG },
+};
+
+/* What the record asks for is looked at before the disk, and its free numbers last. */
+static void refuse(void)
+{
+    mdl_happening it = { .kind = MDL_ARM };
+    size_t at;
+    int number;
+
+    for (at = 0; at < sizeof refused / sizeof *refused; at++) {
+        it.fault = refused[at].fault;
+        WANT(mdl_happen(&disk, &it) == refused[at].error);
+        WANT(mdl_happen(&no_disk, &it) == refused[at].error);
+    }
+    it.number = 8;
+    for (it.kind = MDL_ARM; it.kind <= MDL_DISARM_ALL; it.kind++) {
+        const mdl_fault busy = { .initiators = ALL, .key = 16, .lba = UINT64_MAX };
+
+        it.fault = busy;
+        it.number = it.kind == MDL_DISARM ? 7 : 8;
+        WANT(mdl_happen(NULL, &it) == MDL_NULL_POINTER);
+        WANT(mdl_happen(&no_disk, &it) == MDL_NO_DISK && !no_disk.target);
+    }
+    for (number = 8; number < 256; number++)
+        WANT(disarm((uint8_t)number) == MDL_FAULT_NUMBER);
+    for (number = 0; number < 8; number++)
+        WANT(test_ready((uint32_t)number) == MDL_GOOD);
+}
+
+int main(void)
+{
+    uint32_t profile;
+
+    for (profile = MDL_PROFILE_BASE; profile <= MDL_PROFILE_EXTENDED; profile++) {
+        make_quiet(profile);
+        stop_on_arrival();
+        stop_at_medium();
+        stop_afterwards();
+        fill_the_numbers();
+        refuse();
+        meet_some();
+    }
+    mdl_free(&disk);
+    return failures != 0;
+}
