@@ -39,7 +39,7 @@ fn next_blocks(random: &mut Random) -> Option<BadBlocks> {
 }
 
 fn next_outcome(random: &mut Random) -> Option<Outcome> {
-    let code = SenseCode::new(random.byte() % 16, random.byte(), random.byte())?;
+    let code = SenseCode::new(random.byte() % 12, random.byte(), random.byte())?;
     Some(match random.byte() % 10 {
         0 => Outcome::OnArrival(OnArrival::Busy),
         1 => Outcome::OnArrival(OnArrival::TaskSetFull),
