@@ -196,7 +196,7 @@ mdl_error mdl_power_cycle(mdl_disk *disk);
 /* What an armed fault does to a command, and where it meets the command:
  *     - On arrival: before every check of the command. The disk does not execute the command.
  *     - At the medium: after the checks of the CDB, its data-out and its blocks. The fault meets
- *       only commands that pass these checks.
+ *       only commands that pass these checks and name at least one block.
  *     - Afterwards: after the command has ended with MDL_GOOD. The disk has executed it, and its
  *       data-in is in the buffer. */
 typedef enum mdl_fault_outcome {

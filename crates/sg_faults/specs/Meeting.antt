@@ -1,5 +1,5 @@
 -- Which commands a fault meets.
-use Rattle.std.specs.Prelude.{ℕ, ◌+◌, ◌==◌, Bool, true, false, ◌&&◌, not, List, [], ◌∷◌, max, nat_le}
+use Rattle.std.specs.Prelude.{ℕ, ◌+◌, ◌==◌, Bool, true, false, ◌&&◌, not, List, [], ◌∷◌, max, nat_le, nat_lt}
 use Rattle.std.specs.Prelude.{Option, Some, None, if◌then◌else◌, is_some}
 use Rattle.std.specs.List.{list_any}
 use Rattle.sg_wire.specs.declared.extent.Extent.{Extent}
@@ -19,6 +19,10 @@ pub record Seen : Type 0 where
   pub writes : Bool
 
 -- ---- Blocks
+
+-- A command that names a block reaches the medium.
+abbrev pub names_block : Seen → Bool
+names_block command = list_any (λ (named : Extent). nat_lt 0 named.count) command.extents
 
 abbrev pub lies_in_extent : Extent → (address : ℕ) → Bool
 lies_in_extent extent address = lies_in extent.lba extent.count address

@@ -1,7 +1,7 @@
 // A command as faults see it.
 ghost use Rattle.std.specs.Prelude.{◌≡◌};
-ghost use Rattle.sg_faults.specs.Meeting.{contains, first_common, first_in, lies_in_extent, one_contains};
-ghost use Rattle.sg_faults.specs.Meeting.{overwrites};
+ghost use Rattle.sg_faults.specs.Meeting.{contains, first_common, first_in, lies_in_extent, names_block};
+ghost use Rattle.sg_faults.specs.Meeting.{one_contains, overwrites};
 
 use sg_wire::{Extent, Initiator};
 use std::marker::Model;
@@ -33,6 +33,13 @@ impl<'a> Model for SeenCommand<'a> {
 }
 
 impl SeenCommand<'_> {
+    /// Returns `true` if it names at least one block, so that it reaches the medium.
+    pub fn names_block(&self) -> bool
+        ensures { result ≡ names_block self.now }
+    {
+        self.extents.iter().any(|extent| extent.count > 0)
+    }
+
     /// The first of some blocks that it names. If several of its extents have one, the first extent
     /// decides.
     pub(crate) fn first_in(&self, blocks: Extent) -> Option<u64>

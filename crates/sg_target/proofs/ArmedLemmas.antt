@@ -1,10 +1,11 @@
 -- Commands on a disk with armed faults.
 use Rattle.std.proofs.Common.{◌≡◌, ◌≤◌, ℕ, ◌*◌, List, min, Option, Some, None}
-use Rattle.std.proofs.Common.{Result, Ok, Err, false, refl, ap, ap₂, ◌∙◌, arith, length-take}
+use Rattle.std.proofs.Common.{Result, Ok, Err, Bool, true, false, if◌then◌else◌, refl, ap, ap₂, ◌∙◌}
+use Rattle.std.proofs.Common.{arith, length-take}
 use Rattle.std.specs.Prelude.{IfOk}
 use Rattle.sg_faults.specs.Faults.{Faults, asked, decided, healed, is_armed}
 use Rattle.sg_faults.specs.Laws.{UnarmedFaultsDoNothing}
-use Rattle.sg_faults.specs.Meeting.{Seen}
+use Rattle.sg_faults.specs.Meeting.{Seen, names_block}
 use Rattle.sg_faults.specs.Places.{afterwards, at_medium, on_arrival}
 use Rattle.sg_faults.specs.declared.outcome.Afterwards.{Afterwards}
 use Rattle.sg_faults.specs.declared.outcome.AtMedium.{AtMedium}
@@ -28,6 +29,11 @@ use Rattle.sg_target.specs.declared.reply.Status.{Status}
 use Rattle.sg_target.specs.declared.reply.Status.TheVariants.{Good}
 use Rattle.sg_target.proofs.BlocksLemmas.{IsReady, Ready}
 
+-- what holds of both
+pub of-both : {A : Type 0} (P : A → Type 0) (b : Bool) {x y : A} → P x → P y → P (if b then x else y)
+of-both P true px py = px
+of-both P false px py = py
+
 -- ---- No fault is armed
 
 module _ (law : UnarmedFaultsDoNothing) where
@@ -36,7 +42,8 @@ module _ (law : UnarmedFaultsDoNothing) where
       → checked_attempt command checked faults ≡ record { result = checked; faults = faults }
   checked-unarmed faults command (Err refusal) e = refl
   checked-unarmed faults command (Ok o) e = let idle = law.at_medium command faults e in
-      ap₂ (λ (d : Option (Struck AtMedium)) (f : Faults). medium_attempt d o f) idle.0 idle.1
+      of-both (λ (t : Attempt). t ≡ record { result = Ok o; faults = faults }) (names_block command)
+      (ap₂ (λ (d : Option (Struck AtMedium)) (f : Faults). medium_attempt d o f) idle.0 idle.1) refl
 
   pub attempt-unarmed : (faults : Faults) (command : Seen) (checked : Result Operation Refusal)
       → is_armed faults ≡ false
@@ -113,7 +120,8 @@ module _ (P : Operation → Type 0)
   after-checks : (command : Seen) (checked : Result Operation Refusal) (faults : Faults)
       → Holds checked → Holds (checked_attempt command checked faults).result
   after-checks command (Ok o) faults h =
-      after-medium (decided at_medium command faults) o (asked at_medium command faults) h
+      of-both (λ (t : Attempt). Holds t.result) (names_block command)
+      (after-medium (decided at_medium command faults) o (asked at_medium command faults) h) h
   after-checks command (Err refusal) faults h = tt
 
   after-arrival : (struck : Option (Struck OnArrival)) (command : Seen)

@@ -1,7 +1,8 @@
 -- A command is concluded: what it answers, leaves and costs on a disk with armed faults.
-use Rattle.std.proofs.Common.{◌≡◌, ◌≤◌, ℕ, List, Option, Some, None, Result, refl, sym, ap, subst, ◌∙◌}
+use Rattle.std.proofs.Common.{◌≡◌, ◌≤◌, ℕ, List, Option, Some, None, Result, false, refl, sym, ap, subst, ◌∙◌}
 use Rattle.sg_wire.specs.declared.sense.Format.{Format}
-use Rattle.sg_faults.specs.Faults.{Faults, asked, decided, healed}
+use Rattle.sg_faults.specs.Faults.{Faults, asked, decided, healed, is_armed}
+use Rattle.sg_faults.specs.Laws.{UnarmedFaultsDoNothing}
 use Rattle.sg_faults.specs.Meeting.{Seen}
 use Rattle.sg_faults.specs.Places.{afterwards}
 use Rattle.sg_faults.specs.declared.outcome.Afterwards.{Afterwards}
@@ -28,6 +29,7 @@ use Rattle.sg_target.specs.declared.reply.Reply.{Reply}
 use Rattle.sg_target.specs.declared.reply.Status.{Status}
 use Rattle.sg_target.specs.declared.reply.Status.TheVariants.{Good, CheckCondition, ReservationConflict}
 use Rattle.sg_target.specs.declared.reply.Status.TheVariants.{Busy, TaskSetFull, NoReply}
+use Rattle.sg_target.proofs.ArmedLemmas.{attempt-unarmed, step-by-unarmed}
 
 -- ---- What the checks have passed or refused
 
@@ -73,28 +75,28 @@ module _ (limits : LimitsAreKept) (bounds : CostBounds) (i : ℕ) (cdb data_out 
 
 -- ---- No fault is armed
 
-pub takes-unarmed : (bounds : CostBounds) (i : ℕ) (cdb : List ℕ) (checked : Result Operation Refusal)
-    (old new : TargetFields) (reply : Reply) (buffer buffer' : List ℕ)
-    → armed_step_by (disk_of old) i cdb checked
-    ≡ (let done = step_of_checked old.state i checked in
-    record { answer = done.answer; after = record (disk_of old) { state = done.state } })
-    → attempt_by (disk_of old) i cdb checked ≡ record { result = checked; faults = old.faults }
+pub takes-unarmed : UnarmedFaultsDoNothing → (bounds : CostBounds) (i : ℕ) (cdb : List ℕ)
+    (checked : Result Operation Refusal) (old new : TargetFields) (reply : Reply)
+    (buffer buffer' : List ℕ) → is_armed old.faults ≡ false
     → TakesStep bounds (step_of_checked old.state i checked) (ranges_if_passed old.state checked) old
     new reply buffer buffer'
     → TakesArmedStep bounds (armed_step_by (disk_of old) i cdb checked)
     (armed_ranges (disk_of old) i cdb checked) old new reply buffer buffer'
-takes-unarmed bounds i cdb checked old new reply buffer buffer' step tried h = record {
-  answer =
-      subst (λ (a : Answer). Carries a reply buffer buffer')
-      (sym (ap (λ (s : ArmedStep). s.answer) step)) h.answer;
-  after =
-      (λ d. record { state = h.state d; faults = h.faults d })
-      ∙ sym (ap (λ (s : ArmedStep). s.after) step);
-  charge =
-      subst
-      (λ (xs : List Range). IsCharged bounds old.state.disk.pool xs old.meter new.meter reply)
-      (sym (ap (λ (t : Attempt). ranges_if_passed old.state t.result) tried)) h.charge;
-}
+takes-unarmed law bounds i cdb checked old new reply buffer buffer' unarmed h =
+    let step = step-by-unarmed law (disk_of old) i cdb checked unarmed in
+    let tried = attempt-unarmed law old.faults (seen i cdb checked) checked unarmed in
+    record {
+      answer =
+          subst (λ (a : Answer). Carries a reply buffer buffer')
+          (sym (ap (λ (s : ArmedStep). s.answer) step)) h.answer;
+      after =
+          (λ d. record { state = h.state d; faults = h.faults d })
+          ∙ sym (ap (λ (s : ArmedStep). s.after) step);
+      charge =
+          subst
+          (λ (xs : List Range). IsCharged bounds old.state.disk.pool xs old.meter new.meter reply)
+          (sym (ap (λ (t : Attempt). ranges_if_passed old.state t.result) tried)) h.charge;
+    }
 
 -- ---- Faults are armed
 
@@ -125,28 +127,23 @@ afterwards-after (Some struck) done faults = refl
 -- and costs the same
 module _ (bounds : CostBounds) (pool : ℕ) (over : List Range) (from to : Meter) (format : Format)
     (reply : Reply) (h : IsCharged bounds pool over from to reply) where
+  without-good : (status : Status) (sense : List ℕ) → (status ≡ Good → ⊥)
+      → IsCharged bounds pool over from to (record reply { status = status; sense = sense })
+  without-good status sense not = record {
+    visits = h.visits;
+    probes = h.probes;
+    links = h.links;
+    least = λ good. absurd (not good);
+    visited = h.visited;
+    counted = h.counted;
+    restarts = h.restarts;
+    idle = h.idle;
+  }
+
   charged-by : (outcome : Afterwards)
       → IsCharged bounds pool over from to (reply_afterwards format reply outcome)
-  charged-by after.NoReply = record {
-    visits = h.visits;
-    probes = h.probes;
-    links = h.links;
-    least = λ good. cc;
-    visited = h.visited;
-    counted = h.counted;
-    restarts = h.restarts;
-    idle = h.idle;
-  }
-  charged-by (after.CheckCondition code) = record {
-    visits = h.visits;
-    probes = h.probes;
-    links = h.links;
-    least = λ good. cc;
-    visited = h.visited;
-    counted = h.counted;
-    restarts = h.restarts;
-    idle = h.idle;
-  }
+  charged-by after.NoReply = without-good NoReply reply.sense (λ bad. cc)
+  charged-by (after.CheckCondition code) = without-good CheckCondition _ (λ bad. cc)
 
   finished-charged : (struck : Option (Struck Afterwards))
       → IsCharged bounds pool over from to (finished_reply format reply struck)

@@ -4,7 +4,7 @@ use Rattle.std.proofs.Common.{Option, Some, None, Result, Ok, Err, refl, sym, ap
 use Rattle.std.specs.List.{list_all}
 use Rattle.sg_faults.specs.Faults.{Faults, asked, decided, disarmed, healed, is_armed}
 use Rattle.sg_faults.specs.Laws.{SparedInitiatorsMeetNoFault, UnarmedFaultsDoNothing, is_spared}
-use Rattle.sg_faults.specs.Meeting.{Seen}
+use Rattle.sg_faults.specs.Meeting.{Seen, names_block}
 use Rattle.sg_faults.specs.Places.{afterwards, at_medium, on_arrival}
 use Rattle.sg_faults.specs.declared.outcome.Afterwards.{Afterwards}
 use Rattle.sg_faults.specs.declared.outcome.AtMedium.{AtMedium}
@@ -31,7 +31,7 @@ use Rattle.sg_target.specs.declared.operation.Operation.{Operation}
 use Rattle.sg_target.specs.declared.refusal.Refusal.{Refusal}
 use Rattle.sg_target.specs.declared.reply.Status.{Status}
 use Rattle.sg_target.specs.declared.reply.Status.TheVariants.{Good}
-use Rattle.sg_target.proofs.ArmedLemmas.{finished-state, step-unarmed}
+use Rattle.sg_target.proofs.ArmedLemmas.{finished-state, of-both, step-unarmed}
 
 -- ---- What faults can do
 
@@ -71,7 +71,9 @@ module _ (state : State) (i : ℕ) (cdb data_out : List ℕ) where
       → checked_cdb state i cdb data_out ≡ checked
       → Leaves (state_by (checked_attempt command checked faults).result)
   by-checks command (Ok o) faults e =
-      by-medium o e (decided at_medium command faults) (asked at_medium command faults)
+      of-both (λ (t : Attempt). Leaves (state_by t.result)) (names_block command)
+      (by-medium o e (decided at_medium command faults) (asked at_medium command faults))
+      (inr (inl (ap state_by (sym e))))
   by-checks command (Err refusal) faults e = inr (inl (ap state_by (sym e)))
 
   by-attempt : (struck : Option (Struck OnArrival)) (command : Seen)
@@ -151,7 +153,8 @@ module _ (law : SparedInitiatorsMeetNoFault) (i : ℕ) (cdb : List ℕ) where
   checked-spared command who (Err refusal) faults e =
       record { result = refl; faults = ap (is_spared faults) (sym who) ∙ e }
   checked-spared command who (Ok o) faults e = let idle = law.at_medium command faults e in
-      record {
+      of-both (Spared (Ok o)) (names_block command)
+      (record {
         result =
             ap
             (λ (d : Option (Struck AtMedium)).
@@ -161,7 +164,8 @@ module _ (law : SparedInitiatorsMeetNoFault) (i : ℕ) (cdb : List ℕ) where
             ap (λ (d : Option (Struck AtMedium)). is_spared
             (medium_attempt d o (asked at_medium command faults)).faults i) idle.0
             ∙ (ap (is_spared (asked at_medium command faults)) (sym who) ∙ idle.1);
-      }
+      })
+      (record { result = refl; faults = ap (is_spared faults) (sym who) ∙ e })
 
   attempt-spared : (command : Seen) → command.initiator ≡ i → (checked : Result Operation Refusal)
       (faults : Faults) → is_spared faults command.initiator ≡ true

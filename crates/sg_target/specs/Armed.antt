@@ -1,11 +1,11 @@
 -- A disk on which faults are armed: what it answers, and what it becomes. `step` defines what a disk
 -- without faults answers.
 use Rattle.std.specs.Prelude.{ℕ, min, List, Option, Some, None, Result, Ok, Err}
-use Rattle.std.specs.Prelude.{slice_get}
+use Rattle.std.specs.Prelude.{if◌then◌else◌, slice_get}
 use Rattle.sg_wire.specs.declared.extent.Extent.{Extent}
 use Rattle.sg_wire.specs.SenseData.{sense_data}
 use Rattle.sg_faults.specs.Faults.{Faults, asked, decided, healed}
-use Rattle.sg_faults.specs.Meeting.{Seen}
+use Rattle.sg_faults.specs.Meeting.{Seen, names_block}
 use Rattle.sg_faults.specs.Places.{afterwards, at_medium, on_arrival}
 use Rattle.sg_faults.specs.declared.outcome.Afterwards.{Afterwards}
 use Rattle.sg_faults.specs.declared.outcome.Afterwards.TheVariants as after
@@ -68,8 +68,8 @@ first_blocks n (Write out) = Write (blocks_out (first_of n out.extent) out.bytes
 first_blocks n (Fill extent block) = Fill (first_of n extent) block
 first_blocks n operation = operation
 
--- What a fault does at the medium comes after the checks of a CDB, its data-out and its blocks, and
--- before what an operation finds on its way, such as a lack of space.
+-- A command reaches the medium if it names a block. What a fault does there comes after the checks of
+-- the CDB, its data-out and its blocks, and before the check for space.
 abbrev pub result_at_medium : Operation → (first_bad : Option ℕ) → AtMedium → Result Operation Refusal
 result_at_medium operation first_bad (medium.CheckCondition code) =
     Err (refusal.CheckCondition (Fault code first_bad))
@@ -87,7 +87,9 @@ medium_attempt (Some struck) operation faults =
 
 abbrev pub checked_attempt : Seen → Result Operation Refusal → Faults → Attempt
 checked_attempt command (Ok operation) faults =
-    medium_attempt (decided at_medium command faults) operation (asked at_medium command faults)
+    if names_block command
+    then medium_attempt (decided at_medium command faults) operation (asked at_medium command faults)
+    else record { result = Ok operation; faults = faults }
 checked_attempt command (Err refusal) faults = record { result = Err refusal; faults = faults }
 
 abbrev pub arrival_attempt : Option (Struck OnArrival) → Seen → Result Operation Refusal → Faults

@@ -1,10 +1,10 @@
 // Commands on a disk on which faults are armed.
-ghost use Rattle.std.specs.Prelude.{◌≡◌, ◌≤◌, [], ◌∷◌, IfOk, length, min, slice_get};
+ghost use Rattle.std.specs.Prelude.{◌≡◌, ◌≤◌, [], ◌∷◌, IfOk, length, min};
 ghost use Rattle.sg_faults.specs.Faults.{asked, decided, healed};
 ghost use Rattle.sg_faults.specs.Places.{afterwards};
 ghost use Rattle.sg_target.specs.Armed.{armed_step_by, attempt, first_blocks, first_of};
 ghost use Rattle.sg_target.specs.Armed.{medium_of, refusal_on_arrival, result_at_medium};
-ghost use Rattle.sg_target.specs.Armed.{step_of_checked};
+ghost use Rattle.sg_target.specs.Armed.{seen, step_of_checked};
 ghost use Rattle.sg_target.specs.Charge.{ChargesCommand, TakesArmedStep, TakesStep, armed_ranges};
 ghost use Rattle.sg_target.specs.Charge.{cost_bounds};
 ghost use Rattle.sg_target.specs.DataInBound.{checked_bound, longest_data_in, needed_buffer};
@@ -24,7 +24,7 @@ use crate::reply::{Reply, Status};
 use crate::room::data_in_bound;
 use crate::target::Target;
 use sg_faults::{Afterwards, ArmedFault, AtMedium, OnArrival, SeenCommand};
-use sg_store::{Counts, Store};
+use sg_store::{Counts, MAX_CAPACITY, Store};
 use sg_wire::{Extent, Initiator, UnmapList};
 
 /// The first blocks of an extent, at most this many.
@@ -66,32 +66,6 @@ impl<'a> Operation<'a> {
         }
     }
 
-    /// Returns `true` if it writes to the medium.
-    fn writes(&self) -> bool
-        ensures { result ≡ (medium_use self.now).writes }
-    {
-        match self {
-            Operation::Write(_)
-            | Operation::Fill { .. }
-            | Operation::Unmap(_)
-            | Operation::UnmapExtent(_)
-            | Operation::Anchor(_)
-            | Operation::AnchorExtent(_) => true,
-            Operation::Nothing
-            | Operation::ReturnSense { .. }
-            | Operation::ReturnInquiry { .. }
-            | Operation::ReturnModes { .. }
-            | Operation::ChangeModes { .. }
-            | Operation::ReturnCapacity10
-            | Operation::ReturnCapacity16(_)
-            | Operation::Read(_)
-            | Operation::Synchronize(_)
-            | Operation::ReturnLbaStatus { .. }
-            | Operation::ReturnReservations { .. }
-            | Operation::ChangeReservations { .. } => false,
-        }
-    }
-
     /// The same operation, but a READ, a WRITE or a WRITE SAME only of its first blocks.
     fn first_blocks(self, blocks: u32) -> Operation<'a>
         ensures { result ≡ first_blocks blocks self.entry }
@@ -126,21 +100,29 @@ fn extents_of(checked: &Result<Operation<'_>, Refusal>) -> UnmapList
     }
 }
 
-/// A command writes to the medium, unless it is refused.
-fn writes(checked: &Result<Operation<'_>, Refusal>) -> bool
-    ensures { result ≡ (medium_of checked.now).writes }
+/// What the faults see of a command on a disk of `capacity` blocks. `extents` are the blocks that it
+/// uses.
+fn seen<'a>(
+    initiator: Initiator,
+    cdb: &[u8],
+    checked: &Result<Operation<'_>, Refusal>,
+    capacity: u64,
+    extents: &'a UnmapList,
+) -> SeenCommand<'a>
+    requires capacity { capacity ≤ MAX_CAPACITY }
+    requires extents { extents.now ≡ (medium_of checked.now).extents }
+    ensures { result ≡ seen initiator cdb.now checked.now }
 {
-    match checked {
-        Ok(operation) => operation.writes(),
+    let writes = match checked {
+        Ok(operation) => operation.medium_use(capacity).writes,
         Err(_) => false,
+    };
+    SeenCommand {
+        initiator,
+        code: cdb.first().copied(),
+        extents: extents.as_slice(),
+        writes,
     }
-}
-
-/// The operation code of a CDB.
-fn code_of(cdb: &[u8]) -> Option<u8>
-    ensures { result ≡ slice_get cdb.now 0 }
-{
-    cdb.first().copied()
 }
 
 /// What a fault on arrival answers.
@@ -224,21 +206,12 @@ impl<S: Store> Target<S> {
             (armed_ranges (disk_of self.old) initiator cdb.now checked.entry)
             self.old self.new result buf.old buf.new }
     {
+        let capacity = self.config.blocks();
         let extents = extents_of(&checked);
-        let command = SeenCommand {
-            initiator,
-            code: code_of(cdb),
-            extents: extents.as_slice(),
-            writes: writes(&checked),
-        };
+        let command = seen(initiator, cdb, &checked, capacity, &extents);
         let tried = self.attempt(&command, checked);
         let extents = extents_of(&tried);
-        let command = SeenCommand {
-            initiator,
-            code: code_of(cdb),
-            extents: extents.as_slice(),
-            writes: writes(&tried),
-        };
+        let command = seen(initiator, cdb, &tried, capacity, &extents);
         let reply = self.perform(initiator, tried, buf);
         if reply.status == Status::Good {
             self.finish(&command, reply)
@@ -284,6 +257,9 @@ impl<S: Store> Target<S> {
             return Err(refusal_on_arrival(struck.outcome));
         }
         let operation = checked?;
+        if !command.names_block() {
+            return Ok(operation);
+        }
         match self.faults.ask::<AtMedium>(command) {
             Some(struck) => result_at_medium(operation, struck.first_bad, struck.outcome),
             None => Ok(operation),

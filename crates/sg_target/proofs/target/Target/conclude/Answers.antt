@@ -1,32 +1,51 @@
-use Rattle.std.proofs.Common.{◌≡◌, ◌≤◌, List, sym, ap, subst, ◌∙◌, arith}
-use Rattle.sg_target.specs.Armed.{Attempt, seen}
-use Rattle.sg_target.specs.Charge.{IsCharged, armed_ranges, cost_bounds, visit_bound}
-use Rattle.sg_target.specs.Ranges.{Range, ranges_if_passed, ranges_of}
-use Rattle.sg_target.specs.Target.{disk_of}
-use Rattle.sg_target.proofs.ArmedLemmas.{attempt-unarmed}
-use Rattle.sg_target.proofs.ConcludingLemmas.{charged}
+use Rattle.std.proofs.Common.{◌≡◌, ◌≤◌, ℕ, List, Result, Ok, false, sym, subst, arith}
+use Rattle.sg_faults.specs.Faults.{is_armed}
+use Rattle.sg_faults.specs.Laws.{UnarmedFaultsDoNothing}
+use Rattle.sg_target.specs.Armed.{armed_step_by, step_of_checked}
+use Rattle.sg_target.specs.Charge.{CostBounds, TakesArmedStep, TakesStep, armed_ranges, step_by}
+use Rattle.sg_target.specs.Charge.{cost_bounds, visit_bound}
+use Rattle.sg_target.specs.Ranges.{ranges_if_passed, ranges_of}
+use Rattle.sg_target.specs.Target.{TargetFields, disk_of}
+use Rattle.sg_target.specs.declared.operation.Operation.{Operation}
+use Rattle.sg_target.specs.declared.refusal.Refusal.{Refusal}
+use Rattle.sg_target.specs.declared.reply.Reply.{Reply}
+use Rattle.sg_target.proofs.ConcludingLemmas.{charged, executed, takes-unarmed}
 use Rattle.sg_target.proofs.RangeLemmas.{price-within}
 use Rattle.sg_target.proofs.target.Target.conclude.Goals as goal
+
+-- an operation that the checks have passed takes the step of their result
+taken : UnarmedFaultsDoNothing → (bounds : CostBounds) (i : ℕ) (cdb : List ℕ) (operation : Operation)
+    (checked : Result Operation Refusal) (old new : TargetFields) (reply : Reply)
+    (buffer buffer' : List ℕ) → is_armed old.faults ≡ false → checked ≡ Ok operation
+    → TakesStep bounds (step_by old.state i operation) (ranges_of old.state operation) old new reply
+    buffer buffer'
+    → TakesArmedStep bounds (armed_step_by (disk_of old) i cdb checked)
+    (armed_ranges (disk_of old) i cdb checked) old new reply buffer buffer'
+taken law bounds i cdb operation checked old new reply buffer buffer' unarmed is h =
+    takes-unarmed law bounds i cdb checked old new reply buffer buffer' unarmed
+    (subst
+    (λ (r : Result Operation Refusal). TakesStep bounds (step_of_checked old.state i r)
+    (ranges_if_passed old.state r) old new reply buffer buffer')
+    (sym is) h)
+
+pub returns-in-Ok-clause-executed : goal.returns-in-Ok-clause-executed
+returns-in-Ok-clause-executed g c =
+    executed c.limits_are_kept.ensures (cost_bounds g.S.Store.price g.S.Store.least) _ _ _
+    c.args.checked c.args.self.now _ _ _ _ c.requires.checked _ c.requires.limits
+    (taken c.unarmed_faults_do_nothing.ensures _ _ _ _ _ _ _ _ _ _ c.requires.unarmed c.in-Ok.is
+    c.execute_checked.ensures)
 
 pub returns-in-Ok-clause-charged : goal.returns-in-Ok-clause-charged
 returns-in-Ok-clause-charged g c =
     let bounds = cost_bounds g.S.Store.price g.S.Store.least in
-    let old = c.args.self.now in
-    let new = c.execute_checked.new.self in
-    let reply = c.execute_checked.result in
     let i = c.args.call.initiator in
     let cdb = c.args.call.cdb.now in
-    let checked = c.args.checked in
-    let tried = attempt-unarmed c.unarmed_faults_do_nothing.ensures old.faults (seen i cdb checked)
-    checked c.requires.unarmed in
-    let passed : ranges_of old.state c.in-Ok.operation ≡ armed_ranges (disk_of old) i cdb checked =
-    sym (ap (λ (t : Attempt). ranges_if_passed old.state t.result) tried
-    ∙ ap (ranges_if_passed old.state) c.in-Ok.is) in
-    let over = armed_ranges (disk_of old) i cdb checked in
-    let charge : IsCharged bounds old.state.disk.pool over old.meter new.meter reply =
-    subst (λ (xs : List Range). IsCharged bounds old.state.disk.pool xs old.meter new.meter reply)
-    passed c.execute_checked.ensures.charge in
+    let over = armed_ranges (disk_of c.args.self.now) i cdb c.args.checked in
+    let step =
+    taken c.unarmed_faults_do_nothing.ensures bounds i cdb c.in-Ok.operation c.args.checked
+    c.args.self.now _ _ c.args.buf.now _ c.requires.unarmed c.in-Ok.is c.execute_checked.ensures in
     let within = price-within g.S.Store.price g.met.S.Store.price_within over in
-    let few : reply.counts.visits ≤ visit_bound over = omega (arith, within, charge.visits) in
-    charged c.limits_are_kept.ensures bounds i cdb c.args.call.data_out.now checked old new reply
-    c.args.buf.now c.execute_checked.new.buf c.requires.checked charge few
+    let few : c.execute_checked.result.counts.visits ≤ visit_bound over =
+    omega (arith, within, step.charge.visits) in
+    charged c.limits_are_kept.ensures bounds i cdb _ c.args.checked c.args.self.now _ _ c.args.buf.now
+    c.execute_checked.new.buf c.requires.checked step.charge few

@@ -39,39 +39,14 @@ returns-then-eq g c =
     let reply = c.perform-reply.result in
     let bounds = cost_bounds g.S.Store.price g.S.Store.least in
     let tried = attempt_by (disk_of old) i cdb checked in
-    let first : Seen = record {
-      initiator = i;
-      code = c.code_of.result;
-      extents = c.as_slice.result.now;
-      writes = c.writes.result;
-    } in
-    let first-is : first ≡ seen i cdb checked =
-    λ d. record {
-      initiator = i;
-      code = c.code_of.ensures d;
-      extents = (c.as_slice.ensures.extents ∙ c.extents_of-extents.ensures) d;
-      writes = c.writes.ensures d;
-    } in
+    let first-is = c.seen-command.ensures in
     let result : c.attempt-tried.result ≡ tried.result =
     c.attempt-tried.ensures.result
     ∙ ap (λ (s : Seen). (attempt old.faults s checked).result) first-is in
     let faults : between.faults ≡ tried.faults =
     c.attempt-tried.ensures.faults
     ∙ ap (λ (s : Seen). (attempt old.faults s checked).faults) first-is in
-    let second : Seen = record {
-      initiator = i;
-      code = c.code_of-2.result;
-      extents = c.as_slice-2.result.now;
-      writes = c.writes-2.result;
-    } in
-    let second-is : second ≡ seen i cdb tried.result =
-    (λ d. record {
-      initiator = i;
-      code = c.code_of-2.ensures d;
-      extents = (c.as_slice-2.ensures.extents ∙ c.extents_of-extents-2.ensures) d;
-      writes = c.writes-2.ensures d;
-    })
-    ∙ ap (seen i cdb) result in
+    let second-is = c.seen-command-2.ensures ∙ ap (seen i cdb) result in
     let takes : TakesStep bounds (step_of_checked old.state i tried.result)
     (ranges_if_passed old.state tried.result) between done reply c.args.buf.now
     c.perform-reply.new.buf =
