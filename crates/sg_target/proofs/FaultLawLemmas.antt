@@ -7,42 +7,61 @@ use Rattle.sg_faults.specs.Laws.{SparedInitiatorsMeetNoFault, UnarmedFaultsDoNot
 use Rattle.sg_faults.specs.Meeting.{Seen, names_block}
 use Rattle.sg_faults.specs.Places.{afterwards, at_medium, on_arrival}
 use Rattle.sg_faults.specs.declared.outcome.Afterwards.{Afterwards}
+use Rattle.sg_faults.specs.declared.outcome.Afterwards.TheVariants as after
 use Rattle.sg_faults.specs.declared.outcome.AtMedium.{AtMedium}
 use Rattle.sg_faults.specs.declared.outcome.AtMedium.TheVariants as medium
 use Rattle.sg_faults.specs.declared.outcome.OnArrival.{OnArrival}
 use Rattle.sg_faults.specs.declared.outcome.OnArrival.TheVariants as arrival
 use Rattle.sg_faults.specs.declared.outcome.Struck.{Struck}
 use Rattle.sg_target.specs.Armed.{Armed, ArmedStep, Attempt, afterwards_step, armed_step}
-use Rattle.sg_target.specs.Armed.{arrival_attempt, attempt, checked_attempt, finished_if_good}
-use Rattle.sg_target.specs.Armed.{medium_attempt, refusal_on_arrival, result_at_medium, seen}
+use Rattle.sg_target.specs.Armed.{answer_afterwards, armed_step_by, arrival_attempt, attempt}
+use Rattle.sg_target.specs.Armed.{attempt_of, checked_attempt, finished_attempt, finished_if_good}
+use Rattle.sg_target.specs.Armed.{first_blocks, medium_attempt, refusal_on_arrival}
+use Rattle.sg_target.specs.Armed.{result_at_medium, seen}
 use Rattle.sg_target.specs.Armed.{step_of_checked}
 use Rattle.sg_target.specs.Checks.{checked_cdb}
-use Rattle.sg_target.specs.FaultLaws.{FaultsOnlyDropOrShorten, MovesFirstBlocks}
-use Rattle.sg_target.specs.FaultLaws.{RunsAsWithoutFaults, is_arming}
+use Rattle.sg_target.specs.FaultLaws.{FaultsOnlyDropOrShorten, IsExecutedInPart}
+use Rattle.sg_target.specs.FaultLaws.{OnlyPassedCommandsEndWithGood, RefusedCommandsStayRefused}
+use Rattle.sg_target.specs.FaultLaws.{RunsAsWithoutFaults, StaysRefused, WritesFirstBlocks, is_arming}
 use Rattle.sg_target.specs.Happenings.{faults_after}
 use Rattle.sg_target.specs.Runs.{after_events, answers_to, armed_after_happening, armed_disk}
 use Rattle.sg_target.specs.State.{State}
-use Rattle.sg_target.specs.Step.{Step, step}
+use Rattle.sg_target.specs.Step.{Answer, Step, refused, step}
 use Rattle.sg_target.specs.declared.event.Event.{Event}
 use Rattle.sg_target.specs.declared.event.Event.TheVariants as event
 use Rattle.sg_target.specs.declared.happening.Happening.{Happening}
 use Rattle.sg_target.specs.declared.happening.Happening.TheVariants.{Arm, Disarm, DisarmAll}
 use Rattle.sg_target.specs.declared.operation.Operation.{Operation}
+use Rattle.sg_target.specs.declared.operation.Operation.TheVariants as operation
 use Rattle.sg_target.specs.declared.refusal.Refusal.{Refusal}
 use Rattle.sg_target.specs.declared.reply.Status.{Status}
 use Rattle.sg_target.specs.declared.reply.Status.TheVariants.{Good}
 use Rattle.sg_target.proofs.ArmedLemmas.{finished-state, of-both, step-unarmed}
+use Rattle.sg_target.proofs.LiftLemmas.{not_good}
 
 -- ---- What faults can do
 
 module _ (state : State) (i : ℕ) (cdb data_out : List ℕ) where
-  abbrev Leaves : State → Type 0
-  Leaves after =
-      (after ≡ state) ⊎ ((after ≡ (step state i cdb data_out).state)
-      ⊎ MovesFirstBlocks state i cdb data_out after)
-
   abbrev state_by : Result Operation Refusal → State
   state_by result = (step_of_checked state i result).state
+
+  -- a fault refuses a command, which changes nothing then
+  record IsDropped (result : Result Operation Refusal) : Type 0 where
+    refusal : Refusal
+    is : result ≡ Err refusal
+    left : state_by result ≡ state
+
+  -- only the first blocks of an operation that passes the checks are moved
+  record IsCutShort (result : Result Operation Refusal) : Type 0 where
+    operation : Operation
+    passed : checked_cdb state i cdb data_out ≡ Ok operation
+    blocks : ℕ
+    is : result ≡ Ok (first_blocks blocks operation)
+
+  -- what becomes of the result of the checks
+  abbrev Tried : Result Operation Refusal → Type 0
+  Tried result =
+      (result ≡ checked_cdb state i cdb data_out) ⊎ (IsDropped result ⊎ IsCutShort result)
 
   by-arrival : (outcome : OnArrival) → state_by (Err (refusal_on_arrival outcome)) ≡ state
   by-arrival arrival.Busy = refl
@@ -52,47 +71,192 @@ module _ (state : State) (i : ℕ) (cdb data_out : List ℕ) where
   by-arrival (arrival.CheckCondition code) = refl
   by-arrival (arrival.DeferredError code) = refl
 
-  -- the checks pass an operation
-  module _ (o : Operation) (passed : checked_cdb state i cdb data_out ≡ Ok o) where
-    sound : state_by (Ok o) ≡ (step state i cdb data_out).state
-    sound = ap state_by (sym passed)
+  by-outcome : (o : Operation) → checked_cdb state i cdb data_out ≡ Ok o → (bad : Option ℕ)
+      (outcome : AtMedium) → Tried (result_at_medium o bad outcome)
+  by-outcome o passed bad (medium.CheckCondition code) =
+      inr (inl (record { refusal = _; is = refl; left = refl }))
+  by-outcome o passed bad (medium.MovesOnly n) =
+      inr (inr (record { operation = o; passed = passed; blocks = n; is = refl }))
 
-    by-outcome : (bad : Option ℕ) (outcome : AtMedium) → Leaves (state_by (result_at_medium o bad outcome))
-    by-outcome bad (medium.CheckCondition code) = inl refl
-    by-outcome bad (medium.MovesOnly n) =
-        inr (inr (record { operation = o; passed = passed; blocks = n; state_is = refl }))
-
-    by-medium : (struck : Option (Struck AtMedium)) (faults : Faults)
-        → Leaves (state_by (medium_attempt struck o faults).result)
-    by-medium None faults = inr (inl sound)
-    by-medium (Some struck) faults = by-outcome struck.first_bad struck.outcome
+  by-medium : (o : Operation) → checked_cdb state i cdb data_out ≡ Ok o
+      → (struck : Option (Struck AtMedium)) (faults : Faults)
+      → Tried (medium_attempt struck o faults).result
+  by-medium o passed None faults = inl (sym passed)
+  by-medium o passed (Some struck) faults = by-outcome o passed struck.first_bad struck.outcome
 
   by-checks : (command : Seen) (checked : Result Operation Refusal) (faults : Faults)
       → checked_cdb state i cdb data_out ≡ checked
-      → Leaves (state_by (checked_attempt command checked faults).result)
+      → Tried (checked_attempt command checked faults).result
   by-checks command (Ok o) faults e =
-      of-both (λ (t : Attempt). Leaves (state_by t.result)) (names_block command)
-      (by-medium o e (decided at_medium command faults) (asked at_medium command faults))
-      (inr (inl (ap state_by (sym e))))
-  by-checks command (Err refusal) faults e = inr (inl (ap state_by (sym e)))
+      of-both (λ (t : Attempt). Tried t.result) (names_block command)
+      (by-medium o e (decided at_medium command faults) (asked at_medium command faults)) (inl (sym e))
+  by-checks command (Err refusal) faults e = inl (sym e)
 
   by-attempt : (struck : Option (Struck OnArrival)) (command : Seen)
       (checked : Result Operation Refusal) (faults : Faults)
       → checked_cdb state i cdb data_out ≡ checked
-      → Leaves (state_by (arrival_attempt struck command checked faults).result)
+      → Tried (arrival_attempt struck command checked faults).result
   by-attempt None command checked faults e = by-checks command checked faults e
-  by-attempt (Some struck) command checked faults e = inl (by-arrival struck.outcome)
+  by-attempt (Some struck) command checked faults e =
+      inr (inl (record {
+        refusal = refusal_on_arrival struck.outcome;
+        is = refl;
+        left = by-arrival struck.outcome;
+      }))
+
+  -- ---- the state afterwards
+
+  abbrev Leaves : State → Type 0
+  Leaves after =
+      (after ≡ state) ⊎ ((after ≡ (step state i cdb data_out).state)
+      ⊎ WritesFirstBlocks state i cdb data_out after)
+
+  cut-short : (o : Operation) → checked_cdb state i cdb data_out ≡ Ok o → (n : ℕ)
+      → Leaves (state_by (Ok (first_blocks n o)))
+  cut-short (operation.Read extent) passed n = inl refl
+  cut-short (operation.Write out) passed n = inr (inr (record {
+    operation = operation.Write out;
+    passed = passed;
+    writes = refl;
+    blocks = n;
+    state_is = refl;
+  }))
+  cut-short (operation.Fill extent block) passed n = inr (inr (record {
+    operation = operation.Fill extent block;
+    passed = passed;
+    writes = refl;
+    blocks = n;
+    state_is = refl;
+  }))
+  cut-short o passed n = inr (inl (ap state_by (sym passed)))
+
+  tried-leaves : (result : Result Operation Refusal) → Tried result → Leaves (state_by result)
+  tried-leaves result (inl same) = inr (inl (ap state_by same))
+  tried-leaves result (inr (inl dropped)) = inl dropped.left
+  tried-leaves result (inr (inr short)) =
+      subst (λ r. Leaves (state_by r)) (sym short.is) (cut-short short.operation short.passed short.blocks)
+
+  -- ---- the answer
+
+  -- a step that ends with GOOD is the step of what the faults have left of an operation
+  tried-good : (given : ArmedStep) (result : Result Operation Refusal) → Tried result
+      → (step_of_checked state i result).answer.status ≡ Good
+      → given.answer ≡ (step_of_checked state i result).answer → given.after.state ≡ state_by result
+      → IsExecutedInPart state i cdb data_out given
+  tried-good given (Err refusal) tried good answer after = absurd (not_good state i refusal good)
+  tried-good given (Ok o) (inl same) good answer after = record {
+    operation = o;
+    passed = sym same;
+    part = o;
+    part_is = inl refl;
+    answer = answer;
+    after = after;
+  }
+  tried-good given (Ok o) (inr (inl dropped)) good answer after = let e = dropped.is in cc
+  tried-good given (Ok o) (inr (inr short)) good answer after = record {
+    operation = short.operation;
+    passed = short.passed;
+    part = o;
+    part_is = let e = short.is in inr (short.blocks, cc);
+    answer = answer;
+    after = after;
+  }
+
+-- a fault afterwards leaves no GOOD
+answer-if-good : (struck : Option (Struck Afterwards)) (done : Step) (faults : Faults)
+    → (afterwards_step struck done faults).answer.status ≡ Good
+    → (afterwards_step struck done faults).answer ≡ done.answer
+answer-if-good None done faults e = refl
+answer-if-good (Some struck) done faults e = absurd (changed struck.outcome e)
+  where
+    changed : (outcome : Afterwards) → (answer_afterwards outcome done).status ≡ Good → ⊥
+    changed after.NoReply e = cc
+    changed (after.CheckCondition code) e = cc
+
+finished-good : (status : Status) (command : Seen) (faults : Faults) (done : Step)
+    → (finished_if_good status command faults done).answer.status ≡ Good
+    → (finished_if_good status command faults done).answer ≡ done.answer
+finished-good Good command faults done e =
+    let left = healed command faults in
+    answer-if-good (decided afterwards command left) done (asked afterwards command left) e
+finished-good _ command faults done e = refl
+
+-- nor does it meet a command that has not ended with GOOD
+finished-bad : (status : Status) (command : Seen) (faults : Faults) (done : Step) → (status ≡ Good → ⊥)
+    → (finished_if_good status command faults done).answer ≡ done.answer
+finished-bad Good command faults done h = absurd (h refl)
+finished-bad _ command faults done h = refl
+
+module _ (disk : Armed) (i : ℕ) (cdb data_out : List ℕ) where
+  abbrev tried_by : Attempt
+  tried_by = attempt_of disk i cdb data_out
+
+  abbrev done_by : Step
+  done_by = step_of_checked disk.state i tried_by.result
+
+  abbrev seen_by : Seen
+  seen_by = seen i cdb tried_by.result
+
+  is-tried : Tried disk.state i cdb data_out tried_by.result
+  is-tried =
+      let checked = checked_cdb disk.state i cdb data_out in
+      let command = seen i cdb checked in
+      by-attempt disk.state i cdb data_out (decided on_arrival command disk.faults) command checked
+      (asked on_arrival command disk.faults) refl
+
+  state-left : (armed_step disk i cdb data_out).after.state ≡ done_by.state
+  state-left = finished-state done_by.answer.status seen_by tried_by.faults done_by
 
 pub drop-or-shorten : FaultsOnlyDropOrShorten
 drop-or-shorten disk i cdb data_out =
-    let checked = checked_cdb disk.state i cdb data_out in
-    let command = seen i cdb checked in
-    let tried = attempt disk.faults command checked in
-    let done = step_of_checked disk.state i tried.result in
-    subst (Leaves disk.state i cdb data_out)
-    (sym (finished-state done.answer.status (seen i cdb tried.result) tried.faults done))
-    (by-attempt disk.state i cdb data_out (decided on_arrival command disk.faults) command checked
-    (asked on_arrival command disk.faults) refl)
+    subst (Leaves disk.state i cdb data_out) (sym (state-left disk i cdb data_out))
+    (tried-leaves disk.state i cdb data_out (tried_by disk i cdb data_out).result
+    (is-tried disk i cdb data_out))
+
+pub good-passed : OnlyPassedCommandsEndWithGood
+good-passed disk i cdb data_out good =
+    let tried = tried_by disk i cdb data_out in
+    let done = done_by disk i cdb data_out in
+    let same =
+    finished-good done.answer.status (seen_by disk i cdb data_out) tried.faults done good in
+    tried-good disk.state i cdb data_out (armed_step disk i cdb data_out) tried.result
+    (is-tried disk i cdb data_out) (sym (ap (λ (a : Answer). a.status) same) ∙ good) same
+    (state-left disk i cdb data_out)
+
+-- a command that the checks refuse
+module _ (disk : Armed) (i : ℕ) (cdb : List ℕ) (by_checks : Refusal) where
+  refused-by : (refusal : Refusal)
+      → (refusal ≡ by_checks) ⊎ ((fault : OnArrival) × (refusal ≡ refusal_on_arrival fault))
+      → (command : Seen) (faults : Faults)
+      → StaysRefused disk.state i by_checks
+      (let done = refused disk.state i refusal in finished_if_good done.answer.status command faults done)
+  refused-by refusal whose command faults =
+      let done = refused disk.state i refusal in
+      record {
+        refusal = refusal;
+        whose = whose;
+        answer = finished-bad done.answer.status command faults done (not_good disk.state i refusal);
+        after = finished-state done.answer.status command faults done;
+      }
+
+  by-struck : (struck : Option (Struck OnArrival)) (command : Seen) (faults : Faults)
+      → StaysRefused disk.state i by_checks (finished_attempt disk.state i cdb
+      (arrival_attempt struck command (Err by_checks) faults))
+  by-struck None command faults = refused-by by_checks (inl refl) _ faults
+  by-struck (Some struck) command faults =
+      refused-by (refusal_on_arrival struck.outcome) (inr (struck.outcome, refl)) _ faults
+
+  stays-refused-by : StaysRefused disk.state i by_checks (armed_step_by disk i cdb (Err by_checks))
+  stays-refused-by =
+      let command = seen i cdb (Err by_checks) in
+      by-struck (decided on_arrival command disk.faults) command (asked on_arrival command disk.faults)
+
+pub stays-refused : RefusedCommandsStayRefused
+stays-refused disk i cdb data_out refusal e =
+    subst
+    (λ (checked : Result Operation Refusal). StaysRefused disk.state i refusal
+    (armed_step_by disk i cdb checked))
+    (sym e) (stays-refused-by disk i cdb refusal)
 
 -- ---- No fault is armed
 

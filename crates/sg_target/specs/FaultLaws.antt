@@ -1,18 +1,23 @@
 -- Laws of armed faults.
-use Rattle.std.specs.Prelude.{◌≡◌, ◌⊎◌, ℕ, Bool, true, false, List, not, Ok}
+use Rattle.std.specs.Prelude.{◌≡◌, ◌⊎◌, ℕ, Bool, true, false, List, not, Ok, Err}
 use Rattle.std.specs.List.{list_all}
 use Rattle.sg_faults.specs.Faults.{is_armed}
 use Rattle.sg_faults.specs.Laws.{is_spared}
-use Rattle.sg_target.specs.Armed.{Armed, armed_step, first_blocks, step_of_checked}
+use Rattle.sg_faults.specs.declared.outcome.OnArrival.{OnArrival}
+use Rattle.sg_target.specs.Armed.{Armed, ArmedStep, armed_step, first_blocks, refusal_on_arrival}
+use Rattle.sg_target.specs.Armed.{step_of_checked}
 use Rattle.sg_target.specs.Checks.{checked_cdb}
 use Rattle.sg_target.specs.Runs.{after_events, answers_to, answers_to_events, armed_disk}
 use Rattle.sg_target.specs.Runs.{state_after_events}
 use Rattle.sg_target.specs.State.{State}
-use Rattle.sg_target.specs.Step.{step}
+use Rattle.sg_target.specs.Step.{refused, step}
 use Rattle.sg_target.specs.declared.event.Event.{Event}
 use Rattle.sg_target.specs.declared.event.Event.TheVariants as event
 use Rattle.sg_target.specs.declared.happening.Happening.TheVariants.{Arm}
 use Rattle.sg_target.specs.declared.operation.Operation.{Operation}
+use Rattle.sg_target.specs.declared.operation.Operation.TheVariants.{Write, Fill}
+use Rattle.sg_target.specs.declared.refusal.Refusal.{Refusal}
+use Rattle.sg_target.specs.declared.reply.Status.TheVariants.{Good}
 
 -- ---- No fault is armed
 
@@ -52,20 +57,60 @@ OthersMeetNoFault =
 
 -- ---- What faults can do
 
--- The first blocks of the operation of a command that the checks pass are moved.
-pub record MovesFirstBlocks (state : State) (initiator : ℕ) (cdb data_out : List ℕ) (after : State)
+-- A WRITE, and a WRITE SAME that writes its block.
+abbrev pub writes_data : Operation → Bool
+writes_data (Write out) = true
+writes_data (Fill extent block) = true
+writes_data _ = false
+
+-- Such a command passes the checks, and writes only its first blocks.
+pub record WritesFirstBlocks (state : State) (initiator : ℕ) (cdb data_out : List ℕ) (after : State)
     : Type 0 where
   pub operation : Operation
   pub passed : checked_cdb state initiator cdb data_out ≡ Ok operation
+  pub writes : writes_data operation ≡ true
   pub blocks : ℕ
   pub state_is : after ≡ (step_of_checked state initiator (Ok (first_blocks blocks operation))).state
 
 -- Whatever faults are armed, a command leaves one of three states: the state before it, the state in
--- which a disk without faults leaves it, or the state after the first blocks of its operation. So no
--- fault lets an initiator do what a check refuses.
+-- which a disk without faults leaves it, or the state after the first blocks of a WRITE or a WRITE SAME
+-- that passes the checks. So no fault lets an initiator do what a check refuses.
 abbrev pub FaultsOnlyDropOrShorten : Type 0
 FaultsOnlyDropOrShorten =
     (disk : Armed) (initiator : ℕ) (cdb data_out : List ℕ)
     → let after = (armed_step disk initiator cdb data_out).after.state in
     (after ≡ disk.state) ⊎ ((after ≡ (step disk.state initiator cdb data_out).state)
-    ⊎ MovesFirstBlocks disk.state initiator cdb data_out after)
+    ⊎ WritesFirstBlocks disk.state initiator cdb data_out after)
+
+-- The step is the step of a refused command. The checks have refused it, or a fault on arrival has.
+pub record StaysRefused (state : State) (initiator : ℕ) (by_checks : Refusal) (given : ArmedStep)
+    : Type 0 where
+  pub refusal : Refusal
+  pub whose : (refusal ≡ by_checks) ⊎ ((fault : OnArrival) × (refusal ≡ refusal_on_arrival fault))
+  pub answer : given.answer ≡ (refused state initiator refusal).answer
+  pub after : given.after.state ≡ (refused state initiator refusal).state
+
+-- Whatever faults are armed, a command that the checks refuse stays refused.
+abbrev pub RefusedCommandsStayRefused : Type 0
+RefusedCommandsStayRefused =
+    (disk : Armed) (initiator : ℕ) (cdb data_out : List ℕ) (refusal : Refusal)
+    → checked_cdb disk.state initiator cdb data_out ≡ Err refusal
+    → StaysRefused disk.state initiator refusal (armed_step disk initiator cdb data_out)
+
+-- A command passes the checks. Its operation is executed as on a disk without faults, all of it or on
+-- only its first blocks.
+pub record IsExecutedInPart (state : State) (initiator : ℕ) (cdb data_out : List ℕ)
+    (given : ArmedStep) : Type 0 where
+  pub operation : Operation
+  pub passed : checked_cdb state initiator cdb data_out ≡ Ok operation
+  pub part : Operation
+  pub part_is : (part ≡ operation) ⊎ ((blocks : ℕ) × (part ≡ first_blocks blocks operation))
+  pub answer : given.answer ≡ (step_of_checked state initiator (Ok part)).answer
+  pub after : given.after.state ≡ (step_of_checked state initiator (Ok part)).state
+
+-- Whatever faults are armed, this holds for each command that ends with GOOD.
+abbrev pub OnlyPassedCommandsEndWithGood : Type 0
+OnlyPassedCommandsEndWithGood =
+    (disk : Armed) (initiator : ℕ) (cdb data_out : List ℕ)
+    → (armed_step disk initiator cdb data_out).answer.status ≡ Good
+    → IsExecutedInPart disk.state initiator cdb data_out (armed_step disk initiator cdb data_out)

@@ -6,6 +6,8 @@ ghost use Rattle.sg_target.specs.CommandLaws.{WritesOverUsedAddressesHaveSpace};
 ghost use Rattle.sg_target.specs.Laws.{AnchorsEachExtent, ConfigurationStays};
 ghost use Rattle.sg_target.specs.Laws.{FoundRefusalsChangeNothing, HappeningsLeaveTheRest};
 ghost use Rattle.sg_target.specs.FaultLaws.{FaultsOnlyDropOrShorten, OthersMeetNoFault};
+ghost use Rattle.sg_target.specs.FaultLaws.{OnlyPassedCommandsEndWithGood};
+ghost use Rattle.sg_target.specs.FaultLaws.{RefusedCommandsStayRefused};
 ghost use Rattle.sg_target.specs.FaultLaws.{WithoutFaultsARunIsSound, WithoutFaultsNothingChanges};
 ghost use Rattle.sg_target.specs.Laws.{LimitsAreKept, UnmapsEachExtent};
 
@@ -44,10 +46,22 @@ pub fn others_meet_no_fault()
 }
 
 /// Whatever faults are armed, a command leaves the state before it, the state in which a disk without
-/// faults leaves it, or the state after the first blocks of its operation. So no fault lets an
-/// initiator do what a check refuses.
+/// faults leaves it, or the state after the first blocks of a WRITE or a WRITE SAME that passes the
+/// checks. So no fault lets an initiator do what a check refuses.
 pub fn faults_only_drop_or_shorten()
     ensures { FaultsOnlyDropOrShorten }
+{}
+
+/// Whatever faults are armed, a command that the checks refuse stays refused, by the checks or by a
+/// fault on arrival. So it does not end with GOOD, and returns no data-in.
+pub fn refused_commands_stay_refused()
+    ensures { RefusedCommandsStayRefused }
+{}
+
+/// Whatever faults are armed, a command that ends with GOOD has passed the checks. It is executed as on
+/// a disk without faults, or only its first blocks are moved.
+pub fn only_passed_commands_end_with_good()
+    ensures { OnlyPassedCommandsEndWithGood }
 {}
 
 /// No command, and no happening except a growth, changes the number of blocks of a disk, its pool, or
