@@ -1,12 +1,13 @@
 -- A command of a class that the reservation does not allow does not end with GOOD.
-use Rattle.std.proofs.Common.{◌≡◌, ℕ, false, List, [], ◌∷◌, Option, Some, None, refl, ap, sym, ◌∙◌}
+use Rattle.std.proofs.Common.{◌≡◌, ℕ, false, List, [], ◌∷◌, Option, Some, None, Ok, refl, ap, sym}
+use Rattle.std.proofs.Common.{◌∙◌}
 use Rattle.sg_wire.specs.Laws.{CommandsHaveTheirClass}
 use Rattle.sg_wire.specs.CdbDecoding.{class_in, class_of, command_in}
 use Rattle.sg_wire.specs.declared.command.Class.{Class}
 use Rattle.sg_wire.specs.declared.profile.Profile.TheVariants.{Extended}
 use Rattle.sg_wire.proofs.ClassLemmas.{class-of_command}
 use Rattle.sg_units.specs.Access.{allows}
-use Rattle.sg_target.specs.Checks.{bad_field, cdb_checks, empty_cdb, pending_attention}
+use Rattle.sg_target.specs.Checks.{bad_field, cdb_checks, checked_cdb, empty_cdb, pending_attention}
 use Rattle.sg_target.specs.Checks.{reservation_conflict, short_cdb, unknown_opcode}
 use Rattle.sg_target.specs.Refusal.{first_some}
 use Rattle.sg_target.specs.State.{State, config_of, profile_of}
@@ -15,7 +16,7 @@ use Rattle.sg_target.specs.declared.operation.Operation.{Operation}
 use Rattle.sg_target.specs.declared.refusal.Refusal.{Refusal}
 use Rattle.sg_target.specs.declared.refusal.Refusal.TheVariants.{Conflict}
 use Rattle.sg_target.specs.declared.reply.Status.TheVariants.{Good}
-use Rattle.sg_target.proofs.LiftLemmas.{Asked, lifted, not_good}
+use Rattle.sg_target.proofs.LiftLemmas.{Asked, asked, lifted, not_good}
 use Rattle.sg_fencing.proofs.OperationLemmas.{asked-suits, class_for}
 
 module _ (state : State) (j : ℕ) where
@@ -67,3 +68,11 @@ module _ (state : State) (j : ℕ) where
       lifted state j cdb data_out (λ (done : Step). done.answer.status ≡ Good → ⊥) (not_good state j)
       (λ operation k e. passed-is-allowed cdb class k.passed
       (on-disk cdb data_out class operation k is) not_allowed)
+
+  -- the checks do not pass it
+  pub checks-refuse : (cdb data_out : List ℕ) (class : Class) → class_of cdb ≡ Some class
+      → allows state.reservations j class ≡ false → (operation : Operation)
+      → checked_cdb state j cdb data_out ≡ Ok operation → ⊥
+  checks-refuse cdb data_out class is not_allowed operation e =
+      let k = asked state j cdb data_out operation e in
+      passed-is-allowed cdb class k.passed (on-disk cdb data_out class operation k is) not_allowed

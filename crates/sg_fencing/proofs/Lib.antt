@@ -36,3 +36,6 @@ mod FencedRunLemmas
 mod PowerLemmas
 mod PersistLemmas
 mod PoweredRunLemmas
+-- Armed faults.
+mod FaultLemmas
+mod FaultRunLemmas

@@ -79,7 +79,7 @@ twice state =
 -- ---- Among commands
 
 -- a happening registers nobody
-unknown-after : (happening : Happening) (state : State) (i : ℕ) → is_registrant state i ≡ false
+pub unknown-after : (happening : Happening) (state : State) (i : ℕ) → is_registrant state i ≡ false
     → is_registrant (after_happening happening state) i ≡ false
 unknown-after Power state i unknown = split (persists state)
   where

@@ -58,7 +58,7 @@ module _ (Stands : ReservationState → Type 0) (state : State) (j : ℕ)
   sound-stands (Ok value) becomes k = k value
   sound-stands (Err refusal) becomes k = tt
 
-  outcome-stands : (effect : Result Effect Refusal) → EffectStands effect
+  pub outcome-stands : (effect : Result Effect Refusal) → EffectStands effect
       → Stands (step_outcome state j effect).state.reservations
   outcome-stands (Ok effect) k =
       outcome-by state j (λ (done : Step). Stands done.state.reservations) effect refused-stands

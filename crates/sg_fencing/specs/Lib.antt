@@ -5,3 +5,4 @@ pub mod Fencing
 pub mod Registrants
 pub mod Group
 pub mod PowerCycles
+pub mod WithFaults

@@ -247,13 +247,14 @@ NoBlockIsSeenOverAList =
     → answers_where (is_from initiator) (with_contents state contents) calls
     ≡ answers_where (is_from initiator) state calls
 
--- A PREEMPT or a PREEMPT AND ABORT of another initiator has an initiator's key, and ends with GOOD.
-pub record IsPreempted (state : State) (initiator : ℕ) (preempt : Call) : Type 0 where
+-- A PREEMPT or a PREEMPT AND ABORT of another initiator has an initiator's key. Its answer is GOOD.
+pub record IsPreempted (state : State) (initiator : ℕ) (preempt : Call) (answer : Answer)
+    : Type 0 where
   pub key : ℕ
   pub sent : preempted_key (command_of preempt.cdb.now) preempt.data_out.now ≡ Some key
   pub registered : key_of state.reservations.registrations initiator ≡ Some key
   pub another : preempt.initiator ≢ initiator
-  pub good : (step_of state preempt).answer.status ≡ Good
+  pub good : answer.status ≡ Good
 
 -- An initiator writes nothing while a reservation is held. This lasts until the disk grants it a
 -- registration.
@@ -270,7 +271,7 @@ WritesNothingUntilGranted initiator state calls =
 abbrev pub PreemptedWriteNothing : Type 0
 PreemptedWriteNothing =
     (state : State) (preempt : Call) (initiator : ℕ) (calls : List Call)
-    → IsWithinLimits state → IsPreempted state initiator preempt
+    → IsWithinLimits state → IsPreempted state initiator preempt (step_of state preempt).answer
     → WritesNothingUntilGranted initiator (step_of state preempt).state calls
 
 -- A reservation is held, and each sender of a list of commands stays unregistered. Then the list

@@ -24,9 +24,15 @@ ghost use Rattle.sg_fencing.specs.Registrants.{PreemptedAreUnregistered, Preempt
 ghost use Rattle.sg_fencing.specs.Registrants.{PreemptingSendersStayRegistered};
 ghost use Rattle.sg_fencing.specs.Registrants.{PreemptionKeepsAReservation};
 ghost use Rattle.sg_fencing.specs.Registrants.{TheRefusedStayUnregistered};
+ghost use Rattle.sg_fencing.specs.WithFaults.{FaultsLetNobodyPastTheHolder, FaultsLetNobodyThrough};
+ghost use Rattle.sg_fencing.specs.WithFaults.{FaultsRegisterNobody, FencedOffThroughFaults};
+ghost use Rattle.sg_fencing.specs.WithFaults.{PreemptedStayFencedOut};
 
 use sg_store::laws::remapping_takes_what_is_needed;
-use sg_target::laws::{limits_are_kept, writes_over_used_addresses_have_space};
+use sg_target::laws::{
+    faults_only_drop_or_shorten, limits_are_kept, only_passed_commands_end_with_good,
+    refused_commands_stay_refused, writes_over_used_addresses_have_space,
+};
 use sg_units::laws::{one_key_each, others_are_refused};
 use sg_wire::laws::commands_have_their_class;
 
@@ -359,6 +365,68 @@ pub fn a_holder_is_served_as_if_alone_through_power_cycles()
     ensures { HolderIsAsIfAloneThroughPowerCycles }
 {
     limits_are_kept();
+    others_are_refused();
+    one_key_each();
+    commands_have_their_class();
+}
+
+/// Faults let nobody through a fence. A reservation of any type is held, and an initiator is not
+/// registered. Whatever faults are armed, none of its commands that write ends with GOOD. Under the
+/// exclusive access types none that reads does, and none returns a block. Each of its commands leaves
+/// the view of every other initiator as it was.
+pub fn faults_let_nobody_through()
+    ensures { FaultsLetNobodyThrough }
+{
+    faults_only_drop_or_shorten();
+    refused_commands_stay_refused();
+    others_are_refused();
+    commands_have_their_class();
+}
+
+/// An initiator holds a write exclusive or an exclusive access reservation. Whatever faults are armed,
+/// no command of another that writes ends with GOOD. Under exclusive access none that reads does. If
+/// the holder still holds after a command of another, that command leaves the holder's view as it was.
+pub fn faults_let_nobody_past_the_holder()
+    ensures { FaultsLetNobodyPastTheHolder }
+{
+    limits_are_kept();
+    faults_only_drop_or_shorten();
+    refused_commands_stay_refused();
+    others_are_refused();
+    commands_have_their_class();
+}
+
+/// Whatever faults are armed, an unregistered initiator becomes registered only by its own REGISTER or
+/// REGISTER AND IGNORE EXISTING KEY. The command has a key other than zero, and ends with GOOD on a disk
+/// without faults. A fault can report it as failed.
+pub fn faults_register_nobody()
+    ensures { FaultsRegisterNobody }
+{
+    faults_only_drop_or_shorten();
+}
+
+/// An unregistered initiator stays fenced out while a reservation is held, over commands and happenings.
+/// These may arm faults and take them away. This lasts until one of its own commands registers it.
+pub fn the_unregistered_stay_fenced_out_through_faults()
+    ensures { FencedOffThroughFaults }
+{
+    limits_are_kept();
+    faults_only_drop_or_shorten();
+    refused_commands_stay_refused();
+    others_are_refused();
+    commands_have_their_class();
+}
+
+/// After a PREEMPT or a PREEMPT AND ABORT of its key that ends with GOOD, an initiator is fenced out
+/// while a reservation is held, whatever faults are armed. This lasts until one of its own commands
+/// registers it.
+pub fn the_preempted_stay_fenced_out_through_faults()
+    ensures { PreemptedStayFencedOut }
+{
+    limits_are_kept();
+    faults_only_drop_or_shorten();
+    refused_commands_stay_refused();
+    only_passed_commands_end_with_good();
     others_are_refused();
     one_key_each();
     commands_have_their_class();

@@ -1,0 +1,106 @@
+-- Fencing on a disk with armed faults. A fault can drop a command, cut it short or report it as failed.
+-- It lets no command through a fence.
+use Rattle.std.specs.Prelude.{◌≡◌, ◌≢◌, ℕ, Bool, true, false, List, [], slice_get, take, Some}
+use Rattle.sg_wire.specs.CdbDecoding.{class_of}
+use Rattle.sg_wire.specs.declared.command.Class.TheVariants.{Reads, Writes}
+use Rattle.sg_units.specs.declared.types.ReservationType.TheVariants.{ExclusiveAccess}
+use Rattle.sg_target.specs.Armed.{Armed, armed_step}
+use Rattle.sg_target.specs.Runs.{after_events, armed_disk, armed_step_of}
+use Rattle.sg_target.specs.State.{IsWithinLimits}
+use Rattle.sg_target.specs.Step.{Answer}
+use Rattle.sg_target.specs.declared.call.Call.{Call}
+use Rattle.sg_target.specs.declared.event.Event.{Event}
+use Rattle.sg_target.specs.declared.event.Event.TheVariants as event
+use Rattle.sg_target.specs.declared.reply.Status.TheVariants.{Good}
+use Rattle.sg_fencing.specs.Fencing.{holds_alone, holds_type, view_of}
+use Rattle.sg_fencing.specs.Registrants.{IsPreempted, RegistersItself, excludes_reading, is_fenced_off}
+use Rattle.sg_fencing.specs.Registrants.{is_registrant, is_reserved}
+
+-- ---- Words
+
+-- A command is denied: it does not end with GOOD, and returns no data-in. On a disk with armed faults
+-- the first does not imply the second, since a fault can report a READ as failed after it.
+pub record IsDenied (answer : Answer) : Type 0 where
+  pub status : answer.status ≢ Good
+  pub data_in : answer.data_in ≡ []
+
+-- A command that writes is denied. If reading is excluded, a command that reads, such as READ, is too.
+pub record IsDeniedByClass (cdb : List ℕ) (answer : Answer) (excludes_reading : Bool) : Type 0 where
+  pub writes : class_of cdb ≡ Some Writes → IsDenied answer
+  pub reads : class_of cdb ≡ Some Reads → excludes_reading ≡ true → IsDenied answer
+
+-- ---- One command
+
+-- A command of an initiator is denied, by its class. It leaves the view of every other initiator,
+-- registered or not, as it was.
+pub record IsFencedOut (disk : Armed) (initiator : ℕ) (cdb data_out : List ℕ) : Type 0 where
+  pub denied : IsDeniedByClass cdb (armed_step disk initiator cdb data_out).answer
+      (excludes_reading disk.state.reservations.reservation)
+  pub others : (other : ℕ) → other ≢ initiator
+      → view_of (armed_step disk initiator cdb data_out).after.state other ≡ view_of disk.state other
+
+-- This holds for an initiator that is fenced off, whatever faults are armed.
+abbrev pub FaultsLetNobodyThrough : Type 0
+FaultsLetNobodyThrough =
+    (disk : Armed) (initiator : ℕ) (cdb data_out : List ℕ) → IsWithinLimits disk.state
+    → is_fenced_off disk.state initiator ≡ true → IsFencedOut disk initiator cdb data_out
+
+-- A command of another initiator than the holder is denied, by its class. If the holder still holds
+-- such a reservation after it, it leaves the holder's view as it was.
+pub record IsShutOutWithFaults (disk : Armed) (holder other : ℕ) (cdb data_out : List ℕ)
+    : Type 0 where
+  pub denied : IsDeniedByClass cdb (armed_step disk other cdb data_out).answer
+      (holds_type disk.state holder ExclusiveAccess)
+  pub view : holds_alone (armed_step disk other cdb data_out).after.state holder ≡ true
+      → view_of (armed_step disk other cdb data_out).after.state holder ≡ view_of disk.state holder
+
+-- This holds while an initiator holds a reservation of a type that nobody shares, whatever faults are
+-- armed.
+abbrev pub FaultsLetNobodyPastTheHolder : Type 0
+FaultsLetNobodyPastTheHolder =
+    (disk : Armed) (holder other : ℕ) (cdb data_out : List ℕ) → IsWithinLimits disk.state
+    → other ≢ holder → holds_alone disk.state holder ≡ true
+    → IsShutOutWithFaults disk holder other cdb data_out
+
+-- Whatever faults are armed, an initiator becomes registered only by its own command that asks for it.
+-- On a disk without faults that command ends with GOOD. A fault afterwards can report it as failed. So
+-- an initiator can be registered although none of its commands has ended with GOOD.
+abbrev pub FaultsRegisterNobody : Type 0
+FaultsRegisterNobody =
+    (disk : Armed) (initiator caller : ℕ) (cdb data_out : List ℕ)
+    → is_registrant disk.state initiator ≡ false
+    → is_registrant (armed_step disk caller cdb data_out).after.state initiator ≡ true
+    → RegistersItself disk.state initiator caller cdb data_out
+
+-- ---- Lists of events
+
+-- No command of an initiator among events leaves it registered. This speaks of the states after its
+-- commands, and not of the answers to them. A fault afterwards can report a REGISTER as failed that has
+-- registered the initiator.
+abbrev pub NeverRegistersItself : (initiator : ℕ) → Armed → List Event → Type 0
+NeverRegistersItself initiator disk events =
+    (n : ℕ) (call : Call) → slice_get events n ≡ Some (event.Call call) → call.initiator ≡ initiator
+    → let before = after_events armed_disk disk (take n events) in
+    is_registrant (armed_step_of before call).after.state initiator ≡ false
+
+-- From a disk on, an initiator is fenced out whenever a reservation is held. This lasts until one of its
+-- own commands registers it. Other initiators may send anything, and anything may happen. Faults may be
+-- armed and taken away.
+abbrev pub StaysFencedOut : (initiator : ℕ) → Armed → Type 0
+StaysFencedOut initiator disk =
+    (events : List Event) (cdb data_out : List ℕ) → NeverRegistersItself initiator disk events
+    → let left = after_events armed_disk disk events in
+    is_reserved left.state ≡ true → IsFencedOut left initiator cdb data_out
+
+-- This holds for each initiator that is not registered.
+abbrev pub FencedOffThroughFaults : Type 0
+FencedOffThroughFaults =
+    (disk : Armed) (initiator : ℕ) → IsWithinLimits disk.state
+    → is_registrant disk.state initiator ≡ false → StaysFencedOut initiator disk
+
+-- It holds after a PREEMPT or a PREEMPT AND ABORT of the initiator's key that ends with GOOD.
+abbrev pub PreemptedStayFencedOut : Type 0
+PreemptedStayFencedOut =
+    (disk : Armed) (preempt : Call) (initiator : ℕ) → IsWithinLimits disk.state
+    → IsPreempted disk.state initiator preempt (armed_step_of disk preempt).answer
+    → StaysFencedOut initiator (armed_step_of disk preempt).after
