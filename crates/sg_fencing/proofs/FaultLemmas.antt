@@ -24,8 +24,9 @@ use Rattle.sg_target.specs.declared.refusal.Refusal.TheVariants.{Busy, TaskSetFu
 use Rattle.sg_target.specs.declared.refusal.Refusal.TheVariants.{DeferredError}
 use Rattle.sg_target.proofs.LiftLemmas.{asked, not_good}
 use Rattle.sg_fencing.specs.Registrants.{RegistersItself, is_registrant}
-use Rattle.sg_fencing.specs.WithFaults.{IsDenied, IsDeniedByClass}
+use Rattle.sg_fencing.specs.WithFaults.{IsDenied, IsKeptAway}
 use Rattle.sg_fencing.proofs.AccessLemmas.{asked-is-allowed, checks-refuse}
+use Rattle.sg_fencing.proofs.FaultUnseenLemmas.{unseen-with-faults}
 use Rattle.sg_fencing.proofs.OperationLemmas.{class_for}
 use Rattle.sg_fencing.proofs.RegisteringLemmas.{registers-itself}
 use Rattle.sg_fencing.proofs.StandingLemmas.{outcome-stands}
@@ -60,18 +61,22 @@ module _ (stays : RefusedCommandsStayRefused) (disk : Armed) (j : ℕ) (cdb data
       denied-by (checked_cdb disk.state j cdb data_out) refl
       (checks-refuse disk.state j cdb data_out class is not_allowed)
 
-  pub denied-by-class : (excluded : Bool) → allows disk.state.reservations j Writes ≡ false
+  -- an initiator that the reservation does not allow to write, and if reading is excluded not to read
+  pub kept-away : CommandsHaveTheirClass → (excluded : Bool)
+      → allows disk.state.reservations j Writes ≡ false
       → (excluded ≡ true → allows disk.state.reservations j Reads ≡ false)
-      → IsDeniedByClass cdb (armed_step disk j cdb data_out).answer excluded
-  denied-by-class excluded writes reads = record {
+      → IsKeptAway disk j cdb data_out excluded
+  kept-away classes excluded writes reads = record {
     writes = λ is. denied Writes is writes;
     reads = λ is excludes. denied Reads is (reads excludes);
+    unseen =
+        λ contents excludes.
+        unseen-with-faults classes disk contents j (reads excludes) writes cdb data_out;
   }
 
 -- ---- What is left
 
--- a fact about the state before a command, about the state in which a disk without faults leaves it,
--- and about the state after its first blocks
+-- what holds before a command, after it on a disk without faults, and after its first blocks
 module _ (drops : FaultsOnlyDropOrShorten) (disk : Armed) (j : ℕ) (cdb data_out : List ℕ)
     (P : State → Type 0) (before : P disk.state) (sound : P (step disk.state j cdb data_out).state) where
   abbrev after : State

@@ -27,7 +27,7 @@ use Rattle.sg_target.specs.declared.refusal.Refusal.TheVariants.{CheckCondition}
 use Rattle.sg_target.proofs.LiftLemmas.{asked}
 use Rattle.sg_fencing.specs.Registrants.{IsPreempted, is_registrant, preempted_key}
 use Rattle.sg_fencing.specs.WithFaults.{IsFencedOut, NeverRegistersItself, StaysFencedOut}
-use Rattle.sg_fencing.proofs.FaultLemmas.{denied-by-class, left-without-writing}
+use Rattle.sg_fencing.proofs.FaultLemmas.{kept-away, left-without-writing}
 use Rattle.sg_fencing.proofs.FaultLemmas.{registers-itself-with-faults}
 use Rattle.sg_fencing.proofs.OperationLemmas.{listed}
 use Rattle.sg_fencing.proofs.OthersLemmas.{Keeps}
@@ -43,7 +43,7 @@ pub fenced-out : FaultsOnlyDropOrShorten → RefusedCommandsStayRefused → Othe
 fenced-out drops stays refuses classes disk j h w cdb data_out =
     let no = shut refuses disk.state j h in
     record {
-      denied = denied-by-class stays disk j cdb data_out _ no.writes no.reads;
+      kept = kept-away stays disk j cdb data_out classes _ no.writes no.reads;
       others =
           λ i apart. let other : j ≡ i → ⊥ = λ e. apart (sym e) in
           (left-without-writing drops disk j cdb data_out (λ (after : State). Keeps disk.state after i)

@@ -37,5 +37,6 @@ mod PowerLemmas
 mod PersistLemmas
 mod PoweredRunLemmas
 -- Armed faults.
+mod FaultUnseenLemmas
 mod FaultLemmas
 mod FaultRunLemmas

@@ -38,7 +38,7 @@ module _ (s : State) (x : Contents) (j : ℕ) where
   sound-alike (Err refusal) first second answer = refl
 
   -- an operation that neither reads nor writes
-  operation-alike : (operation : Operation) → (class_for operation ≡ Some Reads → ⊥)
+  pub operation-alike : (operation : Operation) → (class_for operation ≡ Some Reads → ⊥)
       → (class_for operation ≡ Some Writes → ⊥)
       → (step_by s j operation).answer ≡ (step_by t j operation).answer
   unfolding reservation_change

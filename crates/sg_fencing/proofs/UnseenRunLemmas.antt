@@ -42,17 +42,17 @@ use Rattle.sg_fencing.proofs.UnseenLemmas.{parse-same, unseen}
 -- ---- One command
 
 -- two states are the same except for the blocks
-abbrev DifferInBlocks : State → State → Type 0
+abbrev pub DifferInBlocks : State → State → Type 0
 DifferInBlocks a b = with_contents a b.disk.contents ≡ b
 
-abbrev StepsDiffer : Step → Step → Type 0
+abbrev pub StepsDiffer : Step → Step → Type 0
 StepsDiffer first second = DifferInBlocks first.state second.state
 
 module _ (s : State) (x : Contents) (i : ℕ) where
   abbrev t : State
   t = with_contents s x
 
-  refused-differ : (refusal : Refusal) → StepsDiffer (refused s i refusal) (refused t i refusal)
+  pub refused-differ : (refusal : Refusal) → StepsDiffer (refused s i refusal) (refused t i refusal)
   refused-differ (CheckCondition (Attention condition)) = refl
   refused-differ _ = refl
 
@@ -91,7 +91,8 @@ module _ (s : State) (x : Contents) (i : ℕ) where
   sound-differ (Ok value) first second h = h value
   sound-differ (Err refusal) first second h = refused-differ refusal
 
-  operation-differs : (operation : Operation) → StepsDiffer (step_by s i operation) (step_by t i operation)
+  pub operation-differs : (operation : Operation)
+      → StepsDiffer (step_by s i operation) (step_by t i operation)
   unfolding selected_modes reservation_change
   operation-differs (ReturnModes request n) =
       sound-differ (mode_parameters s.modes request) (returning_up_to s n) (returning_up_to t n)

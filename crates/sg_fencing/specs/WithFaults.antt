@@ -3,8 +3,10 @@
 use Rattle.std.specs.Prelude.{◌≡◌, ◌≢◌, ℕ, Bool, true, false, List, [], slice_get, take, Some}
 use Rattle.sg_wire.specs.CdbDecoding.{class_of}
 use Rattle.sg_wire.specs.declared.command.Class.TheVariants.{Reads, Writes}
+use Rattle.sg_store.specs.Disk.{Contents}
 use Rattle.sg_units.specs.declared.types.ReservationType.TheVariants.{ExclusiveAccess}
 use Rattle.sg_target.specs.Armed.{Armed, armed_step}
+use Rattle.sg_target.specs.Effect.{with_contents}
 use Rattle.sg_target.specs.Runs.{after_events, armed_disk, armed_step_of}
 use Rattle.sg_target.specs.State.{IsWithinLimits}
 use Rattle.sg_target.specs.Step.{Answer}
@@ -24,17 +26,28 @@ pub record IsDenied (answer : Answer) : Type 0 where
   pub status : answer.status ≢ Good
   pub data_in : answer.data_in ≡ []
 
--- A command that writes is denied. If reading is excluded, a command that reads, such as READ, is too.
-pub record IsDeniedByClass (cdb : List ℕ) (answer : Answer) (excludes_reading : Bool) : Type 0 where
-  pub writes : class_of cdb ≡ Some Writes → IsDenied answer
-  pub reads : class_of cdb ≡ Some Reads → excludes_reading ≡ true → IsDenied answer
+-- The disk has other blocks, and the same faults.
+abbrev pub with_other_blocks : Armed → Contents → Armed
+with_other_blocks disk contents = record disk { state = with_contents disk.state contents }
+
+-- A command of an initiator is denied if it writes. If reading is excluded, a command that reads, such
+-- as READ, is denied too. Then the answer to any command, of whichever class, is the same whatever the
+-- blocks are, and whichever are mapped.
+pub record IsKeptAway (disk : Armed) (initiator : ℕ) (cdb data_out : List ℕ)
+    (excludes_reading : Bool) : Type 0 where
+  pub writes : class_of cdb ≡ Some Writes → IsDenied (armed_step disk initiator cdb data_out).answer
+  pub reads : class_of cdb ≡ Some Reads → excludes_reading ≡ true
+      → IsDenied (armed_step disk initiator cdb data_out).answer
+  pub unseen : (contents : Contents) → excludes_reading ≡ true
+      → (armed_step (with_other_blocks disk contents) initiator cdb data_out).answer
+      ≡ (armed_step disk initiator cdb data_out).answer
 
 -- ---- One command
 
--- A command of an initiator is denied, by its class. It leaves the view of every other initiator,
+-- An initiator is kept away from the blocks. Its command leaves the view of every other initiator,
 -- registered or not, as it was.
 pub record IsFencedOut (disk : Armed) (initiator : ℕ) (cdb data_out : List ℕ) : Type 0 where
-  pub denied : IsDeniedByClass cdb (armed_step disk initiator cdb data_out).answer
+  pub kept : IsKeptAway disk initiator cdb data_out
       (excludes_reading disk.state.reservations.reservation)
   pub others : (other : ℕ) → other ≢ initiator
       → view_of (armed_step disk initiator cdb data_out).after.state other ≡ view_of disk.state other
@@ -45,12 +58,11 @@ FaultsLetNobodyThrough =
     (disk : Armed) (initiator : ℕ) (cdb data_out : List ℕ) → IsWithinLimits disk.state
     → is_fenced_off disk.state initiator ≡ true → IsFencedOut disk initiator cdb data_out
 
--- A command of another initiator than the holder is denied, by its class. If the holder still holds
--- such a reservation after it, it leaves the holder's view as it was.
+-- Another initiator than the holder is kept away from the blocks. If the holder still holds such a
+-- reservation after its command, that command leaves the holder's view as it was.
 pub record IsShutOutWithFaults (disk : Armed) (holder other : ℕ) (cdb data_out : List ℕ)
     : Type 0 where
-  pub denied : IsDeniedByClass cdb (armed_step disk other cdb data_out).answer
-      (holds_type disk.state holder ExclusiveAccess)
+  pub kept : IsKeptAway disk other cdb data_out (holds_type disk.state holder ExclusiveAccess)
   pub view : holds_alone (armed_step disk other cdb data_out).after.state holder ≡ true
       → view_of (armed_step disk other cdb data_out).after.state holder ≡ view_of disk.state holder
 

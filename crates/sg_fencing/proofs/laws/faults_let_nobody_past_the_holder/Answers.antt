@@ -1,7 +1,7 @@
 use Rattle.std.proofs.Common.{◌≡◌, refl, true}
 use Rattle.sg_target.specs.State.{State}
 use Rattle.sg_fencing.specs.Fencing.{holds_alone, view_of}
-use Rattle.sg_fencing.proofs.FaultLemmas.{denied-by-class, left-without-writing}
+use Rattle.sg_fencing.proofs.FaultLemmas.{kept-away, left-without-writing}
 use Rattle.sg_fencing.proofs.HolderLemmas.{alone, is-exclusive, refuses-others}
 use Rattle.sg_fencing.proofs.OthersLemmas.{others-keep}
 use Rattle.sg_fencing.proofs.laws.faults_let_nobody_past_the_holder.Goals as goal
@@ -14,8 +14,8 @@ returns c disk holder other cdb data_out w differ held =
     let h = alone state holder w held in
     let no = refuses-others refuses state.reservations holder other differ h in
     record {
-      denied =
-          denied-by-class c.refused_commands_stay_refused.ensures disk other cdb data_out _ no.writes
+      kept =
+          kept-away c.refused_commands_stay_refused.ensures disk other cdb data_out classes _ no.writes
           (λ exclusive. no.reads (is-exclusive state holder h exclusive));
       view =
           left-without-writing c.faults_only_drop_or_shorten.ensures disk other cdb data_out

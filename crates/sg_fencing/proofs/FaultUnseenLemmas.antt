@@ -1,0 +1,148 @@
+-- On a disk with armed faults, too, the answers to an initiator that may neither read nor write do not
+-- depend on the blocks.
+use Rattle.std.proofs.Common.{◌≡◌, ℕ, false, List, Option, Some, None, Result, Ok, Err}
+use Rattle.std.proofs.Common.{refl, sym, ap, ap₂, ◌∙◌}
+use Rattle.sg_wire.specs.CdbDecoding.{command_in}
+use Rattle.sg_wire.specs.Laws.{CommandsHaveTheirClass}
+use Rattle.sg_wire.specs.SenseData.{sense_data}
+use Rattle.sg_wire.specs.declared.command.Class.TheVariants.{Reads, Writes}
+use Rattle.sg_faults.specs.Faults.{Faults, asked, decided, healed}
+use Rattle.sg_faults.specs.Meeting.{Seen}
+use Rattle.sg_faults.specs.Places.{afterwards}
+use Rattle.sg_faults.specs.declared.outcome.Afterwards.{Afterwards}
+use Rattle.sg_faults.specs.declared.outcome.Afterwards.TheVariants as after
+use Rattle.sg_faults.specs.declared.outcome.Struck.{Struck}
+use Rattle.sg_pages.specs.ModePage.{ModeState, descriptor_sense}
+use Rattle.sg_store.specs.Disk.{Contents}
+use Rattle.sg_units.specs.Access.{allows}
+use Rattle.sg_target.specs.Armed.{Armed, afterwards_step, answer_afterwards, armed_step, armed_step_by}
+use Rattle.sg_target.specs.Armed.{attempt_by, finished_if_good, first_blocks, seen, step_of_checked}
+use Rattle.sg_target.specs.Charge.{step_by}
+use Rattle.sg_target.specs.Checks.{cdb_checks, checked_cdb}
+use Rattle.sg_target.specs.Effect.{with_contents}
+use Rattle.sg_target.specs.PrimaryCommands.{format_of}
+use Rattle.sg_target.specs.Refusal.{fault_sense, first_some, unless_refused}
+use Rattle.sg_target.specs.State.{State, profile_of}
+use Rattle.sg_target.specs.Step.{Answer, Step, check_condition, refused}
+use Rattle.sg_target.specs.declared.operation.Operation.{Operation}
+use Rattle.sg_target.specs.declared.operation.Operation.TheVariants.{Read, Write, Fill}
+use Rattle.sg_target.specs.declared.refusal.Refusal.{Refusal}
+use Rattle.sg_target.specs.declared.reply.Status.{Status}
+use Rattle.sg_target.specs.declared.reply.Status.TheVariants.{Good, NoReply}
+use Rattle.sg_target.proofs.ArmedLemmas.{Holds, holds}
+use Rattle.sg_target.proofs.LiftLemmas.{asked as asked-for}
+use Rattle.sg_fencing.specs.WithFaults.{with_other_blocks}
+use Rattle.sg_fencing.proofs.AccessLemmas.{asked-is-allowed}
+use Rattle.sg_fencing.proofs.OperationLemmas.{class_for}
+use Rattle.sg_fencing.proofs.UnseenLemmas.{operation-alike, parse-same}
+use Rattle.sg_fencing.proofs.UnseenRunLemmas.{operation-differs, refused-differ}
+
+-- ---- Faults afterwards
+
+-- two steps with one answer, after which the mode pages are the same
+module _ (first second : Step) (answer : first.answer ≡ second.answer)
+    (modes : first.state.modes ≡ second.state.modes) where
+  by-outcome : (outcome : Afterwards)
+      → answer_afterwards outcome first ≡ answer_afterwards outcome second
+  by-outcome after.NoReply = ap (λ (a : Answer). record a { status = NoReply }) answer
+  by-outcome (after.CheckCondition code) =
+      ap₂
+      (λ (m : ModeState) (data_in : List ℕ).
+      check_condition (sense_data (format_of (descriptor_sense m)) (fault_sense code)) data_in)
+      modes
+      (ap (λ (a : Answer). a.data_in) answer)
+
+  by-struck : (struck : Option (Struck Afterwards)) (faults : Faults)
+      → (afterwards_step struck first faults).answer ≡ (afterwards_step struck second faults).answer
+  by-struck None faults = answer
+  by-struck (Some struck) faults = by-outcome struck.outcome
+
+  by-status : (status : Status) (command : Seen) (faults : Faults)
+      → (finished_if_good status command faults first).answer
+      ≡ (finished_if_good status command faults second).answer
+  by-status Good command faults =
+      let left = healed command faults in
+      by-struck (decided afterwards command left) (asked afterwards command left)
+  by-status _ command faults = answer
+
+  finished-alike : (command : Seen) (faults : Faults)
+      → (finished_if_good first.answer.status command faults first).answer
+      ≡ (finished_if_good second.answer.status command faults second).answer
+  finished-alike command faults =
+      by-status first.answer.status command faults
+      ∙ ap (λ (a : Answer). (finished_if_good a.status command faults second).answer) answer
+
+-- ---- A command
+
+-- an operation that neither reads nor writes
+abbrev IsBlind : Operation → Type 0
+IsBlind operation =
+    (class_for operation ≡ Some Reads → ⊥) × (class_for operation ≡ Some Writes → ⊥)
+
+first-blind : (n : ℕ) (operation : Operation) → IsBlind operation → IsBlind (first_blocks n operation)
+first-blind n (Read extent) h = absurd (h.0 refl)
+first-blind n (Write out) h = absurd (h.1 refl)
+first-blind n (Fill extent block) h = absurd (h.1 refl)
+first-blind n _ h = h
+
+module _ (disk : Armed) (x : Contents) (j : ℕ) (cdb : List ℕ) where
+  abbrev s : State
+  s = disk.state
+
+  abbrev t : State
+  t = with_contents s x
+
+  result-alike : (result : Result Operation Refusal) → Holds IsBlind first-blind result
+      → (command : Seen) (faults : Faults)
+      → (let done = step_of_checked s j result in
+      finished_if_good done.answer.status command faults done).answer
+      ≡ (let done = step_of_checked t j result in
+      finished_if_good done.answer.status command faults done).answer
+  result-alike (Ok operation) h =
+      finished-alike (step_by s j operation) (step_by t j operation)
+      (operation-alike s x j operation h.0 h.1)
+      (ap (λ (a : State). a.modes) (operation-differs s x j operation))
+  result-alike (Err refusal) h =
+      finished-alike (refused s j refusal) (refused t j refusal) refl
+      (ap (λ (a : State). a.modes) (refused-differ s x j refusal))
+
+  checked-alike : (checked : Result Operation Refusal) → Holds IsBlind first-blind checked
+      → (armed_step_by disk j cdb checked).answer
+      ≡ (armed_step_by (with_other_blocks disk x) j cdb checked).answer
+  checked-alike checked h =
+      let tried = attempt_by disk j cdb checked in
+      result-alike tried.result
+      (holds IsBlind first-blind disk.faults (seen j cdb checked) checked h)
+      (seen j cdb tried.result) tried.faults
+
+  checked-same : (data_out : List ℕ)
+      → checked_cdb s j cdb data_out ≡ checked_cdb t j cdb data_out
+  unfolding checked_cdb
+  checked-same data_out =
+      ap (unless_refused (first_some (cdb_checks s j cdb)))
+      (parse-same s x j data_out (command_in (profile_of s) cdb))
+
+  blind : CommandsHaveTheirClass → allows s.reservations j Reads ≡ false
+      → allows s.reservations j Writes ≡ false → (data_out : List ℕ)
+      → (checked : Result Operation Refusal) → checked_cdb s j cdb data_out ≡ checked
+      → Holds IsBlind first-blind checked
+  blind classes no_reads no_writes data_out (Ok operation) e =
+      let k = asked-for s j cdb data_out operation e in (
+        asked-is-allowed s j classes cdb data_out operation Reads k no_reads,
+        asked-is-allowed s j classes cdb data_out operation Writes k no_writes,
+      )
+  blind classes no_reads no_writes data_out (Err refusal) e = tt
+
+-- the answer to an initiator that may neither read nor write is the same whatever the blocks are
+pub unseen-with-faults : CommandsHaveTheirClass → (disk : Armed) (contents : Contents) (j : ℕ)
+    → allows disk.state.reservations j Reads ≡ false
+    → allows disk.state.reservations j Writes ≡ false → (cdb data_out : List ℕ)
+    → (armed_step (with_other_blocks disk contents) j cdb data_out).answer
+    ≡ (armed_step disk j cdb data_out).answer
+unseen-with-faults classes disk contents j no_reads no_writes cdb data_out =
+    let checked = checked_cdb disk.state j cdb data_out in
+    let other = with_other_blocks disk contents in
+    sym (checked-alike disk contents j cdb checked
+    (blind disk contents j cdb classes no_reads no_writes data_out checked refl)
+    ∙ ap (λ (c : Result Operation Refusal). (armed_step_by other j cdb c).answer)
+    (checked-same disk contents j cdb data_out))
