@@ -1,16 +1,19 @@
 -- Armed faults, and what is left of them.
 use Rattle.std.specs.Prelude.{ℕ, ◌-◌, ◌==◌, Bool, false, ◌&&◌, not, List, map}
-use Rattle.std.specs.Prelude.{nat_lt, Option, Some, if◌then◌else◌}
+use Rattle.std.specs.Prelude.{true, nat_lt, Option, Some, None, if◌then◌else◌}
 use Rattle.std.specs.Prelude.{option_and_then, option_map, slice_index_or, slice_set}
 use Rattle.std.specs.List.{list_any, range_with_len}
 use Rattle.std.specs.Option.{option_map_or}
 use Rattle.sg_wire.specs.Initiator.{initiator_count}
-use Rattle.sg_units.specs.Initiators.{is_member}
+use Rattle.sg_units.specs.Initiators.{all_initiators, is_member}
 use Rattle.sg_faults.specs.Meeting.{Seen, first_in, heals}
 use Rattle.sg_faults.specs.declared.fault.ArmedFault.{ArmedFault}
 use Rattle.sg_faults.specs.declared.fault.BadBlocks.{BadBlocks}
 use Rattle.sg_faults.specs.declared.fault.Count.{Count}
 use Rattle.sg_faults.specs.declared.fault.Fault.{Fault}
+use Rattle.sg_faults.specs.declared.outcome.AtMedium.TheVariants.{CheckCondition}
+use Rattle.sg_faults.specs.declared.outcome.Outcome.TheVariants.{AtMedium}
+use Rattle.sg_faults.specs.declared.sense_code.SenseCode.{SenseCode}
 
 -- ---- What is left of a fault for one initiator
 
@@ -30,6 +33,20 @@ abbrev pub next_count : Count → Count
 next_count count =
     if nat_lt 0 count.skip then record count { skip = count.skip - 1 }
     else record count { times = option_map (λ times. times - 1) count.times }
+
+-- ---- Bad blocks
+
+-- A pseudo unrecovered error lies on one block: each command that reads the block reports it, until a
+-- command writes the block (SBC-3, 4.18.2).
+abbrev pub unrecovered_error : (lba : ℕ) → SenseCode → Fault
+unrecovered_error lba code = record {
+  initiators = all_initiators;
+  code = None;
+  blocks = Some (record { extent = record { lba = lba; count = 1 }; healed_by_writes = true });
+  skip = 0;
+  times = None;
+  outcome = AtMedium (CheckCondition code);
+}
 
 -- ---- Armed faults
 

@@ -1,6 +1,6 @@
 -- The faults that are armed on a disk.
 use Rattle.std.specs.Prelude.{ℕ, Bool, ◌&&◌, List, [], ◌∷◌, map, replicate, slice_set}
-use Rattle.std.specs.Prelude.{Option, Some, None, if◌then◌else◌, is_some, option_and_then}
+use Rattle.std.specs.Prelude.{Option, Some, None, if◌then◌else◌, is_none, is_some, option_and_then}
 use Rattle.std.specs.List.{list_any}
 use Rattle.sg_faults.specs.Arming.{armed, count_for, counted, first_bad, is_due}
 use Rattle.sg_faults.specs.Arming.{is_healed_by, lasts}
@@ -42,6 +42,10 @@ healed_slot command slot =
 
 unfoldable pub healed : Seen → Faults → Faults
 healed command faults = map (healed_slot command) faults
+
+-- Then a number is free for another fault.
+abbrev pub have_room_after : Seen → Faults → Bool
+have_room_after command faults = list_any (λ slot. is_none (healed_slot command slot)) faults
 
 -- ---- Asked about a command
 

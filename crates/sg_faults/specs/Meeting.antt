@@ -13,16 +13,16 @@ pub record Seen : Type 0 where
   pub initiator : ℕ
   -- its operation code, if its CDB has a byte
   pub code : Option ℕ
-  -- the blocks that it names; none if a check refuses it
+  -- the blocks that it reads or writes; none if a check refuses it
   pub extents : List Extent
   -- whether it writes to the medium
   pub writes : Bool
 
 -- ---- Blocks
 
--- A command that names a block reaches the medium.
-abbrev pub names_block : Seen → Bool
-names_block command = list_any (λ (named : Extent). nat_lt 0 named.count) command.extents
+-- A command that reads or writes a block reaches the medium.
+abbrev pub reaches_medium : Seen → Bool
+reaches_medium command = list_any (λ (extent : Extent). nat_lt 0 extent.count) command.extents
 
 abbrev pub lies_in_extent : Extent → (address : ℕ) → Bool
 lies_in_extent extent address = lies_in extent.lba extent.count address

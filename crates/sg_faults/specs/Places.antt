@@ -15,7 +15,7 @@ abbrev pub on_arrival : At OnArrival
 on_arrival (outcome.OnArrival o) = Some o
 on_arrival _ = None
 
--- After every check but the one for space, if the command names a block.
+-- After every check but the one for space, if the command reads or writes a block.
 abbrev pub at_medium : At AtMedium
 at_medium (outcome.AtMedium o) = Some o
 at_medium _ = None

@@ -3,11 +3,12 @@ ghost use Rattle.std.specs.Prelude.{◌≡◌, ◌<◌, ◌==◌, slice_set};
 ghost use Rattle.sg_wire.specs.Initiator.{initiator_count};
 ghost use Rattle.sg_faults.specs.Arming.{armed, count_for, counted, first_bad, first_count, is_due};
 ghost use Rattle.sg_faults.specs.Arming.{is_healed_by, is_spent, lasts, next_count};
-ghost use Rattle.sg_faults.specs.Arming.{spent};
+ghost use Rattle.sg_faults.specs.Arming.{spent, unrecovered_error};
 ghost use Rattle.sg_faults.specs.Meeting.{has_code, heals, meets, names_one};
 
-use crate::outcome::Outcome;
+use crate::outcome::{AtMedium, Outcome};
 use crate::seen::SeenCommand;
+use crate::sense_code::SenseCode;
 use sg_units::Initiators;
 use sg_wire::{Extent, Initiator};
 
@@ -36,7 +37,7 @@ pub struct Fault {
     pub initiators: Initiators,
     /// The operation code of the commands that it meets. None for any.
     pub code: Option<u8>,
-    /// The blocks of which a command has to name one. None for any command.
+    /// The blocks of which a command has to read or write one. None for any command.
     pub blocks: Option<BadBlocks>,
     /// The number of an initiator's commands that meet it and pass first.
     pub skip: u16,
@@ -47,6 +48,24 @@ pub struct Fault {
 }
 
 impl Fault {
+    /// The pseudo unrecovered error of a block (SBC-3, 4.18.2), with the sense code that a READ of the
+    /// block reports until a command writes it.
+    pub fn unrecovered_error(lba: u64, code: SenseCode) -> Fault
+        ensures { result ≡ unrecovered_error lba code }
+    {
+        Fault {
+            initiators: Initiators::all(),
+            code: None,
+            blocks: Some(BadBlocks {
+                extent: Extent { lba, count: 1 },
+                healed_by_writes: true,
+            }),
+            skip: 0,
+            times: None,
+            outcome: Outcome::AtMedium(AtMedium::CheckCondition(code)),
+        }
+    }
+
     /// A command is one that it meets.
     fn meets(&self, command: &SeenCommand<'_>) -> bool
         ensures { result ≡ meets command.now self.now }

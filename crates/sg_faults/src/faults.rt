@@ -1,8 +1,8 @@
 // The faults that are armed on a disk.
 ghost use Rattle.std.specs.Prelude.{◌≡◌, ◌<◌, None, length, slice_set};
 ghost use Rattle.sg_faults.specs.Faults.{after_asking, asked, decided, disarmed, healed, healed_slot};
-ghost use Rattle.sg_faults.specs.Faults.{is_armed, max_faults, met, no_faults, struck_by, struck_in};
-ghost use Rattle.sg_faults.specs.Faults.{with_fault};
+ghost use Rattle.sg_faults.specs.Faults.{have_room_after, is_armed, max_faults, met, no_faults};
+ghost use Rattle.sg_faults.specs.Faults.{struck_by, struck_in, with_fault};
 
 use crate::fault::{ArmedFault, Fault};
 use crate::outcome::{Place, Struck};
@@ -102,6 +102,15 @@ impl Faults {
             }
         }
         None
+    }
+
+    /// Returns `true` if a number is free when a command has healed its blocks.
+    pub fn have_room_after(&self, command: &SeenCommand<'_>) -> bool
+        ensures { result ≡ have_room_after command.now self.now }
+    {
+        self.slots
+            .iter()
+            .any(|slot| healed_slot(*slot, command).is_none())
     }
 
     /// Takes away the faults whose blocks a command heals.

@@ -19,8 +19,8 @@ pub enum OnArrival {
     DeferredError(SenseCode),
 }
 
-/// What a fault at the medium does to a command that names a block, and has passed the checks of its CDB,
-/// its data-out and its blocks.
+/// What a fault at the medium does to a command that reads or writes a block, and has passed the checks of
+/// its CDB, its data-out and its blocks.
 #[derive(Clone, Copy)]
 pub enum AtMedium {
     /// CHECK CONDITION with a sense code. INFORMATION is the first bad block of the command, if the

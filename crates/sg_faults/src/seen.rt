@@ -1,7 +1,7 @@
 // A command as faults see it.
 ghost use Rattle.std.specs.Prelude.{◌≡◌};
-ghost use Rattle.sg_faults.specs.Meeting.{contains, first_common, first_in, lies_in_extent, names_block};
-ghost use Rattle.sg_faults.specs.Meeting.{one_contains, overwrites};
+ghost use Rattle.sg_faults.specs.Meeting.{contains, first_common, first_in, lies_in_extent};
+ghost use Rattle.sg_faults.specs.Meeting.{one_contains, overwrites, reaches_medium};
 
 use sg_wire::{Extent, Initiator};
 use std::marker::Model;
@@ -13,7 +13,7 @@ pub struct SeenCommand<'a> {
     pub initiator: Initiator,
     /// Its operation code, the first byte of its CDB. None if the CDB has no byte.
     pub code: Option<u8>,
-    /// The blocks that it names. There are none if a check refuses it.
+    /// The blocks that it reads or writes. There are none if a check refuses it.
     pub extents: &'a [Extent],
     /// Whether it writes to the medium.
     pub writes: bool,
@@ -33,9 +33,9 @@ impl<'a> Model for SeenCommand<'a> {
 }
 
 impl SeenCommand<'_> {
-    /// Returns `true` if it names at least one block, so that it reaches the medium.
-    pub fn names_block(&self) -> bool
-        ensures { result ≡ names_block self.now }
+    /// Returns `true` if it reads or writes at least one block.
+    pub fn reaches_medium(&self) -> bool
+        ensures { result ≡ reaches_medium self.now }
     {
         self.extents.iter().any(|extent| extent.count > 0)
     }

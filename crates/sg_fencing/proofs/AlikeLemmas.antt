@@ -49,6 +49,7 @@ use Rattle.sg_target.specs.declared.operation.Operation.TheVariants.{ReturnInqui
 use Rattle.sg_target.specs.declared.operation.Operation.TheVariants.{ChangeModes, ReturnCapacity10}
 use Rattle.sg_target.specs.declared.operation.Operation.TheVariants.{ReturnCapacity16, Read, Write}
 use Rattle.sg_target.specs.declared.operation.Operation.TheVariants.{Synchronize, Fill, Unmap}
+use Rattle.sg_target.specs.declared.operation.Operation.TheVariants.{MarkBad}
 use Rattle.sg_target.specs.declared.operation.Operation.TheVariants.{Anchor, AnchorExtent}
 use Rattle.sg_target.specs.declared.operation.Operation.TheVariants.{UnmapExtent, ReturnLbaStatus}
 use Rattle.sg_target.specs.declared.operation.Operation.TheVariants.{ReturnReservations}
@@ -281,6 +282,7 @@ module _ (Related : ReservationState → ReservationState → Type 0) (s : State
   operation-agrees (Read extent) c = leaving (reading s extent) (reading t extent) refl refl refl refl refl
   operation-agrees (Write out) c = leaving (writing s out) (writing t out) refl refl refl refl refl
   operation-agrees (Synchronize extent) c = leaving (no_effect s) (no_effect t) refl refl refl refl refl
+  operation-agrees (MarkBad lba code) c = leaving (no_effect s) (no_effect t) refl refl refl refl refl
   operation-agrees (Fill extent block) c =
       leaving (filling s extent block) (filling t extent block) refl refl refl refl refl
   operation-agrees (Unmap extents) c =

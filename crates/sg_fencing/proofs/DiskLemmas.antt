@@ -10,14 +10,14 @@ use Rattle.sg_target.specs.Semantics.{effect_of, medium_use}
 use Rattle.sg_target.specs.State.{State, config_of}
 use Rattle.sg_target.specs.declared.operation.Operation.{Operation}
 use Rattle.sg_target.specs.declared.operation.Operation.TheVariants.{ReturnModes, ChangeModes}
-use Rattle.sg_target.specs.declared.operation.Operation.TheVariants.{ChangeReservations}
+use Rattle.sg_target.specs.declared.operation.Operation.TheVariants.{ChangeReservations, MarkBad}
 use Rattle.sg_target.specs.declared.refusal.Refusal.{Refusal}
 use Rattle.sg_target.specs.Step.{Step, outcome, refused}
 use Rattle.sg_target.specs.declared.refusal.Reason.TheVariants.{UnitAttention as Attention}
 use Rattle.sg_target.specs.declared.refusal.Refusal.TheVariants.{CheckCondition}
 use Rattle.sg_target.proofs.LiftLemmas.{lifted, outcome-by}
 use Rattle.sg_fencing.specs.Laws.{OnlyThreeCommandsChangeTheDisk, may_change_blocks}
-use Rattle.sg_fencing.proofs.OperationLemmas.{asked-reads}
+use Rattle.sg_fencing.proofs.OperationLemmas.{asked-reads, changes_blocks}
 
 -- ---- An operation
 
@@ -32,7 +32,7 @@ sound-leaves disk (Ok value) becomes h = h value
 sound-leaves disk (Err refusal) becomes h = tt
 
 pub operation-leaves : (state : State) (i : ℕ) (operation : Operation)
-    → (medium_use operation).writes ≡ false → Leaves state.disk (effect_of state i operation)
+    → changes_blocks operation ≡ false → Leaves state.disk (effect_of state i operation)
 operation-leaves state i (ReturnModes request n) h =
     sound-leaves state.disk (mode_parameters state.modes request) (returning_up_to state n) (λ list. refl)
 operation-leaves state i (ChangeModes width sp list) h =
@@ -41,7 +41,14 @@ operation-leaves state i (ChangeModes width sp list) h =
 operation-leaves state i (ChangeReservations action scope_type list) h =
     sound-leaves state.disk (reservation_change state i action scope_type list)
     (changing_reservations state i) (λ change. refl)
+operation-leaves state i (MarkBad lba code) h = refl
 operation-leaves state i _ h = cc
+
+-- an operation that does not write to the medium changes none
+pub changes-none : (operation : Operation) → (medium_use operation).writes ≡ false
+    → changes_blocks operation ≡ false
+changes-none (MarkBad lba code) h = refl
+changes-none _ h = h
 
 -- ---- A command
 

@@ -6,9 +6,10 @@ use Rattle.sg_wire.specs.CdbDecoding.{command_in}
 use Rattle.sg_wire.specs.Laws.{CommandsHaveTheirClass}
 use Rattle.sg_wire.specs.SenseData.{sense_data}
 use Rattle.sg_wire.specs.declared.command.Class.TheVariants.{Reads, Writes}
-use Rattle.sg_faults.specs.Faults.{Faults, asked, decided, healed}
+use Rattle.sg_faults.specs.Faults.{Faults, asked, decided}
 use Rattle.sg_faults.specs.Meeting.{Seen}
 use Rattle.sg_faults.specs.Places.{afterwards}
+use Rattle.sg_faults.specs.declared.fault.Fault.{Fault}
 use Rattle.sg_faults.specs.declared.outcome.Afterwards.{Afterwards}
 use Rattle.sg_faults.specs.declared.outcome.Afterwards.TheVariants as after
 use Rattle.sg_faults.specs.declared.outcome.Struck.{Struck}
@@ -16,7 +17,8 @@ use Rattle.sg_pages.specs.ModePage.{ModeState, descriptor_sense}
 use Rattle.sg_store.specs.Disk.{Contents}
 use Rattle.sg_units.specs.Access.{allows}
 use Rattle.sg_target.specs.Armed.{Armed, afterwards_step, answer_afterwards, armed_step, armed_step_by}
-use Rattle.sg_target.specs.Armed.{attempt_by, finished_if_good, first_blocks, seen, step_of_checked}
+use Rattle.sg_target.specs.Armed.{attempt_by, faults_left, finished_if_good, first_blocks, marked_by}
+use Rattle.sg_target.specs.Armed.{seen, step_of_checked}
 use Rattle.sg_target.specs.Charge.{step_by}
 use Rattle.sg_target.specs.Checks.{cdb_checks, checked_cdb}
 use Rattle.sg_target.specs.Effect.{with_contents}
@@ -57,20 +59,20 @@ module _ (first second : Step) (answer : first.answer ≡ second.answer)
   by-struck None faults = answer
   by-struck (Some struck) faults = by-outcome struck.outcome
 
-  by-status : (status : Status) (command : Seen) (faults : Faults)
-      → (finished_if_good status command faults first).answer
-      ≡ (finished_if_good status command faults second).answer
-  by-status Good command faults =
-      let left = healed command faults in
+  by-status : (status : Status) (mark : Option Fault) (command : Seen) (faults : Faults)
+      → (finished_if_good status mark command faults first).answer
+      ≡ (finished_if_good status mark command faults second).answer
+  by-status Good mark command faults =
+      let left = faults_left mark command faults in
       by-struck (decided afterwards command left) (asked afterwards command left)
-  by-status _ command faults = answer
+  by-status _ mark command faults = answer
 
-  finished-alike : (command : Seen) (faults : Faults)
-      → (finished_if_good first.answer.status command faults first).answer
-      ≡ (finished_if_good second.answer.status command faults second).answer
-  finished-alike command faults =
-      by-status first.answer.status command faults
-      ∙ ap (λ (a : Answer). (finished_if_good a.status command faults second).answer) answer
+  finished-alike : (mark : Option Fault) (command : Seen) (faults : Faults)
+      → (finished_if_good first.answer.status mark command faults first).answer
+      ≡ (finished_if_good second.answer.status mark command faults second).answer
+  finished-alike mark command faults =
+      by-status first.answer.status mark command faults
+      ∙ ap (λ (a : Answer). (finished_if_good a.status mark command faults second).answer) answer
 
 -- ---- A command
 
@@ -93,11 +95,11 @@ module _ (disk : Armed) (x : Contents) (j : ℕ) (cdb : List ℕ) where
   t = with_contents s x
 
   result-alike : (result : Result Operation Refusal) → Holds IsBlind first-blind result
-      → (command : Seen) (faults : Faults)
+      → (mark : Option Fault) (command : Seen) (faults : Faults)
       → (let done = step_of_checked s j result in
-      finished_if_good done.answer.status command faults done).answer
+      finished_if_good done.answer.status mark command faults done).answer
       ≡ (let done = step_of_checked t j result in
-      finished_if_good done.answer.status command faults done).answer
+      finished_if_good done.answer.status mark command faults done).answer
   result-alike (Ok operation) h =
       finished-alike (step_by s j operation) (step_by t j operation)
       (operation-alike s x j operation h.0 h.1)
@@ -113,7 +115,7 @@ module _ (disk : Armed) (x : Contents) (j : ℕ) (cdb : List ℕ) where
       let tried = attempt_by disk j cdb checked in
       result-alike tried.result
       (holds IsBlind first-blind disk.faults (seen j cdb checked) checked h)
-      (seen j cdb tried.result) tried.faults
+      (marked_by tried.result) (seen j cdb tried.result) tried.faults
 
   checked-same : (data_out : List ℕ)
       → checked_cdb s j cdb data_out ≡ checked_cdb t j cdb data_out

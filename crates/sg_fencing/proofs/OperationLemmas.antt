@@ -23,6 +23,7 @@ use Rattle.sg_target.specs.ReservationCommands.{fields_out}
 use Rattle.sg_target.specs.declared.operation.Operation.{Operation}
 use Rattle.sg_target.specs.declared.operation.Operation.TheVariants.{ChangeModes, Read, Write, Fill}
 use Rattle.sg_target.specs.declared.operation.Operation.TheVariants.{Unmap, UnmapExtent, Anchor, AnchorExtent}
+use Rattle.sg_target.specs.declared.operation.Operation.TheVariants.{MarkBad}
 use Rattle.sg_target.specs.declared.operation.Operation.TheVariants.{ReturnInquiry, ReturnLbaStatus}
 use Rattle.sg_target.specs.declared.operation.Operation.TheVariants.{ReturnReservations}
 use Rattle.sg_target.specs.declared.operation.Operation.TheVariants.{ChangeReservations}
@@ -40,6 +41,7 @@ class_for (Read extent) = Some Reads
 class_for (ReturnLbaStatus start n) = Some Reads
 class_for (Write out) = Some Writes
 class_for (Fill extent block) = Some Writes
+class_for (MarkBad lba code) = Some Writes
 class_for (Unmap extents) = Some Writes
 class_for (UnmapExtent extent) = Some Writes
 class_for (Anchor extents) = Some Writes
@@ -140,9 +142,14 @@ listed action scope_type false list short operation e = cc
 
 -- ---- Commands that change no block
 
--- the command may change blocks if the operation writes
+-- WRITE LONG writes to the medium, and leaves each block with its data and its status
+abbrev pub changes_blocks : Operation → Bool
+changes_blocks (MarkBad lba code) = false
+changes_blocks operation = (medium_use operation).writes
+
+-- the command may change blocks if the operation does
 pub record ReadsIf (command : Command) (operation : Operation) : Type 0 where
-  pub reads : may_change_blocks (Ok command) ≡ false → (medium_use operation).writes ≡ false
+  pub reads : may_change_blocks (Ok command) ≡ false → changes_blocks operation ≡ false
 
 abbrev ReadsIfAsked : Command → Result Operation Refusal → Type 0
 ReadsIfAsked command (Ok operation) = ReadsIf command operation
@@ -155,7 +162,7 @@ changing-reads command (Ok operation) h =
 changing-reads command (Err refusal) h = tt
 
 sound-reads : {A : Type 0} (command : Command) (sound : Result A Refusal) (becomes : A → Operation)
-    → ((value : A) → (medium_use (becomes value)).writes ≡ false)
+    → ((value : A) → changes_blocks (becomes value) ≡ false)
     → ReadsIfAsked command (when_sound sound becomes)
 sound-reads command (Ok value) becomes h = record { reads = λ no. h value }
 sound-reads command (Err refusal) becomes h = tt

@@ -66,8 +66,8 @@ may_change_blocks (Ok (command.Unmap c)) = true
 may_change_blocks _ = false
 
 -- Every other command leaves the disk as it was, whatever its answer is: the capacity, the pool,
--- and each block with its provisioning status. SYNCHRONIZE CACHE does so too, although a
--- reservation treats it as a command that writes.
+-- and each block with its provisioning status. SYNCHRONIZE CACHE and WRITE LONG do so too, although a
+-- reservation treats them as commands that write.
 abbrev pub OnlyThreeCommandsChangeTheDisk : Type 0
 OnlyThreeCommandsChangeTheDisk =
     (state : State) (initiator : ℕ) (cdb data_out : List ℕ)

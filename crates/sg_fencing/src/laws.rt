@@ -51,8 +51,8 @@ pub fn only_reads_return_data()
 }
 
 /// Only WRITE, WRITE SAME and UNMAP change blocks. Every other command leaves the disk as it was,
-/// whatever its answer is. SYNCHRONIZE CACHE does so too, although a reservation treats it as a
-/// command that writes.
+/// whatever its answer is. SYNCHRONIZE CACHE and WRITE LONG do so too, although a reservation treats
+/// them as commands that write.
 pub fn only_three_commands_change_the_disk()
     ensures { OnlyThreeCommandsChangeTheDisk }
 {}

@@ -3,10 +3,12 @@ use Rattle.std.proofs.Common.{◌≡◌, ◌≤◌, ℕ, ◌*◌, List, min, Opt
 use Rattle.std.proofs.Common.{Result, Ok, Err, Bool, true, false, if◌then◌else◌, refl, ap, ap₂, ◌∙◌}
 use Rattle.std.proofs.Common.{arith, length-take}
 use Rattle.std.specs.Prelude.{IfOk}
-use Rattle.sg_faults.specs.Faults.{Faults, asked, decided, healed, is_armed}
+use Rattle.sg_wire.specs.CdbDecoding.{command_in}
+use Rattle.sg_faults.specs.Faults.{Faults, asked, decided, is_armed}
 use Rattle.sg_faults.specs.Laws.{UnarmedFaultsDoNothing}
-use Rattle.sg_faults.specs.Meeting.{Seen, names_block}
+use Rattle.sg_faults.specs.Meeting.{Seen, reaches_medium}
 use Rattle.sg_faults.specs.Places.{afterwards, at_medium, on_arrival}
+use Rattle.sg_faults.specs.declared.fault.Fault.{Fault}
 use Rattle.sg_faults.specs.declared.outcome.Afterwards.{Afterwards}
 use Rattle.sg_faults.specs.declared.outcome.AtMedium.{AtMedium}
 use Rattle.sg_faults.specs.declared.outcome.AtMedium.TheVariants as medium
@@ -14,13 +16,14 @@ use Rattle.sg_faults.specs.declared.outcome.OnArrival.{OnArrival}
 use Rattle.sg_faults.specs.declared.outcome.Struck.{Struck}
 use Rattle.sg_target.specs.Armed.{Armed, Attempt, afterwards_step, armed_step}
 use Rattle.sg_target.specs.Armed.{armed_step_by, arrival_attempt, attempt, checked_attempt}
-use Rattle.sg_target.specs.Armed.{finished_if_good, first_blocks, medium_attempt, result_at_medium}
-use Rattle.sg_target.specs.Armed.{seen, step_of_checked}
+use Rattle.sg_target.specs.Armed.{faults_left, finished_if_good, first_blocks, lacks_room, marked_by}
+use Rattle.sg_target.specs.Armed.{medium_attempt, result_at_medium, seen, step_of_checked, with_room}
 use Rattle.sg_target.specs.Checks.{checked_cdb}
 use Rattle.sg_target.specs.DataInBound.{checked_bound, data_in_bound}
 use Rattle.sg_target.specs.Extents.{AreOnDisk}
+use Rattle.sg_target.specs.FaultLaws.{is_write_long}
 use Rattle.sg_target.specs.Semantics.{medium_use}
-use Rattle.sg_target.specs.State.{State}
+use Rattle.sg_target.specs.State.{State, profile_of}
 use Rattle.sg_target.specs.Step.{Step, step}
 use Rattle.sg_target.specs.declared.operation.Operation.{Operation}
 use Rattle.sg_target.specs.declared.operation.Operation.TheVariants as operation
@@ -28,6 +31,7 @@ use Rattle.sg_target.specs.declared.refusal.Refusal.{Refusal}
 use Rattle.sg_target.specs.declared.reply.Status.{Status}
 use Rattle.sg_target.specs.declared.reply.Status.TheVariants.{Good}
 use Rattle.sg_target.proofs.BlocksLemmas.{IsReady, Ready}
+use Rattle.sg_target.proofs.MarkingLemmas.{only-write-long, unmarked-stays}
 
 -- what holds of both
 pub of-both : {A : Type 0} (P : A → Type 0) (b : Bool) {x y : A} → P x → P y → P (if b then x else y)
@@ -42,20 +46,29 @@ module _ (law : UnarmedFaultsDoNothing) where
       → checked_attempt command checked faults ≡ record { result = checked; faults = faults }
   checked-unarmed faults command (Err refusal) e = refl
   checked-unarmed faults command (Ok o) e = let idle = law.at_medium command faults e in
-      of-both (λ (t : Attempt). t ≡ record { result = Ok o; faults = faults }) (names_block command)
+      of-both (λ (t : Attempt). t ≡ record { result = Ok o; faults = faults }) (reaches_medium command)
       (ap₂ (λ (d : Option (Struck AtMedium)) (f : Faults). medium_attempt d o f) idle.0 idle.1) refl
 
-  pub attempt-unarmed : (faults : Faults) (command : Seen) (checked : Result Operation Refusal)
+  arrival-unarmed : (faults : Faults) (command : Seen) (checked : Result Operation Refusal)
       → is_armed faults ≡ false
-      → attempt faults command checked ≡ record { result = checked; faults = faults }
-  attempt-unarmed faults command checked e = let idle = law.on_arrival command faults e in
+      → arrival_attempt (decided on_arrival command faults) command checked
+      (asked on_arrival command faults)
+      ≡ record { result = checked; faults = faults }
+  arrival-unarmed faults command checked e = let idle = law.on_arrival command faults e in
       ap₂ (λ (d : Option (Struck OnArrival)) (f : Faults). arrival_attempt d command checked f) idle.0
       idle.1
       ∙ checked-unarmed faults command checked e
 
+  pub attempt-unarmed : (faults : Faults) (command : Seen) (checked : Result Operation Refusal)
+      → is_armed faults ≡ false → marked_by checked ≡ None
+      → attempt faults command checked ≡ record { result = checked; faults = faults }
+  attempt-unarmed faults command checked e none =
+      ap (with_room command) (arrival-unarmed faults command checked e)
+      ∙ unmarked-stays command (record { result = checked; faults = faults }) none
+
   finished-unarmed : (status : Status) (command : Seen) (faults : Faults) (done : Step)
       → is_armed faults ≡ false
-      → finished_if_good status command faults done
+      → finished_if_good status None command faults done
       ≡ record { answer = done.answer; after = record { state = done.state; faults = faults } }
   finished-unarmed Good command faults done e =
       let idle = law.afterwards command faults e in
@@ -65,25 +78,31 @@ module _ (law : UnarmedFaultsDoNothing) where
   finished-unarmed _ command faults done e = refl
 
   pub step-by-unarmed : (disk : Armed) (i : ℕ) (cdb : List ℕ) (checked : Result Operation Refusal)
-      → is_armed disk.faults ≡ false
+      → is_armed disk.faults ≡ false → marked_by checked ≡ None
       → armed_step_by disk i cdb checked
       ≡ (let done = step_of_checked disk.state i checked in
       record { answer = done.answer; after = record disk { state = done.state } })
-  step-by-unarmed disk i cdb checked e =
-      let tried = attempt-unarmed disk.faults (seen i cdb checked) checked e in
+  step-by-unarmed disk i cdb checked e none =
+      let tried = attempt-unarmed disk.faults (seen i cdb checked) checked e none in
       let done = step_of_checked disk.state i checked in
       ap
       (λ (t : Attempt). let d = step_of_checked disk.state i t.result in
-      finished_if_good d.answer.status (seen i cdb t.result) t.faults d)
+      finished_if_good d.answer.status (marked_by t.result) (seen i cdb t.result) t.faults d)
       tried
-      ∙ finished-unarmed done.answer.status (seen i cdb checked) disk.faults done e
+      ∙ (ap
+      (λ (mark : Option Fault). finished_if_good done.answer.status mark (seen i cdb checked)
+      disk.faults done)
+      none
+      ∙ finished-unarmed done.answer.status (seen i cdb checked) disk.faults done e)
 
   pub step-unarmed : (disk : Armed) (i : ℕ) (cdb data_out : List ℕ) → is_armed disk.faults ≡ false
+      → is_write_long (command_in (profile_of disk.state) cdb) ≡ false
       → armed_step disk i cdb data_out
       ≡ (let done = step disk.state i cdb data_out in
       record { answer = done.answer; after = record disk { state = done.state } })
-  step-unarmed disk i cdb data_out e =
+  step-unarmed disk i cdb data_out e other =
       step-by-unarmed disk i cdb (checked_cdb disk.state i cdb data_out) e
+      (only-write-long disk.state i cdb data_out other)
 
 -- ---- What is executed
 
@@ -93,12 +112,12 @@ afterwards-state : (struck : Option (Struck Afterwards)) (done : Step) (faults :
 afterwards-state None done faults = refl
 afterwards-state (Some struck) done faults = refl
 
-pub finished-state : (status : Status) (command : Seen) (faults : Faults) (done : Step)
-    → (finished_if_good status command faults done).after.state ≡ done.state
-finished-state Good command faults done =
-    let left = healed command faults in
+pub finished-state : (status : Status) (mark : Option Fault) (command : Seen) (faults : Faults)
+    (done : Step) → (finished_if_good status mark command faults done).after.state ≡ done.state
+finished-state Good mark command faults done =
+    let left = faults_left mark command faults in
     afterwards-state (decided afterwards command left) done (asked afterwards command left)
-finished-state _ command faults done = refl
+finished-state _ mark command faults done = refl
 
 -- what is known of an operation that the checks pass is known of what is executed
 module _ (P : Operation → Type 0)
@@ -120,7 +139,7 @@ module _ (P : Operation → Type 0)
   after-checks : (command : Seen) (checked : Result Operation Refusal) (faults : Faults)
       → Holds checked → Holds (checked_attempt command checked faults).result
   after-checks command (Ok o) faults h =
-      of-both (λ (t : Attempt). Holds t.result) (names_block command)
+      of-both (λ (t : Attempt). Holds t.result) (reaches_medium command)
       (after-medium (decided at_medium command faults) o (asked at_medium command faults) h) h
   after-checks command (Err refusal) faults h = tt
 
@@ -133,8 +152,11 @@ module _ (P : Operation → Type 0)
   pub holds : (faults : Faults) (command : Seen) (checked : Result Operation Refusal)
       → Holds checked → Holds (attempt faults command checked).result
   holds faults command checked h =
-      after-arrival (decided on_arrival command faults) command checked
-      (asked on_arrival command faults) h
+      let tried = arrival_attempt (decided on_arrival command faults) command checked
+      (asked on_arrival command faults) in
+      of-both (λ (t : Attempt). Holds t.result) (lacks_room command tried) tt
+      (after-arrival (decided on_arrival command faults) command checked
+      (asked on_arrival command faults) h)
 
 -- so its blocks are on the disk
 first-on_disk : (capacity n : ℕ) (o : Operation) → AreOnDisk capacity (medium_use o).extents

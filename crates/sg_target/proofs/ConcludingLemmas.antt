@@ -1,17 +1,18 @@
 -- A command is concluded: what it answers, leaves and costs on a disk with armed faults.
 use Rattle.std.proofs.Common.{◌≡◌, ◌≤◌, ℕ, List, Option, Some, None, Result, false, refl, sym, ap, subst, ◌∙◌}
 use Rattle.sg_wire.specs.declared.sense.Format.{Format}
-use Rattle.sg_faults.specs.Faults.{Faults, asked, decided, healed, is_armed}
+use Rattle.sg_faults.specs.Faults.{Faults, asked, decided, is_armed}
 use Rattle.sg_faults.specs.Laws.{UnarmedFaultsDoNothing}
 use Rattle.sg_faults.specs.Meeting.{Seen}
 use Rattle.sg_faults.specs.Places.{afterwards}
+use Rattle.sg_faults.specs.declared.fault.Fault.{Fault}
 use Rattle.sg_faults.specs.declared.outcome.Afterwards.{Afterwards}
 use Rattle.sg_faults.specs.declared.outcome.Afterwards.TheVariants as after
 use Rattle.sg_faults.specs.declared.outcome.Struck.{Struck}
 use Rattle.sg_store.specs.Meter.{Meter}
 use Rattle.sg_target.specs.Armed.{Armed, ArmedStep, Attempt, afterwards_step, answer_afterwards}
-use Rattle.sg_target.specs.Armed.{armed_step, armed_step_by, attempt_by, finished}
-use Rattle.sg_target.specs.Armed.{finished_if_good, seen, step_of_checked}
+use Rattle.sg_target.specs.Armed.{armed_step, armed_step_by, attempt, attempt_by, faults_left}
+use Rattle.sg_target.specs.Armed.{finished, finished_if_good, marked_by, seen, step_of_checked}
 use Rattle.sg_target.specs.Charge.{ChargesCommand, CostBounds, IsCharged, TakesArmedStep, TakesStep}
 use Rattle.sg_target.specs.Charge.{armed_ranges, visit_bound}
 use Rattle.sg_target.specs.Checks.{checked_cdb}
@@ -20,7 +21,7 @@ use Rattle.sg_target.specs.MadeReplies.{finished_reply, reply_afterwards}
 use Rattle.sg_target.specs.Laws.{LimitsAreKept}
 use Rattle.sg_target.specs.Ranges.{Range, ranges_if_passed}
 use Rattle.sg_target.specs.Reply.{Carries}
-use Rattle.sg_target.specs.State.{IsWithinLimits}
+use Rattle.sg_target.specs.State.{IsWithinLimits, State}
 use Rattle.sg_target.specs.Step.{Answer, Step, sense_format}
 use Rattle.sg_target.specs.Target.{TargetFields, disk_of}
 use Rattle.sg_target.specs.declared.operation.Operation.{Operation}
@@ -77,14 +78,14 @@ module _ (limits : LimitsAreKept) (bounds : CostBounds) (i : ℕ) (cdb data_out 
 
 pub takes-unarmed : UnarmedFaultsDoNothing → (bounds : CostBounds) (i : ℕ) (cdb : List ℕ)
     (checked : Result Operation Refusal) (old new : TargetFields) (reply : Reply)
-    (buffer buffer' : List ℕ) → is_armed old.faults ≡ false
+    (buffer buffer' : List ℕ) → is_armed old.faults ≡ false → marked_by checked ≡ None
     → TakesStep bounds (step_of_checked old.state i checked) (ranges_if_passed old.state checked) old
     new reply buffer buffer'
     → TakesArmedStep bounds (armed_step_by (disk_of old) i cdb checked)
     (armed_ranges (disk_of old) i cdb checked) old new reply buffer buffer'
-takes-unarmed law bounds i cdb checked old new reply buffer buffer' unarmed h =
-    let step = step-by-unarmed law (disk_of old) i cdb checked unarmed in
-    let tried = attempt-unarmed law old.faults (seen i cdb checked) checked unarmed in
+takes-unarmed law bounds i cdb checked old new reply buffer buffer' unarmed none h =
+    let step = step-by-unarmed law (disk_of old) i cdb checked unarmed none in
+    let tried = attempt-unarmed law old.faults (seen i cdb checked) checked unarmed none in
     record {
       answer =
           subst (λ (a : Answer). Carries a reply buffer buffer')
@@ -152,13 +153,13 @@ module _ (bounds : CostBounds) (pool : ℕ) (over : List Range) (from to : Meter
 
 -- the target after the attempt, and after what is executed
 module _ (bounds : CostBounds) (i : ℕ) (cdb : List ℕ) (checked : Result Operation Refusal)
-    (old between done : TargetFields) (reply : Reply) (buffer buffer' : List ℕ)
+    (old between done : TargetFields) (first : Seen) (result : Result Operation Refusal) (reply : Reply)
+    (buffer buffer' : List ℕ) (first_is : first ≡ seen i cdb checked)
+    (result_is : result ≡ (attempt old.faults first checked).result)
+    (faults_are : between.faults ≡ (attempt old.faults first checked).faults)
     (state : between.state ≡ old.state) (meter : between.meter ≡ old.meter)
-    (faults : between.faults ≡ (attempt_by (disk_of old) i cdb checked).faults)
-    (takes : TakesStep bounds
-    (step_of_checked old.state i (attempt_by (disk_of old) i cdb checked).result)
-    (ranges_if_passed old.state (attempt_by (disk_of old) i cdb checked).result) between done reply
-    buffer buffer') where
+    (performed : TakesStep bounds (step_of_checked between.state i result)
+    (ranges_if_passed between.state result) between done reply buffer buffer') where
   abbrev tried : Attempt
   tried = attempt_by (disk_of old) i cdb checked
 
@@ -168,8 +169,28 @@ module _ (bounds : CostBounds) (i : ℕ) (cdb : List ℕ) (checked : Result Oper
   abbrev command : Seen
   command = seen i cdb tried.result
 
+  abbrev mark : Option Fault
+  mark = marked_by tried.result
+
+  pub result-tried : result ≡ tried.result
+  result-tried = result_is ∙ ap (λ (s : Seen). (attempt old.faults s checked).result) first_is
+
+  takes : TakesStep bounds step (ranges_if_passed old.state tried.result) between done reply buffer
+      buffer'
+  takes =
+      subst
+      (λ (s : State). TakesStep bounds (step_of_checked s i tried.result)
+      (ranges_if_passed s tried.result) between done reply buffer buffer')
+      state
+      (subst
+      (λ (r : Result Operation Refusal). TakesStep bounds (step_of_checked between.state i r)
+      (ranges_if_passed between.state r) between done reply buffer buffer')
+      result-tried performed)
+
   kept : done.faults ≡ tried.faults
-  kept = takes.faults ∙ faults
+  kept =
+      takes.faults
+      ∙ (faults_are ∙ ap (λ (s : Seen). (attempt old.faults s checked).faults) first_is)
 
   charge : IsCharged bounds old.state.disk.pool (ranges_if_passed old.state tried.result) old.meter
       done.meter reply
@@ -185,14 +206,14 @@ module _ (bounds : CostBounds) (i : ℕ) (cdb : List ℕ) (checked : Result Oper
 
   -- it does not end with GOOD
   not-good : (status : Status) → step.answer.status ≡ status → (status ≡ Good → ⊥)
-      → finished_if_good step.answer.status command tried.faults step
+      → finished_if_good step.answer.status mark command tried.faults step
       ≡ afterwards_step None step tried.faults
   not-good Good e h = absurd (h refl)
-  not-good CheckCondition e h = ap (λ s. finished_if_good s command tried.faults step) e
-  not-good ReservationConflict e h = ap (λ s. finished_if_good s command tried.faults step) e
-  not-good Busy e h = ap (λ s. finished_if_good s command tried.faults step) e
-  not-good TaskSetFull e h = ap (λ s. finished_if_good s command tried.faults step) e
-  not-good NoReply e h = ap (λ s. finished_if_good s command tried.faults step) e
+  not-good CheckCondition e h = ap (λ s. finished_if_good s mark command tried.faults step) e
+  not-good ReservationConflict e h = ap (λ s. finished_if_good s mark command tried.faults step) e
+  not-good Busy e h = ap (λ s. finished_if_good s mark command tried.faults step) e
+  not-good TaskSetFull e h = ap (λ s. finished_if_good s mark command tried.faults step) e
+  not-good NoReply e h = ap (λ s. finished_if_good s mark command tried.faults step) e
 
   pub takes-refused : (reply.status ≡ Good → ⊥)
       → TakesArmedStep bounds (armed_step_by (disk_of old) i cdb checked)
@@ -209,45 +230,53 @@ module _ (bounds : CostBounds) (i : ℕ) (cdb : List ℕ) (checked : Result Oper
         charge = charge;
       }
 
-  -- it does
-  pub takes-finished : (new : TargetFields) → reply.status ≡ Good
+  -- it does; `second` is the command as the faults see it then
+  pub takes-finished : (new : TargetFields) (second : Seen) (given : Option Fault) (last : Reply)
+      → second ≡ seen i cdb result → given ≡ marked_by result → reply.status ≡ Good
       → new.state ≡ done.state → new.meter ≡ done.meter
-      → new.faults ≡ asked afterwards command (healed command done.faults)
+      → new.faults ≡ asked afterwards second (faults_left given second done.faults)
+      → last ≡ finished_reply (sense_format done.state) reply
+      (decided afterwards second (faults_left given second done.faults))
       → TakesArmedStep bounds (armed_step_by (disk_of old) i cdb checked)
-      (armed_ranges (disk_of old) i cdb checked) old new
-      (finished_reply (sense_format done.state) reply
-      (decided afterwards command (healed command done.faults))) buffer buffer'
-  takes-finished new good state' meter' faults' =
-      let is : finished_if_good step.answer.status command tried.faults step
-      ≡ finished command tried.faults step =
-      ap (λ s. finished_if_good s command tried.faults step) (sym takes.answer.status ∙ good) in
-      let left = ap (healed command) kept in
-      let struck = ap (decided afterwards command) left in
-      let final = asked afterwards command (healed command tried.faults) in
-      let given = decided afterwards command (healed command tried.faults) in
+      (armed_ranges (disk_of old) i cdb checked) old new last buffer buffer'
+  takes-finished new second given last second_is given_is good state' meter' faults' last_is =
+      let is : finished_if_good step.answer.status mark command tried.faults step
+      ≡ finished mark command tried.faults step =
+      ap (λ s. finished_if_good s mark command tried.faults step) (sym takes.answer.status ∙ good) in
+      let seen_as = second_is ∙ ap (seen i cdb) result-tried in
+      let marks = given_is ∙ ap marked_by result-tried in
+      let left : faults_left given second done.faults ≡ faults_left mark command tried.faults =
+      λ d. faults_left (marks d) (seen_as d) (kept d) in
+      let struck : decided afterwards second (faults_left given second done.faults)
+      ≡ decided afterwards command (faults_left mark command tried.faults) =
+      λ d. decided afterwards (seen_as d) (left d) in
+      let final = asked afterwards command (faults_left mark command tried.faults) in
+      let due = decided afterwards command (faults_left mark command tried.faults) in
       let format = ap sense_format takes.state in
-      let last = finished_reply (sense_format done.state) reply
-      (decided afterwards command (healed command done.faults)) in
       record {
         answer =
             subst (λ (a : Answer). Carries a last buffer buffer')
             (sym (ap (λ (s : ArmedStep). s.answer) is))
             (subst
-            (λ (r : Reply). Carries (afterwards_step given step final).answer r buffer buffer')
-            (sym (λ d. finished_reply (format d) reply (struck d)))
-            (afterwards-carried given step reply buffer buffer' final takes.answer));
+            (λ (r : Reply). Carries (afterwards_step due step final).answer r buffer buffer')
+            (sym (last_is ∙ (λ d. finished_reply (format d) reply (struck d))))
+            (afterwards-carried due step reply buffer buffer' final takes.answer));
         after =
             (λ d. record {
               state = (state' ∙ takes.state) d;
-              faults = (faults' ∙ ap (asked afterwards command) left) d;
+              faults = (faults' ∙ (λ e. asked afterwards (seen_as e) (left e))) d;
             })
-            ∙ (sym (afterwards-after given step final) ∙ sym (ap (λ (s : ArmedStep). s.after) is));
+            ∙ (sym (afterwards-after due step final) ∙ sym (ap (λ (s : ArmedStep). s.after) is));
         charge =
             subst
             (λ (m : Meter). IsCharged bounds old.state.disk.pool
             (ranges_if_passed old.state tried.result) old.meter m last)
             (sym meter')
+            (subst
+            (λ (r : Reply). IsCharged bounds old.state.disk.pool
+            (ranges_if_passed old.state tried.result) old.meter done.meter r)
+            (sym last_is)
             (finished-charged bounds old.state.disk.pool (ranges_if_passed old.state tried.result)
             old.meter done.meter (sense_format done.state) reply charge
-            (decided afterwards command (healed command done.faults)));
+            (decided afterwards second (faults_left given second done.faults))));
       }

@@ -2,10 +2,14 @@
 use Rattle.std.proofs.Common.{◌≡◌, ◌⊎◌, inl, inr, ℕ, Bool, true, false, not, ◌&&◌, List, [], ◌∷◌}
 use Rattle.std.proofs.Common.{Option, Some, None, Result, Ok, Err, refl, sym, ap, ◌∙◌, subst, zero, suc}
 use Rattle.std.specs.List.{list_all}
+use Rattle.sg_wire.specs.CdbDecoding.{command_in}
+use Rattle.sg_wire.specs.declared.profile.Profile.{Profile}
+use Rattle.sg_pages.specs.Identity.{IdentityFields}
 use Rattle.sg_faults.specs.Faults.{Faults, asked, decided, disarmed, healed, is_armed}
 use Rattle.sg_faults.specs.Laws.{SparedInitiatorsMeetNoFault, UnarmedFaultsDoNothing, is_spared}
-use Rattle.sg_faults.specs.Meeting.{Seen, names_block}
+use Rattle.sg_faults.specs.Meeting.{Seen, reaches_medium}
 use Rattle.sg_faults.specs.Places.{afterwards, at_medium, on_arrival}
+use Rattle.sg_faults.specs.declared.fault.Fault.{Fault}
 use Rattle.sg_faults.specs.declared.outcome.Afterwards.{Afterwards}
 use Rattle.sg_faults.specs.declared.outcome.Afterwards.TheVariants as after
 use Rattle.sg_faults.specs.declared.outcome.AtMedium.{AtMedium}
@@ -15,17 +19,20 @@ use Rattle.sg_faults.specs.declared.outcome.OnArrival.TheVariants as arrival
 use Rattle.sg_faults.specs.declared.outcome.Struck.{Struck}
 use Rattle.sg_target.specs.Armed.{Armed, ArmedStep, Attempt, afterwards_step, armed_step}
 use Rattle.sg_target.specs.Armed.{answer_afterwards, armed_step_by, arrival_attempt, attempt}
-use Rattle.sg_target.specs.Armed.{attempt_of, checked_attempt, finished_attempt, finished_if_good}
-use Rattle.sg_target.specs.Armed.{first_blocks, medium_attempt, refusal_on_arrival}
-use Rattle.sg_target.specs.Armed.{result_at_medium, seen}
-use Rattle.sg_target.specs.Armed.{step_of_checked}
+use Rattle.sg_target.specs.Armed.{attempt_of, checked_attempt, faults_left, finished_attempt}
+use Rattle.sg_target.specs.Armed.{finished_if_good, first_blocks, lacks_room, marked_by}
+use Rattle.sg_target.specs.Armed.{medium_attempt, refusal_on_arrival, result_at_medium, seen}
+use Rattle.sg_target.specs.Armed.{step_of_checked, with_room}
 use Rattle.sg_target.specs.Checks.{checked_cdb}
+use Rattle.sg_target.specs.Config.{ConfigFields}
 use Rattle.sg_target.specs.FaultLaws.{FaultsOnlyDropOrShorten, IsExecutedInPart}
 use Rattle.sg_target.specs.FaultLaws.{OnlyPassedCommandsEndWithGood, RefusedCommandsStayRefused}
 use Rattle.sg_target.specs.FaultLaws.{RunsAsWithoutFaults, StaysRefused, WritesFirstBlocks, is_arming}
+use Rattle.sg_target.specs.FaultLaws.{is_write_long}
 use Rattle.sg_target.specs.Happenings.{faults_after}
+use Rattle.sg_target.specs.Laws.{ConfigurationStays}
 use Rattle.sg_target.specs.Runs.{after_events, answers_to, armed_after_happening, armed_disk}
-use Rattle.sg_target.specs.State.{State}
+use Rattle.sg_target.specs.State.{State, profile_of}
 use Rattle.sg_target.specs.Step.{Answer, Step, refused, step}
 use Rattle.sg_target.specs.declared.event.Event.{Event}
 use Rattle.sg_target.specs.declared.event.Event.TheVariants as event
@@ -38,6 +45,7 @@ use Rattle.sg_target.specs.declared.reply.Status.{Status}
 use Rattle.sg_target.specs.declared.reply.Status.TheVariants.{Good}
 use Rattle.sg_target.proofs.ArmedLemmas.{finished-state, of-both, step-unarmed}
 use Rattle.sg_target.proofs.LiftLemmas.{not_good}
+use Rattle.sg_target.proofs.MarkingLemmas.{only-write-long, unmarked-stays}
 
 -- ---- What faults can do
 
@@ -88,7 +96,7 @@ module _ (state : State) (i : ℕ) (cdb data_out : List ℕ) where
       → checked_cdb state i cdb data_out ≡ checked
       → Tried (checked_attempt command checked faults).result
   by-checks command (Ok o) faults e =
-      of-both (λ (t : Attempt). Tried t.result) (names_block command)
+      of-both (λ (t : Attempt). Tried t.result) (reaches_medium command)
       (by-medium o e (decided at_medium command faults) (asked at_medium command faults)) (inl (sym e))
   by-checks command (Err refusal) faults e = inl (sym e)
 
@@ -173,17 +181,17 @@ answer-if-good (Some struck) done faults e = absurd (changed struck.outcome e)
     changed after.NoReply e = cc
     changed (after.CheckCondition code) e = cc
 
-finished-good : (status : Status) (command : Seen) (faults : Faults) (done : Step)
-    → (finished_if_good status command faults done).answer.status ≡ Good
-    → (finished_if_good status command faults done).answer ≡ done.answer
-finished-good Good command faults done e =
-    let left = healed command faults in
+finished-good : (status : Status) (mark : Option Fault) (command : Seen) (faults : Faults) (done : Step)
+    → (finished_if_good status mark command faults done).answer.status ≡ Good
+    → (finished_if_good status mark command faults done).answer ≡ done.answer
+finished-good Good mark command faults done e =
+    let left = faults_left mark command faults in
     answer-if-good (decided afterwards command left) done (asked afterwards command left) e
-finished-good _ command faults done e = refl
+finished-good _ mark command faults done e = refl
 
 -- nor does it meet a command that has not ended with GOOD
 finished-bad : (status : Status) (command : Seen) (faults : Faults) (done : Step) → (status ≡ Good → ⊥)
-    → (finished_if_good status command faults done).answer ≡ done.answer
+    → (finished_if_good status None command faults done).answer ≡ done.answer
 finished-bad Good command faults done h = absurd (h refl)
 finished-bad _ command faults done h = refl
 
@@ -201,11 +209,16 @@ module _ (disk : Armed) (i : ℕ) (cdb data_out : List ℕ) where
   is-tried =
       let checked = checked_cdb disk.state i cdb data_out in
       let command = seen i cdb checked in
-      by-attempt disk.state i cdb data_out (decided on_arrival command disk.faults) command checked
-      (asked on_arrival command disk.faults) refl
+      let struck = decided on_arrival command disk.faults in
+      let left = asked on_arrival command disk.faults in
+      of-both (λ (t : Attempt). Tried disk.state i cdb data_out t.result)
+      (lacks_room command (arrival_attempt struck command checked left))
+      (inr (inl (record { refusal = _; is = refl; left = refl })))
+      (by-attempt disk.state i cdb data_out struck command checked left refl)
 
   state-left : (armed_step disk i cdb data_out).after.state ≡ done_by.state
-  state-left = finished-state done_by.answer.status seen_by tried_by.faults done_by
+  state-left =
+      finished-state done_by.answer.status (marked_by tried_by.result) seen_by tried_by.faults done_by
 
 pub drop-or-shorten : FaultsOnlyDropOrShorten
 drop-or-shorten disk i cdb data_out =
@@ -218,7 +231,8 @@ good-passed disk i cdb data_out good =
     let tried = tried_by disk i cdb data_out in
     let done = done_by disk i cdb data_out in
     let same =
-    finished-good done.answer.status (seen_by disk i cdb data_out) tried.faults done good in
+    finished-good done.answer.status (marked_by tried.result) (seen_by disk i cdb data_out) tried.faults
+    done good in
     tried-good disk.state i cdb data_out (armed_step disk i cdb data_out) tried.result
     (is-tried disk i cdb data_out) (sym (ap (λ (a : Answer). a.status) same) ∙ good) same
     (state-left disk i cdb data_out)
@@ -229,19 +243,20 @@ module _ (disk : Armed) (i : ℕ) (cdb : List ℕ) (by_checks : Refusal) where
       → (refusal ≡ by_checks) ⊎ ((fault : OnArrival) × (refusal ≡ refusal_on_arrival fault))
       → (command : Seen) (faults : Faults)
       → StaysRefused disk.state i by_checks
-      (let done = refused disk.state i refusal in finished_if_good done.answer.status command faults done)
+      (let done = refused disk.state i refusal in
+      finished_if_good done.answer.status None command faults done)
   refused-by refusal whose command faults =
       let done = refused disk.state i refusal in
       record {
         refusal = refusal;
         whose = whose;
         answer = finished-bad done.answer.status command faults done (not_good disk.state i refusal);
-        after = finished-state done.answer.status command faults done;
+        after = finished-state done.answer.status None command faults done;
       }
 
   by-struck : (struck : Option (Struck OnArrival)) (command : Seen) (faults : Faults)
       → StaysRefused disk.state i by_checks (finished_attempt disk.state i cdb
-      (arrival_attempt struck command (Err by_checks) faults))
+      (with_room command (arrival_attempt struck command (Err by_checks) faults)))
   by-struck None command faults = refused-by by_checks (inl refl) _ faults
   by-struck (Some struck) command faults =
       refused-by (refusal_on_arrival struck.outcome) (inr (struck.outcome, refl)) _ faults
@@ -275,27 +290,41 @@ none-set (None ∷ faults) zero e = e
 none-set (None ∷ faults) (suc n) e = none-set faults n e
 none-set (Some a ∷ faults) n e = cc
 
-still-unarmed : (happening : Happening) (faults : Faults) → not (is_arming (event.Happen happening)) ≡ true
+still-unarmed : (profile : Profile) (happening : Happening) (faults : Faults)
+    → not (is_arming profile (event.Happen happening)) ≡ true
     → is_armed faults ≡ false → is_armed (faults_after happening faults) ≡ false
-still-unarmed (Arm fault) faults h e = cc
-still-unarmed (Disarm n) faults h e = none-set faults n e
-still-unarmed DisarmAll faults h e = refl
-still-unarmed _ faults h e = e
+still-unarmed profile (Arm fault) faults h e = cc
+still-unarmed profile (Disarm n) faults h e = none-set faults n e
+still-unarmed profile DisarmAll faults h e = refl
+still-unarmed profile _ faults h e = e
 
-module _ (law : UnarmedFaultsDoNothing) where
-  pub runs-sound : (disk : Armed) (events : List Event) → is_armed disk.faults ≡ false
-      → list_all (λ e. not (is_arming e)) events ≡ true → RunsAsWithoutFaults disk events
-  runs-sound disk [] e h = record { answers = refl; state = refl }
-  runs-sound disk (event.Happen happening ∷ events) e h =
-      let here = first-true (not (is_arming (event.Happen happening))) _ h in
-      let rest = second-true (not (is_arming (event.Happen happening))) _ h in
-      let next = runs-sound (armed_after_happening disk happening) events
-      (still-unarmed happening disk.faults here e) rest in
+not-true : (b : Bool) → not b ≡ true → b ≡ false
+not-true true e = cc
+not-true false e = refl
+
+module _ (law : UnarmedFaultsDoNothing) (stays : ConfigurationStays) (profile : Profile) where
+  pub runs-sound : (disk : Armed) (events : List Event) → profile_of disk.state ≡ profile
+      → is_armed disk.faults ≡ false → list_all (λ e. not (is_arming profile e)) events ≡ true
+      → RunsAsWithoutFaults disk events
+  runs-sound disk [] p e h = record { answers = refl; state = refl }
+  runs-sound disk (event.Happen happening ∷ events) p e h =
+      let here = first-true (not (is_arming profile (event.Happen happening))) _ h in
+      let rest = second-true (not (is_arming profile (event.Happen happening))) _ h in
+      let same = ap (λ (i : IdentityFields). i.profile) (stays.growth happening disk.state).identity in
+      let next = runs-sound (armed_after_happening disk happening) events (same ∙ p)
+      (still-unarmed profile happening disk.faults here e) rest in
       record { answers = next.answers; state = next.state }
-  runs-sound disk (event.Call call ∷ events) e h =
-      let done = step disk.state call.initiator call.cdb.now call.data_out.now in
-      let is = step-unarmed law disk call.initiator call.cdb.now call.data_out.now e in
-      let next = runs-sound (record disk { state = done.state }) events e h in
+  runs-sound disk (event.Call call ∷ events) p e h =
+      let i = call.initiator in
+      let cdb = call.cdb.now in
+      let data_out = call.data_out.now in
+      let here = not-true (is_arming profile (event.Call call)) (first-true _ _ h) in
+      let done = step disk.state i cdb data_out in
+      let other = ap (λ q. is_write_long (command_in q cdb)) p ∙ here in
+      let is = step-unarmed law disk i cdb data_out e other in
+      let same = ap (λ (c : ConfigFields). c.identity.profile) (stays.command disk.state i cdb data_out) in
+      let next = runs-sound (record disk { state = done.state }) events (same ∙ p) e
+      (second-true (not (is_arming profile (event.Call call))) _ h) in
       let after = ap (λ (s : ArmedStep). s.after) is in
       record {
         answers =
@@ -317,7 +346,7 @@ module _ (law : SparedInitiatorsMeetNoFault) (i : ℕ) (cdb : List ℕ) where
   checked-spared command who (Err refusal) faults e =
       record { result = refl; faults = ap (is_spared faults) (sym who) ∙ e }
   checked-spared command who (Ok o) faults e = let idle = law.at_medium command faults e in
-      of-both (Spared (Ok o)) (names_block command)
+      of-both (Spared (Ok o)) (reaches_medium command)
       (record {
         result =
             ap
@@ -333,7 +362,8 @@ module _ (law : SparedInitiatorsMeetNoFault) (i : ℕ) (cdb : List ℕ) where
 
   attempt-spared : (command : Seen) → command.initiator ≡ i → (checked : Result Operation Refusal)
       (faults : Faults) → is_spared faults command.initiator ≡ true
-      → Spared checked (attempt faults command checked)
+      → Spared checked (arrival_attempt (decided on_arrival command faults) command checked
+      (asked on_arrival command faults))
   attempt-spared command who checked faults e =
       let idle = law.on_arrival command faults e in
       let left = asked on_arrival command faults in
@@ -344,7 +374,7 @@ module _ (law : SparedInitiatorsMeetNoFault) (i : ℕ) (cdb : List ℕ) where
 
   finished-spared : (status : Status) (command : Seen) → command.initiator ≡ i → (faults : Faults)
       (done : Step) → is_spared faults i ≡ true
-      → (finished_if_good status command faults done).answer ≡ done.answer
+      → (finished_if_good status None command faults done).answer ≡ done.answer
   finished-spared Good command who faults done e =
       let here = ap (is_spared faults) who ∙ e in
       let left = healed command faults in
@@ -354,16 +384,32 @@ module _ (law : SparedInitiatorsMeetNoFault) (i : ℕ) (cdb : List ℕ) where
   finished-spared _ command who faults done e = refl
 
   pub spared-step : (disk : Armed) (data_out : List ℕ) → is_spared disk.faults i ≡ true
+      → is_write_long (command_in (profile_of disk.state) cdb) ≡ false
       → ((armed_step disk i cdb data_out).answer ≡ (step disk.state i cdb data_out).answer)
       × ((armed_step disk i cdb data_out).after.state ≡ (step disk.state i cdb data_out).state)
-  spared-step disk data_out e =
+  spared-step disk data_out e other =
       let checked = checked_cdb disk.state i cdb data_out in
-      let tried = attempt disk.faults (seen i cdb checked) checked in
-      let spared = attempt-spared (seen i cdb checked) refl checked disk.faults e in
-      let done = step_of_checked disk.state i tried.result in
-      let same = ap (step_of_checked disk.state i) spared.result in (
-        finished-spared done.answer.status (seen i cdb tried.result) refl tried.faults done spared.faults
-            ∙ ap (λ (s : Step). s.answer) same,
-        finished-state done.answer.status (seen i cdb tried.result) tried.faults done
-            ∙ ap (λ (s : Step). s.state) same,
+      let command = seen i cdb checked in
+      let none = only-write-long disk.state i cdb data_out other in
+      let met =
+      arrival_attempt (decided on_arrival command disk.faults) command checked
+      (asked on_arrival command disk.faults) in
+      let spared = attempt-spared command refl checked disk.faults e in
+      let unmarked = ap marked_by spared.result ∙ none in
+      let tried = attempt disk.faults command checked in
+      let is : tried ≡ met = unmarked-stays command met unmarked in
+      let done = step_of_checked disk.state i met.result in
+      let same = ap (step_of_checked disk.state i) spared.result in
+      let seen_again = seen i cdb met.result in
+      let given : armed_step disk i cdb data_out
+      ≡ finished_if_good done.answer.status None seen_again met.faults done =
+      ap (finished_attempt disk.state i cdb) is
+      ∙ ap (λ (m : Option Fault). finished_if_good done.answer.status m seen_again met.faults done)
+      unmarked in (
+        ap (λ (s : ArmedStep). s.answer) given
+            ∙ (finished-spared done.answer.status seen_again refl met.faults done spared.faults
+            ∙ ap (λ (s : Step). s.answer) same),
+        ap (λ (s : ArmedStep). s.after.state) given
+            ∙ (finished-state done.answer.status None seen_again met.faults done
+            ∙ ap (λ (s : Step). s.state) same),
       )

@@ -24,6 +24,7 @@ mod AddressRangeLemmas
 mod ChargingLemmas
 -- The limits of a state.
 pub mod BlocksLemmas
+mod MarkingLemmas
 pub mod ArmedLemmas
 pub mod ConcludingLemmas
 mod LimitLemmas

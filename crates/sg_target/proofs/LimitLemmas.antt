@@ -23,7 +23,7 @@ use Rattle.sg_target.proofs.BlocksLemmas.{KeepsBlocks, Ready, by-checks, cdb-rea
 use Rattle.sg_target.proofs.GrowthLemmas.{by-growth}
 use Rattle.sg_target.proofs.LiftLemmas.{outcome-by}
 use Rattle.sg_target.proofs.Space.{KeepsSpace, keeps-space, by-checks as space-by-checks}
-use Rattle.sg_target.specs.Armed.{Armed, armed_step, attempt, seen, step_of_checked}
+use Rattle.sg_target.specs.Armed.{Armed, armed_step, attempt, marked_by, seen, step_of_checked}
 use Rattle.sg_target.specs.Checks.{checked_cdb, checked_effect}
 use Rattle.sg_target.specs.Effect.{Effect, returning_up_to}
 use Rattle.sg_target.specs.ModeCommands.{attentions_after, changing_modes, mode_parameters}
@@ -159,7 +159,8 @@ module _ (reservations : ReservationsStayConsistent) (queues : QueuesKeepTheirLi
       let tried = attempt disk.faults command checked in
       let done = step_of_checked disk.state i tried.result in
       subst IsWithinLimits
-      (sym (finished-state done.answer.status (seen i cdb tried.result) tried.faults done))
+      (sym (finished-state done.answer.status (marked_by tried.result) (seen i cdb tried.result)
+      tried.faults done))
       (attempt-within disk.state i tried.result h
       (attempt-ready disk.state disk.faults command checked (cdb-ready disk.state i cdb data_out)))
 

@@ -1,12 +1,16 @@
 -- A disk on which faults are armed: what it answers, and what it becomes. `step` defines what a disk
 -- without faults answers.
 use Rattle.std.specs.Prelude.{ℕ, min, List, Option, Some, None, Result, Ok, Err}
-use Rattle.std.specs.Prelude.{if◌then◌else◌, slice_get}
+use Rattle.std.specs.Prelude.{[], Bool, ◌&&◌, ◌||◌, not, if◌then◌else◌, slice_get}
+use Rattle.std.specs.Prelude.{is_some}
+use Rattle.std.specs.Option.{option_map_or}
 use Rattle.sg_wire.specs.declared.extent.Extent.{Extent}
 use Rattle.sg_wire.specs.SenseData.{sense_data}
-use Rattle.sg_faults.specs.Faults.{Faults, asked, decided, healed}
-use Rattle.sg_faults.specs.Meeting.{Seen, names_block}
+use Rattle.sg_faults.specs.Arming.{unrecovered_error}
+use Rattle.sg_faults.specs.Faults.{Faults, asked, decided, have_room_after, healed, with_fault}
+use Rattle.sg_faults.specs.Meeting.{Seen, reaches_medium}
 use Rattle.sg_faults.specs.Places.{afterwards, at_medium, on_arrival}
+use Rattle.sg_faults.specs.declared.fault.Fault.{Fault}
 use Rattle.sg_faults.specs.declared.outcome.Afterwards.{Afterwards}
 use Rattle.sg_faults.specs.declared.outcome.Afterwards.TheVariants as after
 use Rattle.sg_faults.specs.declared.outcome.AtMedium.{AtMedium}
@@ -21,8 +25,8 @@ use Rattle.sg_target.specs.Semantics.{MediumUse, effect_of, medium_use, uses_no_
 use Rattle.sg_target.specs.State.{State}
 use Rattle.sg_target.specs.Step.{Answer, Step, check_condition, outcome, sense_format}
 use Rattle.sg_target.specs.declared.operation.Operation.{Operation}
-use Rattle.sg_target.specs.declared.operation.Operation.TheVariants.{Read, Write, Fill}
-use Rattle.sg_target.specs.declared.refusal.Reason.TheVariants.{Fault}
+use Rattle.sg_target.specs.declared.operation.Operation.TheVariants.{Read, Write, Fill, MarkBad}
+use Rattle.sg_target.specs.declared.refusal.Reason.TheVariants as reason
 use Rattle.sg_target.specs.declared.refusal.Refusal.{Refusal}
 use Rattle.sg_target.specs.declared.refusal.Refusal.TheVariants as refusal
 use Rattle.sg_target.specs.declared.reply.Status.{Status}
@@ -38,12 +42,16 @@ abbrev pub medium_of : Result Operation Refusal → MediumUse
 medium_of (Ok operation) = medium_use operation
 medium_of (Err refusal) = uses_no_block
 
+-- The blocks that it reads or writes.
+abbrev pub accessed : MediumUse → List Extent
+accessed used = if used.reads || used.writes then used.extents else []
+
 -- The faults see these blocks of a command, and its operation code.
 abbrev pub seen : (initiator : ℕ) → (cdb : List ℕ) → Result Operation Refusal → Seen
 seen initiator cdb checked = record {
   initiator = initiator;
   code = slice_get cdb 0;
-  extents = (medium_of checked).extents;
+  extents = accessed (medium_of checked);
   writes = (medium_of checked).writes;
 }
 
@@ -55,7 +63,7 @@ refusal_on_arrival arrival.Busy = refusal.Busy
 refusal_on_arrival arrival.TaskSetFull = refusal.TaskSetFull
 refusal_on_arrival arrival.ReservationConflict = refusal.Conflict
 refusal_on_arrival arrival.NoReply = refusal.NoReply
-refusal_on_arrival (arrival.CheckCondition code) = refusal.CheckCondition (Fault code None)
+refusal_on_arrival (arrival.CheckCondition code) = refusal.CheckCondition (reason.Fault code None)
 refusal_on_arrival (arrival.DeferredError code) = refusal.DeferredError code
 
 -- Only the first blocks of a READ, a WRITE or a WRITE SAME.
@@ -68,11 +76,11 @@ first_blocks n (Write out) = Write (blocks_out (first_of n out.extent) out.bytes
 first_blocks n (Fill extent block) = Fill (first_of n extent) block
 first_blocks n operation = operation
 
--- A command reaches the medium if it names a block. What a fault does there comes after the checks of
--- the CDB, its data-out and its blocks, and before the check for space.
+-- A command reaches the medium if it reads or writes a block. What a fault does there comes after the
+-- checks of the CDB, its data-out and its blocks, and before the check for space.
 abbrev pub result_at_medium : Operation → (first_bad : Option ℕ) → AtMedium → Result Operation Refusal
 result_at_medium operation first_bad (medium.CheckCondition code) =
-    Err (refusal.CheckCondition (Fault code first_bad))
+    Err (refusal.CheckCondition (reason.Fault code first_bad))
 result_at_medium operation first_bad (medium.MovesOnly n) = Ok (first_blocks n operation)
 
 -- The operation that is executed, or why none is; and the faults, which have counted the command.
@@ -87,7 +95,7 @@ medium_attempt (Some struck) operation faults =
 
 abbrev pub checked_attempt : Seen → Result Operation Refusal → Faults → Attempt
 checked_attempt command (Ok operation) faults =
-    if names_block command
+    if reaches_medium command
     then medium_attempt (decided at_medium command faults) operation (asked at_medium command faults)
     else record { result = Ok operation; faults = faults }
 checked_attempt command (Err refusal) faults = record { result = Err refusal; faults = faults }
@@ -98,11 +106,31 @@ arrival_attempt None command checked faults = checked_attempt command checked fa
 arrival_attempt (Some struck) command checked faults =
     record { result = Err (refusal_on_arrival struck.outcome); faults = faults }
 
+-- A WRITE LONG arms a fault.
+abbrev pub fault_by : Operation → Option Fault
+fault_by (MarkBad lba code) = Some (unrecovered_error lba code)
+fault_by operation = None
+
+abbrev pub marked_by : Result Operation Refusal → Option Fault
+marked_by (Ok operation) = fault_by operation
+marked_by (Err refusal) = None
+
+-- It is refused if no number is free for the fault.
+abbrev pub lacks_room : Seen → Attempt → Bool
+lacks_room command tried =
+    is_some (marked_by tried.result) && not (have_room_after command tried.faults)
+
+abbrev pub with_room : Seen → Attempt → Attempt
+with_room command tried =
+    if lacks_room command tried
+    then record tried { result = Err (refusal.CheckCondition reason.InsufficientResources) } else tried
+
 -- A command that the checks pass or refuse meets the faults on arrival, and then those at the medium.
 abbrev pub attempt : Faults → Seen → Result Operation Refusal → Attempt
 attempt faults command checked =
-    arrival_attempt (decided on_arrival command faults) command checked
-    (asked on_arrival command faults)
+    with_room command
+    (arrival_attempt (decided on_arrival command faults) command checked
+    (asked on_arrival command faults))
 
 -- ---- Afterwards
 
@@ -126,14 +154,19 @@ afterwards_step (Some struck) done faults =
       after = record { state = done.state; faults = faults };
     }
 
--- A command that has ended with GOOD heals blocks that it wrote. Then it meets the faults afterwards.
-abbrev pub finished : Seen → Faults → Step → ArmedStep
-finished command faults done = let left = healed command faults in
+-- A command that has ended with GOOD heals blocks that it wrote, or marks one as bad. Then it meets the
+-- faults afterwards.
+abbrev pub faults_left : Option Fault → Seen → Faults → Faults
+faults_left mark command faults = let left = healed command faults in
+    option_map_or (with_fault left) mark left
+
+abbrev pub finished : Option Fault → Seen → Faults → Step → ArmedStep
+finished mark command faults done = let left = faults_left mark command faults in
     afterwards_step (decided afterwards command left) done (asked afterwards command left)
 
-abbrev pub finished_if_good : Status → Seen → Faults → Step → ArmedStep
-finished_if_good Good command faults done = finished command faults done
-finished_if_good _ command faults done = afterwards_step None done faults
+abbrev pub finished_if_good : Status → Option Fault → Seen → Faults → Step → ArmedStep
+finished_if_good Good mark command faults done = finished mark command faults done
+finished_if_good _ mark command faults done = afterwards_step None done faults
 
 -- ---- The step
 
@@ -145,7 +178,8 @@ step_of_checked state initiator checked =
 abbrev pub finished_attempt : State → (initiator : ℕ) → (cdb : List ℕ) → Attempt → ArmedStep
 finished_attempt state initiator cdb tried =
     let done = step_of_checked state initiator tried.result in
-    finished_if_good done.answer.status (seen initiator cdb tried.result) tried.faults done
+    finished_if_good done.answer.status (marked_by tried.result) (seen initiator cdb tried.result)
+    tried.faults done
 
 abbrev pub attempt_by : Armed → (initiator : ℕ) → (cdb : List ℕ) → Result Operation Refusal → Attempt
 attempt_by disk initiator cdb checked = attempt disk.faults (seen initiator cdb checked) checked

@@ -1,9 +1,13 @@
 -- Each command's demands on its fields and its data-out, and the operation that it asks for. The
 -- demands depend on the disk only by its configuration, which never changes.
-use Rattle.std.specs.Prelude.{ℕ, List, Bool, false, ◌&&◌, not, Option, Some, None, Result, Ok}
+use Rattle.std.specs.Prelude.{ℕ, ◌==◌, List, Bool, false, ◌&&◌, not, Option, Some, None, Result, Ok}
 use Rattle.std.specs.Prelude.{nat_le, nat_lt, if◌then◌else◌, ok_or}
+use Rattle.sg_faults.specs.SenseCode.{sense_code}
+use Rattle.sg_faults.specs.declared.sense_code.SenseCode.{SenseCode}
+use Rattle.sg_faults.specs.declared.sense_code.SenseKey.TheVariants.{MediumError}
 use Rattle.sg_wire.specs.declared.command.Command.{Command}
 use Rattle.sg_wire.specs.declared.command.Command.TheVariants as command
+use Rattle.sg_wire.specs.declared.command.block.WriteLong10.{WriteLong10}
 use Rattle.sg_wire.specs.declared.command.mode.CdbWidth.{CdbWidth}
 use Rattle.sg_wire.specs.declared.command.mode.CdbWidth.TheVariants.{Six, Ten}
 use Rattle.sg_wire.specs.declared.command.mode.PageRequest.{PageRequest}
@@ -93,6 +97,22 @@ abbrev pub write : Extent → (unsupported : Option ℕ) → (data_out : List �
 write extent unsupported data_out =
     takes (bytes_of extent) unsupported (Ok (operation.Write (blocks_out extent data_out)))
 
+-- WRITE LONG only marks a block, with no data: WR_UNCOR, in byte 1, is 1, and BYTE TRANSFER LENGTH, from
+-- byte 7 on, is 0.
+-- Departure (SBC-3, 5.41): without WR_UNCOR a block's data is written there, with its error correction.
+abbrev pub bad_marking : (wr_uncor : Bool) (length : ℕ) → Option ℕ
+bad_marking wr_uncor length =
+    if not wr_uncor then Some 1 else (if length == 0 then None else Some 7)
+
+-- UNRECOVERED READ ERROR, or READ ERROR - LBA MARKED BAD BY APPLICATION CLIENT if COR_DIS says that the
+-- disk is not to try to correct it (SBC-3, 4.18.2).
+abbrev pub marked_code : (cor_dis : Bool) → SenseCode
+marked_code cor_dis = sense_code MediumError 0x11 (if cor_dis then 0x14 else 0x00)
+
+abbrev pub write_long : WriteLong10 → Demands
+write_long c =
+    takes_no_data (bad_marking c.wr_uncor c.length) (Ok (operation.MarkBad c.lba (marked_code c.cor_dis)))
+
 -- Without UNMAP no block is anchored: ANCHOR, in byte 1, is not supported then.
 abbrev pub bad_anchor : (anchor unmap : Bool) → (otherwise : Option ℕ) → Option ℕ
 bad_anchor anchor unmap otherwise = if anchor && not unmap then Some 1 else otherwise
@@ -159,6 +179,7 @@ demands config (command.ReadCapacity16 c) data_out =
     asks (operation.ReturnCapacity16 c.allocation_length)
 demands config (command.SynchronizeCache10 c) data_out =
     asks (operation.Synchronize (extent c.lba c.count))
+demands config (command.WriteLong10 c) data_out = write_long c
 demands config (command.WriteSame10 c) data_out =
     write_same config c.anchor c.unmap (extent c.lba c.count) 7 data_out
 demands config (command.WriteSame16 c) data_out =

@@ -1,6 +1,11 @@
 -- Laws of armed faults.
-use Rattle.std.specs.Prelude.{◌≡◌, ◌⊎◌, ℕ, Bool, true, false, List, not, Ok, Err}
+use Rattle.std.specs.Prelude.{◌≡◌, ◌⊎◌, ℕ, Bool, true, false, List, not, Result, Ok, Err}
 use Rattle.std.specs.List.{list_all}
+use Rattle.sg_wire.specs.CdbDecoding.{command_in}
+use Rattle.sg_wire.specs.declared.command.CdbFault.{CdbFault}
+use Rattle.sg_wire.specs.declared.command.Command.{Command}
+use Rattle.sg_wire.specs.declared.command.Command.TheVariants as command
+use Rattle.sg_wire.specs.declared.profile.Profile.{Profile}
 use Rattle.sg_faults.specs.Faults.{is_armed}
 use Rattle.sg_faults.specs.Laws.{is_spared}
 use Rattle.sg_faults.specs.declared.outcome.OnArrival.{OnArrival}
@@ -9,7 +14,7 @@ use Rattle.sg_target.specs.Armed.{step_of_checked}
 use Rattle.sg_target.specs.Checks.{checked_cdb}
 use Rattle.sg_target.specs.Runs.{after_events, answers_to, answers_to_events, armed_disk}
 use Rattle.sg_target.specs.Runs.{state_after_events}
-use Rattle.sg_target.specs.State.{State}
+use Rattle.sg_target.specs.State.{State, profile_of}
 use Rattle.sg_target.specs.Step.{refused, step}
 use Rattle.sg_target.specs.declared.event.Event.{Event}
 use Rattle.sg_target.specs.declared.event.Event.TheVariants as event
@@ -21,18 +26,25 @@ use Rattle.sg_target.specs.declared.reply.Status.TheVariants.{Good}
 
 -- ---- No fault is armed
 
--- A disk on which no fault is armed is a disk without faults: it answers as `step` says, and becomes
--- what `step` says.
+-- WRITE LONG is the one command that arms a fault. The base profile does not have it.
+abbrev pub is_write_long : Result Command CdbFault → Bool
+is_write_long (Ok (command.WriteLong10 c)) = true
+is_write_long _ = false
+
+-- A disk on which no fault is armed is a disk without faults: it answers every other command as `step`
+-- says, and becomes what `step` says.
 abbrev pub WithoutFaultsNothingChanges : Type 0
 WithoutFaultsNothingChanges =
     (disk : Armed) (initiator : ℕ) (cdb data_out : List ℕ) → is_armed disk.faults ≡ false
+    → is_write_long (command_in (profile_of disk.state) cdb) ≡ false
     → armed_step disk initiator cdb data_out
     ≡ (let done = step disk.state initiator cdb data_out in
     record { answer = done.answer; after = record disk { state = done.state } })
 
-abbrev pub is_arming : Event → Bool
-is_arming (event.Happen (Arm fault)) = true
-is_arming _ = false
+abbrev pub is_arming : Profile → Event → Bool
+is_arming profile (event.Call call) = is_write_long (command_in profile call.cdb.now)
+is_arming profile (event.Happen (Arm fault)) = true
+is_arming profile _ = false
 
 -- So it is over every list of events that arms none.
 pub record RunsAsWithoutFaults (disk : Armed) (events : List Event) : Type 0 where
@@ -42,15 +54,18 @@ pub record RunsAsWithoutFaults (disk : Armed) (events : List Event) : Type 0 whe
 abbrev pub WithoutFaultsARunIsSound : Type 0
 WithoutFaultsARunIsSound =
     (disk : Armed) (events : List Event) → is_armed disk.faults ≡ false
-    → list_all (λ e. not (is_arming e)) events ≡ true → RunsAsWithoutFaults disk events
+    → list_all (λ e. not (is_arming (profile_of disk.state) e)) events ≡ true
+    → RunsAsWithoutFaults disk events
 
 -- ---- Others
 
 -- A fault changes only commands of initiators that it names. If nothing is left of any armed fault for
--- an initiator, its command is answered as on a disk without faults, which leaves the same state.
+-- an initiator, its command is answered as on a disk without faults, which leaves the same state. But a
+-- WRITE LONG needs a number that no armed fault has.
 abbrev pub OthersMeetNoFault : Type 0
 OthersMeetNoFault =
     (disk : Armed) (initiator : ℕ) (cdb data_out : List ℕ) → is_spared disk.faults initiator ≡ true
+    → is_write_long (command_in (profile_of disk.state) cdb) ≡ false
     → let done = step disk.state initiator cdb data_out in
     let given = armed_step disk initiator cdb data_out in
     (given.answer ≡ done.answer) × (given.after.state ≡ done.state)

@@ -18,6 +18,7 @@ use Rattle.sg_target.specs.declared.refusal.Reason.TheVariants.{DataPhaseError}
 use Rattle.sg_target.specs.declared.refusal.Reason.TheVariants.{ParameterListLengthError}
 use Rattle.sg_target.specs.declared.refusal.Reason.TheVariants.{InvalidFieldInParameterList}
 use Rattle.sg_target.specs.declared.refusal.Reason.TheVariants.{InsufficientRegistrationResources}
+use Rattle.sg_target.specs.declared.refusal.Reason.TheVariants.{InsufficientResources}
 use Rattle.sg_target.specs.declared.refusal.Reason.TheVariants.{InvalidRelease, LbaOutOfRange}
 use Rattle.sg_target.specs.declared.refusal.Reason.TheVariants.{SpaceAllocationFailed, Fault}
 use Rattle.sg_target.specs.declared.refusal.Reason.TheVariants.{SoftwareWriteProtected}
@@ -50,6 +51,7 @@ sense_of (InvalidFieldInParameterList byte) =
     { pointer = Some (record { in_command = false; byte = byte }) }
 sense_of InvalidRelease = plain_sense illegal_request 0x26 0x04
 sense_of InsufficientRegistrationResources = plain_sense illegal_request 0x55 0x04
+sense_of InsufficientResources = plain_sense illegal_request 0x55 0x03
 sense_of (LbaOutOfRange lba) = record (plain_sense illegal_request 0x21 0x00) { information = Some lba }
 sense_of SoftwareWriteProtected = plain_sense data_protect 0x27 0x02
 sense_of SpaceAllocationFailed = plain_sense data_protect 0x27 0x07

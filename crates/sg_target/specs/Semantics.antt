@@ -17,6 +17,7 @@ use Rattle.sg_target.specs.declared.operation.Operation.TheVariants.{ReturnInqui
 use Rattle.sg_target.specs.declared.operation.Operation.TheVariants.{ChangeModes, ReturnCapacity10}
 use Rattle.sg_target.specs.declared.operation.Operation.TheVariants.{ReturnCapacity16, Read, Write}
 use Rattle.sg_target.specs.declared.operation.Operation.TheVariants.{Synchronize, Fill, Unmap}
+use Rattle.sg_target.specs.declared.operation.Operation.TheVariants.{MarkBad}
 use Rattle.sg_target.specs.declared.operation.Operation.TheVariants.{UnmapExtent, ReturnLbaStatus}
 use Rattle.sg_target.specs.declared.operation.Operation.TheVariants.{Anchor, AnchorExtent}
 use Rattle.sg_target.specs.declared.operation.Operation.TheVariants.{ReturnReservations}
@@ -61,6 +62,7 @@ medium_use (Read extent) = reads_from (extent ∷ [])
 medium_use (Write out) = writes_to (out.extent ∷ [])
 medium_use (Synchronize extent) = only_names (extent ∷ [])
 medium_use (Fill extent block) = writes_to (extent ∷ [])
+medium_use (MarkBad lba code) = writes_to (extent lba 1 ∷ [])
 medium_use (Unmap extents) = writes_to extents
 medium_use (UnmapExtent extent) = writes_to (extent ∷ [])
 medium_use (Anchor extents) = writes_to extents
@@ -72,9 +74,9 @@ medium_use (ChangeReservations action scope_type list) = uses_no_block
 -- ---- The effect
 
 -- The effect of an initiator's operation, or what is wrong with its page or its parameter list on a
--- disk in this state. SYNCHRONIZE CACHE does nothing, because there is no cache. `Fill` is a WRITE
--- SAME that writes its block, and a WRITE SAME that unmaps or anchors is `UnmapExtent` or
--- `AnchorExtent`.
+-- disk in this state. SYNCHRONIZE CACHE does nothing, because there is no cache. `MarkBad` is WRITE
+-- LONG: it arms a fault (`Armed`), and leaves the state. `Fill` is a WRITE SAME that writes its block,
+-- and a WRITE SAME that unmaps or anchors is `UnmapExtent` or `AnchorExtent`.
 abbrev pub effect_of : State → (initiator : ℕ) → Operation → Result Effect Refusal
 effect_of state i Nothing = Ok (no_effect state)
 effect_of state i (ReturnSense format n) = Ok (returning_sense state i format n)
@@ -90,6 +92,7 @@ effect_of state i (Read extent) = Ok (reading state extent)
 effect_of state i (Write out) = Ok (writing state out)
 effect_of state i (Synchronize extent) = Ok (no_effect state)
 effect_of state i (Fill extent block) = Ok (filling state extent block)
+effect_of state i (MarkBad lba code) = Ok (no_effect state)
 effect_of state i (Unmap extents) = Ok (unmapping state extents)
 effect_of state i (UnmapExtent extent) = Ok (unmapping state (extent ∷ []))
 effect_of state i (Anchor extents) = Ok (anchoring state extents)

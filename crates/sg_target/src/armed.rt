@@ -1,10 +1,10 @@
 // Commands on a disk on which faults are armed.
-ghost use Rattle.std.specs.Prelude.{◌≡◌, ◌≤◌, [], ◌∷◌, IfOk, length, min};
-ghost use Rattle.sg_faults.specs.Faults.{asked, decided, healed};
+ghost use Rattle.std.specs.Prelude.{◌≡◌, ◌≤◌, [], ◌∷◌, Ok, IfOk, is_some, length, min};
+ghost use Rattle.sg_faults.specs.Faults.{asked, decided};
 ghost use Rattle.sg_faults.specs.Places.{afterwards};
-ghost use Rattle.sg_target.specs.Armed.{armed_step_by, attempt, first_blocks, first_of};
-ghost use Rattle.sg_target.specs.Armed.{medium_of, refusal_on_arrival, result_at_medium};
-ghost use Rattle.sg_target.specs.Armed.{seen, step_of_checked};
+ghost use Rattle.sg_target.specs.Armed.{accessed, armed_step_by, attempt, checked_attempt};
+ghost use Rattle.sg_target.specs.Armed.{faults_left, first_blocks, first_of, marked_by, medium_of};
+ghost use Rattle.sg_target.specs.Armed.{refusal_on_arrival, result_at_medium, seen, step_of_checked};
 ghost use Rattle.sg_target.specs.Charge.{ChargesCommand, TakesArmedStep, TakesStep, armed_ranges};
 ghost use Rattle.sg_target.specs.Charge.{cost_bounds};
 ghost use Rattle.sg_target.specs.DataInBound.{checked_bound, longest_data_in, needed_buffer};
@@ -17,13 +17,14 @@ ghost use Rattle.sg_target.specs.State.{IsWithinLimits};
 ghost use Rattle.sg_target.specs.Step.{sense_format};
 ghost use Rattle.sg_target.specs.Target.{disk_of};
 
+use crate::extent::one_block;
 use crate::laws::limits_are_kept;
 use crate::operation::Operation;
 use crate::refusal::{Reason, Refusal};
 use crate::reply::{Reply, Status};
 use crate::room::data_in_bound;
 use crate::target::Target;
-use sg_faults::{Afterwards, ArmedFault, AtMedium, OnArrival, SeenCommand};
+use sg_faults::{Afterwards, ArmedFault, AtMedium, Fault, OnArrival, SeenCommand};
 use sg_store::{Counts, MAX_CAPACITY, Store};
 use sg_wire::{Extent, Initiator, UnmapList};
 
@@ -38,22 +39,18 @@ pub(crate) fn first_of(blocks: u32, extent: Extent) -> Extent
 }
 
 impl<'a> Operation<'a> {
-    /// The blocks that it names.
-    fn extents(&self) -> UnmapList
-        ensures { result ≡ (medium_use self.now).extents }
+    /// The blocks that it reads or writes.
+    fn accessed(&self) -> UnmapList
+        ensures { result ≡ accessed (medium_use self.now) }
     {
         match self {
             Operation::Unmap(extents) | Operation::Anchor(extents) => extents.to_list(),
             Operation::Read(blocks) => one_extent(blocks.extent),
             Operation::Write(blocks) => one_extent(blocks.extent),
             Operation::Fill { extent, .. }
-            | Operation::Synchronize(extent)
             | Operation::UnmapExtent(extent)
             | Operation::AnchorExtent(extent) => one_extent(*extent),
-            Operation::ReturnLbaStatus { start, .. } => one_extent(Extent {
-                lba: *start,
-                count: 1,
-            }),
+            Operation::MarkBad { lba, .. } => one_extent(one_block(*lba)),
             Operation::Nothing
             | Operation::ReturnSense { .. }
             | Operation::ReturnInquiry { .. }
@@ -61,6 +58,8 @@ impl<'a> Operation<'a> {
             | Operation::ChangeModes { .. }
             | Operation::ReturnCapacity10
             | Operation::ReturnCapacity16(_)
+            | Operation::Synchronize(_)
+            | Operation::ReturnLbaStatus { .. }
             | Operation::ReturnReservations { .. }
             | Operation::ChangeReservations { .. } => UnmapList::new(),
         }
@@ -90,18 +89,36 @@ fn one_extent(extent: Extent) -> UnmapList
     list
 }
 
-/// The blocks that a command uses, unless it is refused.
-fn extents_of(checked: &Result<Operation<'_>, Refusal>) -> UnmapList
-    ensures { result ≡ (medium_of checked.now).extents }
+/// The blocks that a command reads or writes. A refused one has none.
+fn accessed_by(checked: &Result<Operation<'_>, Refusal>) -> UnmapList
+    ensures { result ≡ accessed (medium_of checked.now) }
 {
     match checked {
-        Ok(operation) => operation.extents(),
+        Ok(operation) => operation.accessed(),
         Err(_) => UnmapList::new(),
     }
 }
 
+/// Returns `true` for a WRITE LONG, which arms a fault.
+#[inline(always)]
+pub(crate) fn arms_fault(checked: &Result<Operation<'_>, Refusal>) -> bool
+    ensures { result ≡ is_some (marked_by checked.now) }
+{
+    matches!(checked, Ok(Operation::MarkBad { .. }))
+}
+
+/// The fault that it arms.
+fn marked_by(checked: &Result<Operation<'_>, Refusal>) -> Option<Fault>
+    ensures { result ≡ marked_by checked.now }
+{
+    match checked {
+        Ok(Operation::MarkBad { lba, code }) => Some(Fault::unrecovered_error(*lba, *code)),
+        _ => None,
+    }
+}
+
 /// What the faults see of a command on a disk of `capacity` blocks. `extents` are the blocks that it
-/// uses.
+/// reads or writes.
 fn seen<'a>(
     initiator: Initiator,
     cdb: &[u8],
@@ -110,7 +127,7 @@ fn seen<'a>(
     extents: &'a UnmapList,
 ) -> SeenCommand<'a>
     requires capacity { capacity ≤ MAX_CAPACITY }
-    requires extents { extents.now ≡ (medium_of checked.now).extents }
+    requires extents { extents.now ≡ accessed (medium_of checked.now) }
     ensures { result ≡ seen initiator cdb.now checked.now }
 {
     let writes = match checked {
@@ -189,8 +206,10 @@ impl<S: Store> Target<S> {
         self.conclude_armed(initiator, cdb, checked, buf)
     }
 
-    /// Executes a command that the checks have passed, or refuses it, while faults are armed.
-    fn conclude_armed(
+    /// Executes a command that the checks have passed, or refuses it, while faults are armed, or if it arms
+    /// one.
+    #[cold]
+    pub(crate) fn conclude_armed(
         &mut self,
         initiator: Initiator,
         cdb: &[u8],
@@ -207,14 +226,15 @@ impl<S: Store> Target<S> {
             self.old self.new result buf.old buf.new }
     {
         let capacity = self.config.blocks();
-        let extents = extents_of(&checked);
+        let extents = accessed_by(&checked);
         let command = seen(initiator, cdb, &checked, capacity, &extents);
         let tried = self.attempt(&command, checked);
-        let extents = extents_of(&tried);
+        let extents = accessed_by(&tried);
         let command = seen(initiator, cdb, &tried, capacity, &extents);
+        let mark = marked_by(&tried);
         let reply = self.perform(initiator, tried, buf);
         if reply.status == Status::Good {
-            self.finish(&command, reply)
+            self.finish(&command, &mark, reply)
         } else {
             reply
         }
@@ -256,8 +276,27 @@ impl<S: Store> Target<S> {
         if let Some(struck) = self.faults.ask::<OnArrival>(command) {
             return Err(refusal_on_arrival(struck.outcome));
         }
-        let operation = checked?;
-        if !command.names_block() {
+        let result = self.reach_medium(command, checked?);
+        if arms_fault(&result) && !self.faults.have_room_after(command) {
+            return Err(Refusal::CheckCondition(Reason::InsufficientResources));
+        }
+        result
+    }
+
+    /// What the faults at the medium leave of an operation.
+    fn reach_medium<'a>(
+        &mut self,
+        command: &SeenCommand<'_>,
+        operation: Operation<'a>,
+    ) -> Result<Operation<'a>, Refusal>
+        ensures result { result
+            ≡ (checked_attempt command.now (Ok operation.entry) self.old.faults).result }
+        ensures faults { self.new.faults
+            ≡ (checked_attempt command.now (Ok operation.entry) self.old.faults).faults }
+        ensures state { self.new.state ≡ self.old.state }
+        ensures meter { self.new.meter ≡ self.old.meter }
+    {
+        if !command.reaches_medium() {
             return Ok(operation);
         }
         match self.faults.ask::<AtMedium>(command) {
@@ -267,16 +306,19 @@ impl<S: Store> Target<S> {
     }
 
     /// The reply to a command that has ended with GOOD, after the faults afterwards. The blocks that it
-    /// heals are healed.
-    fn finish(&mut self, command: &SeenCommand<'_>, reply: Reply) -> Reply
+    /// heals are healed, and the one that it marks is bad.
+    fn finish(&mut self, command: &SeenCommand<'_>, mark: &Option<Fault>, reply: Reply) -> Reply
         ensures reply { result ≡ finished_reply (sense_format self.old.state) reply
-            (decided afterwards command.now (healed command.now self.old.faults)) }
+            (decided afterwards command.now (faults_left mark.now command.now self.old.faults)) }
         ensures faults { self.new.faults
-            ≡ asked afterwards command.now (healed command.now self.old.faults) }
+            ≡ asked afterwards command.now (faults_left mark.now command.now self.old.faults) }
         ensures state { self.new.state ≡ self.old.state }
         ensures meter { self.new.meter ≡ self.old.meter }
     {
         self.faults.heal(command);
+        if let Some(fault) = mark {
+            self.faults.arm(fault);
+        }
         match self.faults.ask::<Afterwards>(command) {
             Some(struck) => reply.afterwards(struck.outcome, self.sense_format()),
             None => reply,

@@ -2,6 +2,7 @@
 ghost use Rattle.std.specs.Prelude.{◌≡◌, ◌≤◌, ◌+◌, IfNone};
 ghost use Rattle.sg_target.specs.BlockCommands.{bytes_of};
 ghost use Rattle.sg_target.specs.Checks.{out_of_range, past_capacity};
+ghost use Rattle.sg_target.specs.Demands.{extent};
 ghost use Rattle.sg_target.specs.Extents.{AreOnDisk};
 
 use crate::refusal::{Reason, Refusal};
@@ -13,6 +14,13 @@ pub(crate) fn byte_length(extent: Extent) -> u64
     ensures { result ≡ bytes_of extent }
 {
     BLOCK_LENGTH as u64 * u64::from(extent.count)
+}
+
+/// An extent of one block.
+pub(crate) fn one_block(lba: u64) -> Extent
+    ensures { result ≡ extent lba 1 }
+{
+    Extent { lba, count: 1 }
 }
 
 /// The refusal of blocks if one is past the last block of a disk.

@@ -23,8 +23,8 @@ pub fn limits_are_kept()
     sg_store::laws::remapping_takes_what_is_needed();
 }
 
-/// A disk on which no fault is armed answers as the definition of a disk without faults says, and
-/// becomes what it says.
+/// A disk on which no fault is armed answers every command but WRITE LONG as the definition of a disk
+/// without faults says, and becomes what it says.
 pub fn without_faults_nothing_changes()
     ensures { WithoutFaultsNothingChanges }
 {
@@ -35,10 +35,12 @@ pub fn without_faults_nothing_changes()
 pub fn without_faults_a_run_is_sound()
     ensures { WithoutFaultsARunIsSound }
 {
+    the_configuration_stays();
     sg_faults::laws::unarmed_faults_do_nothing();
 }
 
-/// A fault changes only commands of initiators that it names.
+/// A fault changes only commands of initiators that it names, and a WRITE LONG that finds no room for
+/// another fault.
 pub fn others_meet_no_fault()
     ensures { OthersMeetNoFault }
 {

@@ -26,6 +26,7 @@ mod reservation;
 mod room;
 mod run;
 mod target;
+mod write_long;
 
 pub use call::Call;
 pub use config::{Config, ConfigFault};

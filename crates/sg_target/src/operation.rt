@@ -16,7 +16,7 @@ use crate::block::{
 };
 use crate::config::Config;
 use crate::data_in::DataIn;
-use crate::extent::past_capacity;
+use crate::extent::{one_block, past_capacity};
 use crate::mode::{
     ModeList, RequestedModes, check_mode_select_6, check_mode_select_10, check_mode_sense_6,
     check_mode_sense_10,
@@ -29,6 +29,8 @@ use crate::refusal::Refusal;
 use crate::reply::Reply;
 use crate::reservation::{check_reserve_in, check_reserve_out};
 use crate::target::Target;
+use crate::write_long::check_write_long_10;
+use sg_faults::SenseCode;
 use sg_store::{MAX_CAPACITY, Store};
 use sg_units::OutList;
 use sg_wire::{CdbWidth, Command, Extent, Format, InAction, Initiator, ListedExtents, OutAction};
@@ -81,6 +83,12 @@ pub enum Operation<'a> {
     Fill {
         extent: Extent,
         block: BlockOut<'a>,
+    },
+    /// Marks a block with an error, which each READ of it reports until a command writes the block:
+    /// WRITE LONG.
+    MarkBad {
+        lba: u64,
+        code: SenseCode,
     },
     /// Unmaps blocks, extent by extent.
     Unmap(ListedExtents<'a>),
@@ -135,12 +143,9 @@ impl<'a> Operation<'a> {
             Operation::Read(blocks) => (past_capacity(blocks.extent, capacity), false),
             Operation::Synchronize(extent) => (past_capacity(*extent, capacity), false),
             Operation::ReturnLbaStatus { start, .. } => {
-                let first = Extent {
-                    lba: *start,
-                    count: 1,
-                };
-                (past_capacity(first, capacity), false)
+                (past_capacity(one_block(*start), capacity), false)
             }
+            Operation::MarkBad { lba, .. } => (past_capacity(one_block(*lba), capacity), true),
             Operation::Write(blocks) => (past_capacity(blocks.extent, capacity), true),
             Operation::Fill { extent, .. }
             | Operation::UnmapExtent(extent)
@@ -198,6 +203,7 @@ pub(crate) fn operation_of<'a>(
             Ok(Operation::ReturnCapacity16(fields.allocation_length))
         }
         Command::SynchronizeCache10(extent) => Ok(Operation::Synchronize(Extent::from(extent))),
+        Command::WriteLong10(fields) => check_write_long_10(fields),
         Command::WriteSame10(fields) => check_write_same_10(config, fields, data_out),
         Command::WriteSame16(fields) => check_write_same_16(config, fields, data_out),
         Command::Unmap(fields) => check_unmap(fields, data_out),
@@ -229,7 +235,10 @@ impl<S: Store> Target<S> {
             self.old self.new result buf.old buf.new }
     {
         match operation {
-            Operation::Nothing | Operation::Synchronize(_) => Reply::without_blocks(0),
+            // A block is marked with an error as the command ends: see `conclude_armed`.
+            Operation::Nothing | Operation::Synchronize(_) | Operation::MarkBad { .. } => {
+                Reply::without_blocks(0)
+            }
             Operation::ReturnSense { .. }
             | Operation::ReturnInquiry { .. }
             | Operation::ReturnModes { .. }

@@ -43,6 +43,8 @@ pub enum Reason {
     InvalidRelease,
     /// INSUFFICIENT REGISTRATION RESOURCES: there is no room for another registration.
     InsufficientRegistrationResources,
+    /// INSUFFICIENT RESOURCES: there is no room to mark another block as bad.
+    InsufficientResources,
     /// LOGICAL BLOCK ADDRESS OUT OF RANGE, with the first such address.
     LbaOutOfRange {
         lba: u64,
@@ -82,6 +84,7 @@ impl Reason {
             Reason::InsufficientRegistrationResources => {
                 plain(Sense::ILLEGAL_REQUEST, 0x55, 0x04)
             }
+            Reason::InsufficientResources => plain(Sense::ILLEGAL_REQUEST, 0x55, 0x03),
             Reason::LbaOutOfRange { lba } => Sense {
                 key: Sense::ILLEGAL_REQUEST,
                 asc: 0x21,

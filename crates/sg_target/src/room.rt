@@ -11,6 +11,7 @@ ghost use Rattle.sg_target.specs.Semantics.{medium_use};
 ghost use Rattle.sg_target.specs.State.{IsWithinLimits};
 ghost use Rattle.sg_target.specs.Target.{disk_of};
 
+use crate::armed::arms_fault;
 use crate::call::Call;
 use crate::extent::byte_length;
 use crate::laws::limits_are_kept;
@@ -61,6 +62,7 @@ impl<'a> Operation<'a> {
             | Operation::ChangeModes { .. }
             | Operation::Write(_)
             | Operation::Synchronize(_)
+            | Operation::MarkBad { .. }
             | Operation::Fill { .. }
             | Operation::Unmap(_)
             | Operation::UnmapExtent(_)
@@ -150,6 +152,9 @@ impl<S: Store> Target<S> {
     {
         limits_are_kept();
         sg_faults::laws::unarmed_faults_do_nothing();
+        if arms_fault(&checked) {
+            return self.conclude_armed(call.initiator, call.cdb, checked, buf);
+        }
         match checked {
             Ok(operation) => self.execute_checked(call.initiator, operation, buf),
             Err(refusal) => self.refuse(call.initiator, refusal, Counts::default()),

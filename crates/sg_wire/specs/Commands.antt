@@ -75,6 +75,10 @@ no_blocks_16 = record { lba = 0; count = 0 }
 abbrev pub read_capacity_16 : (allocation_length : ℕ) → Command
 read_capacity_16 n = command.ReadCapacity16 (record { allocation_length = n })
 
+abbrev pub write_long_10 : (cor_dis wr_uncor : Bool) (lba length : ℕ) → Command
+write_long_10 cor_dis wr_uncor lba n =
+    command.WriteLong10 (record { cor_dis = cor_dis; wr_uncor = wr_uncor; lba = lba; length = n })
+
 abbrev pub write_same_10 : (anchor unmap : Bool) (lba count : ℕ) → Command
 write_same_10 anchor unmap lba n =
     command.WriteSame10 (record { lba = lba; count = n; anchor = anchor; unmap = unmap })

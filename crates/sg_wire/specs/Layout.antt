@@ -10,6 +10,7 @@ use Rattle.sg_wire.specs.declared.command.Command.TheVariants as command
 use Rattle.sg_wire.specs.declared.command.block.Extent10.{Extent10}
 use Rattle.sg_wire.specs.declared.command.block.Extent16.{Extent16}
 use Rattle.sg_wire.specs.declared.command.block.ReadCapacity16.{ReadCapacity16}
+use Rattle.sg_wire.specs.declared.command.block.WriteLong10.{WriteLong10}
 use Rattle.sg_wire.specs.declared.command.mode.ModeSelect10.{ModeSelect10}
 use Rattle.sg_wire.specs.declared.command.mode.ModeSelect6.{ModeSelect6}
 use Rattle.sg_wire.specs.declared.command.mode.ModeSense10.{ModeSense10}
@@ -27,7 +28,7 @@ use Rattle.sg_wire.specs.Commands as make
 use Rattle.sg_wire.specs.PageControl.{page_control_code}
 use Rattle.sg_wire.specs.ReservationAction.{in_code, out_code, each_in_action, each_out_action}
 use Rattle.sg_wire.specs.declared.profile.Profile.{Profile}
-use Rattle.sg_wire.specs.declared.profile.Profile.TheVariants.{Base}
+use Rattle.sg_wire.specs.declared.profile.Profile.TheVariants.{Base, Extended}
 
 -- The function that makes a command of the values of its fields. The fields' places give the types.
 abbrev pub Maker : List Field → Type 0
@@ -72,6 +73,12 @@ base opcode action class blocked fields ignored make = record {
   ignored = ignored;
   make = make;
 }
+
+-- A row of the extended profile.
+abbrev extended : ℕ → ServiceAction → Class → Bool → (fields : List Field) → List Place → Maker fields
+    → Layout
+extended opcode action class blocked fields ignored make =
+    record (base opcode action class blocked fields ignored make) { profile = Extended }
 
 -- INQUIRY and REQUEST SENSE are executed in spite of a pending unit attention (SPC-4, 6.6.1 and
 -- 6.39).
@@ -149,6 +156,13 @@ abbrev unmap : Unmap → List Field
 unmap c =
     field (bit 1 0) c.anchor ∷ field (bits 6 4 0) c.group ∷ field (bytes 7 8) c.list_length ∷ []
 
+-- COR_DIS, WR_UNCOR, LOGICAL BLOCK ADDRESS and BYTE TRANSFER LENGTH.
+-- Choice (SBC-3, WRITE LONG(10)): PBLOCK is refused, as a physical block is one logical block.
+abbrev write_long_10 : WriteLong10 → List Field
+write_long_10 c =
+    field (bit 1 7) c.cor_dis ∷ field (bit 1 6) c.wr_uncor ∷ field (bytes 2 5) c.lba
+    ∷ field (bytes 7 8) c.length ∷ []
+
 -- STARTING LOGICAL BLOCK ADDRESS and ALLOCATION LENGTH.
 abbrev get_lba_status : GetLbaStatus → List Field
 get_lba_status c = field (bytes 2 9) c.start ∷ field (bytes 10 13) c.allocation_length ∷ []
@@ -210,6 +224,8 @@ layout command.ReadCapacity10 = base 0x25 none Always blocked [] [] command.Read
 layout (command.ReadCapacity16 c) =
     base 0x9E (named 0x10) Always blocked (read_capacity_16 c) [] make.read_capacity_16
 layout (command.SynchronizeCache10 c) = range_10 0x35 Writes (immed_bits 6) command.SynchronizeCache10 c
+layout (command.WriteLong10 c) =
+    extended 0x3F none Writes blocked (write_long_10 c) [] make.write_long_10
 layout (command.WriteSame10 c) =
     base 0x41 none Writes blocked (write_same_10 c) (group_number 6) make.write_same_10
 layout (command.WriteSame16 c) =
@@ -246,6 +262,7 @@ each_command =
     ∷ command.ReadCapacity10
     ∷ make.read_capacity_16 0
     ∷ command.SynchronizeCache10 make.no_blocks_10
+    ∷ make.write_long_10 false false 0 0
     ∷ make.write_same_10 false false 0 0
     ∷ make.write_same_16 false false 0 0
     ∷ make.unmap false 0 0

@@ -49,6 +49,7 @@ command_named name.Write16 = command.Write16 make.no_blocks_16
 command_named name.ReadCapacity10 = command.ReadCapacity10
 command_named name.ReadCapacity16 = make.read_capacity_16 0
 command_named name.SynchronizeCache10 = command.SynchronizeCache10 make.no_blocks_10
+command_named name.WriteLong10 = make.write_long_10 false false 0 0
 command_named name.WriteSame10 = make.write_same_10 false false 0 0
 command_named name.WriteSame16 = make.write_same_16 false false 0 0
 command_named name.Unmap = make.unmap false 0 0

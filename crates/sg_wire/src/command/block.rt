@@ -10,10 +10,16 @@ ghost use Rattle.sg_wire.specs.Layout.{extent_10, extent_16, extent_6};
 ghost use Rattle.sg_wire.specs.Table.{IsDecoded, IsRefused, IsRow, command_by, layout_of};
 ghost use Rattle.sg_wire.specs.declared.command.table.Name.{Name};
 
-use super::table::{READ_CAPACITY_10, READ_CAPACITY_16, Row, check_row};
+use super::masks::two_bits;
+use super::table::{READ_CAPACITY_10, READ_CAPACITY_16, Row, WRITE_LONG_10, check_row};
 use super::{CdbFault, Command, ShortExtent};
 use crate::bytes::{CdbBytes, MAX_CDB_LENGTH};
 use byteorder::{BigEndian, ByteOrder};
+
+// Bits of byte 1 of WRITE LONG.
+const COR_DIS: u8 = 0x80;
+
+const WR_UNCOR: u8 = 0x40;
 
 /// An extent of logical blocks in the CDBs of READ(10), WRITE(10) and SYNCHRONIZE CACHE(10) (SBC-3,
 /// 5.11, 5.33 and 5.26).
@@ -32,6 +38,19 @@ pub struct Extent16 {
     pub lba: u64,
     /// TRANSFER LENGTH, in blocks.
     pub count: u32,
+}
+
+/// The fields of WRITE LONG(10) (SBC-3, 5.41).
+#[derive(Clone, Copy, Debug, PartialEq, Eq)]
+pub struct WriteLong10 {
+    /// COR_DIS: the disk is not to try to correct the error.
+    pub cor_dis: bool,
+    /// WR_UNCOR: the block is to be marked with an unrecovered error.
+    pub wr_uncor: bool,
+    /// The block's address.
+    pub lba: u32,
+    /// BYTE TRANSFER LENGTH, in bytes.
+    pub length: u16,
 }
 
 /// The field of READ CAPACITY(16) (SBC-3, 5.16).
@@ -56,6 +75,19 @@ pub(super) fn decode_read_capacity_16(cdb: &[u8]) -> Result<Command, CdbFault>
     check_row(&READ_CAPACITY_16, cdb)?;
     Ok(Command::ReadCapacity16(ReadCapacity16 {
         allocation_length: BigEndian::read_u32(&cdb[10..]),
+    }))
+}
+
+pub(super) fn decode_write_long_10(cdb: &[u8]) -> Result<Command, CdbFault>
+    ensures { result ≡ command_by (layout_of Name.WriteLong10) cdb.now }
+{
+    // The numbers lie in the places of an extent's numbers.
+    let numbers = decode_extent_10(&WRITE_LONG_10, cdb)?;
+    Ok(Command::WriteLong10(WriteLong10 {
+        cor_dis: cdb[1] & COR_DIS != 0,
+        wr_uncor: cdb[1] & WR_UNCOR != 0,
+        lba: numbers.lba,
+        length: numbers.count,
     }))
 }
 
@@ -168,5 +200,19 @@ impl ReadCapacity16 {
         let mut cdb = READ_CAPACITY_16.begin();
         BigEndian::write_u32(&mut cdb[10..], self.allocation_length);
         CdbBytes::new(cdb, MAX_CDB_LENGTH)
+    }
+}
+
+impl WriteLong10 {
+    #[tactic(auto, unfolding(crate::specs::CdbEncoding::cdb_of))]
+    pub(super) fn encode(self) -> CdbBytes
+        ensures cdb { result ≡ cdb_of (Command.WriteLong10 self) }
+        ensures fits { fits_cdb (Command.WriteLong10 self) ≡ true }
+    {
+        let mut cdb = WRITE_LONG_10.begin();
+        cdb[1] = two_bits(self.cor_dis, COR_DIS, self.wr_uncor, WR_UNCOR);
+        BigEndian::write_u32(&mut cdb[2..], self.lba);
+        BigEndian::write_u16(&mut cdb[7..], self.length);
+        CdbBytes::new(cdb, 10)
     }
 }

@@ -21,6 +21,8 @@ pub(super) const WRITE_10: u8 = 0x2A;
 
 pub(super) const SYNCHRONIZE_CACHE_10: u8 = 0x35;
 
+pub(super) const WRITE_LONG_10: u8 = 0x3F;
+
 pub(super) const WRITE_SAME_10: u8 = 0x41;
 
 pub(super) const UNMAP: u8 = 0x42;

@@ -32,6 +32,7 @@ pub(super) enum Name {
     ReadCapacity10,
     ReadCapacity16,
     SynchronizeCache10,
+    WriteLong10,
     WriteSame10,
     WriteSame16,
     Unmap,
@@ -204,6 +205,11 @@ pub(super) static SYNCHRONIZE_CACHE_10: Row = row! {
     EXTENT_10
 };
 
+pub(super) static WRITE_LONG_10: Row = row! {
+    WriteLong10, Extended, opcode::WRITE_LONG_10, None, Writes, BLOCKED,
+    [0xFF, 0xC0, 0xFF, 0xFF, 0xFF, 0xFF, 0x00, 0xFF, 0xFF, 0x00]
+};
+
 pub(super) static WRITE_SAME_10: Row = row! {
     WriteSame10, Base, opcode::WRITE_SAME_10, None, Writes, BLOCKED,
     [0xFF, 0x18, 0xFF, 0xFF, 0xFF, 0xFF, 0x1F, 0xFF, 0xFF, 0x00],
@@ -289,6 +295,7 @@ fn row_of(cdb: &[u8]) -> Found
         opcode::WRITE_16 => Found::Row(&WRITE_16),
         opcode::READ_CAPACITY_10 => Found::Row(&READ_CAPACITY_10),
         opcode::SYNCHRONIZE_CACHE_10 => Found::Row(&SYNCHRONIZE_CACHE_10),
+        opcode::WRITE_LONG_10 => Found::Row(&WRITE_LONG_10),
         opcode::WRITE_SAME_10 => Found::Row(&WRITE_SAME_10),
         opcode::WRITE_SAME_16 => Found::Row(&WRITE_SAME_16),
         opcode::UNMAP => Found::Row(&UNMAP),

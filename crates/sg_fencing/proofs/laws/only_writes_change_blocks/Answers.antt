@@ -3,7 +3,7 @@ use Rattle.sg_store.specs.Disk.{Disk}
 use Rattle.sg_target.specs.Effect.{Effect}
 use Rattle.sg_target.specs.Semantics.{effect_of}
 use Rattle.sg_target.specs.declared.refusal.Refusal.{Refusal}
-use Rattle.sg_fencing.proofs.DiskLemmas.{Leaves, operation-leaves}
+use Rattle.sg_fencing.proofs.DiskLemmas.{Leaves, changes-none, operation-leaves}
 use Rattle.sg_fencing.proofs.laws.only_writes_change_blocks.Goals as goal
 
 at-effect : (disk : Disk) (result : Result Effect Refusal) (effect : Effect) → Leaves disk result
@@ -13,4 +13,5 @@ at-effect disk (Err refusal) effect l e = cc
 
 pub returns : goal.returns
 returns c state i operation effect h e =
-    at-effect state.disk (effect_of state i operation) effect (operation-leaves state i operation h) e
+    at-effect state.disk (effect_of state i operation) effect
+    (operation-leaves state i operation (changes-none operation h)) e

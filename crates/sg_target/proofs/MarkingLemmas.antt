@@ -1,0 +1,87 @@
+-- Only WRITE LONG marks a block as bad.
+use Rattle.std.proofs.Common.{◌≡◌, ℕ, List, Bool, true, false, Option, None, Result, Ok, Err}
+use Rattle.std.proofs.Common.{refl, sym, ap, ◌∙◌, not, ◌&&◌, if◌then◌else◌}
+use Rattle.std.specs.Prelude.{is_some, ok_or}
+use Rattle.sg_wire.specs.CdbDecoding.{command_in}
+use Rattle.sg_wire.specs.FirstBytes.{first_bytes}
+use Rattle.sg_wire.specs.declared.command.Command.{Command}
+use Rattle.sg_wire.specs.declared.command.Command.TheVariants as command
+use Rattle.sg_wire.specs.declared.extent.Extent.{Extent}
+use Rattle.sg_faults.specs.Faults.{have_room_after}
+use Rattle.sg_faults.specs.Meeting.{Seen}
+use Rattle.sg_faults.specs.declared.fault.Fault.{Fault}
+use Rattle.sg_target.specs.Armed.{Attempt, fault_by, marked_by, with_room}
+use Rattle.sg_target.specs.Checks.{checked_cdb}
+use Rattle.sg_target.specs.Config.{ConfigFields}
+use Rattle.sg_target.specs.Demands.{demands, unmap_extent, unmap_extents}
+use Rattle.sg_target.specs.FaultLaws.{is_write_long}
+use Rattle.sg_target.specs.PrimaryCommands.{inquiry_page}
+use Rattle.sg_target.specs.ProvisioningCommands.{block_out, listed_extents, unmaps}
+use Rattle.sg_target.specs.Refusal.{when_sound}
+use Rattle.sg_target.specs.ReservationCommands.{fields_out}
+use Rattle.sg_target.specs.State.{State, config_of, profile_of}
+use Rattle.sg_target.specs.declared.operation.Operation.{Operation}
+use Rattle.sg_target.specs.declared.operation.Operation.TheVariants.{ChangeReservations, Fill}
+use Rattle.sg_target.specs.declared.operation.Operation.TheVariants.{ReturnInquiry}
+use Rattle.sg_target.specs.declared.refusal.Reason.TheVariants.{InsufficientResources, InvalidFieldInCdb}
+use Rattle.sg_target.specs.declared.refusal.Refusal.{Refusal}
+use Rattle.sg_target.specs.declared.refusal.Refusal.TheVariants.{CheckCondition}
+use Rattle.sg_target.proofs.LiftLemmas.{asked}
+
+-- a command that marks no block has room
+pub unmarked-stays : (command : Seen) (tried : Attempt) → marked_by tried.result ≡ None
+    → with_room command tried ≡ tried
+unmarked-stays command tried none =
+    ap
+    (λ (mark : Option Fault). if is_some mark && not (have_room_after command tried.faults)
+    then record tried { result = Err (CheckCondition InsufficientResources) } else tried)
+    none
+
+-- ---- By the command
+
+sound-unmarked : {A : Type 0} (sound : Result A Refusal) (becomes : A → Operation)
+    → ((value : A) → fault_by (becomes value) ≡ None) → marked_by (when_sound sound becomes) ≡ None
+sound-unmarked (Ok value) becomes h = h value
+sound-unmarked (Err refusal) becomes h = refl
+
+same-unmarked : (anchor is_unmapped : Bool) (extent : Extent) (block : List ℕ)
+    → fault_by (if is_unmapped then unmap_extent anchor extent else Fill extent block) ≡ None
+same-unmarked true true extent block = refl
+same-unmarked false true extent block = refl
+same-unmarked anchor false extent block = refl
+
+unmap-unmarked : (anchor : Bool) (extents : List Extent) → fault_by (unmap_extents anchor extents) ≡ None
+unmap-unmarked true extents = refl
+unmap-unmarked false extents = refl
+
+unmarked : (config : ConfigFields) (command : Command) (data_out : List ℕ)
+    → is_write_long (Ok command) ≡ false
+    → marked_by (demands config command data_out).operation ≡ None
+unmarked config (command.Inquiry c) data_out other =
+    sound-unmarked
+    (ok_or (inquiry_page c.evpd c.page_code) (CheckCondition (InvalidFieldInCdb 2)))
+    (λ page. ReturnInquiry page c.allocation_length) (λ page. refl)
+unmarked config (command.WriteLong10 c) data_out other = cc
+unmarked config (command.WriteSame10 c) data_out other =
+    same-unmarked c.anchor (unmaps c.unmap (block_out data_out)) _ (block_out data_out)
+unmarked config (command.WriteSame16 c) data_out other =
+    same-unmarked c.anchor (unmaps c.unmap (block_out data_out)) _ (block_out data_out)
+unmarked config (command.Unmap c) data_out other =
+    sound-unmarked (listed_extents (first_bytes c.list_length data_out)) (unmap_extents c.anchor)
+    (unmap-unmarked c.anchor)
+unmarked config (command.PersistentReserveOut c) data_out other =
+    sound-unmarked (fields_out (first_bytes c.list_length data_out))
+    (ChangeReservations c.action c.scope_type) (λ list. refl)
+unmarked config other data_out h = refl
+
+module _ (state : State) (i : ℕ) (cdb data_out : List ℕ)
+    (other : is_write_long (command_in (profile_of state) cdb) ≡ false) where
+  by-checked : (checked : Result Operation Refusal) → checked_cdb state i cdb data_out ≡ checked
+      → marked_by checked ≡ None
+  by-checked (Err refusal) e = refl
+  by-checked (Ok operation) e = let k = asked state i cdb data_out operation e in
+      ap marked_by (sym k.operation_is)
+      ∙ unmarked (config_of state) k.command data_out (ap is_write_long (sym k.read_as) ∙ other)
+
+  pub only-write-long : marked_by (checked_cdb state i cdb data_out) ≡ None
+  only-write-long = by-checked (checked_cdb state i cdb data_out) refl
