@@ -52,11 +52,12 @@ def show_line(random):
 
 
 def attention_words(random, initiator):
-    """A condition, of a reset half the time, for one initiator or for each, rarely misspelled."""
+    """A condition, of a reset half the time, for some initiators or for each, rarely misspelled."""
     code = code_text(random.choice(random.choice((RESETS, CONDITIONS))))
     if random.random() < 0.05:
         code = random.choice((code.lower(), code[:-1], code.replace("/", ""), "29h/01h", "00h/00h"))
-    return random.choice((code, f"{code} {initiator}", f"{code} {initiator}"))
+    others = " ".join(random.choices("01234567", k=random.randrange(1, 9)))
+    return random.choice((code, f"{code} {initiator}", f"{code} {initiator} {others}"))
 
 
 def tool_line(random, initiator):

@@ -179,9 +179,9 @@ def grow(device, operands):
 
 
 def attention(device, operands):
-    """attention CODE [I]: a condition is established for each initiator, or for one"""
+    """attention CODE [I]...: a condition is established for each initiator, or for those named"""
     code, *initiators = operands or [""]
-    if code not in CODES or len(initiators) > 1 or not all(map(is_initiator, initiators)):
+    if code not in CODES or not all(map(is_initiator, initiators)):
         raise Fault("usage")
     device.raise_attention([int(digit) for digit in initiators or INITIATORS], CODES[code])
     return ["ATTENTION"], 0

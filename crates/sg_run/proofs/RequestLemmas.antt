@@ -1,7 +1,7 @@
 -- The request of a line, by the first of its words.
 use Rattle.std.proofs.Common.{◌≡◌, ◌≤◌, ◌<◌, ℕ, ◌-◌, List, [], ◌∷◌, length, map, take, drop}
-use Rattle.std.proofs.Common.{slice_index, slice_index_or, Bor, Option, Some, None, Bool, true, false}
-use Rattle.std.proofs.Common.{cond, refl, sym, ap, ◌∙◌, arith}
+use Rattle.std.proofs.Common.{slice_index, slice_index_or, Bor, Option, Some, None, true, false}
+use Rattle.std.proofs.Common.{refl, sym, ap, ◌∙◌, arith}
 use Rattle.std.specs.Prelude.{◌==◌, nat_lt}
 use Rattle.std.specs.List.{list_all}
 use Rattle.std.proofs.lemmas.Bool.Decides.{nat_tests}
@@ -10,12 +10,13 @@ use Rattle.sg_run.specs.Limits.{word_limit}
 use Rattle.sg_wire.specs.declared.profile.Profile.{Profile}
 use Rattle.sg_wire.specs.declared.profile.Profile.TheVariants.{Base, Extended}
 use Rattle.sg_run.specs.InitiatorWord.{initiator_of}
-use Rattle.sg_run.specs.FaultVerbs.{fault_of}
-use Rattle.sg_run.specs.Request.{LineRequest, arms_fault, by_first_word, by_short_verb, by_verb}
+use Rattle.sg_run.specs.Request.{LineRequest, by_first_word, by_named_verb, by_short_verb, by_verb}
 use Rattle.sg_run.specs.Request.{by_words, happening_request, is_allowed, text_request, tool_line}
+use Rattle.sg_run.specs.Verbs.{happening_of, verb_named, verbs_of}
 use Rattle.sg_run.specs.Words.{tool_words, words}
+use Rattle.sg_run.specs.declared.request.happening_verb.HappeningVerb.{HappeningVerb}
 
--- no verb but `fault` takes more than four operands
+-- a verb that lets nothing happen takes at most four operands
 first-operands : (profile : Profile) (verb : List ℕ) (operands : List (List ℕ))
     → by_short_verb profile verb (take 5 operands) ≡ by_short_verb profile verb operands
 first-operands profile verb [] = refl
@@ -68,28 +69,28 @@ request-by_verb profile text verb operands w none =
     let by_word : Option ℕ → LineRequest = λ i. by_first_word profile i verb (drop 1 all) in
     by.1 ∙ ap by_word none
 
--- it takes at most four operands
+-- which lets nothing happen
 pub request-by_short_verb : (profile : Profile) (text verb : List ℕ) (operands : List (List ℕ))
-    → HasFirstWords text verb operands → initiator_of verb ≡ None → arms_fault profile verb ≡ false
+    → HasFirstWords text verb operands → initiator_of verb ≡ None
+    → verb_named (verbs_of profile) verb ≡ None
     → by_short_verb profile verb operands ≡ text_request profile text
 request-by_short_verb profile text verb operands w none short =
     let all : List (List ℕ) = words text in
     let by = by-first_words profile text verb operands all w.words_are w.no_comment w.allowed w.few in
-    let by_test : Bool → LineRequest = λ t.
-    cond t (happening_request (fault_of (drop 1 all))) (by_short_verb profile verb (drop 1 all)) in
+    let by_name : Option HappeningVerb → LineRequest = λ v. by_named_verb profile v verb (drop 1 all) in
     ap (by_short_verb profile verb) by.0
     ∙ (first-operands profile verb (drop 1 all)
-    ∙ sym (request-by_verb profile text verb operands w none ∙ ap by_test short))
+    ∙ sym (request-by_verb profile text verb operands w none ∙ ap by_name short))
 
--- or it arms a fault
-pub request-by_fault : (profile : Profile) (text verb : List ℕ) (operands : List (List ℕ))
-    → HasFirstWords text verb operands → initiator_of verb ≡ None → arms_fault profile verb ≡ true
-    → happening_request (fault_of (drop 1 (words text))) ≡ text_request profile text
-request-by_fault profile text verb operands w none arms =
+-- or lets something happen
+pub request-by_happening : (profile : Profile) (text verb : List ℕ) (operands : List (List ℕ))
+    (lets_happen : HappeningVerb) → HasFirstWords text verb operands → initiator_of verb ≡ None
+    → verb_named (verbs_of profile) verb ≡ Some lets_happen
+    → happening_request (happening_of lets_happen (drop 1 (words text))) ≡ text_request profile text
+request-by_happening profile text verb operands lets_happen w none named =
     let all : List (List ℕ) = words text in
-    let by_test : Bool → LineRequest = λ t.
-    cond t (happening_request (fault_of (drop 1 all))) (by_short_verb profile verb (drop 1 all)) in
-    sym (request-by_verb profile text verb operands w none ∙ ap by_test arms)
+    let by_name : Option HappeningVerb → LineRequest = λ v. by_named_verb profile v verb (drop 1 all) in
+    sym (request-by_verb profile text verb operands w none ∙ ap by_name named)
 
 -- an initiator
 pub request-by_tool : (profile : Profile) (text verb : List ℕ) (operands : List (List ℕ)) (initiator : ℕ)

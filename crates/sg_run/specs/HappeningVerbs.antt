@@ -1,11 +1,11 @@
--- The verbs of an extended disk: something happens to it (docs/SCRIPT.md).
+-- The verbs for what happens to a disk, except `fault` and `heal` (docs/SCRIPT.md).
 use Rattle.std.specs.Prelude.{ℕ, List, [], ◌∷◌, codes, Option, Some, None, if◌then◌else◌}
 use Rattle.std.specs.Prelude.{option_and_then}
 use Rattle.std.specs.Option.{option_map}
 use Rattle.std.specs.Str.{bytes_eq}
 use Rattle.sg_store.specs.Disk.{max_capacity}
 use Rattle.sg_tools.specs.Number.{number_of}
-use Rattle.sg_units.specs.Initiators.{all_initiators, no_initiators, with_member}
+use Rattle.sg_units.specs.Initiators.{Members, all_initiators, no_initiators, with_member}
 use Rattle.sg_units.specs.declared.unit_attention.UnitAttention.{UnitAttention}
 use Rattle.sg_units.specs.declared.unit_attention.UnitAttention.TheVariants.{MediumMayHaveChanged}
 use Rattle.sg_units.specs.declared.unit_attention.UnitAttention.TheVariants.{PowerOn, ScsiBusReset}
@@ -24,9 +24,15 @@ use Rattle.sg_units.specs.declared.unit_attention.UnitAttention.TheVariants.{Inq
 use Rattle.sg_units.specs.declared.unit_attention.UnitAttention.TheVariants.{ReportedLunsDataChanged}
 use Rattle.sg_target.specs.Config.{is_between}
 use Rattle.sg_target.specs.declared.happening.Happening.{Happening}
-use Rattle.sg_target.specs.declared.happening.Happening.TheVariants.{LogicalUnitReset, TargetReset}
 use Rattle.sg_target.specs.declared.happening.Happening.TheVariants.{Establish, Grow, NexusLoss}
+use Rattle.sg_target.specs.declared.happening.Happening.TheVariants.{LogicalUnitReset, Power}
+use Rattle.sg_target.specs.declared.happening.Happening.TheVariants.{TargetReset}
 use Rattle.sg_run.specs.InitiatorWord.{initiator_of}
+
+-- The verb `power`, which takes no operand.
+abbrev pub power_of : List (List ℕ) → Option Happening
+power_of [] = Some Power
+power_of operands = None
 
 -- The verb `reset`: of the logical unit, or of the target.
 abbrev pub reset_of : List (List ℕ) → Option Happening
@@ -81,15 +87,22 @@ condition_named [] code = None
 condition_named (row ∷ rows) code =
     if bytes_eq code row.code then Some row.condition else condition_named rows code
 
-abbrev pub establishing : Option UnitAttention → (initiator : Option ℕ) → Option Happening
-establishing (Some condition) (Some initiator) =
-    Some (Establish condition (with_member no_initiators initiator))
-establishing condition initiator = None
+abbrev pub and_initiator : (initiator : Option ℕ) → (others : Option Members) → Option Members
+and_initiator (Some initiator) (Some others) = Some (with_member others initiator)
+and_initiator initiator others = None
 
--- The verb `attention`: a condition is established for each initiator, or for one.
+-- The initiators that words name. Their order does not matter.
+unfoldable pub initiators_of : List (List ℕ) → Option Members
+initiators_of [] = Some no_initiators
+initiators_of (word ∷ words) = and_initiator (initiator_of word) (initiators_of words)
+
+abbrev pub establishing : Option UnitAttention → Option Members → Option Happening
+establishing (Some condition) (Some initiators) = Some (Establish condition initiators)
+establishing condition initiators = None
+
+-- The verb `attention`: a condition is established for each initiator, or for those that words name.
 abbrev pub attention_of : List (List ℕ) → Option Happening
-attention_of (code ∷ []) =
-    option_map (λ condition. Establish condition all_initiators) (condition_named condition_words code)
-attention_of (code ∷ initiator ∷ []) =
-    establishing (condition_named condition_words code) (initiator_of initiator)
-attention_of operands = None
+attention_of [] = None
+attention_of (code ∷ []) = establishing (condition_named condition_words code) (Some all_initiators)
+attention_of (code ∷ first ∷ others) =
+    establishing (condition_named condition_words code) (initiators_of (first ∷ others))

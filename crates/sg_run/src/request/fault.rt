@@ -1,45 +1,18 @@
 // `fault` arms a fault on an extended disk, and `heal` takes faults away (docs/SCRIPT.md).
-ghost use Rattle.std.specs.Prelude.{◌≡◌, ◌<◌, ◌≤◌, drop, length, map};
+ghost use Rattle.std.specs.Prelude.{◌≡◌, map};
 ghost use Rattle.sg_run.specs.FaultVerbs.{afterwards_of, arrival_of, arrival_words};
 ghost use Rattle.sg_run.specs.FaultVerbs.{fault_of, heal_of};
 ghost use Rattle.sg_run.specs.FaultVerbs.{outcome_of, outcome_with, takes_operand};
-ghost use Rattle.sg_run.specs.Limits.{word_limit};
-ghost use Rattle.sg_run.specs.Request.{arms_fault, happening_request};
-ghost use Rattle.sg_run.specs.RequestLines.{line_request};
-ghost use Rattle.sg_run.specs.Words.{words};
 
 use super::fault_options::{MOST_BLOCKS, armed_by};
 use super::sense_code::read_sense_code;
-use super::words::{Words, is_word};
-use super::{Request, WORD_LIMIT, happening_request};
+use super::words::is_word;
 use sg_faults::{Afterwards, AtMedium, MAX_FAULTS, OnArrival, Outcome};
 use sg_target::Happening;
 use sg_tools::read_number_up_to;
-use sg_wire::Profile;
-
-/// Returns `true` if a verb of a disk of a profile arms a fault.
-pub(super) fn arms_fault(profile: Profile, verb: &[u8]) -> bool
-    ensures { result ≡ arms_fault profile verb.now }
-{
-    match profile {
-        Profile::Base => false,
-        Profile::Extended => is_word(verb, "fault"),
-    }
-}
-
-/// The request of a text whose verb is `fault`. All words after the verb are its operands.
-#[inline(never)]
-pub(super) fn by_fault<'a>(text: &[u8]) -> Request<'a>
-    requires not_empty { 0 < length (words text.now) }
-    requires at_most_64 { length (words text.now) ≤ word_limit }
-    ensures { line_request result ≡ happening_request (fault_of (drop 1 (words text.now))) }
-{
-    let words: Words<'_, WORD_LIMIT> = Words::of(text);
-    happening_request(read_fault(&words.as_slice()[1..]))
-}
 
 /// `fault PLACE WHAT [OPTION]...`: a fault is armed.
-fn read_fault(operands: &[&[u8]]) -> Option<Happening>
+pub(super) fn read_fault(operands: &[&[u8]]) -> Option<Happening>
     ensures { result ≡ fault_of (map (λ word. word.now) operands.now) }
 {
     match operands {

@@ -1,60 +1,32 @@
-// What happens to an extended disk, by a verb of a script (docs/SCRIPT.md).
+// What happens to a disk, by the operands of a verb (docs/SCRIPT.md). `fault` and `heal` have a file
+// of their own.
 ghost use Rattle.std.specs.Prelude.{◌≡◌, All, map};
 ghost use Rattle.std.specs.Str.{IsAscii};
-ghost use Rattle.sg_run.specs.HappeningVerbs.{attention_of, condition_named, condition_words};
-ghost use Rattle.sg_run.specs.HappeningVerbs.{grow_of, growing, nexus_of, reset_of};
-ghost use Rattle.sg_run.specs.Request.{by_extended_verb, faults_of};
-ghost use Rattle.sg_run.specs.RequestLines.{line_request};
+ghost use Rattle.sg_run.specs.HappeningVerbs.{and_initiator, attention_of, condition_named};
+ghost use Rattle.sg_run.specs.HappeningVerbs.{condition_words, grow_of, growing, initiators_of};
+ghost use Rattle.sg_run.specs.HappeningVerbs.{nexus_of, power_of, reset_of};
 
-use super::fault::read_heal;
 use super::words::{read_initiator, word_text};
-use super::{LineFault, Request, happening_request};
 use sg_store::MAX_CAPACITY;
 use sg_target::Happening;
 use sg_tools::read_number;
 use sg_units::{Initiators, UnitAttention};
-use sg_wire::Profile;
+use sg_wire::Initiator;
 
-/// The request of a verb that only an extended disk has.
-pub(super) fn by_extended_verb<'a>(profile: Profile, verb: &[u8], operands: &[&[u8]]) -> Request<'a>
-    requires { All (λ word. IsAscii word.now) operands.now }
-    ensures { line_request result
-        ≡ by_extended_verb profile verb.now (map (λ word. word.now) operands.now) }
-{
-    if let Profile::Base = profile {
-        return Request::Faulty(LineFault::UnknownVerb);
-    }
-    let happening = if verb == b"reset".as_slice() {
-        read_reset(operands)
-    } else if verb == b"nexus".as_slice() {
-        read_nexus(operands)
-    } else if verb == b"grow".as_slice() {
-        read_grow(operands)
-    } else if verb == b"attention".as_slice() {
-        read_attention(operands)
-    } else if verb == b"heal".as_slice() {
-        read_heal(operands)
-    } else if verb == b"faults".as_slice() {
-        return read_faults(operands);
-    } else {
-        return Request::Faulty(LineFault::UnknownVerb);
-    };
-    happening_request(happening)
-}
-
-/// `faults`: the armed faults are listed. No word may come after the verb.
-fn read_faults<'a>(operands: &[&[u8]]) -> Request<'a>
-    ensures { line_request result ≡ faults_of (map (λ word. word.now) operands.now) }
+/// `power`: a power cycle. No word may come after the verb, because it is for all initiators at
+/// once.
+pub(super) fn read_power(operands: &[&[u8]]) -> Option<Happening>
+    ensures { result ≡ power_of (map (λ word. word.now) operands.now) }
 {
     if operands.is_empty() {
-        Request::ListFaults
+        Some(Happening::Power)
     } else {
-        Request::Faulty(LineFault::Usage)
+        None
     }
 }
 
 /// `reset` or `reset target`: a reset of the logical unit, or of the target.
-fn read_reset(operands: &[&[u8]]) -> Option<Happening>
+pub(super) fn read_reset(operands: &[&[u8]]) -> Option<Happening>
     ensures { result ≡ reset_of (map (λ word. word.now) operands.now) }
 {
     match operands {
@@ -65,7 +37,7 @@ fn read_reset(operands: &[&[u8]]) -> Option<Happening>
 }
 
 /// `nexus I`: an initiator loses its I_T nexus.
-fn read_nexus(operands: &[&[u8]]) -> Option<Happening>
+pub(super) fn read_nexus(operands: &[&[u8]]) -> Option<Happening>
     ensures { result ≡ nexus_of (map (λ word. word.now) operands.now) }
 {
     let [initiator] = operands else {
@@ -75,7 +47,7 @@ fn read_nexus(operands: &[&[u8]]) -> Option<Happening>
 }
 
 /// `grow N`: the disk has N blocks from then on.
-fn read_grow(operands: &[&[u8]]) -> Option<Happening>
+pub(super) fn read_grow(operands: &[&[u8]]) -> Option<Happening>
     ensures { result ≡ grow_of (map (λ word. word.now) operands.now) }
 {
     let [blocks] = operands else {
@@ -95,22 +67,41 @@ fn growing(blocks: u64) -> Option<Happening>
     }
 }
 
-/// `attention CODE [I]`: a unit attention condition is established for each initiator, or for one.
-fn read_attention(operands: &[&[u8]]) -> Option<Happening>
+/// `attention CODE [I]...`: a unit attention condition is established for each initiator, or for
+/// those that are named.
+pub(super) fn read_attention(operands: &[&[u8]]) -> Option<Happening>
     requires { All (λ word. IsAscii word.now) operands.now }
     ensures { result ≡ attention_of (map (λ word. word.now) operands.now) }
 {
-    match operands {
-        [code] => {
-            let condition = condition_named(code)?;
-            Some(Happening::Establish(condition, Initiators::all()))
-        }
-        [code, initiator] => {
-            let condition = condition_named(code)?;
-            let initiator = read_initiator(initiator)?;
-            let one = Initiators::none().with(initiator);
-            Some(Happening::Establish(condition, one))
-        }
+    let [code, initiators @ ..] = operands else {
+        return None;
+    };
+    let condition = condition_named(code)?;
+    let initiators = if initiators.is_empty() {
+        Initiators::all()
+    } else {
+        read_initiators(initiators)?
+    };
+    Some(Happening::Establish(condition, initiators))
+}
+
+/// The initiators that words name.
+#[tactic(auto, using(crate::proofs::HappeningWordLemmas::initiator_words))]
+fn read_initiators(words: &[&[u8]]) -> Option<Initiators>
+    ensures { result ≡ initiators_of (map (λ word. word.now) words.now) }
+{
+    match words {
+        [] => Some(Initiators::none()),
+        [word, others @ ..] => and_initiator(read_initiator(word), read_initiators(others)),
+    }
+}
+
+/// An initiator, and others.
+fn and_initiator(initiator: Option<Initiator>, others: Option<Initiators>) -> Option<Initiators>
+    ensures { result ≡ and_initiator initiator others }
+{
+    match (initiator, others) {
+        (Some(initiator), Some(others)) => Some(others.with(initiator)),
         _ => None,
     }
 }

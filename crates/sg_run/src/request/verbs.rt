@@ -1,16 +1,15 @@
-// What a verb asks for, by the words after it (docs/SCRIPT.md). `fill` and `fault` have files of
-// their own.
+// What a verb asks for that is no happening, by the words after it (docs/SCRIPT.md). `fill` has a file
+// of its own.
 ghost use Rattle.std.specs.Prelude.{◌≡◌, ◌≤◌, All, length, map};
 ghost use Rattle.std.specs.Str.{IsAscii};
 ghost use Rattle.sg_run.specs.Limits.{longest_line};
-ghost use Rattle.sg_run.specs.Request.{by_short_verb, power_of, raw, show_of};
+ghost use Rattle.sg_run.specs.Request.{by_short_verb, faults_of, lists_faults, raw, show_of};
 ghost use Rattle.sg_run.specs.RequestLines.{line_request};
 
-use super::happening::by_extended_verb;
 use super::hex_word::read_hex;
-use super::words::{read_initiator, word_text};
+use super::words::{is_word, read_initiator, word_text};
 use super::{FilledBlocks, LineFault, Request};
-use sg_target::{Call, Happening};
+use sg_target::Call;
 use sg_tools::Show;
 use sg_wire::Profile;
 
@@ -34,10 +33,20 @@ pub(super) fn by_short_verb<'a>(
         FilledBlocks::of_operands(operands)
     } else if verb == b"show".as_slice() {
         read_show(operands, buffer)
-    } else if verb == b"power".as_slice() {
-        read_power(operands)
+    } else if lists_faults(profile, verb) {
+        read_faults(operands)
     } else {
-        by_extended_verb(profile, verb, operands)
+        Request::Faulty(LineFault::UnknownVerb)
+    }
+}
+
+/// Returns `true` if a verb of a disk of a profile lists its faults.
+fn lists_faults(profile: Profile, verb: &[u8]) -> bool
+    ensures { result ≡ lists_faults profile verb.now }
+{
+    match profile {
+        Profile::Base => false,
+        Profile::Extended => is_word(verb, "faults"),
     }
 }
 
@@ -89,13 +98,12 @@ fn read_show<'a>(operands: &[&[u8]], buffer: &'a mut [u8]) -> Request<'a>
     Request::Show(show, &bytes[..len])
 }
 
-/// `power`: a power cycle. No word may come after the verb, because it is for all initiators at
-/// once.
-fn read_power<'a>(operands: &[&[u8]]) -> Request<'a>
-    ensures { line_request result ≡ power_of (map (λ word. word.now) operands.now) }
+/// `faults`: the armed faults are listed. No word may come after the verb.
+fn read_faults<'a>(operands: &[&[u8]]) -> Request<'a>
+    ensures { line_request result ≡ faults_of (map (λ word. word.now) operands.now) }
 {
     if operands.is_empty() {
-        Request::Happen(Happening::Power)
+        Request::ListFaults
     } else {
         Request::Faulty(LineFault::Usage)
     }
