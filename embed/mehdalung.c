@@ -19,6 +19,7 @@ uint32_t mehdalung_execute(mdl_disk *disk, uint32_t initiator, const uint8_t *cd
                            uint8_t *data_in, size_t data_in_length, mdl_reply *reply);
 uint32_t mehdalung_power_cycle(mdl_disk *disk);
 uint32_t mehdalung_happen(mdl_disk *disk, const mdl_happening *happening);
+uint32_t mehdalung_read_happening(const uint8_t *text, size_t length, mdl_happening *happening);
 uint32_t mehdalung_registered(mdl_disk *disk, uint32_t *mask);
 uint32_t mehdalung_forget(mdl_disk *disk, uint32_t initiator);
 /* The proved function takes what `fields` has as a record already, whose flags are 0 or 1. */
@@ -153,6 +154,13 @@ mdl_error mdl_happen(mdl_disk *disk, const mdl_happening *happening)
     memcpy(&whole, happening,
            happening->kind == MDL_ARM ? sizeof whole : offsetof(mdl_happening, fault));
     return (mdl_error)mehdalung_happen(disk, &whole);
+}
+
+mdl_error mdl_read_happening(const char *words, mdl_happening *happening)
+{
+    if (!words || !happening)
+        return MDL_NULL_POINTER;
+    return (mdl_error)mehdalung_read_happening((const uint8_t *)words, strlen(words), happening);
 }
 
 mdl_error mdl_registered(mdl_disk *disk, uint32_t *mask)

@@ -73,7 +73,7 @@ typedef enum mdl_error {
     MDL_BAD_BYTE = 12,          /* a byte of the words is not printable ASCII and no tab */
     MDL_TOO_MANY_WORDS = 13,    /* there are more than 64 words */
     MDL_UNKNOWN_TOOL = 14,      /* there is no word, or the first is not the name of a tool */
-    MDL_USAGE = 15,             /* the tool does not accept these words */
+    MDL_USAGE = 15,             /* the tool or the verb does not accept these words */
     MDL_EXCLUSIVE = 16,         /* two options exclude one another */
     MDL_NUMBER = 17,            /* an option's text is no value, or its value is out of range */
     MDL_UNKNOWN_PROFILE = 18,   /* the number is none of mdl_profile */
@@ -84,7 +84,8 @@ typedef enum mdl_error {
     MDL_FAULT_FLAG = 23,        /* a flag of a fault is not 0 or 1, or a fault without blocks is
                                    healed by writes */
     MDL_FAULT_NUMBER = 24,      /* the number of a fault is not 0 to 7 */
-    MDL_FAULTS = 25             /* a fault is armed under each number */
+    MDL_FAULTS = 25,            /* a fault is armed under each number */
+    MDL_UNKNOWN_VERB = 26       /* there is no word, or the first is no verb of a happening */
 } mdl_error;
 
 /* A disk, or none. It begins as MDL_NONE. You own this variable. You do not read or write the field
@@ -318,6 +319,17 @@ typedef struct mdl_happening {
  *     MDL_NO_DISK             there is no disk
  *     MDL_FAULTS              a fault is armed under each number, for MDL_ARM */
 mdl_error mdl_happen(mdl_disk *disk, const mdl_happening *happening);
+
+/* Reads a happening from words, such as "nexus 0" or "fault medium 3/11/00 blocks 10 2 healed". The
+ * first word is the verb: power, reset, nexus, grow, attention, fault or heal. The other words are
+ * its operands, which docs/SCRIPT.md of the source lists. A line of a script has the same words, on
+ * an extended disk. mdl_happen takes the record, for a disk of any profile. With this record it
+ * returns no error except MDL_NO_DISK, MDL_FAULTS and, for a null disk, MDL_NULL_POINTER.
+ *     words      The call reads them, up to a zero. Blanks or tabs are between them.
+ *     happening  The call writes it, with its fault.
+ * Errors: MDL_NULL_POINTER, MDL_BAD_BYTE, MDL_TOO_MANY_WORDS, MDL_UNKNOWN_VERB or MDL_USAGE. The
+ * first that applies is returned. The record then stays as it was. */
+mdl_error mdl_read_happening(const char *words, mdl_happening *happening);
 
 /* Says which initiators are registered by PERSISTENT RESERVE OUT. Bit i of `mask` is set if
  * initiator i is registered. No other bit is set. A transport keeps the number of such an

@@ -1,7 +1,8 @@
 #!/usr/bin/env python3
 """Tries the parts of examples/python/mehdalung.py that the first minute does not use."""
 from mehdalung import (BUSY, CHECK_CONDITION, GOOD, NO_REPLY, Disk, Error, FaultOutcome,
-                       HappeningRecord, Kind, Profile, Refused, decode, identity, version)
+                       HappeningRecord, Kind, Profile, Refused, decode, identity, read_happening,
+                       version)
 
 TEST_UNIT_READY = bytes(6)
 INQUIRY = bytes.fromhex("120000002400")
@@ -120,6 +121,22 @@ with Disk(64, 4) as disk:
                       ((disk.arm, 0, [0], None, 0, 0, False, 1 << 16), ValueError),
                       ((disk.disarm, 8), Error.FAULT_NUMBER), ((disk.disarm, 256), ValueError)):
         assert refusal(*call) == why
+    assert codes(disk) == NONE
+with Disk(64, 4) as disk:
+    assert codes(disk) == only(range(8), 0x29, 0x00) and codes(disk) == NONE
+    disk.happen("attention 3Fh/0Eh 1 6")
+    assert codes(disk) == only([1, 6], 0x3F, 0x0E)
+    disk.happen("fault medium 3/11/00 to 2 blocks 2 2 healed")
+    fields = disk.execute(2, READ_FIVE).fields()
+    assert (fields.key, fields.asc, fields.ascq, fields.information) == (3, 0x11, 0x00, 2)
+    disk.happen("heal 0")
+    assert disk.execute(2, READ_FIVE).status == GOOD
+    assert read_happening("grow 0x80").blocks == 128
+    for words, why in (("faults", Error.UNKNOWN_VERB), ("", Error.UNKNOWN_VERB),
+                       ("nexus 8", Error.USAGE), ("reset\n", Error.BAD_BYTE),
+                       ("reset\0", ValueError),
+                       ("nexus " * 65, Error.TOO_MANY_WORDS)):
+        assert refusal(disk.happen, words) == why
     assert codes(disk) == NONE
 slot = Disk(64, 4).slot
 assert slot.target is None

@@ -13,16 +13,17 @@ ghost use Rattle.sg_embed.specs.Executed.{new_disk, registrants};
 ghost use Rattle.sg_embed.specs.Happening.{asked_happening};
 ghost use Rattle.sg_embed.specs.Outcome.{IsCodeUnlessOutOfMemory, execute_outcome, happen_outcome};
 ghost use Rattle.sg_embed.specs.Outcome.{forget_outcome, make_as_outcome, make_outcome};
-ghost use Rattle.sg_embed.specs.Outcome.{make_with_outcome, outcome_code};
+ghost use Rattle.sg_embed.specs.Outcome.{make_with_outcome, outcome_code, outcome_of};
 ghost use Rattle.sg_embed.specs.Outcome.{plan_outcome};
 ghost use Rattle.sg_embed.specs.Planned.{IsPlanned};
 ghost use Rattle.sg_embed.specs.Profiles.{identity_with_profile};
 ghost use Rattle.sg_embed.specs.Records.{asked_identity, sense_record};
 ghost use Rattle.sg_embed.specs.Text.{IsDecoded, text_in, version_text};
+ghost use Rattle.sg_embed.specs.Words.{asked_by_words};
 
 use sg_embed::{
     CommandRecord, HappeningRecord, IdentityRecord, Outcome, ReplyRecord, SenseRecord, Slot,
-    copy_version, decode, identity_with_profile, plan_tool,
+    copy_version, decode, identity_with_profile, plan_tool, read_happening,
 };
 use sg_pages::Identity;
 use sg_target::Happening;
@@ -183,6 +184,23 @@ pub extern "C" fn mehdalung_happen(disk: &mut Slot, happening: &HappeningRecord)
     match happening.read() {
         Ok(asked) => disk.happen(asked).code(),
         Err(outcome) => outcome.code(),
+    }
+}
+
+/// Reads the happening that the words of a text ask for. The record stays as it was if they are
+/// refused.
+#[unsafe(no_mangle)]
+pub extern "C" fn mehdalung_read_happening(text: &[u8], happening: &mut HappeningRecord) -> u32
+    ensures outcome { result ≡ outcome_code (outcome_of (asked_by_words text.now)) }
+    ensures asked { result ≡ 0 → asked_happening happening.new ≡ asked_by_words text.now }
+    ensures silent { result ≢ 0 → happening.new ≡ happening.old }
+{
+    match read_happening(text) {
+        Ok(read) => {
+            *happening = read;
+            Outcome::Done.code()
+        }
+        Err(fault) => fault.code(),
     }
 }
 

@@ -1,3 +1,4 @@
 pub mod CommandLemmas
+pub mod MaskLemmas
 pub mod SlotSteps
 mod InMemoryLemmas

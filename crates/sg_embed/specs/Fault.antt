@@ -1,5 +1,5 @@
 -- The fault that a record of C describes.
-use Rattle.std.specs.Prelude.{ℕ, ◌==◌, Bool, true, false, nat_lt, if◌then◌else◌, ok_or}
+use Rattle.std.specs.Prelude.{ℕ, ◌==◌, Bool, true, false, if◌then◌else◌, ok_or}
 use Rattle.std.specs.Prelude.{List, [], ◌∷◌, slice_index_or, Option, Some, None, Result, Ok, Err}
 use Rattle.sg_faults.specs.SenseCode.{sense_code_of}
 use Rattle.sg_faults.specs.declared.fault.BadBlocks.{BadBlocks}

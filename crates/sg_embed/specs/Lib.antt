@@ -4,6 +4,7 @@ pub mod Outcome
 pub mod Profiles
 pub mod Fault
 pub mod Happening
+pub mod Words
 pub mod Room
 pub mod Served
 pub mod Executed

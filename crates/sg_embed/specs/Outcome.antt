@@ -31,7 +31,7 @@ use Rattle.sg_embed.specs.declared.outcome.Outcome.TheVariants.{Usage, Exclusive
 use Rattle.sg_embed.specs.declared.outcome.Outcome.TheVariants.{UnknownProfile, UnknownHappening}
 use Rattle.sg_embed.specs.declared.outcome.Outcome.TheVariants.{UnknownCondition}
 use Rattle.sg_embed.specs.declared.outcome.Outcome.TheVariants.{UnknownFault, SenseKey, FaultFlag}
-use Rattle.sg_embed.specs.declared.outcome.Outcome.TheVariants.{FaultNumber, TooManyFaults}
+use Rattle.sg_embed.specs.declared.outcome.Outcome.TheVariants.{FaultNumber, TooManyFaults, UnknownVerb}
 
 -- The numbers of the header. Number 10 is MDL_NULL_POINTER: the functions that test C's pointers
 -- return it before any call that is defined here.
@@ -61,6 +61,7 @@ outcome_code SenseKey = 22
 outcome_code FaultFlag = 23
 outcome_code FaultNumber = 24
 outcome_code TooManyFaults = 25
+outcome_code UnknownVerb = 26
 
 -- A call asks for memory before it ends with this outcome.
 abbrev pub has_asked : Outcome → Bool

@@ -1,8 +1,12 @@
 // A fault that C arms.
-ghost use Rattle.std.specs.Prelude.{◌≡◌, ◌≢◌, IfErr};
+ghost use Rattle.std.specs.Prelude.{◌≡◌, ◌≢◌, ◌<◌, IfErr, IfSome, Ok, Some};
+ghost use Rattle.sg_run.specs.WellFormed.{AreMembers, IsWellFormedFault};
 ghost use Rattle.sg_embed.specs.Fault.{asked_blocks, asked_code, asked_fault, asked_outcome};
-ghost use Rattle.sg_embed.specs.Fault.{asked_sense_code, asked_times, flag_of, named_initiators};
+ghost use Rattle.sg_embed.specs.Fault.{asked_sense_code, asked_times, blocks_if, code_if, flag_of};
+ghost use Rattle.sg_embed.specs.Fault.{named_initiators};
+ghost use Rattle.sg_units.specs.Initiators.{no_initiators};
 
+use crate::mask::mask_of;
 use crate::outcome::Outcome;
 use sg_faults::{
     Afterwards, AtMedium, BadBlocks, Fault, OnArrival, Outcome as FaultOutcome, SenseCode,
@@ -45,6 +49,89 @@ pub struct FaultRecord {
 const _: () = prove!(size_of::<FaultRecord>() == 40);
 
 impl FaultRecord {
+    /// A record of an outcome that reads no other field.
+    pub(crate) fn with_outcome(outcome: u32) -> FaultRecord
+        ensures { result.outcome ≡ outcome }
+    {
+        FaultRecord {
+            initiators: 0,
+            lba: 0,
+            count: 0,
+            outcome,
+            blocks: 0,
+            skip: 0,
+            times: 0,
+            has_code: 0,
+            code: 0,
+            healed_by_writes: 0,
+            key: 0,
+            asc: 0,
+            ascq: 0,
+        }
+    }
+
+    /// A record of an outcome that reports a sense code.
+    fn reporting(outcome: u32, code: SenseCode) -> FaultRecord
+        ensures outcome { result.outcome ≡ outcome }
+        ensures code { asked_sense_code result ≡ Ok code }
+    {
+        FaultRecord {
+            key: code.key.code(),
+            asc: code.asc,
+            ascq: code.ascq,
+            ..FaultRecord::with_outcome(outcome)
+        }
+    }
+
+    /// A record of what a fault does.
+    fn of_outcome(outcome: FaultOutcome) -> FaultRecord
+        ensures { asked_outcome result ≡ Ok outcome }
+    {
+        match outcome {
+            FaultOutcome::OnArrival(OnArrival::Busy) => FaultRecord::with_outcome(0),
+            FaultOutcome::OnArrival(OnArrival::TaskSetFull) => FaultRecord::with_outcome(1),
+            FaultOutcome::OnArrival(OnArrival::ReservationConflict) => FaultRecord::with_outcome(2),
+            FaultOutcome::OnArrival(OnArrival::NoReply) => FaultRecord::with_outcome(3),
+            FaultOutcome::OnArrival(OnArrival::CheckCondition(code)) => FaultRecord::reporting(
+                4, code,
+            ),
+            FaultOutcome::OnArrival(OnArrival::DeferredError(code)) => FaultRecord::reporting(
+                5, code,
+            ),
+            FaultOutcome::AtMedium(AtMedium::CheckCondition(code)) => FaultRecord::reporting(
+                6, code,
+            ),
+            FaultOutcome::AtMedium(AtMedium::MovesOnly(blocks)) => FaultRecord {
+                blocks,
+                ..FaultRecord::with_outcome(7)
+            },
+            FaultOutcome::Afterwards(Afterwards::NoReply) => FaultRecord::with_outcome(8),
+            FaultOutcome::Afterwards(Afterwards::CheckCondition(code)) => FaultRecord::reporting(
+                9, code,
+            ),
+        }
+    }
+
+    /// A record that describes a fault.
+    pub(crate) fn of(fault: &Fault) -> FaultRecord
+        requires { IsWellFormedFault fault.now }
+        ensures { asked_fault result ≡ Ok fault.now }
+    {
+        let (has_code, code) = code_fields(fault.code);
+        let (lba, count, healed_by_writes) = block_fields(fault.blocks);
+        FaultRecord {
+            initiators: mask_of_named(&fault.initiators),
+            lba,
+            count,
+            skip: fault.skip,
+            times: times_field(fault.times),
+            has_code,
+            code,
+            healed_by_writes,
+            ..FaultRecord::of_outcome(fault.outcome)
+        }
+    }
+
     /// The fault that it describes.
     ///
     /// # Errors
@@ -166,4 +253,46 @@ fn read_times(times: u16) -> Option<u16>
     ensures { result ≡ asked_times times }
 {
     if times == 0 { None } else { Some(times) }
+}
+
+/// The mask of initiators that are not none.
+fn mask_of_named(initiators: &Initiators) -> u64
+    requires mask { AreMembers initiators.now }
+    requires somebody { initiators.now ≢ no_initiators }
+    ensures { named_initiators result ≡ Some initiators.now }
+{
+    mask_of(initiators)
+}
+
+/// Whether an operation code is named, and the code.
+fn code_fields(code: Option<u8>) -> (u8, u8)
+    ensures { code_if result.1 (flag_of result.0) ≡ Ok code }
+{
+    match code {
+        Some(code) => (1, code),
+        None => (0, 0),
+    }
+}
+
+/// The first of some blocks, their number, and whether writes heal them. The number is 0 if there are
+/// none.
+fn block_fields(blocks: Option<BadBlocks>) -> (u64, u32, u8)
+    requires { IfSome blocks (λ bad. 0 < bad.extent.count) }
+    ensures { blocks_if result.0 result.1 (flag_of result.2) ≡ Ok blocks }
+{
+    match blocks {
+        Some(bad) => {
+            let healed = u8::from(bad.healed_by_writes);
+            (bad.extent.lba, bad.extent.count, healed)
+        }
+        None => (0, 0, 0),
+    }
+}
+
+/// A number of times. 0 if the fault stays until it is taken away.
+fn times_field(times: Option<u16>) -> u16
+    requires { IfSome times (λ times. 0 < times) }
+    ensures { asked_times result ≡ times }
+{
+    times.unwrap_or(0)
 }

@@ -1,10 +1,12 @@
 // What happens to a disk, as C asks for it.
-ghost use Rattle.std.specs.Prelude.{◌≡◌, ◌≢◌, IfErr};
+ghost use Rattle.std.specs.Prelude.{◌≡◌, ◌≢◌, IfErr, Ok};
+ghost use Rattle.sg_run.specs.WellFormed.{AreMembers, IsWellFormed};
 ghost use Rattle.sg_embed.specs.Fault.{asked_fault};
 ghost use Rattle.sg_embed.specs.Happening.{arming, asked_happening, disarming, establishing, growing};
 ghost use Rattle.sg_embed.specs.Happening.{nexus_loss};
 
 use crate::fault::FaultRecord;
+use crate::mask::mask_of;
 use crate::outcome::Outcome;
 use crate::slot::known_initiator;
 use sg_faults::MAX_FAULTS;
@@ -38,6 +40,68 @@ pub struct HappeningRecord {
 const _: () = prove!(size_of::<HappeningRecord>() == 72);
 
 impl HappeningRecord {
+    /// A record of a kind that reads no other field.
+    fn of_kind(kind: u32) -> HappeningRecord
+        ensures { result.kind ≡ kind }
+    {
+        HappeningRecord {
+            kind,
+            initiator: 0,
+            initiators: 0,
+            blocks: 0,
+            asc: 0,
+            ascq: 0,
+            number: 0,
+            fault: FaultRecord::with_outcome(0),
+        }
+    }
+
+    /// A record that describes a happening.
+    pub(crate) fn of(happening: &Happening) -> HappeningRecord
+        requires { IsWellFormed happening.now }
+        ensures { asked_happening result ≡ Ok happening.now }
+    {
+        match *happening {
+            Happening::Power => HappeningRecord::of_kind(0),
+            Happening::LogicalUnitReset => HappeningRecord::of_kind(1),
+            Happening::TargetReset => HappeningRecord::of_kind(2),
+            Happening::NexusLoss(initiator) => HappeningRecord {
+                initiator: u32::from(initiator.number()),
+                ..HappeningRecord::of_kind(3)
+            },
+            Happening::Establish(condition, initiators) => {
+                HappeningRecord::establishing(condition, &initiators)
+            }
+            Happening::Grow(blocks) => HappeningRecord {
+                blocks,
+                ..HappeningRecord::of_kind(5)
+            },
+            Happening::Arm(fault) => HappeningRecord {
+                fault: FaultRecord::of(&fault),
+                ..HappeningRecord::of_kind(6)
+            },
+            Happening::Disarm(number) => HappeningRecord {
+                number: number as u8,
+                ..HappeningRecord::of_kind(7)
+            },
+            Happening::DisarmAll => HappeningRecord::of_kind(8),
+        }
+    }
+
+    /// A record of a condition that is established for some initiators.
+    fn establishing(condition: UnitAttention, initiators: &Initiators) -> HappeningRecord
+        requires { AreMembers initiators.now }
+        ensures { asked_happening result ≡ Ok (Happening.Establish condition initiators.now) }
+    {
+        let (asc, ascq) = condition.code();
+        HappeningRecord {
+            initiators: mask_of(initiators),
+            asc,
+            ascq,
+            ..HappeningRecord::of_kind(4)
+        }
+    }
+
     /// The happening that it describes.
     ///
     /// # Errors

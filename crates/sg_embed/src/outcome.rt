@@ -1,6 +1,6 @@
 // The faults of the crates below as one enum, so that C has one number for each.
 use sg_pages::IdentityFault;
-use sg_run::TextFault;
+use sg_run::{HappeningFault, TextFault};
 use sg_target::ConfigFault;
 use sg_tools::ToolFault;
 
@@ -30,13 +30,13 @@ pub enum Outcome {
     BufferTooShort = 9,
     /// Sense data can't be read. Number 10 stands for a null pointer, which C tests.
     Unreadable = 11,
-    /// A byte of a tool's text is neither printable ASCII nor a tab.
+    /// A byte of a text of words is neither printable ASCII nor a tab.
     BadByte = 12,
-    /// A tool's text has more than 64 words.
+    /// A text has more than 64 words.
     TooManyWords = 13,
     /// There is no word, or the first is not the name of a tool.
     UnknownTool = 14,
-    /// The words do not fit the tool.
+    /// The words do not fit the tool or the verb.
     Usage = 15,
     /// Two options exclude one another.
     Exclusive = 16,
@@ -58,11 +58,14 @@ pub enum Outcome {
     FaultNumber = 24,
     /// A fault is armed under each number.
     TooManyFaults = 25,
+    /// There is no word, or the first is no verb for something that happens to a disk.
+    UnknownVerb = 26,
 }
 
 ghost use Rattle.std.specs.Prelude.{◌≡◌};
 ghost use Rattle.sg_embed.specs.Outcome.{config_outcome, identity_outcome, outcome_code};
 ghost use Rattle.sg_embed.specs.Outcome.{text_outcome, tool_fault_outcome};
+ghost use Rattle.sg_embed.specs.Words.{words_outcome};
 
 impl Outcome {
     /// Its number in C.
@@ -102,6 +105,18 @@ impl Outcome {
             TextFault::TooManyWords => Outcome::TooManyWords,
             TextFault::UnknownTool => Outcome::UnknownTool,
             TextFault::Refused(fault) => Outcome::of_tool(fault),
+        }
+    }
+
+    /// The outcome of a text that asks for nothing that happens to a disk.
+    pub(crate) fn of_words(fault: HappeningFault) -> Outcome
+        ensures { result ≡ words_outcome fault }
+    {
+        match fault {
+            HappeningFault::BadByte => Outcome::BadByte,
+            HappeningFault::TooManyWords => Outcome::TooManyWords,
+            HappeningFault::UnknownVerb => Outcome::UnknownVerb,
+            HappeningFault::Usage => Outcome::Usage,
         }
     }
 

@@ -46,6 +46,7 @@ class Error(IntEnum):
     FAULT_FLAG = 23
     FAULT_NUMBER = 24
     FAULTS = 25
+    UNKNOWN_VERB = 26
 
 
 class Profile(IntEnum):
@@ -166,6 +167,7 @@ def load():
                                     c_void_p, c_size_t, ctypes.POINTER(ReplyRecord)]
     library.mdl_power_cycle.argtypes = [slot]
     library.mdl_happen.argtypes = [slot, ctypes.POINTER(HappeningRecord)]
+    library.mdl_read_happening.argtypes = [bytes_of, ctypes.POINTER(HappeningRecord)]
     library.mdl_registered.argtypes = [slot, ctypes.POINTER(c_uint32)]
     library.mdl_forget.argtypes = [slot, c_uint32]
     library.mdl_read_sense.argtypes = [bytes_of, c_size_t, ctypes.POINTER(Sense)]
@@ -199,6 +201,20 @@ def mask_of(initiators):
     for initiator in range(INITIATORS) if initiators is None else initiators:
         mask |= 1 << within("initiator", initiator, 6)
     return mask
+
+
+def words_of(words):
+    """Returns words as C reads them."""
+    if "\0" in words:
+        raise ValueError("C would take the words to end at their NUL")
+    return words.encode()
+
+
+def read_happening(words):
+    """Returns the HappeningRecord that words ask for, such as "fault arrival busy times 2"."""
+    record = HappeningRecord()
+    check(LIBRARY.mdl_read_happening(words_of(words), record))
+    return record
 
 
 def text_of(write, *arguments):
@@ -279,11 +295,9 @@ class Disk:
 
     def tool(self, initiator, words):
         """Executes what the words of a tool ask for, such as "sg_vpd -p lbpv"."""
-        if "\0" in words:
-            raise ValueError("C would take the words to end at their NUL")
         command = Command()
         data_out = (c_uint8 * DATA_OUT_LENGTH)()
-        check(LIBRARY.mdl_tool(words.encode(), data_out, DATA_OUT_LENGTH, command))
+        check(LIBRARY.mdl_tool(words_of(words), data_out, DATA_OUT_LENGTH, command))
         return self.execute(initiator, bytes(command.cdb[:command.cdb_length]),
                             bytes(data_out[:command.data_out_length]), command.kind)
 
@@ -342,8 +356,10 @@ class Disk:
         """Takes away all faults."""
         self.happen(HappeningRecord(kind=Happening.DISARM_ALL))
 
-    def happen(self, record):
-        """Lets happen what a HappeningRecord says. The methods above do so by name."""
+    def happen(self, what):
+        """Lets something happen: words such as "fault medium 3/11/00 blocks 10 2", or a
+        HappeningRecord. The methods above do so by name."""
+        record = read_happening(what) if isinstance(what, str) else what
         check(LIBRARY.mdl_happen(self.slot, record))
 
     def registered(self):

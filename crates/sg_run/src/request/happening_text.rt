@@ -1,8 +1,9 @@
 // What a text asks for that is no line: something that happens to a disk. A text can't have most
 // faults of a line, so its faults have a type of their own.
-ghost use Rattle.std.specs.Prelude.{◌≡◌, All, map};
+ghost use Rattle.std.specs.Prelude.{◌≡◌, All, IfOk, map};
 ghost use Rattle.std.specs.Str.{IsAscii};
 ghost use Rattle.sg_run.specs.HappeningText.{by_verb_words, happening_of_text};
+ghost use Rattle.sg_run.specs.WellFormed.{IsWellFormed};
 
 use super::WORD_LIMIT;
 use super::happening_verb::HappeningVerb;
@@ -40,7 +41,8 @@ pub enum HappeningFault {
 /// - `Usage` if the verb takes other words.
 #[tactic(auto, unfolding(crate::specs::HappeningText::happening_of_text))]
 pub fn read_happening(text: &[u8]) -> Result<Happening, HappeningFault>
-    ensures { result ≡ happening_of_text text.now }
+    ensures asked { result ≡ happening_of_text text.now }
+    ensures well_formed { IfOk result IsWellFormed }
 {
     let words: Words<'_, WORD_LIMIT> = Words::of(text);
     if !words.are_allowed {

@@ -42,6 +42,7 @@ pub mod error {
     pub const FAULT_FLAG: u32 = 23;
     pub const FAULT_NUMBER: u32 = 24;
     pub const FAULTS: u32 = 25;
+    pub const UNKNOWN_VERB: u32 = 26;
 }
 
 /// `mdl_profile`.
@@ -211,6 +212,7 @@ extern "C" {
     ) -> c_uint;
     pub fn mdl_power_cycle(disk: *mut mdl_disk) -> c_uint;
     pub fn mdl_happen(disk: *mut mdl_disk, happening: *const mdl_happening) -> c_uint;
+    pub fn mdl_read_happening(words: *const c_char, happening: *mut mdl_happening) -> c_uint;
     pub fn mdl_registered(disk: *mut mdl_disk, mask: *mut u32) -> c_uint;
     pub fn mdl_forget(disk: *mut mdl_disk, initiator: u32) -> c_uint;
     pub fn mdl_read_sense(sense: *const u8, length: usize, fields: *mut mdl_sense) -> c_uint;

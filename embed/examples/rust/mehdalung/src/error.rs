@@ -25,6 +25,7 @@ pub enum Error {
     FaultNumber,
     /// A fault is armed under each number.
     Faults,
+    UnknownVerb,
     /// An error that these calls can't have.
     Other(u32),
 }
@@ -59,6 +60,7 @@ pub(crate) fn check(error: u32) -> Result<(), Error> {
         error::FAULT_FLAG => Error::FaultFlag,
         error::FAULT_NUMBER => Error::FaultNumber,
         error::FAULTS => Error::Faults,
+        error::UNKNOWN_VERB => Error::UnknownVerb,
         other => Error::Other(other),
     })
 }

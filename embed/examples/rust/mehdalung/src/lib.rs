@@ -161,7 +161,7 @@ impl Disk {
     /// the unit attention 29h/03h, unless one of a reset with a higher precedence is pending
     /// (mehdalung.h).
     pub fn reset(&mut self) -> Result<(), Error> {
-        self.happen(sys::mdl_happening {
+        self.undergo(sys::mdl_happening {
             kind: happening::LOGICAL_UNIT_RESET,
             ..Default::default()
         })
@@ -170,13 +170,13 @@ impl Disk {
     /// Resets the target that the disk belongs to. It does what `reset` does, with the unit attention
     /// 29h/02h.
     pub fn reset_target(&mut self) -> Result<(), Error> {
-        self.happen(sys::mdl_happening { kind: happening::TARGET_RESET, ..Default::default() })
+        self.undergo(sys::mdl_happening { kind: happening::TARGET_RESET, ..Default::default() })
     }
 
     /// An initiator loses its I_T nexus, and gets the unit attention 29h/07h, unless one of a reset is
     /// pending.
     pub fn lose_nexus(&mut self, initiator: u32) -> Result<(), Error> {
-        self.happen(sys::mdl_happening {
+        self.undergo(sys::mdl_happening {
             kind: happening::NEXUS_LOSS,
             initiator,
             ..Default::default()
@@ -186,13 +186,13 @@ impl Disk {
     /// The disk has `blocks` blocks from then on, and each initiator gets the unit attention 2Ah/09h.
     /// If it has as many already, nothing changes.
     pub fn grow(&mut self, blocks: u64) -> Result<(), Error> {
-        self.happen(sys::mdl_happening { kind: happening::GROW, blocks, ..Default::default() })
+        self.undergo(sys::mdl_happening { kind: happening::GROW, blocks, ..Default::default() })
     }
 
     /// The initiators of a mask get the unit attention with an additional sense code and qualifier:
     /// initiator i if bit i is set. mehdalung.h lists the codes.
     pub fn attention(&mut self, asc: u8, ascq: u8, initiators: u64) -> Result<(), Error> {
-        self.happen(sys::mdl_happening {
+        self.undergo(sys::mdl_happening {
             kind: happening::ATTENTION,
             initiators,
             asc,
@@ -204,7 +204,7 @@ impl Disk {
     /// Arms a fault under the lowest free number. Its outcome is a number of the module
     /// `fault_outcome`, and mehdalung.h says what its other fields are.
     pub fn arm(&mut self, fault: &Fault) -> Result<(), Error> {
-        self.happen(sys::mdl_happening {
+        self.undergo(sys::mdl_happening {
             kind: happening::ARM,
             fault: *fault,
             ..Default::default()
@@ -213,15 +213,25 @@ impl Disk {
 
     /// Takes away the fault with a number, 0 to 7, if there is one.
     pub fn disarm(&mut self, number: u8) -> Result<(), Error> {
-        self.happen(sys::mdl_happening { kind: happening::DISARM, number, ..Default::default() })
+        self.undergo(sys::mdl_happening { kind: happening::DISARM, number, ..Default::default() })
     }
 
     /// Takes away all faults.
     pub fn disarm_all(&mut self) -> Result<(), Error> {
-        self.happen(sys::mdl_happening { kind: happening::DISARM_ALL, ..Default::default() })
+        self.undergo(sys::mdl_happening { kind: happening::DISARM_ALL, ..Default::default() })
     }
 
-    fn happen(&mut self, record: sys::mdl_happening) -> Result<(), Error> {
+    /// Lets happen what words say, such as "fault medium 3/11/00 blocks 10 2" or "nexus 0".
+    /// docs/SCRIPT.md lists them.
+    pub fn happen(&mut self, words: &str) -> Result<(), Error> {
+        let words = CString::new(words).map_err(|_| Error::BadByte)?;
+        let mut record = sys::mdl_happening::default();
+        // SAFETY: the words end with a zero, and the record is whole.
+        check(unsafe { sys::mdl_read_happening(words.as_ptr(), &mut record) })?;
+        self.undergo(record)
+    }
+
+    fn undergo(&mut self, record: sys::mdl_happening) -> Result<(), Error> {
         // SAFETY: the slot has a disk, and the record is whole.
         check(unsafe { sys::mdl_happen(&mut self.slot, &record) })
     }

@@ -103,6 +103,25 @@ fn armed_faults_meet_commands() -> Result<(), Error> {
 }
 
 #[test]
+fn words_say_what_happens() -> Result<(), Error> {
+    let mut disk = Disk::new(64, 4, None)?;
+    only_report(&mut disk, ALL_INITIATORS, 0x29, 0x00)?;
+    disk.happen("attention 3Fh/0Eh 1 6")?;
+    only_report(&mut disk, 1 << 1 | 1 << 6, 0x3F, 0x0E)?;
+    disk.happen("fault medium 3/11/00 to 2 blocks 10 2 healed")?;
+    let read = [0x28, 0, 0, 0, 0, 8, 0, 0, 4, 0];
+    let fields = disk.execute(2, &read, &[])?.fields().unwrap();
+    assert_eq!((fields.key, fields.asc, fields.ascq, fields.information), (3, 0x11, 0x00, 10));
+    disk.happen("heal 0")?;
+    assert_eq!(disk.execute(2, &read, &[])?.status(), GOOD);
+    assert_eq!(disk.happen("faults"), Err(Error::UnknownVerb));
+    assert_eq!(disk.happen("nexus 8"), Err(Error::Usage));
+    assert_eq!(disk.happen("reset\n"), Err(Error::BadByte));
+    assert_eq!(disk.happen("reset\0"), Err(Error::BadByte));
+    only_report(&mut disk, 0, 0, 0)
+}
+
+#[test]
 fn calls_are_refused() -> Result<(), Error> {
     let why = |refused: Result<Reply, Error>| refused.err();
     let mut disk = Disk::new(64, 4, None)?;
